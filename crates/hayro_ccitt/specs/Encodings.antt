@@ -1,0 +1,84 @@
+-- Encodings of pictures, from rows to bits: nothing is read here (T.4, 4.1 and 4.2; T.6, 2).
+use Rattle.std.specs.Prelude.{◌≡◌, ◌≢◌, ℕ, zero, suc, ◌+◌, ◌-◌, ◌%◌, ◌<◌, ◌≤◌, Bool, true, false, List, [], ◌∷◌, ◌++◌, length, replicate, if◌then◌else◌, ℤ, pos, ◌+ℤ◌, ◌⊎◌, All}
+use Rattle.hayro_ccitt.specs.declared.codes.Color.{Color}
+use Rattle.hayro_ccitt.specs.declared.codes.Color.TheVariants.{White}
+use Rattle.hayro_ccitt.specs.declared.codes.Mode.TheVariants.{Pass, Horizontal, Vertical}
+use Rattle.hayro_ccitt.specs.Bits.{Bits}
+use Rattle.hayro_ccitt.specs.CodeLists.{mode_codes}
+use Rattle.hayro_ccitt.specs.CodeReading.{Has}
+use Rattle.hayro_ccitt.specs.Runs.{codes_of}
+use Rattle.hayro_ccitt.specs.Rows.{Row, is_black, opposite, b1, b2, a1, a2}
+
+-- make-up words of a colour and one terminating word, which sum to n
+pub data Spells (color : Color) : ℕ → Bits → Type 0 where
+  terminating : (n : ℕ) (word : Bits) → Has (codes_of color) n word → n < 64 → Spells color n word
+  makeup : (m : ℕ) (word : Bits) {n : ℕ} {bits : Bits} → Has (codes_of color) m word → 64 ≤ m → Spells color n bits → Spells color (m + n) (word ++ bits)
+
+-- The runs of a row in order, from a colour on. A run goes as far as its colour; only the first may be empty.
+pub data EncodesLine1D : Color → Row → Bits → Type 0 where
+  over : {color : Color} → EncodesLine1D color [] []
+  run : {color : Color} (n : ℕ) (word : Bits) {row : Row} {bits : Bits} → Spells color n word → 0 < n + length row → ((rest : Row) → row ≢ is_black color ∷ rest) → EncodesLine1D (opposite color) row bits
+      → EncodesLine1D color (replicate n (is_black color) ++ row) (word ++ bits)
+
+-- Lawful steps from a place a0 to the row's end, against a reference row. Here `from` is the first place right
+-- of a0, so the runs of a horizontal mode begin at `from - 1`, or at 0 where a0 is left of the row.
+pub data EncodesLine2D (reference row : Row) : ℕ → Color → Bits → Type 0 where
+  over : {color : Color} → EncodesLine2D reference row (suc (length row)) color []
+  pass : (from : ℕ) (word : Bits) {color : Color} {bits : Bits} → from ≤ length row → Has mode_codes Pass word → b2 reference from color < a1 row from
+      → EncodesLine2D reference row (suc (b2 reference from color)) color bits → EncodesLine2D reference row from color (word ++ bits)
+  vertical : (from : ℕ) (word : Bits) (k : ℤ) {color : Color} {bits : Bits} → from ≤ length row → Has mode_codes (Vertical k) word → pos (a1 row from) ≡ pos (b1 reference from color) +ℤ k
+      → EncodesLine2D reference row (suc (a1 row from)) (opposite color) bits → EncodesLine2D reference row from color (word ++ bits)
+  horizontal : (from : ℕ) (word : Bits) {first second : Bits} {color : Color} {bits : Bits} → from ≤ length row → Has mode_codes Horizontal word
+      → Spells color (a1 row from - (from - 1)) first → Spells (opposite color) (a2 row from - a1 row from) second
+      → EncodesLine2D reference row (suc (a2 row from)) color bits → EncodesLine2D reference row from color (word ++ (first ++ (second ++ bits)))
+
+-- the kinds of lines
+pub data Kind : Type 0 where
+  group4 : Kind
+  group3_1d : Kind
+  group3_2d : Kind
+
+abbrev pub EncodesLine : Kind → Row → Row → Bits → Type 0
+EncodesLine Kind.group4 reference row bits = EncodesLine2D reference row 0 White bits
+EncodesLine Kind.group3_1d reference row bits = EncodesLine1D White row bits
+EncodesLine Kind.group3_2d reference row bits = (line : Bits) × (((bits ≡ true ∷ line) × EncodesLine1D White row line) ⊎ ((bits ≡ false ∷ line) × EncodesLine2D reference row 0 White line))
+
+-- zeros up to a whole byte
+abbrev pub padding : ℕ → Bits
+padding n = replicate ((8 - n % 8) % 8) false
+
+-- lines in order, each filled up to a whole byte where they are aligned
+abbrev pub EncodesRows : Kind → Bool → Row → List Row → Bits → Type 0
+EncodesRows kind aligned reference [] bits = bits ≡ []
+EncodesRows kind aligned reference (row ∷ rows) bits = (line next : Bits) × EncodesLine kind reference row line × EncodesRows kind aligned row rows next × (bits ≡ line ++ (if aligned then padding (length line) else []) ++ next)
+
+-- eleven zeros, so many more, and a one
+abbrev pub eol : ℕ → Bits
+eol fill = replicate (11 + fill) false ++ true ∷ []
+
+-- rows of one width
+abbrev pub IsPicture : ℕ → List Row → Type 0
+IsPicture columns rows = (0 < columns) × All (λ row. length row ≡ columns) rows
+
+-- a T.6 stream, closed by EOFB
+abbrev pub PictureT6 : ℕ → Bool → List Row → Bits → Type 0
+PictureT6 columns aligned rows bits = (body : Bits) × IsPicture columns rows × EncodesRows Kind.group4 aligned (replicate columns false) rows body × (bits ≡ body ++ eol 0 ++ eol 0)
+
+-- lines in order, an EOL before each
+abbrev pub EncodesRowsWithEols : Kind → Row → List Row → Bits → Type 0
+EncodesRowsWithEols kind reference [] bits = bits ≡ []
+EncodesRowsWithEols kind reference (row ∷ rows) bits = (fill : ℕ) × (line next : Bits) × EncodesLine kind reference row line × EncodesRowsWithEols kind row rows next × (bits ≡ eol fill ++ line ++ next)
+
+abbrev pub tag_of : Kind → Bits
+tag_of Kind.group3_2d = true ∷ []
+tag_of Kind.group3_1d = []
+tag_of Kind.group4 = []
+
+-- so many EOLs, each with its tag
+abbrev pub ClosesWithEols : Kind → ℕ → Bits → Type 0
+ClosesWithEols kind zero bits = bits ≡ []
+ClosesWithEols kind (suc n) bits = (fill : ℕ) × (next : Bits) × ClosesWithEols kind n next × (bits ≡ eol fill ++ tag_of kind ++ next)
+
+-- a T.4 stream, closed by RTC
+abbrev pub PictureT4 : Kind → ℕ → List Row → Bits → Type 0
+PictureT4 kind columns rows bits = (lines closing : Bits) × (0 < length rows) × IsPicture columns rows × EncodesRowsWithEols kind (replicate columns false) rows lines × ClosesWithEols kind 6 closing × (bits ≡ lines ++ closing)

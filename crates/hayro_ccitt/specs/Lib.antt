@@ -1,0 +1,14 @@
+pub mod Bits
+pub mod Changes
+pub mod CodeLists
+pub mod CodeReading
+pub mod Encodings
+pub mod EndOfLine
+pub mod Laws
+pub mod Lines
+pub mod Locality
+pub mod PlainReading
+pub mod Repetition
+pub mod Rows
+pub mod Runs
+pub mod Texts

@@ -1,0 +1,193 @@
+-- The plain reading of whole data: rows, and how it ends.
+use Rattle.std.specs.Prelude.{ℕ, suc, ◌+◌, ◌-◌, ◌/◌, ◌%◌, Bool, true, false, not, ◌&&◌, ◌||◌, List, [], ◌∷◌, ◌++◌, length, drop, map, replicate, nat_le, nat_lt, ◌==◌, Option, Some, None, Result, Ok, Err, if◌then◌else◌}
+use Rattle.hayro_ccitt.specs.declared.error.DecodeError.{DecodeError}
+use Rattle.hayro_ccitt.specs.declared.error.DecodeError.TheVariants.{UnexpectedEof, InvalidCode}
+use Rattle.hayro_ccitt.specs.declared.settings.EncodingMode.{EncodingMode}
+use Rattle.hayro_ccitt.specs.declared.settings.EncodingMode.TheVariants.{Group4, Group3_1D, Group3_2D}
+use Rattle.hayro_ccitt.specs.declared.settings.DecodeSettings.{DecodeSettings}
+use Rattle.hayro_ccitt.specs.Bits.{Bits, bits_of}
+use Rattle.hayro_ccitt.specs.Repetition.{Turn, repeated}
+use Rattle.hayro_ccitt.specs.Rows.{Row, changes}
+use Rattle.hayro_ccitt.specs.Lines.{Line, line_1d, line_2d}
+use Rattle.hayro_ccitt.specs.EndOfLine.{eols, all_eols, tagged_eols, next_eol}
+
+-- how far the reading came, between lines: the rows so far, whether EOLs are sought, the bits from here on
+pub record Progress : Type 0 where
+  pub rows : List Row
+  pub has_eols : Bool
+  pub rest : Bits
+
+-- how the reading ends: with all that it read up to a place, or with a fault
+pub record Ending : Type 0 where
+  pub rows : List Row
+  pub has_eols : Bool
+  pub outcome : Result Bits DecodeError
+
+-- what one row's turn comes to
+abbrev pub Move : Type 0
+Move = Turn Progress Ending
+
+-- the next line's reference row: the last row, and before the first a white one (T.4, 4.2.1.1)
+abbrev pub row_before : ℕ → List Row → Row
+row_before columns [] = replicate columns false
+row_before columns (row ∷ []) = row
+row_before columns (row ∷ next ∷ rows) = row_before columns (next ∷ rows)
+
+-- the bits from the next whole byte on: whole bytes are left
+abbrev pub aligned : Bits → Bits
+aligned rest = drop (length rest % 8) rest
+
+-- no bit is left
+abbrev pub at_end : Bits → Bool
+at_end [] = true
+at_end (bit ∷ rest) = false
+
+-- the limit of rows is met; a limit of 0 is none
+abbrev pub limit_met : DecodeSettings → ℕ → Bool
+limit_met settings rows = not (settings.rows == 0) && (settings.rows == rows)
+
+-- the reading ends here
+abbrev pub ends_with : Progress → Result Bits DecodeError → Move
+ends_with so_far outcome = Turn.done (record { rows = so_far.rows; has_eols = so_far.has_eols; outcome = outcome })
+
+-- ---- Group 4 (T.6)
+
+-- after a line: its row is added, and the next line begins behind it, at a whole byte where rows are aligned
+abbrev pub after_line_group4 : DecodeSettings → Progress → Line → Move
+after_line_group4 settings so_far (Line.broken front fault) = ends_with so_far (Err fault)
+after_line_group4 settings so_far (Line.whole row rest) =
+    Turn.next (record so_far { rows = so_far.rows ++ row ∷ []; rest = if settings.rows_are_byte_aligned then aligned rest else rest })
+
+-- EOLs were read: two of them with `end_of_block`, which are EOFB, end the reading, and so do the limit and the end
+-- of the data; else a line is read
+abbrev pub line_at_group4 : DecodeSettings → Progress → ℕ × Bits → Move
+line_at_group4 settings so_far (count, rest) =
+    if (settings.end_of_block && (count == 2)) || limit_met settings (length so_far.rows) || at_end rest then ends_with so_far (Ok rest)
+    else after_line_group4 settings so_far (line_2d settings.strict settings.columns (row_before settings.columns so_far.rows) rest)
+
+-- one row's turn: EOLs, at most two with `end_of_block`, and a line
+abbrev pub move_group4 : DecodeSettings → Progress → Move
+move_group4 settings so_far = line_at_group4 settings so_far (if settings.end_of_block then eols 2 so_far.rest else all_eols so_far.rest)
+
+-- ---- Group 3 (T.4)
+
+-- the line that stands here: in two-dimensional data its tag says of which kind it is (T.4, 4.2.2)
+abbrev pub line_by : EncodingMode → Bool → ℕ → Row → Bits → Line
+line_by Group3_1D strict columns reference here = line_1d strict columns here
+line_by Group3_2D strict columns reference [] = Line.broken [] UnexpectedEof
+line_by Group3_2D strict columns reference (true ∷ rest) = line_1d strict columns rest
+line_by Group3_2D strict columns reference (false ∷ rest) = line_2d strict columns reference rest
+line_by Group4 strict columns reference here = Line.broken [] InvalidCode
+
+abbrev pub line_at_group3 : DecodeSettings → Row → Bits → Line
+line_at_group3 settings reference here = line_by settings.encoding settings.strict settings.columns reference here
+
+-- the EOLs that stand here, in two-dimensional data with their tags
+abbrev pub eols_by : EncodingMode → Bits → ℕ × Bits
+eols_by Group3_1D here = all_eols here
+eols_by Group3_2D here = tagged_eols here
+eols_by Group4 here = all_eols here
+
+abbrev pub eols_group3 : DecodeSettings → Bits → ℕ × Bits
+eols_group3 settings here = eols_by settings.encoding here
+
+-- EOLs were counted after a row: six of them with `end_of_block`, which are RTC, end the reading, and so do the
+-- limit and the end of the data; else the next line begins here
+abbrev pub unless_over : DecodeSettings → Progress → ℕ × Bits → Move
+unless_over settings so_far (count, rest) =
+    if (settings.end_of_block && nat_le 6 count) || limit_met settings (length so_far.rows) || at_end rest then ends_with so_far (Ok rest)
+    else Turn.next (record so_far { rest = rest })
+
+-- The next EOL was looked for. The EOLs that stand there are counted; where there is none, EOLs are given up.
+abbrev pub seek_from : DecodeSettings → Progress → Option Bits → Move
+seek_from settings so_far (Some found) = unless_over settings so_far (eols_group3 settings found)
+seek_from settings so_far None = unless_over settings (record so_far { has_eols = false }) (0, so_far.rest)
+
+-- no EOL follows a row in data that has them: strict this is a fault, lenient the next EOL is looked for
+abbrev pub seek_eol : DecodeSettings → Progress → Move
+seek_eol settings so_far =
+    if settings.strict then ends_with so_far (Err InvalidCode) else seek_from settings so_far (next_eol so_far.rest)
+
+-- what comes after a row: its EOLs are counted, and sought where none came although the data has them
+abbrev pub after_row : DecodeSettings → Progress → Move
+after_row settings so_far =
+    if ((eols_group3 settings so_far.rest).0 == 0) && so_far.has_eols && not (limit_met settings (length so_far.rows)) && not (at_end so_far.rest) then seek_eol settings so_far
+    else unless_over settings so_far (eols_group3 settings so_far.rest)
+
+-- a row is added; without EOLs the next line may begin at a whole byte
+abbrev pub add_row : DecodeSettings → Progress → Row → Bits → Move
+add_row settings so_far row rest =
+    after_row settings (record so_far { rows = so_far.rows ++ row ∷ []; rest = if settings.rows_are_byte_aligned && not so_far.has_eols then aligned rest else rest })
+
+-- After a line. In lenient data with EOLs a broken row is repaired: its front is continued in white, and the place
+-- goes back to the line's start.
+abbrev pub after_line_group3 : DecodeSettings → Progress → Line → Move
+after_line_group3 settings so_far (Line.whole row rest) = add_row settings so_far row rest
+after_line_group3 settings so_far (Line.broken front fault) =
+    if settings.strict || not so_far.has_eols then ends_with so_far (Err fault)
+    else add_row settings so_far (front ++ replicate (settings.columns - length front) false) so_far.rest
+
+-- one row's turn
+abbrev pub move_group3 : DecodeSettings → Progress → Move
+move_group3 settings so_far =
+    after_line_group3 settings so_far (line_at_group3 settings (row_before settings.columns so_far.rows) so_far.rest)
+
+-- ---- The whole data
+
+-- rows are read from here on; there are at most two more turns than bits
+abbrev pub ending_from : (Progress → Move) → Progress → Ending
+ending_from move so_far =
+    repeated move (record { rows = so_far.rows; has_eols = so_far.has_eols; outcome = Err UnexpectedEof }) (suc (suc (length so_far.rest))) so_far
+
+-- the plain reading of Group 4
+abbrev pub plain_group4 : DecodeSettings → Bits → Ending
+plain_group4 settings bits = ending_from (move_group4 settings) (record { rows = []; has_eols = false; rest = bits })
+
+-- the plain reading of Group 3: EOLs at the front are read without tags, and say that the data has EOLs
+abbrev pub plain_group3 : DecodeSettings → Bits → Ending
+plain_group3 settings bits =
+    ending_from (move_group3 settings) (record { rows = []; has_eols = nat_lt 0 (all_eols bits).0 || settings.end_of_line; rest = (all_eols bits).1 })
+
+-- the reading that belongs to an encoding
+abbrev pub end_by : EncodingMode → DecodeSettings → Bits → Ending
+end_by Group4 settings bits = plain_group4 settings bits
+end_by Group3_1D settings bits = plain_group3 settings bits
+end_by Group3_2D settings bits = plain_group3 settings bits
+
+-- how the reading of data with these settings ends
+abbrev pub end_of : DecodeSettings → Bits → Ending
+end_of settings bits = end_by settings.encoding settings bits
+
+-- an answer: the rows, and the number of bytes read or the fault
+abbrev pub Answer : Type 0
+Answer = List Row × Result ℕ DecodeError
+
+-- the bits that were read, in bytes, the last one rounded up
+abbrev pub bytes_before : Bits → Result Bits DecodeError → Result ℕ DecodeError
+bytes_before bits (Ok rest) = Ok ((length bits - length rest + 7) / 8)
+bytes_before bits (Err fault) = Err fault
+
+-- The plain reading of some bytes: without columns nothing is read.
+abbrev pub plain : DecodeSettings → List ℕ → Answer
+plain settings bytes =
+    if settings.columns == 0 then ([], Ok 0)
+    else ((end_of settings (bits_of bytes)).rows, bytes_before (bits_of bytes) (end_of settings (bits_of bytes)).outcome)
+
+-- ---- For examples
+
+-- settings in the order encoding, columns, rows, end of block, end of line, aligned, strict
+abbrev pub with_settings : EncodingMode → ℕ → ℕ → Bool → Bool → Bool → Bool → DecodeSettings
+with_settings encoding columns rows end_of_block end_of_line rows_are_byte_aligned strict =
+    record {
+      columns = columns;
+      rows = rows;
+      end_of_block = end_of_block;
+      end_of_line = end_of_line;
+      rows_are_byte_aligned = rows_are_byte_aligned;
+      encoding = encoding;
+      strict = strict;
+    }
+
+-- an answer with its rows as changes
+abbrev pub shown : DecodeSettings → List ℕ → List (List ℕ) × Result ℕ DecodeError
+shown settings bytes = (map changes (plain settings bytes).0, (plain settings bytes).1)

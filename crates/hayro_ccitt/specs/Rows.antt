@@ -1,0 +1,91 @@
+-- Rows of pixels (T.4, 4.2.1).
+use Rattle.std.specs.Prelude.{ℕ, zero, suc, ◌-◌, Bool, true, false, not, ◌&&◌, List, [], ◌∷◌, ◌++◌, length, get_or, replicate, filter, find, unwrap_or, min, nat_le, nat_lt, Result, Ok, Err, if◌then◌else◌, ◌<◌, ◌≤◌}
+use mathlib.Core.Bool.{beq}
+use Rattle.std.specs.List.{range_with_len}
+use Rattle.hayro_ccitt.specs.declared.codes.Color.{Color}
+use Rattle.hayro_ccitt.specs.declared.codes.Color.TheVariants.{White, Black}
+use Rattle.hayro_ccitt.specs.declared.error.DecodeError.{DecodeError}
+use Rattle.hayro_ccitt.specs.declared.error.DecodeError.TheVariants.{InvalidCode}
+
+-- the pixels of a row, or of a front of one, from the left: true is black
+abbrev pub Row : Type 0
+Row = List Bool
+
+-- the pixel of a colour
+abbrev pub is_black : Color → Bool
+is_black White = false
+is_black Black = true
+
+-- the other colour
+abbrev pub opposite : Color → Color
+opposite White = Black
+opposite Black = White
+
+-- the pixel at a place, and the one to its left: white stands left of the row
+abbrev pub pixel : Row → ℕ → Bool
+pixel row p = get_or row p false
+
+abbrev pub pixel_before : Row → ℕ → Bool
+pixel_before row zero = false
+pixel_before row (suc p) = pixel row p
+
+-- a changing element: a place whose pixel differs from the one before it (T.4, 4.2.1.1)
+abbrev pub is_change : Row → ℕ → Bool
+is_change row p = not (beq (pixel_before row p) (pixel row p))
+
+-- the changing elements of a row, ascending
+abbrev pub changes : Row → List ℕ
+changes row = filter (is_change row) (range_with_len 0 (length row))
+
+-- places in ascending order, from a first one on and below a width
+abbrev pub AscendFrom : ℕ → ℕ → List ℕ → Type 0
+AscendFrom first width [] = Unit {0}
+AscendFrom first width (place ∷ places) = (first ≤ place) × (place < width) × AscendFrom (suc place) width places
+
+-- a lawful list of changes of a row of this width: strictly ascending, and below the width
+abbrev pub AreChanges : ℕ → List ℕ → Type 0
+AreChanges width places = AscendFrom 0 width places
+
+-- from a place on, pixels of one colour up to the next change, then of the other colour, up to the width
+abbrev pub pixels_from : ℕ → Bool → ℕ → List ℕ → Row
+pixels_from place color width [] = replicate (width - place) color
+pixels_from place color width (change ∷ places) = replicate (change - place) color ++ pixels_from change (not color) width places
+
+-- the row of this width whose colour, white at first, turns at these places
+abbrev pub pixels : ℕ → List ℕ → Row
+pixels width places = pixels_from 0 false width places
+
+-- the least place below a bound that passes a test, or the bound
+abbrev pub least_below : ℕ → (ℕ → Bool) → ℕ
+least_below bound test = unwrap_or (find test (range_with_len 0 bound)) bound
+
+-- A place a0 is given by the first place right of it: 0 where a0 is left of the row, and else a0 + 1. While no
+-- pixel is painted a0 is left of the row, and else it is where the front ends.
+abbrev pub right_of : Row → ℕ
+right_of [] = 0
+right_of (pixel ∷ front) = suc (suc (length front))
+
+-- b1: the first changing element of the reference row right of a0, from the present colour to the other; the row's
+-- end where there is none (T.4, 4.2.1.1)
+abbrev pub b1 : Row → ℕ → Color → ℕ
+b1 reference from color =
+    least_below (length reference) (λ p. nat_le from p && is_change reference p && beq (pixel_before reference p) (is_black color))
+
+-- b2: the next changing element after b1
+abbrev pub b2 : Row → ℕ → Color → ℕ
+b2 reference from color = least_below (length reference) (λ p. nat_lt (b1 reference from color) p && is_change reference p)
+
+-- a1: the first changing element of the coding row itself right of a0
+abbrev pub a1 : Row → ℕ → ℕ
+a1 row from = least_below (length row) (λ p. nat_le from p && is_change row p)
+
+-- a2: the next changing element after a1
+abbrev pub a2 : Row → ℕ → ℕ
+a2 row from = least_below (length row) (λ p. nat_lt (a1 row from) p && is_change row p)
+
+-- The front and some more pixels of a colour. Where there are more than the row has room for, a strict reading is a
+-- wrong code, and a lenient one cuts them off at the row's end.
+abbrev pub paint : Bool → ℕ → Row → Color → ℕ → Result Row DecodeError
+paint strict columns front color n =
+    if strict && nat_lt (columns - length front) n then Err InvalidCode
+    else Ok (front ++ replicate (min n (columns - length front)) (is_black color))

@@ -1,0 +1,62 @@
+ghost use Rattle.std.specs.Prelude.{Some};
+ghost use Rattle.hayro_ccitt.specs.Texts.{text_of};
+
+use std::alloc::{AllocError, AllocFailed};
+use std::fmt;
+
+/// Why decoding ended without a count of bytes.
+#[derive(Debug, Clone, Copy, PartialEq, Eq)]
+pub enum DecodeError {
+    /// The data ends inside a code word, or where a line or a tag bit has to begin.
+    UnexpectedEof,
+    /// No code word stands at a place, or strict data breaks a rule.
+    InvalidCode,
+    /// The length of a run or a place in a row is not a number of 32 bits, or a place is left of the
+    /// pixels painted.
+    Overflow,
+    /// There was no memory for a change of a row.
+    OutOfMemory,
+    /// The sink refused a row.
+    Refused,
+}
+
+impl fmt::Display for DecodeError {
+    ghost output = { λ e. Some (text_of e) };
+
+    fn fmt<W: fmt::Write>(&self, f: &mut fmt::Formatter<W>) -> fmt::Result {
+        f.write_str(match self {
+            DecodeError::UnexpectedEof => "unexpected end of input",
+            DecodeError::InvalidCode => "invalid CCITT code sequence",
+            DecodeError::Overflow => "arithmetic overflow in position calculation",
+            DecodeError::OutOfMemory => "out of memory",
+            DecodeError::Refused => "row refused",
+        })
+    }
+}
+
+impl std::error::Error for DecodeError {}
+
+impl From<AllocError> for DecodeError {
+    ghost use Rattle.std.specs.Prelude.{◌≡◌};
+    ghost use Rattle.hayro_ccitt.specs.declared.error.DecodeError.TheVariants.{OutOfMemory};
+
+    ghost from_gives = { λ _ e. e ≡ OutOfMemory };
+
+    fn from(_error: AllocError) -> DecodeError {
+        DecodeError::OutOfMemory
+    }
+}
+
+impl<T: Drop> From<AllocFailed<T>> for DecodeError {
+    ghost use Rattle.std.specs.Prelude.{◌≡◌};
+    ghost use Rattle.hayro_ccitt.specs.declared.error.DecodeError.TheVariants.{OutOfMemory};
+
+    ghost from_gives = { λ _ e. e ≡ OutOfMemory };
+
+    fn from(_error: AllocFailed<T>) -> DecodeError {
+        DecodeError::OutOfMemory
+    }
+}
+
+/// What decoding answers.
+pub type Result<T> = std::result::Result<T, DecodeError>;
