@@ -124,26 +124,3 @@ OnePictureT6 = (columns : ℕ) (aligned : Bool) (rows others : List Row) (bits m
 
 abbrev pub OnePictureT4 : Type 0
 OnePictureT4 = (kind : Kind) (columns : ℕ) (rows others : List Row) (bits more : Bits) → columns < 2 ^ 32 → kind ≢ Kind.group4 → PictureT4 kind columns rows bits → PictureT4 kind columns others (bits ++ more) → rows ≡ others
-
--- ---- lines by EOLs, and locality
-
-abbrev pub IsEolAt : Bits → Type 0
-IsEolAt here = (after : Bits) × (after_eol 0 here ≡ Some after)
-
--- what D16 says of one run
-pub record IsLocal (settings : DecodeSettings) (bits : Bits) (from to : ℕ) : Type 0 where
-  pub encoding : settings.encoding ≡ Group3_1D
-  pub lenient : settings.strict ≡ false
-  pub order : from ≤ to
-  pub within : to ≤ length bits
-  pub starts : (from ≡ 0) ⊎ ((at : ℕ) × (at < from) × (after_eol 0 (drop at bits) ≡ Some (drop from bits)))
-  pub one : (p : ℕ) × (from ≤ p) × (p < to) × ((more : Bits) × (drop p bits ≡ true ∷ more))
-  pub no_eol : (p q : ℕ) → from ≤ p → q ≤ to → p < q → after_eol 0 (drop p bits) ≢ Some (drop q bits)
-  pub closes : (after : Bits) × (after_eol 0 (drop to bits) ≡ Some after) × ((row : Row) (rest : Bits) → line_1d false settings.columns (drop from bits) ≡ Line.whole row rest → length after + 12 ≤ length rest)
-
-abbrev pub Locality : Type 0
-Locality = (settings : DecodeSettings) (one two : List ℕ) (from to to2 : ℕ) → AreSettings settings
-    → take from (bits_of one) ≡ take from (bits_of two) → drop to (bits_of one) ≡ drop to2 (bits_of two)
-    → IsLocal settings (bits_of one) from to → IsLocal settings (bits_of two) from to2
-    → (settings.end_of_line ≡ true) ⊎ ((at : ℕ) × (at ≤ from) × (after_eol 0 (bits_of one) ≡ Some (drop at (bits_of one))))
-    → (k : ℕ) × (row : Row) × ((plain settings two).0 ≡ set (plain settings one).0 k row)

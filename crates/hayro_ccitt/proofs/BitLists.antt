@@ -1,0 +1,62 @@
+-- Where the bits of bytes lie.
+use Rattle.std.proofs.Common.{◌≡◌, ℕ, zero, suc, ◌+◌, ◌-◌, ◌*◌, ◌/◌, ◌%◌, ◌^◌, ◌<◌, ◌≤◌, eqb, List, [], ◌∷◌, length, get_or, drop, Some, None, bit_and, refl, sym, ap, ◌∙◌, arith}
+use Rattle.std.specs.Prelude.{slice_get}
+use Rattle.std.proofs.lemmas.Nat.Bits.{shr_and_one}
+use Rattle.hayro_ccitt.specs.Bits.{bit_of, bits_of, low_bits}
+
+pub length-bits_of : (bytes : List ℕ) → length (bits_of bytes) ≡ 8 * length bytes
+length-bits_of [] = refl
+length-bits_of (b ∷ bytes) = omega (arith, length-bits_of bytes)
+
+pub slice_get-bits_of : (bytes : List ℕ) (q r : ℕ) → q < length bytes → r < 8 → slice_get (bits_of bytes) (8 * q + r) ≡ Some (bit_of (get_or bytes q 0) (7 - r))
+slice_get-bits_of [] q r h k = absurd (omega arith)
+slice_get-bits_of (b ∷ bytes) zero zero h k = refl
+slice_get-bits_of (b ∷ bytes) zero (suc zero) h k = refl
+slice_get-bits_of (b ∷ bytes) zero (suc (suc zero)) h k = refl
+slice_get-bits_of (b ∷ bytes) zero (suc (suc (suc zero))) h k = refl
+slice_get-bits_of (b ∷ bytes) zero (suc (suc (suc (suc zero)))) h k = refl
+slice_get-bits_of (b ∷ bytes) zero (suc (suc (suc (suc (suc zero))))) h k = refl
+slice_get-bits_of (b ∷ bytes) zero (suc (suc (suc (suc (suc (suc zero)))))) h k = refl
+slice_get-bits_of (b ∷ bytes) zero (suc (suc (suc (suc (suc (suc (suc zero))))))) h k = refl
+slice_get-bits_of (b ∷ bytes) zero (suc (suc (suc (suc (suc (suc (suc (suc r)))))))) h k = absurd (omega arith)
+slice_get-bits_of (b ∷ bytes) (suc q) r h k =
+    let i : 8 * suc q + r ≡ suc (suc (suc (suc (suc (suc (suc (suc (8 * q + r)))))))) = omega arith in
+    rw i (slice_get-bits_of bytes q r (omega arith) k)
+
+pub slice_get_past : {A : Type 0} (xs : List A) (i : ℕ) → length xs ≤ i → slice_get xs i ≡ None
+slice_get_past [] i h = refl
+slice_get_past (x ∷ xs) zero h = absurd (omega arith)
+slice_get_past (x ∷ xs) (suc i) h = slice_get_past xs i (omega arith)
+
+-- the bits from a place on begin with the bit there
+pub drop_some : {A : Type 0} (xs : List A) (i : ℕ) (x : A) → slice_get xs i ≡ Some x → drop i xs ≡ x ∷ drop (i + 1) xs
+drop_some [] i x h = absurd cc
+drop_some (y ∷ xs) zero x h = cc
+drop_some (y ∷ xs) (suc i) x h = let k : suc i + 1 ≡ suc (i + 1) = omega arith in rw k (drop_some xs i x h)
+
+pub drop_none : {A : Type 0} (xs : List A) (i : ℕ) → slice_get xs i ≡ None → drop i xs ≡ []
+drop_none [] zero h = refl
+drop_none [] (suc i) h = refl
+drop_none (y ∷ xs) zero h = absurd cc
+drop_none (y ∷ xs) (suc i) h = drop_none xs i h
+
+pub low_bits-suc : (width k n : ℕ) → k < width → low_bits (width - k) n ≡ bit_of n (width - 1 - k) ∷ low_bits (width - (k + 1)) n
+low_bits-suc width k n h =
+    let i : width - k ≡ suc (width - (k + 1)) = omega arith in
+    let j : width - 1 - k ≡ width - (k + 1) = omega arith in
+    rw (i, j) refl
+
+pub length-low_bits : (width n : ℕ) → length (low_bits width n) ≡ width
+length-low_bits zero n = refl
+length-low_bits (suc width) n = ap suc (length-low_bits width n)
+
+-- what a shift and a mask read
+pub bit_there : (bytes : List ℕ) (place byte : ℕ) → place / 8 < length bytes → byte ≡ get_or bytes (place / 8) 0 → Some (eqb (bit_and (byte / 2 ^ (7 - place % 8)) 1) 1) ≡ slice_get (bits_of bytes) place
+bit_there bytes place byte h e =
+    let lt : place % 8 < 8 = omega arith in
+    let at : place ≡ 8 * (place / 8) + place % 8 = omega arith in
+    let found = slice_get-bits_of bytes (place / 8) (place % 8) h lt in
+    rw (shr_and_one byte (7 - place % 8), e) (sym (ap (λ (i : ℕ). slice_get (bits_of bytes) i) at ∙ found))
+
+pub bit_past : (bytes : List ℕ) (place : ℕ) → length bytes ≤ place / 8 → None ≡ slice_get (bits_of bytes) place
+bit_past bytes place h = sym (slice_get_past (bits_of bytes) place (omega (arith, length-bits_of bytes)))

@@ -1,0 +1,190 @@
+-- What reading a list finds, by the words that stand there.
+use Rattle.std.proofs.Common.{◌≡◌, drop, ◌<◌, ◌≤◌, Bool, true, false, not, List, [], ◌∷◌, ◌++◌, length, Option, Some, None, Result, Ok, Err, refl, sym, ap, subst, ◌∙◌, append_assoc, arith, ◌⊎◌, inl, inr}
+use Rattle.std.proofs.lemmas.Bool.{and_parts, or_parts, or_cases, false≢true, not-true}
+use Rattle.std.specs.List.{list_all}
+use Rattle.hayro_ccitt.specs.declared.error.DecodeError.{DecodeError}
+use Rattle.hayro_ccitt.specs.declared.error.DecodeError.TheVariants.{UnexpectedEof, InvalidCode}
+use Rattle.hayro_ccitt.specs.Bits.{Bits}
+use Rattle.hayro_ccitt.specs.CodeLists.{Code}
+use Rattle.hayro_ccitt.specs.CodeReading.{agreement, after, is_front, word_at, is_cut, Has, read_code, apart, is_prefix_free}
+
+pub after_is : (word here rest : Bits) → after word here ≡ Some rest → here ≡ word ++ rest
+after_is [] here rest e = cc
+after_is (b ∷ word) [] rest e = absurd cc
+after_is (true ∷ word) (true ∷ here) rest e = ap (λ (x : Bits). true ∷ x) (after_is word here rest e)
+after_is (true ∷ word) (false ∷ here) rest e = absurd cc
+after_is (false ∷ word) (true ∷ here) rest e = absurd cc
+after_is (false ∷ word) (false ∷ here) rest e = ap (λ (x : Bits). false ∷ x) (after_is word here rest e)
+
+pub after_at : (word rest : Bits) → after word (word ++ rest) ≡ Some rest
+after_at [] rest = refl
+after_at (true ∷ word) rest = after_at word rest
+after_at (false ∷ word) rest = after_at word rest
+
+-- of two words that stand at one place, one is a front of the other
+either_front : (u w here rest : Bits) → after u (w ++ here) ≡ Some rest → (is_front u w ≡ true) ⊎ (is_front w u ≡ true)
+either_front [] w here rest e = inl refl
+either_front (b ∷ u) [] here rest e = inr refl
+either_front (true ∷ u) (true ∷ w) here rest e = either_front u w here rest e
+either_front (false ∷ u) (false ∷ w) here rest e = either_front u w here rest e
+either_front (true ∷ u) (false ∷ w) here rest e = absurd cc
+either_front (false ∷ u) (true ∷ w) here rest e = absurd cc
+
+-- where neither is, the first doesn't stand
+apart_misses : (u w here : Bits) → apart u w ≡ true → after u (w ++ here) ≡ None
+apart_misses u w here h =
+    let both = and_parts (not (is_front u w)) (not (is_front w u)) h in
+    let by : (o : Option Bits) → after u (w ++ here) ≡ o → o ≡ None
+    = λ o. elim o as (λ (x : Option Bits). after u (w ++ here) ≡ x → x ≡ None) [
+      | None ↦ λ e. refl
+      | Some rest ↦ λ e. elim (either_front u w here rest e) [
+        | inl f ↦ absurd (false≢true (sym (not-true (is_front u w) both.0) ∙ f))
+        | inr f ↦ absurd (false≢true (sym (not-true (is_front w u) both.1) ∙ f))
+      ]
+    ] in
+    by (after u (w ++ here)) refl
+
+apart_in : {V : Type 0} (u : Bits) (list : List (Code V)) (v : V) (w : Bits) → list_all (λ d. apart u d.word) list ≡ true → Has list v w → apart u w ≡ true
+apart_in u [] v w h i = elim i [ ]
+apart_in u (c ∷ list) v w h (inl e) = rw (← e.1) (and_parts (apart u c.word) (list_all (λ d. apart u d.word) list) h).0
+apart_in u (c ∷ list) v w h (inr i) = apart_in u list v w (and_parts (apart u c.word) (list_all (λ d. apart u d.word) list) h).1 i
+
+-- A word of a list that is prefix-free is found wherever it stands.
+pub word_at_again : {V : Type 0} (list : List (Code V)) (v : V) (w rest : Bits) → is_prefix_free list ≡ true → Has list v w → word_at list (w ++ rest) ≡ Some (v, rest)
+word_at_again [] v w rest free i = elim i [ ]
+word_at_again (c ∷ list) v w rest free (inl e) = rw (← e.0, ← e.1, after_at c.word rest, word_at) refl
+word_at_again (c ∷ list) v w rest free (inr i) =
+    let both = and_parts (list_all (λ d. apart c.word d.word) list) (is_prefix_free list) free in
+    rw (apart_misses c.word w rest (apart_in c.word list v w both.0 i), word_at) (word_at_again list v w rest both.1 i)
+
+pub read_code_again : {V : Type 0} (list : List (Code V)) (v : V) (w rest : Bits) → is_prefix_free list ≡ true → Has list v w → read_code list (w ++ rest) ≡ Ok (v, rest)
+read_code_again list v w rest free i = rw (word_at_again list v w rest free i, read_code) refl
+
+-- What is found stands there, in the list.
+pub word_at_found : {V : Type 0} (list : List (Code V)) (here : Bits) (found : V × Bits) → word_at list here ≡ Some found → (w : Bits) × Has list found.0 w × (here ≡ w ++ found.1)
+word_at_found [] here found e = absurd cc
+word_at_found {V} (c ∷ list) here found e =
+    let by : (o : Option Bits) → after c.word here ≡ o → word_at (c ∷ list) here ≡ Some found → (w : Bits) × Has (c ∷ list) found.0 w × (here ≡ w ++ found.1)
+    = λ o. elim o as (λ (x : Option Bits). after c.word here ≡ x → word_at (c ∷ list) here ≡ Some found → (w : Bits) × Has (c ∷ list) found.0 w × (here ≡ w ++ found.1)) [
+      | None ↦ λ a f. let g = word_at_found list here found (rw (a, word_at) at f) in (g.0, inr g.1, g.2)
+      | Some rest ↦ λ a f. let g : Option.Some (c.value, rest) ≡ Some found = rw (a, word_at) at f in
+          let p : (c.value, rest) ≡ found = cc in
+          subst (λ (x : V × Bits). (w : Bits) × Has (c ∷ list) x.0 w × (here ≡ w ++ x.1)) p (c.word, inl (refl, refl), after_is c.word here rest a)
+    ] in
+    by (after c.word here) refl e
+
+-- What reading answers, in three cases.
+cases_reading : {V : Type 0} (list : List (Code V)) (here : Bits) (answer : Result (V × Bits) DecodeError) → read_code list here ≡ answer
+    → ((found : V × Bits) × (answer ≡ Ok found) × (word_at list here ≡ Some found))
+    ⊎ (((answer ≡ Err UnexpectedEof) × (word_at list here ≡ None) × (is_cut list here ≡ true))
+    ⊎ ((answer ≡ Err InvalidCode) × (word_at list here ≡ None) × (is_cut list here ≡ false)))
+cases_reading {V} list here answer e =
+    let Goal : Type 0 = ((found : V × Bits) × (answer ≡ Ok found) × (word_at list here ≡ Some found))
+    ⊎ (((answer ≡ Err UnexpectedEof) × (word_at list here ≡ None) × (is_cut list here ≡ true))
+    ⊎ ((answer ≡ Err InvalidCode) × (word_at list here ≡ None) × (is_cut list here ≡ false))) in
+    let by_test : (t : Bool) → word_at list here ≡ None → is_cut list here ≡ t → Goal
+    = λ t. elim t as (λ (t : Bool). word_at list here ≡ None → is_cut list here ≡ t → Goal) [
+      | true ↦ λ a b. inr (inl (sym (rw (a, b, read_code) at e), a, b))
+      | false ↦ λ a b. inr (inr (sym (rw (a, b, read_code) at e), a, b))
+    ] in
+    let by : (o : Option (V × Bits)) → word_at list here ≡ o → Goal
+    = λ o. elim o as (λ (o : Option (V × Bits)). word_at list here ≡ o → Goal) [
+      | Some found ↦ λ a. inl (found, sym (rw (a, read_code) at e), a)
+      | None ↦ λ a. by_test (is_cut list here) a refl
+    ] in
+    by (word_at list here) refl
+
+-- Found: a word of the list stands here.
+pub read_code_found : {V : Type 0} (list : List (Code V)) (here : Bits) (v : V) (rest : Bits) → read_code list here ≡ Ok (v, rest) → (w : Bits) × Has list v w × (here ≡ w ++ rest)
+read_code_found {V} list here v rest e = elim (cases_reading list here (Ok (v, rest)) e) [
+  | inl a ↦ let p : (v, rest) ≡ a.0 = cc in subst (λ (x : V × Bits). (w : Bits) × Has list x.0 w × (here ≡ w ++ x.1)) (sym p) (word_at_found list here a.0 a.2)
+  | inr b ↦ elim b [ inl c ↦ absurd cc | inr c ↦ absurd cc ]
+]
+
+no_word : {V : Type 0} (list : List (Code V)) (here : Bits) → is_prefix_free list ≡ true → word_at list here ≡ None → (v : V) (w rest : Bits) → Has list v w → here ≡ w ++ rest → ⊥
+no_word list here free e v w rest i h = absurd (let a = word_at_again list v w rest free i in let b : word_at list (w ++ rest) ≡ None = rw h at e in cc)
+
+any_front : {V : Type 0} (list : List (Code V)) (here : Bits) → is_cut list here ≡ true → (v : V) × (w : Bits) × (more : Bits) × Has list v w × (w ≡ here ++ more)
+any_front [] here e = absurd (false≢true e)
+any_front {V} (c ∷ list) here e = elim (or_cases (is_front here c.word) (is_cut list here) e) [
+  | inl f ↦ let by : (o : Option Bits) → after here c.word ≡ o → (v : V) × (w : Bits) × (more : Bits) × Has (c ∷ list) v w × (w ≡ here ++ more)
+      = λ o. elim o as (λ (o : Option Bits). after here c.word ≡ o → (v : V) × (w : Bits) × (more : Bits) × Has (c ∷ list) v w × (w ≡ here ++ more)) [
+        | None ↦ λ a. absurd (false≢true (rw a at f))
+        | Some more ↦ λ a. (c.value, c.word, more, inl (refl, refl), after_is here c.word more a)
+      ] in
+      by (after here c.word) refl
+  | inr f ↦ let g = any_front list here f in (g.0, g.1, g.2, inr g.3, g.4)
+]
+
+all_no_front : {V : Type 0} (list : List (Code V)) (here : Bits) → is_cut list here ≡ false → (v : V) (w more : Bits) → Has list v w → w ≡ here ++ more → ⊥
+all_no_front [] here e v w more i h = elim i [ ]
+all_no_front (c ∷ list) here e v w more (inl i) h =
+    let f = (or_parts (is_front here c.word) (is_cut list here) e).0 in
+    let w_is : c.word ≡ here ++ more = i.1 ∙ h in
+    false≢true (sym f ∙ rw (w_is, after_at here more, is_front) refl)
+all_no_front (c ∷ list) here e v w more (inr i) h =
+    all_no_front list here (or_parts (is_front here c.word) (is_cut list here) e).1 v w more i h
+
+-- Short: no word stands, and the bits from here to the end are a front of a word.
+pub read_code_short : {V : Type 0} (list : List (Code V)) (here : Bits) → is_prefix_free list ≡ true → read_code list here ≡ Err UnexpectedEof
+    → ((v : V) (w rest : Bits) → Has list v w → here ≡ w ++ rest → ⊥) × ((v : V) × (w : Bits) × (more : Bits) × Has list v w × (w ≡ here ++ more))
+read_code_short {V} list here free e = elim (cases_reading list here (Err UnexpectedEof) e) [
+  | inl a ↦ absurd cc
+  | inr b ↦ elim b [ inl c ↦ (no_word list here free c.1, any_front list here c.2) | inr c ↦ absurd cc ]
+]
+
+-- Wrong: neither.
+pub read_code_wrong : {V : Type 0} (list : List (Code V)) (here : Bits) → is_prefix_free list ≡ true → read_code list here ≡ Err InvalidCode
+    → ((v : V) (w rest : Bits) → Has list v w → here ≡ w ++ rest → ⊥) × ((v : V) (w more : Bits) → Has list v w → w ≡ here ++ more → ⊥)
+read_code_wrong {V} list here free e = elim (cases_reading list here (Err InvalidCode) e) [
+  | inl a ↦ absurd cc
+  | inr b ↦ elim b [ inl c ↦ absurd cc | inr c ↦ (no_word list here free c.1, all_no_front list here c.2) ]
+]
+
+-- What is found doesn't depend on what follows it.
+pub read_code_front : {V : Type 0} (list : List (Code V)) (here : Bits) (v : V) (rest more : Bits) → is_prefix_free list ≡ true → read_code list here ≡ Ok (v, rest) → read_code list (here ++ more) ≡ Ok (v, rest ++ more)
+read_code_front {V} list here v rest more free e =
+    let a = read_code_found list here v rest e in
+    let p : here ++ more ≡ a.0 ++ (rest ++ more) = ap (λ (x : Bits). x ++ more) a.2 ∙ append_assoc a.0 rest more in
+    rw p (read_code_again list v a.0 (rest ++ more) free a.1)
+
+-- The agreement of a word with the bits here says whether it stands, and whether they are a front of it.
+pub agreement_le : (word here : Bits) → (agreement word here ≤ length word) × (agreement word here ≤ length here)
+agreement_le [] here = (omega arith, omega arith)
+agreement_le (b ∷ word) [] = (omega arith, omega arith)
+agreement_le (true ∷ word) (true ∷ here) = let h = agreement_le word here in (omega arith, omega arith)
+agreement_le (false ∷ word) (false ∷ here) = let h = agreement_le word here in (omega arith, omega arith)
+agreement_le (true ∷ word) (false ∷ here) = (omega arith, omega arith)
+agreement_le (false ∷ word) (true ∷ here) = (omega arith, omega arith)
+
+pub agreement_stands : (word here : Bits) → agreement word here ≡ length word → after word here ≡ Some (drop (length word) here)
+agreement_stands [] here e = refl
+agreement_stands (b ∷ word) [] e = absurd (omega arith)
+agreement_stands (true ∷ word) (true ∷ here) e = agreement_stands word here (omega arith)
+agreement_stands (false ∷ word) (false ∷ here) e = agreement_stands word here (omega arith)
+agreement_stands (true ∷ word) (false ∷ here) e = absurd (omega arith)
+agreement_stands (false ∷ word) (true ∷ here) e = absurd (omega arith)
+
+pub agreement_misses : (word here : Bits) → agreement word here < length word → after word here ≡ None
+agreement_misses [] here e = absurd (omega arith)
+agreement_misses (b ∷ word) [] e = refl
+agreement_misses (true ∷ word) (true ∷ here) e = agreement_misses word here (omega arith)
+agreement_misses (false ∷ word) (false ∷ here) e = agreement_misses word here (omega arith)
+agreement_misses (true ∷ word) (false ∷ here) e = refl
+agreement_misses (false ∷ word) (true ∷ here) e = refl
+
+pub agreement_begins : (word here : Bits) → agreement word here ≡ length here → is_front here word ≡ true
+agreement_begins word [] e = refl
+agreement_begins [] (c ∷ here) e = absurd (omega arith)
+agreement_begins (true ∷ word) (true ∷ here) e = agreement_begins word here (omega arith)
+agreement_begins (false ∷ word) (false ∷ here) e = agreement_begins word here (omega arith)
+agreement_begins (true ∷ word) (false ∷ here) e = absurd (omega arith)
+agreement_begins (false ∷ word) (true ∷ here) e = absurd (omega arith)
+
+pub agreement_ends : (word here : Bits) → agreement word here < length here → is_front here word ≡ false
+agreement_ends word [] e = absurd (omega arith)
+agreement_ends [] (c ∷ here) e = refl
+agreement_ends (true ∷ word) (true ∷ here) e = agreement_ends word here (omega arith)
+agreement_ends (false ∷ word) (false ∷ here) e = agreement_ends word here (omega arith)
+agreement_ends (true ∷ word) (false ∷ here) e = refl
+agreement_ends (false ∷ word) (true ∷ here) e = refl

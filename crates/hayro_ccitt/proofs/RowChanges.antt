@@ -1,0 +1,30 @@
+-- What painting does to the changes.
+use Rattle.std.proofs.Common.{◌≡◌, ℕ, zero, suc, ◌+◌, Bool, true, false, cond, List, [], ◌∷◌, ◌++◌, length, replicate, refl, sym, ap, ◌∙◌, arith, zero-add}
+use mathlib.Core.Bool.{beq}
+use Rattle.hayro_ccitt.specs.Rows.{Row}
+use Rattle.hayro_ccitt.specs.Changes.{changes_from, last_pixel}
+
+cond-append : (b : Bool) (x y zs : List ℕ) → cond b x y ++ zs ≡ cond b (x ++ zs) (y ++ zs)
+cond-append true x y zs = refl
+cond-append false x y zs = refl
+
+pub changes_from-append : (place : ℕ) (before : Bool) (front row : Row) → changes_from place before (front ++ row) ≡ changes_from place before front ++ changes_from (place + length front) (last_pixel before front) row
+changes_from-append place before [] row = let e : place + 0 ≡ place = omega arith in rw e refl
+changes_from-append place before (pixel ∷ front) row =
+    let e : place + suc (length front) ≡ suc place + length front = omega arith in
+    rw (changes_from-append (suc place) pixel front row, e) (sym (cond-append (beq before pixel) _ _ _))
+
+same_beq : (b : Bool) → beq b b ≡ true
+same_beq true = refl
+same_beq false = refl
+
+-- pixels of the colour before them change nothing
+pub changes_from-same : (place n : ℕ) (color : Bool) → changes_from place color (replicate n color) ≡ []
+changes_from-same place zero color = refl
+changes_from-same place (suc n) color = rw (same_beq color) (changes_from-same (suc place) n color)
+
+-- painting pixels adds one change, where their colour differs from the last pixel's
+pub changes_from-painted : (front : Row) (n : ℕ) (color : Bool) → changes_from 0 false (front ++ replicate (suc n) color) ≡ changes_from 0 false front ++ cond (beq (last_pixel false front) color) [] (length front ∷ [])
+changes_from-painted front n color =
+    changes_from-append 0 false front (replicate (suc n) color)
+    ∙ ap (λ (xs : List ℕ). changes_from 0 false front ++ xs) (rw (zero-add, changes_from-same (suc (length front)) n color) refl)
