@@ -256,6 +256,6 @@ mode_codes =
     spelled (Vertical (negsuc 2)) "0000010" ∷
     []
 
--- a table of triples (run, number of bits, word as a number) as a code list
-abbrev pub numbered : List (ℕ × ℕ × ℕ) → List (Code ℕ)
+-- a table of triples (value, number of bits, word as a number) as a code list
+abbrev pub numbered : {V : Type 0} → List (V × ℕ × ℕ) → List (Code V)
 numbered table = map (λ e. record { value = e.0; word = low_bits e.1 e.2 }) table

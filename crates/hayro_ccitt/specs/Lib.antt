@@ -1,10 +1,14 @@
+pub mod Answers
 pub mod Bits
 pub mod Changes
 pub mod CodeLists
 pub mod CodeReading
+pub mod Context
+pub mod ContextView
 pub mod Encodings
 pub mod EndOfLine
 pub mod Laws
+pub mod Lending
 pub mod Lines
 pub mod Locality
 pub mod PlainReading
@@ -12,3 +16,4 @@ pub mod Repetition
 pub mod Rows
 pub mod Runs
 pub mod Texts
+pub mod Ticks

@@ -6,7 +6,7 @@ use Rattle.hayro_ccitt.specs.declared.settings.EncodingMode.{EncodingMode}
 use Rattle.hayro_ccitt.specs.declared.settings.EncodingMode.TheVariants.{Group4, Group3_1D, Group3_2D}
 use Rattle.hayro_ccitt.specs.declared.settings.DecodeSettings.{DecodeSettings}
 use Rattle.hayro_ccitt.specs.Bits.{Bits, bits_of}
-use Rattle.hayro_ccitt.specs.Repetition.{Turn, repeated}
+use Rattle.hayro_ccitt.specs.Repetition.{Turn, repeated, gathered}
 use Rattle.hayro_ccitt.specs.Rows.{Row, changes}
 use Rattle.hayro_ccitt.specs.Lines.{Line, line_1d, line_2d}
 use Rattle.hayro_ccitt.specs.EndOfLine.{eols, all_eols, tagged_eols, next_eol}
@@ -58,16 +58,28 @@ after_line_group4 settings so_far (Line.broken front fault) = ends_with so_far (
 after_line_group4 settings so_far (Line.whole row rest) =
     Turn.next (record so_far { rows = so_far.rows ++ row ∷ []; rest = if settings.rows_are_byte_aligned then aligned rest else rest })
 
--- EOLs were read: two of them with `end_of_block`, which are EOFB, end the reading, and so do the limit and the end
--- of the data; else a line is read
+-- the EOLs that are read before a line: at most the two of EOFB with `end_of_block`, else all
+abbrev pub eols_group4 : DecodeSettings → Bits → ℕ × Bits
+eols_group4 settings here = if settings.end_of_block then eols 2 here else all_eols here
+
+-- so many rows stand and EOLs were read: two of them with `end_of_block`, which are EOFB, end the reading, and so do
+-- the limit and the end of the data
+abbrev pub is_over_group4 : DecodeSettings → ℕ → ℕ × Bits → Bool
+is_over_group4 settings rows (count, rest) = (settings.end_of_block && (count == 2)) || limit_met settings rows || at_end rest
+
+-- the line that stands here
+abbrev pub line_group4 : DecodeSettings → Progress → Bits → Line
+line_group4 settings so_far here = line_2d settings.strict settings.columns (row_before settings.columns so_far.rows) here
+
+-- a line is read, unless the reading is over
 abbrev pub line_at_group4 : DecodeSettings → Progress → ℕ × Bits → Move
 line_at_group4 settings so_far (count, rest) =
-    if (settings.end_of_block && (count == 2)) || limit_met settings (length so_far.rows) || at_end rest then ends_with so_far (Ok rest)
-    else after_line_group4 settings so_far (line_2d settings.strict settings.columns (row_before settings.columns so_far.rows) rest)
+    if is_over_group4 settings (length so_far.rows) (count, rest) then ends_with so_far (Ok rest)
+    else after_line_group4 settings so_far (line_group4 settings so_far rest)
 
--- one row's turn: EOLs, at most two with `end_of_block`, and a line
+-- one row's turn: EOLs, and a line
 abbrev pub move_group4 : DecodeSettings → Progress → Move
-move_group4 settings so_far = line_at_group4 settings so_far (if settings.end_of_block then eols 2 so_far.rest else all_eols so_far.rest)
+move_group4 settings so_far = line_at_group4 settings so_far (eols_group4 settings so_far.rest)
 
 -- ---- Group 3 (T.4)
 
@@ -139,14 +151,21 @@ abbrev pub ending_from : (Progress → Move) → Progress → Ending
 ending_from move so_far =
     repeated move (record { rows = so_far.rows; has_eols = so_far.has_eols; outcome = Err UnexpectedEof }) (suc (suc (length so_far.rest))) so_far
 
+-- where the plain reading of Group 4 starts
+abbrev pub start_group4 : Bits → Progress
+start_group4 bits = record { rows = []; has_eols = false; rest = bits }
+
+-- where that of Group 3 starts: EOLs at the front are read without tags, and say that the data has EOLs
+abbrev pub start_group3 : DecodeSettings → Bits → Progress
+start_group3 settings bits = record { rows = []; has_eols = nat_lt 0 (all_eols bits).0 || settings.end_of_line; rest = (all_eols bits).1 }
+
 -- the plain reading of Group 4
 abbrev pub plain_group4 : DecodeSettings → Bits → Ending
-plain_group4 settings bits = ending_from (move_group4 settings) (record { rows = []; has_eols = false; rest = bits })
+plain_group4 settings bits = ending_from (move_group4 settings) (start_group4 bits)
 
--- the plain reading of Group 3: EOLs at the front are read without tags, and say that the data has EOLs
+-- the plain reading of Group 3
 abbrev pub plain_group3 : DecodeSettings → Bits → Ending
-plain_group3 settings bits =
-    ending_from (move_group3 settings) (record { rows = []; has_eols = nat_lt 0 (all_eols bits).0 || settings.end_of_line; rest = (all_eols bits).1 })
+plain_group3 settings bits = ending_from (move_group3 settings) (start_group3 settings bits)
 
 -- the reading that belongs to an encoding
 abbrev pub end_by : EncodingMode → DecodeSettings → Bits → Ending
@@ -172,6 +191,33 @@ abbrev pub plain : DecodeSettings → List ℕ → Answer
 plain settings bytes =
     if settings.columns == 0 then ([], Ok 0)
     else ((end_of settings (bits_of bytes)).rows, bytes_before (bits_of bytes) (end_of settings (bits_of bytes)).outcome)
+
+-- ---- The lines
+
+-- the line that a turn of Group 4 reads, if it reads one
+abbrev pub lines_at_group4 : DecodeSettings → Progress → ℕ × Bits → List Line
+lines_at_group4 settings so_far (count, rest) =
+    if is_over_group4 settings (length so_far.rows) (count, rest) then [] else line_group4 settings so_far rest ∷ []
+
+abbrev pub lines_of_move_group4 : DecodeSettings → Progress → List Line
+lines_of_move_group4 settings so_far = lines_at_group4 settings so_far (eols_group4 settings so_far.rest)
+
+-- the line that a turn of Group 3 reads
+abbrev pub lines_of_move_group3 : DecodeSettings → Progress → List Line
+lines_of_move_group3 settings so_far = line_at_group3 settings (row_before settings.columns so_far.rows) so_far.rest ∷ []
+
+-- the lines that are read from here on
+abbrev pub lines_from : (Progress → Move) → (Progress → List Line) → Progress → List Line
+lines_from move lines so_far = gathered move lines (suc (suc (length so_far.rest))) so_far
+
+abbrev pub lines_by : EncodingMode → DecodeSettings → Bits → List Line
+lines_by Group4 settings bits = lines_from (move_group4 settings) (lines_of_move_group4 settings) (start_group4 bits)
+lines_by Group3_1D settings bits = lines_from (move_group3 settings) (lines_of_move_group3 settings) (start_group3 settings bits)
+lines_by Group3_2D settings bits = lines_from (move_group3 settings) (lines_of_move_group3 settings) (start_group3 settings bits)
+
+-- The lines that the plain reading reads, in order. The line of an index is read when so many rows stand.
+abbrev pub lines_of : DecodeSettings → List ℕ → List Line
+lines_of settings bytes = if settings.columns == 0 then [] else lines_by settings.encoding settings (bits_of bytes)
 
 -- ---- For examples
 

@@ -1,7 +1,22 @@
-ghost use Rattle.std.specs.Prelude.{◌≡◌, ℕ, ◌+◌, IsTrue, ◌↔◌};
-ghost use Rattle.std.specs.Borrow.{ftrue};
-ghost use Rattle.hayro_ccitt.specs.Rows.{opposite};
+//! Colours, modes, and the code words and EOLs of the data.
 
+ghost use Rattle.std.specs.Prelude.{◌≡◌, ℕ, ◌+◌, ◌≤◌, ◌<◌, ◌==◌, ◌↔◌, ◌++◌, ◌∷◌, IsTrue, IfSome, IfNone, IfErr, OnOk, MatchResult, Ok, Err, Some, None, true, false, length, replicate, nat_le, if◌then◌else◌, drop, option_map};
+ghost use Rattle.std.specs.Borrow.{ftrue};
+ghost use Rattle.std.specs.List.{list_all};
+ghost use Rattle.hayro_ccitt.specs.Answers.{IsFault};
+ghost use Rattle.hayro_ccitt.specs.Bits.{here, low_bits, IsMoved};
+ghost use Rattle.hayro_ccitt.specs.CodeLists.{mode_codes, numbered};
+ghost use Rattle.hayro_ccitt.specs.CodeReading.{agreement, word_at, is_cut, read_code, leading_zeros};
+ghost use Rattle.hayro_ccitt.specs.EndOfLine.{after_eol, eols, all_eols};
+ghost use Rattle.hayro_ccitt.specs.Rows.{opposite};
+ghost use Rattle.hayro_ccitt.specs.Runs.{codes_of, read_run};
+ghost use Rattle.hayro_ccitt.specs.Ticks.{run_found, looked};
+
+use crate::bit_reader::BitReader;
+use crate::tables::{
+    BLACK_MAKEUP, BLACK_TERMINATING, COMMON_MAKEUP, Tables, WHITE_MAKEUP, WHITE_TERMINATING,
+};
+use crate::{DecodeError, Result};
 use std::marker::Model;
 
 /// The colour of a run of pixels.
@@ -80,5 +95,223 @@ impl Ticks {
     {
         let next = Ticks::after(self);
         *self = next;
+    }
+}
+
+/// The modes (T.4 table 4, T.6 table 1): the mode, the number of bits, and the word.
+#[rattlefmt::skip]
+const MODES: [(Mode, u8, u16); 9] = [
+    (Mode::Pass, 4, 0b0001),
+    (Mode::Horizontal, 3, 0b001),
+    (Mode::Vertical(0), 1, 0b1),
+    (Mode::Vertical(1), 3, 0b011),
+    (Mode::Vertical(2), 6, 0b000011),
+    (Mode::Vertical(3), 7, 0b0000011),
+    (Mode::Vertical(-1), 3, 0b010),
+    (Mode::Vertical(-2), 6, 0b000010),
+    (Mode::Vertical(-3), 7, 0b0000010),
+];
+
+/// How many bits of a word of this width, from its front, stand here.
+fn agreement(reader: &BitReader<'_>, width: u8, word: u16) -> u8
+    requires { width ≤ 16 }
+    ensures { result ≡ agreement (low_bits width word) (here reader.now) }
+{
+    let mut agreed = 0;
+    while agreed < width {
+        let bit = (word >> (width - 1 - agreed)) & 1 == 1;
+        match reader.bit_ahead(usize::from(agreed)) {
+            None => return agreed,
+            Some(next) => {
+                if next != bit {
+                    return agreed;
+                }
+            }
+        }
+        agreed += 1;
+    }
+    agreed
+}
+
+/// The value and the width of the word of the list that stands here.
+fn find_word<V: Copy>(reader: &BitReader<'_>, list: &[(V, u8, u16)]) -> Option<(V, u8)>
+    requires { IsTrue (list_all (λ e. nat_le e.1 16) list.now) }
+    ensures found { word_at (numbered list.now) (here reader.now) ≡ option_map (λ f. (f.0, drop f.1 (here reader.now))) result }
+    ensures within { IfSome result (λ f. f.1 ≤ length (here reader.now)) }
+{
+    for (value, width, word) in list {
+        if agreement(reader, *width, *word) == *width {
+            return Some((*value, *width));
+        }
+    }
+    None
+}
+
+/// Whether the bits from here to the end are a front of a word of the list.
+fn is_cut_word<V>(reader: &BitReader<'_>, list: &[(V, u8, u16)]) -> bool
+    requires { IsTrue (list_all (λ e. nat_le e.1 16) list.now) }
+    ensures { result ≡ is_cut (numbered list.now) (here reader.now) }
+{
+    let left = reader.bits_left();
+    for (_value, width, word) in list {
+        if usize::from(agreement(reader, *width, *word)) == left {
+            return true;
+        }
+    }
+    false
+}
+
+impl<'a> BitReader<'a> {
+    /// Reads a word of these lists or a common make-up word.
+    fn read_run_word(
+        &mut self,
+        terminating: &[(u16, u8, u16)],
+        makeup: &[(u16, u8, u16)],
+    ) -> Result<u16>
+        requires widths { IsTrue (list_all (λ e. nat_le e.1 16) terminating.now) }
+        requires makeup_widths { IsTrue (list_all (λ e. nat_le e.1 16) makeup.now) }
+        ensures word { MatchResult result
+            (λ n. read_code (numbered (terminating.now ++ makeup.now ++ COMMON_MAKEUP)) (here self.old) ≡ Ok (n, here self.new))
+            (λ e. read_code (numbered (terminating.now ++ makeup.now ++ COMMON_MAKEUP)) (here self.old) ≡ Err e) }
+        ensures same { self.new.bits ≡ self.old.bits }
+    {
+        let found = match find_word(self, terminating) {
+            Some(found) => Some(found),
+            None => match find_word(self, makeup) {
+                Some(found) => Some(found),
+                None => find_word(self, &COMMON_MAKEUP),
+            },
+        };
+        match found {
+            Some((run, width)) => {
+                self.pass(width);
+                Ok(run)
+            }
+            None => {
+                let first = is_cut_word(self, terminating);
+                let second = is_cut_word(self, makeup);
+                let third = is_cut_word(self, &COMMON_MAKEUP);
+                if first | second | third {
+                    Err(DecodeError::UnexpectedEof)
+                } else {
+                    Err(DecodeError::InvalidCode)
+                }
+            }
+        }
+    }
+
+    /// Reads a word of a colour's list.
+    fn decode_word(&mut self, color: Color) -> Result<u16>
+        ensures word { MatchResult result (λ n. read_code (codes_of color) (here self.old) ≡ Ok (n, here self.new)) (λ e. read_code (codes_of color) (here self.old) ≡ Err e) }
+        ensures same { self.new.bits ≡ self.old.bits }
+    {
+        match color {
+            Color::White => self.read_run_word(&WHITE_TERMINATING, &WHITE_MAKEUP),
+            Color::Black => self.read_run_word(&BLACK_TERMINATING, &BLACK_MAKEUP),
+        }
+    }
+
+    /// Reads a run of a colour: make-up words and one terminating word (T.4 section 4.1.1). Each word that is
+    /// looked for is a tick. `UnexpectedEof` where the data ends inside a word, `InvalidCode` where none
+    /// stands, `Overflow` where the sum passes 32 bits; where the reader then stands isn't said.
+    pub fn decode_run(&mut self, color: Color, _tables: &Tables, ticks: &mut Ticks) -> Result<u32>
+        ensures run { MatchResult result (λ n. read_run color (here self.old) ≡ Ok (n, here self.new)) (λ e. read_run color (here self.old) ≡ Err e) }
+        ensures fault { IfErr result IsFault }
+        ensures same { self.new.bits ≡ self.old.bits }
+        ensures ticks { OnOk result (ticks.new ≡ ticks.old + length (run_found color (0, here self.old))) }
+        ensures at_least { ticks.old + length (run_found color (0, here self.old)) ≤ ticks.new }
+        ensures at_most { ticks.new ≤ ticks.old + length (run_found color (0, here self.old)) + 1 }
+    {
+        let mut total: u32 = 0;
+        'words: loop {
+            ticks.tick();
+            let run = self.decode_word(color)?;
+            total = total
+                .checked_add(u32::from(run))
+                .ok_or(DecodeError::Overflow)?;
+            if run < 64 {
+                return Ok(total);
+            }
+        }
+    }
+
+    /// Reads a mode of a two-dimensional line (T.4 table 4, T.6 table 1), which is one tick. `UnexpectedEof`
+    /// where the data ends inside a word, `InvalidCode` where none stands.
+    pub fn decode_mode(&mut self, ticks: &mut Ticks) -> Result<Mode>
+        ensures mode { MatchResult result (λ m. read_code mode_codes (here self.old) ≡ Ok (m, here self.new)) (λ e. read_code mode_codes (here self.old) ≡ Err e) }
+        ensures fault { IfErr result IsFault }
+        ensures same { self.new.bits ≡ self.old.bits }
+        ensures ticks { ticks.new ≡ ticks.old + 1 }
+    {
+        ticks.tick();
+        match find_word(self, &MODES) {
+            Some((mode, width)) => {
+                self.pass(width);
+                Ok(mode)
+            }
+            None => {
+                if is_cut_word(self, &MODES) {
+                    Err(DecodeError::UnexpectedEof)
+                } else {
+                    Err(DecodeError::InvalidCode)
+                }
+            }
+        }
+    }
+
+    /// The number of zeros from here up to the next one, and a reader just past that one; up to the end, and
+    /// None, where no one follows. Each bit that is looked at is a tick.
+    pub fn zero_run(&self, ticks: &mut Ticks) -> (usize, Option<BitReader<'a>>)
+        ensures zeros { result.0 ≡ leading_zeros (here self.now) }
+        ensures one { IfSome result.1 (λ after. (after.bits ≡ self.now.bits) × (here self.now ≡ replicate result.0 false ++ true ∷ here after)) }
+        ensures end { IfNone result.1 (here self.now ≡ replicate result.0 false) }
+        ensures eol { IfSome result.1 (λ after. after_eol 0 (here self.now) ≡ (if nat_le 11 result.0 then Some (here after) else None)) }
+        ensures no_eol { IfNone result.1 (after_eol 0 (here self.now) ≡ None) }
+        ensures ticks { ticks.new ≡ ticks.old + looked (here self.now) }
+    {
+        let mut reader = self.copy();
+        let mut zeros = 0;
+        'bits: loop {
+            match reader.read_bit() {
+                Ok(0) => {
+                    ticks.tick();
+                    zeros += 1;
+                }
+                Ok(_) => {
+                    ticks.tick();
+                    return (zeros, Some(reader));
+                }
+                Err(_) => return (zeros, None),
+            }
+        }
+    }
+
+    /// Reads EOLs in a row, each with its fill (T.4 sections 4.1.2 and 4.1.3), at most so many, and answers how
+    /// many there were. It never fails. Each bit that is looked at is a tick.
+    pub fn read_eols(&mut self, max: usize, ticks: &mut Ticks) -> usize
+        ensures eols { eols max (here self.old) ≡ (result, here self.new) }
+        ensures same { self.new.bits ≡ self.old.bits }
+        ensures ticks { ticks.new + length (here self.new) ≡ ticks.old + length (here self.old) + (if result == max then 0 else looked (here self.new)) }
+    {
+        let mut count = 0;
+        'eols: while count < max {
+            let (zeros, after) = self.zero_run(ticks);
+            match after {
+                Some(after) if zeros >= 11 => *self = after,
+                _ => return count,
+            }
+            count += 1;
+        }
+        count
+    }
+
+    /// Reads all EOLs in a row, and answers how many there were. It never fails. Each bit that is looked at is
+    /// a tick.
+    pub fn read_eol_if_available(&mut self, ticks: &mut Ticks) -> usize
+        ensures eols { all_eols (here self.old) ≡ (result, here self.new) }
+        ensures same { self.new.bits ≡ self.old.bits }
+        ensures ticks { ticks.new + length (here self.new) ≡ ticks.old + length (here self.old) + looked (here self.new) }
+    {
+        self.read_eols(usize::MAX, ticks)
     }
 }

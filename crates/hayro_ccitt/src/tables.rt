@@ -1,7 +1,10 @@
 //! The code words of T.4 as arrays of (run length, number of bits, word).
 
-ghost use Rattle.std.specs.Prelude.{◌≡◌, ◌++◌};
+ghost use Rattle.std.specs.Prelude.{◌≡◌, ◌++◌, IsOkUnless};
 ghost use Rattle.hayro_ccitt.specs.CodeLists.{numbered, white_codes, black_codes};
+
+use crate::{DecodeError, Result};
+use std::alloc::Global;
 
 /// The white runs 0 to 63 (T.4, table 2).
 #[rattlefmt::skip]
@@ -222,3 +225,17 @@ pub const COMMON_MAKEUP: [(u16, u8, u16); 13] = [
     (2496, 12, 0b000000011110),
     (2560, 12, 0b000000011111),
 ];
+
+/// What run codes are read by. Its fields are for the look-ups of whole words to come; until then the arrays are
+/// scanned and it holds nothing.
+#[derive(Drop)]
+pub struct Tables {}
+
+impl Tables {
+    /// The tables of both colours. The only refusal is `OutOfMemory`.
+    pub fn new(_alloc: Global) -> Result<Tables>
+        ensures only_memory { IsOkUnless result DecodeError.OutOfMemory }
+    {
+        Ok(Tables {})
+    }
+}

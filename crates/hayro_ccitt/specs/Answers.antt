@@ -1,0 +1,76 @@
+-- What a call answers of a definition.
+use Rattle.std.specs.Prelude.{◌≡◌, ◌≢◌, ◌<◌, ℕ, true, false, length, map, slice_get, Some, Result, Ok, Err, Contains, List}
+use Rattle.std.specs.List.{fold}
+use Rattle.hayro_ccitt.specs.declared.error.DecodeError.{DecodeError}
+use Rattle.hayro_ccitt.specs.declared.error.DecodeError.TheVariants.{UnexpectedEof, InvalidCode, Overflow, OutOfMemory, Refused}
+use Rattle.hayro_ccitt.specs.Bits.{Bits}
+use Rattle.hayro_ccitt.specs.Rows.{Row, is_black, paint, changes}
+use Rattle.hayro_ccitt.specs.Changes.{last_pixel}
+use Rattle.hayro_ccitt.specs.Context.{Held}
+use Rattle.hayro_ccitt.specs.Lines.{Line, Pen, Step}
+use Rattle.hayro_ccitt.specs.Repetition.{Turn}
+
+-- an error that the data is at fault for
+abbrev pub IsFault : DecodeError → Type 0
+IsFault UnexpectedEof = Unit {0}
+IsFault InvalidCode = Unit {0}
+IsFault Overflow = Unit {0}
+IsFault OutOfMemory = ⊥
+IsFault Refused = ⊥
+
+-- the row of a whole line, or the front of a broken one
+abbrev pub front_of : Line → Row
+front_of (Line.whole row rest) = row
+front_of (Line.broken front fault) = front
+
+-- a pixel of the row is black
+abbrev pub HasBlack : Row → Type 0
+HasBlack row = Contains row true
+
+-- What a call that draws a line answers, where the definition's line is known, and leaves in the front and of the
+-- bits: the whole line; or the broken one and its fault; or want of memory, if a black pixel is painted.
+abbrev pub DrawsLine : Line → Result (Unit {0}) DecodeError → Row → Bits → Type 0
+DrawsLine line (Ok x) front rest = line ≡ Line.whole front rest
+DrawsLine line (Err UnexpectedEof) front rest = line ≡ Line.broken front UnexpectedEof
+DrawsLine line (Err InvalidCode) front rest = line ≡ Line.broken front InvalidCode
+DrawsLine line (Err Overflow) front rest = line ≡ Line.broken front Overflow
+DrawsLine line (Err OutOfMemory) front rest = HasBlack (front_of line)
+DrawsLine line (Err Refused) front rest = ⊥
+
+-- the pen of a context, where these bits are left
+abbrev pub pen_of : Held → Bits → Pen
+pen_of held rest = record { front = held.front; color = held.color; rest = rest }
+
+-- a step after which a black pixel is painted
+abbrev pub StepHasBlack : Step → Type 0
+StepHasBlack (Turn.next pen) = HasBlack pen.front
+StepHasBlack (Turn.done line) = HasBlack (front_of line)
+
+-- the same of a step of a line, and the pen that is left
+abbrev pub DrawsStep : Step → Result (Unit {0}) DecodeError → Pen → Type 0
+DrawsStep step (Ok x) pen = step ≡ Turn.next pen
+DrawsStep step (Err UnexpectedEof) pen = step ≡ Turn.done (Line.broken pen.front UnexpectedEof)
+DrawsStep step (Err InvalidCode) pen = step ≡ Turn.done (Line.broken pen.front InvalidCode)
+DrawsStep step (Err Overflow) pen = step ≡ Turn.done (Line.broken pen.front Overflow)
+DrawsStep step (Err OutOfMemory) pen = StepHasBlack step
+DrawsStep step (Err Refused) pen = ⊥
+
+-- Painting so many pixels makes a changing element at the end of the front.
+abbrev pub StoresChange : Held → ℕ → Type 0
+StoresChange held count = (row : Row)
+    × (paint held.settings.strict held.settings.columns held.front held.color count ≡ Ok row)
+    × (length held.front < length row)
+    × (last_pixel false held.front ≢ is_black held.color)
+
+-- the line of an index is among these lines, and paints a black pixel
+abbrev pub PaintsBlack : List Line → ℕ → Type 0
+PaintsBlack lines index = (line : Line) × (slice_get lines index ≡ Some line) × HasBlack (front_of line)
+
+-- what a sink means after some rows more, each taken as its changes
+abbrev pub meaning_after : {M : Type 0} → (M → List ℕ → M) → M → List Row → M
+meaning_after step meaning rows = fold step meaning (map changes rows)
+
+-- the plain reading's rows, and how it ends, with the bits that are left then; no row where no sink refuses one
+abbrev pub OnAnswer : Result (Unit {0}) DecodeError → Type 0 → Type 0
+OnAnswer (Ok x) P = P
+OnAnswer (Err fault) P = IsFault fault → P

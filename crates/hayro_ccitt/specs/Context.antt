@@ -1,0 +1,46 @@
+-- What a context holds between its calls.
+use Rattle.std.specs.Prelude.{ℕ, zero, suc, ◌+◌, ◌-◌, [], ◌++◌, Bool, false, length, replicate}
+use Rattle.hayro_ccitt.specs.declared.codes.Color.{Color}
+use Rattle.hayro_ccitt.specs.declared.codes.Color.TheVariants.{White}
+use Rattle.hayro_ccitt.specs.declared.settings.DecodeSettings.{DecodeSettings}
+use Rattle.hayro_ccitt.specs.Rows.{Row}
+use Rattle.hayro_ccitt.specs.Changes.{last_pixel}
+
+-- the reference row, the front of the coding row, the present colour, the number of rows that were taken, whether
+-- EOLs are sought, and the settings
+pub record Held : Type 0 where
+  pub reference : Row
+  pub front : Row
+  pub color : Color
+  pub rows : ℕ
+  pub has_eols : Bool
+  pub settings : DecodeSettings
+
+-- a context: what it holds, and beside it the count of its work
+pub record Context : Type 0 where
+  pub held : Held
+  pub ticks : ℕ
+
+-- what a new context holds: a white reference row, nothing painted, no row taken
+abbrev pub fresh : DecodeSettings → Held
+fresh settings =
+    record { reference = replicate settings.columns false; front = []; color = White; rows = 0; has_eols = false; settings = settings }
+
+-- a front that isn't full, continued in its last colour, white if it is empty
+abbrev pub continued : ℕ → Row → Row
+continued columns front = front ++ replicate (columns - length front) (last_pixel false front)
+
+-- the row that was drawn becomes the reference row of an empty front
+abbrev pub after_taking : Held → Held
+after_taking h =
+    record { reference = continued h.settings.columns h.front; front = []; color = White; rows = h.rows + 1; has_eols = h.has_eols; settings = h.settings }
+
+-- another front and another colour, and all else the same
+abbrev pub redrawn : Held → Row → Color → Held
+redrawn h front color =
+    record { reference = h.reference; front = front; color = color; rows = h.rows; has_eols = h.has_eols; settings = h.settings }
+
+-- the first place right of a0, where so many pixels are painted
+abbrev pub right_of_painted : ℕ → ℕ
+right_of_painted zero = 0
+right_of_painted (suc painted) = suc (suc painted)

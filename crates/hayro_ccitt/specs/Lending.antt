@@ -1,0 +1,14 @@
+-- The count of a context, lent.
+use Rattle.std.specs.Prelude.{ℕ}
+use Rattle.std.specs.Borrow.{Lends, MutBor, Fml}
+use Rattle.hayro_ccitt.specs.Context.{Context}
+use Rattle.hayro_ccitt.specs.contracts.context.DecoderContext.{the_row}
+use Rattle.hayro_ccitt.specs.contracts.codes.Ticks.{the_row as ticks_row}
+
+-- a context with another count
+abbrev pub with_ticks : Context → ℕ → Context
+with_ticks c n = record c { ticks = n }
+
+-- the context ends with the last count behind the loan, and all else stands
+abbrev pub LendsTicks : MutBor Context → MutBor ℕ → Fml
+LendsTicks c r = Lends the_row ticks_row c r (with_ticks c.now)

@@ -1,0 +1,69 @@
+-- What is counted while bits are read.
+use Rattle.std.specs.Prelude.{ℕ, zero, suc, ◌-◌, true, false, List, [], ◌∷◌, ◌++◌, length, take, nat_le, Result, Ok, Err, Bool, if◌then◌else◌}
+use Rattle.hayro_ccitt.specs.declared.codes.Color.{Color}
+use Rattle.hayro_ccitt.specs.declared.codes.Mode.{Mode}
+use Rattle.hayro_ccitt.specs.declared.codes.Mode.TheVariants.{Pass, Horizontal, Vertical}
+use Rattle.hayro_ccitt.specs.Bits.{Bits}
+use Rattle.hayro_ccitt.specs.CodeLists.{Code, mode_codes}
+use Rattle.hayro_ccitt.specs.CodeReading.{read_code}
+use Rattle.hayro_ccitt.specs.Repetition.{gathered}
+use Rattle.hayro_ccitt.specs.Runs.{codes_of, run_turn, run_from}
+use Rattle.hayro_ccitt.specs.Rows.{Row, opposite, paint}
+use Rattle.hayro_ccitt.specs.Lines.{Pen, step_1d, step_2d}
+
+-- the bits that a count of zeros looks at: the zeros here, and the one that follows
+abbrev pub looked : Bits → ℕ
+looked [] = 0
+looked (false ∷ here) = suc (looked here)
+looked (true ∷ here) = 1
+
+-- the word that a reading finds, if it finds one
+abbrev pub word_found : {V : Type 0} → List (Code V) → Bits → List Bits
+word_found list here = elim (read_code list here) [
+  | Ok found ↦ take (length here - length found.1) here ∷ []
+  | Err fault ↦ []
+]
+
+-- the words that a run finds
+abbrev pub run_gives : Color → ℕ × Bits → List Bits
+run_gives color (total, here) = word_found (codes_of color) here
+
+abbrev pub run_found : Color → ℕ × Bits → List Bits
+run_found color (total, here) = gathered (run_turn color) (run_gives color) (suc (length here)) (total, here)
+
+-- the words that a line finds from a pen on
+abbrev pub unless_full_found : ℕ → Pen → List Bits → List Bits
+unless_full_found columns pen found = if nat_le columns (length pen.front) then [] else found
+
+-- the words of a run that is drawn, and of what is drawn after it
+abbrev pub draw_run_found : Bool → ℕ → Pen → (Pen → List Bits) → List Bits
+draw_run_found strict columns pen more = run_found pen.color (0, pen.rest) ++ elim (run_from pen.color (0, pen.rest)) [
+  | Ok run ↦ elim (paint strict columns pen.front pen.color run.0) [
+    | Ok front ↦ more (record { front = front; color = opposite pen.color; rest = run.1 })
+    | Err fault ↦ []
+  ]
+  | Err fault ↦ []
+]
+
+abbrev pub no_words : Pen → List Bits
+no_words pen = []
+
+abbrev pub gives1 : Bool → ℕ → Pen → List Bits
+gives1 strict columns pen = unless_full_found columns pen (draw_run_found strict columns pen no_words)
+
+abbrev pub found1 : Bool → ℕ → Pen → List Bits
+found1 strict columns pen = gathered (step_1d strict columns) (gives1 strict columns) (suc (length pen.rest)) pen
+
+abbrev pub mode_found : Bool → ℕ → Pen → Mode → List Bits
+mode_found strict columns pen Pass = []
+mode_found strict columns pen Horizontal = draw_run_found strict columns pen (λ pen. draw_run_found strict columns pen no_words)
+mode_found strict columns pen (Vertical k) = []
+
+abbrev pub gives2 : Bool → ℕ → Pen → List Bits
+gives2 strict columns pen = unless_full_found columns pen (word_found mode_codes pen.rest ++ elim (read_code mode_codes pen.rest) [
+  | Ok mode ↦ mode_found strict columns (record pen { rest = mode.1 }) mode.0
+  | Err fault ↦ []
+])
+
+abbrev pub found2 : Bool → ℕ → Row → Pen → List Bits
+found2 strict columns reference pen = gathered (step_2d strict columns reference) (gives2 strict columns) (suc (length pen.rest)) pen

@@ -1,0 +1,155 @@
+//! The bits of a slice of bytes, read from the front.
+
+ghost use Rattle.std.specs.Prelude.{◌≡◌, ◌+◌, ◌-◌, ◌*◌, ◌/◌, ◌%◌, ◌^◌, ◌<◌, ◌≤◌, ◌==◌, ◌↔◌, ℕ, length, min, drop, false, slice_get, get_or, IsTrue, Some, IfOk, OnOk, OnErr, IsErr, IsOkUnless};
+ghost use Rattle.hayro_ccitt.specs.Bits.{BitsAt, BitsFit, bits_of, bit_of, here};
+ghost use Rattle.hayro_ccitt.specs.PlainReading.{at_end, aligned};
+
+use crate::{DecodeError, Result};
+use std::marker::Model;
+
+/// The bits of some bytes, each byte's highest first, and a place among them.
+#[derive(Clone, Drop)]
+pub struct BitReader<'a> {
+    data: &'a [u8],
+    place: usize,
+}
+
+impl<'a> Model for BitReader<'a> {
+    ghost Value = { BitsAt };
+
+    ghost view = { λ r. record { bits = bits_of r.data.now; place = r.place } };
+
+    ghost invariant = { λ r. (r.place ≤ 8 * length r.data.now) × BitsFit r.data.now };
+}
+
+/// The bit at a place of some bytes, None past their end.
+fn bit_at(data: &[u8], place: usize) -> Option<bool>
+    ensures { result ≡ slice_get (bits_of «data».now) place }
+{
+    match data.get(place / 8) {
+        None => None,
+        Some(byte) => Some((*byte >> (7 - place % 8)) & 1 == 1),
+    }
+}
+
+impl<'a> BitReader<'a> {
+    /// A reader at the first bit.
+    pub fn new(data: &'a [u8]) -> BitReader<'a>
+        requires { BitsFit «data».now }
+        ensures { result ≡ record { bits = bits_of «data».now; place = 0 } }
+    {
+        BitReader { data, place: 0 }
+    }
+
+    /// The next bit. At the end it is `UnexpectedEof`, and the place stays.
+    pub fn read_bit(&mut self) -> Result<u32>
+        ensures bit { IfOk result (λ bit. (bit ≤ 1) × (slice_get self.old.bits self.old.place ≡ Some (bit == 1))) }
+        ensures next { OnOk result (self.new ≡ record self.old { place = self.old.place + 1 }) }
+        ensures end { IsErr result ↔ (length self.old.bits ≤ self.old.place) }
+        ensures stays { OnErr result (self.new ≡ self.old) }
+        ensures only_end { IsOkUnless result DecodeError.UnexpectedEof }
+    {
+        match bit_at(self.data, self.place) {
+            Some(bit) => {
+                self.place += 1;
+                Ok(u32::from(bit))
+            }
+            None => Err(DecodeError::UnexpectedEof),
+        }
+    }
+
+    /// The next 32 bits, padded with zeros, the first in the highest position.
+    pub fn peek_u32(&self) -> u32
+        ensures { (k : ℕ) → k < 32 → bit_of result (31 - k) ≡ get_or self.now.bits (self.now.place + k) false }
+    {
+        let mut bits: u32 = 0;
+        for ahead in 0..32usize {
+            let bit = bit_at(self.data, self.place + ahead).unwrap_or(false);
+            bits = bits << 1 | u32::from(bit);
+        }
+        bits
+    }
+
+    /// Moves so many bits on, at most 32. Where that passes the end the reader stands at the end, and the
+    /// answer is `UnexpectedEof`.
+    pub fn consume(&mut self, n: usize) -> Result<()>
+        requires { n ≤ 32 }
+        ensures moved { self.new ≡ record self.old { place = min (self.old.place + n) (length self.old.bits) } }
+        ensures end { IsErr result ↔ (length self.old.bits < self.old.place + n) }
+        ensures only_end { IsOkUnless result DecodeError.UnexpectedEof }
+    {
+        let end = self.data.len() * 8;
+        if self.place + n > end {
+            self.place = end;
+            return Err(DecodeError::UnexpectedEof);
+        }
+        self.place += n;
+        Ok(())
+    }
+
+    /// Moves to the next whole byte, if the place is not at one.
+    pub fn align(&mut self)
+        ensures moved { self.new ≡ record self.old { place = (self.old.place + 7) / 8 * 8 } }
+        ensures rest { here self.new ≡ aligned (here self.old) }
+    {
+        self.place = self.place.div_ceil(8) * 8;
+    }
+
+    /// Whether no bit is left.
+    pub fn at_end(&self) -> bool
+        ensures end { result ≡ at_end (here self.now) }
+        ensures within { self.now.place ≤ length self.now.bits }
+        ensures whole_bytes { length self.now.bits % 8 ≡ 0 }
+        ensures fit { length self.now.bits + 64 < 2 ^ 64 }
+    {
+        self.byte_pos() >= self.data.len()
+    }
+
+    /// The number of whole bytes before the place.
+    pub fn byte_pos(&self) -> usize
+        ensures { result ≡ self.now.place / 8 }
+    {
+        self.place / 8
+    }
+
+    /// The number of bits before the place.
+    pub fn bit_pos(&self) -> usize
+        ensures { result ≡ self.now.place }
+    {
+        self.place
+    }
+
+    /// The bit so many places on, None past the end.
+    pub(crate) fn bit_ahead(&self, ahead: usize) -> Option<bool>
+        requires { ahead < 64 }
+        ensures { result ≡ slice_get self.now.bits (self.now.place + ahead) }
+    {
+        bit_at(self.data, self.place + ahead)
+    }
+
+    /// The number of bits from the place on.
+    pub(crate) fn bits_left(&self) -> usize
+        ensures { result ≡ length (here self.now) }
+    {
+        self.data.len() * 8 - self.place
+    }
+
+    /// Passes so many bits, where they are there.
+    pub(crate) fn pass(&mut self, width: u8)
+        requires { width ≤ length (here self.old) }
+        ensures rest { here self.new ≡ drop width (here self.old) }
+        ensures same { self.new.bits ≡ self.old.bits }
+    {
+        self.place += usize::from(width);
+    }
+
+    /// The same bits at the same place.
+    pub(crate) fn copy(&self) -> BitReader<'a>
+        ensures { result ≡ self.now }
+    {
+        BitReader {
+            data: self.data,
+            place: self.place,
+        }
+    }
+}

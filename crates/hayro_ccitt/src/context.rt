@@ -1,0 +1,344 @@
+//! What a decoder keeps from line to line, and the lines themselves.
+
+ghost use Rattle.std.specs.Prelude.{◌≡◌, ◌≢◌, ◌+◌, ◌-◌, ◌^◌, ◌<◌, ◌≤◌, ◌⊎◌, ◌↔◌, Ok, Err, OnOk, OnErr, IfOk, IfErr, true, IsOkUnless, IsTrue, length, get_or, []};
+ghost use Rattle.hayro_ccitt.specs.Rows.{AreChanges, pixels, right_of, b1, b2, paint, changes, opposite};
+ghost use Rattle.hayro_ccitt.specs.Lines.{Line, draw_run, draw_mode, line_2d};
+ghost use Rattle.hayro_ccitt.specs.Bits.{here};
+ghost use Rattle.hayro_ccitt.specs.Repetition.{Turn};
+ghost use Rattle.hayro_ccitt.specs.Context.{redrawn, right_of_painted};
+ghost use Rattle.hayro_ccitt.specs.Answers.{DrawsLine, DrawsStep, StoresChange, pen_of};
+
+use crate::bit_reader::BitReader;
+use crate::codes::{Color, Mode, Ticks};
+use crate::settings::DecodeSettings;
+use crate::tables::Tables;
+use crate::{DecodeError, Decoder, Result};
+use std::alloc::Global;
+use std::marker::Model;
+use std::mem;
+
+/// What decoding keeps: one context may decode any number of images, one after another.
+#[derive(Drop)]
+pub struct DecoderContext {
+    ref_changes: Vec<u32>,
+    coding_changes: Vec<u32>,
+    pixels_decoded: u32,
+    color: Color,
+    decoded_rows: u64,
+    has_eols: bool,
+    settings: DecodeSettings,
+    tables: Tables,
+    ticks: Ticks,
+}
+
+impl Model for DecoderContext {
+    ghost use Rattle.hayro_ccitt.specs.Context.{Context};
+
+    ghost Value = { Context };
+
+    ghost use Rattle.hayro_ccitt.specs.ContextView.{context_of, IsLawful};
+
+    ghost view = { context_of };
+
+    ghost invariant = { IsLawful };
+}
+
+/// The index of b1 among the changes of a reference row, where so many pixels are painted and the next ones have
+/// this colour; b2 is the next change. Each change that is looked at is a tick.
+fn b1_index(changes: &[u32], painted: u32, color: Color, columns: u32, ticks: &mut Ticks) -> usize
+    requires { AreChanges columns changes.now }
+    ensures b1 { b1 (pixels columns changes.now) (right_of_painted painted) color ≡ get_or changes.now result columns }
+    ensures b2 { b2 (pixels columns changes.now) (right_of_painted painted) color ≡ get_or changes.now (result + 1) columns }
+    ensures within { result ≤ length changes.now + 1 }
+    ensures counts { ticks.old ≤ ticks.new }
+{
+    let mut index = 0;
+    if painted > 0 {
+        while index < changes.len() && changes[index] <= painted {
+            ticks.tick();
+            index += 1;
+        }
+    }
+    ticks.tick();
+    // A change with an even index turns to black.
+    if index.is_multiple_of(2) != color.is_white() {
+        index += 1;
+    }
+    index
+}
+
+/// The change of an index, or the row's end where there is none.
+fn change_or_end(changes: &[u32], index: usize, columns: u32) -> u32
+    ensures { result ≡ get_or changes.now index columns }
+{
+    changes.get(index).copied().unwrap_or(columns)
+}
+
+impl DecoderContext {
+    ghost use Rattle.std.specs.Borrow.{sem};
+    ghost use Rattle.hayro_ccitt.specs.Context.{fresh, after_taking, continued};
+    ghost use Rattle.hayro_ccitt.specs.Lending.{LendsTicks};
+
+    /// A context for images with these settings: a white reference row, nothing painted, no row taken. Its only
+    /// refusal is `OutOfMemory`, and nothing is made then.
+    pub fn new(alloc: Global, settings: DecodeSettings) -> Result<DecoderContext>
+        ensures made { IfOk result (λ ctx. ctx.held ≡ fresh settings) }
+        ensures count { IfOk result (λ ctx. ctx.ticks ≡ 0) }
+        ensures only_memory { IsOkUnless result DecodeError.OutOfMemory }
+    {
+        Ok(DecoderContext {
+            ref_changes: Vec::new(alloc),
+            coding_changes: Vec::new(alloc),
+            pixels_decoded: 0,
+            color: Color::White,
+            decoded_rows: 0,
+            has_eols: false,
+            settings,
+            tables: Tables::new(alloc)?,
+            ticks: Ticks::new(),
+        })
+    }
+
+    /// The settings that the context was made with.
+    pub fn settings(&self) -> DecodeSettings
+        ensures { result ≡ self.now.held.settings }
+    {
+        self.settings
+    }
+
+    /// The number of rows that were taken since the context was made or last reset.
+    pub fn decoded_rows(&self) -> u64
+        ensures { result ≡ self.now.held.rows }
+    {
+        self.decoded_rows
+    }
+
+    /// Whether the data has EOLs between its lines.
+    pub fn has_eols(&self) -> bool
+        ensures { result ≡ self.now.held.has_eols }
+    {
+        self.has_eols
+    }
+
+    /// Sets whether the data has EOLs between its lines. All else stands.
+    pub fn set_has_eols(&mut self, has_eols: bool)
+        ensures held { self.new.held ≡ record self.old.held { has_eols = has_eols } }
+        ensures count { self.new.ticks ≡ self.old.ticks }
+    {
+        self.has_eols = has_eols;
+    }
+
+    /// Lends the count of work. All else stands.
+    pub fn ticks(&mut self) -> &mut Ticks
+        ensures* writes_back { sem 𝓛 (LendsTicks self.entry result) }
+        ensures value { result.now ≡ self.old.ticks }
+    {
+        &mut self.ticks
+    }
+
+    /// Makes all but the settings and the count what a new context has. It takes no memory.
+    pub fn reset(&mut self)
+        ensures held { self.new.held ≡ fresh self.old.held.settings }
+        ensures count { self.new.ticks ≡ self.old.ticks }
+    {
+        self.ref_changes.clear();
+        self.coding_changes.clear();
+        self.pixels_decoded = 0;
+        self.color = Color::White;
+        self.decoded_rows = 0;
+        self.has_eols = false;
+    }
+
+    /// Makes all but the settings what a new context has.
+    pub(crate) fn restart(&mut self)
+        ensures held { self.new.held ≡ fresh self.old.held.settings }
+        ensures count { self.new.ticks ≡ 0 }
+    {
+        self.reset();
+        self.ticks = Ticks::new();
+    }
+
+    /// Empties the front and sets the colour to white, as each line begins.
+    fn begin_line(&mut self)
+        ensures held { self.new.held ≡ redrawn self.old.held [] Color.White }
+        ensures count { self.new.ticks ≡ self.old.ticks }
+    {
+        self.coding_changes.clear();
+        self.pixels_decoded = 0;
+        self.color = Color::White;
+    }
+
+    /// Turns the present colour.
+    fn turn_color(&mut self)
+        ensures held { self.new.held ≡ redrawn self.old.held self.old.held.front (opposite self.old.held.color) }
+        ensures count { self.new.ticks ≡ self.old.ticks }
+    {
+        self.color = self.color.opposite();
+    }
+
+    /// Paints so many pixels of the present colour at the end of the front. More than the row has room for are
+    /// cut off at its end; in strict data they are `InvalidCode`. `OutOfMemory` comes only where a change is
+    /// stored, so where the colour of the last pixel differs. After a refusal nothing is changed.
+    pub fn push_pixels(&mut self, count: u32) -> Result<()>
+        ensures painted { OnOk result (paint self.old.held.settings.strict self.old.held.settings.columns self.old.held.front self.old.held.color count ≡ Ok self.new.held.front) }
+        ensures rest { OnOk result (self.new.held ≡ redrawn self.old.held self.new.held.front self.old.held.color) }
+        ensures too_many { (result ≡ Err DecodeError.InvalidCode) ↔ (paint self.old.held.settings.strict self.old.held.settings.columns self.old.held.front self.old.held.color count ≡ Err DecodeError.InvalidCode) }
+        ensures memory { result ≡ Err DecodeError.OutOfMemory → StoresChange self.old.held count }
+        ensures only { IfErr result (λ e. (e ≡ DecodeError.InvalidCode) ⊎ (e ≡ DecodeError.OutOfMemory)) }
+        ensures same { OnErr result (self.new.held ≡ self.old.held) }
+        ensures count { self.new.ticks ≡ self.old.ticks }
+    {
+        let room = self.settings.columns - self.pixels_decoded;
+        if count > room && self.settings.strict {
+            return Err(DecodeError::InvalidCode);
+        }
+        let count = count.min(room);
+        if count > 0 {
+            // The colours of a row alternate, so after an odd number of changes its last pixel is black.
+            let last_is_white = self.coding_changes.len().is_multiple_of(2);
+            if last_is_white != self.color.is_white() {
+                self.coding_changes.push(self.pixels_decoded)?;
+            }
+            self.pixels_decoded += count;
+        }
+        Ok(())
+    }
+
+    /// The number of pixels painted.
+    fn pixels_painted(&self) -> u32
+        ensures { result ≡ length self.now.held.front }
+    {
+        self.pixels_decoded
+    }
+
+    /// Whether the row has all its pixels.
+    fn is_full(&self) -> bool
+        ensures { IsTrue result ↔ (self.now.held.settings.columns ≤ length self.now.held.front) }
+    {
+        self.pixels_decoded == self.settings.columns
+    }
+
+    /// b1, the first changing element of the reference row right of a0 that turns the present colour to the
+    /// other one, or the row's end (T.4 section 4.2.1.1). It takes no memory.
+    pub fn b1(&mut self) -> u32
+        ensures value { result ≡ b1 self.old.held.reference (right_of self.old.held.front) self.old.held.color }
+        ensures held { self.new.held ≡ self.old.held }
+        ensures counts { self.old.ticks ≤ self.new.ticks }
+    {
+        let index = b1_index(
+            self.ref_changes.as_slice(),
+            self.pixels_decoded,
+            self.color,
+            self.settings.columns,
+            &mut self.ticks,
+        );
+        change_or_end(self.ref_changes.as_slice(), index, self.settings.columns)
+    }
+
+    /// b2, the next changing element of the reference row after b1, or the row's end (T.4 section 4.2.1.1). It
+    /// takes no memory.
+    pub fn b2(&mut self) -> u32
+        ensures value { result ≡ b2 self.old.held.reference (right_of self.old.held.front) self.old.held.color }
+        ensures held { self.new.held ≡ self.old.held }
+        ensures counts { self.old.ticks ≤ self.new.ticks }
+    {
+        let index = b1_index(
+            self.ref_changes.as_slice(),
+            self.pixels_decoded,
+            self.color,
+            self.settings.columns,
+            &mut self.ticks,
+        );
+        change_or_end(
+            self.ref_changes.as_slice(),
+            index + 1,
+            self.settings.columns,
+        )
+    }
+
+    /// Hands the row over, continued in its last colour where it isn't full. On Ok it is the reference row, the
+    /// front is empty, the colour is white and one more row was taken. Where the sink refuses, the context and
+    /// the sink's meaning are as before. It takes no memory.
+    pub fn next_line<D: Decoder>(&mut self, decoder: &mut D) -> Result<()>
+        requires width { self.old.held.settings.columns ≤ D.width decoder.old }
+        requires rows { self.old.held.rows + 1 < 2 ^ 64 }
+        ensures width { D.width decoder.new ≡ D.width decoder.old }
+        ensures taken { OnOk result (D.meaning decoder.new ≡ D.step (D.width decoder.old) (D.meaning decoder.old) (changes (continued self.old.held.settings.columns self.old.held.front))) }
+        ensures moved { OnOk result (self.new.held ≡ after_taking self.old.held) }
+        ensures flag { OnOk result (D.has_refused decoder.new ≡ D.has_refused decoder.old) }
+        ensures kept { OnErr result (D.meaning decoder.new ≡ D.meaning decoder.old) }
+        ensures same { OnErr result (self.new.held ≡ self.old.held) }
+        ensures refused { OnErr result (D.has_refused decoder.new ≡ true) }
+        ensures only_refused { IsOkUnless result DecodeError.Refused }
+        ensures count { self.new.ticks ≡ self.old.ticks }
+    {
+        decoder.push_row(self.coding_changes.as_slice())?;
+        mem::swap(&mut self.ref_changes, &mut self.coding_changes);
+        self.coding_changes.clear();
+        self.pixels_decoded = 0;
+        self.color = Color::White;
+        self.decoded_rows += 1;
+        Ok(())
+    }
+
+    /// Reads a run of the present colour, paints it and turns the colour.
+    fn draw_run(&mut self, reader: &mut BitReader<'_>) -> Result<()>
+        ensures step { DrawsStep (draw_run self.old.held.settings.strict self.old.held.settings.columns (pen_of self.old.held (here reader.old)) Turn.next) result (pen_of self.new.held (here reader.new)) }
+        ensures held { self.new.held ≡ redrawn self.old.held self.new.held.front self.new.held.color }
+        ensures same { reader.new.bits ≡ reader.old.bits }
+        ensures counts { self.old.ticks ≤ self.new.ticks }
+    {
+        let run = reader.decode_run(self.color, &self.tables, &mut self.ticks)?;
+        self.push_pixels(run)?;
+        self.turn_color();
+        Ok(())
+    }
+
+    /// Draws what a mode says (T.4 section 4.2.1.3).
+    fn draw_mode(&mut self, mode: Mode, reader: &mut BitReader<'_>) -> Result<()>
+        ensures step { DrawsStep (draw_mode self.old.held.settings.strict self.old.held.settings.columns self.old.held.reference (pen_of self.old.held (here reader.old)) mode) result (pen_of self.new.held (here reader.new)) }
+        ensures held { self.new.held ≡ redrawn self.old.held self.new.held.front self.new.held.color }
+        ensures same { reader.new.bits ≡ reader.old.bits }
+        ensures counts { self.old.ticks ≤ self.new.ticks }
+    {
+        match mode {
+            Mode::Pass => {
+                let b2 = self.b2();
+                self.push_pixels(b2 - self.pixels_painted())
+            }
+            Mode::Vertical(offset) => {
+                let place = self
+                    .b1()
+                    .checked_add_signed(i32::from(offset))
+                    .ok_or(DecodeError::Overflow)?;
+                let count = place
+                    .checked_sub(self.pixels_painted())
+                    .ok_or(DecodeError::Overflow)?;
+                self.push_pixels(count)?;
+                self.turn_color();
+                Ok(())
+            }
+            Mode::Horizontal => {
+                self.draw_run(reader)?;
+                self.draw_run(reader)
+            }
+        }
+    }
+}
+
+/// Decodes a two-dimensional line against the reference row, whatever front stood (T.4 section 4.2, T.6
+/// section 2.2). After an error of the data the front is what was painted until then. `OutOfMemory` comes only
+/// where a change is stored. All else of the context stands.
+pub fn decode_2d_line(ctx: &mut DecoderContext, reader: &mut BitReader<'_>) -> Result<()>
+    ensures line { DrawsLine (line_2d ctx.old.held.settings.strict ctx.old.held.settings.columns ctx.old.held.reference (here reader.old)) result ctx.new.held.front (here reader.new) }
+    ensures held { ctx.new.held ≡ redrawn ctx.old.held ctx.new.held.front ctx.new.held.color }
+    ensures same { reader.new.bits ≡ reader.old.bits }
+    ensures counts { ctx.old.ticks ≤ ctx.new.ticks }
+{
+    ctx.begin_line();
+    'modes: while !ctx.is_full() {
+        let mode = reader.decode_mode(&mut ctx.ticks)?;
+        ctx.draw_mode(mode, reader)?;
+    }
+    Ok(())
+}
