@@ -28,3 +28,7 @@ pub mod Tails
 pub mod Tests
 pub mod Turns
 pub mod ZerosInWords
+pub mod EolCounts
+pub mod Gathered
+pub mod FullRows
+pub mod RowsOfGroup4
