@@ -32,3 +32,4 @@ pub mod EolCounts
 pub mod Gathered
 pub mod FullRows
 pub mod RowsOfGroup4
+pub mod TakenRows

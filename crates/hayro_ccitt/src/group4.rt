@@ -1,10 +1,10 @@
 //! Group 4: every line is two-dimensional (T.6).
 
-ghost use Rattle.std.specs.Prelude.{◌≡◌, ◌≢◌, ◌<◌, ◌≤◌, ◌+◌, ◌^◌, ◌%◌, OnOk, OnErr, IfErr, Ok, Err, true, false, length, take};
+ghost use Rattle.std.specs.Prelude.{◌≡◌, ◌≢◌, ◌<◌, ◌≤◌, ◌+◌, ◌^◌, ◌%◌, OnOk, OnErr, IfErr, Ok, Err, true, false, length, take, if◌then◌else◌};
 ghost use Rattle.hayro_ccitt.specs.Bits.{here};
 ghost use Rattle.hayro_ccitt.specs.Lines.{Line};
 ghost use Rattle.hayro_ccitt.specs.Context.{fresh};
-ghost use Rattle.hayro_ccitt.specs.PlainReading.{plain_group4, lines_by, eols_group4, is_over_group4};
+ghost use Rattle.hayro_ccitt.specs.PlainReading.{plain_group4, lines_by, eols_group4, is_over_group4, aligned};
 ghost use Rattle.hayro_ccitt.specs.Answers.{IsFault, OnAnswer, PaintsBlack, meaning_after};
 
 use crate::bit_reader::BitReader;
@@ -35,6 +35,16 @@ fn is_over(ctx: &DecoderContext, reader: &BitReader<'_>, count: usize) -> bool
     let at_eofb = settings.end_of_block && count == 2;
     let at_limit = limit != 0 && limit == ctx.decoded_rows();
     at_eofb || at_limit || reader.at_end()
+}
+
+/// Moves to the next whole byte after a row, where rows are aligned.
+fn align_row(ctx: &DecoderContext, reader: &mut BitReader<'_>)
+    ensures rest { here reader.new ≡ (if ctx.now.held.settings.rows_are_byte_aligned then aligned (here reader.old) else here reader.old) }
+    ensures same { reader.new.bits ≡ reader.old.bits }
+{
+    if ctx.settings().rows_are_byte_aligned {
+        reader.align();
+    }
 }
 
 /// Decodes the rows of Group 4 data until EOFB (with `end_of_block`), the row limit or the end of the data. The
@@ -72,8 +82,6 @@ pub fn decode<D: Decoder>(
         }
         decode_2d_line(ctx, reader)?;
         ctx.next_line(decoder)?;
-        if ctx.settings().rows_are_byte_aligned {
-            reader.align();
-        }
+        align_row(ctx, reader);
     }
 }
