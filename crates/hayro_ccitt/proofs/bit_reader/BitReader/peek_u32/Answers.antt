@@ -1,4 +1,4 @@
-use Rattle.std.proofs.Common.{◌≡◌, ℕ, ◌+◌, ◌-◌, ◌*◌, ◌%◌, Bool, Option, get_or, false, bit_or, ap, ◌∙◌, arith}
+use Rattle.std.proofs.Common.{◌≡◌, ◌+◌, ◌-◌, ◌*◌, ◌%◌, Bool, Option, get_or, false, bit_or, ap, ◌∙◌, arith}
 use Rattle.std.specs.Option.{unwrap_or}
 use Rattle.std.proofs.lemmas.Option.{unwrap_or-slice_get}
 use mir.Val.{bool_byte}
@@ -13,10 +13,10 @@ loop-ahead-preserved c =
     let ahead = c.loop-ahead.ahead in
     let bit = get_or at.bits (at.place + ahead) false in
     let is_bit : c.unwrap_or-bit.result ≡ get_or at.bits (at.place + ahead) false =
-      rw (← c.self.view_is) (c.unwrap_or-bit.ensures ∙ ap (λ (o : Option Bool). unwrap_or o false) c.bit_at.ensures
-        ∙ unwrap_or-slice_get (bits_of c.self.inside.«data».now) (c.self.inside.place + ahead) false) in
+    rw (← c.self.view_is) (c.unwrap_or-bit.ensures ∙ ap (λ (o : Option Bool). unwrap_or o false) c.bit_at.ensures
+    ∙ unwrap_or-slice_get (bits_of c.self.inside.«data».now) (c.self.inside.place + ahead) false) in
     let grown : bit_or (n * 2 % 4294967296) c.from.result ≡ n * 2 + bool_byte bit =
-      ap (bit_or (n * 2 % 4294967296)) (c.from.ensures ∙ ap bool_byte is_bit) ∙ shifted_or n ahead bit c.loop-ahead-test.true c.loop-ahead.invariant.fits in
+    ap (bit_or (n * 2 % 4294967296)) (c.from.ensures ∙ ap bool_byte is_bit) ∙ shifted_or n ahead bit c.loop-ahead-test.true c.loop-ahead.invariant.fits in
     record {
       fits = rw grown (fits_more n ahead bit c.loop-ahead.invariant.fits);
       as_read = λ k h. rw grown (holds_more at.bits at.place ahead n c.loop-ahead.invariant.as_read k h);
