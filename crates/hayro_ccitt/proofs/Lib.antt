@@ -1,6 +1,7 @@
 pub mod AfterEofb
 pub mod Alike
 pub mod BitLists
+pub mod BitPlaces
 pub mod BodiesT4
 pub mod ByEols
 pub mod Damage

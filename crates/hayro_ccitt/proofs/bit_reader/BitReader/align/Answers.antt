@@ -1,0 +1,7 @@
+use Rattle.std.proofs.Common.{arith}
+use Rattle.hayro_ccitt.proofs.BitPlaces.{aligned-drop}
+use Rattle.hayro_ccitt.proofs.bit_reader.BitReader.align.Goals as goal
+
+pub returns-clause-rest : goal.returns-clause-rest
+returns-clause-rest c =
+    rw (← c.self.view_is) (aligned-drop c.self.inside.«data».now c.self.inside.place _ c.self.invariant.0 (omega (arith, c.div_ceil.ensures, c.self.invariant.0)))
