@@ -134,22 +134,25 @@ module _ (settings : DecodeSettings) (wide : 0 < settings.columns) (bits : Bits)
         → plain_group4 settings bits ≡ record { rows = rows; has_eols = false; outcome = Err fault }
     comes_broken e front fault is = ending_turn ∙ ap (after_turn (ending settings)) (moves_on e ∙ ap (after_line_group4 settings (between rows rest)) is)
 
+    -- a line that is whole leaves fewer bits than there were
+    pub comes_shorter : (row : Row) (after : Bits) → line ≡ Line.whole row after → length (cond settings.rows_are_byte_aligned (aligned after) after) < length rest
+    comes_shorter row after is =
+        let shorter : length (cond settings.rows_are_byte_aligned (aligned after) after) ≤ length after = cond_le settings.rows_are_byte_aligned (aligned after) after (length after) (omega (arith, length-drop (length after % 8) after)) (omega arith) in
+        let took : length after < length here = subst (TookBits (length here)) is (line_2d_took_bits settings.strict settings.columns (row_before settings.columns rows) here wide) in
+        let fewer : length here ≤ length rest = eols_group4_leave settings count rest here found in
+        omega (arith, shorter, took, fewer)
+
     -- a line that is whole adds its row, and the next begins behind it
     pub comes_whole : over ≡ false → (row : Row) (after : Bits) → line ≡ Line.whole row after
         → Comes settings bits (rows ++ row ∷ []) (cond settings.rows_are_byte_aligned (aligned after) after)
     comes_whole e row after is =
-        let next : Bits = cond settings.rows_are_byte_aligned (aligned after) after in
-        let shorter : length next ≤ length after = cond_le settings.rows_are_byte_aligned (aligned after) after (length after) (omega (arith, length-drop (length after % 8) after)) (omega arith) in
-        let took : length after < length here = subst (TookBits (length here)) is (line_2d_took_bits settings.strict settings.columns (row_before settings.columns rows) here wide) in
-        let fewer : length here ≤ length rest = eols_group4_leave settings count rest here found in
         let more : length (rows ++ row ∷ []) ≡ suc (length rows) = omega (arith, length-append rows (row ∷ [])) in
         record {
-          ends = ending_turn ∙ ap (after_turn (ending settings)) (moves_on e ∙ ap (after_line_group4 settings (between rows rest)) is);
-          follow = ap (λ (k : ℕ). drop k (lines_by Group4 settings bits)) more
-              ∙ drop-suc_cons (lines_by Group4 settings bits) (length rows) line _ (lines_on e)
-              ∙ ap (λ (l : Line). gathered_after (lines settings) (after_line_group4 settings (between rows rest) l)) is;
-          room = omega (arith, comes.room, more, shorter, took, fewer);
-        }
+            ends = ending_turn ∙ ap (after_turn (ending settings)) (moves_on e ∙ ap (after_line_group4 settings (between rows rest)) is);
+            follow = ap (λ (k : ℕ). drop k (lines_by Group4 settings bits)) more
+            ∙ drop-suc_cons (lines_by Group4 settings bits) (length rows) line _ (lines_on e)
+            ∙ ap (λ (l : Line). gathered_after (lines settings) (after_line_group4 settings (between rows rest) l)) is;
+            room = omega (arith, comes.room, more, comes_shorter row after is) }
 
     -- so there is one row more than so far
     pub comes_more : over ≡ false → (row : Row) (after : Bits) → line ≡ Line.whole row after → length rows < length (plain_group4 settings bits).rows

@@ -17,7 +17,7 @@ use Rattle.hayro_ccitt.specs.PlainReading.{Ending, row_before, aligned, eols_gro
 use Rattle.hayro_ccitt.specs.Answers.{IsFault, DrawsLine, PaintsBlack, HasBlack, front_of, meaning_after}
 use Rattle.hayro_ccitt.proofs.FullRows.{IsFull, line_2d_full}
 use Rattle.hayro_ccitt.proofs.PicturesT6.{row_before_push}
-use Rattle.hayro_ccitt.proofs.RowsOfGroup4.{Comes, between, held_between, comes_line, comes_broken, comes_whole, comes_more}
+use Rattle.hayro_ccitt.proofs.RowsOfGroup4.{Comes, between, held_between, comes_line, comes_broken, comes_whole, comes_shorter, comes_more}
 
 -- a row more is a step more
 pub meaning_after-more : {M : Type 0} (step : M → List ℕ → M) (meaning : M) (rows : List Row) (row : Row)
@@ -68,6 +68,9 @@ module _ (settings : DecodeSettings) (wide : 0 < settings.columns) (bits : Bits)
     -- a whole line is the next row
     pub row_comes : Comes settings bits (rows ++ front ∷ []) (cond settings.rows_are_byte_aligned (aligned after) after)
     row_comes = comes_whole settings wide bits rows rest comes count here found not_over front after whole
+
+    pub row_shorter : length (cond settings.rows_are_byte_aligned (aligned after) after) < length rest
+    row_shorter = comes_shorter settings wide bits rows rest comes count here found front after whole
 
     pub row_more : length rows < length (plain_group4 settings bits).rows
     row_more = comes_more settings wide bits rows rest comes count here found not_over front after whole

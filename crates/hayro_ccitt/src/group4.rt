@@ -28,13 +28,15 @@ fn read_eols_before_line(ctx: &mut DecoderContext, reader: &mut BitReader<'_>) -
 /// Whether the image ends before a line, where so many EOLs were read: at EOFB, at the row limit or at the end of
 /// the data.
 fn is_over(ctx: &DecoderContext, reader: &BitReader<'_>, count: usize) -> bool
-    ensures { result ≡ is_over_group4 ctx.now.held.settings ctx.now.held.rows (count, here reader.now) }
+    ensures over { result ≡ is_over_group4 ctx.now.held.settings ctx.now.held.rows (count, here reader.now) }
+    ensures fit { length reader.now.bits + 64 < 2 ^ 64 }
 {
     let settings = ctx.settings();
     let limit = u64::from(settings.rows);
     let at_eofb = settings.end_of_block && count == 2;
     let at_limit = limit != 0 && limit == ctx.decoded_rows();
-    at_eofb || at_limit || reader.at_end()
+    let at_end = reader.at_end();
+    at_eofb || at_limit || at_end
 }
 
 /// Moves to the next whole byte after a row, where rows are aligned.
