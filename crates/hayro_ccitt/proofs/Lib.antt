@@ -34,3 +34,4 @@ pub mod Gathered
 pub mod FullRows
 pub mod RowsOfGroup4
 pub mod TakenRows
+pub mod PlainAnswers
