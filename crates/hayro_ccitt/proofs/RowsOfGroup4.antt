@@ -148,11 +148,12 @@ module _ (settings : DecodeSettings) (wide : 0 < settings.columns) (bits : Bits)
     comes_whole e row after is =
         let more : length (rows ++ row ∷ []) ≡ suc (length rows) = omega (arith, length-append rows (row ∷ [])) in
         record {
-            ends = ending_turn ∙ ap (after_turn (ending settings)) (moves_on e ∙ ap (after_line_group4 settings (between rows rest)) is);
-            follow = ap (λ (k : ℕ). drop k (lines_by Group4 settings bits)) more
-            ∙ drop-suc_cons (lines_by Group4 settings bits) (length rows) line _ (lines_on e)
-            ∙ ap (λ (l : Line). gathered_after (lines settings) (after_line_group4 settings (between rows rest) l)) is;
-            room = omega (arith, comes.room, more, comes_shorter row after is) }
+          ends = ending_turn ∙ ap (after_turn (ending settings)) (moves_on e ∙ ap (after_line_group4 settings (between rows rest)) is);
+          follow = ap (λ (k : ℕ). drop k (lines_by Group4 settings bits)) more
+              ∙ drop-suc_cons (lines_by Group4 settings bits) (length rows) line _ (lines_on e)
+              ∙ ap (λ (l : Line). gathered_after (lines settings) (after_line_group4 settings (between rows rest) l)) is;
+          room = omega (arith, comes.room, more, comes_shorter row after is);
+        }
 
     -- so there is one row more than so far
     pub comes_more : over ≡ false → (row : Row) (after : Bits) → line ≡ Line.whole row after → length rows < length (plain_group4 settings bits).rows

@@ -84,7 +84,7 @@ returns-in_err-decode_2d_line-clause-memory g c =
     let e : fault ≡ OutOfMemory = let same_error : ◌≡◌ {A = Result (Unit {0}) DecodeError} (Err fault) (Err OutOfMemory) = is in cc in
     let black = row_memory settings c.requires.columns bits rows (here c.rows.reader) comes c.read_eols_before_line-count.result (here c.read_eols_before_line-count.new.reader) found
     c.read_eols_before_line-count.new.ctx.held at on c.decode_2d_line.new.ctx.held.front (here c.decode_2d_line.new.reader)
-        (subst (λ (x : DecodeError). DrawsLine (line_2d c.read_eols_before_line-count.new.ctx.held.settings.strict c.read_eols_before_line-count.new.ctx.held.settings.columns c.read_eols_before_line-count.new.ctx.held.reference (here c.read_eols_before_line-count.new.reader)) (Err x) c.decode_2d_line.new.ctx.held.front (here c.decode_2d_line.new.reader)) e c.in_err-decode_2d_line.ensures.line) in
+    (subst (λ (x : DecodeError). DrawsLine (line_2d c.read_eols_before_line-count.new.ctx.held.settings.strict c.read_eols_before_line-count.new.ctx.held.settings.columns c.read_eols_before_line-count.new.ctx.held.reference (here c.read_eols_before_line-count.new.reader)) (Err x) c.decode_2d_line.new.ctx.held.front (here c.decode_2d_line.new.reader)) e c.in_err-decode_2d_line.ensures.line) in
     subst (PaintsBlack (lines_by Group4 settings bits)) (sym drawn) black)
 
 pub next_line-requires-clause-rows : goal.next_line-requires-clause-rows
@@ -156,19 +156,20 @@ rows-preserved g c =
     let row_is : continued c.decode_2d_line.new.ctx.held.settings.columns c.decode_2d_line.new.ctx.held.front ≡ front
     = ap (λ (h : Held). continued h.settings.columns h.front) now ∙ row_continued settings c.requires.columns bits rows (here c.rows.reader) comes c.read_eols_before_line-count.result (here c.read_eols_before_line-count.new.reader) found
     c.read_eols_before_line-count.new.ctx.held at on c.decode_2d_line.new.ctx.held.front (here c.decode_2d_line.new.reader) line color in
-    let step = g.D.Decoder.step (g.D.Decoder.width c.args.decoder.now) in
-    (rows ++ front ∷ [],
-    next,
-    subst (Comes settings bits (rows ++ front ∷ [])) (sym stands) on_comes,
-    c.align_row.ensures.same ∙ c.decode_2d_line.ensures.same ∙ c.read_eols_before_line-count.ensures.same ∙ same,
-    c.in_ok-next_line.ensures.taken
-    ∙ ap (λ (w : ℕ). g.D.Decoder.step w (g.D.Decoder.meaning c.rows.decoder) (changes (continued c.decode_2d_line.new.ctx.held.settings.columns c.decode_2d_line.new.ctx.held.front))) width
-    ∙ ap (λ (m : g.D.Decoder.Meaning). step m (changes (continued c.decode_2d_line.new.ctx.held.settings.columns c.decode_2d_line.new.ctx.held.front))) meaning
-    ∙ ap (λ (r : Row). step (meaning_after step (g.D.Decoder.meaning c.args.decoder.now) rows) (changes r)) row_is
-    ∙ sym (meaning_after-more step (g.D.Decoder.meaning c.args.decoder.now) rows front),
-    c.next_line.ensures.width ∙ width,
-    c.in_ok-next_line.ensures.flag ∙ flag,
-    omega (arith, ticks, c.read_eols_before_line-count.ensures.counts, c.decode_2d_line.ensures.counts, c.next_line.ensures.count))
+    let step = g.D.Decoder.step (g.D.Decoder.width c.args.decoder.now) in (
+      rows ++ front ∷ [],
+      next,
+      subst (Comes settings bits (rows ++ front ∷ [])) (sym stands) on_comes,
+      c.align_row.ensures.same ∙ c.decode_2d_line.ensures.same ∙ c.read_eols_before_line-count.ensures.same ∙ same,
+      c.in_ok-next_line.ensures.taken
+          ∙ ap (λ (w : ℕ). g.D.Decoder.step w (g.D.Decoder.meaning c.rows.decoder) (changes (continued c.decode_2d_line.new.ctx.held.settings.columns c.decode_2d_line.new.ctx.held.front))) width
+          ∙ ap (λ (m : g.D.Decoder.Meaning). step m (changes (continued c.decode_2d_line.new.ctx.held.settings.columns c.decode_2d_line.new.ctx.held.front))) meaning
+          ∙ ap (λ (r : Row). step (meaning_after step (g.D.Decoder.meaning c.args.decoder.now) rows) (changes r)) row_is
+          ∙ sym (meaning_after-more step (g.D.Decoder.meaning c.args.decoder.now) rows front),
+      c.next_line.ensures.width ∙ width,
+      c.in_ok-next_line.ensures.flag ∙ flag,
+      omega (arith, ticks, c.read_eols_before_line-count.ensures.counts, c.decode_2d_line.ensures.counts, c.next_line.ensures.count),
+    )
 
 pub rows-smaller : goal.rows-smaller
 rows-smaller g c =
