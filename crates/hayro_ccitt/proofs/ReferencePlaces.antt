@@ -1,7 +1,9 @@
 -- b1 and b2 among the changes that a reference row is made of.
-use Rattle.std.proofs.Common.{◌≡◌, ℕ, zero, suc, ◌+◌, ◌-◌, ◌%◌, ◌<◌, ◌≤◌, ◌⊎◌, Bool, true, false, not, ◌&&◌, ltb, leb, List, [], ◌∷◌, ◌++◌, length, get_or, replicate, refl, sym, ap, ◌∙◌, arith, inl, inr}
+use Rattle.std.proofs.Common.{◌≡◌, ℕ, zero, suc, ◌+◌, ◌-◌, ◌%◌, ◌<◌, ◌≤◌, ◌⊎◌, ◌↔◌, Bool, true, false, not, ◌&&◌, ltb, leb, List, [], ◌∷◌, ◌++◌, length, get_or, replicate, refl, sym, ap, ◌∙◌, arith, inl, inr}
 use mathlib.Core.Bool.{beq}
-use Rattle.std.proofs.lemmas.Bool.{lt-ltb, le-leb, ltb-false, leb-false, cases_lt, cases_eq}
+use Rattle.std.proofs.Math.Bool.{and-false}
+use Rattle.std.specs.Bool.{IsTrue}
+use Rattle.std.proofs.lemmas.Bool.{lt-ltb, le-leb, le-ltb, lt-leb, false≢true, cases_lt, cases_eq}
 use Rattle.std.proofs.lemmas.List.{length-replicate, length-append, get_or-replicate, get_or_append_left, get_or-append_right, get_or_past}
 use Rattle.std.proofs.lemmas.Grind.{get_or_default_zero}
 use Rattle.hayro_ccitt.specs.declared.codes.Color.{Color}
@@ -9,6 +11,19 @@ use Rattle.hayro_ccitt.specs.declared.codes.Color.TheVariants.{White, Black}
 use Rattle.hayro_ccitt.specs.Rows.{Row, AscendFrom, AreChanges, pixels_from, pixels, pixel, pixel_before, is_change, is_black, right_of, least_below, b1, b2}
 use Rattle.hayro_ccitt.specs.Context.{right_of_painted}
 use Rattle.hayro_ccitt.proofs.Places.{IsLeast, is_least}
+
+-- there is one least place
+least_unique : (bound : ℕ) (test : ℕ → Bool) (p q : ℕ) → IsLeast 0 bound test p → IsLeast 0 bound test q → p ≡ q
+least_unique bound test p q u v =
+    let up : p ≤ bound = u.within in
+    let vp : q ≤ bound = v.within in
+    elim (cases_lt p q) [
+      | inl lt ↦ absurd (false≢true (sym (v.before p (omega arith) lt) ∙ u.there (omega arith)))
+      | inr ge ↦ elim (cases_lt q p) [
+        | inl lt ↦ absurd (false≢true (sym (u.before q (omega arith) lt) ∙ v.there (omega arith)))
+        | inr le ↦ omega arith
+      ]
+    ]
 
 -- ---- The colour after so many changes.
 abbrev pub turned : ℕ → Bool → Bool
@@ -105,16 +120,14 @@ beq_other : (b : Bool) → beq (not b) b ≡ false
 beq_other true = refl
 beq_other false = refl
 
-and_false : (b : Bool) → (b && false) ≡ false
-and_false true = refl
-and_false false = refl
-
 module _ (columns : ℕ) (places : List ℕ) (ascend : AreChanges columns places) where
   row_length : length (pixels columns places) ≡ columns
-  row_length = pixels_from-length 0 0 false columns places ascend (omega arith) (omega arith)
+  row_length = omega (arith, pixels_from-length 0 0 false columns places ascend (omega arith) (omega arith))
 
   pixel_is : (p j : ℕ) → p < columns → IsSplit places (suc p) j → pixel (pixels columns places) p ≡ turned j false
-  pixel_is p j lt split = pixels_from-pixel 0 0 false columns places p j ascend (omega arith) (omega arith) lt split
+  pixel_is p j lt split =
+      let e : p - 0 ≡ p = omega arith in
+      ap (λ (n : ℕ). pixel (pixels columns places) n) (sym e) ∙ pixels_from-pixel 0 0 false columns places p j ascend (omega arith) (omega arith) lt split
 
   before_is : (p j : ℕ) → p ≤ columns → IsSplit places p j → pixel_before (pixels columns places) p ≡ turned j false
   before_is zero zero le split = refl
@@ -191,8 +204,167 @@ module _ (columns : ℕ) (places : List ℕ) (ascend : AreChanges columns places
 
   -- the next change after the one at an index is the one at the next index
   next_change : (index : ℕ) → least_below (length (pixels columns places)) (λ p. ltb (get_or places index columns) p && is_change (pixels columns places) p) ≡ get_or places (suc index) columns
-  next_change index = ?
+  next_change index = least_unique (length (pixels columns places)) (λ p. ltb (get_or places index columns) p && is_change (pixels columns places) p) _ _ (is_least _ _) (record {
+      above = omega arith;
+      within = omega (arith, row_length, end_within (suc index));
+      before = λ p _ lt. none_before p lt;
+      there = λ lt. there (in_list_if_below (suc index) (omega (arith, row_length)));
+    })
+    where
+      there : suc index < length places → (ltb (get_or places index columns) (get_or places (suc index) columns) && is_change (pixels columns places) (get_or places (suc index) columns)) ≡ true
+      there lt =
+          let e : get_or places index columns ≡ get_or places index 0 = get_or_default_zero places index columns (omega arith) in
+          let f : get_or places (suc index) columns ≡ get_or places (suc index) 0 = get_or_default_zero places (suc index) columns lt in
+          let right : ltb (get_or places index 0) (get_or places (suc index) 0) ≡ true = lt-ltb _ _ (order index (suc index) (omega arith) lt) in
+          rw (e, f, right) (change_there (suc index) lt)
+
+      none_by : (p : ℕ) → p < get_or places (suc index) columns → get_or places index columns < p → is_change (pixels columns places) p ≡ false
+      none_by p lt left =
+          let split = split_of places p in
+          let end : get_or places (suc index) columns ≤ columns = end_within (suc index) in
+          let in_list : index < length places = in_list_if_below index (omega arith) in
+          let e : get_or places index columns ≡ get_or places index 0 = get_or_default_zero places index columns in_list in
+          elim (change_or_none p split.0 (omega arith) split.1) [
+            | inl none ↦ none
+            | inr at ↦ absurd (impossible split.0 at.0 at.1 in_list (omega arith))
+          ]
+        where
+          impossible : (j : ℕ) → j < length places → get_or places j 0 ≡ p → index < length places → get_or places index 0 < p → ⊥
+          impossible j jn same lt_index less =
+              let before : j < suc index = less_if_left j (suc index) jn (omega arith) in
+              let after : index < j = less_if_left index j lt_index (omega (arith, get_or_default_zero places j columns jn)) in
+              omega arith
+
+      none_before : (p : ℕ) → p < get_or places (suc index) columns → (ltb (get_or places index columns) p && is_change (pixels columns places) p) ≡ false
+      none_before p lt = elim (cases_lt (get_or places index columns) p) [
+        | inl left ↦ rw (none_by p lt left) (and-false _)
+        | inr ge ↦ rw (le-ltb _ _ ge) refl
+      ]
+
+  -- the test of b1
+  abbrev is_b1 : ℕ → Color → ℕ → Bool
+  is_b1 from color p = leb from p && is_change (pixels columns places) p && beq (pixel_before (pixels columns places) p) (is_black color)
 
   -- b1 is the change of the first index right of a0, or of the one after it where the first turns the other way
   b1_is : (from first index : ℕ) (color : Color) → IsSplit places from first → turned index false ≡ is_black color → (index ≡ first) ⊎ ((index ≡ suc first) × (turned first false ≡ not (is_black color))) → b1 (pixels columns places) from color ≡ get_or places index columns
-  b1_is from first index color split colored reach = ?
+  b1_is from first index color split colored reach = least_unique (length (pixels columns places)) (is_b1 from color) _ _ (is_least _ _) (record {
+      above = omega arith;
+      within = omega (arith, row_length, end_within index);
+      before = λ p _ lt. none_before p lt;
+      there = λ lt. there (in_list_if_below index (omega (arith, row_length)));
+    })
+    where
+      first_le : first ≤ index
+      first_le = elim reach [ inl same ↦ omega arith | inr next ↦ omega (arith, next.0) ]
+
+      there : index < length places → is_b1 from color (get_or places index columns) ≡ true
+      there lt =
+          let p : ℕ = get_or places index 0 in
+          let e : get_or places index columns ≡ get_or places index 0 = get_or_default_zero places index columns lt in
+          let right : leb from (get_or places index 0) ≡ true = le-leb _ _ (right_of_first lt) in
+          let u = before_is (get_or places index 0) index (omega (arith, below index lt)) (split_at index lt) ∙ colored in
+          rw (e, right, change_there index lt, u) (same_beq (is_black color))
+        where
+          right_of_first : index < length places → from ≤ get_or places index 0
+          right_of_first lt = elim (cases_eq first index) [
+            | inl same ↦ rw same at (split.here (omega (arith, first_le)))
+            | inr other ↦ omega (arith, first_le, split.here (omega (arith, first_le)), order first index (omega (arith, first_le)) lt)
+          ]
+
+      -- a change that is left of it, and not left of a0, turns the other way
+      wrong_color : (j : ℕ) → first ≤ j → j < index → turned j false ≡ not (is_black color)
+      wrong_color j le lt = elim reach [
+        | inl same ↦ absurd (omega arith)
+        | inr next ↦ let e : j ≡ first = omega (arith, next.0) in rw e next.1
+      ]
+
+      none_by : (p : ℕ) → p < get_or places index columns → from ≤ p → (is_change (pixels columns places) p && beq (pixel_before (pixels columns places) p) (is_black color)) ≡ false
+      none_by p lt le =
+          let split_p = split_of places p in
+          let end : get_or places index columns ≤ columns = end_within index in
+          elim (change_or_none p split_p.0 (omega arith) split_p.1) [
+            | inl none ↦ rw none refl
+            | inr at ↦ (
+                let u = before_is p split_p.0 (omega arith) split_p.1 ∙ wrong_color split_p.0 (first_before split_p.0 at.0 at.1) (less_if_left split_p.0 index at.0 (omega (arith, at.1))) in
+                rw (u, beq_other (is_black color)) (and-false _))
+          ]
+        where
+          first_before : (j : ℕ) → j < length places → get_or places j 0 ≡ p → first ≤ j
+          first_before j jn same = elim (cases_lt j first) [ inl l ↦ absurd (omega (arith, split.before j l)) | inr ge ↦ ge ]
+
+      none_before : (p : ℕ) → p < get_or places index columns → is_b1 from color p ≡ false
+      none_before p lt = elim (cases_lt p from) [
+        | inl left ↦ rw (lt-leb _ _ left) refl
+        | inr ge ↦ rw (le-leb _ _ ge) (none_by p lt ge)
+      ]
+
+-- ---- The index of b1 as code finds it.
+-- a0 is where the front ends
+pub right_of-pixels : (painted : ℕ) (places : List ℕ) → AreChanges painted places → right_of (pixels painted places) ≡ right_of_painted painted
+right_of-pixels painted places ascend = by_length (pixels painted places) painted (row_length painted places ascend)
+  where
+    by_length : (front : Row) (n : ℕ) → length front ≡ n → right_of front ≡ right_of_painted n
+    by_length [] zero e = refl
+    by_length [] (suc n) e = absurd (omega arith)
+    by_length (p ∷ front) zero e = absurd (omega arith)
+    by_length (p ∷ front) (suc n) e = let u : length front ≡ n = omega arith in rw u refl
+
+-- the changes that are at most at a0, while some pixel is painted
+pub IsSplit-painted : (places : List ℕ) (painted j : ℕ) → 0 < painted → j ≤ length places → ((k : ℕ) → k < j → get_or places k 0 ≤ painted) → (j < length places → painted < get_or places j 0) → IsSplit places (right_of_painted painted) j
+IsSplit-painted places zero j some within left here = absurd (omega arith)
+IsSplit-painted places (suc painted) j some within left here =
+    record { within = within; before = λ k l. omega (arith, left k l); here = λ l. omega (arith, here l) }
+
+-- while none is, a0 is left of them all
+pub IsSplit-none : (places : List ℕ) (painted : ℕ) → painted ≤ 0 → IsSplit places (right_of_painted painted) 0
+IsSplit-none places zero none = record { within = omega arith; before = λ k l. absurd (omega arith); here = λ l. omega arith }
+IsSplit-none places (suc painted) none = absurd (omega arith)
+
+-- b2 is the change after b1
+pub b2_after_b1 : (columns : ℕ) (places : List ℕ) (from index : ℕ) (color : Color) → AreChanges columns places → b1 (pixels columns places) from color ≡ get_or places index columns → b2 (pixels columns places) from color ≡ get_or places (index + 1) columns
+b2_after_b1 columns places from index color ascend e =
+    ap (λ (b : ℕ). least_below (length (pixels columns places)) (λ p. ltb b p && is_change (pixels columns places) p)) e
+    ∙ next_change columns places ascend index
+    ∙ ap (λ (n : ℕ). get_or places n columns) (let s : suc index ≡ index + 1 = omega arith in s)
+
+-- what a colour and the parity of an index tell
+black_from_white : (color : Color) (white : Bool) → IsTrue white ↔ (color ≡ White) → is_black color ≡ not white
+black_from_white White true h = refl
+black_from_white White false h = h.1 refl
+black_from_white Black true h = absurd (let e : Black ≡ White = h.0 refl in cc)
+black_from_white Black false h = refl
+
+turned_from_even : (n : ℕ) (even : Bool) → IsTrue even ↔ (n % 2 ≡ 0) → turned n false ≡ not even
+turned_from_even n true h = (turned_by_parity n).0 (h.0 refl)
+turned_from_even n false h = elim (cases_eq (n % 2) 0) [
+  | inl none ↦ absurd (false≢true (h.1 none))
+  | inr some ↦ (turned_by_parity n).1 (omega arith)
+]
+
+same_from : (even white : Bool) → not (beq even white) ≡ false → not even ≡ not white
+same_from true true e = refl
+same_from false false e = refl
+same_from true false e = absurd (false≢true (sym e))
+same_from false true e = absurd (false≢true (sym e))
+
+other_from : (even white : Bool) → not (beq even white) ≡ true → not even ≡ not (not white)
+other_from true false e = refl
+other_from false true e = refl
+other_from true true e = absurd (false≢true e)
+other_from false false e = absurd (false≢true e)
+
+not_not : (b : Bool) → not (not b) ≡ b
+not_not true = refl
+not_not false = refl
+
+-- the first change right of a0 is b1, where it turns the colour to the other one
+pub b1_first : (columns : ℕ) (places : List ℕ) (from first : ℕ) (color : Color) (even white : Bool) → AreChanges columns places → IsSplit places from first → IsTrue even ↔ (first % 2 ≡ 0) → IsTrue white ↔ (color ≡ White) → not (beq even white) ≡ false → b1 (pixels columns places) from color ≡ get_or places first columns
+b1_first columns places from first color even white ascend split h w e =
+    b1_is columns places ascend from first first color split (turned_from_even first even h ∙ same_from even white e ∙ sym (black_from_white color white w)) (inl refl)
+
+-- and else the next one is
+pub b1_second : (columns : ℕ) (places : List ℕ) (from first : ℕ) (color : Color) (even white : Bool) → AreChanges columns places → IsSplit places from first → IsTrue even ↔ (first % 2 ≡ 0) → IsTrue white ↔ (color ≡ White) → not (beq even white) ≡ true → b1 (pixels columns places) from color ≡ get_or places (first + 1) columns
+b1_second columns places from first color even white ascend split h w e =
+    let turns : turned first false ≡ not (is_black color) = turned_from_even first even h ∙ other_from even white e ∙ ap not (sym (black_from_white color white w)) in
+    let next : first + 1 ≡ suc first = omega arith in
+    rw next (b1_is columns places ascend from first (suc first) color split (turned-not first false ∙ ap not turns ∙ not_not (is_black color)) (inr (refl, turns)))

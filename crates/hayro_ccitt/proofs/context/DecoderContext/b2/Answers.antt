@@ -1,0 +1,5 @@
+use Rattle.hayro_ccitt.proofs.ReferencePlaces.{right_of-pixels}
+use Rattle.hayro_ccitt.proofs.context.DecoderContext.b2.Goals as goal
+
+pub returns-clause-value : goal.returns-clause-value
+returns-clause-value c = ?
