@@ -1,5 +1,5 @@
 -- b1 and b2 among the changes that a reference row is made of.
-use Rattle.std.proofs.Common.{◌≡◌, ℕ, zero, suc, ◌+◌, ◌-◌, ◌%◌, ◌<◌, ◌≤◌, ◌⊎◌, ◌↔◌, Bool, true, false, not, ◌&&◌, ltb, leb, List, [], ◌∷◌, ◌++◌, length, get_or, replicate, refl, sym, ap, ◌∙◌, arith, inl, inr}
+use Rattle.std.proofs.Common.{◌≡◌, ℕ, zero, suc, ◌+◌, ◌-◌, ◌%◌, ◌<◌, ◌≤◌, ◌⊎◌, ◌↔◌, Bool, true, false, not, ◌&&◌, ltb, leb, List, [], ◌∷◌, length, get_or, replicate, refl, sym, ap, ◌∙◌, arith, inl, inr}
 use mathlib.Core.Bool.{beq}
 use Rattle.std.proofs.Math.Bool.{and-false}
 use Rattle.std.specs.Bool.{IsTrue}
@@ -205,11 +205,11 @@ module _ (columns : ℕ) (places : List ℕ) (ascend : AreChanges columns places
   -- the next change after the one at an index is the one at the next index
   next_change : (index : ℕ) → least_below (length (pixels columns places)) (λ p. ltb (get_or places index columns) p && is_change (pixels columns places) p) ≡ get_or places (suc index) columns
   next_change index = least_unique (length (pixels columns places)) (λ p. ltb (get_or places index columns) p && is_change (pixels columns places) p) _ _ (is_least _ _) (record {
-      above = omega arith;
-      within = omega (arith, row_length, end_within (suc index));
-      before = λ p _ lt. none_before p lt;
-      there = λ lt. there (in_list_if_below (suc index) (omega (arith, row_length)));
-    })
+    above = omega arith;
+    within = omega (arith, row_length, end_within (suc index));
+    before = λ p _ lt. none_before p lt;
+    there = λ lt. there (in_list_if_below (suc index) (omega (arith, row_length)));
+  })
     where
       there : suc index < length places → (ltb (get_or places index columns) (get_or places (suc index) columns) && is_change (pixels columns places) (get_or places (suc index) columns)) ≡ true
       there lt =
@@ -248,11 +248,11 @@ module _ (columns : ℕ) (places : List ℕ) (ascend : AreChanges columns places
   -- b1 is the change of the first index right of a0, or of the one after it where the first turns the other way
   b1_is : (from first index : ℕ) (color : Color) → IsSplit places from first → turned index false ≡ is_black color → (index ≡ first) ⊎ ((index ≡ suc first) × (turned first false ≡ not (is_black color))) → b1 (pixels columns places) from color ≡ get_or places index columns
   b1_is from first index color split colored reach = least_unique (length (pixels columns places)) (is_b1 from color) _ _ (is_least _ _) (record {
-      above = omega arith;
-      within = omega (arith, row_length, end_within index);
-      before = λ p _ lt. none_before p lt;
-      there = λ lt. there (in_list_if_below index (omega (arith, row_length)));
-    })
+    above = omega arith;
+    within = omega (arith, row_length, end_within index);
+    before = λ p _ lt. none_before p lt;
+    there = λ lt. there (in_list_if_below index (omega (arith, row_length)));
+  })
     where
       first_le : first ≤ index
       first_le = elim reach [ inl same ↦ omega arith | inr next ↦ omega (arith, next.0) ]

@@ -6,7 +6,7 @@ abbrev pub invariant-loop-index : goal.invariant-loop-index
 invariant-loop-index l = record {
   within : l.index ≤ length l.changes;
   left : (k : ℕ) → k < l.index → get_or l.changes k 0 ≤ l.painted;
-  counts : l.initial.ticks ≤ l.ticks
+  counts : l.initial.ticks ≤ l.ticks;
 }
 
 abbrev pub decreases-loop-index : goal.decreases-loop-index
