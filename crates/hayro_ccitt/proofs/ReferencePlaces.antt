@@ -65,30 +65,35 @@ split_of (place ∷ places) p = elim (cases_lt place p) [
         earlier (suc k) l = split.before k (omega arith)
 
 -- ---- Ascending places.
-ascend_bounds : (first width : ℕ) (places : List ℕ) → AscendFrom first width places → (j : ℕ) → j < length places → (first ≤ get_or places j 0) × (get_or places j 0 < width)
+ascend_bounds : (first width : ℕ) (places : List ℕ) → AscendFrom first width places
+    → (j : ℕ) → j < length places → (first ≤ get_or places j 0) × (get_or places j 0 < width)
 ascend_bounds first width [] ascend j lt = absurd (omega arith)
 ascend_bounds first width (place ∷ places) ascend zero lt = (ascend.0, ascend.1)
 ascend_bounds first width (place ∷ places) ascend (suc j) lt =
     let rest = ascend_bounds (suc place) width places ascend.2 j (omega arith) in
     (omega (arith, ascend.0, rest.0), rest.1)
 
-ascend_order : (first width : ℕ) (places : List ℕ) → AscendFrom first width places → (j k : ℕ) → j < k → k < length places → get_or places j 0 < get_or places k 0
+ascend_order : (first width : ℕ) (places : List ℕ) → AscendFrom first width places
+    → (j k : ℕ) → j < k → k < length places → get_or places j 0 < get_or places k 0
 ascend_order first width [] ascend j k lt l = absurd (omega arith)
 ascend_order first width (place ∷ places) ascend j zero lt l = absurd (omega arith)
 ascend_order first width (place ∷ places) ascend zero (suc k) lt l = omega (arith, (ascend_bounds (suc place) width places ascend.2 k (omega arith)).0)
 ascend_order first width (place ∷ places) ascend (suc j) (suc k) lt l = ascend_order (suc place) width places ascend.2 j k (omega arith) (omega arith)
 
 -- ---- The pixels between ascending places.
-pixels_from-length : (place first : ℕ) (color : Bool) (width : ℕ) (places : List ℕ) → AscendFrom first width places → place ≤ first → place ≤ width → length (pixels_from place color width places) ≡ width - place
+pixels_from-length : (place first : ℕ) (color : Bool) (width : ℕ) (places : List ℕ) → AscendFrom first width places
+    → place ≤ first → place ≤ width → length (pixels_from place color width places) ≡ width - place
 pixels_from-length place first color width [] ascend le lew = length-replicate (width - place) color
 pixels_from-length place first color width (change ∷ places) ascend le lew =
-    let rest : length (pixels_from change (not color) width places) ≡ width - change = pixels_from-length change (suc change) (not color) width places ascend.2 (omega arith) (omega (arith, ascend.1)) in
+    let rest : length (pixels_from change (not color) width places) ≡ width - change =
+    pixels_from-length change (suc change) (not color) width places ascend.2 (omega arith) (omega (arith, ascend.1)) in
     let both = length-append (replicate (change - place) color) (pixels_from change (not color) width places) in
     let run = length-replicate (change - place) color in
     omega (arith, both, rest, run, ascend.0, ascend.1)
 
 -- a pixel has the colour that the changes up to it give
-pixels_from-pixel : (place first : ℕ) (color : Bool) (width : ℕ) (places : List ℕ) (p j : ℕ) → AscendFrom first width places → place ≤ first → place ≤ p → p < width → IsSplit places (suc p) j → get_or (pixels_from place color width places) (p - place) false ≡ turned j color
+pixels_from-pixel : (place first : ℕ) (color : Bool) (width : ℕ) (places : List ℕ) (p j : ℕ) → AscendFrom first width places
+    → place ≤ first → place ≤ p → p < width → IsSplit places (suc p) j → get_or (pixels_from place color width places) (p - place) false ≡ turned j color
 pixels_from-pixel place first color width [] p zero ascend le lep lt split = get_or-replicate (width - place) (p - place) color false (omega arith)
 pixels_from-pixel place first color width [] p (suc j) ascend le lep lt split = absurd (omega (arith, split.within))
 pixels_from-pixel place first color width (change ∷ places) p zero ascend le lep lt split =
@@ -101,7 +106,11 @@ pixels_from-pixel place first color width (change ∷ places) p (suc j) ascend l
     let left : place ≤ change = omega (arith, ascend.0) in
     let run : length (replicate (change - place) color) ≡ change - place = length-replicate (change - place) color in
     let within : suc j ≤ suc (length places) = split.within in
-    let rest : IsSplit places (suc p) j = record { within = omega arith; before = λ k l. split.before (suc k) (omega arith); here = λ l. split.here (omega arith) } in
+    let rest : IsSplit places (suc p) j = record {
+      within = omega arith;
+      before = λ k l. split.before (suc k) (omega arith);
+      here = λ l. split.here (omega arith);
+    } in
     let e : p - place - (change - place) ≡ p - change = omega arith in
     get_or-append_right (replicate (change - place) color) (pixels_from change (not color) width places) (change - place) (p - place) false run (omega arith)
     ∙ ap (λ (n : ℕ). get_or (pixels_from change (not color) width places) n false) e
@@ -121,15 +130,29 @@ beq_other true = refl
 beq_other false = refl
 
 module _ (columns : ℕ) (places : List ℕ) (ascend : AreChanges columns places) where
-  row_length : length (pixels columns places) ≡ columns
+  abbrev row : Row
+  row = pixels columns places
+
+  -- the change of an index, or the row's end where there is none
+  abbrev change : ℕ → ℕ
+  change index = get_or places index columns
+
+  -- the tests of b1, and of b2 where b1 is given
+  abbrev is_b1 : ℕ → Color → ℕ → Bool
+  is_b1 from color p = leb from p && is_change row p && beq (pixel_before row p) (is_black color)
+
+  abbrev is_right_of : ℕ → ℕ → Bool
+  is_right_of left p = ltb left p && is_change row p
+
+  row_length : length row ≡ columns
   row_length = omega (arith, pixels_from-length 0 0 false columns places ascend (omega arith) (omega arith))
 
-  pixel_is : (p j : ℕ) → p < columns → IsSplit places (suc p) j → pixel (pixels columns places) p ≡ turned j false
+  pixel_is : (p j : ℕ) → p < columns → IsSplit places (suc p) j → pixel row p ≡ turned j false
   pixel_is p j lt split =
       let e : p - 0 ≡ p = omega arith in
-      ap (λ (n : ℕ). pixel (pixels columns places) n) (sym e) ∙ pixels_from-pixel 0 0 false columns places p j ascend (omega arith) (omega arith) lt split
+      ap (λ (n : ℕ). pixel row n) (sym e) ∙ pixels_from-pixel 0 0 false columns places p j ascend (omega arith) (omega arith) lt split
 
-  before_is : (p j : ℕ) → p ≤ columns → IsSplit places p j → pixel_before (pixels columns places) p ≡ turned j false
+  before_is : (p j : ℕ) → p ≤ columns → IsSplit places p j → pixel_before row p ≡ turned j false
   before_is zero zero le split = refl
   before_is zero (suc j) le split = absurd (omega (arith, split.before 0 (omega arith)))
   before_is (suc p) j le split = pixel_is p j (omega arith) split
@@ -152,7 +175,7 @@ module _ (columns : ℕ) (places : List ℕ) (ascend : AreChanges columns places
       earlier k l = elim (cases_eq k j) [ inl same ↦ rw same (omega arith) | inr other ↦ omega (arith, order k j (omega arith) lt) ]
 
   -- each of the places is a changing element
-  change_there : (j : ℕ) → j < length places → is_change (pixels columns places) (get_or places j 0) ≡ true
+  change_there : (j : ℕ) → j < length places → is_change row (get_or places j 0) ≡ true
   change_there j lt =
       let p : ℕ = get_or places j 0 in
       let left : get_or places j 0 < columns = below j lt in
@@ -161,7 +184,7 @@ module _ (columns : ℕ) (places : List ℕ) (ascend : AreChanges columns places
       rw (u, v) (ap not (other_beq (turned j false)))
 
   -- no other place is
-  change_none : (p j : ℕ) → p < columns → IsSplit places p j → (j < length places → p < get_or places j 0) → is_change (pixels columns places) p ≡ false
+  change_none : (p j : ℕ) → p < columns → IsSplit places p j → (j < length places → p < get_or places j 0) → is_change row p ≡ false
   change_none p j lt split left =
       let within : j ≤ length places = split.within in
       let next : IsSplit places (suc p) j = record { within = omega arith; before = λ k l. omega (arith, split.before k l); here = left } in
@@ -170,7 +193,7 @@ module _ (columns : ℕ) (places : List ℕ) (ascend : AreChanges columns places
       rw (u, v) (ap not (same_beq (turned j false)))
 
   -- a place of the row is no change, or it is one of the places
-  change_or_none : (p j : ℕ) → p < columns → IsSplit places p j → (is_change (pixels columns places) p ≡ false) ⊎ ((j < length places) × (get_or places j 0 ≡ p))
+  change_or_none : (p j : ℕ) → p < columns → IsSplit places p j → (is_change row p ≡ false) ⊎ ((j < length places) × (get_or places j 0 ≡ p))
   change_or_none p j lt split = elim (cases_lt j (length places)) [
     | inl in_list ↦ elim (cases_eq (get_or places j 0) p) [
       | inl same ↦ inr (in_list, same)
@@ -180,50 +203,50 @@ module _ (columns : ℕ) (places : List ℕ) (ascend : AreChanges columns places
   ]
 
   -- the change of an index, or the row's end, is at most the row's end; left of it, it is in the list
-  end_within : (j : ℕ) → get_or places j columns ≤ columns
+  end_within : (j : ℕ) → change j ≤ columns
   end_within j = elim (cases_lt j (length places)) [
     | inl lt ↦ omega (arith, get_or_default_zero places j columns lt, below j lt)
     | inr ge ↦ omega (arith, get_or_past places j columns ge)
   ]
 
-  in_list_if_below : (j : ℕ) → get_or places j columns < columns → j < length places
+  in_list_if_below : (j : ℕ) → change j < columns → j < length places
   in_list_if_below j lt = elim (cases_lt j (length places)) [
     | inl l ↦ l
     | inr ge ↦ absurd (omega (arith, get_or_past places j columns ge))
   ]
 
   -- a change left of the one at an index has a lesser index
-  less_if_left : (j k : ℕ) → j < length places → get_or places j 0 < get_or places k columns → j < k
+  less_if_left : (j k : ℕ) → j < length places → get_or places j 0 < change k → j < k
   less_if_left j k lt left = elim (cases_lt j k) [
     | inl l ↦ l
     | inr ge ↦ elim (cases_eq j k) [
-      | inl same ↦ absurd (let e : get_or places k columns ≡ get_or places j 0 = get_or_default_zero places k columns (omega arith) ∙ ap (λ (n : ℕ). get_or places n 0) (sym same) in omega arith)
+      | inl same ↦ absurd (let e : change k ≡ get_or places j 0 = get_or_default_zero places k columns (omega arith) ∙ ap (λ (n : ℕ). get_or places n 0) (sym same) in omega arith)
       | inr other ↦ absurd (omega (arith, get_or_default_zero places k columns (omega arith), order k j (omega arith) lt))
     ]
   ]
 
   -- the next change after the one at an index is the one at the next index
-  next_change : (index : ℕ) → least_below (length (pixels columns places)) (λ p. ltb (get_or places index columns) p && is_change (pixels columns places) p) ≡ get_or places (suc index) columns
-  next_change index = least_unique (length (pixels columns places)) (λ p. ltb (get_or places index columns) p && is_change (pixels columns places) p) _ _ (is_least _ _) (record {
+  next_change : (index : ℕ) → least_below (length row) (is_right_of (change index)) ≡ change (suc index)
+  next_change index = least_unique (length row) (is_right_of (change index)) _ _ (is_least _ _) (record {
     above = omega arith;
     within = omega (arith, row_length, end_within (suc index));
     before = λ p _ lt. none_before p lt;
     there = λ lt. there (in_list_if_below (suc index) (omega (arith, row_length)));
   })
     where
-      there : suc index < length places → (ltb (get_or places index columns) (get_or places (suc index) columns) && is_change (pixels columns places) (get_or places (suc index) columns)) ≡ true
+      there : suc index < length places → (is_right_of (change index) (change (suc index))) ≡ true
       there lt =
-          let e : get_or places index columns ≡ get_or places index 0 = get_or_default_zero places index columns (omega arith) in
-          let f : get_or places (suc index) columns ≡ get_or places (suc index) 0 = get_or_default_zero places (suc index) columns lt in
+          let e : change index ≡ get_or places index 0 = get_or_default_zero places index columns (omega arith) in
+          let f : change (suc index) ≡ get_or places (suc index) 0 = get_or_default_zero places (suc index) columns lt in
           let right : ltb (get_or places index 0) (get_or places (suc index) 0) ≡ true = lt-ltb _ _ (order index (suc index) (omega arith) lt) in
           rw (e, f, right) (change_there (suc index) lt)
 
-      none_by : (p : ℕ) → p < get_or places (suc index) columns → get_or places index columns < p → is_change (pixels columns places) p ≡ false
+      none_by : (p : ℕ) → p < change (suc index) → change index < p → is_change row p ≡ false
       none_by p lt left =
           let split = split_of places p in
-          let end : get_or places (suc index) columns ≤ columns = end_within (suc index) in
+          let end : change (suc index) ≤ columns = end_within (suc index) in
           let in_list : index < length places = in_list_if_below index (omega arith) in
-          let e : get_or places index columns ≡ get_or places index 0 = get_or_default_zero places index columns in_list in
+          let e : change index ≡ get_or places index 0 = get_or_default_zero places index columns in_list in
           elim (change_or_none p split.0 (omega arith) split.1) [
             | inl none ↦ none
             | inr at ↦ absurd (impossible split.0 at.0 at.1 in_list (omega arith))
@@ -235,19 +258,17 @@ module _ (columns : ℕ) (places : List ℕ) (ascend : AreChanges columns places
               let after : index < j = less_if_left index j lt_index (omega (arith, get_or_default_zero places j columns jn)) in
               omega arith
 
-      none_before : (p : ℕ) → p < get_or places (suc index) columns → (ltb (get_or places index columns) p && is_change (pixels columns places) p) ≡ false
-      none_before p lt = elim (cases_lt (get_or places index columns) p) [
+      none_before : (p : ℕ) → p < change (suc index) → is_right_of (change index) p ≡ false
+      none_before p lt = elim (cases_lt (change index) p) [
         | inl left ↦ rw (none_by p lt left) (and-false _)
         | inr ge ↦ rw (le-ltb _ _ ge) refl
       ]
 
-  -- the test of b1
-  abbrev is_b1 : ℕ → Color → ℕ → Bool
-  is_b1 from color p = leb from p && is_change (pixels columns places) p && beq (pixel_before (pixels columns places) p) (is_black color)
-
   -- b1 is the change of the first index right of a0, or of the one after it where the first turns the other way
-  b1_is : (from first index : ℕ) (color : Color) → IsSplit places from first → turned index false ≡ is_black color → (index ≡ first) ⊎ ((index ≡ suc first) × (turned first false ≡ not (is_black color))) → b1 (pixels columns places) from color ≡ get_or places index columns
-  b1_is from first index color split colored reach = least_unique (length (pixels columns places)) (is_b1 from color) _ _ (is_least _ _) (record {
+  b1_is : (from first index : ℕ) (color : Color) → IsSplit places from first → turned index false ≡ is_black color
+      → (index ≡ first) ⊎ ((index ≡ suc first) × (turned first false ≡ not (is_black color)))
+      → b1 row from color ≡ change index
+  b1_is from first index color split colored reach = least_unique (length row) (is_b1 from color) _ _ (is_least _ _) (record {
     above = omega arith;
     within = omega (arith, row_length, end_within index);
     before = λ p _ lt. none_before p lt;
@@ -257,10 +278,10 @@ module _ (columns : ℕ) (places : List ℕ) (ascend : AreChanges columns places
       first_le : first ≤ index
       first_le = elim reach [ inl same ↦ omega arith | inr next ↦ omega (arith, next.0) ]
 
-      there : index < length places → is_b1 from color (get_or places index columns) ≡ true
+      there : index < length places → is_b1 from color (change index) ≡ true
       there lt =
           let p : ℕ = get_or places index 0 in
-          let e : get_or places index columns ≡ get_or places index 0 = get_or_default_zero places index columns lt in
+          let e : change index ≡ get_or places index 0 = get_or_default_zero places index columns lt in
           let right : leb from (get_or places index 0) ≡ true = le-leb _ _ (right_of_first lt) in
           let u = before_is (get_or places index 0) index (omega (arith, below index lt)) (split_at index lt) ∙ colored in
           rw (e, right, change_there index lt, u) (same_beq (is_black color))
@@ -278,10 +299,10 @@ module _ (columns : ℕ) (places : List ℕ) (ascend : AreChanges columns places
         | inr next ↦ let e : j ≡ first = omega (arith, next.0) in rw e next.1
       ]
 
-      none_by : (p : ℕ) → p < get_or places index columns → from ≤ p → (is_change (pixels columns places) p && beq (pixel_before (pixels columns places) p) (is_black color)) ≡ false
+      none_by : (p : ℕ) → p < change index → from ≤ p → (is_change row p && beq (pixel_before row p) (is_black color)) ≡ false
       none_by p lt le =
           let split_p = split_of places p in
-          let end : get_or places index columns ≤ columns = end_within index in
+          let end : change index ≤ columns = end_within index in
           elim (change_or_none p split_p.0 (omega arith) split_p.1) [
             | inl none ↦ rw none refl
             | inr at ↦ (
@@ -292,7 +313,7 @@ module _ (columns : ℕ) (places : List ℕ) (ascend : AreChanges columns places
           first_before : (j : ℕ) → j < length places → get_or places j 0 ≡ p → first ≤ j
           first_before j jn same = elim (cases_lt j first) [ inl l ↦ absurd (omega (arith, split.before j l)) | inr ge ↦ ge ]
 
-      none_before : (p : ℕ) → p < get_or places index columns → is_b1 from color p ≡ false
+      none_before : (p : ℕ) → p < change index → is_b1 from color p ≡ false
       none_before p lt = elim (cases_lt p from) [
         | inl left ↦ rw (lt-leb _ _ left) refl
         | inr ge ↦ rw (le-leb _ _ ge) (none_by p lt ge)
@@ -310,7 +331,8 @@ right_of-pixels painted places ascend = by_length (pixels painted places) painte
     by_length (p ∷ front) (suc n) e = let u : length front ≡ n = omega arith in rw u refl
 
 -- the changes that are at most at a0, while some pixel is painted
-pub IsSplit-painted : (places : List ℕ) (painted j : ℕ) → 0 < painted → j ≤ length places → ((k : ℕ) → k < j → get_or places k 0 ≤ painted) → (j < length places → painted < get_or places j 0) → IsSplit places (right_of_painted painted) j
+pub IsSplit-painted : (places : List ℕ) (painted j : ℕ) → 0 < painted → j ≤ length places
+    → ((k : ℕ) → k < j → get_or places k 0 ≤ painted) → (j < length places → painted < get_or places j 0) → IsSplit places (right_of_painted painted) j
 IsSplit-painted places zero j some within left here = absurd (omega arith)
 IsSplit-painted places (suc painted) j some within left here =
     record { within = within; before = λ k l. omega (arith, left k l); here = λ l. omega (arith, here l) }
@@ -321,7 +343,8 @@ IsSplit-none places zero none = record { within = omega arith; before = λ k l. 
 IsSplit-none places (suc painted) none = absurd (omega arith)
 
 -- b2 is the change after b1
-pub b2_after_b1 : (columns : ℕ) (places : List ℕ) (from index : ℕ) (color : Color) → AreChanges columns places → b1 (pixels columns places) from color ≡ get_or places index columns → b2 (pixels columns places) from color ≡ get_or places (index + 1) columns
+pub b2_after_b1 : (columns : ℕ) (places : List ℕ) (from index : ℕ) (color : Color) → AreChanges columns places
+    → b1 (pixels columns places) from color ≡ get_or places index columns → b2 (pixels columns places) from color ≡ get_or places (index + 1) columns
 b2_after_b1 columns places from index color ascend e =
     ap (λ (b : ℕ). least_below (length (pixels columns places)) (λ p. ltb b p && is_change (pixels columns places) p)) e
     ∙ next_change columns places ascend index
@@ -357,14 +380,18 @@ not_not : (b : Bool) → not (not b) ≡ b
 not_not true = refl
 not_not false = refl
 
--- the first change right of a0 is b1, where it turns the colour to the other one
-pub b1_first : (columns : ℕ) (places : List ℕ) (from first : ℕ) (color : Color) (even white : Bool) → AreChanges columns places → IsSplit places from first → IsTrue even ↔ (first % 2 ≡ 0) → IsTrue white ↔ (color ≡ White) → not (beq even white) ≡ false → b1 (pixels columns places) from color ≡ get_or places first columns
-b1_first columns places from first color even white ascend split h w e =
-    b1_is columns places ascend from first first color split (turned_from_even first even h ∙ same_from even white e ∙ sym (black_from_white color white w)) (inl refl)
+module _ (columns : ℕ) (places : List ℕ) (from first : ℕ) (color : Color) (even white : Bool) (ascend : AreChanges columns places) (split : IsSplit places from first)
+    (parity : IsTrue even ↔ (first % 2 ≡ 0)) (whiteness : IsTrue white ↔ (color ≡ White)) where
+  -- the first change right of a0 is b1, where it turns the colour to the other one
+  pub b1_first : not (beq even white) ≡ false → b1 (pixels columns places) from color ≡ get_or places first columns
+  b1_first same =
+      let turns : turned first false ≡ is_black color = turned_from_even first even parity ∙ same_from even white same ∙ sym (black_from_white color white whiteness) in
+      b1_is columns places ascend from first first color split turns (inl refl)
 
--- and else the next one is
-pub b1_second : (columns : ℕ) (places : List ℕ) (from first : ℕ) (color : Color) (even white : Bool) → AreChanges columns places → IsSplit places from first → IsTrue even ↔ (first % 2 ≡ 0) → IsTrue white ↔ (color ≡ White) → not (beq even white) ≡ true → b1 (pixels columns places) from color ≡ get_or places (first + 1) columns
-b1_second columns places from first color even white ascend split h w e =
-    let turns : turned first false ≡ not (is_black color) = turned_from_even first even h ∙ other_from even white e ∙ ap not (sym (black_from_white color white w)) in
-    let next : first + 1 ≡ suc first = omega arith in
-    rw next (b1_is columns places ascend from first (suc first) color split (turned-not first false ∙ ap not turns ∙ not_not (is_black color)) (inr (refl, turns)))
+  -- and else the next one is
+  pub b1_second : not (beq even white) ≡ true → b1 (pixels columns places) from color ≡ get_or places (first + 1) columns
+  b1_second other =
+      let stays : turned first false ≡ not (is_black color) = turned_from_even first even parity ∙ other_from even white other ∙ ap not (sym (black_from_white color white whiteness)) in
+      let turns : turned (suc first) false ≡ is_black color = turned-not first false ∙ ap not stays ∙ not_not (is_black color) in
+      let next : first + 1 ≡ suc first = omega arith in
+      rw next (b1_is columns places ascend from first (suc first) color split turns (inr (refl, stays)))
