@@ -26,10 +26,12 @@ least_unique bound test p q u v =
     ]
 
 -- ---- The colour after so many changes.
+-- a colour that is turned so often
 abbrev pub turned : ℕ → Bool → Bool
 turned zero color = color
 turned (suc n) color = turned n (not color)
 
+-- to turn first is to turn last
 turned-not : (n : ℕ) (color : Bool) → turned n (not color) ≡ not (turned n color)
 turned-not zero color = refl
 turned-not (suc n) color = turned-not n (not color)
@@ -41,7 +43,8 @@ turned_by_parity (suc n) =
     let before = turned_by_parity n in
     (λ e. turned-not n false ∙ ap not (before.1 (omega arith)), λ e. turned-not n false ∙ ap not (before.0 (omega arith)))
 
--- ---- Where a place stands among changes: so many of them are left of it.
+-- ---- Where a place stands among changes.
+-- the first j of the changes, and no other, are left of a place
 pub record IsSplit (places : List ℕ) (p j : ℕ) : Type 0 where
   pub within : j ≤ length places
   pub before : (k : ℕ) → k < j → get_or places k 0 < p
@@ -65,6 +68,7 @@ split_of (place ∷ places) p = elim (cases_lt place p) [
         earlier (suc k) l = split.before k (omega arith)
 
 -- ---- Ascending places.
+-- ascending places are from the first one on, and below the width
 ascend_bounds : (first width : ℕ) (places : List ℕ) → AscendFrom first width places
     → (j : ℕ) → j < length places → (first ≤ get_or places j 0) × (get_or places j 0 < width)
 ascend_bounds first width [] ascend j lt = absurd (omega arith)
@@ -73,6 +77,7 @@ ascend_bounds first width (place ∷ places) ascend (suc j) lt =
     let rest = ascend_bounds (suc place) width places ascend.2 j (omega arith) in
     (omega (arith, ascend.0, rest.0), rest.1)
 
+-- and of two of them the later one is greater
 ascend_order : (first width : ℕ) (places : List ℕ) → AscendFrom first width places
     → (j k : ℕ) → j < k → k < length places → get_or places j 0 < get_or places k 0
 ascend_order first width [] ascend j k lt l = absurd (omega arith)
@@ -81,6 +86,7 @@ ascend_order first width (place ∷ places) ascend zero (suc k) lt l = omega (ar
 ascend_order first width (place ∷ places) ascend (suc j) (suc k) lt l = ascend_order (suc place) width places ascend.2 j k (omega arith) (omega arith)
 
 -- ---- The pixels between ascending places.
+-- they are as many as there is room for
 pixels_from-length : (place first : ℕ) (color : Bool) (width : ℕ) (places : List ℕ) → AscendFrom first width places
     → place ≤ first → place ≤ width → length (pixels_from place color width places) ≡ width - place
 pixels_from-length place first color width [] ascend le lew = length-replicate (width - place) color
@@ -144,14 +150,17 @@ module _ (columns : ℕ) (places : List ℕ) (ascend : AreChanges columns places
   abbrev is_right_of : ℕ → ℕ → Bool
   is_right_of left p = ltb left p && is_change row p
 
+  -- the row has its width
   row_length : length row ≡ columns
   row_length = omega (arith, pixels_from-length 0 0 false columns places ascend (omega arith) (omega arith))
 
+  -- a pixel is turned by the changes up to it
   pixel_is : (p j : ℕ) → p < columns → IsSplit places (suc p) j → pixel row p ≡ turned j false
   pixel_is p j lt split =
       let e : p - 0 ≡ p = omega arith in
       ap (λ (n : ℕ). pixel row n) (sym e) ∙ pixels_from-pixel 0 0 false columns places p j ascend (omega arith) (omega arith) lt split
 
+  -- and the pixel before a place by those left of it
   before_is : (p j : ℕ) → p ≤ columns → IsSplit places p j → pixel_before row p ≡ turned j false
   before_is zero zero le split = refl
   before_is zero (suc j) le split = absurd (omega (arith, split.before 0 (omega arith)))
@@ -280,7 +289,6 @@ module _ (columns : ℕ) (places : List ℕ) (ascend : AreChanges columns places
 
       there : index < length places → is_b1 from color (change index) ≡ true
       there lt =
-          let p : ℕ = get_or places index 0 in
           let e : change index ≡ get_or places index 0 = get_or_default_zero places index columns lt in
           let right : leb from (get_or places index 0) ≡ true = le-leb _ _ (right_of_first lt) in
           let u = before_is (get_or places index 0) index (omega (arith, below index lt)) (split_at index lt) ∙ colored in
