@@ -10,7 +10,7 @@ use Rattle.hayro_ccitt.specs.declared.codes.Color.{Color}
 use Rattle.hayro_ccitt.specs.declared.codes.Color.TheVariants.{White, Black}
 use Rattle.hayro_ccitt.specs.Rows.{Row, AscendFrom, AreChanges, pixels_from, pixels, pixel, pixel_before, is_change, is_black, right_of, least_below, b1, b2}
 use Rattle.hayro_ccitt.specs.Context.{right_of_painted}
-use Rattle.hayro_ccitt.proofs.Places.{IsLeast, is_least}
+use Rattle.hayro_ccitt.proofs.Places.{IsLeast, is_least, b2_above}
 
 -- there is one least place
 least_unique : (bound : ℕ) (test : ℕ → Bool) (p q : ℕ) → IsLeast 0 bound test p → IsLeast 0 bound test q → p ≡ q
@@ -151,7 +151,7 @@ module _ (columns : ℕ) (places : List ℕ) (ascend : AreChanges columns places
   is_right_of left p = ltb left p && is_change row p
 
   -- the row has its width
-  row_length : length row ≡ columns
+  pub row_length : length row ≡ columns
   row_length = omega (arith, pixels_from-length 0 0 false columns places ascend (omega arith) (omega arith))
 
   -- a pixel is turned by the changes up to it
@@ -403,3 +403,14 @@ module _ (columns : ℕ) (places : List ℕ) (from first : ℕ) (color : Color) 
       let turns : turned (suc first) false ≡ is_black color = turned-not first false ∙ ap not stays ∙ not_not (is_black color) in
       let next : first + 1 ≡ suc first = omega arith in
       rw next (b1_is columns places ascend from first (suc first) color split turns (inr (refl, stays)))
+
+-- b2 is not left of where the front ends
+pub b2_from_front : (reference front : Row) (color : Color) → length front ≤ length reference → length front ≤ b2 reference (right_of front) color
+b2_from_front reference front color within = elim (cases_lt (b2 reference (right_of front) color) (length reference)) [
+  | inl lt ↦ (let sides = b2_above reference (right_of front) color lt in omega (arith, sides.0, sides.1, right_of_least front))
+  | inr ge ↦ omega arith
+]
+  where
+    right_of_least : (front : Row) → length front ≤ right_of front
+    right_of_least [] = omega arith
+    right_of_least (p ∷ front) = omega arith
