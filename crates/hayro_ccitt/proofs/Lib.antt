@@ -21,6 +21,7 @@ pub mod PlainLines
 pub mod ReadCodes
 pub mod ReadLines
 pub mod ReadRuns
+pub mod ReferencePlaces
 pub mod Repeated
 pub mod RowChanges
 pub mod Starts
