@@ -1,7 +1,10 @@
 -- What a step of a line paints, and what that says of the finished line.
-use Rattle.std.proofs.Common.{◌≡◌, ◌≢◌, ℕ, zero, suc, ◌-◌, ◌<◌, ◌≤◌, Bool, true, false, cond, not, ◌&&◌, ltb, leb, List, [], ◌∷◌, ◌++◌, length, replicate, Result, Ok, Err, refl, sym, subst, ap, ◌∙◌, arith, ◌⊎◌, inl, inr}
-use Rattle.std.specs.Prelude.{Contains, OnOk, OnErr, min, pos, ◌+ℤ◌}
+use Rattle.std.proofs.Common.{◌≡◌, ◌≢◌, ℕ, zero, suc, ◌-◌, ◌<◌, ◌≤◌, Bool, true, false, cond, not, ◌&&◌, ltb, leb, List, [], ◌∷◌, ◌++◌, length, replicate, w32, Option, Some, None, Result, Ok, Err, refl, sym, subst, ap, ◌∙◌, arith, ◌⊎◌, inl, inr}
+use Rattle.std.specs.Prelude.{◌↔◌, IfErr, Contains, OnOk, OnErr, SomeIff, min, ℤ, pos, negsuc, ◌+ℤ◌}
 use Rattle.std.proofs.lemmas.Bool.{cases_lt, le-leb, lt-leb}
+use Rattle.std.proofs.Math.IntN.{nat_abs}
+use Rattle.std.specs.Int.{FitsUnsigned}
+use Rattle.std.proofs.lemmas.Int.{ints}
 use Rattle.std.proofs.lemmas.List.{length-append, length-replicate}
 use Rattle.std.proofs.lemmas.List.Elements.{Contains-append_left, Contains-append_right}
 use Rattle.hayro_ccitt.specs.declared.codes.Color.{Color}
@@ -77,6 +80,16 @@ pub record IsUnpainted (held : Held) (count : ℕ) (e : DecodeError) : Type 0 wh
   pub memory : ◌≡◌ {A = Result (Unit {0}) DecodeError} (Err e) (Err OutOfMemory) → StoresChange held count
   pub only : (e ≡ InvalidCode) ⊎ (e ≡ OutOfMemory)
 
+-- what an answer of painting says, where it is an error
+pub unpainted : (held : Held) (count : ℕ) (r : Result (Unit {0}) DecodeError) (e : DecodeError) → r ≡ Err e
+    → ((r ≡ Err InvalidCode) ↔ (paint held.settings.strict held.settings.columns held.front held.color count ≡ Err InvalidCode))
+    → (r ≡ Err OutOfMemory → StoresChange held count) → IfErr r (λ e. (e ≡ InvalidCode) ⊎ (e ≡ OutOfMemory)) → IsUnpainted held count e
+unpainted held count r e is too_many memory only = record {
+  too_many = λ f. too_many.0 (is ∙ f);
+  memory = λ f. memory (is ∙ f);
+  only = subst (λ (r : Result (Unit {0}) DecodeError). IfErr r (λ e. (e ≡ InvalidCode) ⊎ (e ≡ OutOfMemory))) is only;
+}
+
 -- an error of painting is that of the step that paints and goes on
 pub paint_fails : (held : Held) (count : ℕ) (go_on : Row → Step) (e : DecodeError) (pen : Pen) → pen.front ≡ held.front → IsUnpainted held count e → ((row : Row) → HasBlack row → StepHasBlack (go_on row))
     → DrawsStep (try held.front (paint held.settings.strict held.settings.columns held.front held.color count) go_on) (Err e) pen
@@ -92,6 +105,37 @@ pub paint_draws : (held new : Held) (count : ℕ) (rest : Bits) (r : Result (Uni
 paint_draws held new count rest (Ok x) painted kept same unpainted = let color : new.color ≡ held.color = ap (λ (h : Held). h.color) kept in rw (painted, color) refl
 paint_draws held new count rest (Err e) painted kept same unpainted =
     paint_fails held count (λ front. Turn.next (record (pen_of held rest) { front = front })) e (pen_of new rest) (ap (λ (h : Held). h.front) same) (unpainted e refl) (λ row has. has)
+
+-- what pass draws is what its painting draws
+pub pass_draws : (old held new : Held) (count : ℕ) (rest : Bits) (r : Result (Unit {0}) DecodeError) → held ≡ old → count ≡ b2 old.reference (right_of old.front) old.color - length old.front
+    → DrawsStep (try held.front (paint held.settings.strict held.settings.columns held.front held.color count) (λ front. Turn.next (record (pen_of held rest) { front = front }))) r (pen_of new rest)
+    → DrawsStep (draw_mode old.settings.strict old.settings.columns old.reference (pen_of old rest) Pass) r (pen_of new rest)
+pass_draws old held new count rest r same counts draws =
+    let at_old = subst (λ (h : Held). DrawsStep (try h.front (paint h.settings.strict h.settings.columns h.front h.color count) (λ front. Turn.next (record (pen_of h rest) { front = front }))) r (pen_of new rest)) same draws in
+    subst (λ (n : ℕ). DrawsStep (try old.front (paint old.settings.strict old.settings.columns old.front old.color n) (λ front. Turn.next (record (pen_of old rest) { front = front }))) r (pen_of new rest)) counts at_old
+
+-- the place of a vertical mode, where it fits in 32 bits and is not left of the pixels painted
+pub place_ok : (painted p : ℕ) (z : ℤ) → z ≡ pos p → p ≤ 4294967295 → painted ≤ p → place_from painted z ≡ Ok p
+place_ok painted p z is fits above = rw (is, le-leb painted p above, le-leb p 4294967295 fits) refl
+
+-- what is known of a value that stands where a fact holds
+pub some_where : {P : Type 0} {v : ℕ} (o : Option ℕ) (x : ℕ) → SomeIff o P v → o ≡ Some x → P × (x ≡ v)
+some_where None x iff is = absurd (let f : ◌≡◌ {A = Option ℕ} None (Some x) = is in cc)
+some_where {P} {v} (Some y) x iff is = let same : y ≡ x = cc in (iff.0, sym same ∙ iff.1)
+
+-- a sum that fits in 32 bits unsigned is a place
+pub place_of : (z : ℤ) (o : Option ℕ) (p : ℕ) → SomeIff o (FitsUnsigned w32 z) (nat_abs z) → o ≡ Some p → (z ≡ pos p) × (p ≤ 4294967295)
+place_of (pos n) o p iff is = let a = some_where o p iff is in (ap (λ (m : ℕ). pos m) (sym a.1), omega (arith, ints, a.0.1, a.1))
+place_of (negsuc n) o p iff is = absurd (let a = some_where o p iff is in omega (arith, ints, a.0.0))
+
+-- a vertical mode whose pixels are not painted ends the line
+pub vertical_unpainted : (held new : Held) (k : ℤ) (p : ℕ) (rest : Bits) (e : DecodeError) → pos (b1 held.reference (right_of held.front) held.color) +ℤ k ≡ pos p → p ≤ 4294967295 → length held.front ≤ p → new ≡ held
+    → IsUnpainted held (p - length held.front) e → DrawsStep (draw_mode held.settings.strict held.settings.columns held.reference (pen_of held rest) (Vertical k)) (Err e) (pen_of new rest)
+vertical_unpainted held new k p rest e is fits above same unpainted =
+    let go_on : Row → Step = λ front. Turn.next (record { front = front; color = opposite held.color; rest = rest }) in
+    let place = place_ok (length held.front) p (pos (b1 held.reference (right_of held.front) held.color) +ℤ k) is fits above in
+    let whole : draw_mode held.settings.strict held.settings.columns held.reference (pen_of held rest) (Vertical k) ≡ try held.front (paint held.settings.strict held.settings.columns held.front held.color (p - length held.front)) go_on = rw place refl in
+    subst (λ (s : Step). DrawsStep s (Err e) (pen_of new rest)) (sym whole) (paint_fails held (p - length held.front) go_on e (pen_of new rest) (ap (λ (h : Held). h.front) same) unpainted (λ row has. has))
 
 -- a run that isn't read ends the line
 pub run_unread : (held : Held) (rest after : Bits) (e : DecodeError) → IsFault e → run_from held.color (0, rest) ≡ Err e
