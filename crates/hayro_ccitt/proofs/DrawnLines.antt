@@ -1,7 +1,7 @@
 -- What a step of a line paints, and what that says of the finished line.
 use Rattle.std.proofs.Common.{◌≡◌, ◌≢◌, ℕ, zero, suc, ◌-◌, ◌<◌, ◌≤◌, Bool, true, false, cond, not, ◌&&◌, ltb, leb, List, [], ◌∷◌, ◌++◌, length, replicate, w32, Option, Some, None, Result, Ok, Err, refl, sym, subst, ap, ◌∙◌, arith, ◌⊎◌, inl, inr}
-use Rattle.std.specs.Prelude.{◌↔◌, IfErr, Contains, OnOk, OnErr, SomeIff, min, ℤ, pos, negsuc, ◌+ℤ◌}
-use Rattle.std.proofs.lemmas.Bool.{cases_lt, le-leb, lt-leb}
+use Rattle.std.specs.Prelude.{◌↔◌, IsTrue, IfErr, Contains, OnOk, OnErr, SomeIff, min, ℤ, pos, negsuc, ◌+ℤ◌}
+use Rattle.std.proofs.lemmas.Bool.{false≢true, cases_lt, le-leb, lt-leb}
 use Rattle.std.proofs.Math.IntN.{nat_abs}
 use Rattle.std.specs.Int.{FitsUnsigned}
 use Rattle.std.proofs.lemmas.Int.{ints}
@@ -25,8 +25,8 @@ use Rattle.hayro_ccitt.specs.Repetition.{Turn, repeated}
 use Rattle.hayro_ccitt.specs.Rows.{Row, AscendFrom, AreChanges, pixels_from, pixels, is_black, opposite, right_of, b1, b2, paint}
 use Rattle.hayro_ccitt.specs.Runs.{run_from}
 use Rattle.hayro_ccitt.proofs.Places.{b2_above}
-use Rattle.hayro_ccitt.proofs.ReadLines.{drawn2, step_2d_shrinks, left}
-use Rattle.hayro_ccitt.proofs.ReadRuns.{chosen}
+use Rattle.hayro_ccitt.proofs.ReadLines.{draw_mode_next, modes_not_empty, drawn2, step_2d_shrinks, left}
+use Rattle.hayro_ccitt.proofs.ReadRuns.{chosen, read_code_shorter}
 use Rattle.hayro_ccitt.proofs.Repeated.{Shrinks, after_turn, repeated_keeps}
 
 -- ---- What painting gives.
@@ -206,19 +206,10 @@ after_black : (strict : Bool) (columns : ℕ) (reference : Row) (turn : Step) �
 after_black strict columns reference (Turn.next pen) has = from_black (step_2d strict columns reference) (step_2d_shrinks strict columns reference) (step_2d_keeps_black strict columns reference) (suc (length pen.rest)) pen (omega arith) has
 after_black strict columns reference (Turn.done line) has = has
 
--- a line at its end is the row that is painted
-pub line_full : (strict : Bool) (columns : ℕ) (reference : Row) (pen : Pen) → columns ≤ length pen.front → drawn (step_2d strict columns reference) pen ≡ Line.whole pen.front pen.rest
-line_full strict columns reference pen full = drawn2 strict columns reference pen ∙ rw (le-leb columns (length pen.front) full) refl
-
 -- a line that isn't full goes on with a mode
 line_open : (strict : Bool) (columns : ℕ) (reference : Row) (pen : Pen) → length pen.front < columns
     → drawn (step_2d strict columns reference) pen ≡ after_turn (drawn (step_2d strict columns reference)) (try pen.front (read_code mode_codes pen.rest) (λ mode. draw_mode strict columns reference (record pen { rest = mode.1 }) mode.0))
 line_open strict columns reference pen open_row = drawn2 strict columns reference pen ∙ rw (lt-leb columns (length pen.front) open_row) refl
-
--- where no mode is read, its fault ends the line
-pub line_unread : (strict : Bool) (columns : ℕ) (reference : Row) (pen : Pen) (e : DecodeError) → length pen.front < columns → read_code mode_codes pen.rest ≡ Err e
-    → drawn (step_2d strict columns reference) pen ≡ Line.broken pen.front e
-line_unread strict columns reference pen e open_row unread = line_open strict columns reference pen open_row ∙ rw unread refl
 
 -- after a mode is read, the line is what comes of the step that draws it
 pub line_mode : (strict : Bool) (columns : ℕ) (reference : Row) (pen : Pen) (mode : Mode) (rest : Bits) → length pen.front < columns → read_code mode_codes pen.rest ≡ Ok (mode, rest)
@@ -226,14 +217,6 @@ pub line_mode : (strict : Bool) (columns : ℕ) (reference : Row) (pen : Pen) (m
 line_mode strict columns reference pen mode rest open_row reads = line_open strict columns reference pen open_row ∙ rw reads refl
 
 -- ---- What a line answers.
-
--- a fault of the data ends the line
-pub line_fault : (line : Line) (e : DecodeError) (front : Row) (rest : Bits) → IsFault e → line ≡ Line.broken front e → DrawsLine line (Err e) front rest
-line_fault line UnexpectedEof front rest fault e = e
-line_fault line InvalidCode front rest fault e = e
-line_fault line Overflow front rest fault e = e
-line_fault line OutOfMemory front rest fault e = absurd fault
-line_fault line Refused front rest fault e = absurd fault
 
 -- an error of a step is that of the line
 pub line_fails : (strict : Bool) (columns : ℕ) (reference : Row) (line : Line) (step : Step) (e : DecodeError) (pen : Pen) → line ≡ after_turn (drawn (step_2d strict columns reference)) step
@@ -243,6 +226,29 @@ line_fails strict columns reference line step InvalidCode pen is draws = is ∙ 
 line_fails strict columns reference line step Overflow pen is draws = is ∙ rw draws refl
 line_fails strict columns reference line step OutOfMemory pen is draws = subst (λ (l : Line). HasBlack (front_of l)) (sym is) (after_black strict columns reference step draws)
 line_fails strict columns reference line step Refused pen is draws = absurd draws
+
+-- the line of a context whose row isn't full is what comes of the mode that is read
+pub line_by_mode : (before now : Held) (line : Line) (at rest : Bits) (mode : Mode) → now ≡ redrawn before now.front now.color
+    → drawn (step_2d before.settings.strict before.settings.columns before.reference) (pen_of now at) ≡ line → length now.front < now.settings.columns → read_code mode_codes at ≡ Ok (mode, rest)
+    → line ≡ after_turn (drawn (step_2d before.settings.strict before.settings.columns before.reference)) (draw_mode now.settings.strict now.settings.columns now.reference (pen_of now rest) mode)
+line_by_mode before now line at rest mode kept so_far open_row reads =
+    let settings : now.settings ≡ before.settings = ap (λ (h : Held). h.settings) kept in
+    let reference : now.reference ≡ before.reference = ap (λ (h : Held). h.reference) kept in
+    let columns : length now.front < before.settings.columns = subst (λ (s : DecodeSettings). length now.front < s.columns) settings open_row in
+    let after : Step → Line = after_turn (drawn (step_2d before.settings.strict before.settings.columns before.reference)) in
+    sym so_far ∙ line_mode before.settings.strict before.settings.columns before.reference (pen_of now at) mode rest columns reads
+    ∙ ap (λ (s : DecodeSettings). after (draw_mode s.strict s.columns before.reference (pen_of now rest) mode)) (sym settings)
+    ∙ ap (λ (r : Row). after (draw_mode now.settings.strict now.settings.columns r (pen_of now rest) mode)) (sym reference)
+
+-- a row that isn't said to be full has room
+pub open_by : (full : Bool) (n columns : ℕ) → full ≡ false → (columns ≤ n → IsTrue full) → n < columns
+open_by true n columns e said = absurd (false≢true (sym e))
+open_by false n columns e said = elim (cases_lt n columns) [ inl lt ↦ lt | inr ge ↦ absurd (false≢true (said ge)) ]
+
+-- a mode that is read and drawn takes bits
+pub mode_shorter : (strict : Bool) (columns : ℕ) (reference : Row) (pen t : Pen) (at : Bits) (mode : Mode) → read_code mode_codes at ≡ Ok (mode, pen.rest) → draw_mode strict columns reference pen mode ≡ Turn.next t → length t.rest < length at
+mode_shorter strict columns reference pen t at mode reads draws =
+    omega (arith, draw_mode_next strict columns reference pen mode t draws, read_code_shorter mode_codes at mode pen.rest modes_not_empty reads)
 
 -- ---- Two runs.
 
