@@ -313,8 +313,8 @@ impl DecoderContext {
     {
         match mode {
             Mode::Pass => {
-                let count = self.pixels_to_b2();
-                self.push_pixels(count)
+                let to_b2 = self.pixels_to_b2();
+                self.push_pixels(to_b2)
             }
             Mode::Vertical(offset) => {
                 let place = self

@@ -41,13 +41,13 @@ returns-in_err-draw_run-in-Horizontal-clause-step c =
 
 pub returns-in-Pass-clause-step : goal.returns-in-Pass-clause-step
 returns-in-Pass-clause-step c =
-    let b = c.pixels_to_b2-count.ensures in
+    let b = c.pixels_to_b2-to_b2.ensures in
     let d = c.push_pixels.ensures in
     let old : Held = c.args.self.now.held in
-    let held : Held = c.pixels_to_b2-count.new.self.held in
+    let held : Held = c.pixels_to_b2-to_b2.new.self.held in
     let rest : Bits = here c.args.reader.now in
     let new : Held = c.push_pixels.new.self.held in
-    let count : ℕ = c.pixels_to_b2-count.result in
+    let count : ℕ = c.pixels_to_b2-to_b2.result in
     let draws : DrawsStep (try held.front (paint held.settings.strict held.settings.columns held.front held.color count) (λ front. Turn.next (record (pen_of held rest) { front = front }))) c.push_pixels.result (pen_of new rest)
         = paint_draws held new count rest c.push_pixels.result d.painted d.rest d.same (λ e is. unpainted held count c.push_pixels.result e is d.too_many d.memory d.only) in
     rw c.in-Pass.is (pass_draws old held new count rest c.push_pixels.result b.held b.value draws)
