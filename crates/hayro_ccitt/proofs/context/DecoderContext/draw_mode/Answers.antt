@@ -49,7 +49,7 @@ returns-in-Pass-clause-step c =
     let new : Held = c.push_pixels.new.self.held in
     let count : ℕ = c.pixels_to_b2-to_b2.result in
     let draws : DrawsStep (try held.front (paint held.settings.strict held.settings.columns held.front held.color count) (λ front. Turn.next (record (pen_of held rest) { front = front }))) c.push_pixels.result (pen_of new rest)
-        = paint_draws held new count rest c.push_pixels.result d.painted d.rest d.same (λ e is. unpainted held count c.push_pixels.result e is d.too_many d.memory d.only) in
+    = paint_draws held new count rest c.push_pixels.result d.painted d.rest d.same (λ e is. unpainted held count c.push_pixels.result e is d.too_many d.memory d.only) in
     rw c.in-Pass.is (pass_draws old held new count rest c.push_pixels.result b.held b.value draws)
 
 pub returns-in_ok-draw_run-in-Horizontal-clause-step : goal.returns-in_ok-draw_run-in-Horizontal-clause-step
