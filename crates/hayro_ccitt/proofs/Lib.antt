@@ -5,6 +5,7 @@ pub mod BitPlaces
 pub mod BodiesT4
 pub mod ByEols
 pub mod Damage
+pub mod DrawnLines
 pub mod Follows
 pub mod Fronts
 pub mod Grown
