@@ -3,6 +3,7 @@ pub mod Alike
 pub mod BitLists
 pub mod BodiesT4
 pub mod ByEols
+pub mod ChangesAndPixels
 pub mod Damage
 pub mod Follows
 pub mod Fronts
