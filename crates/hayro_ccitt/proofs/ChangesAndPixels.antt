@@ -6,6 +6,7 @@ use Rattle.std.proofs.lemmas.Bool.{cases_eq}
 use Rattle.std.proofs.lemmas.List.{append-nil, length-replicate, replicate-append-replicate}
 use Rattle.hayro_ccitt.specs.Rows.{Row, pixel, pixel_before, is_change, changes, AscendFrom, AreChanges, pixels_from, pixels}
 use Rattle.hayro_ccitt.specs.Changes.{changes_from, last_pixel}
+use Rattle.hayro_ccitt.specs.Context.{continued}
 use Rattle.hayro_ccitt.proofs.RowChanges.{changes_from-append, changes_from-same}
 
 -- ---- Ascending places.
@@ -239,3 +240,15 @@ pixels-changes row = rw (changes-recursive row) (pixels_from-changes_from 0 fals
 -- a row's changes are lawful
 pub AreChanges-changes : (row : Row) → AreChanges (length row) (changes row)
 AreChanges-changes row = rw (changes-recursive row) (AscendFrom-changes_from 0 false row (length row) (omega arith))
+
+-- ---- What a context does to them.
+
+-- a front that isn't full, continued in its last colour, has no more changes
+pub continued-pixels : (columns width : ℕ) (places : List ℕ) → width ≤ columns → AreChanges width places → continued columns (pixels width places) ≡ pixels columns places
+continued-pixels columns width places within ascend =
+    let e : columns ≡ width + (columns - width) = omega arith in
+    rw (length-pixels width places ascend) (sym (pixels-same width (columns - width) places ascend) ∙ ap (λ (n : ℕ). pixels n places) (sym e))
+
+pub changes-continued : (columns width : ℕ) (places : List ℕ) → width ≤ columns → AreChanges width places → changes (continued columns (pixels width places)) ≡ places
+changes-continued columns width places within ascend =
+    ap changes (continued-pixels columns width places within ascend) ∙ changes-pixels columns places (AreChanges-wider width columns places within ascend)
