@@ -13,6 +13,7 @@ pub mod Limits
 pub mod Local
 pub mod Moves
 pub mod Past
+pub mod Painting
 pub mod PicturesOfLines
 pub mod PicturesT4
 pub mod PicturesT6

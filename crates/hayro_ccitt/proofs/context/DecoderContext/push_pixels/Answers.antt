@@ -1,32 +1,59 @@
-use Rattle.std.proofs.Common.{rules, ◌≡◌, ◌≢◌, ◌+◌, ◌-◌, ◌^◌, ◌<◌, ◌≤◌, ◌⊎◌, ◌↔◌, Ok, Err, OnOk, OnErr, IfOk, IfErr, true, IsOkUnless, IsTrue, false, length, get_or, [], ◌++◌, replicate, ℕ, ◌*◌, ◌/◌, ◌%◌, Bool, nat_eq, nat_lt, List, ◌∷◌, slice_set, bit_and, bit_or, Fits, w8, w32, w64, Bor, MutBor}
-use Rattle.hayro_ccitt.specs.Rows.{AreChanges, pixels, right_of, b1, b2, paint, changes, is_black, opposite}
-use Rattle.hayro_ccitt.specs.Changes.{last_pixel}
-use Rattle.hayro_ccitt.specs.Lines.{Line, draw_run, draw_mode, line_2d}
-use Rattle.hayro_ccitt.specs.Bits.{here}
-use Rattle.hayro_ccitt.specs.Repetition.{Turn}
-use Rattle.hayro_ccitt.specs.Context.{redrawn, right_of_painted, fresh, after_taking, continued}
-use Rattle.hayro_ccitt.specs.Answers.{DrawsLine, DrawsStep, StoresChange, pen_of}
-use Rattle.std.specs.Borrow.{sem}
-use Rattle.hayro_ccitt.specs.Lending.{LendsTicks}
+use Rattle.std.proofs.Common.{◌≡◌, ◌≤◌, ◌-◌, ◌⊎◌, inl, inr, min, false, Err, refl, sym, ap, ◌∙◌}
+use Rattle.std.proofs.lemmas.Result.{err_from_is_err_and}
+use Rattle.hayro_ccitt.specs.ContextView.{context_of}
+use Rattle.hayro_ccitt.proofs.Painting.{paint-strict, paint-fits, StoresChange-painted}
+use Rattle.hayro_ccitt.proofs.context.DecoderContext.push_pixels.Goals.{else-count-room-via-then-count-room+else-self, else-count-room-via-else-count-room}
 use Rattle.hayro_ccitt.proofs.context.DecoderContext.push_pixels.Goals as goal
 
--- src/context.rt:212:13
 pub returns-then-self-clause-too_many : goal.returns-then-self-clause-too_many
-returns-then-self-clause-too_many c = ?
+returns-then-self-clause-too_many c =
+    let s = c.self.inside in
+    let wrong = paint-strict s.settings.strict s.settings.columns _ _ s.color c.args.count c.self.invariant.front c.if-self.true c.if-count-room.true in
+    rw (← c.self.view_is) (λ e. wrong, λ e. refl)
 
--- src/context.rt:215:9
-pub returns-in_err-append_pixels-clause-too_many :
-    goal.returns-in_err-append_pixels-clause-too_many
-returns-in_err-append_pixels-clause-too_many c = ?
+pub returns-in_err-append_pixels-clause-too_many : goal.returns-in_err-append_pixels-clause-too_many
+returns-in_err-append_pixels-clause-too_many c =
+    let s = c.self.inside in
+    let fits : (s.settings.strict ≡ false) ⊎ (c.args.count ≤ s.settings.columns - s.pixels_decoded) = elim c.else-count-room.branch [
+      | else-count-room-via-then-count-room+else-self w ↦ inl w.if-self.false
+      | else-count-room-via-else-count-room w ↦ inr w.if-count-room.false
+    ] in
+    let painted = paint-fits s.settings.strict s.settings.columns s.pixels_decoded s.coding_changes.items s.color c.args.count c.self.invariant.front fits in
+    let p = err_from_is_err_and c.from_residual.result c.from_residual.ensures.1 in
+    let memory = c.in_err-append_pixels.ensures.only_memory in
+    rw (← c.self.view_is) (λ e. cc, λ e. cc)
 
--- src/context.rt:215:9
 pub returns-in_err-append_pixels-clause-memory : goal.returns-in_err-append_pixels-clause-memory
-returns-in_err-append_pixels-clause-memory c = ?
+returns-in_err-append_pixels-clause-memory c =
+    let s = c.self.inside in
+    let fits : (s.settings.strict ≡ false) ⊎ (c.args.count ≤ s.settings.columns - s.pixels_decoded) = elim c.else-count-room.branch [
+      | else-count-room-via-then-count-room+else-self w ↦ inl w.if-self.false
+      | else-count-room-via-else-count-room w ↦ inr w.if-count-room.false
+    ] in
+    let painted = paint-fits s.settings.strict s.settings.columns s.pixels_decoded s.coding_changes.items s.color c.args.count c.self.invariant.front fits in
+    let less : c.min-count.result ≡ min c.args.count (s.settings.columns - s.pixels_decoded) = c.min-count.ensures in
+    let p = err_from_is_err_and c.from_residual.result c.from_residual.ensures.1 in
+    rw (← c.self.view_is) (λ e.
+      let stored = c.append_pixels.ensures.memory (c.in_err-append_pixels.was ∙ ap Err (sym p.2) ∙ sym p.1 ∙ e) in
+      StoresChange-painted (context_of s).held c.args.count _ painted (rw less at stored.0) stored.1)
 
--- src/context.rt:201:5
 pub returns-clause-painted : goal.returns-clause-painted
-returns-clause-painted c = ?
+returns-clause-painted c =
+    let s = c.self.inside in
+    let fits : (s.settings.strict ≡ false) ⊎ (c.args.count ≤ s.settings.columns - s.pixels_decoded) = elim c.else-count-room.branch [
+      | else-count-room-via-then-count-room+else-self w ↦ inl w.if-self.false
+      | else-count-room-via-else-count-room w ↦ inr w.if-count-room.false
+    ] in
+    let painted = paint-fits s.settings.strict s.settings.columns s.pixels_decoded s.coding_changes.items s.color c.args.count c.self.invariant.front fits in
+    let less : c.min-count.result ≡ min c.args.count (s.settings.columns - s.pixels_decoded) = c.min-count.ensures in
+    rw (← c.self.view_is, c.in_ok-append_pixels.ensures.painted, less) painted
 
--- src/context.rt:201:5
 pub returns-clause-too_many : goal.returns-clause-too_many
-returns-clause-too_many c = ?
+returns-clause-too_many c =
+    let s = c.self.inside in
+    let fits : (s.settings.strict ≡ false) ⊎ (c.args.count ≤ s.settings.columns - s.pixels_decoded) = elim c.else-count-room.branch [
+      | else-count-room-via-then-count-room+else-self w ↦ inl w.if-self.false
+      | else-count-room-via-else-count-room w ↦ inr w.if-count-room.false
+    ] in
+    let painted = paint-fits s.settings.strict s.settings.columns s.pixels_decoded s.coding_changes.items s.color c.args.count c.self.invariant.front fits in
+    rw (← c.self.view_is) (λ e. cc, λ e. cc)
