@@ -19,6 +19,10 @@ AscendFrom-wider low first width wider (place ∷ places) le below ascend =
     let within : place < width = ascend.1 in
     (omega arith, omega arith, AscendFrom-wider (suc place) (suc place) width wider places (omega arith) below ascend.2)
 
+-- places that ascend right of a place ascend from it on
+AscendFrom-here : (place width : ℕ) (places : List ℕ) → AscendFrom (suc place) width places → AscendFrom place width places
+AscendFrom-here place width places ascend = AscendFrom-wider place (suc place) width width places (omega arith) (omega arith) ascend
+
 -- changes below a width are changes below a larger one
 pub AreChanges-wider : (width wider : ℕ) (places : List ℕ) → width ≤ wider → AreChanges width places → AreChanges wider places
 AreChanges-wider width wider places below ascend = AscendFrom-wider 0 0 width wider places (omega arith) below ascend
@@ -48,9 +52,8 @@ length-pixels_from place color width [] le ascend = omega (arith, length-replica
 length-pixels_from place color width (change ∷ places) le ascend =
     let from : place ≤ change = ascend.0 in
     let within : change < width = ascend.1 in
-    let step : change + length (pixels_from change (not color) width places) ≡ width =
-        length-pixels_from change (not color) width places (omega arith) (AscendFrom-wider change (suc change) width width places (omega arith) (omega arith) ascend.2) in
-    omega (arith, step, length-append (replicate (change - place) color) (pixels_from change (not color) width places), length-replicate (change - place) color)
+    let rest = length-pixels_from change (not color) width places (omega arith) (AscendFrom-here change width places ascend.2) in
+    omega (arith, rest, length-append (replicate (change - place) color) (pixels_from change (not color) width places), length-replicate (change - place) color)
 
 -- a row of lawful changes has as many pixels as its width
 pub length-pixels : (width : ℕ) (places : List ℕ) → AreChanges width places → length (pixels width places) ≡ width
@@ -99,7 +102,7 @@ last_pixel-pixels_from place color width (change ∷ places) ascend =
     let from : place ≤ change = ascend.0 in
     let within : change < width = ascend.1 in
     let opens = pixels_from-first change (not color) width places within ascend.2 in
-    let rest = last_pixel-pixels_from change (not color) width places (AscendFrom-wider change (suc change) width width places (omega arith) (omega arith) ascend.2) in
+    let rest = last_pixel-pixels_from change (not color) width places (AscendFrom-here change width places ascend.2) in
     last_pixel-append color (replicate (change - place) color) (pixels_from change (not color) width places)
     ∙ rw (last_pixel-same (change - place) color, opens) refl
     ∙ sym (ap (last_pixel (not color)) opens)
@@ -128,7 +131,7 @@ pixels_from-wider place color width more [] le ascend =
 pixels_from-wider place color width more (change ∷ places) le ascend =
     let from : place ≤ change = ascend.0 in
     let within : change < width = ascend.1 in
-    let rest = pixels_from-wider change (not color) width more places (omega arith) (AscendFrom-wider change (suc change) width width places (omega arith) (omega arith) ascend.2) in
+    let rest = pixels_from-wider change (not color) width more places (omega arith) (AscendFrom-here change width places ascend.2) in
     rw rest (sym (append_assoc (replicate (change - place) color) _ _))
 
 -- so painting pixels of the last colour adds no change
@@ -164,6 +167,11 @@ pixel_before-shift : (row : Row) (place : ℕ) → pixel_before row place ≡ ge
 pixel_before-shift row zero = refl
 pixel_before-shift row (suc place) = refl
 
+is_change-next : (front : Row) (here : Bool) (row : Row) → is_change (front ++ here ∷ row) (length front) ≡ not (beq (last_pixel false front) here)
+is_change-next front here row =
+    let before = pixel_before-next false front (here ∷ row) (length front) refl in
+    rw (pixel_before-shift (front ++ here ∷ row) (length front), before, pixel-next front here row) refl
+
 -- a place is listed where the pixel differs
 listed : (differs : Bool) (x y : Bool) (place : ℕ) (places others : List ℕ) → differs ≡ not (beq x y) → places ≡ others → cond differs (place ∷ places) places ≡ cond (beq x y) others (place ∷ others)
 listed differs x y place places others e same = rw (e, same) (by (beq x y))
@@ -178,10 +186,8 @@ changes-rest front (here ∷ row) =
     let whole : (front ++ here ∷ []) ++ row ≡ front ++ here ∷ row = append_assoc front (here ∷ []) row in
     let len : length (front ++ here ∷ []) ≡ suc (length front) = length-append front (here ∷ []) ∙ add-one _ in
     let last : last_pixel false (front ++ here ∷ []) ≡ here = last_pixel-append false front (here ∷ []) in
-    let rest : filter (is_change (front ++ here ∷ row)) (range_with_len (suc (length front)) (length row)) ≡ changes_from (suc (length front)) here row =
-        rw (whole, len, last) at (changes-rest (front ++ here ∷ []) row) in
-    let one : is_change (front ++ here ∷ row) (length front) ≡ not (beq (last_pixel false front) here) =
-        rw (pixel_before-shift (front ++ here ∷ row) (length front), pixel_before-next false front (here ∷ row) (length front) refl, pixel-next front here row) refl in
+    let rest = rw (whole, len, last) at (changes-rest (front ++ here ∷ []) row) in
+    let one = is_change-next front here row in
     let next : filter (is_change (front ++ here ∷ row)) (range_with_len (length front + 1) (length row)) ≡ changes_from (suc (length front)) here row = rw (add-one (length front)) rest in
     listed (is_change (front ++ here ∷ row) (length front)) (last_pixel false front) here (length front) _ _ one next
 
@@ -213,8 +219,8 @@ changes-pixels width places ascend = changes-recursive (pixels width places) ∙
 -- the changes of a row ascend, and stay inside it
 pub AscendFrom-changes_from : (place : ℕ) (before : Bool) (row : Row) (width : ℕ) → place + length row ≡ width → AscendFrom place width (changes_from place before row)
 AscendFrom-changes_from place before [] width e = tt
-AscendFrom-changes_from place true (true ∷ row) width e = AscendFrom-wider place (suc place) width width (changes_from (suc place) true row) (omega arith) (omega arith) (AscendFrom-changes_from (suc place) true row width (omega arith))
-AscendFrom-changes_from place false (false ∷ row) width e = AscendFrom-wider place (suc place) width width (changes_from (suc place) false row) (omega arith) (omega arith) (AscendFrom-changes_from (suc place) false row width (omega arith))
+AscendFrom-changes_from place true (true ∷ row) width e = AscendFrom-here place width (changes_from (suc place) true row) (AscendFrom-changes_from (suc place) true row width (omega arith))
+AscendFrom-changes_from place false (false ∷ row) width e = AscendFrom-here place width (changes_from (suc place) false row) (AscendFrom-changes_from (suc place) false row width (omega arith))
 AscendFrom-changes_from place true (false ∷ row) width e = (omega arith, omega arith, AscendFrom-changes_from (suc place) false row width (omega arith))
 AscendFrom-changes_from place false (true ∷ row) width e = (omega arith, omega arith, AscendFrom-changes_from (suc place) true row width (omega arith))
 

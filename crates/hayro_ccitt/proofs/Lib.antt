@@ -12,8 +12,8 @@ pub mod Leaves
 pub mod Limits
 pub mod Local
 pub mod Moves
-pub mod Past
 pub mod Painting
+pub mod Past
 pub mod PicturesOfLines
 pub mod PicturesT4
 pub mod PicturesT6

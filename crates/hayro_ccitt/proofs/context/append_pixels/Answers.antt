@@ -35,10 +35,10 @@ returns-else-count-gt0-clause-painted c =
     let even = rw len at c.is_multiple_of-last_is_white.ensures in
     elim c.else-count-gt0.branch [
       | else-count-gt0-via-then-count-gt0+else-last_is_white-is_white w ↦
-        let same = last_pixel-agrees a.painted a.changes.now.items a.color _ _ c.requires even w.is_white.ensures w.if-last_is_white-is_white.false in
-        rw (← same) (pixels-same a.painted a.count a.changes.now.items c.requires)
+          let same = last_pixel-agrees a.painted a.changes.now.items a.color _ _ c.requires even w.is_white.ensures w.if-last_is_white-is_white.false in
+          rw (← same) (pixels-same a.painted a.count a.changes.now.items c.requires)
       | else-count-gt0-via-else-count-gt0 w ↦
-        let none : a.count ≡ 0 = omega (arith, w.if-count-gt0.false) in
-        let e : a.painted + 0 ≡ a.painted = omega arith in
-        rw (none, e, append-nil) refl
+          let none : a.count ≡ 0 = omega (arith, w.if-count-gt0.false) in
+          let e : a.painted + 0 ≡ a.painted = omega arith in
+          rw (none, e, append-nil) refl
     ]

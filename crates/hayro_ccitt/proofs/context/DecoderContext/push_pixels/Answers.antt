@@ -34,8 +34,8 @@ returns-in_err-append_pixels-clause-memory c =
     let less : c.min-count.result ≡ min c.args.count (s.settings.columns - s.pixels_decoded) = c.min-count.ensures in
     let p = err_from_is_err_and c.from_residual.result c.from_residual.ensures.1 in
     rw (← c.self.view_is) (λ e.
-      let stored = c.append_pixels.ensures.memory (c.in_err-append_pixels.was ∙ ap Err (sym p.2) ∙ sym p.1 ∙ e) in
-      StoresChange-painted (context_of s).held c.args.count _ painted (rw less at stored.0) stored.1)
+    let stored = c.append_pixels.ensures.memory (c.in_err-append_pixels.was ∙ ap Err (sym p.2) ∙ sym p.1 ∙ e) in
+    StoresChange-painted (context_of s).held c.args.count _ painted (rw less at stored.0) stored.1)
 
 pub returns-clause-painted : goal.returns-clause-painted
 returns-clause-painted c =
