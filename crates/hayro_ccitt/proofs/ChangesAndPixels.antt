@@ -28,7 +28,8 @@ pub AreChanges-wider : (width wider : ℕ) (places : List ℕ) → width ≤ wid
 AreChanges-wider width wider places below ascend = AscendFrom-wider 0 0 width wider places (omega arith) below ascend
 
 -- one place more, at the old width
-pub AscendFrom-push : (first width more : ℕ) (places : List ℕ) → first ≤ width → 0 < more → AscendFrom first width places → AscendFrom first (width + more) (places ++ width ∷ [])
+pub AscendFrom-push : (first width more : ℕ) (places : List ℕ) → first ≤ width → 0 < more → AscendFrom first width places
+    → AscendFrom first (width + more) (places ++ width ∷ [])
 AscendFrom-push first width more [] le some ascend = (le, omega arith, tt)
 AscendFrom-push first width more (place ∷ places) le some ascend =
     let from : first ≤ place = ascend.0 in
@@ -47,7 +48,8 @@ pixels_from-first place color width (change ∷ places) lt ascend =
     rw e refl
 
 -- the pixels from a place on reach up to the width
-pub length-pixels_from : (place : ℕ) (color : Bool) (width : ℕ) (places : List ℕ) → place ≤ width → AscendFrom place width places → place + length (pixels_from place color width places) ≡ width
+pub length-pixels_from : (place : ℕ) (color : Bool) (width : ℕ) (places : List ℕ) → place ≤ width → AscendFrom place width places
+    → place + length (pixels_from place color width places) ≡ width
 length-pixels_from place color width [] le ascend = omega (arith, length-replicate (width - place) color)
 length-pixels_from place color width (change ∷ places) le ascend =
     let from : place ≤ change = ascend.0 in
@@ -83,6 +85,7 @@ eqb-suc_even n = elim (cases_eq (n % 2) 0) [
   | inr odd ↦ let none : suc n % 2 ≡ 0 = omega arith in let one : n % 2 ≡ 1 = omega arith in rw (none, one) refl
 ]
 
+-- comparing the other colour is the other comparison
 beq-not : (a b color : Bool) → b ≡ not a → beq a (not color) ≡ beq b color
 beq-not true b true e = rw e refl
 beq-not true b false e = rw e refl
@@ -93,10 +96,12 @@ beq-not false b false e = rw e refl
 pub turned-even : (color : Bool) (places : List ℕ) → turned color places ≡ beq (eqb (length places % 2) 0) color
 turned-even true [] = refl
 turned-even false [] = refl
-turned-even color (place ∷ places) = turned-even (not color) places ∙ beq-not (eqb (length places % 2) 0) (eqb (suc (length places) % 2) 0) color (eqb-suc_even (length places))
+turned-even color (place ∷ places) =
+    turned-even (not color) places ∙ beq-not (eqb (length places % 2) 0) (eqb (suc (length places) % 2) 0) color (eqb-suc_even (length places))
 
 -- each lawful change is followed by a pixel, so the last pixel has the colour after all of them
-pub last_pixel-pixels_from : (place : ℕ) (color : Bool) (width : ℕ) (places : List ℕ) → AscendFrom place width places → last_pixel color (pixels_from place color width places) ≡ turned color places
+pub last_pixel-pixels_from : (place : ℕ) (color : Bool) (width : ℕ) (places : List ℕ) → AscendFrom place width places
+    → last_pixel color (pixels_from place color width places) ≡ turned color places
 last_pixel-pixels_from place color width [] ascend = last_pixel-same (width - place) color
 last_pixel-pixels_from place color width (change ∷ places) ascend =
     let from : place ≤ change = ascend.0 in
@@ -135,14 +140,16 @@ pixels_from-wider place color width more (change ∷ places) le ascend =
     rw rest (sym (append_assoc (replicate (change - place) color) _ _))
 
 -- so painting pixels of the last colour adds no change
-pub pixels-same : (width more : ℕ) (places : List ℕ) → AreChanges width places → pixels (width + more) places ≡ pixels width places ++ replicate more (last_pixel false (pixels width places))
+pub pixels-same : (width more : ℕ) (places : List ℕ) → AreChanges width places
+    → pixels (width + more) places ≡ pixels width places ++ replicate more (last_pixel false (pixels width places))
 pixels-same width more places ascend = rw (last_pixel-pixels width places ascend) (pixels_from-wider 0 false width more places (omega arith) ascend)
 
 -- one change more at the end of a row goes on in the other colour
 pub pixels_from-push : (place : ℕ) (color : Bool) (width more : ℕ) (places : List ℕ)
     → pixels_from place color (width + more) (places ++ width ∷ []) ≡ pixels_from place color width places ++ replicate more (not (turned color places))
 pixels_from-push place color width more [] = let e : width + more - width ≡ more = omega arith in rw e refl
-pixels_from-push place color width more (change ∷ places) = rw (pixels_from-push change (not color) width more places) (sym (append_assoc (replicate (change - place) color) _ _))
+pixels_from-push place color width more (change ∷ places) =
+    rw (pixels_from-push change (not color) width more places) (sym (append_assoc (replicate (change - place) color) _ _))
 
 -- so painting pixels of the other colour adds a change where the row ended
 pub pixels-push : (width more : ℕ) (places : List ℕ) → AreChanges width places
@@ -155,32 +162,39 @@ AreChanges-push width more places some ascend = AscendFrom-push 0 width more pla
 
 -- ---- The changes of a row by recursion are its changes.
 
+-- the pixel after a front
 pixel-next : (front : Row) (pixel_here : Bool) (row : Row) → pixel (front ++ pixel_here ∷ row) (length front) ≡ pixel_here
 pixel-next [] here row = refl
 pixel-next (x ∷ front) here row = pixel-next front here row
 
+-- what stands left of the pixel after a front
 pixel_before-next : (before : Bool) (front row : Row) (place : ℕ) → place ≡ length front → get_or (before ∷ front ++ row) place false ≡ last_pixel before front
 pixel_before-next before [] row place e = rw e refl
 pixel_before-next before (x ∷ front) row place e = rw e (pixel_before-next x front row (length front) refl)
 
+-- the pixel to the left, with a white one put before the row
 pixel_before-shift : (row : Row) (place : ℕ) → pixel_before row place ≡ get_or (false ∷ row) place false
 pixel_before-shift row zero = refl
 pixel_before-shift row (suc place) = refl
 
+-- the pixel after a front is a change where it differs from the front's last
 is_change-next : (front : Row) (here : Bool) (row : Row) → is_change (front ++ here ∷ row) (length front) ≡ not (beq (last_pixel false front) here)
 is_change-next front here row =
     let before = pixel_before-next false front (here ∷ row) (length front) refl in
     rw (pixel_before-shift (front ++ here ∷ row) (length front), before, pixel-next front here row) refl
 
 -- a place is listed where the pixel differs
-listed : (differs : Bool) (x y : Bool) (place : ℕ) (places others : List ℕ) → differs ≡ not (beq x y) → places ≡ others → cond differs (place ∷ places) places ≡ cond (beq x y) others (place ∷ others)
+listed : (differs : Bool) (x y : Bool) (place : ℕ) (places others : List ℕ) → differs ≡ not (beq x y) → places ≡ others
+    → cond differs (place ∷ places) places ≡ cond (beq x y) others (place ∷ others)
 listed differs x y place places others e same = rw (e, same) (by (beq x y))
   where
     by : (b : Bool) → cond (not b) (place ∷ others) others ≡ cond b others (place ∷ others)
     by true = refl
     by false = refl
 
-changes-rest : (front row : Row) → filter (is_change (front ++ row)) (range_with_len (length front) (length row)) ≡ changes_from (length front) (last_pixel false front) row
+-- the changes past a front
+changes-rest : (front row : Row)
+    → filter (is_change (front ++ row)) (range_with_len (length front) (length row)) ≡ changes_from (length front) (last_pixel false front) row
 changes-rest front [] = refl
 changes-rest front (here ∷ row) =
     let whole : (front ++ here ∷ []) ++ row ≡ front ++ here ∷ row = append_assoc front (here ∷ []) row in
@@ -188,8 +202,7 @@ changes-rest front (here ∷ row) =
     let last : last_pixel false (front ++ here ∷ []) ≡ here = last_pixel-append false front (here ∷ []) in
     let rest = rw (whole, len, last) at (changes-rest (front ++ here ∷ []) row) in
     let one = is_change-next front here row in
-    let next : filter (is_change (front ++ here ∷ row)) (range_with_len (length front + 1) (length row)) ≡ changes_from (suc (length front)) here row = rw (add-one (length front)) rest in
-    listed (is_change (front ++ here ∷ row) (length front)) (last_pixel false front) here (length front) _ _ one next
+    listed (is_change (front ++ here ∷ row) (length front)) (last_pixel false front) here (length front) _ _ one (rw (add-one (length front)) rest)
 
 -- the changes of a row, by recursion
 pub changes-recursive : (row : Row) → changes row ≡ changes_from 0 false row
@@ -198,15 +211,17 @@ changes-recursive row = changes-rest [] row
 -- ---- There and back.
 
 -- the changes of pixels are the places that they turn at
-pub changes_from-pixels_from : (place : ℕ) (color : Bool) (width : ℕ) (places : List ℕ) → AscendFrom place width places → changes_from place color (pixels_from place color width places) ≡ places
+pub changes_from-pixels_from : (place : ℕ) (color : Bool) (width : ℕ) (places : List ℕ) → AscendFrom place width places
+    → changes_from place color (pixels_from place color width places) ≡ places
 changes_from-pixels_from place color width [] ascend = changes_from-same place (width - place) color
 changes_from-pixels_from place color width (change ∷ places) ascend =
     let from : place ≤ change = ascend.0 in
     let within : change < width = ascend.1 in
     let at : place + length (replicate (change - place) color) ≡ change = omega (arith, length-replicate (change - place) color) in
+    let opens = pixels_from-first change (not color) width places within ascend.2 in
     let rest = changes_from-pixels_from (suc change) (not color) width places ascend.2 in
     changes_from-append place color (replicate (change - place) color) (pixels_from change (not color) width places)
-    ∙ rw (changes_from-same place (change - place) color, at, last_pixel-same (change - place) color, pixels_from-first change (not color) width places within ascend.2) (by color _ _ _ rest)
+    ∙ rw (changes_from-same place (change - place) color, at, last_pixel-same (change - place) color, opens) (by color _ _ _ rest)
   where
     by : (c : Bool) (row : Row) (here : ℕ) (rest : List ℕ) → changes_from (suc here) (not c) row ≡ rest → changes_from here c (not c ∷ row) ≡ here ∷ rest
     by true row here rest e = ap (λ (xs : List ℕ). here ∷ xs) e
@@ -217,27 +232,38 @@ pub changes-pixels : (width : ℕ) (places : List ℕ) → AreChanges width plac
 changes-pixels width places ascend = changes-recursive (pixels width places) ∙ changes_from-pixels_from 0 false width places ascend
 
 -- the changes of a row ascend, and stay inside it
-pub AscendFrom-changes_from : (place : ℕ) (before : Bool) (row : Row) (width : ℕ) → place + length row ≡ width → AscendFrom place width (changes_from place before row)
+pub AscendFrom-changes_from : (place : ℕ) (before : Bool) (row : Row) (width : ℕ) → place + length row ≡ width
+    → AscendFrom place width (changes_from place before row)
 AscendFrom-changes_from place before [] width e = tt
-AscendFrom-changes_from place true (true ∷ row) width e = AscendFrom-here place width (changes_from (suc place) true row) (AscendFrom-changes_from (suc place) true row width (omega arith))
-AscendFrom-changes_from place false (false ∷ row) width e = AscendFrom-here place width (changes_from (suc place) false row) (AscendFrom-changes_from (suc place) false row width (omega arith))
+AscendFrom-changes_from place true (true ∷ row) width e =
+    AscendFrom-here place width (changes_from (suc place) true row) (AscendFrom-changes_from (suc place) true row width (omega arith))
+AscendFrom-changes_from place false (false ∷ row) width e =
+    AscendFrom-here place width (changes_from (suc place) false row) (AscendFrom-changes_from (suc place) false row width (omega arith))
 AscendFrom-changes_from place true (false ∷ row) width e = (omega arith, omega arith, AscendFrom-changes_from (suc place) false row width (omega arith))
 AscendFrom-changes_from place false (true ∷ row) width e = (omega arith, omega arith, AscendFrom-changes_from (suc place) true row width (omega arith))
 
 -- where the row's first pixel has the colour, the rest decides
-goes_on : (place : ℕ) (color : Bool) (row : Row) (width : ℕ) → place + suc (length row) ≡ width → pixels_from (suc place) color width (changes_from (suc place) color row) ≡ row
+goes_on : (place : ℕ) (color : Bool) (row : Row) (width : ℕ) → place + suc (length row) ≡ width
+    → pixels_from (suc place) color width (changes_from (suc place) color row) ≡ row
     → pixels_from place color width (changes_from (suc place) color row) ≡ color ∷ row
 goes_on place color row width e rest =
     pixels_from-first place color width (changes_from (suc place) color row) (omega arith) (AscendFrom-changes_from (suc place) color row width (omega arith))
     ∙ ap (λ (xs : Row). color ∷ xs) rest
 
 -- the pixels between the changes of a row are the row
-pub pixels_from-changes_from : (place : ℕ) (before : Bool) (row : Row) (width : ℕ) → place + length row ≡ width → pixels_from place before width (changes_from place before row) ≡ row
+pub pixels_from-changes_from : (place : ℕ) (before : Bool) (row : Row) (width : ℕ) → place + length row ≡ width
+    → pixels_from place before width (changes_from place before row) ≡ row
 pixels_from-changes_from place before [] width e = let none : width - place ≡ 0 = omega arith in rw none refl
-pixels_from-changes_from place true (true ∷ row) width e = goes_on place true row width e (pixels_from-changes_from (suc place) true row width (omega arith))
-pixels_from-changes_from place false (false ∷ row) width e = goes_on place false row width e (pixels_from-changes_from (suc place) false row width (omega arith))
-pixels_from-changes_from place true (false ∷ row) width e = let none : place - place ≡ 0 = omega arith in rw none (goes_on place false row width e (pixels_from-changes_from (suc place) false row width (omega arith)))
-pixels_from-changes_from place false (true ∷ row) width e = let none : place - place ≡ 0 = omega arith in rw none (goes_on place true row width e (pixels_from-changes_from (suc place) true row width (omega arith)))
+pixels_from-changes_from place true (true ∷ row) width e =
+    goes_on place true row width e (pixels_from-changes_from (suc place) true row width (omega arith))
+pixels_from-changes_from place false (false ∷ row) width e =
+    goes_on place false row width e (pixels_from-changes_from (suc place) false row width (omega arith))
+pixels_from-changes_from place true (false ∷ row) width e =
+    let none : place - place ≡ 0 = omega arith in
+    rw none (goes_on place false row width e (pixels_from-changes_from (suc place) false row width (omega arith)))
+pixels_from-changes_from place false (true ∷ row) width e =
+    let none : place - place ≡ 0 = omega arith in
+    rw none (goes_on place true row width e (pixels_from-changes_from (suc place) true row width (omega arith)))
 
 -- the pixels of a row's changes are the row
 pub pixels-changes : (row : Row) → pixels (length row) (changes row) ≡ row
@@ -250,11 +276,14 @@ AreChanges-changes row = rw (changes-recursive row) (AscendFrom-changes_from 0 f
 -- ---- What a context does to them.
 
 -- a front that isn't full, continued in its last colour, has no more changes
-pub continued-pixels : (columns width : ℕ) (places : List ℕ) → width ≤ columns → AreChanges width places → continued columns (pixels width places) ≡ pixels columns places
+pub continued-pixels : (columns width : ℕ) (places : List ℕ) → width ≤ columns → AreChanges width places
+    → continued columns (pixels width places) ≡ pixels columns places
 continued-pixels columns width places within ascend =
     let e : columns ≡ width + (columns - width) = omega arith in
     rw (length-pixels width places ascend) (sym (pixels-same width (columns - width) places ascend) ∙ ap (λ (n : ℕ). pixels n places) (sym e))
 
-pub changes-continued : (columns width : ℕ) (places : List ℕ) → width ≤ columns → AreChanges width places → changes (continued columns (pixels width places)) ≡ places
+-- so a context hands over the changes that it stored
+pub changes-continued : (columns width : ℕ) (places : List ℕ) → width ≤ columns → AreChanges width places
+    → changes (continued columns (pixels width places)) ≡ places
 changes-continued columns width places within ascend =
     ap changes (continued-pixels columns width places within ascend) ∙ changes-pixels columns places (AreChanges-wider width columns places within ascend)

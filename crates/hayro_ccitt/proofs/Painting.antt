@@ -35,7 +35,8 @@ pub last_pixel-agrees : (painted : ℕ) (places : List ℕ) (color : Color) (eve
     → (IsTrue even → length places % 2 ≡ 0) × (length places % 2 ≡ 0 → IsTrue even) → (IsTrue white → color ≡ White) × (color ≡ White → IsTrue white)
     → not (beq even white) ≡ false → last_pixel false (pixels painted places) ≡ is_black color
 last_pixel-agrees painted places color even white ascend is_even is_white agree =
-    last_pixel-odd painted places ascend ∙ ap not (sym (even_is even (length places) is_even)) ∙ by even white agree ∙ sym (is_black-not_white white color is_white)
+    last_pixel-odd painted places ascend ∙ ap not (sym (even_is even (length places) is_even))
+    ∙ by even white agree ∙ sym (is_black-not_white white color is_white)
   where
     by : (x y : Bool) → not (beq x y) ≡ false → not x ≡ not y
     by true true e = refl
@@ -48,7 +49,8 @@ pub last_pixel-differs : (painted : ℕ) (places : List ℕ) (color : Color) (ev
     → (IsTrue even → length places % 2 ≡ 0) × (length places % 2 ≡ 0 → IsTrue even) → (IsTrue white → color ≡ White) × (color ≡ White → IsTrue white)
     → not (beq even white) ≡ true → not (last_pixel false (pixels painted places)) ≡ is_black color
 last_pixel-differs painted places color even white ascend is_even is_white differ =
-    ap not (last_pixel-odd painted places ascend ∙ ap not (sym (even_is even (length places) is_even))) ∙ by even white differ ∙ sym (is_black-not_white white color is_white)
+    ap not (last_pixel-odd painted places ascend ∙ ap not (sym (even_is even (length places) is_even)))
+    ∙ by even white differ ∙ sym (is_black-not_white white color is_white)
   where
     by : (x y : Bool) → not (beq x y) ≡ true → not (not x) ≡ not y
     by true true e = absurd (false≢true e)
@@ -66,11 +68,14 @@ other_color false false e same = false≢true (sym e)
 -- ---- Painting into a row.
 
 -- where the row isn't strict, or has room, nothing is a wrong code
-pub paint-fits : (strict : Bool) (columns width : ℕ) (places : List ℕ) (color : Color) (n : ℕ) → AreChanges width places → (strict ≡ false) ⊎ (n ≤ columns - width)
+pub paint-fits : (strict : Bool) (columns width : ℕ) (places : List ℕ) (color : Color) (n : ℕ) → AreChanges width places
+    → (strict ≡ false) ⊎ (n ≤ columns - width)
     → paint strict columns (pixels width places) color n ≡ Ok (pixels width places ++ replicate (min n (columns - width)) (is_black color))
 paint-fits false columns width places color n ascend fits = rw (length-pixels width places ascend) refl
 paint-fits true columns width places color n ascend (inl lenient) = absurd (false≢true (sym lenient))
-paint-fits true columns width places color n ascend (inr room) = let e : ltb (columns - width) n ≡ false = le-ltb _ _ room in rw (length-pixels width places ascend, e) refl
+paint-fits true columns width places color n ascend (inr room) =
+    let e : ltb (columns - width) n ≡ false = le-ltb _ _ room in
+    rw (length-pixels width places ascend, e) refl
 
 -- a strict row without room is a wrong code
 pub paint-strict : (strict : Bool) (columns width : ℕ) (places : List ℕ) (color : Color) (n : ℕ) → AreChanges width places → strict ≡ true → columns - width < n
@@ -80,8 +85,10 @@ paint-strict strict columns width places color n ascend is_strict many =
     rw (is_strict, length-pixels width places ascend, e) refl
 
 -- pixels of the other colour that a row has room for store a change
-pub StoresChange-painted : (held : Held) (count more : ℕ) → paint held.settings.strict held.settings.columns held.front held.color count ≡ Ok (held.front ++ replicate more (is_black held.color))
+pub StoresChange-painted : (held : Held) (count more : ℕ)
+    → paint held.settings.strict held.settings.columns held.front held.color count ≡ Ok (held.front ++ replicate more (is_black held.color))
     → 0 < more → last_pixel false held.front ≢ is_black held.color → StoresChange held count
 StoresChange-painted held count more painted some differs =
-    let len : length (held.front ++ replicate more (is_black held.color)) ≡ length held.front + more = omega (arith, length-append held.front (replicate more (is_black held.color)), length-replicate more (is_black held.color)) in
-    (held.front ++ replicate more (is_black held.color), painted, omega arith, differs)
+    let color = is_black held.color in
+    let longer = length-append held.front (replicate more (is_black held.color)) in
+    (held.front ++ replicate more color, painted, omega (arith, longer, length-replicate more (is_black held.color)), differs)

@@ -10,7 +10,8 @@ returns-in_err-push-clause-memory c =
     let a = c.args in
     let len : c.len.result ≡ length a.changes.now.items = omega (arith, c.len.ensures, a.changes.now.ok.0) in
     let even = rw len at c.is_multiple_of-last_is_white.ensures in
-    λ e. (c.if-count-gt0.true, other_color _ _ (last_pixel-differs a.painted a.changes.now.items a.color _ _ c.requires even c.is_white.ensures c.if-last_is_white-is_white.true))
+    let differs = last_pixel-differs a.painted a.changes.now.items a.color _ _ c.requires even c.is_white.ensures c.if-last_is_white-is_white.true in
+    λ e. (c.if-count-gt0.true, other_color _ _ differs)
 
 pub returns-in_ok-push-clause-lawful : goal.returns-in_ok-push-clause-lawful
 returns-in_ok-push-clause-lawful c =

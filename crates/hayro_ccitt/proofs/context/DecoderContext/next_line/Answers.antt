@@ -18,8 +18,10 @@ invariant_of-self g c = record {
 
 pub returns-clause-taken : goal.returns-clause-taken
 returns-clause-taken g c =
-    rw (← c.self.view_is, changes-continued _ c.self.inside.pixels_decoded _ c.self.invariant.within c.self.invariant.front, ← c.as_slice.ensures.value) c.in_ok-push_row.ensures.taken
+    let drawn = changes-continued _ c.self.inside.pixels_decoded _ c.self.invariant.within c.self.invariant.front in
+    rw (← c.self.view_is, drawn, ← c.as_slice.ensures.value) c.in_ok-push_row.ensures.taken
 
 pub returns-clause-moved : goal.returns-clause-moved
 returns-clause-moved g c =
-    rw (← c.self.view_is, c.swap.ensures.x_after, c.clear.ensures.items, continued-pixels _ c.self.inside.pixels_decoded _ c.self.invariant.within c.self.invariant.front) refl
+    let drawn = continued-pixels _ c.self.inside.pixels_decoded _ c.self.invariant.within c.self.invariant.front in
+    rw (← c.self.view_is, c.swap.ensures.x_after, c.clear.ensures.items, drawn) refl
