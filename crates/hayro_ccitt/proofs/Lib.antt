@@ -4,6 +4,7 @@ pub mod BitLists
 pub mod BitPlaces
 pub mod BodiesT4
 pub mod ByEols
+pub mod ChangesAndPixels
 pub mod Damage
 pub mod DrawnLines
 pub mod Follows
@@ -13,6 +14,7 @@ pub mod Leaves
 pub mod Limits
 pub mod Local
 pub mod Moves
+pub mod Painting
 pub mod Past
 pub mod PicturesOfLines
 pub mod PicturesT4

@@ -8,7 +8,7 @@ use Rattle.hayro_ccitt.specs.Bits.{Bits, bits_of}
 use Rattle.hayro_ccitt.specs.CodeLists.{Code, mode_codes}
 use Rattle.hayro_ccitt.specs.CodeReading.{Has}
 use Rattle.hayro_ccitt.specs.Runs.{codes_of}
-use Rattle.hayro_ccitt.specs.Rows.{Row}
+use Rattle.hayro_ccitt.specs.Rows.{Row, AreChanges, pixels, changes}
 use Rattle.hayro_ccitt.specs.Lines.{Line, line_1d}
 use Rattle.hayro_ccitt.specs.EndOfLine.{after_eol, eols}
 use Rattle.hayro_ccitt.specs.Encodings.{Kind, EncodesRows, IsPicture, EncodesRowsWithEols, ClosesWithEols, PictureT6, PictureT4}
@@ -124,3 +124,13 @@ OnePictureT6 = (columns : ℕ) (aligned : Bool) (rows others : List Row) (bits m
 
 abbrev pub OnePictureT4 : Type 0
 OnePictureT4 = (kind : Kind) (columns : ℕ) (rows others : List Row) (bits more : Bits) → columns < 2 ^ 32 → kind ≢ Kind.group4 → PictureT4 kind columns rows bits → PictureT4 kind columns others (bits ++ more) → rows ≡ others
+
+-- ---- rows and their changes
+
+-- a lawful list of changes is a row of the width, and that row's changes
+abbrev pub RowsOfChanges : Type 0
+RowsOfChanges = (width : ℕ) (places : List ℕ) → AreChanges width places → (length (pixels width places) ≡ width) × (changes (pixels width places) ≡ places)
+
+-- the changes of a row are lawful, and stand for the row
+abbrev pub ChangesOfRows : Type 0
+ChangesOfRows = (row : Row) → AreChanges (length row) (changes row) × (pixels (length row) (changes row) ≡ row)

@@ -3,7 +3,7 @@
 ghost use Rattle.std.specs.Prelude.{IsTrue};
 ghost use Rattle.hayro_ccitt.specs.CodeLists.{white_codes, black_codes, mode_codes};
 ghost use Rattle.hayro_ccitt.specs.CodeReading.{is_prefix_free};
-ghost use Rattle.hayro_ccitt.specs.Laws.{Synchronised, StrictThenLenient, RowLimit, ReadsPictureT6, ReadsLimitedRowsT6, ReadsPictureT4, ReadsLimitedPictureT4, ReadsLimitedRowsT4, AfterEofb, OnePictureT6, OnePictureT4};
+ghost use Rattle.hayro_ccitt.specs.Laws.{Synchronised, StrictThenLenient, RowLimit, ReadsPictureT6, ReadsLimitedRowsT6, ReadsPictureT4, ReadsLimitedPictureT4, ReadsLimitedRowsT4, AfterEofb, OnePictureT6, OnePictureT4, RowsOfChanges, ChangesOfRows};
 ghost use Rattle.hayro_ccitt.specs.Locality.{LinesByEols, StartsAre, Locality, LocalByTests};
 
 /// No code word is a front of another one of its list.
@@ -58,4 +58,10 @@ pub fn lines_by_eols()
 pub fn locality()
     ensures one_row { Locality }
     ensures tests { LocalByTests }
+{}
+
+/// Lawful lists of changes and rows of pixels correspond one to one (T.4 section 4.2.1.1).
+pub fn changes_are_rows()
+    ensures pixels { RowsOfChanges }
+    ensures changes { ChangesOfRows }
 {}
