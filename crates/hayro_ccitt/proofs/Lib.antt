@@ -23,9 +23,13 @@ pub mod ReadLines
 pub mod ReadRuns
 pub mod Repeated
 pub mod RowChanges
+pub mod ScanWords
 pub mod Starts
 pub mod Strictness
+pub mod TablesAgree
 pub mod Tails
 pub mod Tests
+pub mod TickTurns
 pub mod Turns
+pub mod ZeroRuns
 pub mod ZerosInWords
