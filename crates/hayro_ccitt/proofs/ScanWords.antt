@@ -78,6 +78,15 @@ abbrev pub first_some : {X : Type 0} → Option X → Option X → Option X
 first_some (Some x) o = Some x
 first_some None o = o
 
+pub first_of_three : {X : Type 0} (w y z : Option X) (x : X) → w ≡ Some x → first_some (first_some w y) z ≡ Some x
+first_of_three w y z x e = rw e refl
+
+pub second_of_three : {X : Type 0} (w y z : Option X) (x : X) → w ≡ None → y ≡ Some x → first_some (first_some w y) z ≡ Some x
+second_of_three w y z x e h = rw (e, h) refl
+
+pub third_of_three : {X : Type 0} (w y z : Option X) → w ≡ None → y ≡ None → first_some (first_some w y) z ≡ z
+third_of_three w y z e h = rw (e, h) refl
+
 or_assoc : (a b c : Bool) → (a || (b || c)) ≡ ((a || b) || c)
 or_assoc true b c = refl
 or_assoc false b c = refl

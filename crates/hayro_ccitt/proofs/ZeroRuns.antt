@@ -1,5 +1,5 @@
 -- Zeros and EOLs that are counted a bit and an EOL at a time.
-use Rattle.std.proofs.Common.{◌≡◌, ℕ, zero, suc, ◌+◌, ◌-◌, ◌<◌, ◌≤◌, Bool, true, false, cond, leb, eqb, List, [], ◌∷◌, ◌++◌, length, replicate, Option, Some, None, refl, sym, ap, ◌∙◌, arith, inl, inr}
+use Rattle.std.proofs.Common.{◌≡◌, ℕ, zero, suc, ◌+◌, ◌-◌, ◌<◌, ◌≤◌, Bool, true, false, cond, leb, eqb, List, [], ◌∷◌, ◌++◌, length, replicate, Option, Some, None, refl, sym, ap, ◌∙◌, subst, arith, inl, inr}
 use Rattle.std.specs.Prelude.{slice_get}
 use Rattle.std.proofs.lemmas.Bool.{eqb-true}
 use Rattle.std.proofs.lemmas.List.{length-append, length-replicate, length-drop}
@@ -62,11 +62,11 @@ eols_ended max count start now e h = let m : count + 0 ≡ count = omega arith i
 -- an EOL takes a bit
 pub eols_fewer : (most : ℕ) (here : Bits) → (eols most here).0 + length (eols most here).1 ≤ length here
 eols_fewer zero here = omega arith
-eols_fewer (suc most) here = by (after_eol 0 here) refl
+eols_fewer (suc most) here = by (λ rest. eols_fewer most rest) (after_eol 0 here) refl
   where
-    by : (o : Option Bits) → after_eol 0 here ≡ o → (eols (suc most) here).0 + length (eols (suc most) here).1 ≤ length here
-    by None e = rw (e, eols) (omega arith)
-    by (Some rest) e = rw (e, eols) (omega (arith, length-one_more (eols most rest), one_more-count (eols most rest), eols_fewer most rest, after_eol_shorter 0 here rest e))
+    by : ((rest : Bits) → (eols most rest).0 + length (eols most rest).1 ≤ length rest) → (o : Option Bits) → after_eol 0 here ≡ o → (eols (suc most) here).0 + length (eols (suc most) here).1 ≤ length here
+    by on None e = rw (e, eols) (omega arith)
+    by on (Some rest) e = rw (e, eols) (omega (arith, length-one_more (eols most rest), one_more-count (eols most rest), on rest, after_eol_shorter 0 here rest e))
 
 -- at the end no bit is looked at
 pub looked-none : (here : Bits) → length here ≡ 0 → looked here ≡ 0
@@ -80,7 +80,7 @@ eols_look_on here rest count e = by (eqb count (length here)) refl
     by : (b : Bool) → eqb count (length here) ≡ b → cond b 0 (looked rest) ≡ looked rest
     by false h = refl
     by true h =
-        let counts : count + length rest ≤ length here = rw e at eols_fewer (length here) here in
+        let counts : count + length rest ≤ length here = subst (λ (found : ℕ × Bits). found.0 + length found.1 ≤ length here) e (eols_fewer (length here) here) in
         sym (looked-none rest (omega (arith, counts, eqb-true count (length here) h)))
 
 -- ---- A bit read.

@@ -1,4 +1,7 @@
 use Rattle.hayro_ccitt.proofs.codes.is_cut_run_word.Goals as goal
 
-pub returns : goal.returns
-returns c = ?
+pub returns-then-is_cut_word-2 : goal.returns-then-is_cut_word-2
+returns-then-is_cut_word-2 c = ?
+
+pub returns-else-is_cut_word-2 : goal.returns-else-is_cut_word-2
+returns-else-is_cut_word-2 c = ?

@@ -1,4 +1,5 @@
-use Rattle.std.proofs.Common.{◌≡◌, ℕ, suc, ◌+◌, ◌∷◌, ◌++◌, length, replicate, true, false, sym, ap, ◌∙◌, arith}
+use Rattle.std.proofs.Common.{◌≡◌, ℕ, suc, ◌+◌, ◌∷◌, ◌++◌, length, replicate, true, false, refl, sym, ap, ◌∙◌, arith}
+use Rattle.std.proofs.lemmas.List.{append-nil, drop_all}
 use Rattle.hayro_ccitt.specs.Bits.{Bits, here}
 use Rattle.hayro_ccitt.specs.CodeReading.{leading_zeros}
 use Rattle.hayro_ccitt.specs.Ticks.{looked}
@@ -21,7 +22,10 @@ bits-preserved c =
     ap (λ (k : ℕ). after_eol k rest) more ∙ sym (ap (after_eol c.bits.zeros) next) ∙ c.bits.invariant.3)
 
 pub returns-in-Ok-clause-zeros : goal.returns-in-Ok-clause-zeros
-returns-in-Ok-clause-zeros c = ?
+returns-in-Ok-clause-zeros c =
+    let one : c.in-Ok.field-0 ≡ 1 = omega (arith, c.in-Ok.ensures.bit.0, c.in-Ok.field-0-test.1) in
+    let next = here_next c.bits.reader c.read_bit.new.self true (rw one at c.in-Ok.ensures.bit.1) c.in-Ok.ensures.next in
+    sym (ap leading_zeros (c.bits.invariant.1 ∙ ap (λ (x : Bits). replicate c.bits.zeros false ++ x) next) ∙ leading_zeros-one c.bits.zeros (here c.read_bit.new.self))
 
 pub returns-in-Ok-clause-one : goal.returns-in-Ok-clause-one
 returns-in-Ok-clause-one c =
@@ -42,4 +46,7 @@ returns-in-Ok-clause-ticks c =
     omega (arith, c.bits.invariant.2, ap looked next, c.tick-in-Ok.ensures)
 
 pub returns-in-Err-clause-zeros : goal.returns-in-Err-clause-zeros
-returns-in-Err-clause-zeros c = let e = c.in-Err.ensures.end in ?
+returns-in-Err-clause-zeros c =
+    let none = drop_all c.bits.reader.place c.bits.reader.bits (c.in-Err.ensures.end.0 refl) in
+    let all = c.bits.invariant.1 ∙ ap (λ (x : Bits). replicate c.bits.zeros false ++ x) none ∙ append-nil (replicate c.bits.zeros false) in
+    sym (ap leading_zeros all ∙ leading_zeros-replicate c.bits.zeros)
