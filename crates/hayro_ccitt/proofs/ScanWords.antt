@@ -116,3 +116,17 @@ pub is_cut_three : {V : Type 0} (a b c : List (V × ℕ × ℕ)) (h : Bits) → 
 is_cut_three a b c h =
     let split : numbered (a ++ b ++ c) ≡ numbered a ++ numbered b ++ numbered c = simp map-append in
     rw (split, is_cut-append (numbered a ++ numbered b) (numbered c) h, is_cut-append (numbered a) (numbered b) h) refl
+
+-- a test of three, by the first two and the third
+pub or_three_left : (a b c t : Bool) → t ≡ true → t ≡ (a || b) → t ≡ ((a || b) || c)
+or_three_left a b c t e h = rw (← h, e) refl
+
+pub or_three_right : (a b c t : Bool) → t ≡ false → t ≡ (a || b) → c ≡ ((a || b) || c)
+or_three_right a b c t e h = rw (← h, e) refl
+
+-- a test of two, by the one that decides
+pub or_left : (a b t : Bool) → a ≡ true → t ≡ a → t ≡ (a || b)
+or_left a b t e h = rw (h, e) refl
+
+pub or_right : (a b t : Bool) → a ≡ false → t ≡ b → t ≡ (a || b)
+or_right a b t e h = rw (h, e) refl
