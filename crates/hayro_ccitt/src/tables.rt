@@ -230,8 +230,7 @@ pub const COMMON_MAKEUP: [(u16, u8, u16); 13] = [
 pub fn arrays_are_the_lists()
     ensures white { numbered (WHITE_TERMINATING ++ WHITE_MAKEUP ++ COMMON_MAKEUP) ≡ white_codes }
     ensures black { numbered (BLACK_TERMINATING ++ BLACK_MAKEUP ++ COMMON_MAKEUP) ≡ black_codes }
-{
-}
+{}
 
 /// What run codes are read by. Its fields are for the look-ups of whole words to come; until then the arrays are
 /// scanned and it holds nothing.

@@ -18,6 +18,8 @@ loop-value-preserved g c =
     let e = c.loop-value-item.result in
     let i = c.loop-value._value-index in
     let list = c.args.list.now in
-    let on = drop_more list i e c.loop-value-test.true ∙ ap (λ x. x ∷ drop (i + 1) list) (sym c.loop-value-item.is) in
-    (c.loop-value.invariant.0, c.loop-value.invariant.1 ∙ is_cut_on (here c.args.reader.now) (drop i list) (drop (i + 1) list) e on
-    (λ k. c.if-from-left.false (c.from.ensures ∙ c.agreement.ensures ∙ k ∙ sym c.loop-value.invariant.0)))
+    let on = drop_more list i e c.loop-value-test.true ∙ ap (λ x. x ∷ drop (i + 1) list) (sym c.loop-value-item.is) in (
+      c.loop-value.invariant.0,
+      c.loop-value.invariant.1 ∙ is_cut_on (here c.args.reader.now) (drop i list) (drop (i + 1) list) e on
+          (λ k. c.if-from-left.false (c.from.ensures ∙ c.agreement.ensures ∙ k ∙ sym c.loop-value.invariant.0)),
+    )

@@ -24,6 +24,8 @@ words-preserved c =
     let sum = added c.checked_add.result (c.words.total + c.from.result < 4294967296) (c.words.total + c.from.result) c.in_ok-total.total c.checked_add.ensures c.in_ok-total.ensures.ok_part in
     let total : c.words.total + run ≡ c.in_ok-total.total = omega (arith, sum.0, sum.1) in
     let on = run_goes_on color c.words.total run old new c.in_ok-run.ensures.word (omega (arith, sum.0)) c.if-run-lt64.false in
-    let found_on = run_found_on color c.words.total run old new c.in_ok-run.ensures.word (omega (arith, sum.0)) c.if-run-lt64.false in
-    (c.words.invariant.0 ∙ on ∙ ap (λ (n : ℕ). run_from color (n, new)) total, c.decode_word.ensures.same ∙ c.words.invariant.1,
-    omega (arith, c.words.invariant.2, c.tick.ensures, found_on, ap (λ (n : ℕ). length (run_found color (n, new))) total))
+    let found_on = run_found_on color c.words.total run old new c.in_ok-run.ensures.word (omega (arith, sum.0)) c.if-run-lt64.false in (
+      c.words.invariant.0 ∙ on ∙ ap (λ (n : ℕ). run_from color (n, new)) total,
+      c.decode_word.ensures.same ∙ c.words.invariant.1,
+      omega (arith, c.words.invariant.2, c.tick.ensures, found_on, ap (λ (n : ℕ). length (run_found color (n, new))) total),
+    )

@@ -16,10 +16,12 @@ pub bits-preserved : goal.bits-preserved
 bits-preserved c =
     let rest = here c.read_bit.new.self in
     let next = here_next c.bits.reader c.read_bit.new.self false (rw c.in-Ok-eq0.field-0-test at c.in-Ok-eq0.ensures.bit.1) c.in-Ok-eq0.ensures.next in
-    let more : c.bits.zeros + 1 ≡ suc c.bits.zeros = omega arith in
-    (rw c.in-Ok-eq0.ensures.next c.bits.invariant.0, c.bits.invariant.1 ∙ ap (λ (x : Bits). replicate c.bits.zeros false ++ x) next ∙ zeros_more c.bits.zeros rest,
-    omega (arith, c.bits.invariant.2, ap looked next, c.tick.ensures),
-    ap (λ (k : ℕ). after_eol k rest) more ∙ sym (ap (after_eol c.bits.zeros) next) ∙ c.bits.invariant.3)
+    let more : c.bits.zeros + 1 ≡ suc c.bits.zeros = omega arith in (
+      rw c.in-Ok-eq0.ensures.next c.bits.invariant.0,
+      c.bits.invariant.1 ∙ ap (λ (x : Bits). replicate c.bits.zeros false ++ x) next ∙ zeros_more c.bits.zeros rest,
+      omega (arith, c.bits.invariant.2, ap looked next, c.tick.ensures),
+      ap (λ (k : ℕ). after_eol k rest) more ∙ sym (ap (after_eol c.bits.zeros) next) ∙ c.bits.invariant.3,
+    )
 
 pub returns-in-Ok-clause-zeros : goal.returns-in-Ok-clause-zeros
 returns-in-Ok-clause-zeros c =
