@@ -10,7 +10,7 @@ eols-preserved c =
     let now = here c.eols.self in
     let after = here c.in-Some.after in
     let one = rw c.in-Some.is at c.zero_run-zeros.ensures.one in
-    let eol : after_eol 0 now ≡ Some after = (rw c.in-Some.is at c.zero_run-zeros.ensures.eol) ∙ rw (le-leb 11 c.zero_run-zeros.result.0 c.if-zeros-ge11.true) refl in (
+    let eol : after_eol 0 now ≡ Some after = (rw c.in-Some.is at c.zero_run-zeros.ensures.eol) ∙ rw (le-leb 11 c.zero_run-zeros.result.0 (omega arith)) refl in (
       one.0 ∙ c.eols.invariant.0,
       omega (arith, c.eols-test.true),
       eols_stepped c.args.max c.eols.count (here c.args.self.now) now after c.eols.invariant.2 eol c.eols-test.true,
