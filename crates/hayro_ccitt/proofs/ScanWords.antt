@@ -1,5 +1,6 @@
 -- Comparing the words of a list with the bits here, a bit at a time and a word at a time.
-use Rattle.std.proofs.Common.{◌≡◌, ℕ, suc, ◌+◌, ◌-◌, ◌/◌, ◌^◌, ◌<◌, ◌≤◌, ◌≢◌, Bool, true, false, not, ◌||◌, eqb, List, [], ◌∷◌, ◌++◌, length, drop, Option, Some, None, Ok, Err, bit_and, refl, sym, ◌∙◌, arith}
+use Rattle.std.proofs.Common.{◌≡◌, ℕ, suc, ◌+◌, ◌-◌, ◌/◌, ◌^◌, ◌<◌, ◌≤◌, ◌≢◌, Bool, true, false, not, ◌||◌, eqb, List, [], ◌∷◌, ◌++◌, length, drop}
+use Rattle.std.proofs.Common.{Option, Some, None, Ok, Err, bit_and, refl, sym, ◌∙◌, arith}
 use Rattle.std.specs.Prelude.{slice_get, option_map}
 use mathlib.Core.Bool.{beq}
 use Rattle.std.proofs.lemmas.Bool.{not-true, not-false}
@@ -29,16 +30,19 @@ module _ (bits : Bits) (at width word k : ℕ) (within : k < width) where
   agreement_past h = rw (drop_none bits at h, low_bits-suc width k word within) refl
 
   -- another bit ends the agreement
-  pub agreement_differs : (next : Bool) → slice_get bits at ≡ Some next → not (beq next (shifted word (width - 1 - k))) ≡ true → agreement (low_bits (width - k) word) (drop at bits) ≡ 0
+  pub agreement_differs : (next : Bool) → slice_get bits at ≡ Some next → not (beq next (shifted word (width - 1 - k))) ≡ true
+      → agreement (low_bits (width - k) word) (drop at bits) ≡ 0
   agreement_differs next h differs =
-      let apart : beq (bit_of word (width - 1 - k)) next ≡ false = beq_turned (bit_of word (width - 1 - k)) next ∙ not-true _ (rw (shr_and_one word (width - 1 - k)) at differs) in
+      let apart : beq (bit_of word (width - 1 - k)) next ≡ false
+      = beq_turned (bit_of word (width - 1 - k)) next ∙ not-true _ (rw (shr_and_one word (width - 1 - k)) at differs) in
       rw (drop_some bits at next h, low_bits-suc width k word within, agreement, apart) refl
 
   -- an equal bit is one more that agrees
   pub agreement_goes_on : (next : Bool) → slice_get bits at ≡ Some next → not (beq next (shifted word (width - 1 - k))) ≡ false
       → agreement (low_bits (width - k) word) (drop at bits) ≡ suc (agreement (low_bits (width - (k + 1)) word) (drop (at + 1) bits))
   agreement_goes_on next h same =
-      let one : beq (bit_of word (width - 1 - k)) next ≡ true = beq_turned (bit_of word (width - 1 - k)) next ∙ not-false _ (rw (shr_and_one word (width - 1 - k)) at same) in
+      let one : beq (bit_of word (width - 1 - k)) next ≡ true
+      = beq_turned (bit_of word (width - 1 - k)) next ∙ not-false _ (rw (shr_and_one word (width - 1 - k)) at same) in
       rw (drop_some bits at next h, low_bits-suc width k word within, agreement, one) refl
 
 -- ---- One word more of a list, which goes on at an entry.
@@ -96,7 +100,8 @@ pub word_at-append : {V : Type 0} (xs ys : List (Code V)) (h : Bits) → word_at
 word_at-append [] ys h = refl
 word_at-append {V} (c ∷ xs) ys h = by (word_at-append xs ys h) (after c.word h) refl
   where
-    by : word_at (xs ++ ys) h ≡ first_some (word_at xs h) (word_at ys h) → (o : Option Bits) → after c.word h ≡ o → word_at (c ∷ (xs ++ ys)) h ≡ first_some (word_at (c ∷ xs) h) (word_at ys h)
+    by : word_at (xs ++ ys) h ≡ first_some (word_at xs h) (word_at ys h) → (o : Option Bits) → after c.word h ≡ o
+        → word_at (c ∷ (xs ++ ys)) h ≡ first_some (word_at (c ∷ xs) h) (word_at ys h)
     by on (Some rest) a = rw (a, word_at) refl
     by on None a = rw (a, word_at) on
 
@@ -106,13 +111,15 @@ is_cut-append [] ys h = refl
 is_cut-append (c ∷ xs) ys h = rw (is_cut-append xs ys h) (or_assoc (is_front h c.word) (is_cut xs h) (is_cut ys h))
 
 -- a word of three lists is of the first that has one here
-pub word_at_three : {V : Type 0} (a b c : List (V × ℕ × ℕ)) (h : Bits) → word_at (numbered (a ++ b ++ c)) h ≡ first_some (first_some (word_at (numbered a) h) (word_at (numbered b) h)) (word_at (numbered c) h)
+pub word_at_three : {V : Type 0} (a b c : List (V × ℕ × ℕ)) (h : Bits)
+    → word_at (numbered (a ++ b ++ c)) h ≡ first_some (first_some (word_at (numbered a) h) (word_at (numbered b) h)) (word_at (numbered c) h)
 word_at_three a b c h =
     let split : numbered (a ++ b ++ c) ≡ numbered a ++ numbered b ++ numbered c = simp map-append in
     rw (split, word_at-append (numbered a ++ numbered b) (numbered c) h, word_at-append (numbered a) (numbered b) h) refl
 
 -- the same of a front
-pub is_cut_three : {V : Type 0} (a b c : List (V × ℕ × ℕ)) (h : Bits) → is_cut (numbered (a ++ b ++ c)) h ≡ ((is_cut (numbered a) h || is_cut (numbered b) h) || is_cut (numbered c) h)
+pub is_cut_three : {V : Type 0} (a b c : List (V × ℕ × ℕ)) (h : Bits)
+    → is_cut (numbered (a ++ b ++ c)) h ≡ ((is_cut (numbered a) h || is_cut (numbered b) h) || is_cut (numbered c) h)
 is_cut_three a b c h =
     let split : numbered (a ++ b ++ c) ≡ numbered a ++ numbered b ++ numbered c = simp map-append in
     rw (split, is_cut-append (numbered a ++ numbered b) (numbered c) h, is_cut-append (numbered a) (numbered b) h) refl

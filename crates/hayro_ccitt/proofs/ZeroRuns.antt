@@ -1,5 +1,6 @@
 -- Zeros and EOLs that are counted a bit and an EOL at a time.
-use Rattle.std.proofs.Common.{◌≡◌, ℕ, zero, suc, ◌+◌, ◌-◌, ◌<◌, ◌≤◌, Bool, true, false, cond, leb, eqb, List, [], ◌∷◌, ◌++◌, length, replicate, Option, Some, None, refl, sym, ap, ◌∙◌, subst, arith, inl, inr}
+use Rattle.std.proofs.Common.{◌≡◌, ℕ, zero, suc, ◌+◌, ◌-◌, ◌<◌, ◌≤◌, Bool, true, false, cond, leb, eqb, List, [], ◌∷◌, ◌++◌, length, replicate, Option}
+use Rattle.std.proofs.Common.{Some, None, refl, sym, ap, ◌∙◌, subst, arith, inl, inr}
 use Rattle.std.specs.Prelude.{slice_get}
 use Rattle.std.proofs.lemmas.Bool.{eqb-true}
 use Rattle.std.proofs.lemmas.List.{length-append, length-replicate, length-drop}
@@ -36,7 +37,8 @@ looked_eol seen (true ∷ here) after e = elim (chosen (leb 11 seen) _ _ _ e) [
 ]
 
 -- the first of some EOLs
-pub eols_one : (most : ℕ) (here after : Bits) → after_eol 0 here ≡ Some after → 0 < most → eols most here ≡ (suc (eols (most - 1) after).0, (eols (most - 1) after).1)
+pub eols_one : (most : ℕ) (here after : Bits) → after_eol 0 here ≡ Some after → 0 < most
+    → eols most here ≡ (suc (eols (most - 1) after).0, (eols (most - 1) after).1)
 eols_one zero here after e lt = absurd (omega arith)
 eols_one (suc most) here after e lt =
     let n : suc most - 1 ≡ most = omega arith in
@@ -46,7 +48,8 @@ eols_one (suc most) here after e lt =
     by (count, rest) = refl
 
 -- an EOL more, and those after it
-pub eols_stepped : (max count : ℕ) (start now after : Bits) → eols max start ≡ (count + (eols (max - count) now).0, (eols (max - count) now).1) → after_eol 0 now ≡ Some after → count < max
+pub eols_stepped : (max count : ℕ) (start now after : Bits) → eols max start ≡ (count + (eols (max - count) now).0, (eols (max - count) now).1)
+    → after_eol 0 now ≡ Some after → count < max
     → eols max start ≡ (count + 1 + (eols (max - (count + 1)) after).0, (eols (max - (count + 1)) after).1)
 eols_stepped max count start now after e h lt =
     let one = eols_one (max - count) now after h (omega arith) in
@@ -56,7 +59,8 @@ eols_stepped max count start now after e h lt =
     e ∙ rw f (ap (λ (k : ℕ). (k, (eols (max - (count + 1)) after).1)) m)
 
 -- no EOL more
-pub eols_ended : (max count : ℕ) (start now : Bits) → eols max start ≡ (count + (eols (max - count) now).0, (eols (max - count) now).1) → after_eol 0 now ≡ None → eols max start ≡ (count, now)
+pub eols_ended : (max count : ℕ) (start now : Bits) → eols max start ≡ (count + (eols (max - count) now).0, (eols (max - count) now).1)
+    → after_eol 0 now ≡ None → eols max start ≡ (count, now)
 eols_ended max count start now e h = let m : count + 0 ≡ count = omega arith in e ∙ rw (eols-none (max - count) now h) (ap (λ (k : ℕ). (k, now)) m)
 
 -- an EOL takes a bit
@@ -64,7 +68,8 @@ pub eols_fewer : (most : ℕ) (here : Bits) → (eols most here).0 + length (eol
 eols_fewer zero here = omega arith
 eols_fewer (suc most) here = by (λ rest. eols_fewer most rest) (after_eol 0 here) refl
   where
-    by : ((rest : Bits) → (eols most rest).0 + length (eols most rest).1 ≤ length rest) → (o : Option Bits) → after_eol 0 here ≡ o → (eols (suc most) here).0 + length (eols (suc most) here).1 ≤ length here
+    by : ((rest : Bits) → (eols most rest).0 + length (eols most rest).1 ≤ length rest) → (o : Option Bits) → after_eol 0 here ≡ o
+        → (eols (suc most) here).0 + length (eols (suc most) here).1 ≤ length here
     by on None e = rw (e, eols) (omega arith)
     by on (Some rest) e = rw (e, eols) (omega (arith, length-one_more (eols most rest), one_more-count (eols most rest), on rest, after_eol_shorter 0 here rest e))
 
@@ -85,7 +90,8 @@ eols_look_on here rest count e = by (eqb count (length here)) refl
 
 -- ---- A bit read.
 -- a bit that stands at the place is the first here
-pub here_next : (old new : BitsAt) (bit : Bool) → slice_get old.bits old.place ≡ Some bit → new ≡ record old { place = old.place + 1 } → here old ≡ bit ∷ here new
+pub here_next : (old new : BitsAt) (bit : Bool) → slice_get old.bits old.place ≡ Some bit → new ≡ record old { place = old.place + 1 }
+    → here old ≡ bit ∷ here new
 here_next old new bit h e = rw e (drop_some old.bits old.place bit h)
 
 -- zeros here are no more than the bits

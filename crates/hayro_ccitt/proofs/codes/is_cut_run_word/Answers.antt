@@ -12,20 +12,23 @@ returns-then-is_cut_word-2 c =
     let h = here c.args.reader.now in
     let a = is_cut (numbered c.args.terminating.now) h in
     let b = is_cut (numbered c.args.makeup.now) h in
+    let d = is_cut (numbered COMMON_MAKEUP) h in
+    let three = sym (is_cut_three c.args.terminating.now c.args.makeup.now COMMON_MAKEUP h) in
     let either : c.if-is_cut_word.value ≡ (a || b) = elim c.if-is_cut_word.branch [
       | then-is_cut_word w ↦ or_left a b c.if-is_cut_word.value (sym c.is_cut_word.ensures ∙ w.if-is_cut_word.true) (w.value-is ∙ c.is_cut_word.ensures)
       | else-is_cut_word w ↦ or_right a b c.if-is_cut_word.value (sym c.is_cut_word.ensures ∙ w.if-is_cut_word.false) (w.value-is ∙ w.is_cut_word-else-is_cut_word.ensures)
     ] in
-    or_three_left a b (is_cut (numbered COMMON_MAKEUP) h) c.if-is_cut_word.value c.if-is_cut_word-2.true either ∙ sym (is_cut_three c.args.terminating.now c.args.makeup.now COMMON_MAKEUP h)
+    or_three_left a b d c.if-is_cut_word.value c.if-is_cut_word-2.true either ∙ three
 
 pub returns-else-is_cut_word-2 : goal.returns-else-is_cut_word-2
 returns-else-is_cut_word-2 c =
     let h = here c.args.reader.now in
     let a = is_cut (numbered c.args.terminating.now) h in
     let b = is_cut (numbered c.args.makeup.now) h in
+    let d = is_cut (numbered COMMON_MAKEUP) h in
+    let three = sym (is_cut_three c.args.terminating.now c.args.makeup.now COMMON_MAKEUP h) in
     let either : c.if-is_cut_word.value ≡ (a || b) = elim c.if-is_cut_word.branch [
       | then-is_cut_word w ↦ or_left a b c.if-is_cut_word.value (sym c.is_cut_word.ensures ∙ w.if-is_cut_word.true) (w.value-is ∙ c.is_cut_word.ensures)
       | else-is_cut_word w ↦ or_right a b c.if-is_cut_word.value (sym c.is_cut_word.ensures ∙ w.if-is_cut_word.false) (w.value-is ∙ w.is_cut_word-else-is_cut_word.ensures)
     ] in
-    c.is_cut_word-else-is_cut_word-2.ensures ∙ or_three_right a b (is_cut (numbered COMMON_MAKEUP) h) c.if-is_cut_word.value c.if-is_cut_word-2.false either
-    ∙ sym (is_cut_three c.args.terminating.now c.args.makeup.now COMMON_MAKEUP h)
+    c.is_cut_word-else-is_cut_word-2.ensures ∙ or_three_right a b d c.if-is_cut_word.value c.if-is_cut_word-2.false either ∙ three

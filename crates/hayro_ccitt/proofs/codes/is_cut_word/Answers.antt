@@ -1,4 +1,4 @@
-use Rattle.std.proofs.Common.{sym, drop, ap, ◌∙◌, ◌+◌, ◌∷◌, arith}
+use Rattle.std.proofs.Common.{sym, drop, ap, ◌∙◌, ◌+◌, ◌∷◌}
 use Rattle.std.proofs.lemmas.List.{drop_more}
 use Rattle.hayro_ccitt.specs.Bits.{here}
 use Rattle.hayro_ccitt.proofs.ScanWords.{is_cut_here, is_cut_on}

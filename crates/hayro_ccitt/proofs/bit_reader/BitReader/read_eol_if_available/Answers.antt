@@ -1,6 +1,5 @@
-use Rattle.std.proofs.Common.{◌≡◌, ℕ, length, arith}
+use Rattle.std.proofs.Common.{arith}
 use Rattle.hayro_ccitt.specs.Bits.{here}
-use Rattle.hayro_ccitt.specs.EndOfLine.{all_eols}
 use Rattle.hayro_ccitt.proofs.ZeroRuns.{eols_look_on}
 use Rattle.hayro_ccitt.proofs.bit_reader.BitReader.read_eol_if_available.Goals as goal
 
