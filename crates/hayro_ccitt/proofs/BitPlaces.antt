@@ -1,6 +1,7 @@
 -- Places among the bits of bytes, and a number that grows by the bits read.
-use Rattle.std.proofs.Common.{◌≡◌, ℕ, zero, suc, ◌+◌, ◌-◌, ◌*◌, ◌/◌, ◌%◌, ◌^◌, ◌<◌, ◌≤◌, ◌⊎◌, inl, inr, Bool, true, false, eqb, leb, List, [], ◌∷◌, length, get_or, drop, min, Option, Some, None, bit_or, refl, sym, ap, ◌∙◌, arith}
+use Rattle.std.proofs.Common.{◌≡◌, ℕ, zero, suc, ◌+◌, ◌-◌, ◌*◌, ◌/◌, ◌%◌, ◌^◌, ◌<◌, ◌≤◌, inl, inr, Bool, true, false, eqb, leb, List, [], ◌∷◌, length, get_or, drop, Some, None, bit_or, refl, sym, ap, ◌∙◌, arith}
 use Rattle.std.specs.Prelude.{slice_get}
+use Rattle.std.specs.Int.{bit_at}
 use Rattle.std.proofs.Math.Nat.{pow-suc, pow-le-pow_right}
 use Rattle.std.proofs.lemmas.Bool.{cases_lt, cases_eq, le-leb, lt-leb}
 use Rattle.std.proofs.lemmas.List.{length-drop, drop-drop}
@@ -34,12 +35,14 @@ past_from_none [] i h = omega arith
 past_from_none (x ∷ xs) zero h = absurd cc
 past_from_none (x ∷ xs) (suc i) h = omega (arith, past_from_none xs i h)
 
+-- past its end nothing of a list is left
 at_end_past : (xs : Bits) (i : ℕ) → length xs ≤ i → at_end (drop i xs) ≡ true
 at_end_past [] zero h = refl
 at_end_past [] (suc i) h = refl
 at_end_past (x ∷ xs) zero h = absurd (omega arith)
 at_end_past (x ∷ xs) (suc i) h = at_end_past xs i (omega arith)
 
+-- before its end something of a list is left
 at_end_before : (xs : Bits) (i : ℕ) → i < length xs → at_end (drop i xs) ≡ false
 at_end_before [] i h = absurd (omega arith)
 at_end_before (x ∷ xs) zero h = refl
@@ -53,25 +56,51 @@ at_end-drop bytes place = elim (cases_lt place (8 * length bytes)) [
 ]
 
 -- the next whole byte leaves whole bytes
-pub aligned-drop : (bytes : List ℕ) (place next : ℕ) → place ≤ 8 * length bytes → next ≡ place + (8 * length bytes - place) % 8 → drop next (bits_of bytes) ≡ aligned (drop place (bits_of bytes))
+pub aligned-drop : (bytes : List ℕ) (place next : ℕ) → place ≤ 8 * length bytes → next ≡ place + (8 * length bytes - place) % 8
+    → drop next (bits_of bytes) ≡ aligned (drop place (bits_of bytes))
 aligned-drop bytes place next h e =
     let left : length (drop place (bits_of bytes)) ≡ 8 * length bytes - place = omega (arith, length-bits_of bytes, length-drop place (bits_of bytes)) in
     rw (left, drop-drop ((8 * length bytes - place) % 8) place (bits_of bytes), e) refl
 
--- shifting a number by one and adding a bit, where the number has room in 32 bits
-pub shifted_or : (n bit width : ℕ) → width < 32 → n < 2 ^ width → bit < 2 → bit_or (n * 2 % 4294967296) bit ≡ n * 2 + bit
-shifted_or n bit width h k b =
-    let room : 2 ^ width ≤ 2 ^ 31 = pow-le-pow_right (omega arith) (omega arith) in
-    let small : n * 2 % 4294967296 ≡ n * 2 = omega arith in
-    rw small (or_shifted n 1 bit b)
-
+-- a bit's number is 0 or 1
 bool_byte-small : (b : Bool) → bool_byte b < 2
 bool_byte-small true = omega arith
 bool_byte-small false = omega arith
 
+-- shifting a number by one and adding a bit, where the number has room in 32 bits
+pub shifted_or : (n width : ℕ) (b : Bool) → width < 32 → n < 2 ^ width → bit_or (n * 2 % 4294967296) (bool_byte b) ≡ n * 2 + bool_byte b
+shifted_or n width b h k =
+    let room : 2 ^ width ≤ 2 ^ 31 = pow-le-pow_right {n = 2} (omega arith) {i = width} {j = 31} (omega arith) in
+    let small : n * 2 % 4294967296 ≡ n * 2 = omega arith in
+    rw small (or_shifted n 1 (bool_byte b) (bool_byte-small b))
+
+-- the lowest bit is the one that was added
 bit_of-lowest : (n : ℕ) (b : Bool) → bit_of (n * 2 + bool_byte b) 0 ≡ b
 bit_of-lowest n true = let e : (n * 2 + 1) / 1 % 2 ≡ 1 = omega arith in ap (λ (i : ℕ). eqb i 1) e
 bit_of-lowest n false = let e : (n * 2 + 0) / 1 % 2 ≡ 0 = omega arith in ap (λ (i : ℕ). eqb i 1) e
 
+-- the others are one position higher
 bit_of-higher : (n k : ℕ) (b : Bool) → bit_of (n * 2 + bool_byte b) (suc k) ≡ bit_of n k
-bit_of-higher n k b = ap (λ (i : ℕ). eqb i 1) (bit_at_cat_high n 1 (bool_byte b) (suc k) (bool_byte-small b) (omega arith))
+bit_of-higher n k b =
+    let e : suc k - 1 ≡ k = omega arith in
+    ap (λ (i : ℕ). eqb i 1) (bit_at_cat_high n 1 (bool_byte b) (suc k) (bool_byte-small b) (omega arith) ∙ ap (bit_at n) e)
+
+-- a number below a power, with one bit more, is below the next
+pub fits_more : (n width : ℕ) (b : Bool) → n < 2 ^ width → n * 2 + bool_byte b < 2 ^ (width + 1)
+fits_more n width b h =
+    let more : width + 1 ≡ suc width = omega arith in
+    rw more (omega (arith, pow-suc 2 width, bool_byte-small b))
+
+-- The number holds so many bits from the place on, the first in the highest position: with one bit more too.
+pub holds_more : (bits : Bits) (place width n : ℕ) → ((k : ℕ) → k < width → bit_of n (width - 1 - k) ≡ get_or bits (place + k) false)
+    → (k : ℕ) → k < width + 1 → bit_of (n * 2 + bool_byte (get_or bits (place + width) false)) (width + 1 - 1 - k) ≡ get_or bits (place + k) false
+holds_more bits place width n held k h =
+    let bit = get_or bits (place + width) false in
+    elim (cases_eq k width) [
+      | inl same ↦
+          let at : width + 1 - 1 - k ≡ 0 = omega arith in
+          rw (at, same) (bit_of-lowest n bit)
+      | inr other ↦
+          let at : width + 1 - 1 - k ≡ suc (width - 1 - k) = omega arith in
+          rw at (bit_of-higher n (width - 1 - k) bit ∙ held k (omega arith))
+    ]

@@ -1,4 +1,4 @@
-use Rattle.std.proofs.Common.{ℕ, length, leb, ap, ◌∙◌, arith}
+use Rattle.std.proofs.Common.{arith}
 use Rattle.hayro_ccitt.proofs.BitLists.{length-bits_of}
 use Rattle.hayro_ccitt.proofs.BitPlaces.{at_end-drop, within_bits}
 use Rattle.hayro_ccitt.proofs.bit_reader.BitReader.at_end.Goals as goal
