@@ -27,11 +27,15 @@ pub mod ReadRuns
 pub mod ReferencePlaces
 pub mod Repeated
 pub mod RowChanges
+pub mod ScanWords
 pub mod Starts
 pub mod Strictness
+pub mod TablesAgree
 pub mod Tails
 pub mod Tests
+pub mod TickTurns
 pub mod Turns
+pub mod ZeroRuns
 pub mod ZerosInWords
 pub mod EolCounts
 pub mod Gathered
