@@ -1,9 +1,8 @@
 -- What the turns of a repetition give, and the words that the turns of a run find.
-use Rattle.std.proofs.Common.{◌≡◌, ℕ, zero, suc, ◌+◌, ◌<◌, ◌≤◌, List, [], ◌++◌, length, Result, Ok, Err, refl, ap, ◌∙◌, arith}
-use Rattle.std.proofs.lemmas.Bool.{lt-ltb, le-ltb}
+use Rattle.std.proofs.Common.{◌≡◌, ℕ, zero, suc, ◌+◌, ◌<◌, ◌≤◌, List, [], ◌++◌, length, Ok, refl, ap, ◌∙◌, arith}
+use Rattle.std.proofs.lemmas.Bool.{le-ltb}
 use Rattle.std.proofs.lemmas.List.{length-append}
 use Rattle.hayro_ccitt.specs.declared.codes.Color.{Color}
-use Rattle.hayro_ccitt.specs.declared.error.DecodeError.{DecodeError}
 use Rattle.hayro_ccitt.specs.Bits.{Bits}
 use Rattle.hayro_ccitt.specs.CodeLists.{Code}
 use Rattle.hayro_ccitt.specs.CodeReading.{read_code}
@@ -53,11 +52,6 @@ run_found_turn color total here = gathered_turn (run_turn color) (run_gives colo
 one_word : {V : Type 0} (list : List (Code V)) (here : Bits) (found : V × Bits) → read_code list here ≡ Ok found → length (word_found list here) ≡ 1
 one_word list here found e = rw (e, word_found) refl
 
--- where no word is read, none is found
-pub run_found_fails : (color : Color) (total : ℕ) (here : Bits) (e : DecodeError) → read_code (codes_of color) here ≡ Err e
-    → length (run_found color (total, here)) ≡ 0
-run_found_fails color total here e h = ap length (run_found_turn color total here) ∙ rw (h, run_turn, run_gives, word_found) refl
-
 -- a make-up word is one, and the run goes on
 pub run_found_on : (color : Color) (total n : ℕ) (here rest : Bits) → read_code (codes_of color) here ≡ Ok (n, rest) → total + n ≤ 4294967295
     → 64 ≤ n → length (run_found color (total, here)) ≡ suc (length (run_found color (total + n, rest)))
@@ -65,15 +59,3 @@ run_found_on color total n here rest h k l =
     let turn : run_found color (total, here) ≡ word_found (codes_of color) here ++ run_found color (total + n, rest) =
     run_found_turn color total here ∙ rw (h, run_turn, le-ltb 4294967295 (total + n) k, le-ltb n 64 l) refl in
     omega (arith, ap length turn, length-append (word_found (codes_of color) here) (run_found color (total + n, rest)), one_word (codes_of color) here (n, rest) h)
-
--- a terminating word is the last
-pub run_found_ends : (color : Color) (total n : ℕ) (here rest : Bits) → read_code (codes_of color) here ≡ Ok (n, rest) → total + n ≤ 4294967295
-    → n < 64 → length (run_found color (total, here)) ≡ 1
-run_found_ends color total n here rest h k l =
-    ap length (run_found_turn color total here) ∙ rw (h, run_turn, run_gives, word_found, le-ltb 4294967295 (total + n) k, lt-ltb n 64 l) refl
-
--- a word that passes 32 bits is the last
-pub run_found_passes : (color : Color) (total n : ℕ) (here rest : Bits) → read_code (codes_of color) here ≡ Ok (n, rest) → 4294967295 < total + n
-    → length (run_found color (total, here)) ≡ 1
-run_found_passes color total n here rest h k =
-    ap length (run_found_turn color total here) ∙ rw (h, run_turn, run_gives, word_found, lt-ltb 4294967295 (total + n) k) refl
