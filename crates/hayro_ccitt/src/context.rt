@@ -275,16 +275,6 @@ impl DecoderContext {
         )
     }
 
-    /// The number of pixels from the end of the front up to b2. It takes no memory.
-    fn pixels_to_b2(&mut self) -> u32
-        ensures value { result ≡ b2 self.old.held.reference (right_of self.old.held.front) self.old.held.color - length self.old.held.front }
-        ensures held { self.new.held ≡ self.old.held }
-        ensures counts { self.old.ticks ≤ self.new.ticks }
-    {
-        let painted = self.pixels_decoded;
-        self.b2() - painted
-    }
-
     /// Hands the row over, continued in its last colour where it isn't full. On Ok it is the reference row, the
     /// front is empty, the colour is white and one more row was taken. Where the sink refuses, the context and
     /// the sink's meaning are as before. It takes no memory.
@@ -332,8 +322,8 @@ impl DecoderContext {
     {
         match mode {
             Mode::Pass => {
-                let to_b2 = self.pixels_to_b2();
-                self.push_pixels(to_b2)
+                let b2 = self.b2();
+                self.push_pixels(b2 - self.pixels_painted())
             }
             Mode::Vertical(offset) => {
                 let place = self
