@@ -1,6 +1,6 @@
 -- What follows EOFB changes nothing.
 use Rattle.std.proofs.Common.{◌≡◌, ℕ, zero, suc, ◌+◌, ◌-◌, ◌*◌, ◌/◌, ◌%◌, ◌<◌, ◌≤◌, Bool, true, false, cond, ◌&&◌, ◌||◌, eqb, leb, List, [], ◌∷◌, ◌++◌, length, take, drop, Option, Some, None, Result, Ok, refl, sym, ap, subst, ◌∙◌, append_assoc, arith, ◌⊎◌, inl, inr}
-use Rattle.std.proofs.lemmas.Bool.{or_parts, or_from, cond-true, cond-false}
+use Rattle.std.proofs.lemmas.Bool.{or_parts, or_from, cond-true, cond-false, cases_lt, eq-eqb}
 use Rattle.std.proofs.lemmas.List.{length-append, length-take-le, take-append-drop, drop_at}
 use Rattle.std.proofs.lemmas.Grind.{flat_map-append}
 use Rattle.hayro_ccitt.specs.declared.error.DecodeError.{DecodeError}
@@ -11,7 +11,7 @@ use Rattle.hayro_ccitt.specs.Repetition.{Turn}
 use Rattle.hayro_ccitt.specs.Rows.{Row}
 use Rattle.hayro_ccitt.specs.Lines.{Line, line_2d}
 use Rattle.hayro_ccitt.specs.EndOfLine.{after_eol, one_more, eols, all_eols}
-use Rattle.hayro_ccitt.specs.PlainReading.{Progress, Ending, Move, row_before, aligned, at_end, limit_met, ends_with, after_line_group4, line_at_group4, move_group4, end_of, plain}
+use Rattle.hayro_ccitt.specs.PlainReading.{Progress, Ending, Move, row_before, aligned, at_end, limit_met, ends_with, after_line_group4, line_at_group4, move_group4, end_of, bytes_before, plain}
 use Rattle.hayro_ccitt.specs.Laws.{Reaches, AfterEofb}
 use Rattle.hayro_ccitt.proofs.Repeated.{after_turn}
 use Rattle.hayro_ccitt.proofs.ReadRuns.{chosen}
@@ -179,12 +179,19 @@ same_front one two count w rest is count_is same =
     let len2 : 8 * length two ≡ length w + length more = sym (length-bits_of two) ∙ ap length two_is ∙ length-append w more in
     (more, two_is, omega (arith, len1, len2))
 
-pub after_eofb_lem : AfterEofb
-after_eofb_lem settings one two count are four block wide comes counted same =
-    let rest : Bits = (eols 2 comes.0.rest).1 in
-    let closes : eols 2 comes.0.rest ≡ (2, rest) = ap (λ (n : ℕ). (n, rest)) comes.2 in
-    let found = closed_found settings block wide late4 (between [] (bits_of one)) comes.0 rest comes.1 closes in
-    let first : plain settings one ≡ (comes.0.rows, Ok ((length found.0 + 7) / 8)) = closed_plain settings comes.0 found.0 rest four wide found.2 one rest found.1 refl in
-    let count_is : (length found.0 + 7) / 8 ≡ count = let f : ◌≡◌ {A = Result ℕ DecodeError} (Ok ((length found.0 + 7) / 8)) (Ok count) = sym (ap (λ (a : List Row × Result ℕ DecodeError). a.1) first) ∙ counted in cc in
-    let front = same_front one two count found.0 rest found.1 count_is same in
-    closed_plain settings comes.0 found.0 rest four wide found.2 two front.0 front.1 front.2 ∙ sym first
+-- without columns nothing is read
+plain_no_columns : (settings : DecodeSettings) (bytes : List ℕ) → settings.columns ≡ 0 → plain settings bytes ≡ ([], Ok 0)
+plain_no_columns settings bytes none = cond-true (eqb settings.columns 0) ([], Ok 0) ((end_of settings (bits_of bytes)).rows, bytes_before (bits_of bytes) (end_of settings (bits_of bytes)).outcome) (eq-eqb settings.columns 0 none)
+
+pub after_eofb : AfterEofb
+after_eofb settings one two count are four block comes counted same = elim (cases_lt 0 settings.columns) [
+  | inr none ↦ plain_no_columns settings two (omega arith) ∙ sym (plain_no_columns settings one (omega arith))
+  | inl wide ↦
+      let rest : Bits = (eols 2 comes.0.rest).1 in
+      let closes : eols 2 comes.0.rest ≡ (2, rest) = ap (λ (n : ℕ). (n, rest)) comes.2 in
+      let found = closed_found settings block wide late4 (between [] (bits_of one)) comes.0 rest comes.1 closes in
+      let first : plain settings one ≡ (comes.0.rows, Ok ((length found.0 + 7) / 8)) = closed_plain settings comes.0 found.0 rest four wide found.2 one rest found.1 refl in
+      let count_is : (length found.0 + 7) / 8 ≡ count = let f : ◌≡◌ {A = Result ℕ DecodeError} (Ok ((length found.0 + 7) / 8)) (Ok count) = sym (ap (λ (a : List Row × Result ℕ DecodeError). a.1) first) ∙ counted in cc in
+      let front = same_front one two count found.0 rest found.1 count_is same in
+      closed_plain settings comes.0 found.0 rest four wide found.2 two front.0 front.1 front.2 ∙ sym first
+]

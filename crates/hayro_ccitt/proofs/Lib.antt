@@ -27,4 +27,5 @@ pub mod Strictness
 pub mod Tails
 pub mod Tests
 pub mod Turns
+pub mod WordsFound
 pub mod ZerosInWords

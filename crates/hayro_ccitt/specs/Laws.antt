@@ -2,6 +2,7 @@
 use Rattle.std.specs.Prelude.{◌≡◌, ◌≢◌, ℕ, ◌+◌, ◌-◌, ◌/◌, ◌^◌, ◌<◌, ◌≤◌, Bool, true, false, List, [], ◌∷◌, ◌++◌, length, take, drop, replicate, ◌⊎◌, Some, Ok, IsOk, set}
 use Rattle.hayro_ccitt.specs.declared.codes.Color.{Color}
 use Rattle.hayro_ccitt.specs.declared.codes.Mode.{Mode}
+use Rattle.hayro_ccitt.specs.declared.settings.EncodingMode.{EncodingMode}
 use Rattle.hayro_ccitt.specs.declared.settings.EncodingMode.TheVariants.{Group4, Group3_1D, Group3_2D}
 use Rattle.hayro_ccitt.specs.declared.settings.DecodeSettings.{DecodeSettings}
 use Rattle.hayro_ccitt.specs.Bits.{Bits, bits_of}
@@ -13,7 +14,8 @@ use Rattle.hayro_ccitt.specs.Lines.{Line, line_1d}
 use Rattle.hayro_ccitt.specs.EndOfLine.{after_eol, eols}
 use Rattle.hayro_ccitt.specs.Encodings.{Kind, EncodesRows, IsPicture, EncodesRowsWithEols, ClosesWithEols, PictureT6, PictureT4}
 use Rattle.hayro_ccitt.specs.Repetition.{Turn}
-use Rattle.hayro_ccitt.specs.PlainReading.{Progress, move_group4, eols_group3, plain}
+use Rattle.hayro_ccitt.specs.PlainReading.{Progress, start_group4, move_group4, eols_group3, plain}
+use Rattle.hayro_ccitt.specs.Ticks.{tag_at, line_found}
 
 abbrev pub IsFront : {A : Type 0} → List A → List A → Type 0
 IsFront {A} front whole = (rest : List A) × (whole ≡ front ++ rest)
@@ -25,32 +27,43 @@ pub record AreSettings (settings : DecodeSettings) : Type 0 where
 
 -- ---- synchronised
 
+-- no word of a list is a front of another one, and none stands for two values
 abbrev pub PrefixFree : {V : Type 0} → List (Code V) → Type 0
-PrefixFree {V} list = (v w : V) (a b rest : Bits) → Has list v a → Has list w b → b ≡ a ++ rest → rest ≡ []
+PrefixFree {V} list = (v w : V) (a b rest : Bits) → Has list v a → Has list w b → b ≡ a ++ rest → (rest ≡ []) × (v ≡ w)
 
 -- a word of a run or of a mode
 abbrev pub IsWord : Bits → Type 0
 IsWord word = ((color : Color) × (n : ℕ) × Has (codes_of color) n word) ⊎ ((mode : Mode) × Has mode_codes mode word)
 
--- words in a row
+-- a list of such words
 abbrev pub AreWords : List Bits → Type 0
 AreWords [] = Unit {0}
 AreWords (word ∷ words) = IsWord word × AreWords words
 
+-- words in a row
 abbrev pub joined : List Bits → Bits
 joined [] = []
 joined (word ∷ words) = word ++ joined words
 
+-- so many zeros stand in a row somewhere
 abbrev pub HoldsZeros : ℕ → Bits → Type 0
 HoldsZeros n bits = (before after : Bits) × (bits ≡ before ++ replicate n false ++ after)
 
+-- Words stand in a row here, behind a tag or none; and where an EOL stands here or further on, they end before its one.
+pub record EndBeforeEol (tag : Bits) (words : List Bits) (here : Bits) : Type 0 where
+  pub are : AreWords words
+  pub stand : IsFront (tag ++ joined words) here
+  pub end : (before after : Bits) → here ≡ before ++ replicate 11 false ++ true ∷ after → length (tag ++ joined words) < length before + 11
+
+-- No code word is a front of another, and no words in a row, nor a tag before them, hold the eleven zeros of an EOL
+-- (T.4, 4.1.2). So each word that the reading of a line finds ends before the one of each EOL at or after its start.
 pub record Synchronised : Type 0 where
   pub runs_prefix_free : (color : Color) → PrefixFree (codes_of color)
   pub modes_prefix_free : PrefixFree mode_codes
   pub holds_one : (word : Bits) → IsWord word → word ≢ replicate (length word) false
   pub no_eleven : (tag : Bool) (words : List Bits) → AreWords words → HoldsZeros 11 (tag ∷ joined words) → ⊥
-  -- an EOL at or after a place ends past each word that stands in a row from that place
-  pub before_eol : (words : List Bits) (here rest fill after : Bits) → AreWords words → here ≡ joined words ++ rest → here ≡ fill ++ replicate 11 false ++ true ∷ after → length (joined words) < length fill + 11
+  pub before_eol : (encoding : EncodingMode) (strict : Bool) (columns : ℕ) (reference : Row) (here : Bits)
+      → EndBeforeEol (tag_at encoding here) (line_found encoding strict columns reference here) here
 
 -- ---- laws over settings
 
@@ -111,11 +124,11 @@ pub data Reaches (settings : DecodeSettings) : Progress → Progress → Type 0 
 
 -- the reading of Group 4 comes to a place between lines where two EOLs stand
 abbrev pub ComesToEofb : DecodeSettings → Bits → Type 0
-ComesToEofb settings bits = (last : Progress) × Reaches settings (record { rows = []; has_eols = false; rest = bits }) last × ((eols 2 last.rest).0 ≡ 2)
+ComesToEofb settings bits = (last : Progress) × Reaches settings (start_group4 bits) last × ((eols 2 last.rest).0 ≡ 2)
 
 -- where plain4 ended at two EOLs, what follows the bytes that it counted changes nothing
 abbrev pub AfterEofb : Type 0
-AfterEofb = (settings : DecodeSettings) (one two : List ℕ) (count : ℕ) → AreSettings settings → settings.encoding ≡ Group4 → settings.end_of_block ≡ true → 0 < settings.columns
+AfterEofb = (settings : DecodeSettings) (one two : List ℕ) (count : ℕ) → AreSettings settings → settings.encoding ≡ Group4 → settings.end_of_block ≡ true
     → ComesToEofb settings (bits_of one) → (plain settings one).1 ≡ Ok count → take count two ≡ take count one → plain settings two ≡ plain settings one
 
 -- streams of one width and one alignment, one a beginning of the other
