@@ -20,9 +20,9 @@ use Rattle.hayro_ccitt.specs.Lines.{Line, line_1d, line_2d}
 use Rattle.hayro_ccitt.specs.EndOfLine.{after_eol, one_more, eols, all_eols, after_tag, tagged_eols_from, pass_last_tag, tagged_eols}
 use Rattle.hayro_ccitt.specs.PlainReading.{end_by, Progress, Ending, row_before, aligned, at_end, limit_met, ends_with, line_at_group3, eols_group3, unless_over, after_row, seek_eol, after_line_group3, move_group3, ending_from, plain_group4, plain_group3, end_of, with_settings}
 use Rattle.hayro_ccitt.specs.Encodings.{Spells, EncodesLine1D, EncodesLine2D, Kind, EncodesLine, eol, tag_of, IsPicture, EncodesRowsWithEols, ClosesWithEols, PictureT4}
-use Rattle.hayro_ccitt.specs.Laws.{Allows, Matches, ReadsPictureT4, ReadsLimitedPictureT4, OnePictureT4}
+use Rattle.hayro_ccitt.specs.Laws.{each_word, Allows, Matches, ReadsPictureT4, ReadsLimitedPictureT4, OnePictureT4}
 use Rattle.hayro_ccitt.proofs.Repeated.{after_turn}
-use Rattle.hayro_ccitt.proofs.ZerosInWords.{each_word, each_word_at}
+use Rattle.hayro_ccitt.proofs.ZerosInWords.{each_word_at}
 use Rattle.hayro_ccitt.proofs.PlainLines.{line_1d_again}
 use Rattle.hayro_ccitt.proofs.PicturesOfLines.{line_2d_again}
 use Rattle.hayro_ccitt.proofs.PicturesT6.{misses_eol, missed, goes_on, IsLineStart, eols_none, not_met, row_before_push, plain_ends}

@@ -19,10 +19,10 @@ use Rattle.hayro_ccitt.specs.Rows.{Row}
 use Rattle.hayro_ccitt.specs.Lines.{Line, line_2d}
 use Rattle.hayro_ccitt.specs.EndOfLine.{after_eol, eols, all_eols}
 use Rattle.hayro_ccitt.specs.PlainReading.{Progress, Ending, Move, row_before, aligned, at_end, limit_met, ends_with, after_line_group4, line_at_group4, move_group4, plain_group4, end_of, plain, bytes_before, with_settings}
-use Rattle.hayro_ccitt.specs.Laws.{Allows, Reaches, ComesToEofb, ReadsPictureT6, ReadsLimitedRowsT6, OnePictureT6}
+use Rattle.hayro_ccitt.specs.Laws.{each_word, Allows, Reaches, ComesToEofb, ReadsPictureT6, ReadsLimitedRowsT6, OnePictureT6}
 use Rattle.hayro_ccitt.specs.Encodings.{EncodesLine2D, Kind, padding, EncodesRows, eol, IsPicture, PictureT6}
 use Rattle.hayro_ccitt.proofs.Repeated.{after_turn, repeated_turn, repeated_same}
-use Rattle.hayro_ccitt.proofs.ZerosInWords.{each_word, each_word_at}
+use Rattle.hayro_ccitt.proofs.ZerosInWords.{each_word_at}
 use Rattle.hayro_ccitt.proofs.BitLists.{length-bits_of}
 use Rattle.hayro_ccitt.proofs.Moves.{left, move_group4_shrinks}
 use Rattle.hayro_ccitt.proofs.PicturesOfLines.{line_2d_again}

@@ -9,13 +9,10 @@ use Rattle.hayro_ccitt.specs.Bits.{Bits}
 use Rattle.hayro_ccitt.specs.CodeLists.{Code, mode_codes}
 use Rattle.hayro_ccitt.specs.CodeReading.{Has, word_at, is_prefix_free}
 use Rattle.hayro_ccitt.specs.Runs.{codes_of}
-use Rattle.hayro_ccitt.specs.Laws.{PrefixFree, IsWord, AreWords, joined, HoldsZeros, Synchronised}
+use Rattle.hayro_ccitt.specs.Laws.{each_word, PrefixFree, IsWord, AreWords, joined, HoldsZeros, Synchronised}
 use Rattle.hayro_ccitt.proofs.ReadCodes.{word_at_again}
 
 -- ---- A test of each word of a list.
-abbrev pub each_word : {V : Type 0} → (Bits → Bool) → List (Code V) → Bool
-each_word test list = list_all (λ c. test c.word) list
-
 pub each_word_at : {V : Type 0} (test : Bits → Bool) (list : List (Code V)) (v : V) (w : Bits) → each_word test list ≡ true → Has list v w → test w ≡ true
 each_word_at test [] v w e i = elim i [ ]
 each_word_at test (c ∷ list) v w e (inl i) = rw (← i.1) (and_parts (test c.word) (each_word test list) e).0

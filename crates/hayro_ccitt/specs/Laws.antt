@@ -1,5 +1,6 @@
 -- The laws of the plain reading.
-use Rattle.std.specs.Prelude.{◌≡◌, ◌≢◌, ℕ, ◌+◌, ◌-◌, ◌/◌, ◌^◌, ◌<◌, ◌≤◌, Bool, true, false, List, [], ◌∷◌, ◌++◌, length, take, drop, replicate, ◌⊎◌, Some, Ok, IsOk, set}
+use Rattle.std.specs.Prelude.{◌≡◌, ◌≢◌, ℕ, ◌+◌, ◌-◌, ◌/◌, ◌^◌, ◌<◌, ◌≤◌, Bool, true, false, not, ◌&&◌, ◌||◌, nat_le, List, [], ◌∷◌, ◌++◌, length, take, drop, replicate, reverse, ◌⊎◌, Some, Ok, IsOk, set}
+use Rattle.std.specs.List.{list_all, list_any}
 use Rattle.hayro_ccitt.specs.declared.codes.Color.{Color}
 use Rattle.hayro_ccitt.specs.declared.codes.Mode.{Mode}
 use Rattle.hayro_ccitt.specs.declared.settings.EncodingMode.{EncodingMode}
@@ -7,7 +8,7 @@ use Rattle.hayro_ccitt.specs.declared.settings.EncodingMode.TheVariants.{Group4,
 use Rattle.hayro_ccitt.specs.declared.settings.DecodeSettings.{DecodeSettings}
 use Rattle.hayro_ccitt.specs.Bits.{Bits, bits_of}
 use Rattle.hayro_ccitt.specs.CodeLists.{Code, mode_codes}
-use Rattle.hayro_ccitt.specs.CodeReading.{Has}
+use Rattle.hayro_ccitt.specs.CodeReading.{Has, leading_zeros}
 use Rattle.hayro_ccitt.specs.Runs.{codes_of}
 use Rattle.hayro_ccitt.specs.Rows.{Row}
 use Rattle.hayro_ccitt.specs.Lines.{Line, line_1d}
@@ -64,6 +65,26 @@ pub record Synchronised : Type 0 where
   pub no_eleven : (tag : Bool) (words : List Bits) → AreWords words → HoldsZeros 11 (tag ∷ joined words) → ⊥
   pub before_eol : (encoding : EncodingMode) (strict : Bool) (columns : ℕ) (reference : Row) (here : Bits)
       → EndBeforeEol (tag_at encoding here) (line_found encoding strict columns reference here) here
+
+-- ---- code words
+
+-- each word of a list passes a test
+abbrev pub each_word : {V : Type 0} → (Bits → Bool) → List (Code V) → Bool
+each_word test list = list_all (λ c. test c.word) list
+
+-- the zeros at the end
+abbrev pub trailing_zeros : Bits → ℕ
+trailing_zeros bits = leading_zeros (reverse bits)
+
+-- so many zeros stand in a row somewhere
+abbrev pub holds_zeros : ℕ → Bits → Bool
+holds_zeros n [] = nat_le n 0
+holds_zeros n (bit ∷ bits) = nat_le n (leading_zeros (bit ∷ bits)) || holds_zeros n bits
+
+-- a word holds a one, at most so many zeros at its front and at its end, and nowhere eight zeros in a row
+abbrev pub has_few_zeros : ℕ → ℕ → Bits → Bool
+has_few_zeros front end word =
+    list_any (λ bit. bit) word && nat_le (leading_zeros word) front && nat_le (trailing_zeros word) end && not (holds_zeros 8 word)
 
 -- ---- laws over settings
 
