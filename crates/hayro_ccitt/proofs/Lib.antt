@@ -4,6 +4,7 @@ pub mod BitLists
 pub mod BodiesT4
 pub mod ByEols
 pub mod Damage
+pub mod EncodingsExist
 pub mod Follows
 pub mod Fronts
 pub mod Grown

@@ -158,3 +158,10 @@ OnePictureT6 = (columns : ℕ) (aligned : Bool) (rows others : List Row) (bits m
 
 abbrev pub OnePictureT4 : Type 0
 OnePictureT4 = (kind : Kind) (columns : ℕ) (rows others : List Row) (bits more : Bits) → columns < 2 ^ 32 → kind ≢ Kind.group4 → PictureT4 kind columns rows bits → PictureT4 kind columns others (bits ++ more) → rows ≡ others
+
+-- Every picture has encodings: as T.6, as T.4 with an EOL before each line, and as lines alone.
+abbrev pub EveryPictureHasAnEncoding : Type 0
+EveryPictureHasAnEncoding = (columns : ℕ) (rows : List Row) → IsPicture columns rows
+    → ((aligned : Bool) → (bits : Bits) × PictureT6 columns aligned rows bits)
+    × ((kind : Kind) → 0 < length rows → (bits : Bits) × PictureT4 kind columns rows bits)
+    × ((kind : Kind) (aligned : Bool) → (bits : Bits) × EncodesRows kind aligned (replicate columns false) rows bits)

@@ -5,7 +5,7 @@ ghost use Rattle.hayro_ccitt.specs.CodeLists.{white_codes, black_codes, mode_cod
 ghost use Rattle.hayro_ccitt.specs.CodeReading.{is_prefix_free};
 ghost use Rattle.hayro_ccitt.specs.Laws.{each_word, has_few_zeros, Synchronised, StrictThenLenient, RowLimit};
 ghost use Rattle.hayro_ccitt.specs.Laws.{ReadsPictureT6, ReadsLimitedRowsT6, ReadsPictureT4, ReadsLimitedPictureT4, ReadsLimitedRowsT4};
-ghost use Rattle.hayro_ccitt.specs.Laws.{AfterEofb, OnePictureT6, OnePictureT4};
+ghost use Rattle.hayro_ccitt.specs.Laws.{AfterEofb, OnePictureT6, OnePictureT4, EveryPictureHasAnEncoding};
 ghost use Rattle.hayro_ccitt.specs.Locality.{LinesByEols, StartsAre, Locality, LocalByTests};
 
 /// Code words hold few zeros. Each word of a run has at most seven at its front and three at its end, each word of a
@@ -73,4 +73,10 @@ pub fn lines_by_eols()
 pub fn locality()
     ensures one_row { Locality }
     ensures tests { LocalByTests }
+{}
+
+/// Every picture with a column has a T.6 encoding, and with a row a T.4 encoding of each kind: the laws about encodings
+/// are about all pictures.
+pub fn every_picture_has_an_encoding()
+    ensures { EveryPictureHasAnEncoding }
 {}

@@ -1,0 +1,146 @@
+-- Every picture has encodings.
+use Rattle.std.proofs.Common.{◌≡◌, ◌≢◌, ℕ, zero, suc, ◌+◌, ◌-◌, ◌*◌, ◌/◌, ◌%◌, ◌<◌, ◌≤◌, Bool, true, false, cond, eqb, List, [], ◌∷◌, ◌++◌, length, replicate, Option, Some, None, is_some, refl, sym, ap, subst, ◌∙◌, append_assoc, arith, ◌⊎◌, inl, inr}
+use Rattle.std.specs.Prelude.{All}
+use Rattle.std.proofs.lemmas.Bool.{agree_below_at, eqb-true, false≢true, cases_lt}
+use Rattle.std.proofs.lemmas.List.Elements.{All-head, All-tail}
+use Rattle.hayro_ccitt.specs.declared.codes.Color.{Color}
+use Rattle.hayro_ccitt.specs.declared.codes.Color.TheVariants.{White, Black}
+use Rattle.hayro_ccitt.specs.Bits.{Bits}
+use Rattle.hayro_ccitt.specs.CodeLists.{Code}
+use Rattle.hayro_ccitt.specs.CodeReading.{Has}
+use Rattle.hayro_ccitt.specs.Rows.{Row, is_black, opposite, a1, a2}
+use Rattle.hayro_ccitt.specs.Runs.{codes_of}
+use Rattle.hayro_ccitt.specs.Encodings.{Spells, EncodesLine1D, EncodesLine2D, Kind, EncodesLine, padding, EncodesRows, eol, IsPicture, PictureT6, EncodesRowsWithEols, tag_of, ClosesWithEols, PictureT4}
+use Rattle.hayro_ccitt.specs.Laws.{EveryPictureHasAnEncoding}
+use Rattle.hayro_ccitt.proofs.ReadRuns.{chosen}
+use Rattle.hayro_ccitt.proofs.Places.{a1_next, a2_next, a2_least}
+
+-- ---- Runs.
+-- the word of a list for a length
+abbrev word_for : List (Code ℕ) → ℕ → Option Bits
+word_for [] n = None
+word_for (c ∷ list) n = cond (eqb c.value n) (Some c.word) (word_for list n)
+
+word_for_has : (list : List (Code ℕ)) (n : ℕ) (word : Bits) → word_for list n ≡ Some word → Has list n word
+word_for_has [] n word e = absurd cc
+word_for_has (c ∷ list) n word e = elim (chosen (eqb c.value n) _ _ _ e) [
+  | inl a ↦ let f : ◌≡◌ {A = Option Bits} (Some c.word) (Some word) = a.1 in inl (eqb-true c.value n a.0, cc)
+  | inr a ↦ inr (word_for_has list n word a.1)
+]
+
+some_word : (list : List (Code ℕ)) (n : ℕ) → is_some (word_for list n) ≡ true → (word : Bits) × Has list n word
+some_word list n e = by (word_for list n) refl
+  where
+    by : (found : Option Bits) → word_for list n ≡ found → (word : Bits) × Has list n word
+    by None is = absurd (false≢true (ap is_some (sym is) ∙ e))
+    by (Some word) is = (word, word_for_has list n word is)
+
+-- each length below 64 has a terminating word, and 64 a make-up word
+terminating_word : (color : Color) (n : ℕ) → n < 64 → (word : Bits) × Has (codes_of color) n word
+terminating_word White n lt = some_word (codes_of White) n (agree_below_at (λ m. is_some (word_for (codes_of White) m)) (λ m. true) 64 n refl lt)
+terminating_word Black n lt = some_word (codes_of Black) n (agree_below_at (λ m. is_some (word_for (codes_of Black) m)) (λ m. true) 64 n refl lt)
+
+makeup_word : (color : Color) → (word : Bits) × Has (codes_of color) 64 word
+makeup_word White = some_word (codes_of White) 64 refl
+makeup_word Black = some_word (codes_of Black) 64 refl
+
+run_spelled : (color : Color) (times n : ℕ) → n < 64 → (bits : Bits) × Spells color (64 * times + n) bits
+run_spelled color zero n lt = let word = terminating_word color n lt in (word.0, subst (λ (m : ℕ). Spells color m word.0) (let e : n ≡ 64 * zero + n = omega arith in e) (Spells.terminating n word.0 word.1 lt))
+run_spelled color (suc times) n lt =
+    let rest = run_spelled color times n lt in
+    let word = makeup_word color in
+    (word.0 ++ rest.0, subst (λ (m : ℕ). Spells color m (word.0 ++ rest.0)) (let e : 64 + (64 * times + n) ≡ 64 * suc times + n = omega arith in e) (Spells.makeup 64 word.0 word.1 (omega arith) rest.1))
+
+pub every_run_spelled : (color : Color) (n : ℕ) → (bits : Bits) × Spells color n bits
+every_run_spelled color n = subst (λ (m : ℕ). (bits : Bits) × Spells color m bits) (let e : 64 * (n / 64) + n % 64 ≡ n = omega arith in e) (run_spelled color (n / 64) (n % 64) (omega arith))
+
+-- ---- One-dimensional lines.
+pixel_or : (color : Color) (pixel : Bool) → (pixel ≡ is_black color) ⊎ (pixel ≡ is_black (opposite color))
+pixel_or White false = inl refl
+pixel_or White true = inr refl
+pixel_or Black false = inr refl
+pixel_or Black true = inl refl
+
+colors_differ : (color : Color) → is_black (opposite color) ≡ is_black color → ⊥
+colors_differ White e = false≢true (sym e)
+colors_differ Black e = false≢true e
+
+replicate-push : (n : ℕ) (pixel : Bool) (row : Row) → replicate n pixel ++ (pixel ∷ row) ≡ replicate (suc n) pixel ++ row
+replicate-push zero pixel row = refl
+replicate-push (suc n) pixel row = ap (λ (r : Row). pixel ∷ r) (replicate-push n pixel row)
+
+-- a row that begins with some pixels of a colour
+line_1d_exists : (color : Color) (n : ℕ) (row : Row) → 0 < n + length row → (bits : Bits) × EncodesLine1D color (replicate n (is_black color) ++ row) bits
+line_1d_exists color n [] some =
+    let run = every_run_spelled color n in
+    (run.0 ++ [], EncodesLine1D.run n run.0 run.1 some (λ rest e. absurd cc) EncodesLine1D.over)
+line_1d_exists color n (pixel ∷ row) some = elim (pixel_or color pixel) [
+  | inl same ↦
+      let longer = line_1d_exists color (suc n) row (omega arith) in
+      let is : replicate (suc n) (is_black color) ++ row ≡ replicate n (is_black color) ++ (pixel ∷ row) = sym (replicate-push n (is_black color) row) ∙ ap (λ (p : Bool). replicate n (is_black color) ++ (p ∷ row)) (sym same) in
+      (longer.0, subst (λ (r : Row). EncodesLine1D color r longer.0) is longer.1)
+  | inr other ↦
+      let run = every_run_spelled color n in
+      let next = line_1d_exists (opposite color) 1 row (omega arith) in
+      let is : is_black (opposite color) ∷ row ≡ pixel ∷ row = ap (λ (p : Bool). p ∷ row) (sym other) in
+      (run.0 ++ next.0, EncodesLine1D.run n run.0 run.1 some (λ rest e. colors_differ color (sym other ∙ (let heads : pixel ≡ is_black color = cc in heads))) (subst (λ (r : Row). EncodesLine1D (opposite color) r next.0) is next.1))
+]
+
+-- ---- Two-dimensional lines, by horizontal modes alone.
+line_2d_over : (reference row : Row) (from : ℕ) (color : Color) → from ≡ suc (length row) → (bits : Bits) × EncodesLine2D reference row from color bits
+line_2d_over reference row from color e = ([], subst (λ (n : ℕ). EncodesLine2D reference row n color []) (sym e) EncodesLine2D.over)
+
+line_2d_exists : (turns : ℕ) (reference row : Row) (from : ℕ) (color : Color) → from ≤ suc (length row) → suc (length row) ≤ from + turns → (bits : Bits) × EncodesLine2D reference row from color bits
+line_2d_exists zero reference row from color le enough = line_2d_over reference row from color (omega arith)
+line_2d_exists (suc turns) reference row from color le enough = elim (cases_lt (length row) from) [
+  | inl past ↦ line_2d_over reference row from color (omega arith)
+  | inr inside ↦
+      let word : Bits = false ∷ false ∷ true ∷ [] in
+      let above = (a1_next row from).above inside in
+      let within = (a2_next row from).within in
+      let least = a2_least row from in
+      let first = every_run_spelled color (a1 row from - (from - 1)) in
+      let second = every_run_spelled (opposite color) (a2 row from - a1 row from) in
+      let rest = line_2d_exists turns reference row (suc (a2 row from)) color (omega arith) (omega arith) in
+      (word ++ (first.0 ++ (second.0 ++ rest.0)), EncodesLine2D.horizontal from word inside (inr (inl (refl, refl))) first.1 second.1 rest.1)
+]
+
+white_line_exists : (row : Row) → 0 < length row → (bits : Bits) × EncodesLine1D White row bits
+white_line_exists row some = line_1d_exists White 0 row (omega arith)
+
+line_exists : (kind : Kind) (reference row : Row) → 0 < length row → (bits : Bits) × EncodesLine kind reference row bits
+line_exists Kind.group4 reference row some = line_2d_exists (suc (length row)) reference row 0 White (omega arith) (omega arith)
+line_exists Kind.group3_1d reference row some = white_line_exists row some
+line_exists Kind.group3_2d reference row some = let line = white_line_exists row some in (true ∷ line.0, (line.0, inl (refl, line.1)))
+
+-- ---- Pictures.
+module _ (columns : ℕ) (wide : 0 < columns) where
+  rows_exist : (kind : Kind) (aligned : Bool) (reference : Row) (rows : List Row) → All (λ row. length row ≡ columns) rows → (bits : Bits) × EncodesRows kind aligned reference rows bits
+  rows_exist kind aligned reference [] widths = ([], refl)
+  rows_exist kind aligned reference (row ∷ rows) widths =
+      let width : length row ≡ columns = All-head (λ row. length row ≡ columns) row rows widths in
+      let line = line_exists kind reference row (omega arith) in
+      let next = rows_exist kind aligned row rows (All-tail (λ row. length row ≡ columns) row rows widths) in
+      (line.0 ++ (cond aligned (padding (length line.0)) []) ++ next.0, (line.0, next.0, line.1, next.1, refl))
+
+  lines_exist : (kind : Kind) (reference : Row) (rows : List Row) → All (λ row. length row ≡ columns) rows → (bits : Bits) × EncodesRowsWithEols kind reference rows bits
+  lines_exist kind reference [] widths = ([], refl)
+  lines_exist kind reference (row ∷ rows) widths =
+      let width : length row ≡ columns = All-head (λ row. length row ≡ columns) row rows widths in
+      let line = line_exists kind reference row (omega arith) in
+      let next = lines_exist kind row rows (All-tail (λ row. length row ≡ columns) row rows widths) in
+      (eol 0 ++ line.0 ++ next.0, (0, line.0, next.0, line.1, next.1, refl))
+
+closing_exists : (kind : Kind) (n : ℕ) → (bits : Bits) × ClosesWithEols kind n bits
+closing_exists kind zero = ([], refl)
+closing_exists kind (suc n) = let next = closing_exists kind n in (eol 0 ++ tag_of kind ++ next.0, (0, next.0, next.1, refl))
+
+pub every_picture_has_an_encoding : EveryPictureHasAnEncoding
+every_picture_has_an_encoding columns rows is = (
+  λ aligned. let body = rows_exist columns is.0 Kind.group4 aligned (replicate columns false) rows is.1 in (body.0 ++ eol 0 ++ eol 0, (body.0, is, body.1, refl)),
+  λ kind some.
+      let lines = lines_exist columns is.0 kind (replicate columns false) rows is.1 in
+      let closing = closing_exists kind 6 in
+      (lines.0 ++ closing.0, (lines.0, closing.0, some, is, lines.1, closing.1, refl)),
+  λ kind aligned. rows_exist columns is.0 kind aligned (replicate columns false) rows is.1,
+)
