@@ -5,6 +5,7 @@ pub mod BodiesT4
 pub mod ByEols
 pub mod Damage
 pub mod EncodingsExist
+pub mod Examples
 pub mod Follows
 pub mod Fronts
 pub mod Grown

@@ -3,6 +3,7 @@
 ghost use Rattle.std.specs.Prelude.{IsTrue};
 ghost use Rattle.hayro_ccitt.specs.CodeLists.{white_codes, black_codes, mode_codes};
 ghost use Rattle.hayro_ccitt.specs.CodeReading.{is_prefix_free};
+ghost use Rattle.hayro_ccitt.specs.Examples.{EncodesTwoLines, EncodesTaggedRows, HaveLocalBodies, ReadsDamage};
 ghost use Rattle.hayro_ccitt.specs.Laws.{each_word, has_few_zeros, Synchronised, StrictThenLenient, RowLimit};
 ghost use Rattle.hayro_ccitt.specs.Laws.{ReadsPictureT6, ReadsLimitedRowsT6, ReadsPictureT4, ReadsLimitedPictureT4, ReadsLimitedRowsT4};
 ghost use Rattle.hayro_ccitt.specs.Laws.{AfterEofb, OnePictureT6, OnePictureT4, EveryPictureHasAnEncoding};
@@ -79,4 +80,12 @@ pub fn locality()
 /// are about all pictures.
 pub fn every_picture_has_an_encoding()
     ensures { EveryPictureHasAnEncoding }
+{}
+
+/// Examples: two lines of T.6, two of T.4 closed by RTC, and three bodies of which each may stand for the other.
+pub fn examples()
+    ensures t6 { EncodesTwoLines }
+    ensures t4 { EncodesTaggedRows }
+    ensures bodies { HaveLocalBodies }
+    ensures damage { ReadsDamage }
 {}
