@@ -360,6 +360,6 @@ one_picture3_at settings kind rows others bits more small matches block none one
     ap (λ (e : Ending). e.rows) (sym first ∙ ap (end_of settings) same ∙ second)
 
 pub one_picture3_lem : OnePictureT4
-one_picture3_lem Kind.group4 columns rows others bits more small three one two = absurd (three refl)
-one_picture3_lem Kind.group3_1d columns rows others bits more small three one two = one_picture3_at (with_settings Group3_1D columns 0 true false false false) Kind.group3_1d rows others bits more (omega arith) refl refl refl one two
-one_picture3_lem Kind.group3_2d columns rows others bits more small three one two = one_picture3_at (with_settings Group3_2D columns 0 true false false false) Kind.group3_2d rows others bits more (omega arith) refl refl refl one two
+one_picture3_lem Kind.group4 columns rows others bits more three small one two = absurd (three refl)
+one_picture3_lem Kind.group3_1d columns rows others bits more three small one two = one_picture3_at (with_settings Group3_1D columns 0 true false false false) Kind.group3_1d rows others bits more (omega arith) refl refl refl one two
+one_picture3_lem Kind.group3_2d columns rows others bits more three small one two = one_picture3_at (with_settings Group3_2D columns 0 true false false false) Kind.group3_2d rows others bits more (omega arith) refl refl refl one two

@@ -275,7 +275,7 @@ pub closed_picture_lem : ReadsPictureT6
 closed_picture_lem settings rows bits more bytes are four block limit pic is = pic4_plain settings rows bits more bytes four block (omega (arith, are.columns)) limit pic is
 
 pub limited_picture_lem : ReadsLimitedRowsT6
-limited_picture_lem settings rows body more bytes are four some limit is_picture lines is =
+limited_picture_lem settings rows body more bytes are four limit some is_picture lines is =
     let e = body4_plain settings rows body more bytes four (omega (arith, are.columns)) some limit is_picture lines is in
     (ap (λ (a : List Row × Result ℕ DecodeError). a.0) e, rw e refl)
 
