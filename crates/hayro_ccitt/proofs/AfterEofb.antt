@@ -11,14 +11,14 @@ use Rattle.hayro_ccitt.specs.Repetition.{Turn}
 use Rattle.hayro_ccitt.specs.Rows.{Row}
 use Rattle.hayro_ccitt.specs.Lines.{Line, line_2d}
 use Rattle.hayro_ccitt.specs.EndOfLine.{after_eol, one_more, eols, all_eols}
-use Rattle.hayro_ccitt.specs.PlainReading.{Progress, Ending, Move, row_before, aligned, at_end, limit_met, ends_with, after_line_group4, line_at_group4, move_group4, end_of, bytes_before, plain}
+use Rattle.hayro_ccitt.specs.PlainReading.{eols_group4, Progress, Ending, Move, row_before, aligned, at_end, limit_met, ends_with, after_line_group4, line_at_group4, move_group4, end_of, bytes_before, plain}
 use Rattle.hayro_ccitt.specs.Laws.{Reaches, AfterEofb}
 use Rattle.hayro_ccitt.proofs.Repeated.{after_turn}
 use Rattle.hayro_ccitt.proofs.ReadRuns.{chosen}
 use Rattle.hayro_ccitt.proofs.BitLists.{length-bits_of}
 use Rattle.hayro_ccitt.proofs.ZerosInWords.{front_of_front}
 use Rattle.hayro_ccitt.proofs.Follows.{line_2d_found}
-use Rattle.hayro_ccitt.proofs.PicturesT6.{IsLineStart, mode_starts, eols_none, goes, goes_is, between, move_group4_eofb, eols4, late4, end_of_goes, plain_ends}
+use Rattle.hayro_ccitt.proofs.PicturesT6.{IsLineStart, mode_starts, eols_none, goes, goes_is, between, move_group4_eofb, late_group4, end_of_goes, plain_ends}
 
 -- ---- EOLs.
 after_eol_found : (seen : ℕ) (here rest : Bits) → after_eol seen here ≡ Some rest → (w : Bits) × (here ≡ w ++ rest) × ((more : Bits) → after_eol seen (w ++ more) ≡ Some more)
@@ -113,7 +113,7 @@ module _ (settings : DecodeSettings) (block : settings.end_of_block ≡ true) (w
             let here : (eol.0 ++ (line.bits ++ pad)) ++ more ≡ eol.0 ++ t2 = append_assoc eol.0 (line.bits ++ pad) more ∙ ap (λ (x : Bits). eol.0 ++ x) (append_assoc line.bits pad more) in
             let run2 : Progress = record run { rest = (eol.0 ++ (line.bits ++ pad)) ++ more } in
             let begins = at_start (pad ++ more) in
-            let counted2 : eols4 settings run2.rest ≡ (count, t2) = cond-true settings.end_of_block _ _ block ∙ ap (eols 2) here ∙ eol.2 t2 (inr begins.no_eol) in
+            let counted2 : eols_group4 settings run2.rest ≡ (count, t2) = cond-true settings.end_of_block _ _ block ∙ ap (eols 2) here ∙ eol.2 t2 (inr begins.no_eol) in
             let over2 : is_over settings run2 count t2 ≡ false = or_from _ _ (or_parts _ _ over).0 begins.open_end in
             ap (line_at_group4 settings run2) counted2
             ∙ cond-false (is_over settings run2 count t2) (ends_with run2 (Ok t2)) (after_line_group4 settings run2 (reader settings run2 t2)) over2
@@ -154,7 +154,7 @@ module _ (settings : DecodeSettings) (block : settings.end_of_block ≡ true) (w
 
 -- ---- Over bytes.
 closed_plain : (settings : DecodeSettings) (last : Progress) (w rest : Bits) → settings.encoding ≡ Group4 → 0 < settings.columns
-    → ((more : Bits) → length more % 8 ≡ length rest % 8 → goes settings late4 (between [] (w ++ more)) ≡ record { rows = last.rows; has_eols = last.has_eols; outcome = Ok more })
+    → ((more : Bits) → length more % 8 ≡ length rest % 8 → goes settings late_group4 (between [] (w ++ more)) ≡ record { rows = last.rows; has_eols = last.has_eols; outcome = Ok more })
     → (bytes : List ℕ) (more : Bits) → bits_of bytes ≡ w ++ more → length more % 8 ≡ length rest % 8 → plain settings bytes ≡ (last.rows, Ok ((length w + 7) / 8))
 closed_plain settings last w rest four wide ends bytes more is whole =
     let end : Ending = record { rows = last.rows; has_eols = last.has_eols; outcome = Ok more } in
@@ -189,7 +189,7 @@ after_eofb settings one two count are four block comes counted same = elim (case
   | inl wide ↦
       let rest : Bits = (eols 2 comes.0.rest).1 in
       let closes : eols 2 comes.0.rest ≡ (2, rest) = ap (λ (n : ℕ). (n, rest)) comes.2 in
-      let found = closed_found settings block wide late4 (between [] (bits_of one)) comes.0 rest comes.1 closes in
+      let found = closed_found settings block wide late_group4 (between [] (bits_of one)) comes.0 rest comes.1 closes in
       let first : plain settings one ≡ (comes.0.rows, Ok ((length found.0 + 7) / 8)) = closed_plain settings comes.0 found.0 rest four wide found.2 one rest found.1 refl in
       let count_is : (length found.0 + 7) / 8 ≡ count = let f : ◌≡◌ {A = Result ℕ DecodeError} (Ok ((length found.0 + 7) / 8)) (Ok count) = sym (ap (λ (a : List Row × Result ℕ DecodeError). a.1) first) ∙ counted in cc in
       let front = same_front one two count found.0 rest found.1 count_is same in

@@ -17,15 +17,15 @@ two_lines_encoded = (
   false ∷ false ∷ true ∷ true ∷ true ∷ false ∷ false ∷ false ∷ true ∷ false ∷ true ∷ [],
   _,
   EncodesLine2D.horizontal 0 (false ∷ false ∷ true ∷ []) (omega arith) (inr (inl (refl, refl))) (Spells.terminating 5 (true ∷ true ∷ false ∷ false ∷ []) (inr (inr (inr (inr (inr (inl (refl, refl))))))) (omega arith)) (Spells.terminating 1 (false ∷ true ∷ false ∷ []) (inr (inl (refl, refl))) (omega arith))
-  (EncodesLine2D.vertical 7 (true ∷ []) (pos 0) (omega arith) (inr (inr (inl (refl, refl)))) refl EncodesLine2D.over),
+      (EncodesLine2D.vertical 7 (true ∷ []) (pos 0) (omega arith) (inr (inr (inl (refl, refl)))) refl EncodesLine2D.over),
   (
     false ∷ false ∷ false ∷ false ∷ false ∷ true ∷ false ∷ false ∷ false ∷ false ∷ false ∷ false ∷ true ∷ false ∷ true ∷ true ∷ true ∷ [],
     [],
     EncodesLine2D.vertical 0 (false ∷ false ∷ false ∷ false ∷ false ∷ true ∷ false ∷ []) (negsuc 2) (omega arith) (inr (inr (inr (inr (inr (inr (inr (inr (inl (refl, refl)))))))))) refl
-    (EncodesLine2D.vertical 3 (false ∷ false ∷ false ∷ false ∷ false ∷ true ∷ false ∷ []) (negsuc 2) (omega arith) (inr (inr (inr (inr (inr (inr (inr (inr (inl (refl, refl)))))))))) refl
-    (EncodesLine2D.vertical 4 (true ∷ []) (pos 0) (omega arith) (inr (inr (inl (refl, refl)))) refl
-    (EncodesLine2D.vertical 6 (true ∷ []) (pos 0) (omega arith) (inr (inr (inl (refl, refl)))) refl
-    (EncodesLine2D.vertical 7 (true ∷ []) (pos 0) (omega arith) (inr (inr (inl (refl, refl)))) refl EncodesLine2D.over)))),
+        (EncodesLine2D.vertical 3 (false ∷ false ∷ false ∷ false ∷ false ∷ true ∷ false ∷ []) (negsuc 2) (omega arith) (inr (inr (inr (inr (inr (inr (inr (inr (inl (refl, refl)))))))))) refl
+        (EncodesLine2D.vertical 4 (true ∷ []) (pos 0) (omega arith) (inr (inr (inl (refl, refl)))) refl
+        (EncodesLine2D.vertical 6 (true ∷ []) (pos 0) (omega arith) (inr (inr (inl (refl, refl)))) refl
+        (EncodesLine2D.vertical 7 (true ∷ []) (pos 0) (omega arith) (inr (inr (inl (refl, refl)))) refl EncodesLine2D.over)))),
     refl,
     refl,
   ),

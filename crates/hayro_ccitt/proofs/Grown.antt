@@ -61,13 +61,13 @@ pub after_line_group4_adds : (settings : DecodeSettings) (run : Progress) (line 
 after_line_group4_adds settings run (Line.whole row rest) = (row ∷ [], refl)
 after_line_group4_adds settings run (Line.broken front fault) = ([], sym (append-nil run.rows))
 
-line_at4_adds : (settings : DecodeSettings) (run : Progress) (found : ℕ × Bits) → Adds run.rows (line_at_group4 settings run found)
-line_at4_adds settings run (count, rest) =
+line_at_group4_adds : (settings : DecodeSettings) (run : Progress) (found : ℕ × Bits) → Adds run.rows (line_at_group4 settings run found)
+line_at_group4_adds settings run (count, rest) =
     let line : Line = line_2d settings.strict settings.columns (row_before settings.columns run.rows) rest in
     adds_cond run.rows (((settings.end_of_block && (eqb count 2)) || limit_met settings (length run.rows)) || at_end rest) (ends_with run (Ok rest)) (after_line_group4 settings run line) ([], sym (append-nil run.rows)) (after_line_group4_adds settings run line)
 
 pub move_group4_adds : (settings : DecodeSettings) (run : Progress) → Adds run.rows (move_group4 settings run)
-move_group4_adds settings run = line_at4_adds settings run (cond settings.end_of_block (eols 2 run.rest) (all_eols run.rest))
+move_group4_adds settings run = line_at_group4_adds settings run (cond settings.end_of_block (eols 2 run.rest) (all_eols run.rest))
 
 pub front_trans : {A : Type 0} (a b c : List A) → IsFront a b → IsFront b c → IsFront a c
 front_trans a b c f g = (f.0 ++ g.0, g.1 ∙ ap (λ (x : List _). x ++ g.0) f.1 ∙ append_assoc a f.0 g.0)

@@ -68,7 +68,7 @@ down p = omega arith
 painted_at : (row front : Row) (p : ℕ) → front ≡ take p row → front ≡ take (suc p - 1) row
 painted_at row front p e = rw (down p) e
 
--- where a state of D15 is, and the pen that has painted up to it
+-- where the steps of an encoded line are, and the front that was painted up to there
 pub record IsAt (row front : Row) (from : ℕ) (color : Color) : Type 0 where
   pub painted : front ≡ take (from - 1) row
   pub inside : from ≤ length row → pixel_before row from ≡ is_black color

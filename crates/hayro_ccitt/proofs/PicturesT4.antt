@@ -46,17 +46,17 @@ line_1d_starts color row bits more (EncodesLine1D.run n word {row = others} {bit
     subst IsLineStart (sym (append_assoc word next more)) (run_starts color n word (next ++ more) spells)
 
 -- after a tag of zero there are few zeros too
-modes_miss1 : each_word (misses_eol 1) mode_codes ≡ true
-modes_miss1 = refl
+modes_miss_one : each_word (misses_eol 1) mode_codes ≡ true
+modes_miss_one = refl
 
 line_2d_after_tag : (reference row : Row) (from : ℕ) (color : Color) (bits more : Bits) → EncodesLine2D reference row from color bits → from ≤ length row → after_eol 1 (bits ++ more) ≡ None
 line_2d_after_tag reference row from color bits more EncodesLine2D.over le = absurd (omega arith)
 line_2d_after_tag reference row from color bits more (EncodesLine2D.pass from2 word {bits = next} inside has left_of steps) le =
-    ap (after_eol 1) (append_assoc word next more) ∙ missed 1 word (next ++ more) (each_word_at (misses_eol 1) mode_codes _ word modes_miss1 has)
+    ap (after_eol 1) (append_assoc word next more) ∙ missed 1 word (next ++ more) (each_word_at (misses_eol 1) mode_codes _ word modes_miss_one has)
 line_2d_after_tag reference row from color bits more (EncodesLine2D.vertical from2 word k {bits = next} inside has exact steps) le =
-    ap (after_eol 1) (append_assoc word next more) ∙ missed 1 word (next ++ more) (each_word_at (misses_eol 1) mode_codes _ word modes_miss1 has)
+    ap (after_eol 1) (append_assoc word next more) ∙ missed 1 word (next ++ more) (each_word_at (misses_eol 1) mode_codes _ word modes_miss_one has)
 line_2d_after_tag reference row from color bits more (EncodesLine2D.horizontal from2 word {first = run1} {second = run2} {bits = next} inside has one two steps) le =
-    ap (after_eol 1) (append_assoc word (run1 ++ (run2 ++ next)) more) ∙ missed 1 word ((run1 ++ (run2 ++ next)) ++ more) (each_word_at (misses_eol 1) mode_codes _ word modes_miss1 has)
+    ap (after_eol 1) (append_assoc word (run1 ++ (run2 ++ next)) more) ∙ missed 1 word ((run1 ++ (run2 ++ next)) ++ more) (each_word_at (misses_eol 1) mode_codes _ word modes_miss_one has)
 
 -- where a line of T.4 begins: no EOL stands there, nor behind a tag
 record IsTagStart (here : Bits) : Type 0 where
@@ -115,10 +115,10 @@ eols_group3_one settings here e = rw (e, eols_group3) refl
 pub eols_group3_two : (settings : DecodeSettings) (here : Bits) → settings.encoding ≡ Group3_2D → eols_group3 settings here ≡ tagged_eols here
 eols_group3_two settings here e = rw (e, eols_group3) refl
 
-line3_tag : (settings : DecodeSettings) (reference : Row) (tag : Bool) (here : Bits) → settings.encoding ≡ Group3_2D
+tagged_line : (settings : DecodeSettings) (reference : Row) (tag : Bool) (here : Bits) → settings.encoding ≡ Group3_2D
     → line_at_group3 settings reference (tag ∷ here) ≡ cond tag (line_1d settings.strict settings.columns here) (line_2d settings.strict settings.columns reference here)
-line3_tag settings reference true here e = rw (e, line_at_group3) refl
-line3_tag settings reference false here e = rw (e, line_at_group3) refl
+tagged_line settings reference true here e = rw (e, line_at_group3) refl
+tagged_line settings reference false here e = rw (e, line_at_group3) refl
 
 -- ---- The EOLs that close a picture.
 eols_closing : (n most : ℕ) (closing more : Bits) → ClosesWithEols Kind.group3_1d n closing → n ≤ most → n ≤ (eols most (closing ++ more)).0
@@ -190,23 +190,23 @@ six_close settings Kind.group3_2d closing more matches is = rw (eols_group3_two 
 
 module _ (settings : DecodeSettings) (wide : 0 < settings.columns) (small : settings.columns ≤ 4294967295) where
   -- a line is read
-  pub line3_again : (kind : Kind) (reference row : Row) (line more : Bits) → Matches kind settings → EncodesLine kind reference row line → length reference ≡ settings.columns → length row ≡ settings.columns → line_at_group3 settings reference (line ++ more) ≡ Line.whole row more
-  line3_again Kind.group4 reference row line more matches is ref_len row_len = absurd matches
-  line3_again Kind.group3_1d reference row line more matches is ref_len row_len =
+  pub line_t4_again : (kind : Kind) (reference row : Row) (line more : Bits) → Matches kind settings → EncodesLine kind reference row line → length reference ≡ settings.columns → length row ≡ settings.columns → line_at_group3 settings reference (line ++ more) ≡ Line.whole row more
+  line_t4_again Kind.group4 reference row line more matches is ref_len row_len = absurd matches
+  line_t4_again Kind.group3_1d reference row line more matches is ref_len row_len =
       let len : length {A = Bool} [] + length row ≡ settings.columns = omega arith in
       rw (matches, line_at_group3) (line_1d_again settings.strict settings.columns [] row White line more is small len)
-  line3_again Kind.group3_2d reference row line more matches (rest, inl is) ref_len row_len =
+  line_t4_again Kind.group3_2d reference row line more matches (rest, inl is) ref_len row_len =
       let len : length {A = Bool} [] + length row ≡ settings.columns = omega arith in
-      ap (λ (x : Bits). line_at_group3 settings reference (x ++ more)) is.0 ∙ line3_tag settings reference true (rest ++ more) matches ∙ line_1d_again settings.strict settings.columns [] row White rest more is.1 small len
-  line3_again Kind.group3_2d reference row line more matches (rest, inr is) ref_len row_len =
-      ap (λ (x : Bits). line_at_group3 settings reference (x ++ more)) is.0 ∙ line3_tag settings reference false (rest ++ more) matches ∙ line_2d_again settings.strict settings.columns reference row rest more is.1 wide small ref_len row_len
+      ap (λ (x : Bits). line_at_group3 settings reference (x ++ more)) is.0 ∙ tagged_line settings reference true (rest ++ more) matches ∙ line_1d_again settings.strict settings.columns [] row White rest more is.1 small len
+  line_t4_again Kind.group3_2d reference row line more matches (rest, inr is) ref_len row_len =
+      ap (λ (x : Bits). line_at_group3 settings reference (x ++ more)) is.0 ∙ tagged_line settings reference false (rest ++ more) matches ∙ line_2d_again settings.strict settings.columns reference row rest more is.1 wide small ref_len row_len
 
   -- where it begins no EOL stands
-  pub line3_starts : (kind : Kind) (reference row : Row) (line more : Bits) → Matches kind settings → EncodesLine kind reference row line → length row ≡ settings.columns → IsLineStart (line ++ more)
-  line3_starts Kind.group4 reference row line more matches is row_len = absurd matches
-  line3_starts Kind.group3_1d reference row line more matches is row_len = line_1d_starts White row line more is (omega arith)
-  line3_starts Kind.group3_2d reference row line more matches (rest, inl is) row_len = rw is.0 (record { no_eol = refl; open_end = refl })
-  line3_starts Kind.group3_2d reference row line more matches (rest, inr is) row_len = rw is.0 (record { no_eol = line_2d_after_tag reference row 0 White rest more is.1 (omega arith); open_end = refl })
+  pub line_t4_starts : (kind : Kind) (reference row : Row) (line more : Bits) → Matches kind settings → EncodesLine kind reference row line → length row ≡ settings.columns → IsLineStart (line ++ more)
+  line_t4_starts Kind.group4 reference row line more matches is row_len = absurd matches
+  line_t4_starts Kind.group3_1d reference row line more matches is row_len = line_1d_starts White row line more is (omega arith)
+  line_t4_starts Kind.group3_2d reference row line more matches (rest, inl is) row_len = rw is.0 (record { no_eol = refl; open_end = refl })
+  line_t4_starts Kind.group3_2d reference row line more matches (rest, inr is) row_len = rw is.0 (record { no_eol = line_2d_after_tag reference row 0 White rest more is.1 (omega arith); open_end = refl })
 
   tag_starts : (reference row : Row) (line more : Bits) → EncodesLine Kind.group3_2d reference row line → length row ≡ settings.columns → after_tag (line ++ more) ≡ None
   tag_starts reference row line more (rest, inl is) row_len =
@@ -217,9 +217,9 @@ module _ (settings : DecodeSettings) (wide : 0 < settings.columns) (small : sett
   -- one EOL is counted before a line
   eol_before : (kind : Kind) (reference row : Row) (fill : ℕ) (line more : Bits) → Matches kind settings → EncodesLine kind reference row line → length row ≡ settings.columns → eols_group3 settings (eol fill ++ (line ++ more)) ≡ (1, line ++ more)
   eol_before Kind.group4 reference row fill line more matches is row_len = absurd matches
-  eol_before Kind.group3_1d reference row fill line more matches is row_len = eols_group3_one settings (eol fill ++ (line ++ more)) matches ∙ one_eol fill (line ++ more) (line3_starts Kind.group3_1d reference row line more matches is row_len).no_eol
+  eol_before Kind.group3_1d reference row fill line more matches is row_len = eols_group3_one settings (eol fill ++ (line ++ more)) matches ∙ one_eol fill (line ++ more) (line_t4_starts Kind.group3_1d reference row line more matches is row_len).no_eol
   eol_before Kind.group3_2d reference row fill line more matches is row_len =
-      eols_group3_two settings (eol fill ++ (line ++ more)) matches ∙ one_tagged fill (line ++ more) (record { start = line3_starts Kind.group3_2d reference row line more matches is row_len; no_tag = tag_starts reference row line more is row_len })
+      eols_group3_two settings (eol fill ++ (line ++ more)) matches ∙ one_tagged fill (line ++ more) (record { start = line_t4_starts Kind.group3_2d reference row line more matches is row_len; no_tag = tag_starts reference row line more is row_len })
 
   -- ---- The lines of a picture.
   abbrev with_eols : List Row → Bits → Progress
@@ -244,29 +244,29 @@ module _ (settings : DecodeSettings) (wide : 0 < settings.columns) (small : sett
   ends_well rows rest = record { rows = rows; has_eols = true; outcome = Ok rest }
 
   module _ (kind : Kind) (matches : Matches kind settings) (late : Ending) (tail last : Bits) (whole : List Row) (allows : Allows settings (length whole)) (stops : after_row settings (with_eols whole tail) ≡ Turn.done (ends_well whole last)) where
-    lines3_again : (before : List Row) (row : Row) (rows : List Row) (line next : Bits) (fuel : ℕ) → before ++ row ∷ rows ≡ whole → length (row_before settings.columns before) ≡ settings.columns → All (λ row. length row ≡ settings.columns) (row ∷ rows)
+    lines_t4_again : (before : List Row) (row : Row) (rows : List Row) (line next : Bits) (fuel : ℕ) → before ++ row ∷ rows ≡ whole → length (row_before settings.columns before) ≡ settings.columns → All (λ row. length row ≡ settings.columns) (row ∷ rows)
         → EncodesLine kind (row_before settings.columns before) row line → EncodesRowsWithEols kind row rows next → length rows < fuel → repeated (move_group3 settings) late fuel (with_eols before (line ++ (next ++ tail))) ≡ ends_well whole last
-    lines3_again before row rows line next zero all ref_len widths is lines lt = absurd (omega arith)
-    lines3_again before row [] line next (suc fuel) all ref_len widths is lines lt =
+    lines_t4_again before row rows line next zero all ref_len widths is lines lt = absurd (omega arith)
+    lines_t4_again before row [] line next (suc fuel) all ref_len widths is lines lt =
         let row_len : length row ≡ settings.columns = All-head (λ row. length row ≡ settings.columns) row [] widths in
         let here : line ++ (next ++ tail) ≡ line ++ tail = ap (λ (x : Bits). line ++ (x ++ tail)) lines in
-        let read : line_at_group3 settings (row_before settings.columns before) (line ++ (next ++ tail)) ≡ Line.whole row tail = ap (line_at_group3 settings (row_before settings.columns before)) here ∙ line3_again kind (row_before settings.columns before) row line tail matches is ref_len row_len in
+        let read : line_at_group3 settings (row_before settings.columns before) (line ++ (next ++ tail)) ≡ Line.whole row tail = ap (line_at_group3 settings (row_before settings.columns before)) here ∙ line_t4_again kind (row_before settings.columns before) row line tail matches is ref_len row_len in
         let moved : move_group3 settings (with_eols before (line ++ (next ++ tail))) ≡ Turn.done (ends_well whole last)
         = row_added before row (line ++ (next ++ tail)) tail read ∙ ap (λ (rs : List Row). after_row settings (with_eols rs tail)) all ∙ stops in
         ap (after_turn (repeated (move_group3 settings) late fuel)) moved
-    lines3_again before row (row2 ∷ rows) line next (suc fuel) all ref_len widths is (fill, line_2d, next2, is2, lines2, split) lt =
+    lines_t4_again before row (row2 ∷ rows) line next (suc fuel) all ref_len widths is (fill, line_2d, next2, is2, lines2, split) lt =
         let row_len : length row ≡ settings.columns = All-head (λ row. length row ≡ settings.columns) row (row2 ∷ rows) widths in
         let widths2 = All-tail (λ row. length row ≡ settings.columns) row (row2 ∷ rows) widths in
         let row2_len : length row2 ≡ settings.columns = All-head (λ row. length row ≡ settings.columns) row2 rows widths2 in
         let rest : Bits = line_2d ++ (next2 ++ tail) in
         let after : Bits = eol fill ++ rest in
         let here : line ++ (next ++ tail) ≡ line ++ after = ap (λ (x : Bits). line ++ x) (ap (λ (x : Bits). x ++ tail) split ∙ append_assoc (eol fill ++ line_2d) next2 tail ∙ append_assoc (eol fill) line_2d (next2 ++ tail)) in
-        let read : line_at_group3 settings (row_before settings.columns before) (line ++ (next ++ tail)) ≡ Line.whole row after = ap (line_at_group3 settings (row_before settings.columns before)) here ∙ line3_again kind (row_before settings.columns before) row line after matches is ref_len row_len in
+        let read : line_at_group3 settings (row_before settings.columns before) (line ++ (next ++ tail)) ≡ Line.whole row after = ap (line_at_group3 settings (row_before settings.columns before)) here ∙ line_t4_again kind (row_before settings.columns before) row line after matches is ref_len row_len in
         let rows1 : List Row = before ++ row ∷ [] in
         let one : eols_group3 settings after ≡ (1, rest) = eol_before kind row row2 fill line_2d (next2 ++ tail) matches is2 row2_len in
         let all2 : rows1 ++ row2 ∷ rows ≡ whole = append_assoc before (row ∷ []) (row2 ∷ rows) ∙ all in
         let count : length rows1 < length whole = omega (arith, ap length all2, length-append rows1 (row2 ∷ rows)) in
-        let open_end : at_end rest ≡ false = (line3_starts kind row row2 line_2d (next2 ++ tail) matches is2 row2_len).open_end in
+        let open_end : at_end rest ≡ false = (line_t4_starts kind row row2 line_2d (next2 ++ tail) matches is2 row2_len).open_end in
         let over : ((settings.end_of_block && (leb 6 1)) || limit_met settings (length rows1) || at_end rest) ≡ false
         = or_from _ _ (or_from _ _ (and_right settings.end_of_block (leb 6 1) refl) (not_met settings (length whole) (length rows1) allows count)) open_end in
         let moved : move_group3 settings (with_eols before (line ++ (next ++ tail))) ≡ Turn.next (with_eols rows1 rest)
@@ -274,7 +274,7 @@ module _ (settings : DecodeSettings) (wide : 0 < settings.columns) (small : sett
         ∙ cond-false ((settings.end_of_block && (leb 6 1)) || limit_met settings (length rows1) || at_end rest) (ends_with (with_eols rows1 after) (Ok rest)) (Turn.next (with_eols rows1 rest)) over in
         let pushed : row_before settings.columns rows1 ≡ row = row_before_push settings.columns before row in
         ap (after_turn (repeated (move_group3 settings) late fuel)) moved
-        ∙ lines3_again rows1 row2 rows line_2d next2 fuel all2 (ap length pushed ∙ row_len) widths2 (subst (λ (r : Row). EncodesLine kind r row2 line_2d) (sym pushed) is2) lines2 (omega arith)
+        ∙ lines_t4_again rows1 row2 rows line_2d next2 fuel all2 (ap length pushed ∙ row_len) widths2 (subst (λ (r : Row). EncodesLine kind r row2 line_2d) (sym pushed) is2) lines2 (omega arith)
 
   -- ---- How a run ends.
   -- six EOLs end it
@@ -308,58 +308,58 @@ module _ (settings : DecodeSettings) (wide : 0 < settings.columns) (small : sett
       omega (arith, on, ap length here, length-eol fill (line ++ next), length-append line next)
 
   -- lines with their EOLs are read, and the run ends where it does after the last
-  pub lines3_end : (kind : Kind) (rows : List Row) (lines tail last : Bits) → Matches kind settings → 0 < length rows → IsPicture settings.columns rows → EncodesRowsWithEols kind (replicate settings.columns false) rows lines → Allows settings (length rows)
+  pub lines_t4_end : (kind : Kind) (rows : List Row) (lines tail last : Bits) → Matches kind settings → 0 < length rows → IsPicture settings.columns rows → EncodesRowsWithEols kind (replicate settings.columns false) rows lines → Allows settings (length rows)
       → after_row settings (with_eols rows tail) ≡ Turn.done (ends_well rows last) → end_of settings (lines ++ tail) ≡ ends_well rows last
-  lines3_end kind [] lines tail last matches some is_picture are allows stops = absurd (omega arith)
-  lines3_end kind (row ∷ rows) lines tail last matches some is_picture (fill, line, next, is, more, split) allows stops =
+  lines_t4_end kind [] lines tail last matches some is_picture are allows stops = absurd (omega arith)
+  lines_t4_end kind (row ∷ rows) lines tail last matches some is_picture (fill, line, next, is, more, split) allows stops =
       let row_len : length row ≡ settings.columns = All-head (λ row. length row ≡ settings.columns) row rows is_picture.1 in
       let rest : Bits = line ++ (next ++ tail) in
       let here : lines ++ tail ≡ eol fill ++ rest = ap (λ (x : Bits). x ++ tail) split ∙ append_assoc (eol fill ++ line) next tail ∙ append_assoc (eol fill) line (next ++ tail) in
-      let one : all_eols (eol fill ++ rest) ≡ (1, rest) = one_eol fill rest (line3_starts kind (replicate settings.columns false) row line (next ++ tail) matches is row_len).no_eol in
+      let one : all_eols (eol fill ++ rest) ≡ (1, rest) = one_eol fill rest (line_t4_starts kind (replicate settings.columns false) row line (next ++ tail) matches is row_len).no_eol in
       let late : Ending = record { rows = []; has_eols = true; outcome = Err UnexpectedEof } in
       let started : plain_group3 settings (eol fill ++ rest) ≡ repeated (move_group3 settings) late (suc (suc (length rest))) (with_eols [] rest)
       = ap (λ (f : ℕ × Bits). ending_from (move_group3 settings) (record { rows = []; has_eols = ltb 0 f.0 || settings.end_of_line; rest = f.1 })) one in
       let short : length rows < suc (suc (length rest)) = omega (arith, length-lines kind row rows next more, length-append line (next ++ tail), length-append next tail) in
       end_of_three kind (lines ++ tail) matches ∙ ap (plain_group3 settings) here ∙ started
-      ∙ lines3_again kind matches late tail last (row ∷ rows) allows stops [] row rows line next (suc (suc (length rest))) refl (length-replicate settings.columns false) is_picture.1 is more short
+      ∙ lines_t4_again kind matches late tail last (row ∷ rows) allows stops [] row rows line next (suc (suc (length rest))) refl (length-replicate settings.columns false) is_picture.1 is more short
 
   -- a T.4 picture, closed by RTC, is read as its rows, whatever follows
-  pub closed3_end : (kind : Kind) (rows : List Row) (lines closing more : Bits) → Matches kind settings → settings.end_of_block ≡ true → 0 < length rows → IsPicture settings.columns rows → EncodesRowsWithEols kind (replicate settings.columns false) rows lines → ClosesWithEols kind 6 closing
+  pub closed_t4_end : (kind : Kind) (rows : List Row) (lines closing more : Bits) → Matches kind settings → settings.end_of_block ≡ true → 0 < length rows → IsPicture settings.columns rows → EncodesRowsWithEols kind (replicate settings.columns false) rows lines → ClosesWithEols kind 6 closing
       → Allows settings (length rows) → end_of settings (lines ++ (closing ++ more)) ≡ ends_well rows (eols_group3 settings (closing ++ more)).1
-  closed3_end kind rows lines closing more matches block some is_picture are closed allows =
-      lines3_end kind rows lines (closing ++ more) (eols_group3 settings (closing ++ more)).1 matches some is_picture are allows (six_stop rows (closing ++ more) block (six_close settings kind closing more matches closed))
+  closed_t4_end kind rows lines closing more matches block some is_picture are closed allows =
+      lines_t4_end kind rows lines (closing ++ more) (eols_group3 settings (closing ++ more)).1 matches some is_picture are allows (six_stop rows (closing ++ more) block (six_close settings kind closing more matches closed))
 
-  pub limited3_end : (kind : Kind) (rows : List Row) (lines more : Bits) → Matches kind settings → settings.rows ≡ length rows → 0 < length rows → IsPicture settings.columns rows → EncodesRowsWithEols kind (replicate settings.columns false) rows lines
+  pub limited_t4_end : (kind : Kind) (rows : List Row) (lines more : Bits) → Matches kind settings → settings.rows ≡ length rows → 0 < length rows → IsPicture settings.columns rows → EncodesRowsWithEols kind (replicate settings.columns false) rows lines
       → end_of settings (lines ++ more) ≡ ends_well rows (eols_group3 settings more).1
-  limited3_end kind rows lines more matches limit some is_picture are =
+  limited_t4_end kind rows lines more matches limit some is_picture are =
       let met : limit_met settings (length rows) ≡ true
       = and_from (not (eqb settings.rows 0)) (eqb settings.rows (length rows)) (not_from_false (eqb settings.rows 0) (ne_eqb settings.rows 0 (λ e. absurd (omega arith)))) (eq-eqb settings.rows (length rows) limit) in
-      lines3_end kind rows lines more (eols_group3 settings more).1 matches some is_picture are (inr (omega arith)) (limit_stops rows more met)
+      lines_t4_end kind rows lines more (eols_group3 settings more).1 matches some is_picture are (inr (omega arith)) (limit_stops rows more met)
 
 -- ---- Over bytes.
-pub closed_picture3_lem : ReadsPictureT4
-closed_picture3_lem settings kind rows lines closing more bytes are matches block allows some is_picture lines3 closed is =
+pub closed_picture_t4 : ReadsPictureT4
+closed_picture_t4 settings kind rows lines closing more bytes are matches block allows some is_picture lines3 closed is =
     let small : settings.columns ≤ 4294967295 = omega (arith, are.columns) in
     plain_ends settings bytes (record { rows = rows; has_eols = true; outcome = Ok (eols_group3 settings (closing ++ more)).1 }) (eols_group3 settings (closing ++ more)).1 is_picture.0
-    (ap (end_of settings) is ∙ closed3_end settings is_picture.0 small kind rows lines closing more matches block some is_picture lines3 closed allows) refl
+    (ap (end_of settings) is ∙ closed_t4_end settings is_picture.0 small kind rows lines closing more matches block some is_picture lines3 closed allows) refl
 
-pub limited_picture3_lem : ReadsLimitedPictureT4
-limited_picture3_lem settings kind rows lines more bytes are matches limit some is_picture lines3 is =
+pub limited_picture_t4 : ReadsLimitedPictureT4
+limited_picture_t4 settings kind rows lines more bytes are matches limit some is_picture lines3 is =
     let small : settings.columns ≤ 4294967295 = omega (arith, are.columns) in
     let e = plain_ends settings bytes (record { rows = rows; has_eols = true; outcome = Ok (eols_group3 settings more).1 }) (eols_group3 settings more).1 is_picture.0
-    (ap (end_of settings) is ∙ limited3_end settings is_picture.0 small kind rows lines more matches limit some is_picture lines3) refl in
+    (ap (end_of settings) is ∙ limited_t4_end settings is_picture.0 small kind rows lines more matches limit some is_picture lines3) refl in
     (ap (λ (a : List Row × Result ℕ DecodeError). a.0) e, rw e refl)
 
 -- ---- One beginning, one picture.
-one_picture3_at : (settings : DecodeSettings) (kind : Kind) (rows others : List Row) (bits more : Bits) → settings.columns ≤ 4294967295 → Matches kind settings → settings.end_of_block ≡ true → settings.rows ≡ 0
+one_picture_at : (settings : DecodeSettings) (kind : Kind) (rows others : List Row) (bits more : Bits) → settings.columns ≤ 4294967295 → Matches kind settings → settings.end_of_block ≡ true → settings.rows ≡ 0
     → PictureT4 kind settings.columns rows bits → PictureT4 kind settings.columns others (bits ++ more) → rows ≡ others
-one_picture3_at settings kind rows others bits more small matches block none one two =
-    let first = closed3_end settings one.3.0 small kind rows one.0 one.1 more matches block one.2 one.3 one.4 one.5 (inl none) in
-    let second = closed3_end settings two.3.0 small kind others two.0 two.1 [] matches block two.2 two.3 two.4 two.5 (inl none) in
+one_picture_at settings kind rows others bits more small matches block none one two =
+    let first = closed_t4_end settings one.3.0 small kind rows one.0 one.1 more matches block one.2 one.3 one.4 one.5 (inl none) in
+    let second = closed_t4_end settings two.3.0 small kind others two.0 two.1 [] matches block two.2 two.3 two.4 two.5 (inl none) in
     let same : one.0 ++ (one.1 ++ more) ≡ two.0 ++ (two.1 ++ []) = sym (append_assoc one.0 one.1 more) ∙ ap (λ (x : Bits). x ++ more) (sym one.6) ∙ two.6 ∙ ap (λ (x : Bits). two.0 ++ x) (sym (append-nil two.1)) in
     ap (λ (e : Ending). e.rows) (sym first ∙ ap (end_of settings) same ∙ second)
 
-pub one_picture3_lem : OnePictureT4
-one_picture3_lem Kind.group4 columns rows others bits more three small one two = absurd (three refl)
-one_picture3_lem Kind.group3_1d columns rows others bits more three small one two = one_picture3_at (with_settings Group3_1D columns 0 true false false false) Kind.group3_1d rows others bits more (omega arith) refl refl refl one two
-one_picture3_lem Kind.group3_2d columns rows others bits more three small one two = one_picture3_at (with_settings Group3_2D columns 0 true false false false) Kind.group3_2d rows others bits more (omega arith) refl refl refl one two
+pub one_picture_t4 : OnePictureT4
+one_picture_t4 Kind.group4 columns rows others bits more three small one two = absurd (three refl)
+one_picture_t4 Kind.group3_1d columns rows others bits more three small one two = one_picture_at (with_settings Group3_1D columns 0 true false false false) Kind.group3_1d rows others bits more (omega arith) refl refl refl one two
+one_picture_t4 Kind.group3_2d columns rows others bits more three small one two = one_picture_at (with_settings Group3_2D columns 0 true false false false) Kind.group3_2d rows others bits more (omega arith) refl refl refl one two

@@ -18,7 +18,7 @@ use Rattle.hayro_ccitt.specs.Repetition.{Turn, repeated}
 use Rattle.hayro_ccitt.specs.Rows.{Row}
 use Rattle.hayro_ccitt.specs.Lines.{Line, line_2d}
 use Rattle.hayro_ccitt.specs.EndOfLine.{after_eol, eols, all_eols}
-use Rattle.hayro_ccitt.specs.PlainReading.{Progress, Ending, Move, row_before, aligned, at_end, limit_met, ends_with, after_line_group4, line_at_group4, move_group4, plain_group4, end_of, plain, bytes_before, with_settings}
+use Rattle.hayro_ccitt.specs.PlainReading.{eols_group4, Progress, Ending, Move, row_before, aligned, at_end, limit_met, ends_with, after_line_group4, line_at_group4, move_group4, plain_group4, end_of, plain, bytes_before, with_settings}
 use Rattle.hayro_ccitt.specs.Laws.{each_word, Allows, Reaches, ComesToEofb, ReadsPictureT6, ReadsLimitedRowsT6, OnePictureT6}
 use Rattle.hayro_ccitt.specs.Encodings.{EncodesLine2D, Kind, padding, EncodesRows, eol, IsPicture, PictureT6}
 use Rattle.hayro_ccitt.proofs.Repeated.{after_turn, repeated_turn, repeated_same}
@@ -179,13 +179,9 @@ move_group4_eofb settings run rest block two =
     = or_left _ _ (or_left _ _ (and_from settings.end_of_block (eqb 2 2) block refl)) in
     ap (line_at_group4 settings run) found ∙ cond-true ((settings.end_of_block && (eqb 2 2)) || limit_met settings (length run.rows) || at_end rest) (ends_with run (Ok rest)) line over
 
--- the EOLs that are passed at a line's start
-abbrev pub eols4 : DecodeSettings → Bits → ℕ × Bits
-eols4 settings here = cond settings.end_of_block (eols 2 here) (all_eols here)
-
-pub move_group4_limit : (settings : DecodeSettings) (run : Progress) → limit_met settings (length run.rows) ≡ true → move_group4 settings run ≡ ends_with run (Ok (eols4 settings run.rest).1)
+pub move_group4_limit : (settings : DecodeSettings) (run : Progress) → limit_met settings (length run.rows) ≡ true → move_group4 settings run ≡ ends_with run (Ok (eols_group4 settings run.rest).1)
 move_group4_limit settings run met =
-    let found : ℕ × Bits = eols4 settings run.rest in
+    let found : ℕ × Bits = eols_group4 settings run.rest in
     let line : Move = after_line_group4 settings run (line_2d settings.strict settings.columns (row_before settings.columns run.rows) found.1) in
     let over : ((settings.end_of_block && (eqb found.0 2)) || limit_met settings (length run.rows) || at_end found.1) ≡ true = or_left _ _ (or_right _ _ met) in
     cond-true ((settings.end_of_block && (eqb found.0 2)) || limit_met settings (length run.rows) || at_end found.1) (ends_with run (Ok found.1)) line over
@@ -193,13 +189,13 @@ move_group4_limit settings run met =
 pub eofb_stands : (more : Bits) → eols 2 (eol 0 ++ (eol 0 ++ more)) ≡ (2, more)
 eofb_stands more = refl
 
-abbrev pub late4 : Ending
-late4 = record { rows = []; has_eols = false; outcome = Err UnexpectedEof }
+abbrev pub late_group4 : Ending
+late_group4 = record { rows = []; has_eols = false; outcome = Err UnexpectedEof }
 
-pub plain_group4_goes : (settings : DecodeSettings) (bits : Bits) → 0 < settings.columns → plain_group4 settings bits ≡ goes settings late4 (between [] bits)
-plain_group4_goes settings bits wide = repeated_same (move_group4 settings) late4 left (move_group4_shrinks settings wide) (suc (suc (length bits))) (suc (length bits)) (between [] bits) (omega arith) (omega arith)
+pub plain_group4_goes : (settings : DecodeSettings) (bits : Bits) → 0 < settings.columns → plain_group4 settings bits ≡ goes settings late_group4 (between [] bits)
+plain_group4_goes settings bits wide = repeated_same (move_group4 settings) late_group4 left (move_group4_shrinks settings wide) (suc (suc (length bits))) (suc (length bits)) (between [] bits) (omega arith) (omega arith)
 
-pub end_of_goes : (settings : DecodeSettings) (bits : Bits) → settings.encoding ≡ Group4 → 0 < settings.columns → end_of settings bits ≡ goes settings late4 (between [] bits)
+pub end_of_goes : (settings : DecodeSettings) (bits : Bits) → settings.encoding ≡ Group4 → 0 < settings.columns → end_of settings bits ≡ goes settings late_group4 (between [] bits)
 end_of_goes settings bits four wide = rw (four, end_of) (plain_group4_goes settings bits wide)
 
 -- the end of a run that came to its end
@@ -207,43 +203,43 @@ abbrev pub ended : List Row → Bits → Ending
 ended rows rest = record { rows = rows; has_eols = false; outcome = Ok rest }
 
 -- A T.6 picture, closed by EOFB: the run comes to its end with its rows.
-pub pic4_reaches : (settings : DecodeSettings) (rows : List Row) (bits more : Bits) → settings.columns ≤ 4294967295 → Allows settings (length rows)
+pub picture_t6_reaches : (settings : DecodeSettings) (rows : List Row) (bits more : Bits) → settings.columns ≤ 4294967295 → Allows settings (length rows)
     → (settings.rows_are_byte_aligned ≡ true → length (bits ++ more) % 8 ≡ 0) → PictureT6 settings.columns settings.rows_are_byte_aligned rows bits
     → Reaches settings (between [] (bits ++ more)) (between rows (eol 0 ++ (eol 0 ++ more)))
-pic4_reaches settings rows bits more small limit whole pic =
+picture_t6_reaches settings rows bits more small limit whole pic =
     let body : Bits = pic.0 in
     let here : bits ++ more ≡ body ++ (eol 0 ++ (eol 0 ++ more)) = ap (λ (x : Bits). x ++ more) pic.3 ∙ append_assoc (body ++ eol 0) (eol 0) more ∙ append_assoc body (eol 0) (eol 0 ++ more) in
     let read = body_again settings pic.1.0 small [] rows body (eol 0 ++ (eol 0 ++ more)) (allows_sum settings (length rows) limit) (length-replicate settings.columns false) pic.1.1 (λ e. ap (λ (x : Bits). length x % 8) (sym here) ∙ whole e) pic.2 in
     subst (λ (x : Bits). Reaches settings (between [] x) (between rows (eol 0 ++ (eol 0 ++ more)))) (sym here) read
 
 -- and so it is read as its rows, whatever follows
-pub pic4_end : (settings : DecodeSettings) (rows : List Row) (bits more : Bits) → settings.encoding ≡ Group4 → settings.end_of_block ≡ true → settings.columns ≤ 4294967295 → Allows settings (length rows)
+pub picture_t6_end : (settings : DecodeSettings) (rows : List Row) (bits more : Bits) → settings.encoding ≡ Group4 → settings.end_of_block ≡ true → settings.columns ≤ 4294967295 → Allows settings (length rows)
     → (settings.rows_are_byte_aligned ≡ true → length (bits ++ more) % 8 ≡ 0) → PictureT6 settings.columns settings.rows_are_byte_aligned rows bits → end_of settings (bits ++ more) ≡ ended rows more
-pic4_end settings rows bits more four block small limit whole pic =
+picture_t6_end settings rows bits more four block small limit whole pic =
     let wide : 0 < settings.columns = pic.1.0 in
     let tail : Bits = eol 0 ++ (eol 0 ++ more) in
-    let read = goes_reaches settings late4 (between [] (bits ++ more)) (between rows tail) wide (pic4_reaches settings rows bits more small limit whole pic) in
-    let last : goes settings late4 (between rows tail) ≡ ended rows more
-    = goes_is settings late4 (between rows tail) wide ∙ ap (after_turn (goes settings late4)) (move_group4_eofb settings (between rows tail) more block (eofb_stands more)) in
+    let read = goes_reaches settings late_group4 (between [] (bits ++ more)) (between rows tail) wide (picture_t6_reaches settings rows bits more small limit whole pic) in
+    let last : goes settings late_group4 (between rows tail) ≡ ended rows more
+    = goes_is settings late_group4 (between rows tail) wide ∙ ap (after_turn (goes settings late_group4)) (move_group4_eofb settings (between rows tail) more block (eofb_stands more)) in
     end_of_goes settings (bits ++ more) four wide ∙ read ∙ last
 
 -- Such data are among those that `AfterEofb` is about.
-pub pic4_comes : (settings : DecodeSettings) (rows : List Row) (bits more : Bits) → settings.columns ≤ 4294967295 → Allows settings (length rows)
+pub picture_t6_comes : (settings : DecodeSettings) (rows : List Row) (bits more : Bits) → settings.columns ≤ 4294967295 → Allows settings (length rows)
     → (settings.rows_are_byte_aligned ≡ true → length (bits ++ more) % 8 ≡ 0) → PictureT6 settings.columns settings.rows_are_byte_aligned rows bits → ComesToEofb settings (bits ++ more)
-pic4_comes settings rows bits more small limit whole pic = (between rows (eol 0 ++ (eol 0 ++ more)), pic4_reaches settings rows bits more small limit whole pic, refl)
+picture_t6_comes settings rows bits more small limit whole pic = (between rows (eol 0 ++ (eol 0 ++ more)), picture_t6_reaches settings rows bits more small limit whole pic, refl)
 
--- A limit of as many rows as were encoded ends the run without EOFB (T3.3).
-pub body4_end : (settings : DecodeSettings) (rows : List Row) (body more : Bits) → settings.encoding ≡ Group4 → settings.columns ≤ 4294967295 → 0 < length rows → settings.rows ≡ length rows
+-- A limit of as many rows as were encoded ends the run without EOFB.
+pub rows_t6_end : (settings : DecodeSettings) (rows : List Row) (body more : Bits) → settings.encoding ≡ Group4 → settings.columns ≤ 4294967295 → 0 < length rows → settings.rows ≡ length rows
     → (settings.rows_are_byte_aligned ≡ true → length (body ++ more) % 8 ≡ 0) → IsPicture settings.columns rows → EncodesRows Kind.group4 settings.rows_are_byte_aligned (replicate settings.columns false) rows body
-    → end_of settings (body ++ more) ≡ ended rows (eols4 settings more).1
-body4_end settings rows body more four small some limit whole is lines =
+    → end_of settings (body ++ more) ≡ ended rows (eols_group4 settings more).1
+rows_t6_end settings rows body more four small some limit whole is lines =
     let wide : 0 < settings.columns = is.0 in
     let allows : Allows settings (length rows) = inr (omega arith) in
-    let read = goes_reaches settings late4 (between [] (body ++ more)) (between rows more) wide (body_again settings wide small [] rows body more (allows_sum settings (length rows) allows) (length-replicate settings.columns false) is.1 whole lines) in
+    let read = goes_reaches settings late_group4 (between [] (body ++ more)) (between rows more) wide (body_again settings wide small [] rows body more (allows_sum settings (length rows) allows) (length-replicate settings.columns false) is.1 whole lines) in
     let met : limit_met settings (length rows) ≡ true
     = and_from (not (eqb settings.rows 0)) (eqb settings.rows (length rows)) (not_from_false (eqb settings.rows 0) (ne_eqb settings.rows 0 (λ e. absurd (omega arith)))) (eq-eqb settings.rows (length rows) limit) in
-    let last : goes settings late4 (between rows more) ≡ ended rows (eols4 settings more).1
-    = goes_is settings late4 (between rows more) wide ∙ ap (after_turn (goes settings late4)) (move_group4_limit settings (between rows more) met) in
+    let last : goes settings late_group4 (between rows more) ≡ ended rows (eols_group4 settings more).1
+    = goes_is settings late_group4 (between rows more) wide ∙ ap (after_turn (goes settings late_group4)) (move_group4_limit settings (between rows more) met) in
     end_of_goes settings (body ++ more) four wide ∙ read ∙ last
 
 -- ---- Over bytes.
@@ -253,41 +249,41 @@ plain_ends settings bytes end rest wide e outcome =
     ∙ ap (λ (x : Ending). (x.rows, bytes_before (bits_of bytes) x.outcome)) e
     ∙ ap (λ (x : Result Bits DecodeError). (end.rows, bytes_before (bits_of bytes) x)) outcome
 
-pub pic4_plain : (settings : DecodeSettings) (rows : List Row) (bits more : Bits) (bytes : List ℕ) → settings.encoding ≡ Group4 → settings.end_of_block ≡ true → settings.columns ≤ 4294967295 → Allows settings (length rows)
+pub picture_t6_plain : (settings : DecodeSettings) (rows : List Row) (bits more : Bits) (bytes : List ℕ) → settings.encoding ≡ Group4 → settings.end_of_block ≡ true → settings.columns ≤ 4294967295 → Allows settings (length rows)
     → PictureT6 settings.columns settings.rows_are_byte_aligned rows bits → bits_of bytes ≡ bits ++ more → plain settings bytes ≡ (rows, Ok ((length bits + 7) / 8))
-pic4_plain settings rows bits more bytes four block small limit pic is =
+picture_t6_plain settings rows bits more bytes four block small limit pic is =
     let n : length (bits_of bytes) ≡ length bits + length more = ap length is ∙ length-append bits more in
     let eight = length-bits_of bytes in
     let whole : length (bits ++ more) % 8 ≡ 0 = omega (arith, eight, ap length is) in
     let count : (length (bits_of bytes) - length more + 7) / 8 ≡ (length bits + 7) / 8 = omega (arith, n) in
-    plain_ends settings bytes (ended rows more) more pic.1.0 (ap (end_of settings) is ∙ pic4_end settings rows bits more four block small limit (λ e. whole) pic) refl
+    plain_ends settings bytes (ended rows more) more pic.1.0 (ap (end_of settings) is ∙ picture_t6_end settings rows bits more four block small limit (λ e. whole) pic) refl
     ∙ ap (λ (k : ℕ). (rows, Ok k)) count
 
-pub body4_plain : (settings : DecodeSettings) (rows : List Row) (body more : Bits) (bytes : List ℕ) → settings.encoding ≡ Group4 → settings.columns ≤ 4294967295 → 0 < length rows → settings.rows ≡ length rows → IsPicture settings.columns rows
+pub rows_t6_plain : (settings : DecodeSettings) (rows : List Row) (body more : Bits) (bytes : List ℕ) → settings.encoding ≡ Group4 → settings.columns ≤ 4294967295 → 0 < length rows → settings.rows ≡ length rows → IsPicture settings.columns rows
     → EncodesRows Kind.group4 settings.rows_are_byte_aligned (replicate settings.columns false) rows body → bits_of bytes ≡ body ++ more
-    → plain settings bytes ≡ (rows, Ok ((length (bits_of bytes) - length (eols4 settings more).1 + 7) / 8))
-body4_plain settings rows body more bytes four small some limit is_picture lines is =
+    → plain settings bytes ≡ (rows, Ok ((length (bits_of bytes) - length (eols_group4 settings more).1 + 7) / 8))
+rows_t6_plain settings rows body more bytes four small some limit is_picture lines is =
     let eight = length-bits_of bytes in
     let whole : length (body ++ more) % 8 ≡ 0 = omega (arith, eight, ap length is) in
-    plain_ends settings bytes (ended rows (eols4 settings more).1) (eols4 settings more).1 is_picture.0 (ap (end_of settings) is ∙ body4_end settings rows body more four small some limit (λ e. whole) is_picture lines) refl
+    plain_ends settings bytes (ended rows (eols_group4 settings more).1) (eols_group4 settings more).1 is_picture.0 (ap (end_of settings) is ∙ rows_t6_end settings rows body more four small some limit (λ e. whole) is_picture lines) refl
 
-pub closed_picture_lem : ReadsPictureT6
-closed_picture_lem settings rows bits more bytes are four block limit pic is = pic4_plain settings rows bits more bytes four block (omega (arith, are.columns)) limit pic is
+pub closed_picture_t6 : ReadsPictureT6
+closed_picture_t6 settings rows bits more bytes are four block limit pic is = picture_t6_plain settings rows bits more bytes four block (omega (arith, are.columns)) limit pic is
 
-pub limited_picture_lem : ReadsLimitedRowsT6
-limited_picture_lem settings rows body more bytes are four limit some is_picture lines is =
-    let e = body4_plain settings rows body more bytes four (omega (arith, are.columns)) some limit is_picture lines is in
+pub limited_rows_t6 : ReadsLimitedRowsT6
+limited_rows_t6 settings rows body more bytes are four limit some is_picture lines is =
+    let e = rows_t6_plain settings rows body more bytes four (omega (arith, are.columns)) some limit is_picture lines is in
     (ap (λ (a : List Row × Result ℕ DecodeError). a.0) e, rw e refl)
 
 -- ---- One beginning, one picture.
-pub one_picture_lem : OnePictureT6
-one_picture_lem columns aligned rows others bits more small one two =
+pub one_picture_t6 : OnePictureT6
+one_picture_t6 columns aligned rows others bits more small one two =
     let settings : DecodeSettings = with_settings Group4 columns 0 true false aligned false in
     let n : ℕ = length (bits ++ more) in
     let pad : Bits = replicate ((8 - n % 8) % 8) false in
     let long : length ((bits ++ more) ++ pad) ≡ n + (8 - n % 8) % 8 = length-append (bits ++ more) pad ∙ ap (λ (k : ℕ). n + k) (length-replicate ((8 - n % 8) % 8) false) in
     let whole : length ((bits ++ more) ++ pad) % 8 ≡ 0 = omega (arith, long) in
     let same : (bits ++ more) ++ pad ≡ bits ++ (more ++ pad) = append_assoc bits more pad in
-    let first = pic4_end settings rows bits (more ++ pad) refl refl (omega arith) (inl refl) (λ e. ap (λ (x : Bits). length x % 8) (sym same) ∙ whole) one in
-    let second = pic4_end settings others (bits ++ more) pad refl refl (omega arith) (inl refl) (λ e. whole) two in
+    let first = picture_t6_end settings rows bits (more ++ pad) refl refl (omega arith) (inl refl) (λ e. ap (λ (x : Bits). length x % 8) (sym same) ∙ whole) one in
+    let second = picture_t6_end settings others (bits ++ more) pad refl refl (omega arith) (inl refl) (λ e. whole) two in
     ap (λ (e : Ending). e.rows) (sym first ∙ ap (end_of settings) (sym same) ∙ second)

@@ -156,8 +156,8 @@ module _ (settings : DecodeSettings) (wide : 0 < settings.columns) where
     after_line_group4_follows run (Line.whole row here) other agrees adds = rw agrees refl
     after_line_group4_follows run (Line.broken front fault) other agrees adds = (turn_extends run.rows (after_line_group4 leniently run other) adds, λ ok. absurd (false≢true ok))
 
-    line_at4_follows : (run : Progress) (found : ℕ × Bits) → Follows SameRun Precedes rest (line_at_group4 strictly run found) (line_at_group4 leniently run found)
-    line_at4_follows run (count, here) = by (((settings.end_of_block && (eqb count 2)) || limit_met settings (length run.rows)) || at_end here)
+    line_at_group4_follows : (run : Progress) (found : ℕ × Bits) → Follows SameRun Precedes rest (line_at_group4 strictly run found) (line_at_group4 leniently run found)
+    line_at_group4_follows run (count, here) = by (((settings.end_of_block && (eqb count 2)) || limit_met settings (length run.rows)) || at_end here)
       where
         line : Bool → Line
         line strict = line_2d strict settings.columns (row_before settings.columns run.rows) here
@@ -168,18 +168,18 @@ module _ (settings : DecodeSettings) (wide : 0 < settings.columns) where
 
     move_group4_follows : (s t : Progress) → SameRun s t → Follows SameRun Precedes rest (move_group4 strictly s) (move_group4 leniently t)
     move_group4_follows s t same = subst (λ (r : Progress). Follows SameRun Precedes rest (move_group4 strictly s) (move_group4 leniently r)) same
-        (line_at4_follows s (cond settings.end_of_block (eols 2 s.rest) (all_eols s.rest)))
+        (line_at_group4_follows s (cond settings.end_of_block (eols 2 s.rest) (all_eols s.rest)))
 
-  precedes3 : (bits : Bits) → Precedes (plain_group3 strictly bits) (plain_group3 leniently bits)
-  precedes3 bits =
+  precedes_group3 : (bits : Bits) → Precedes (plain_group3 strictly bits) (plain_group3 leniently bits)
+  precedes_group3 bits =
       let first : Progress = record { rows = []; has_eols = ltb 0 (all_eols bits).0 || settings.end_of_line; rest = (all_eols bits).1 } in
       let late : Ending = record { rows = []; has_eols = first.has_eols; outcome = Err UnexpectedEof } in
       repeated_follows (move_group3 strictly) late left_group3 (move_group3_shrinks strictly wide) (move_group3 leniently) late left_group3 (move_group3_shrinks leniently wide) SameRun Precedes
       (move_group3_follows (λ t. repeated (move_group3 leniently) late (suc (left_group3 t)) t) (λ t. repeated_adds (move_group3 leniently) late left_group3 (move_group3_shrinks leniently wide) (move_group3_adds leniently) (suc (left_group3 t)) t (omega arith)))
       (suc (suc (length first.rest))) (suc (suc (length first.rest))) first first (left_group3_below first) (left_group3_below first) refl
 
-  precedes4 : (bits : Bits) → Precedes (plain_group4 strictly bits) (plain_group4 leniently bits)
-  precedes4 bits =
+  precedes_group4 : (bits : Bits) → Precedes (plain_group4 strictly bits) (plain_group4 leniently bits)
+  precedes_group4 bits =
       let first : Progress = record { rows = []; has_eols = false; rest = bits } in
       let late : Ending = record { rows = []; has_eols = false; outcome = Err UnexpectedEof } in
       repeated_follows (move_group4 strictly) late left (move_group4_shrinks strictly wide) (move_group4 leniently) late left (move_group4_shrinks leniently wide) SameRun Precedes
@@ -187,9 +187,9 @@ module _ (settings : DecodeSettings) (wide : 0 < settings.columns) where
       (suc (suc (length first.rest))) (suc (suc (length first.rest))) first first (omega arith) (omega arith) refl
 
   precedes : (encoding : EncodingMode) (bits : Bits) → Precedes (end_by encoding strictly bits) (end_by encoding leniently bits)
-  precedes Group4 bits = precedes4 bits
-  precedes Group3_1D bits = precedes3 bits
-  precedes Group3_2D bits = precedes3 bits
+  precedes Group4 bits = precedes_group4 bits
+  precedes Group3_1D bits = precedes_group3 bits
+  precedes Group3_2D bits = precedes_group3 bits
 
 ok_outcome : (bits : Bits) (r : Result Bits DecodeError) → IsOk (bytes_before bits r) → IsOk r
 ok_outcome bits (Ok rest) ok = refl

@@ -33,7 +33,8 @@ pub data EncodesLine2D (reference row : Row) : ℕ → Color → Bits → Type 0
   vertical : (from : ℕ) (word : Bits) (k : ℤ) {color : Color} {bits : Bits} → from ≤ length row → Has mode_codes (Vertical k) word
       → pos (a1 row from) ≡ pos (b1 reference from color) +ℤ k → EncodesLine2D reference row (suc (a1 row from)) (opposite color) bits
       → EncodesLine2D reference row from color (word ++ bits)
-  horizontal : (from : ℕ) (word : Bits) {first second : Bits} {color : Color} {bits : Bits} → from ≤ length row → Has mode_codes Horizontal word
+  horizontal : (from : ℕ) (word : Bits) {first second : Bits} {color : Color} {bits : Bits}
+      → from ≤ length row → Has mode_codes Horizontal word
       → Spells color (a1 row from - (from - 1)) first → Spells (opposite color) (a2 row from - a1 row from) second
       → EncodesLine2D reference row (suc (a2 row from)) color bits
       → EncodesLine2D reference row from color (word ++ (first ++ (second ++ bits)))

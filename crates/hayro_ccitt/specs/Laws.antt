@@ -145,22 +145,24 @@ Matches Kind.group3_2d settings = settings.encoding ≡ Group3_2D
 -- A T.4 picture closed by RTC gives its rows, whatever follows. The count is the end of the EOLs that stand where the
 -- last line ends, rounded up to a byte (T.4, 4.1.4).
 abbrev pub ReadsPictureT4 : Type 0
-ReadsPictureT4 = (settings : DecodeSettings) (kind : Kind) (rows : List Row) (lines closing more : Bits) (bytes : List ℕ) → AreSettings settings
-    → Matches kind settings → settings.end_of_block ≡ true → Allows settings (length rows) → 0 < length rows → IsPicture settings.columns rows
-    → EncodesRowsWithEols kind (white_row settings.columns) rows lines → ClosesWithEols kind 6 closing → bits_of bytes ≡ lines ++ (closing ++ more)
+ReadsPictureT4 = (settings : DecodeSettings) (kind : Kind) (rows : List Row) (lines closing more : Bits) (bytes : List ℕ)
+    → AreSettings settings → Matches kind settings → settings.end_of_block ≡ true → Allows settings (length rows)
+    → 0 < length rows → IsPicture settings.columns rows → EncodesRowsWithEols kind (white_row settings.columns) rows lines
+    → ClosesWithEols kind 6 closing → bits_of bytes ≡ lines ++ (closing ++ more)
     → plain settings bytes ≡ (rows, Ok ((length (bits_of bytes) - length (eols_group3 settings (closing ++ more)).1 + 7) / 8))
 
 -- Lines of T.4 with EOLs and without RTC are a picture too, where the limit is as many rows.
 abbrev pub ReadsLimitedPictureT4 : Type 0
-ReadsLimitedPictureT4 = (settings : DecodeSettings) (kind : Kind) (rows : List Row) (lines more : Bits) (bytes : List ℕ) → AreSettings settings
-    → Matches kind settings → settings.rows ≡ length rows → 0 < length rows → IsPicture settings.columns rows
+ReadsLimitedPictureT4 = (settings : DecodeSettings) (kind : Kind) (rows : List Row) (lines more : Bits) (bytes : List ℕ)
+    → AreSettings settings → Matches kind settings → settings.rows ≡ length rows → 0 < length rows → IsPicture settings.columns rows
     → EncodesRowsWithEols kind (white_row settings.columns) rows lines → bits_of bytes ≡ lines ++ more
     → Gives settings bytes rows
 
 -- So are lines of T.4 without EOLs, where none are looked for.
 abbrev pub ReadsLimitedRowsT4 : Type 0
-ReadsLimitedRowsT4 = (settings : DecodeSettings) (kind : Kind) (rows : List Row) (body more : Bits) (bytes : List ℕ) → AreSettings settings
-    → Matches kind settings → settings.end_of_line ≡ false → settings.rows ≡ length rows → 0 < length rows → IsPicture settings.columns rows
+ReadsLimitedRowsT4 = (settings : DecodeSettings) (kind : Kind) (rows : List Row) (body more : Bits) (bytes : List ℕ)
+    → AreSettings settings → Matches kind settings → settings.end_of_line ≡ false → settings.rows ≡ length rows
+    → 0 < length rows → IsPicture settings.columns rows
     → EncodesRows kind settings.rows_are_byte_aligned (white_row settings.columns) rows body → bits_of bytes ≡ body ++ more
     → Gives settings bytes rows
 
@@ -188,7 +190,8 @@ OnePictureT4 = (kind : Kind) (columns : ℕ) (rows others : List Row) (bits more
 -- the reading of T.6 data comes from one state between lines to another
 pub data Reaches (settings : DecodeSettings) : Progress → Progress → Type 0 where
   stays : (so_far : Progress) → Reaches settings so_far so_far
-  moves : (so_far after last : Progress) → move_group4 settings so_far ≡ Turn.next after → Reaches settings after last → Reaches settings so_far last
+  moves : (so_far after last : Progress) → move_group4 settings so_far ≡ Turn.next after → Reaches settings after last
+      → Reaches settings so_far last
 
 -- the reading of T.6 data comes to a place between lines where two EOLs stand
 abbrev pub ComesToEofb : DecodeSettings → Bits → Type 0

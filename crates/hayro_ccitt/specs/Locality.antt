@@ -1,5 +1,6 @@
 -- One-dimensional lenient data with EOLs: lines by EOLs, and how far damage reaches.
-use Rattle.std.specs.Prelude.{◌≡◌, ◌≢◌, ℕ, suc, ◌+◌, ◌-◌, ◌<◌, ◌≤◌, nat_le, Bool, true, false, not, ◌&&◌, if◌then◌else◌, ◌⊎◌, ◌↔◌, Some, None, is_some, Ok, Err, IsOk}
+use Rattle.std.specs.Prelude.{◌≡◌, ◌≢◌, ℕ, suc, ◌+◌, ◌-◌, ◌<◌, ◌≤◌, nat_le, ◌⊎◌, ◌↔◌, Some, None, is_some, Ok, Err, IsOk}
+use Rattle.std.specs.Prelude.{Bool, true, false, not, ◌&&◌, if◌then◌else◌}
 use Rattle.std.specs.Prelude.{List, [], ◌∷◌, ◌++◌, length, take, drop, replicate, map, set, All, Contains}
 use Rattle.hayro_ccitt.specs.declared.error.DecodeError.{DecodeError}
 use Rattle.hayro_ccitt.specs.declared.settings.EncodingMode.TheVariants.{Group3_1D}
@@ -38,11 +39,13 @@ row_at columns here = row_of columns (line_1d false columns here)
 
 -- a line that is whole ends before the last twelve bits of an EOL, where `after` is what follows that
 abbrev pub EndsBefore : ℕ → Bits → Bits → Type 0
-EndsBefore columns after here = (row : Row) (rest : Bits) → line_1d false columns here ≡ Line.whole row rest → length after + 12 ≤ length rest
+EndsBefore columns after here = (row : Row) (rest : Bits)
+    → line_1d false columns here ≡ Line.whole row rest → length after + 12 ≤ length rest
 
 -- the line here ends before the last twelve bits of the next EOL, if there is one
 abbrev pub StaysBefore : ℕ → Bits → Type 0
-StaysBefore columns here = (found after : Bits) → next_eol here ≡ Some found → after_eol 0 found ≡ Some after → EndsBefore columns after here
+StaysBefore columns here = (found after : Bits)
+    → next_eol here ≡ Some found → after_eol 0 found ≡ Some after → EndsBefore columns after here
 
 -- an EOL stands here
 abbrev pub IsEolAt : Bits → Type 0
@@ -107,7 +110,8 @@ pub record IsLocalByTests (settings : DecodeSettings) (bits : Bits) (from to : �
 
 -- The tests say whether a body is local.
 abbrev pub LocalByTests : Type 0
-LocalByTests = (settings : DecodeSettings) (bits : Bits) (from to : ℕ) → IsLocal settings bits from to ↔ IsLocalByTests settings bits from to
+LocalByTests = (settings : DecodeSettings) (bits : Bits) (from to : ℕ)
+    → IsLocal settings bits from to ↔ IsLocalByTests settings bits from to
 
 -- the last place of a run that ends without a fault
 abbrev pub LastPlace : DecodeSettings → List ℕ → ℕ → Type 0
