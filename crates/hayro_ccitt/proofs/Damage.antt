@@ -101,7 +101,7 @@ module _ (settings : DecodeSettings) (wide : 0 < settings.columns) (one two : Li
 -- the bits before a place where an EOL ends: they end with eleven zeros and a one
 ends_eol : (bits : Bits) (from : ℕ) (place : ℕ) → IsEol bits place from → (front : Bits) × Closes front × (bits ≡ front ++ true ∷ drop from bits)
 ends_eol bits from place eol =
-    let is = after_eol_is 0 (drop place bits) (drop from bits) eol.1 in
+    let is = after_eol_is 0 (drop place bits) (drop from bits) eol.2 in
     let more : ℕ = is.0 - 11 in
     let sum : more + 11 ≡ is.0 = omega (arith, is.2) in
     let fill : replicate is.0 false ≡ replicate more false ++ replicate 11 false = ap (λ (n : ℕ). replicate n false) (sym sum) ∙ sym (replicate-append-replicate more 11 false) in (
@@ -164,7 +164,7 @@ module _ (settings : DecodeSettings) (one two : Bits) (from : ℕ) (after : Bits
   begin (inl zero_from) (inr e) = absurd (omega (arith, zero_from, e.1, e.2.0))
   begin (inr (place, eol)) sought_by =
       let f = ends_eol one from place eol in
-      begin_ahead f.0 f.1 f.2 (seeks one settings.end_of_line (elim sought_by [ inl e ↦ inl e | inr e ↦ inr (drop e.0 one, e.2.1) ]))
+      begin_ahead f.0 f.1 f.2 (seeks one settings.end_of_line (elim sought_by [ inl e ↦ inl e | inr e ↦ inr (drop e.0 one, e.2.2) ]))
 
   module _ (encoding : settings.encoding ≡ Group3_1D) (lenient : settings.strict ≡ false) (wide : 0 < settings.columns) where
     pub ends_alike : RunsAlike from (drop from one) (drop from two) after (first one) (first two) → EndsAlike settings from (drop from one) (drop from two) after (end_of settings one) (end_of settings two)

@@ -198,7 +198,7 @@ module _ (bits : Bits) where
         inr (
           omega (arith, f.0.3, length-drop place bits, first_length),
           omega (arith, begins, length-drop place bits),
-          (length front, (omega (arith, shorter, lengths, length-drop place bits, le), ap (after_eol 0) (drop_at bits front f.0.0 (length front) cut refl) ∙ f.0.2)),
+          (length front, (omega (arith, shorter, lengths, length-drop place bits, le), le, ap (after_eol 0) (drop_at bits front f.0.0 (length front) cut refl) ∙ f.0.2)),
           not_some (after_eol 0 (drop place bits)) (not-true (is_some (after_eol 0 (drop place bits))) both.1),
         )
   ]
@@ -209,7 +209,7 @@ module _ (bits : Bits) where
       (0, omega arith, sym at)
   has_start place le (inr (later, below, (at, eol), none)) =
       contains_more (all_eols bits).1 (drop place bits) (later_starts 0 (all_eols bits).1)
-      (to_later 0 (all_eols bits).1 (drop place bits) (drop at bits, inside, eol.1, omega (arith, length-drop place bits, first_length, later, below)) begins)
+      (to_later 0 (all_eols bits).1 (drop place bits) (drop at bits, inside, eol.2, omega (arith, length-drop place bits, first_length, later, below)) begins)
     where
       begins : begins_line (drop place bits) ≡ true
       begins = and_from (not (at_end (drop place bits))) (not (is_some (after_eol 0 (drop place bits)))) (not_from_false (at_end (drop place bits)) (more_left (drop place bits) (omega (arith, length-drop place bits, below))))
@@ -229,7 +229,7 @@ module _ (bits : Bits) where
           before (inr (more, is)) longer =
               let split : more ++ true ∷ (all_eols bits).1 ≡ take at bits ++ drop at bits = sym (append_assoc more (true ∷ []) (all_eols bits).1) ∙ ap (λ (b : Bits). b ++ (all_eols bits).1) (sym is) ∙ whole in
               let f = shorter_end (take at bits) (drop at bits) more (true ∷ (all_eols bits).1) (sym split) (omega (arith, longer)) in
-              let zeros_one = after_eol_is 0 (drop at bits) (drop place bits) eol.1 in
+              let zeros_one = after_eol_is 0 (drop at bits) (drop place bits) eol.2 in
               omega (
                 arith,
                 first_one zeros_one.0 (drop place bits) f.0 (all_eols bits).1 (sym zeros_one.1 ∙ f.1),

@@ -105,7 +105,7 @@ module _ (settings : DecodeSettings) (bits : Bits) (from to : ℕ) (local : IsLo
       = omega (arith, length_at, length-append (take from bits ++ before) (replicate k false ++ true ∷ []), length-append (replicate k false) (true ∷ []), length-replicate k false) in
       let drop_place = drop_at bits (take from bits ++ before) found (from + length before) at length_at in
       let drop_end = drop_at bits ((take from bits ++ before) ++ (replicate k false ++ true ∷ [])) rest (from + (length before + (k + 1))) ends length_end in
-      local.no_eol (from + length before) (from + (length before + (k + 1))) (omega arith) (omega (arith, le, local.order)) (omega arith, ap (after_eol 0) drop_place ∙ eol ∙ ap Some (sym drop_end))
+      local.no_eol (from + length before) (from + (length before + (k + 1))) (omega arith) (omega (arith, le, local.order)) (omega arith, omega (arith, le, local.order, local.within), ap (after_eol 0) drop_place ∙ eol ∙ ap Some (sym drop_end))
 
   pub none_in_body : past 0 body ≡ None
   none_in_body = by (past 0 body) refl

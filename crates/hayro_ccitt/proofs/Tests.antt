@@ -56,7 +56,7 @@ module _ (settings : DecodeSettings) (bits : Bits) (from to : ℕ) where
     lenient = tests.lenient;
     order = tests.order;
     within = tests.within;
-    starts = elim tests.starts [ inl e ↦ inl e | inr e ↦ inr (from - 12, (omega (arith, e.0), e.1)) ];
+    starts = elim tests.starts [ inl e ↦ inl e | inr e ↦ inr (from - 12, (omega (arith, e.0), omega (arith, tests.order, tests.within), e.1)) ];
     one = one;
     no_eol = no_eol;
     closes = tests.closes;
@@ -79,7 +79,7 @@ module _ (settings : DecodeSettings) (bits : Bits) (from to : ℕ) where
           )
 
       no_eol : (place end : ℕ) → from ≤ place → end ≤ to → IsEol bits place end → ⊥
-      no_eol place end le le2 (lt, eol) =
+      no_eol place end le le2 (lt, inside, eol) =
           let is = after_eol_is 0 (drop place bits) (drop end bits) eol in
           let j : ℕ = place - from in
           let sum : from + j ≡ place = omega (arith, le) in
@@ -107,7 +107,7 @@ module _ (settings : DecodeSettings) (bits : Bits) (from to : ℕ) where
   }
     where
       twelve : (place : ℕ) → IsEol bits place from → (12 ≤ from) × (after_eol 0 (drop (from - 12) bits) ≡ Some (drop from bits))
-      twelve place (lt, eol) =
+      twelve place (lt, inside, eol) =
           let is = after_eol_is 0 (drop place bits) (drop from bits) eol in
           let lengths : length bits - place ≡ is.0 + (1 + (length bits - from)) = omega (arith, length-drop place bits, ap length is.1, length-append (replicate is.0 false) (true ∷ drop from bits), length-replicate is.0 false, length-drop from bits) in
           let more : ℕ = is.0 - 11 in

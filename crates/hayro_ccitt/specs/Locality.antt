@@ -51,9 +51,9 @@ StaysBefore columns here = (found after : Bits)
 abbrev pub IsEolAt : Bits → Type 0
 IsEolAt here = (after : Bits) × (after_eol 0 here ≡ Some after)
 
--- an EOL stands at one place, and ends at another
+-- an EOL stands at one place, and ends at another within the data
 abbrev pub IsEol : Bits → ℕ → ℕ → Type 0
-IsEol bits place end = (place < end) × (after_eol 0 (drop place bits) ≡ Some (drop end bits))
+IsEol bits place end = (place < end) × (end ≤ length bits) × (after_eol 0 (drop place bits) ≡ Some (drop end bits))
 
 -- the place where the EOLs at the front of the data end
 abbrev pub first_start : Bits → ℕ
