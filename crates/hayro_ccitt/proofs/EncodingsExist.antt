@@ -1,17 +1,20 @@
 -- Every picture has encodings.
-use Rattle.std.proofs.Common.{◌≡◌, ◌≢◌, ℕ, zero, suc, ◌+◌, ◌-◌, ◌*◌, ◌/◌, ◌%◌, ◌<◌, ◌≤◌, Bool, true, false, cond, eqb, List, [], ◌∷◌, ◌++◌, length, replicate, Option, Some, None, is_some, refl, sym, ap, subst, ◌∙◌, append_assoc, arith, ◌⊎◌, inl, inr}
+use Rattle.std.proofs.Common.{◌≡◌, ◌≢◌, ℕ, zero, suc, ◌+◌, ◌-◌, ◌*◌, ◌/◌, ◌%◌, ◌^◌, ◌<◌, ◌≤◌, Bool, true, false, cond, eqb, List, [], ◌∷◌, ◌++◌, length, replicate, Option, Some, None, is_some, refl, sym, ap, subst, ◌∙◌, append_assoc, arith, ◌⊎◌, inl, inr}
 use Rattle.std.specs.Prelude.{All}
 use Rattle.std.proofs.lemmas.Bool.{agree_below_at, eqb-true, false≢true, cases_lt}
-use Rattle.std.proofs.lemmas.List.Elements.{All-head, All-tail}
+use Rattle.std.proofs.lemmas.List.Elements.{All-head, All-tail, All-cons}
+use Rattle.std.proofs.lemmas.List.{length-append, length-replicate}
+use Rattle.std.proofs.lemmas.Nat.Bits.{bit_at_cat_low, bit_at_cat_high}
+use Rattle.std.specs.Int.{bit_at}
 use Rattle.hayro_ccitt.specs.declared.codes.Color.{Color}
 use Rattle.hayro_ccitt.specs.declared.codes.Color.TheVariants.{White, Black}
-use Rattle.hayro_ccitt.specs.Bits.{Bits}
+use Rattle.hayro_ccitt.specs.Bits.{Bits, bit_of, bits_of_byte, bits_of, low_bits}
 use Rattle.hayro_ccitt.specs.CodeLists.{Code}
 use Rattle.hayro_ccitt.specs.CodeReading.{Has}
 use Rattle.hayro_ccitt.specs.Rows.{Row, is_black, opposite, a1, a2}
 use Rattle.hayro_ccitt.specs.Runs.{codes_of}
 use Rattle.hayro_ccitt.specs.Encodings.{Spells, EncodesLine1D, EncodesLine2D, Kind, EncodesLine, padding, EncodesRows, eol, IsPicture, PictureT6, EncodesRowsWithEols, tag_of, ClosesWithEols, PictureT4}
-use Rattle.hayro_ccitt.specs.Laws.{EveryPictureHasAnEncoding}
+use Rattle.hayro_ccitt.specs.Laws.{EveryPictureHasAnEncoding, BytesBeginWithAnyBits}
 use Rattle.hayro_ccitt.proofs.ReadRuns.{chosen}
 use Rattle.hayro_ccitt.proofs.Places.{a1_next, a2_next, a2_least}
 
@@ -144,3 +147,80 @@ every_picture_has_an_encoding columns rows is = (
       (lines.0 ++ closing.0, (lines.0, closing.0, some, is, lines.1, closing.1, refl)),
   λ kind aligned. rows_exist columns is.0 kind aligned (replicate columns false) rows is.1,
 )
+
+-- ---- Bytes.
+abbrev digit : Bool → ℕ
+digit true = 1
+digit false = 0
+
+-- the number that bits write
+value : Bits → ℕ
+value [] = 0
+value (bit ∷ bits) = digit bit * 2 ^ length bits + value bits
+
+power_doubles : (n : ℕ) → 2 ^ suc n ≡ 2 * 2 ^ n
+power_doubles n = omega arith
+
+-- it has no more bits
+value_below : (bits : Bits) → value bits < 2 ^ length bits
+unfolding value
+value_below [] = omega arith
+value_below (true ∷ bits) = subst (λ (n : ℕ). 1 * 2 ^ length bits + value bits < n) (sym (power_doubles (length bits))) (omega (arith, value_below bits))
+value_below (false ∷ bits) = subst (λ (n : ℕ). 0 * 2 ^ length bits + value bits < n) (sym (power_doubles (length bits))) (omega (arith, value_below bits))
+
+same_bit : (m n j k : ℕ) → bit_at m j ≡ bit_at n k → bit_of m j ≡ bit_of n k
+same_bit m n j k e = ap (λ (b : ℕ). eqb b 1) e
+
+-- the low bits of a number are those of what it is after a shift
+low_bits_of_low : (width a k b : ℕ) → width ≤ k → low_bits width (a * 2 ^ k + b) ≡ low_bits width b
+low_bits_of_low zero a k b le = refl
+low_bits_of_low (suc width) a k b le =
+    let one : bit_of (a * 2 ^ k + b) width ≡ bit_of b width = same_bit (a * 2 ^ k + b) b width width (bit_at_cat_low a k b width (omega arith)) in
+    let rest = low_bits_of_low width a k b (omega arith) in
+    cc
+
+digit_bit : (bit : Bool) → bit_of (digit bit) 0 ≡ bit
+digit_bit true = refl
+digit_bit false = refl
+
+-- the bits of the number that bits write
+low_bits_value : (bits : Bits) → low_bits (length bits) (value bits) ≡ bits
+unfolding value
+low_bits_value [] = refl
+low_bits_value (bit ∷ bits) =
+    let n : ℕ = length bits in
+    let none : n - n ≡ 0 = omega arith in
+    let one : bit_of (digit bit * 2 ^ n + value bits) n ≡ bit
+    = same_bit (digit bit * 2 ^ n + value bits) (digit bit) n (n - n) (bit_at_cat_high (digit bit) n (value bits) n (value_below bits) (omega arith)) ∙ ap (bit_of (digit bit)) none ∙ digit_bit bit in
+    let rest : low_bits n (digit bit * 2 ^ n + value bits) ≡ bits = low_bits_of_low n (digit bit) n (value bits) (omega arith) ∙ low_bits_value bits in
+    cc
+
+-- the first bits, so many of them
+cut : (n : ℕ) (bits : Bits) → n ≤ length bits → (front rest : Bits) × (bits ≡ front ++ rest) × (length front ≡ n)
+cut zero bits le = ([], bits, refl, refl)
+cut (suc n) [] le = absurd (omega arith)
+cut (suc n) (bit ∷ bits) le = let f = cut n bits (omega arith) in (bit ∷ f.0, f.1, ap (λ (b : Bits). bit ∷ b) f.2, ap suc f.3)
+
+-- the byte whose bits these are
+byte_of : (front : Bits) → length front ≡ 8 → bits_of_byte (value front) ≡ front
+byte_of front eight = subst (λ (n : ℕ). low_bits n (value front) ≡ front) eight (low_bits_value front)
+
+-- one byte more
+bits_more : (front rest bits : Bits) (byte : ℕ) (bytes : List ℕ) → bits_of_byte byte ≡ front → bits_of bytes ≡ rest → bits ≡ front ++ rest → bits_of (byte ∷ bytes) ≡ bits
+bits_more front rest bits byte bytes one more is = ap (λ (b : Bits). b ++ bits_of bytes) one ∙ ap (λ (b : Bits). front ++ b) more ∙ sym is
+
+bytes_of : (n : ℕ) (bits : Bits) → length bits ≡ 8 * n → (bytes : List ℕ) × All (λ byte. byte < 256) bytes × (bits_of bytes ≡ bits)
+bytes_of zero [] e = ([], (λ k d lt. absurd (omega arith)), refl)
+bytes_of zero (bit ∷ bits) e = absurd (omega arith)
+bytes_of (suc n) bits e =
+    let f = cut 8 bits (omega (arith, e)) in
+    let on = bytes_of n f.1 (omega (arith, e, ap length f.2, length-append f.0 f.1, f.3)) in
+    let small : value f.0 < 256 = subst (λ (k : ℕ). value f.0 < 2 ^ k) f.3 (value_below f.0) in
+    (value f.0 ∷ on.0, All-cons (λ byte. byte < 256) (value f.0) on.0 small on.1, bits_more f.0 f.1 bits (value f.0) on.0 (byte_of f.0 f.3) on.2 f.2)
+
+pub bytes_begin_with_any_bits : BytesBeginWithAnyBits
+bytes_begin_with_any_bits bits =
+    let missing : ℕ = 7 - (length bits + 7) % 8 in
+    let more : Bits = replicate missing false in
+    let whole = bytes_of ((length bits + 7) / 8) (bits ++ more) (omega (arith, length-append bits more, length-replicate missing false)) in
+    (whole.0, whole.1, (more, whole.2))

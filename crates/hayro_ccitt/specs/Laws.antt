@@ -1,6 +1,6 @@
 -- The laws of the plain reading.
 use Rattle.std.specs.Prelude.{◌≡◌, ◌≢◌, ℕ, ◌+◌, ◌-◌, ◌/◌, ◌^◌, ◌<◌, ◌≤◌, Bool, true, false, not, ◌&&◌, ◌||◌, nat_le, ◌⊎◌, Ok, IsOk}
-use Rattle.std.specs.Prelude.{List, [], ◌∷◌, ◌++◌, length, take, replicate, reverse}
+use Rattle.std.specs.Prelude.{List, [], ◌∷◌, ◌++◌, length, take, replicate, reverse, All}
 use Rattle.std.specs.List.{list_all, list_any}
 use Rattle.hayro_ccitt.specs.declared.codes.Color.{Color}
 use Rattle.hayro_ccitt.specs.declared.codes.Mode.{Mode}
@@ -172,6 +172,10 @@ EveryPictureHasAnEncoding = (columns : ℕ) (rows : List Row) → IsPicture colu
     → ((aligned : Bool) → (bits : Bits) × PictureT6 columns aligned rows bits)
     × ((kind : Kind) → 0 < length rows → (bits : Bits) × PictureT4 kind columns rows bits)
     × ((kind : Kind) (aligned : Bool) → (bits : Bits) × EncodesRows kind aligned (white_row columns) rows bits)
+
+-- Any bits are the first of some bytes.
+abbrev pub BytesBeginWithAnyBits : Type 0
+BytesBeginWithAnyBits = (bits : Bits) → (bytes : List ℕ) × All (λ byte. byte < 256) bytes × IsFront bits (bits_of bytes)
 
 -- ---- one picture
 

@@ -6,7 +6,7 @@ ghost use Rattle.hayro_ccitt.specs.CodeReading.{is_prefix_free};
 ghost use Rattle.hayro_ccitt.specs.Examples.{EncodesTwoLines, EncodesTaggedRows, HaveLocalBodies, ReadsDamage};
 ghost use Rattle.hayro_ccitt.specs.Laws.{each_word, has_few_zeros, Synchronised, StrictThenLenient, RowLimit};
 ghost use Rattle.hayro_ccitt.specs.Laws.{ReadsPictureT6, ReadsLimitedRowsT6, ReadsPictureT4, ReadsLimitedPictureT4, ReadsLimitedRowsT4};
-ghost use Rattle.hayro_ccitt.specs.Laws.{AfterEofb, OnePictureT6, OnePictureT4, EveryPictureHasAnEncoding};
+ghost use Rattle.hayro_ccitt.specs.Laws.{AfterEofb, OnePictureT6, OnePictureT4, EveryPictureHasAnEncoding, BytesBeginWithAnyBits};
 ghost use Rattle.hayro_ccitt.specs.Locality.{LinesByEols, StartsAre, Locality, LocalByTests};
 
 /// Code words hold few zeros. Each word of a run has at most seven at its front and three at its end, each word of a
@@ -76,10 +76,11 @@ pub fn locality()
     ensures tests { LocalByTests }
 {}
 
-/// Every picture with a column has a T.6 encoding, and with a row a T.4 encoding of each kind: the laws about encodings
-/// are about all pictures.
+/// Every picture with a column has a T.6 encoding, and with a row a T.4 encoding of each kind, and bytes begin with any
+/// bits: the laws about encodings are about all pictures.
 pub fn every_picture_has_an_encoding()
-    ensures { EveryPictureHasAnEncoding }
+    ensures bits { EveryPictureHasAnEncoding }
+    ensures bytes { BytesBeginWithAnyBits }
 {}
 
 /// Examples: two lines of T.6, two of T.4 closed by RTC, and three bodies of which each may stand for the other.
