@@ -18,7 +18,7 @@ use Rattle.hayro_ccitt.specs.Rows.{Row, opposite, b1, b2, right_of, paint}
 use Rattle.hayro_ccitt.specs.Runs.{codes_of, run_of_word, run_turn, run_from}
 use Rattle.hayro_ccitt.specs.Lines.{Line, Pen, Step, try, draw_run, unless_full, start, step_1d, line_1d, place_from, draw_mode, step_2d, line_2d}
 use Rattle.hayro_ccitt.specs.Ticks.{word_found, run_gives, run_found, draw_run_found, no_words, unless_full_found, gives_1d, found_1d, mode_found, gives_2d, found_2d, tag_at, line_found}
-use Rattle.hayro_ccitt.specs.Laws.{IsWord, AreWords, joined, HoldsZeros, EndBeforeEol, Synchronised}
+use Rattle.hayro_ccitt.specs.Laws.{IsWord, AreWords, joined, HoldsZeros, line_here, EndBeforeEol, Synchronised}
 use Rattle.hayro_ccitt.proofs.Repeated.{after_turn}
 use Rattle.hayro_ccitt.proofs.ReadCodes.{read_code_found}
 use Rattle.hayro_ccitt.proofs.ReadRuns.{chosen, word_next, not_done, done_is}
@@ -247,6 +247,26 @@ found_end Group3_2D strict columns reference (false ∷ here) = let found = line
 found_end Group3_1D strict columns reference here = let found = line_1d_stands strict columns here in untagged_end here found.0 (found_1d strict columns (start here)) found.1
 found_end Group4 strict columns reference here = let found = line_2d_stands strict columns reference here in untagged_end here found.0 (found_2d strict columns reference (start here)) found.1
 
+-- ---- A whole line ends with the last of its words.
+whole_rest : (line : Line) (row : Row) (end rest here words : Bits) → line ≡ Line.whole row rest → LineEnds line end → here ≡ words ++ end → here ≡ words ++ rest
+whole_rest line row end rest here words whole ends is = let same : rest ≡ end = subst (λ (l : Line). LineEnds l end) whole ends in is ∙ ap (λ (b : Bits). words ++ b) (sym same)
+
+found_to_the_end : (encoding : EncodingMode) (strict : Bool) (columns : ℕ) (reference row : Row) (here rest : Bits) → line_here encoding strict columns reference here ≡ Line.whole row rest
+    → here ≡ (tag_at encoding here ++ joined (line_found encoding strict columns reference here)) ++ rest
+found_to_the_end Group3_2D strict columns reference row [] rest whole = absurd cc
+found_to_the_end Group3_2D strict columns reference row (true ∷ here) rest whole =
+    let found = line_1d_stands strict columns here in
+    ap (λ (b : Bits). true ∷ b) (whole_rest (line_1d strict columns here) row found.0 rest here (joined (found_1d strict columns (start here))) whole found.2 found.1.place)
+found_to_the_end Group3_2D strict columns reference row (false ∷ here) rest whole =
+    let found = line_2d_stands strict columns reference here in
+    ap (λ (b : Bits). false ∷ b) (whole_rest (line_2d strict columns reference here) row found.0 rest here (joined (found_2d strict columns reference (start here))) whole found.2 found.1.place)
+found_to_the_end Group3_1D strict columns reference row here rest whole =
+    let found = line_1d_stands strict columns here in
+    whole_rest (line_1d strict columns here) row found.0 rest here (joined (found_1d strict columns (start here))) whole found.2 found.1.place
+found_to_the_end Group4 strict columns reference row here rest whole =
+    let found = line_2d_stands strict columns reference here in
+    whole_rest (line_2d strict columns reference here) row found.0 rest here (joined (found_2d strict columns reference (start here))) whole found.2 found.1.place
+
 pub words_synchronised : Synchronised
 words_synchronised = record {
   runs_prefix_free = λ color. free_by (codes_of color) (codes_free color);
@@ -254,4 +274,5 @@ words_synchronised = record {
   holds_one = λ word is e. false≢true (sym (no_one (length word)) ∙ ap holds_a_one (sym e) ∙ word_one word is);
   no_eleven = no_eleven_in;
   before_eol = found_end;
+  to_the_end = found_to_the_end;
 }

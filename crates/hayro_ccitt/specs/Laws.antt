@@ -12,10 +12,11 @@ use Rattle.hayro_ccitt.specs.CodeLists.{Code, mode_codes}
 use Rattle.hayro_ccitt.specs.CodeReading.{Has, leading_zeros}
 use Rattle.hayro_ccitt.specs.Runs.{codes_of}
 use Rattle.hayro_ccitt.specs.Rows.{Row}
+use Rattle.hayro_ccitt.specs.Lines.{Line, line_2d}
 use Rattle.hayro_ccitt.specs.EndOfLine.{eols}
 use Rattle.hayro_ccitt.specs.Encodings.{Kind, white_row, EncodesRows, IsPicture, EncodesRowsWithEols, ClosesWithEols, PictureT6, PictureT4}
 use Rattle.hayro_ccitt.specs.Repetition.{Turn}
-use Rattle.hayro_ccitt.specs.PlainReading.{Progress, start_group4, move_group4, eols_group3, plain}
+use Rattle.hayro_ccitt.specs.PlainReading.{line_by, Progress, start_group4, move_group4, eols_group3, plain}
 use Rattle.hayro_ccitt.specs.Ticks.{tag_at, line_found}
 
 -- a list begins another
@@ -51,6 +52,12 @@ joined (word ∷ words) = word ++ joined words
 abbrev pub HoldsZeros : ℕ → Bits → Type 0
 HoldsZeros n bits = (before after : Bits) × (bits ≡ before ++ replicate n false ++ after)
 
+-- the line that stands here, by the encoding
+abbrev pub line_here : EncodingMode → Bool → ℕ → Row → Bits → Line
+line_here Group4 strict columns reference here = line_2d strict columns reference here
+line_here Group3_1D strict columns reference here = line_by Group3_1D strict columns reference here
+line_here Group3_2D strict columns reference here = line_by Group3_2D strict columns reference here
+
 -- Words stand in a row here, behind a tag or none; and where an EOL stands here or further on, they end before its one.
 pub record EndBeforeEol (tag : Bits) (words : List Bits) (here : Bits) : Type 0 where
   pub are : AreWords words
@@ -58,7 +65,8 @@ pub record EndBeforeEol (tag : Bits) (words : List Bits) (here : Bits) : Type 0 
   pub end : (before after : Bits) → here ≡ before ++ replicate 11 false ++ true ∷ after → length (tag ++ joined words) < length before + 11
 
 -- No code word is a front of another, and no words in a row, nor a tag before them, hold the eleven zeros of an EOL
--- (T.4, 4.1.2). So each word that the reading of a line finds ends before the one of each EOL at or after its start.
+-- (T.4, 4.1.2). So each word that the reading of a line finds ends before the one of each EOL at or after its start;
+-- a whole line ends with the last of these words.
 pub record Synchronised : Type 0 where
   pub runs_prefix_free : (color : Color) → PrefixFree (codes_of color)
   pub modes_prefix_free : PrefixFree mode_codes
@@ -66,6 +74,9 @@ pub record Synchronised : Type 0 where
   pub no_eleven : (tag : Bool) (words : List Bits) → AreWords words → HoldsZeros 11 (tag ∷ joined words) → ⊥
   pub before_eol : (encoding : EncodingMode) (strict : Bool) (columns : ℕ) (reference : Row) (here : Bits)
       → EndBeforeEol (tag_at encoding here) (line_found encoding strict columns reference here) here
+  pub to_the_end : (encoding : EncodingMode) (strict : Bool) (columns : ℕ) (reference row : Row) (here rest : Bits)
+      → line_here encoding strict columns reference here ≡ Line.whole row rest
+      → here ≡ (tag_at encoding here ++ joined (line_found encoding strict columns reference here)) ++ rest
 
 -- ---- code words
 
