@@ -1,5 +1,6 @@
 -- Every picture has encodings.
-use Rattle.std.proofs.Common.{◌≡◌, ◌≢◌, ℕ, zero, suc, ◌+◌, ◌-◌, ◌*◌, ◌/◌, ◌%◌, ◌^◌, ◌<◌, ◌≤◌, Bool, true, false, cond, eqb, List, [], ◌∷◌, ◌++◌, length, replicate, Option, Some, None, is_some, refl, sym, ap, subst, ◌∙◌, append_assoc, arith, ◌⊎◌, inl, inr}
+use Rattle.std.proofs.Common.{◌≡◌, ◌≢◌, ℕ, zero, suc, ◌+◌, ◌-◌, ◌*◌, ◌/◌, ◌%◌, ◌^◌, ◌<◌, ◌≤◌, Bool, true, false, cond, eqb, List, [], ◌∷◌, ◌++◌}
+use Rattle.std.proofs.Common.{length, replicate, Option, Some, None, is_some, refl, sym, ap, subst, ◌∙◌, append_assoc, arith, ◌⊎◌, inl, inr}
 use Rattle.std.specs.Prelude.{All}
 use Rattle.std.proofs.lemmas.Bool.{agree_below_at, eqb-true, false≢true, cases_lt}
 use Rattle.std.proofs.lemmas.List.Elements.{All-head, All-tail, All-cons}
@@ -13,7 +14,8 @@ use Rattle.hayro_ccitt.specs.CodeLists.{Code}
 use Rattle.hayro_ccitt.specs.CodeReading.{Has}
 use Rattle.hayro_ccitt.specs.Rows.{Row, is_black, opposite, a1, a2}
 use Rattle.hayro_ccitt.specs.Runs.{codes_of}
-use Rattle.hayro_ccitt.specs.Encodings.{Spells, EncodesLine1D, EncodesLine2D, Kind, EncodesLine, padding, EncodesRows, eol, IsPicture, PictureT6, EncodesRowsWithEols, tag_of, ClosesWithEols, PictureT4}
+use Rattle.hayro_ccitt.specs.Encodings.{Spells, EncodesLine1D, EncodesLine2D, Kind, EncodesLine, padding, EncodesRows, eol, IsPicture, PictureT6}
+use Rattle.hayro_ccitt.specs.Encodings.{EncodesRowsWithEols, tag_of, ClosesWithEols, PictureT4}
 use Rattle.hayro_ccitt.specs.Laws.{EveryPictureHasAnEncoding, BytesBeginWithAnyBits}
 use Rattle.hayro_ccitt.proofs.ReadRuns.{chosen}
 use Rattle.hayro_ccitt.proofs.Places.{a1_next, a2_next, a2_least}
@@ -48,14 +50,19 @@ makeup_word White = some_word (codes_of White) 64 refl
 makeup_word Black = some_word (codes_of Black) 64 refl
 
 run_spelled : (color : Color) (times n : ℕ) → n < 64 → (bits : Bits) × Spells color (64 * times + n) bits
-run_spelled color zero n lt = let word = terminating_word color n lt in (word.0, subst (λ (m : ℕ). Spells color m word.0) (let e : n ≡ 64 * zero + n = omega arith in e) (Spells.terminating n word.0 word.1 lt))
+run_spelled color zero n lt = let word = terminating_word color n lt in
+    (word.0, subst (λ (m : ℕ). Spells color m word.0) (let e : n ≡ 64 * zero + n = omega arith in e) (Spells.terminating n word.0 word.1 lt))
 run_spelled color (suc times) n lt =
     let rest = run_spelled color times n lt in
-    let word = makeup_word color in
-    (word.0 ++ rest.0, subst (λ (m : ℕ). Spells color m (word.0 ++ rest.0)) (let e : 64 + (64 * times + n) ≡ 64 * suc times + n = omega arith in e) (Spells.makeup 64 word.0 word.1 (omega arith) rest.1))
+    let word = makeup_word color in (
+      word.0 ++ rest.0,
+      subst (λ (m : ℕ). Spells color m (word.0 ++ rest.0)) (let e : 64 + (64 * times + n) ≡ 64 * suc times + n = omega arith in e)
+          (Spells.makeup 64 word.0 word.1 (omega arith) rest.1),
+    )
 
 pub every_run_spelled : (color : Color) (n : ℕ) → (bits : Bits) × Spells color n bits
-every_run_spelled color n = subst (λ (m : ℕ). (bits : Bits) × Spells color m bits) (let e : 64 * (n / 64) + n % 64 ≡ n = omega arith in e) (run_spelled color (n / 64) (n % 64) (omega arith))
+every_run_spelled color n = subst (λ (m : ℕ). (bits : Bits) × Spells color m bits) (let e : 64 * (n / 64) + n % 64 ≡ n = omega arith in e)
+    (run_spelled color (n / 64) (n % 64) (omega arith))
 
 -- ---- One-dimensional lines.
 pixel_or : (color : Color) (pixel : Bool) → (pixel ≡ is_black color) ⊎ (pixel ≡ is_black (opposite color))
@@ -80,20 +87,26 @@ line_1d_exists color n [] some =
 line_1d_exists color n (pixel ∷ row) some = elim (pixel_or color pixel) [
   | inl same ↦
       let longer = line_1d_exists color (suc n) row (omega arith) in
-      let is : replicate (suc n) (is_black color) ++ row ≡ replicate n (is_black color) ++ (pixel ∷ row) = sym (replicate-push n (is_black color) row) ∙ ap (λ (p : Bool). replicate n (is_black color) ++ (p ∷ row)) (sym same) in
+      let is : replicate (suc n) (is_black color) ++ row ≡ replicate n (is_black color) ++ (pixel ∷ row) = sym (replicate-push n (is_black color) row)
+      ∙ ap (λ (p : Bool). replicate n (is_black color) ++ (p ∷ row)) (sym same) in
       (longer.0, subst (λ (r : Row). EncodesLine1D color r longer.0) is longer.1)
   | inr other ↦
       let run = every_run_spelled color n in
       let next = line_1d_exists (opposite color) 1 row (omega arith) in
-      let is : is_black (opposite color) ∷ row ≡ pixel ∷ row = ap (λ (p : Bool). p ∷ row) (sym other) in
-      (run.0 ++ next.0, EncodesLine1D.run n run.0 run.1 some (λ rest e. colors_differ color (sym other ∙ (let heads : pixel ≡ is_black color = cc in heads))) (subst (λ (r : Row). EncodesLine1D (opposite color) r next.0) is next.1))
+      let is : is_black (opposite color) ∷ row ≡ pixel ∷ row = ap (λ (p : Bool). p ∷ row) (sym other) in (
+        run.0 ++ next.0,
+        EncodesLine1D.run n run.0 run.1 some
+            (λ rest e. colors_differ color (sym other ∙ (let heads : pixel ≡ is_black color = cc in heads)))
+            (subst (λ (r : Row). EncodesLine1D (opposite color) r next.0) is next.1),
+      )
 ]
 
 -- ---- Two-dimensional lines, by horizontal modes alone.
 line_2d_over : (reference row : Row) (from : ℕ) (color : Color) → from ≡ suc (length row) → (bits : Bits) × EncodesLine2D reference row from color bits
 line_2d_over reference row from color e = ([], subst (λ (n : ℕ). EncodesLine2D reference row n color []) (sym e) EncodesLine2D.over)
 
-line_2d_exists : (turns : ℕ) (reference row : Row) (from : ℕ) (color : Color) → from ≤ suc (length row) → suc (length row) ≤ from + turns → (bits : Bits) × EncodesLine2D reference row from color bits
+line_2d_exists : (turns : ℕ) (reference row : Row) (from : ℕ) (color : Color) → from ≤ suc (length row) → suc (length row) ≤ from + turns
+    → (bits : Bits) × EncodesLine2D reference row from color bits
 line_2d_exists zero reference row from color le enough = line_2d_over reference row from color (omega arith)
 line_2d_exists (suc turns) reference row from color le enough = elim (cases_lt (length row) from) [
   | inl past ↦ line_2d_over reference row from color (omega arith)
@@ -118,7 +131,8 @@ line_exists Kind.group3_2d reference row some = let line = white_line_exists row
 
 -- ---- Pictures.
 module _ (columns : ℕ) (wide : 0 < columns) where
-  rows_exist : (kind : Kind) (aligned : Bool) (reference : Row) (rows : List Row) → All (λ row. length row ≡ columns) rows → (bits : Bits) × EncodesRows kind aligned reference rows bits
+  rows_exist : (kind : Kind) (aligned : Bool) (reference : Row) (rows : List Row) → All (λ row. length row ≡ columns) rows → (bits : Bits)
+      × EncodesRows kind aligned reference rows bits
   rows_exist kind aligned reference [] widths = ([], refl)
   rows_exist kind aligned reference (row ∷ rows) widths =
       let width : length row ≡ columns = All-head (λ row. length row ≡ columns) row rows widths in
@@ -126,7 +140,8 @@ module _ (columns : ℕ) (wide : 0 < columns) where
       let next = rows_exist kind aligned row rows (All-tail (λ row. length row ≡ columns) row rows widths) in
       (line.0 ++ (cond aligned (padding (length line.0)) []) ++ next.0, (line.0, next.0, line.1, next.1, refl))
 
-  lines_exist : (kind : Kind) (reference : Row) (rows : List Row) → All (λ row. length row ≡ columns) rows → (bits : Bits) × EncodesRowsWithEols kind reference rows bits
+  lines_exist : (kind : Kind) (reference : Row) (rows : List Row) → All (λ row. length row ≡ columns) rows → (bits : Bits)
+      × EncodesRowsWithEols kind reference rows bits
   lines_exist kind reference [] widths = ([], refl)
   lines_exist kind reference (row ∷ rows) widths =
       let width : length row ≡ columns = All-head (λ row. length row ≡ columns) row rows widths in
@@ -140,7 +155,8 @@ closing_exists kind (suc n) = let next = closing_exists kind n in (eol 0 ++ tag_
 
 pub every_picture_has_an_encoding : EveryPictureHasAnEncoding
 every_picture_has_an_encoding columns rows is = (
-  λ aligned. let body = rows_exist columns is.0 Kind.group4 aligned (replicate columns false) rows is.1 in (body.0 ++ eol 0 ++ eol 0, (body.0, is, body.1, refl)),
+  λ aligned. let body = rows_exist columns is.0 Kind.group4 aligned (replicate columns false) rows is.1 in
+      (body.0 ++ eol 0 ++ eol 0, (body.0, is, body.1, refl)),
   λ kind some.
       let lines = lines_exist columns is.0 kind (replicate columns false) rows is.1 in
       let closing = closing_exists kind 6 in
@@ -191,7 +207,8 @@ low_bits_value (bit ∷ bits) =
     let n : ℕ = length bits in
     let none : n - n ≡ 0 = omega arith in
     let one : bit_of (digit bit * 2 ^ n + value bits) n ≡ bit
-    = same_bit (digit bit * 2 ^ n + value bits) (digit bit) n (n - n) (bit_at_cat_high (digit bit) n (value bits) n (value_below bits) (omega arith)) ∙ ap (bit_of (digit bit)) none ∙ digit_bit bit in
+    = same_bit (digit bit * 2 ^ n + value bits) (digit bit) n (n - n) (bit_at_cat_high (digit bit) n (value bits) n (value_below bits) (omega arith))
+    ∙ ap (bit_of (digit bit)) none ∙ digit_bit bit in
     let rest : low_bits n (digit bit * 2 ^ n + value bits) ≡ bits = low_bits_of_low n (digit bit) n (value bits) (omega arith) ∙ low_bits_value bits in
     cc
 
@@ -206,7 +223,8 @@ byte_of : (front : Bits) → length front ≡ 8 → bits_of_byte (value front) �
 byte_of front eight = subst (λ (n : ℕ). low_bits n (value front) ≡ front) eight (low_bits_value front)
 
 -- one byte more
-bits_more : (front rest bits : Bits) (byte : ℕ) (bytes : List ℕ) → bits_of_byte byte ≡ front → bits_of bytes ≡ rest → bits ≡ front ++ rest → bits_of (byte ∷ bytes) ≡ bits
+bits_more : (front rest bits : Bits) (byte : ℕ) (bytes : List ℕ) → bits_of_byte byte ≡ front → bits_of bytes ≡ rest → bits ≡ front ++ rest
+    → bits_of (byte ∷ bytes) ≡ bits
 bits_more front rest bits byte bytes one more is = ap (λ (b : Bits). b ++ bits_of bytes) one ∙ ap (λ (b : Bits). front ++ b) more ∙ sym is
 
 bytes_of : (n : ℕ) (bits : Bits) → length bits ≡ 8 * n → (bytes : List ℕ) × All (λ byte. byte < 256) bytes × (bits_of bytes ≡ bits)

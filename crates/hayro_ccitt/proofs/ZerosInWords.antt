@@ -1,5 +1,6 @@
 -- No row of code words holds the zeros of an EOL.
-use Rattle.std.proofs.Common.{◌≡◌, ℕ, zero, suc, ◌+◌, ◌<◌, ◌≤◌, Bool, true, false, cond, ltb, leb, List, [], ◌∷◌, ◌++◌, length, replicate, Option, Some, None, refl, sym, ap, ◌∙◌, append_assoc, arith, inl, inr}
+use Rattle.std.proofs.Common.{◌≡◌, ℕ, zero, suc, ◌+◌, ◌<◌, ◌≤◌, Bool, true, false, cond, ltb, leb, List, [], ◌∷◌, ◌++◌, length, replicate, Option}
+use Rattle.std.proofs.Common.{Some, None, refl, sym, ap, ◌∙◌, append_assoc, arith, inl, inr}
 use Rattle.std.specs.List.{list_all}
 use Rattle.std.proofs.lemmas.Bool.{and_parts, leb-true, lt-ltb, le-ltb, false≢true, cases_lt}
 use Rattle.std.proofs.lemmas.List.{length-append, length-replicate, append-nil}
@@ -109,7 +110,8 @@ scan_holds n (false ∷ before) after le = elim (cases_lt n 10) [
 
 pub no_eleven_in : (tag : Bool) (words : List Bits) → AreWords words → HoldsZeros 11 (tag ∷ joined words) → ⊥
 no_eleven_in tag words are holds =
-    let none : scan 0 (tag ∷ joined words) ≡ None = ap (scan 0) (holds.2 ∙ append_assoc holds.0 (replicate 11 false) holds.1) ∙ scan_holds 0 holds.0 holds.1 (omega arith) in
+    let none : scan 0 (tag ∷ joined words) ≡ None = ap (scan 0) (holds.2 ∙ append_assoc holds.0 (replicate 11 false) holds.1)
+    ∙ scan_holds 0 holds.0 holds.1 (omega arith) in
     by_tag tag none
   where
     by_tag : (tag : Bool) → scan 0 (tag ∷ joined words) ≡ None → ⊥
