@@ -97,6 +97,7 @@ impl DecoderContext {
     ghost use Rattle.std.specs.Borrow.{sem};
     ghost use Rattle.hayro_ccitt.specs.Context.{fresh, after_taking, continued};
     ghost use Rattle.hayro_ccitt.specs.Lending.{LendsTicks};
+    ghost use Rattle.hayro_ccitt.specs.Laws.{AreSettings};
 
     /// A context for images with these settings: a white reference row, nothing painted, no row taken. Its only
     /// refusal is `OutOfMemory`, and nothing is made then.
@@ -120,8 +121,12 @@ impl DecoderContext {
 
     /// The settings that the context was made with.
     pub fn settings(&self) -> DecodeSettings
-        ensures { result ≡ self.now.held.settings }
+        ensures value { result ≡ self.now.held.settings }
+        ensures fit { AreSettings result }
     {
+        // A number's range is known once it is read.
+        let _columns = self.settings.columns;
+        let _rows = self.settings.rows;
         self.settings
     }
 
