@@ -11,7 +11,7 @@ use Rattle.hayro_ccitt.specs.declared.codes.Color.TheVariants.{White, Black}
 use Rattle.hayro_ccitt.specs.declared.error.DecodeError.{DecodeError}
 use Rattle.hayro_ccitt.specs.declared.error.DecodeError.TheVariants.{UnexpectedEof}
 use Rattle.hayro_ccitt.specs.declared.settings.EncodingMode.{EncodingMode}
-use Rattle.hayro_ccitt.specs.declared.settings.EncodingMode.TheVariants.{Group4, Group3_1D, Group3_2D}
+use Rattle.hayro_ccitt.specs.declared.settings.EncodingMode.TheVariants.{Group3_1D, Group3_2D}
 use Rattle.hayro_ccitt.specs.declared.settings.DecodeSettings.{DecodeSettings}
 use Rattle.hayro_ccitt.specs.Bits.{Bits}
 use Rattle.hayro_ccitt.specs.CodeLists.{mode_codes}
@@ -21,7 +21,7 @@ use Rattle.hayro_ccitt.specs.Runs.{codes_of}
 use Rattle.hayro_ccitt.specs.Lines.{Line, line_1d, line_2d}
 use Rattle.hayro_ccitt.specs.EndOfLine.{after_eol, one_more, eols, all_eols, after_tag, tagged_eols_from, pass_last_tag, tagged_eols}
 use Rattle.hayro_ccitt.specs.PlainReading.{end_by, Progress, Ending, row_before, aligned, at_end, limit_met, ends_with, line_at_group3, eols_group3}
-use Rattle.hayro_ccitt.specs.PlainReading.{unless_over, after_row, seek_eol, after_line_group3, move_group3, ending_from, plain_group4, plain_group3}
+use Rattle.hayro_ccitt.specs.PlainReading.{unless_over, after_row, seek_eol, after_line_group3, move_group3, ending_from, plain_group3}
 use Rattle.hayro_ccitt.specs.PlainReading.{end_of, with_settings}
 use Rattle.hayro_ccitt.specs.Encodings.{Spells, EncodesLine1D, EncodesLine2D, Kind, EncodesLine, eol, tag_of, IsPicture, EncodesRowsWithEols}
 use Rattle.hayro_ccitt.specs.Encodings.{ClosesWithEols, PictureT4}
