@@ -22,7 +22,7 @@ use Rattle.hayro_ccitt.specs.Lines.{Line, line_2d}
 use Rattle.hayro_ccitt.specs.EndOfLine.{after_eol, eols, all_eols}
 use Rattle.hayro_ccitt.specs.PlainReading.{eols_group4, Progress, Ending, Move, row_before, aligned, at_end, limit_met, ends_with, after_line_group4}
 use Rattle.hayro_ccitt.specs.PlainReading.{line_at_group4, move_group4, plain_group4, end_of, plain, bytes_before, with_settings}
-use Rattle.hayro_ccitt.specs.Laws.{each_word, Allows, Reaches, ComesToEofb, ReadsPictureT6, ReadsLimitedRowsT6, OnePictureT6}
+use Rattle.hayro_ccitt.specs.Laws.{each_word, Allows, Reaches, ComesToEofb, PicturesComeToEofb, ReadsPictureT6, ReadsLimitedRowsT6, OnePictureT6}
 use Rattle.hayro_ccitt.specs.Encodings.{EncodesLine2D, Kind, padding, EncodesRows, eol, IsPicture, PictureT6}
 use Rattle.hayro_ccitt.proofs.Repeated.{after_turn, repeated_turn, repeated_same}
 use Rattle.hayro_ccitt.proofs.ZerosInWords.{each_word_at}
@@ -334,6 +334,12 @@ pub limited_rows_t6 : ReadsLimitedRowsT6
 limited_rows_t6 settings rows body more bytes are four limit some is_picture lines is =
     let e = rows_t6_plain settings rows body more bytes four (omega (arith, are.columns)) some limit is_picture lines is in
     (ap (λ (a : List Row × Result ℕ DecodeError). a.0) e, rw e refl)
+
+-- over bytes: a picture comes to its EOFB
+pub pictures_come_to_eofb : PicturesComeToEofb
+pictures_come_to_eofb settings rows bits more bytes are limit picture is =
+    let whole : length (bits ++ more) % 8 ≡ 0 = omega (arith, length-bits_of bytes, ap length is) in
+    subst (ComesToEofb settings) (sym is) (picture_t6_comes settings rows bits more (omega (arith, are.columns)) limit (λ e. whole) picture)
 
 -- ---- One beginning, one picture.
 pub one_picture_t6 : OnePictureT6
