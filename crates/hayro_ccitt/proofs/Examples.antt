@@ -8,7 +8,7 @@ use Rattle.hayro_ccitt.specs.Bits.{Bits, bits_of}
 use Rattle.hayro_ccitt.specs.Rows.{Row, pixels}
 use Rattle.hayro_ccitt.specs.Lines.{Line}
 use Rattle.hayro_ccitt.specs.Encodings.{Spells, EncodesLine1D, EncodesLine2D}
-use Rattle.hayro_ccitt.specs.Examples.{EncodesTwoLines, EncodesTaggedRows, with_eols, three_rows, bits_changed, bits_added, HaveLocalBodies, ReadsDamage}
+use Rattle.hayro_ccitt.specs.Examples.{hex, EncodesTwoLines, EncodesTaggedRows, with_eols, three_rows, bits_changed, bits_added, HaveLocalBodies, ReadsDamage}
 use Rattle.hayro_ccitt.specs.Locality.{IsLocal, IsLocalByTests}
 use Rattle.hayro_ccitt.proofs.Tests.{local_by_tests}
 
@@ -89,7 +89,7 @@ local_of bits from to = (local_by_tests with_eols bits from to).1
 
 pub local_bodies : HaveLocalBodies
 local_bodies = (
-  local_of (bits_of three_rows) 29 39 (record {
+  local_of (bits_of (hex three_rows)) 29 39 (record {
     encoding = refl;
     lenient = refl;
     order = omega arith;
@@ -100,7 +100,7 @@ local_bodies = (
         refl;
     closes = (_, refl, λ row rest e. whole_stays _ _ row _ rest e (omega arith));
   }),
-  local_of (bits_of bits_changed) 29 39 (record {
+  local_of (bits_of (hex bits_changed)) 29 39 (record {
     encoding = refl;
     lenient = refl;
     order = omega arith;
@@ -111,7 +111,7 @@ local_bodies = (
         refl;
     closes = (_, refl, λ row rest e. broken_stays _ _ row _ rest e);
   }),
-  local_of (bits_of bits_added) 29 47 (record {
+  local_of (bits_of (hex bits_added)) 29 47 (record {
     encoding = refl;
     lenient = refl;
     order = omega arith;

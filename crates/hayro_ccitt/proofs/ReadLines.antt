@@ -51,7 +51,7 @@ step_1d_shrinks strict columns s t e =
     let a = draw_run_next strict columns s Turn.next t (unless_full_next columns s _ t e) in
     subst (λ (p : Pen). left p < left s) (next_is a.0 t a.1) a.2
 
-draw_mode_next : (strict : Bool) (columns : ℕ) (reference : Row) (pen : Pen) (mode : Mode) (t : Pen) → draw_mode strict columns reference pen mode ≡ Turn.next t → left t ≤ left pen
+pub draw_mode_next : (strict : Bool) (columns : ℕ) (reference : Row) (pen : Pen) (mode : Mode) (t : Pen) → draw_mode strict columns reference pen mode ≡ Turn.next t → left t ≤ left pen
 draw_mode_next strict columns reference pen Pass t e =
     let a = try_next pen.front _ (λ front. Turn.next (record pen { front = front })) t e in
     subst (λ (p : Pen). left p ≤ left pen) (next_is _ t a.2) (omega arith)
@@ -88,7 +88,7 @@ pub try_goes_on : {A : Type 0} (front : Row) (r : Result A DecodeError) (f : A �
 try_goes_on front (Ok x) f g = g x
 try_goes_on front (Err fault) f g = tt
 
-draw_run_goes_on : (strict : Bool) (columns : ℕ) (pen : Pen) (f : Pen → Step) → ((p : Pen) → GoesOn (f p)) → GoesOn (draw_run strict columns pen f)
+pub draw_run_goes_on : (strict : Bool) (columns : ℕ) (pen : Pen) (f : Pen → Step) → ((p : Pen) → GoesOn (f p)) → GoesOn (draw_run strict columns pen f)
 draw_run_goes_on strict columns pen f g =
     try_goes_on pen.front (run_from pen.color (0, pen.rest)) _ (λ run. try_goes_on pen.front (paint strict columns pen.front pen.color run.0) _ (λ front. g _))
 

@@ -11,7 +11,7 @@ use Rattle.hayro_ccitt.specs.Bits.{Bits, bits_of}
 use Rattle.hayro_ccitt.specs.CodeLists.{Code, mode_codes}
 use Rattle.hayro_ccitt.specs.CodeReading.{Has, leading_zeros}
 use Rattle.hayro_ccitt.specs.Runs.{codes_of}
-use Rattle.hayro_ccitt.specs.Rows.{Row}
+use Rattle.hayro_ccitt.specs.Rows.{Row, AreChanges, pixels, changes}
 use Rattle.hayro_ccitt.specs.Lines.{Line, line_2d}
 use Rattle.hayro_ccitt.specs.EndOfLine.{eols}
 use Rattle.hayro_ccitt.specs.Encodings.{Kind, white_row, EncodesRows, IsPicture, EncodesRowsWithEols, ClosesWithEols, PictureT6, PictureT4}
@@ -223,3 +223,14 @@ abbrev pub PicturesComeToEofb : Type 0
 PicturesComeToEofb = (settings : DecodeSettings) (rows : List Row) (bits more : Bits) (bytes : List ℕ) → AreSettings settings
     → Allows settings (length rows) → PictureT6 settings.columns settings.rows_are_byte_aligned rows bits
     → bits_of bytes ≡ bits ++ more → ComesToEofb settings (bits_of bytes)
+
+-- ---- rows and their changes
+
+-- a lawful list of changes is a row of the width, and that row's changes
+abbrev pub RowsOfChanges : Type 0
+RowsOfChanges = (width : ℕ) (places : List ℕ) → AreChanges width places
+    → (length (pixels width places) ≡ width) × (changes (pixels width places) ≡ places)
+
+-- the changes of a row are lawful, and stand for the row
+abbrev pub ChangesOfRows : Type 0
+ChangesOfRows = (row : Row) → AreChanges (length row) (changes row) × (pixels (length row) (changes row) ≡ row)

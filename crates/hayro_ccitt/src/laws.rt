@@ -6,7 +6,8 @@ ghost use Rattle.hayro_ccitt.specs.CodeReading.{is_prefix_free};
 ghost use Rattle.hayro_ccitt.specs.Examples.{EncodesTwoLines, EncodesTaggedRows, HaveLocalBodies, ReadsDamage};
 ghost use Rattle.hayro_ccitt.specs.Laws.{each_word, has_few_zeros, Synchronised, StrictThenLenient, RowLimit};
 ghost use Rattle.hayro_ccitt.specs.Laws.{ReadsPictureT6, ReadsLimitedRowsT6, ReadsPictureT4, ReadsLimitedPictureT4, ReadsLimitedRowsT4};
-ghost use Rattle.hayro_ccitt.specs.Laws.{AfterEofb, PicturesComeToEofb, OnePictureT6, OnePictureT4, EveryPictureHasAnEncoding, BytesBeginWithAnyBits};
+ghost use Rattle.hayro_ccitt.specs.Laws.{AfterEofb, PicturesComeToEofb, OnePictureT6, OnePictureT4};
+ghost use Rattle.hayro_ccitt.specs.Laws.{EveryPictureHasAnEncoding, BytesBeginWithAnyBits, RowsOfChanges, ChangesOfRows};
 ghost use Rattle.hayro_ccitt.specs.Locality.{LinesByEols, StartsAre, Locality, LocalByTests};
 
 /// Code words hold few zeros. Each word of a run has at most seven at its front and three at its end, each word of a
@@ -76,6 +77,12 @@ pub fn lines_by_eols()
 pub fn locality()
     ensures one_row { Locality }
     ensures tests { LocalByTests }
+{}
+
+/// Lawful lists of changes and rows of pixels correspond one to one (T.4 section 4.2.1.1).
+pub fn changes_are_rows()
+    ensures pixels { RowsOfChanges }
+    ensures changes { ChangesOfRows }
 {}
 
 /// Every picture with a column has a T.6 encoding, and with a row a T.4 encoding of each kind, and bytes begin with any
