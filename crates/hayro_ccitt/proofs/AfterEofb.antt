@@ -12,15 +12,16 @@ use Rattle.hayro_ccitt.specs.Repetition.{Turn}
 use Rattle.hayro_ccitt.specs.Rows.{Row}
 use Rattle.hayro_ccitt.specs.Lines.{Line, line_2d}
 use Rattle.hayro_ccitt.specs.EndOfLine.{after_eol, one_more, eols, all_eols}
-use Rattle.hayro_ccitt.specs.PlainReading.{eols_group4, Progress, Ending, Move, row_before, aligned, at_end, limit_met, ends_with, after_line_group4}
+use Rattle.hayro_ccitt.specs.PlainReading.{eols_group4, Progress, Ending, row_before, aligned, at_end, limit_met, ends_with, after_line_group4}
 use Rattle.hayro_ccitt.specs.PlainReading.{line_at_group4, move_group4, end_of, bytes_before, plain}
 use Rattle.hayro_ccitt.specs.Laws.{Reaches, AfterEofb}
+use Rattle.hayro_ccitt.proofs.Moves.{eols-none, next_is, not_next}
 use Rattle.hayro_ccitt.proofs.Repeated.{after_turn}
 use Rattle.hayro_ccitt.proofs.ReadRuns.{chosen}
 use Rattle.hayro_ccitt.proofs.BitLists.{length-bits_of}
 use Rattle.hayro_ccitt.proofs.ZerosInWords.{front_of_front}
 use Rattle.hayro_ccitt.proofs.Follows.{line_2d_found}
-use Rattle.hayro_ccitt.proofs.PicturesT6.{IsLineStart, mode_starts, eols_none, goes, goes_is, between, move_group4_eofb, late_group4, end_of_goes, plain_ends}
+use Rattle.hayro_ccitt.proofs.PicturesT6.{IsLineStart, mode_starts, goes, goes_is, between, move_group4_eofb, late_group4, end_of_goes, plain_ends}
 
 -- ---- EOLs.
 after_eol_found : (seen : ℕ) (here rest : Bits) → after_eol seen here ≡ Some rest → (w : Bits) × (here ≡ w ++ rest)
@@ -35,6 +36,7 @@ after_eol_found seen (true ∷ here) rest e = elim (chosen (leb 11 seen) _ _ _ e
 one_more_is : (found : ℕ × Bits) → one_more found ≡ (suc found.0, found.1)
 one_more_is (count, here) = refl
 
+-- the EOLs that were counted are a front, and are counted again whatever follows, if no EOL does or enough were asked for
 abbrev EolsFound : ℕ → Bits → ℕ × Bits → Type 0
 EolsFound most here found = (w : Bits) × (here ≡ w ++ found.1)
     × ((more : Bits) → (found.0 ≡ most) ⊎ (after_eol 0 more ≡ None) → eols most (w ++ more) ≡ (found.0, more))
@@ -44,12 +46,12 @@ eols_found zero here = ([], refl, λ more or. refl)
 eols_found (suc most) here =
     let by : (o : Option Bits) → after_eol 0 here ≡ o → EolsFound (suc most) here (eols (suc most) here)
     = λ o. elim o as (λ (o : Option Bits). after_eol 0 here ≡ o → EolsFound (suc most) here (eols (suc most) here)) [
-      | None ↦ λ e. subst (EolsFound (suc most) here) (sym (eols_none (suc most) here e)) (
+      | None ↦ λ e. subst (EolsFound (suc most) here) (sym (eols-none (suc most) here e)) (
         [],
         refl,
         λ more or. elim or [
           | inl same ↦ absurd (omega arith)
-          | inr none ↦ eols_none (suc most) more none
+          | inr none ↦ eols-none (suc most) more none
         ],
       )
       | Some rest ↦ λ e.
@@ -86,15 +88,11 @@ record MoveFound (settings : DecodeSettings) (run after : Progress) : Type 0 whe
   again : (more : Bits) → length more % 8 ≡ length after.rest % 8
       → move_group4 settings (record run { rest = bits ++ more }) ≡ Turn.next (record after { rest = more })
 
-next_is : (s t : Progress) → ◌≡◌ {A = Move} (Turn.next s) (Turn.next t) → s ≡ t
-next_is s t e = cc
-
-not_next : (l : Ending) (t : Progress) → ◌≡◌ {A = Move} (Turn.done l) (Turn.next t) → ⊥
-not_next l t e = cc
-
+-- the line that is read from a state
 abbrev reader : DecodeSettings → Progress → Bits → Line
 reader settings run = line_2d settings.strict settings.columns (row_before settings.columns run.rows)
 
+-- the reading ends in front of a line
 abbrev is_over : DecodeSettings → Progress → ℕ → Bits → Bool
 is_over settings run count rest = ((settings.end_of_block && (eqb count 2)) || limit_met settings (length run.rows)) || at_end rest
 
@@ -147,6 +145,7 @@ module _ (settings : DecodeSettings) (block : settings.end_of_block ≡ true) (w
   abbrev ended_at : Progress → Bits → Ending
   ended_at last rest = record { rows = last.rows; has_eols = last.has_eols; outcome = Ok rest }
 
+  -- what was read up to two EOLs gives the same rows again, whatever follows
   pub closed_found : (late : Ending) (run last : Progress) (rest : Bits) → Reaches settings run last → eols 2 last.rest ≡ (2, rest)
       → (w : Bits) × (run.rest ≡ w ++ rest) × ((more : Bits) → length more % 8 ≡ length rest % 8
       → goes settings late (record run { rest = w ++ more }) ≡ ended_at last more)
@@ -205,6 +204,7 @@ plain_no_columns : (settings : DecodeSettings) (bytes : List ℕ) → settings.c
 plain_no_columns settings bytes none = cond-true (eqb settings.columns 0) ([], Ok 0)
     ((end_of settings (bits_of bytes)).rows, bytes_before (bits_of bytes) (end_of settings (bits_of bytes)).outcome) (eq-eqb settings.columns 0 none)
 
+-- the law
 pub after_eofb : AfterEofb
 after_eofb settings one two count are four block comes counted same = elim (cases_lt 0 settings.columns) [
   | inr none ↦ plain_no_columns settings two (omega arith) ∙ sym (plain_no_columns settings one (omega arith))

@@ -14,6 +14,7 @@ use Rattle.hayro_ccitt.proofs.Fronts.{Inside, InFront, LineAlike, line_1d_alike}
 abbrev pub Closes : Bits → Type 0
 Closes bits = (first : Bits) × (bits ≡ first ++ replicate 11 false)
 
+-- no zeros hold a one
 pub no_one : (n : ℕ) (before after : Bits) → before ++ true ∷ after ≡ replicate n false → ⊥
 no_one zero [] after e = absurd cc
 no_one zero (b ∷ before) after e = absurd cc
@@ -27,14 +28,17 @@ closes_after [] after (b ∷ first) e = (first, cc)
 closes_after (b ∷ before) after [] e = absurd (no_one 11 (b ∷ before) after e)
 closes_after (b ∷ before) after (c ∷ first) e = closes_after before after first (let f : before ++ true ∷ after ≡ first ++ replicate 11 false = cc in f)
 
+-- what ends in eleven zeros holds them
 pub closes_inside : (bits : Bits) → Closes bits → Inside bits
 closes_inside bits closes = record { holds = ap (scan 3) closes.1 ∙ scan_holds 3 closes.0 [] (omega arith); last = ([], closes.0, closes.1) }
 
+-- what follows a one within them ends in them too
 pub inside_after : (bits before after : Bits) → Inside bits → bits ≡ before ++ true ∷ after → Closes after
 inside_after bits before after inside e =
     closes_after (inside.last.0 ++ before) after inside.last.1
     (append_assoc inside.last.0 before (true ∷ after) ∙ ap (λ (x : Bits). inside.last.0 ++ x) (sym e) ∙ inside.last.2)
 
+-- what follows a one is shorter
 pub after_shorter : (bits before after : Bits) → bits ≡ before ++ true ∷ after → length after < length bits
 after_shorter bits before after e = omega (arith, ap length e, length-append before (true ∷ after))
 
@@ -60,6 +64,7 @@ module _ (x y : Bits) where
   EolAlike bits o p = ((before after : Bits) × (bits ≡ before ++ true ∷ after) × (o ≡ Some (after ++ true ∷ x)) × (p ≡ Some (after ++ true ∷ y)))
       ⊎ (((o ≡ Some x) × (p ≡ Some y)) ⊎ ((o ≡ None) × (p ≡ None)))
 
+  -- an EOL that stands before the one in the one data stands there in the other
   pub after_eol_alike : (seen : ℕ) (bits : Bits) → EolAlike bits (after_eol seen (bits ++ true ∷ x)) (after_eol seen (bits ++ true ∷ y))
   after_eol_alike seen [] = by (leb 11 seen)
     where
@@ -81,6 +86,7 @@ module _ (x y : Bits) where
   PastAlike bits o p = ((before after : Bits) × (bits ≡ before ++ true ∷ after) × (o ≡ Some (after ++ true ∷ x)) × (p ≡ Some (after ++ true ∷ y)))
       ⊎ (((o ≡ Some x) × (p ≡ Some y)) ⊎ ((o ≡ past 0 x) × (p ≡ past 0 y)))
 
+  -- the next EOL ends alike in both
   pub past_alike : (seen : ℕ) (bits : Bits) → PastAlike bits (past seen (bits ++ true ∷ x)) (past seen (bits ++ true ∷ y))
   past_alike seen [] = by (leb 11 seen)
     where
@@ -107,6 +113,7 @@ module _ (x y : Bits) where
   RestAlike bits here there = ((rest : Bits) × (length rest ≤ length bits) × (Closes bits → Closes rest) × (here ≡ rest ++ true ∷ x)
       × (there ≡ rest ++ true ∷ y)) ⊎ ((here ≡ x) × (there ≡ y))
 
+  -- counts of EOLs that end alike
   abbrev pub CountAlike : Bits → ℕ × Bits → ℕ × Bits → Type 0
   CountAlike bits f g = (f.0 ≡ g.0) × RestAlike bits f.1 g.1
 
@@ -141,5 +148,6 @@ module _ (x y : Bits) where
             rw (all_eols-none (bits ++ true ∷ x) (e ∙ a.0), all_eols-none (bits ++ true ∷ y) (f ∙ a.1))
             (refl, inl (bits, omega arith, λ closes. closes, refl, refl))
 
+    -- the EOLs that stand in a row are alike in both
     pub all_eols_alike : (bits : Bits) → CountAlike bits (all_eols (bits ++ true ∷ x)) (all_eols (bits ++ true ∷ y))
     all_eols_alike bits = count_for (suc (length bits)) bits (omega arith)

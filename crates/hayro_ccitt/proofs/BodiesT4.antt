@@ -17,10 +17,11 @@ use Rattle.hayro_ccitt.specs.PlainReading.{Progress, Ending, row_before, aligned
 use Rattle.hayro_ccitt.specs.PlainReading.{unless_over, after_row, seek_eol, after_line_group3, move_group3, ending_from, plain_group3, end_of}
 use Rattle.hayro_ccitt.specs.Encodings.{Kind, IsPicture, EncodesRows}
 use Rattle.hayro_ccitt.specs.Laws.{Matches, ReadsLimitedRowsT4}
+use Rattle.hayro_ccitt.proofs.Moves.{eols-none}
 use Rattle.hayro_ccitt.proofs.BitLists.{length-bits_of}
 use Rattle.hayro_ccitt.proofs.PicturesT4.{eols_group3_one, eols_group3_two, line_t4_again, line_t4_starts, end_of_three}
 use Rattle.hayro_ccitt.proofs.Repeated.{after_turn}
-use Rattle.hayro_ccitt.proofs.PicturesT6.{IsLineStart, eols_none, not_met, row_before_push, plain_ends, fill, aligned_again, aligned_on}
+use Rattle.hayro_ccitt.proofs.PicturesT6.{IsLineStart, not_met, row_before_push, plain_ends, fill, aligned_again, aligned_on}
 
 -- ---- No EOL is counted where none stands.
 pass_zero : (here : Bits) → pass_last_tag (0, here) ≡ (0, here)
@@ -30,9 +31,9 @@ pass_zero (false ∷ here) = refl
 
 no_eols : (settings : DecodeSettings) (kind : Kind) (here : Bits) → Matches kind settings → after_eol 0 here ≡ None → eols_group3 settings here ≡ (0, here)
 no_eols settings Kind.group4 here matches none = absurd matches
-no_eols settings Kind.group3_1d here matches none = eols_group3_one settings here matches ∙ eols_none (length here) here none
+no_eols settings Kind.group3_1d here matches none = eols_group3_one settings here matches ∙ eols-none (length here) here none
 no_eols settings Kind.group3_2d here matches none =
-    let all : all_eols here ≡ (0, here) = eols_none (length here) here none in
+    let all : all_eols here ≡ (0, here) = eols-none (length here) here none in
     eols_group3_two settings here matches ∙ ap (λ (f : ℕ × Bits). pass_last_tag (cond (ltb 0 f.0) (tagged_eols_from (length here) f) f)) all ∙ pass_zero here
 
 some_bits : (here : Bits) → at_end here ≡ false → 0 < length here
@@ -43,9 +44,11 @@ with_true : (b : Bool) → (b && true) ≡ b
 with_true true = refl
 with_true false = refl
 
+-- between lines, where no EOLs are sought
 abbrev without_eols : List Row → Bits → Progress
 without_eols rows rest = record { rows = rows; has_eols = false; rest = rest }
 
+-- the end of such a reading
 abbrev ends_without : List Row → Bits → Ending
 ends_without rows rest = record { rows = rows; has_eols = false; outcome = Ok rest }
 
@@ -59,6 +62,7 @@ module _ (settings : DecodeSettings) (wide : 0 < settings.columns) (small : sett
       cond-false ((eqb found.0 0) && false && not (limit_met settings (length rows)) && not (at_end here))
       (seek_eol settings (without_eols rows here)) (unless_over settings (without_eols rows here) found) test
 
+  -- whether rows begin at whole bytes
   abbrev b : Bool
   b = settings.rows_are_byte_aligned
 
@@ -154,6 +158,7 @@ module _ (settings : DecodeSettings) (wide : 0 < settings.columns) (small : sett
             (subst (λ (r : Row). EncodesRows kind b r (second ∷ others) next) (sym pushed)
             (second_line, second_next, second_is, second_lines, second_split)) (omega arith)
 
+  -- lines without EOLs are read as their rows, up to the limit
   pub rows_t4_end : (kind : Kind) (rows : List Row) (body tail : Bits) → Matches kind settings → settings.end_of_line ≡ false
       → settings.rows ≡ length rows → 0 < length rows → IsPicture settings.columns rows
       → (b ≡ true → length (body ++ tail) % 8 ≡ 0) → EncodesRows kind b (replicate settings.columns false) rows body
@@ -167,7 +172,7 @@ module _ (settings : DecodeSettings) (wide : 0 < settings.columns) (small : sett
       ∙ append_assoc line (fill b line) (next ++ tail) in
       let start : IsLineStart all = subst IsLineStart (sym here)
       (line_t4_starts settings wide small kind white row line (fill b line ++ (next ++ tail)) matches is row_len) in
-      let none : all_eols all ≡ (0, all) = eols_none (length all) all start.no_eol in
+      let none : all_eols all ≡ (0, all) = eols-none (length all) all start.no_eol in
       let late : Ending = record { rows = []; has_eols = false; outcome = Err UnexpectedEof } in
       let started : plain_group3 settings all ≡ repeated (move_group3 settings) late (suc (suc (length all))) (without_eols [] all)
       = ap (λ (f : ℕ × Bits). ending_from (move_group3 settings) (record { rows = []; has_eols = ltb 0 f.0 || settings.end_of_line; rest = f.1 })) none
@@ -178,6 +183,7 @@ module _ (settings : DecodeSettings) (wide : 0 < settings.columns) (small : sett
       ∙ rows_t4_again kind matches late tail (row ∷ rows) limit [] row rows body (suc (suc (length all))) refl
       (length-replicate settings.columns false) is_picture.1 bytes (line, next, is, more, split) short
 
+-- the law
 pub limited_rows_t4 : ReadsLimitedRowsT4
 limited_rows_t4 settings kind rows body more bytes are matches line limit some is_picture lines is =
     let small : settings.columns ≤ 4294967295 = omega (arith, are.columns) in

@@ -24,6 +24,7 @@ use Rattle.hayro_ccitt.proofs.Past.{past, past-eol, past_later, all_eols-some, a
 use Rattle.hayro_ccitt.proofs.Turns.{sought, rest_of, found_next, after_row_past, move_line}
 use Rattle.hayro_ccitt.proofs.Leaves.{line_1d_leaves, LineLeaves}
 
+-- what follows the next EOL is shorter
 pub past_shorter : (seen : ℕ) (here after : Bits) → past seen here ≡ Some after → length after < length here
 past_shorter seen [] after e = absurd cc
 past_shorter seen (false ∷ here) after e = omega (arith, past_shorter (suc seen) here after e)
@@ -86,6 +87,7 @@ starts_after (suc n) here lt = by (λ next small. starts_after n next small) (af
         itself [] = refl
         itself (b ∷ here) = refl
 
+-- the later starts are those from the end of the next EOLs on
 pub starts-next : (here after : Bits) → past 0 here ≡ Some after → later_starts 0 here ≡ from_here (all_eols after).1
 starts-next here after e = starts-past 0 here after e ∙ starts_after (suc (length after)) after (omega arith)
 
@@ -103,6 +105,7 @@ line_past columns here after stays e = by (line_1d false columns here) refl (lin
 
 module _ (settings : DecodeSettings) (encoding : settings.encoding ≡ Group3_1D) (lenient : settings.strict ≡ false)
     (no_block : settings.end_of_block ≡ false) (unlimited : settings.rows ≡ 0) (wide : 0 < settings.columns) (late : Ending) where
+  -- the reading from a state on
   abbrev rest_end : Progress → Ending
   rest_end run = repeated (move_group3 settings) late (suc (left_group3 run)) run
 
@@ -188,10 +191,12 @@ module _ (settings : DecodeSettings) (encoding : settings.encoding ≡ Group3_1D
       (subst (λ (r : Progress). IsFront (map (row_at settings.columns) (here ∷ later_starts 0 here)) (rest_end r).rows) (sym is)
       (by_starts (suc (length here)) [] here (omega arith) stay))
 
+-- EOLs are sought from the start
 pub seeks : (bits : Bits) (end_of_line : Bool) → (end_of_line ≡ true) ⊎ IsEolAt bits → (ltb 0 (all_eols bits).0 || end_of_line) ≡ true
 seeks bits end_of_line (inl e) = or_right (ltb 0 (all_eols bits).0) end_of_line e
 seeks bits end_of_line (inr e) = or_left (ltb 0 (all_eols bits).0) end_of_line (lt-ltb 0 (all_eols bits).0 (eols_some_counts bits e.0 e.1))
 
+-- the law
 pub lines_by_eols : LinesByEols
 lines_by_eols settings bytes are encoding lenient no_block unlimited wide sought_by stay =
     let bits : Bits = bits_of bytes in

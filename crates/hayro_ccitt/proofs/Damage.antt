@@ -28,6 +28,7 @@ use Rattle.hayro_ccitt.proofs.Tails.{after_eol_is, is_tail}
 
 -- ---- From the ends of two runs to their answers
 
+-- rows that are alike differ in at most one
 abbrev pub rows_differ : (xs ys : List Row) → RowsAlike xs ys → (index : ℕ) × OneRowDiffers xs ys index
 rows_differ xs ys (inl e) = (length xs, ([], sym e ∙ sym (set_past xs (length xs) [] (omega arith))))
 rows_differ xs ys (inr (before, a, b, more, e, f)) =
@@ -40,9 +41,11 @@ count_at bits rest place e = let sum : length bits - length rest ≡ place = ome
 module _ (settings : DecodeSettings) (wide : 0 < settings.columns) (one two : List ℕ) (from : ℕ) (x y after : Bits)
     (length_one : length (bits_of one) ≡ from + length x) (length_two : length (bits_of two) ≡ from + length y)
     (tail_x : IsTail settings.columns after x) (tail_y : IsTail settings.columns after y) where
+  -- the ends of both readings
   abbrev end_one : Ending
   end_one = end_of settings (bits_of one)
 
+  -- the end of the other
   abbrev end_two : Ending
   end_two = end_of settings (bits_of two)
 
@@ -64,6 +67,7 @@ module _ (settings : DecodeSettings) (wide : 0 < settings.columns) (one two : Li
       → place + length rest ≡ length (bits_of bytes) → (plain settings bytes).1 ≡ Ok ((place + 7) / 8)
   counted bytes rest place e f = outcome_of bytes (Ok rest) e ∙ count_at (bits_of bytes) rest place f
 
+  -- what the law says of both answers
   abbrev Differ : Type 0
   Differ = (index : ℕ) × OneRowDiffers (plain settings one).0 (plain settings two).0 index × EndAlike settings one two from index
 
@@ -78,6 +82,7 @@ module _ (settings : DecodeSettings) (wide : 0 < settings.columns) (one two : Li
   shorter_y : length after < length y
   shorter_y = past_shorter 0 y after tail_y.next
 
+  -- readings that end alike give answers of which the law holds
   pub answers_alike : EndsAlike settings from x y after end_one end_two → Differ
   answers_alike (EndsAlike.faults fault e f rows) = differ rows (EndAlike.faults fault (outcome_of one (Err fault) e) (outcome_of two (Err fault) f))
   answers_alike (EndsAlike.early bits short e f rows) =
@@ -133,6 +138,7 @@ ends_eol bits from place eol =
 
 module _ (settings : DecodeSettings) (one two : Bits) (from : ℕ) (after : Bits) (fits_one : from ≤ length one) (same : take from one ≡ take from two)
     (tail_one : IsTail settings.columns after (drop from one)) (tail_two : IsTail settings.columns after (drop from two)) where
+  -- the state in which a reading starts
   abbrev first : Bits → Progress
   first bits = record { rows = []; has_eols = ltb 0 (all_eols bits).0 || settings.end_of_line; rest = (all_eols bits).1 }
 
@@ -193,6 +199,7 @@ module _ (settings : DecodeSettings) (one two : Bits) (from : ℕ) (after : Bits
       begin_ahead f.0 f.1 f.2 (seeks one settings.end_of_line (elim sought_by [ inl e ↦ inl e | inr e ↦ inr (drop e.0 one, e.2.2) ]))
 
   module _ (encoding : settings.encoding ≡ Group3_1D) (lenient : settings.strict ≡ false) (wide : 0 < settings.columns) where
+    -- readings that start alike end alike
     pub ends_alike : RunsAlike from (drop from one) (drop from two) after (first one) (first two)
         → EndsAlike settings from (drop from one) (drop from two) after (end_of settings one) (end_of settings two)
     ends_alike alike =
@@ -207,6 +214,7 @@ module _ (settings : DecodeSettings) (one two : Bits) (from : ℕ) (after : Bits
         (suc (suc (length (first one).rest))) (suc (suc (length (first two).rest))) (first one) (first two) (left_group3_below (first one))
         (left_group3_below (first two)) alike)
 
+-- the law
 pub locality : Locality
 locality settings one two from to to2 are same_front same_rest local_one local_two sought_by = by (cases_eq settings.columns 0)
   where

@@ -1,6 +1,6 @@
 -- Every picture has encodings.
 use Rattle.std.proofs.Common.{◌≡◌, ◌≢◌, ℕ, zero, suc, ◌+◌, ◌-◌, ◌*◌, ◌/◌, ◌%◌, ◌^◌, ◌<◌, ◌≤◌, Bool, true, false, cond, eqb, List, [], ◌∷◌, ◌++◌}
-use Rattle.std.proofs.Common.{length, replicate, Option, Some, None, is_some, refl, sym, ap, subst, ◌∙◌, append_assoc, arith, ◌⊎◌, inl, inr}
+use Rattle.std.proofs.Common.{length, replicate, Option, Some, None, is_some, refl, sym, ap, subst, ◌∙◌, arith, ◌⊎◌, inl, inr}
 use Rattle.std.specs.Prelude.{All}
 use Rattle.std.proofs.lemmas.Bool.{agree_below_at, eqb-true, false≢true, cases_lt}
 use Rattle.std.proofs.lemmas.List.Elements.{All-head, All-tail, All-cons}
@@ -14,8 +14,8 @@ use Rattle.hayro_ccitt.specs.CodeLists.{Code}
 use Rattle.hayro_ccitt.specs.CodeReading.{Has}
 use Rattle.hayro_ccitt.specs.Rows.{Row, is_black, opposite, a1, a2}
 use Rattle.hayro_ccitt.specs.Runs.{codes_of}
-use Rattle.hayro_ccitt.specs.Encodings.{Spells, EncodesLine1D, EncodesLine2D, Kind, EncodesLine, padding, EncodesRows, eol, IsPicture, PictureT6}
-use Rattle.hayro_ccitt.specs.Encodings.{EncodesRowsWithEols, tag_of, ClosesWithEols, PictureT4}
+use Rattle.hayro_ccitt.specs.Encodings.{Spells, EncodesLine1D, EncodesLine2D, Kind, EncodesLine, padding, EncodesRows, eol}
+use Rattle.hayro_ccitt.specs.Encodings.{EncodesRowsWithEols, tag_of, ClosesWithEols}
 use Rattle.hayro_ccitt.specs.Laws.{EveryPictureHasAnEncoding, BytesBeginWithAnyBits}
 use Rattle.hayro_ccitt.proofs.ReadRuns.{chosen}
 use Rattle.hayro_ccitt.proofs.Places.{a1_next, a2_next, a2_least}
@@ -60,6 +60,7 @@ run_spelled color (suc times) n lt =
           (Spells.makeup 64 word.0 word.1 (omega arith) rest.1),
     )
 
+-- a run of any length is spelled by make-up words of 64 and a terminating word
 pub every_run_spelled : (color : Color) (n : ℕ) → (bits : Bits) × Spells color n bits
 every_run_spelled color n = subst (λ (m : ℕ). (bits : Bits) × Spells color m bits) (let e : 64 * (n / 64) + n % 64 ≡ n = omega arith in e)
     (run_spelled color (n / 64) (n % 64) (omega arith))
@@ -153,6 +154,7 @@ closing_exists : (kind : Kind) (n : ℕ) → (bits : Bits) × ClosesWithEols kin
 closing_exists kind zero = ([], refl)
 closing_exists kind (suc n) = let next = closing_exists kind n in (eol 0 ++ tag_of kind ++ next.0, (0, next.0, next.1, refl))
 
+-- the law
 pub every_picture_has_an_encoding : EveryPictureHasAnEncoding
 every_picture_has_an_encoding columns rows is = (
   λ aligned. let body = rows_exist columns is.0 Kind.group4 aligned (replicate columns false) rows is.1 in
@@ -236,6 +238,7 @@ bytes_of (suc n) bits e =
     let small : value f.0 < 256 = subst (λ (k : ℕ). value f.0 < 2 ^ k) f.3 (value_below f.0) in
     (value f.0 ∷ on.0, All-cons (λ byte. byte < 256) (value f.0) on.0 small on.1, bits_more f.0 f.1 bits (value f.0) on.0 (byte_of f.0 f.3) on.2 f.2)
 
+-- the law
 pub bytes_begin_with_any_bits : BytesBeginWithAnyBits
 bytes_begin_with_any_bits bits =
     let missing : ℕ = 7 - (length bits + 7) % 8 in

@@ -60,6 +60,7 @@ run_found_by (suc fuel) color total here n rest lt e =
     ] in
     by (read_code (codes_of color) here) refl
 
+-- a run that was read is read again, whatever follows
 pub run_found : (color : Color) (here : Bits) (n : ℕ) (rest : Bits) → run_from color (0, here) ≡ Ok (n, rest) → RunFound color 0 here n rest
 run_found color here n rest e = run_found_by (suc (length here)) color 0 here n rest (omega arith) e
 
@@ -194,6 +195,7 @@ line_found_by (suc fuel) strict columns reference pen row rest lt e =
     ] in
     by (step pen) refl
 
+-- a line that was read is read again, whatever follows
 pub line_2d_found : (strict : Bool) (columns : ℕ) (reference : Row) (here : Bits) (row : Row) (rest : Bits)
     → line_2d strict columns reference here ≡ Line.whole row rest → LineFound strict columns reference (start here) row rest
 line_2d_found strict columns reference here row rest e = line_found_by (suc (length here)) strict columns reference (start here) row rest (omega arith) e

@@ -104,6 +104,7 @@ read_code_alike color bits x y inside = by (read_code (codes_of color) (bits ++ 
     by (Err fault) (Err other) e f = tt
 
 module _ (x y : Bits) where
+  -- states of a run that are alike
   abbrev Runs : ℕ × Bits → ℕ × Bits → Type 0
   Runs s t = (s.0 ≡ t.0) × InFront x y s.1 t.1
 
@@ -154,6 +155,7 @@ module _ (x y : Bits) where
   LineAlike (Line.broken front fault) (Line.whole row there) = ⊥
   LineAlike (Line.broken front fault) (Line.broken other fault2) = front ≡ other
 
+  -- pens that are alike
   abbrev Pens : Pen → Pen → Type 0
   Pens s t = (front : Row) × (color : Color) × (here there : Bits) × (s ≡ record { front = front; color = color; rest = here })
       × (t ≡ record { front = front; color = color; rest = there }) × InFront x y here there

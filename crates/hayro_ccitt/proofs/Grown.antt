@@ -24,15 +24,18 @@ keeps_cond : (rows : List Row) (b : Bool) (x y : Move) → Keeps rows x → Keep
 keeps_cond rows true x y p q = p
 keeps_cond rows false x y p q = q
 
+-- the rows stay those that stand
 pub unless_over_keeps : (settings : DecodeSettings) (run : Progress) (found : ℕ × Bits) → Keeps run.rows (unless_over settings run found)
 unless_over_keeps settings run (count, rest) =
     keeps_cond run.rows (((settings.end_of_block && leb 6 count) || limit_met settings (length run.rows)) || at_end rest) (ends_with run (Ok rest))
     (Turn.next (record run { rest = rest })) refl refl
 
+-- and where an EOL is looked for
 pub seek_from_keeps : (settings : DecodeSettings) (run : Progress) (o : Option Bits) → Keeps run.rows (seek_from settings run o)
 seek_from_keeps settings run None = unless_over_keeps settings (record run { has_eols = false }) (0, run.rest)
 seek_from_keeps settings run (Some found) = unless_over_keeps settings run (eols_group3 settings found)
 
+-- and after a row
 pub after_row_keeps : (settings : DecodeSettings) (run : Progress) → Keeps run.rows (after_row settings run)
 after_row_keeps settings run =
     keeps_cond run.rows ((((eqb (eols_group3 settings run.rest).0 0) && run.has_eols) && not (limit_met settings (length run.rows))) && not
@@ -64,9 +67,11 @@ after_line_group3_adds settings run (Line.broken front fault) =
     (keeps_adds run.rows (row ∷ []) _ (after_row_keeps settings
     (record run { rows = run.rows ++ row ∷ []; rest = cond (settings.rows_are_byte_aligned && not run.has_eols) (aligned run.rest) run.rest })))
 
+-- a turn of Group 3 adds a row
 pub move_group3_adds : (settings : DecodeSettings) (run : Progress) → Adds run.rows (move_group3 settings run)
 move_group3_adds settings run = after_line_group3_adds settings run (line_at_group3 settings (row_before settings.columns run.rows) run.rest)
 
+-- a line of Group 4 adds its row
 pub after_line_group4_adds : (settings : DecodeSettings) (run : Progress) (line : Line) → Adds run.rows (after_line_group4 settings run line)
 after_line_group4_adds settings run (Line.whole row rest) = (row ∷ [], refl)
 after_line_group4_adds settings run (Line.broken front fault) = ([], sym (append-nil run.rows))
@@ -77,9 +82,11 @@ line_at_group4_adds settings run (count, rest) =
     adds_cond run.rows (((settings.end_of_block && (eqb count 2)) || limit_met settings (length run.rows)) || at_end rest) (ends_with run (Ok rest))
     (after_line_group4 settings run line) ([], sym (append-nil run.rows)) (after_line_group4_adds settings run line)
 
+-- a turn of Group 4 adds a row, or ends
 pub move_group4_adds : (settings : DecodeSettings) (run : Progress) → Adds run.rows (move_group4 settings run)
 move_group4_adds settings run = line_at_group4_adds settings run (cond settings.end_of_block (eols 2 run.rest) (all_eols run.rest))
 
+-- a front of a front is a front
 pub front_trans : {A : Type 0} (a b c : List A) → IsFront a b → IsFront b c → IsFront a c
 front_trans a b c f g = (f.0 ++ g.0, g.1 ∙ ap (λ (x : List _). x ++ g.0) f.1 ∙ append_assoc a f.0 g.0)
 

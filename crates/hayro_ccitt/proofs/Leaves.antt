@@ -12,16 +12,20 @@ use Rattle.hayro_ccitt.specs.Lines.{Line, Pen, Step, try, draw_run, start, step_
 use Rattle.hayro_ccitt.proofs.Repeated.{repeated_keeps}
 use Rattle.hayro_ccitt.proofs.ReadCodes.{read_code_found}
 
+-- the second bits are the last of the first
 abbrev pub Leaves : Bits → Bits → Type 0
 Leaves here rest = (before : Bits) × (here ≡ before ++ rest)
 
+-- the last of the last are the last
 pub leaves_trans : (a b c : Bits) → Leaves a b → Leaves b c → Leaves a c
 leaves_trans a b c f g = (f.0 ++ g.0, f.1 ∙ ap (λ (x : Bits). f.0 ++ x) g.1 ∙ sym (append_assoc f.0 g.0 c))
 
+-- what a reading that found something leaves
 abbrev FoundLeaves : Bits → Result (ℕ × Bits) DecodeError → Type 0
 FoundLeaves here (Ok found) = Leaves here found.1
 FoundLeaves here (Err fault) = Unit {0}
 
+-- what a turn of a run leaves
 abbrev TurnLeaves : Bits → Turn (ℕ × Bits) (Result (ℕ × Bits) DecodeError) → Type 0
 TurnLeaves here (Turn.next t) = Leaves here t.1
 TurnLeaves here (Turn.done r) = FoundLeaves here r
@@ -51,10 +55,12 @@ run_leaves color total here =
     ends there (Ok found) p q = leaves_trans here there found.1 p q
     ends there (Err fault) p q = tt
 
+-- what a whole line leaves
 abbrev pub LineLeaves : Bits → Line → Type 0
 LineLeaves here (Line.whole row rest) = Leaves here rest
 LineLeaves here (Line.broken front fault) = Unit {0}
 
+-- what a step of a line leaves
 abbrev StepLeaves : Bits → Step → Type 0
 StepLeaves here (Turn.next pen) = Leaves here pen.rest
 StepLeaves here (Turn.done line) = LineLeaves here line
@@ -77,6 +83,7 @@ step_1d_leaves strict columns pen = full (leb columns (length pen.front))
     full true = ([], refl)
     full false = drew (run_from pen.color (0, pen.rest)) (run_leaves pen.color 0 pen.rest)
 
+-- a one-dimensional line leaves the last of its bits
 pub line_1d_leaves : (strict : Bool) (columns : ℕ) (here : Bits) → LineLeaves here (line_1d strict columns here)
 line_1d_leaves strict columns here =
     repeated_keeps (step_1d strict columns) (Line.broken [] UnexpectedEof) (λ s. Leaves here s.rest) (LineLeaves here) tt

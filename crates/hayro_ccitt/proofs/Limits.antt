@@ -24,9 +24,11 @@ use Rattle.hayro_ccitt.proofs.Moves.{left, move_group4_shrinks, left_group3, lef
 use Rattle.hayro_ccitt.proofs.Grown.{Adds, move_group4_adds, Keeps, after_row_keeps, move_group3_adds, repeated_adds, front_trans}
 
 module _ (settings : DecodeSettings) (limit : ℕ) (some : 0 < limit) (wide : 0 < settings.columns) where
+  -- the settings with the limit, and without one
   abbrev limited : DecodeSettings
   limited = record settings { rows = limit }
 
+  -- without one
   abbrev unlimited : DecodeSettings
   unlimited = record settings { rows = 0 }
 
@@ -213,6 +215,7 @@ ok_bytes : (bits : Bits) (r : Result Bits DecodeError) → IsOk r → IsOk (byte
 ok_bytes bits (Ok rest) ok = refl
 ok_bytes bits (Err fault) ok = absurd (false≢true ok)
 
+-- the law
 pub row_limit : RowLimit
 row_limit settings limit bytes are some small = elim (cases_eq settings.columns 0) [
   | inl none ↦

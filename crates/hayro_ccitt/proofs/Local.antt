@@ -45,6 +45,7 @@ rows_more xs ys row (inr (before, a, b, more, e, f)) =
       ap (λ (x : List Row). x ++ row ∷ []) f ∙ append_assoc before (b ∷ more) (row ∷ []),
     )
 
+-- a state between lines
 abbrev pub run_at : List Row → Bool → Bits → Progress
 run_at rows has_eols rest = record { rows = rows; has_eols = has_eols; rest = rest }
 
@@ -76,6 +77,7 @@ pub record IsTail (columns : ℕ) (after x : Bits) : Type 0 where
 
 module _ (settings : DecodeSettings) (encoding : settings.encoding ≡ Group3_1D) (lenient : settings.strict ≡ false) (from : ℕ) (x y after : Bits)
     (tail_x : IsTail settings.columns after x) (tail_y : IsTail settings.columns after y) (rest : Progress → Ending) where
+  -- two turns that are alike
   abbrev Both : Move → Move → Type 0
   Both m n = Follows (RunsAlike from x y after) (EndsAlike settings from x y after) rest m n
 

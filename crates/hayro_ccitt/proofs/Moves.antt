@@ -2,7 +2,7 @@
 use Rattle.std.proofs.Common.{◌≡◌, ℕ, zero, suc, ◌+◌, ◌-◌, ◌%◌, ◌<◌, ◌≤◌, Bool, true, false, cond, not, ◌&&◌, ◌||◌, eqb, ltb, leb, [], ◌∷◌, ◌++◌}
 use Rattle.std.proofs.Common.{length, replicate, Option, Some, None, Result, Ok, Err, refl, sym, ap, subst, ◌∙◌, arith, ◌⊎◌, inl, inr}
 use Rattle.std.proofs.lemmas.List.{length-drop}
-use Rattle.std.proofs.lemmas.Bool.{cases_lt, not-false, and_parts, and_cases, or_parts, false≢true, lt-ltb, ltb-true, ltb-false, eqb-false}
+use Rattle.std.proofs.lemmas.Bool.{cases_lt, not-false, and_parts, and_cases, or_parts, false≢true, lt-ltb, le-leb, ltb-true, ltb-false, eqb-false}
 use Rattle.hayro_ccitt.specs.declared.error.DecodeError.{DecodeError}
 use Rattle.hayro_ccitt.specs.declared.settings.DecodeSettings.{DecodeSettings}
 use Rattle.hayro_ccitt.specs.Bits.{Bits}
@@ -20,6 +20,12 @@ use Rattle.hayro_ccitt.proofs.Repeated.{Shrinks}
 use Rattle.hayro_ccitt.proofs.ReadRuns.{chosen}
 use Rattle.hayro_ccitt.proofs.ReadLines.{TookBits, line_1d_took_bits, line_2d_took_bits}
 
+-- enough zeros and a one are an EOL
+pub eol_of : (seen k : ℕ) (rest : Bits) → 11 ≤ seen + k → after_eol seen (replicate k false ++ true ∷ rest) ≡ Some rest
+eol_of seen zero rest le = let ge : 11 ≤ seen = omega arith in rw (le-leb 11 seen ge) refl
+eol_of seen (suc k) rest le = eol_of (suc seen) k rest (omega arith)
+
+-- what follows an EOL is shorter
 pub after_eol_shorter : (seen : ℕ) (here rest : Bits) → after_eol seen here ≡ Some rest → length rest < length here
 after_eol_shorter seen [] rest e = absurd cc
 after_eol_shorter seen (false ∷ here) rest e = omega (arith, after_eol_shorter (suc seen) here rest e)
@@ -28,9 +34,11 @@ after_eol_shorter seen (true ∷ here) rest e = elim (chosen (leb 11 seen) _ _ _
   | inr a ↦ absurd (let f = a.1 in cc)
 ]
 
+-- one more EOL, and the same bits
 pub length-one_more : (found : ℕ × Bits) → length (one_more found).1 ≡ length found.1
 length-one_more (count, here) = refl
 
+-- what follows EOLs is not longer
 pub eols_shorter : (most : ℕ) (here : Bits) → length (eols most here).1 ≤ length here
 eols_shorter zero here = omega arith
 eols_shorter (suc most) here =
@@ -41,12 +49,15 @@ eols_shorter (suc most) here =
     ] in
     by (after_eol 0 here) refl
 
+-- the bits that are left
 abbrev pub left : Progress → ℕ
 left run = length run.rest
 
+-- states of equal turns are equal
 pub next_is : (s t : Progress) → ◌≡◌ {A = Move} (Turn.next s) (Turn.next t) → s ≡ t
 next_is s t e = cc
 
+-- a turn that ends does not go on
 pub not_next : (l : Ending) (t : Progress) → ◌≡◌ {A = Move} (Turn.done l) (Turn.next t) → ⊥
 not_next l t e = cc
 
@@ -55,6 +66,7 @@ unless_next : (b : Bool) (run : Progress) (outcome : Result Bits DecodeError) (o
 unless_next true run outcome on t e = absurd (not_next _ t e)
 unless_next false run outcome on t e = e
 
+-- of two lists that are short enough either is
 pub cond_le : (b : Bool) (x y : Bits) (n : ℕ) → length x ≤ n → length y ≤ n → length (cond b x y) ≤ n
 cond_le true x y n p q = p
 cond_le false x y n p q = q
@@ -67,6 +79,7 @@ after_line_group4_next settings run t n (Line.whole row rest) took e =
     = cond_le settings.rows_are_byte_aligned (aligned rest) rest (length rest) (omega (arith, length-drop (length rest % 8) rest)) (omega arith) in
     subst (λ (r : Progress). left r < n) (next_is _ t e) (omega (arith, shorter, took))
 
+-- a turn of Group 4 leaves fewer bits
 pub move_group4_shrinks : (settings : DecodeSettings) → 0 < settings.columns → Shrinks (move_group4 settings) left
 move_group4_shrinks settings wide run t e = by_eols (cond settings.end_of_block (eols 2 run.rest) (all_eols run.rest)) at_most e
   where
@@ -88,6 +101,7 @@ move_group4_shrinks settings wide run t e = by_eols (cond settings.end_of_block 
 
 -- ---- Group 3
 
+-- one more EOL
 pub one_more-count : (found : ℕ × Bits) → (one_more found).0 ≡ suc found.0
 one_more-count (count, here) = refl
 
@@ -95,6 +109,7 @@ one_more-count (count, here) = refl
 pub eols-some : (most : ℕ) (here rest : Bits) → after_eol 0 here ≡ Some rest → eols (suc most) here ≡ one_more (eols most rest)
 eols-some most here rest e = rw (e, eols) refl
 
+-- where no EOL stands, none is counted
 pub eols-none : (most : ℕ) (here : Bits) → after_eol 0 here ≡ None → eols most here ≡ (0, here)
 eols-none zero here e = refl
 eols-none (suc most) here e = rw (e, eols) refl
@@ -109,6 +124,7 @@ eols_moves (suc most) here some = by (after_eol 0 here) refl
     by (Some rest) e = rw (eols-some most here rest e)
         (omega (arith, length-one_more (eols most rest), eols_shorter most rest, after_eol_shorter 0 here rest e))
 
+-- where the next EOL was found, one stands
 pub next_eol_found : (here found : Bits) → next_eol here ≡ Some found → (length found ≤ length here) × ((after : Bits) × (after_eol 0 found ≡ Some after))
 next_eol_found [] found e = absurd cc
 next_eol_found (bit ∷ here) found e = by (next_eol_found here found) (after_eol 0 (bit ∷ here)) refl
@@ -121,6 +137,7 @@ next_eol_found (bit ∷ here) found e = by (next_eol_found here found) (after_eo
         let same : (bit ∷ here) ≡ found = cc in
         subst (λ (x : Bits). (length x ≤ length (bit ∷ here)) × ((after : Bits) × (after_eol 0 x ≡ Some after))) same (omega arith, (rest, f))
 
+-- an EOL that stands is counted
 pub eols_some_counts : (here rest : Bits) → after_eol 0 here ≡ Some rest → 0 < (all_eols here).0
 eols_some_counts [] rest e = absurd cc
 eols_some_counts (bit ∷ here) rest e = rw (eols-some (length here) (bit ∷ here) rest e) (omega (arith, one_more-count (eols (length here) rest)))
@@ -188,6 +205,7 @@ tagged_eols_counted here = by (ltb 0 (all_eols here).0) refl
         let left : length (pass_last_tag (all_eols here)).1 ≤ length here = omega (arith, last_tag_shorter (all_eols here), eols_shorter (length here) here) in
         (left, λ some. absurd (omega (arith, last_tag_count (all_eols here), none, some)))
 
+-- so many EOLs took bits
 pub eols_group3_counted : (settings : DecodeSettings) (here : Bits) → Counted here (eols_group3 settings here)
 eols_group3_counted settings here = by settings.encoding
   where
@@ -224,6 +242,7 @@ eols_group3_some settings here rest e = by settings.encoding
 abbrev pub left_group3 : Progress → ℕ
 left_group3 run = cond run.has_eols (suc (length run.rest)) (length run.rest)
 
+-- where the reading goes on, it does so behind the EOLs
 pub unless_over_next : (settings : DecodeSettings) (run t : Progress) (found : ℕ × Bits) → unless_over settings run found ≡ Turn.next t
     → ◌≡◌ {A = Progress} (record run { rest = found.1 }) t
 unless_over_next settings run t (count, rest) e =
@@ -315,6 +334,7 @@ after_row_next settings run t n e small = elim
     either true k lt = lt
     either false k lt = omega arith
 
+-- a whole line took bits
 pub line_by_took : (encoding : EncodingMode) (strict : Bool) (columns : ℕ) (reference : Row) (here : Bits) → 0 < columns
     → TookBits (length here) (line_by encoding strict columns reference here)
 line_by_took Group3_1D strict columns reference here wide = line_1d_took_bits strict columns here wide
@@ -350,6 +370,7 @@ after_line_group3_next settings run t (Line.broken front fault) took e =
           rw left_is (after_row_next settings more t (suc (length run.rest)) a.1 (omega (arith, shorter)))
     ]
 
+-- a turn of Group 3 leaves fewer bits, or gives up EOLs
 pub move_group3_shrinks : (settings : DecodeSettings) → 0 < settings.columns → Shrinks (move_group3 settings) left_group3
 move_group3_shrinks settings wide run t e =
     let reference : Row = row_before settings.columns run.rows in

@@ -31,10 +31,12 @@ past-none seen (true ∷ here) e = elim (cases_lt (suc seen) 11) [
   | inr ge ↦ absurd (let f : ◌≡◌ {A = Option Bits} (Some here) None = rw (le-leb 11 (suc seen) ge) at e in cc)
 ]
 
+-- what follows the EOL that was found
 abbrev pub then_after : Option Bits → Option Bits
 then_after None = None
 then_after (Some found) = after_eol 0 found
 
+-- what follows the next EOL, by looking for it
 pub past_is : (here : Bits) → past 0 here ≡ then_after (next_eol here)
 past_is [] = refl
 past_is (true ∷ here) = past_is here
@@ -61,12 +63,14 @@ eols_same (suc n) (suc m) here h k = by (λ rest. eols_same n m rest) (after_eol
         let shorter = after_eol_shorter 0 here rest e in
         eols-some n here rest e ∙ ap one_more (on rest (omega arith) (omega arith)) ∙ sym (eols-some m here rest e)
 
+-- where an EOL stands, it is counted, and those after it
 pub all_eols-some : (here rest : Bits) → after_eol 0 here ≡ Some rest → all_eols here ≡ one_more (all_eols rest)
 all_eols-some [] rest e = absurd cc
 all_eols-some (b ∷ here) rest e =
     let shorter = after_eol_shorter 0 (b ∷ here) rest e in
     eols-some (length here) (b ∷ here) rest e ∙ ap one_more (eols_same (length here) (length rest) rest (omega arith) (omega arith))
 
+-- where none stands, none is counted
 pub all_eols-none : (here : Bits) → after_eol 0 here ≡ None → all_eols here ≡ (0, here)
 all_eols-none here e = eols-none (length here) here e
 
@@ -84,6 +88,7 @@ past_here seen fewer (true ∷ here) after le e far = elim (cases_lt seen 11) [
       rw (le-leb 11 fewer ge2) f
 ]
 
+-- an EOL with its last twelve bits still to come is the next one from further on too
 pub past_later : (seen : ℕ) (before here after : Bits) → past seen (before ++ here) ≡ Some after → length after + 12 ≤ length here → past 0 here ≡ Some after
 past_later seen [] here after e far = past_here seen 0 here after (omega arith) e (omega (arith, far))
 past_later seen (false ∷ before) here after e far = past_later (suc seen) before here after e far

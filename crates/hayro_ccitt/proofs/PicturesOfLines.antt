@@ -38,6 +38,7 @@ mode_drawn strict columns reference front color mode word rest here open_end has
 place_fits : (painted p : ℕ) → painted ≤ p → p ≤ 4294967295 → place_from painted (pos p) ≡ Ok p
 place_fits painted p le small = rw (le-leb painted p le, le-leb p 4294967295 small) refl
 
+-- a pass paints up to b2
 pub pass_drawn : (strict : Bool) (columns : ℕ) (reference front : Row) (color : Color) (rest : Bits) (to : ℕ)
     → b2 reference (right_of front) color ≡ to → length front ≤ to → to ≤ columns
     → draw_mode strict columns reference (record { front = front; color = color; rest = rest }) Pass ≡ Turn.next
@@ -48,6 +49,7 @@ pass_drawn strict columns reference front color rest to is le fits =
     ∙ ap (λ (r : Result Row DecodeError). try front r (λ drawn. Turn.next (record { front = drawn; color = color; rest = rest })))
     (paint_fits strict columns front color (to - length front) (omega arith))
 
+-- a vertical mode paints up to a1 and turns the colour
 pub vertical_drawn : (strict : Bool) (columns : ℕ) (reference front : Row) (color : Color) (rest : Bits) (k : ℤ) (to : ℕ)
     → pos (b1 reference (right_of front) color) +ℤ k ≡ pos to → length front ≤ to → to ≤ columns → columns ≤ 4294967295
     → draw_mode strict columns reference (record { front = front; color = color; rest = rest }) (Vertical k) ≡ Turn.next
@@ -115,6 +117,7 @@ second_painted row front p r color at len p_within above within none = elim (cas
       rw (nothing, same) (append-nil front ∙ here)
 ]
 
+-- from each state on, the steps of an encoded line are read again
 pub line_2d_from : (strict : Bool) (columns : ℕ) (reference row front : Row) (from : ℕ) (color : Color) (bits more : Bits)
     → EncodesLine2D reference row from color bits → 0 < columns → columns ≤ 4294967295 → length reference ≡ columns → length row ≡ columns
     → IsAt row front from color

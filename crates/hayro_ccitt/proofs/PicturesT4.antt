@@ -11,7 +11,7 @@ use Rattle.hayro_ccitt.specs.declared.codes.Color.TheVariants.{White, Black}
 use Rattle.hayro_ccitt.specs.declared.error.DecodeError.{DecodeError}
 use Rattle.hayro_ccitt.specs.declared.error.DecodeError.TheVariants.{UnexpectedEof}
 use Rattle.hayro_ccitt.specs.declared.settings.EncodingMode.{EncodingMode}
-use Rattle.hayro_ccitt.specs.declared.settings.EncodingMode.TheVariants.{Group4, Group3_1D, Group3_2D}
+use Rattle.hayro_ccitt.specs.declared.settings.EncodingMode.TheVariants.{Group3_1D, Group3_2D}
 use Rattle.hayro_ccitt.specs.declared.settings.DecodeSettings.{DecodeSettings}
 use Rattle.hayro_ccitt.specs.Bits.{Bits}
 use Rattle.hayro_ccitt.specs.CodeLists.{mode_codes}
@@ -21,16 +21,17 @@ use Rattle.hayro_ccitt.specs.Runs.{codes_of}
 use Rattle.hayro_ccitt.specs.Lines.{Line, line_1d, line_2d}
 use Rattle.hayro_ccitt.specs.EndOfLine.{after_eol, one_more, eols, all_eols, after_tag, tagged_eols_from, pass_last_tag, tagged_eols}
 use Rattle.hayro_ccitt.specs.PlainReading.{end_by, Progress, Ending, row_before, aligned, at_end, limit_met, ends_with, line_at_group3, eols_group3}
-use Rattle.hayro_ccitt.specs.PlainReading.{unless_over, after_row, seek_eol, after_line_group3, move_group3, ending_from, plain_group4, plain_group3}
+use Rattle.hayro_ccitt.specs.PlainReading.{unless_over, after_row, seek_eol, after_line_group3, move_group3, ending_from, plain_group3}
 use Rattle.hayro_ccitt.specs.PlainReading.{end_of, with_settings}
 use Rattle.hayro_ccitt.specs.Encodings.{Spells, EncodesLine1D, EncodesLine2D, Kind, EncodesLine, eol, tag_of, IsPicture, EncodesRowsWithEols}
 use Rattle.hayro_ccitt.specs.Encodings.{ClosesWithEols, PictureT4}
 use Rattle.hayro_ccitt.specs.Laws.{each_word, Allows, Matches, ReadsPictureT4, ReadsLimitedPictureT4, OnePictureT4}
+use Rattle.hayro_ccitt.proofs.Moves.{eols-none, one_more-count, eol_of}
 use Rattle.hayro_ccitt.proofs.Repeated.{after_turn}
 use Rattle.hayro_ccitt.proofs.ZerosInWords.{each_word_at}
 use Rattle.hayro_ccitt.proofs.PlainLines.{line_1d_again}
 use Rattle.hayro_ccitt.proofs.PicturesOfLines.{line_2d_again}
-use Rattle.hayro_ccitt.proofs.PicturesT6.{misses_eol, missed, goes_on, IsLineStart, eols_none, not_met, row_before_push, plain_ends}
+use Rattle.hayro_ccitt.proofs.PicturesT6.{misses_eol, missed, goes_on, IsLineStart, not_met, row_before_push, plain_ends}
 
 -- ---- What a line begins with.
 codes_miss : (color : Color) → each_word (misses_eol 0) (codes_of color) ≡ true
@@ -72,15 +73,8 @@ record IsTagStart (here : Bits) : Type 0 where
   no_tag : after_tag here ≡ None
 
 -- ---- EOLs that stand.
-one_more_count : (found : ℕ × Bits) → (one_more found).0 ≡ suc found.0
-one_more_count (count, here) = refl
-
-zeros_stand : (seen n : ℕ) (more : Bits) → 11 ≤ seen + n → after_eol seen (replicate n false ++ true ∷ more) ≡ Some more
-zeros_stand seen zero more le = let l : 11 ≤ seen = omega arith in rw (le-leb 11 seen l) refl
-zeros_stand seen (suc n) more le = zeros_stand (suc seen) n more (omega arith)
-
 eol_stands : (fill : ℕ) (more : Bits) → after_eol 0 (eol fill ++ more) ≡ Some more
-eol_stands fill more = ap (after_eol 0) (append_assoc (replicate (11 + fill) false) (true ∷ []) more) ∙ zeros_stand 0 (11 + fill) more (omega arith)
+eol_stands fill more = ap (after_eol 0) (append_assoc (replicate (11 + fill) false) (true ∷ []) more) ∙ eol_of 0 (11 + fill) more (omega arith)
 
 length-eol : (fill : ℕ) (more : Bits) → length (eol fill ++ more) ≡ suc (11 + fill + length more)
 length-eol fill more =
@@ -97,7 +91,7 @@ all_eols_more fill more = ap (λ (n : ℕ). eols n (eol fill ++ more)) (length-e
 
 -- one EOL before a line
 one_eol : (fill : ℕ) (here : Bits) → after_eol 0 here ≡ None → all_eols (eol fill ++ here) ≡ (1, here)
-one_eol fill here none = all_eols_more fill here ∙ ap one_more (eols_none (11 + fill + length here) here none)
+one_eol fill here none = all_eols_more fill here ∙ ap one_more (eols-none (11 + fill + length here) here none)
 
 tagged_eols_stays : (turns count : ℕ) (here : Bits) → after_tag here ≡ None → tagged_eols_from turns (count, here) ≡ (count, here)
 tagged_eols_stays zero count here e = refl
@@ -122,6 +116,7 @@ one_tagged fill here at =
 pub eols_group3_one : (settings : DecodeSettings) (here : Bits) → settings.encoding ≡ Group3_1D → eols_group3 settings here ≡ all_eols here
 eols_group3_one settings here e = rw (e, eols_group3) refl
 
+-- in two-dimensional data EOLs are counted with their tags
 pub eols_group3_two : (settings : DecodeSettings) (here : Bits) → settings.encoding ≡ Group3_2D → eols_group3 settings here ≡ tagged_eols here
 eols_group3_two settings here e = rw (e, eols_group3) refl
 
@@ -140,7 +135,7 @@ eols_closing (suc n) (suc most) closing more (fill, next, then, is) le =
     ∙ ap (λ (x : Bits). (x ++ next) ++ more) (append-nil (eol fill)) ∙ append_assoc (eol fill) next more in
     let on = eols_closing n most next more then (omega arith) in
     let found : (eols (suc most) (closing ++ more)).0 ≡ suc (eols most (next ++ more)).0 = ap (λ (x : Bits). (eols (suc most) x).0) here
-    ∙ ap (λ (f : ℕ × Bits). f.0) (eols_more most fill (next ++ more)) ∙ one_more_count (eols most (next ++ more)) in
+    ∙ ap (λ (f : ℕ × Bits). f.0) (eols_more most fill (next ++ more)) ∙ one_more-count (eols most (next ++ more)) in
     omega (arith, found, on)
 
 length-closing : (kind : Kind) (n : ℕ) (closing more : Bits) → ClosesWithEols kind n closing → n ≤ length (closing ++ more)
@@ -277,6 +272,7 @@ module _ (settings : DecodeSettings) (wide : 0 < settings.columns) (small : sett
       ∙ ap (λ (x : Bits). after_row settings (with_eols (before ++ row ∷ []) x))
       (cond-false (settings.rows_are_byte_aligned && false) (aligned tail) tail (and_right settings.rows_are_byte_aligned false refl))
 
+  -- the end of a reading that sought EOLs
   abbrev ends_well : List Row → Bits → Ending
   ends_well rows rest = record { rows = rows; has_eols = true; outcome = Ok rest }
 
@@ -349,6 +345,7 @@ module _ (settings : DecodeSettings) (wide : 0 < settings.columns) (small : sett
       ∙ cond-true ((settings.end_of_block && (leb 6 found.0)) || limit_met settings (length rows) || at_end found.1)
       (ends_with (with_eols rows here) (Ok found.1)) (Turn.next (with_eols rows found.1)) over
 
+  -- data of Group 3 are read as such
   pub end_of_three : (kind : Kind) (bits : Bits) → Matches kind settings → end_of settings bits ≡ plain_group3 settings bits
   end_of_three Kind.group4 bits matches = absurd matches
   end_of_three Kind.group3_1d bits matches = ap (λ (m : EncodingMode). end_by m settings bits) matches
@@ -391,6 +388,7 @@ module _ (settings : DecodeSettings) (wide : 0 < settings.columns) (small : sett
       lines_t4_end kind rows lines (closing ++ more) (eols_group3 settings (closing ++ more)).1 matches some is_picture are allows
       (six_stop rows (closing ++ more) block (six_close settings kind closing more matches closed))
 
+  -- lines with EOLs are read as their rows, up to the limit
   pub limited_t4_end : (kind : Kind) (rows : List Row) (lines more : Bits) → Matches kind settings → settings.rows ≡ length rows → 0 < length rows
       → IsPicture settings.columns rows → EncodesRowsWithEols kind (replicate settings.columns false) rows lines
       → end_of settings (lines ++ more) ≡ ends_well rows (eols_group3 settings more).1
@@ -408,6 +406,7 @@ closed_picture_t4 settings kind rows lines closing more bytes are matches block 
     (eols_group3 settings (closing ++ more)).1 is_picture.0
     (ap (end_of settings) is ∙ closed_t4_end settings is_picture.0 small kind rows lines closing more matches block some is_picture lines3 closed allows) refl
 
+-- the law
 pub limited_picture_t4 : ReadsLimitedPictureT4
 limited_picture_t4 settings kind rows lines more bytes are matches limit some is_picture lines3 is =
     let small : settings.columns ≤ 4294967295 = omega (arith, are.columns) in
@@ -427,6 +426,7 @@ one_picture_at settings kind rows others bits more small matches block none one 
     ∙ two.6 ∙ ap (λ (x : Bits). two.0 ++ x) (sym (append-nil two.1)) in
     ap (λ (e : Ending). e.rows) (sym first ∙ ap (end_of settings) same ∙ second)
 
+-- the law
 pub one_picture_t4 : OnePictureT4
 one_picture_t4 Kind.group4 columns rows others bits more three small one two = absurd (three refl)
 one_picture_t4 Kind.group3_1d columns rows others bits more three small one two =

@@ -1,5 +1,5 @@
 -- A T.6 picture is read again.
-use Rattle.std.proofs.Common.{◌≡◌, ℕ, zero, suc, ◌+◌, ◌-◌, ◌/◌, ◌%◌, ◌<◌, ◌≤◌, Bool, true, false, cond, not, ◌&&◌, ◌||◌, eqb, leb, List, [], ◌∷◌}
+use Rattle.std.proofs.Common.{◌≡◌, ℕ, suc, ◌+◌, ◌-◌, ◌/◌, ◌%◌, ◌<◌, ◌≤◌, Bool, true, false, cond, not, ◌&&◌, ◌||◌, eqb, leb, List, [], ◌∷◌}
 use Rattle.std.proofs.Common.{◌++◌, length, replicate, None, Result, Ok, Err, refl, sym, ap, subst, ◌∙◌, append_assoc, arith, inl, inr}
 use Rattle.std.specs.Prelude.{All}
 use Rattle.std.proofs.lemmas.Bool.{and_right, and_left, and_from, not_from_false, or_from, or_left, or_right, cond-true, cond-false, not-true, eq-eqb}
@@ -22,12 +22,12 @@ use Rattle.hayro_ccitt.specs.Lines.{Line, line_2d}
 use Rattle.hayro_ccitt.specs.EndOfLine.{after_eol, eols, all_eols}
 use Rattle.hayro_ccitt.specs.PlainReading.{eols_group4, Progress, Ending, Move, row_before, aligned, at_end, limit_met, ends_with, after_line_group4}
 use Rattle.hayro_ccitt.specs.PlainReading.{line_at_group4, move_group4, plain_group4, end_of, plain, bytes_before, with_settings}
-use Rattle.hayro_ccitt.specs.Laws.{each_word, Allows, Reaches, ComesToEofb, ReadsPictureT6, ReadsLimitedRowsT6, OnePictureT6}
+use Rattle.hayro_ccitt.specs.Laws.{each_word, Allows, Reaches, ComesToEofb, PicturesComeToEofb, ReadsPictureT6, ReadsLimitedRowsT6, OnePictureT6}
 use Rattle.hayro_ccitt.specs.Encodings.{EncodesLine2D, Kind, padding, EncodesRows, eol, IsPicture, PictureT6}
 use Rattle.hayro_ccitt.proofs.Repeated.{after_turn, repeated_turn, repeated_same}
 use Rattle.hayro_ccitt.proofs.ZerosInWords.{each_word_at}
 use Rattle.hayro_ccitt.proofs.BitLists.{length-bits_of}
-use Rattle.hayro_ccitt.proofs.Moves.{left, move_group4_shrinks}
+use Rattle.hayro_ccitt.proofs.Moves.{left, move_group4_shrinks, eols-none}
 use Rattle.hayro_ccitt.proofs.PicturesOfLines.{line_2d_again}
 
 -- ---- No EOL stands where a mode word stands.
@@ -36,11 +36,13 @@ misses_eol seen [] = false
 misses_eol seen (false ∷ word) = misses_eol (suc seen) word
 misses_eol seen (true ∷ word) = not (leb 11 seen)
 
+-- no EOL stands in front of such a word
 pub missed : (seen : ℕ) (word more : Bits) → misses_eol seen word ≡ true → after_eol seen (word ++ more) ≡ None
 missed seen [] more e = absurd (false≢true e)
 missed seen (false ∷ word) more e = missed (suc seen) word more e
 missed seen (true ∷ word) more e = rw (not-true (leb 11 seen) e) refl
 
+-- nor do the data end there
 pub goes_on : (word more : Bits) → misses_eol 0 word ≡ true → at_end (word ++ more) ≡ false
 goes_on [] more e = absurd (false≢true e)
 goes_on (b ∷ word) more e = refl
@@ -73,25 +75,23 @@ line_2d_starts reference row from color bits more
 allows_sum : (settings : DecodeSettings) (n : ℕ) → Allows settings n → Allows settings (0 + n)
 allows_sum settings n allows = let e : 0 + n ≡ n = omega arith in rw e allows
 
+-- a limit that allows more rows is not met
 pub not_met : (settings : DecodeSettings) (n k : ℕ) → Allows settings n → k < n → limit_met settings k ≡ false
 not_met settings n k (inl none) lt = and_left (not (eqb settings.rows 0)) (eqb settings.rows k) (rw (eq-eqb settings.rows 0 none) refl)
 not_met settings n k (inr le) lt = and_right (not (eqb settings.rows 0)) (eqb settings.rows k) (ne_eqb settings.rows k (λ e. absurd (omega arith)))
-
-pub eols_none : (most : ℕ) (here : Bits) → after_eol 0 here ≡ None → eols most here ≡ (0, here)
-eols_none zero here e = refl
-eols_none (suc most) here e = rw (e, eols) refl
 
 same_pair : {A : Type 0} (b : Bool) (x y z : A) → x ≡ z → y ≡ z → cond b x y ≡ z
 same_pair true x y z e f = e
 same_pair false x y z e f = f
 
+-- a turn that reads a line
 pub move_group4_line : (settings : DecodeSettings) (run : Progress) (row : Row) (rest : Bits) → IsLineStart run.rest
     → limit_met settings (length run.rows) ≡ false
     → line_2d settings.strict settings.columns (row_before settings.columns run.rows) run.rest ≡ Line.whole row rest
     → move_group4 settings run ≡ after_line_group4 settings run (Line.whole row rest)
 move_group4_line settings run row rest start limit line =
     let found : cond settings.end_of_block (eols 2 run.rest) (all_eols run.rest) ≡ (0, run.rest)
-    = same_pair settings.end_of_block _ _ _ (eols_none 2 run.rest start.no_eol) (eols_none (length run.rest) run.rest start.no_eol) in
+    = same_pair settings.end_of_block _ _ _ (eols-none 2 run.rest start.no_eol) (eols-none (length run.rest) run.rest start.no_eol) in
     let over : ((settings.end_of_block && (eqb 0 2)) || limit_met settings (length run.rows) || at_end run.rest) ≡ false
     = or_from _ _ (or_from _ _ (and_right settings.end_of_block (eqb 0 2) refl) limit) start.open_end in
     ap (line_at_group4 settings run) found
@@ -119,6 +119,7 @@ aligned_again true line next whole =
     let same : length (fill true line) ≡ n = omega (arith, whole refl, a, b, c, p) in
     drop_at (fill true line) next n same
 
+-- the next line begins at a whole byte too
 pub aligned_on : (b : Bool) (line next : Bits) → (b ≡ true → length ((line ++ fill b line) ++ next) % 8 ≡ 0) → b ≡ true → length next % 8 ≡ 0
 aligned_on false line next whole e = absurd (false≢true e)
 aligned_on true line next whole e =
@@ -137,10 +138,12 @@ row_before_push columns (first ∷ next ∷ rows) row = row_before_push columns 
 abbrev pub goes : DecodeSettings → Ending → Progress → Ending
 goes settings late run = repeated (move_group4 settings) late (suc (left run)) run
 
+-- a turn, and the reading from there
 pub goes_is : (settings : DecodeSettings) (late : Ending) (run : Progress) → 0 < settings.columns
     → goes settings late run ≡ after_turn (goes settings late) (move_group4 settings run)
 goes_is settings late run wide = repeated_turn (move_group4 settings) late left (move_group4_shrinks settings wide) run
 
+-- a state between lines of Group 4
 abbrev pub between : List Row → Bits → Progress
 between rows rest = record { rows = rows; has_eols = false; rest = rest }
 
@@ -200,6 +203,7 @@ move_group4_eofb settings run rest block two =
     ap (line_at_group4 settings run) found ∙ cond-true ((settings.end_of_block && (eqb 2 2)) || limit_met settings (length run.rows) || at_end rest)
     (ends_with run (Ok rest)) line over
 
+-- the limit ends the reading
 pub move_group4_limit : (settings : DecodeSettings) (run : Progress) → limit_met settings (length run.rows) ≡ true
     → move_group4 settings run ≡ ends_with run (Ok (eols_group4 settings run.rest).1)
 move_group4_limit settings run met =
@@ -208,17 +212,21 @@ move_group4_limit settings run met =
     let over : ((settings.end_of_block && (eqb found.0 2)) || limit_met settings (length run.rows) || at_end found.1) ≡ true = or_left _ _ (or_right _ _ met) in
     cond-true ((settings.end_of_block && (eqb found.0 2)) || limit_met settings (length run.rows) || at_end found.1) (ends_with run (Ok found.1)) line over
 
+-- two EOLs are counted, whatever follows
 pub eofb_stands : (more : Bits) → eols 2 (eol 0 ++ (eol 0 ++ more)) ≡ (2, more)
 eofb_stands more = refl
 
+-- the answer of a reading that does not end, which never comes
 abbrev pub late_group4 : Ending
 late_group4 = record { rows = []; has_eols = false; outcome = Err UnexpectedEof }
 
+-- the plain reading is this repetition
 pub plain_group4_goes : (settings : DecodeSettings) (bits : Bits) → 0 < settings.columns
     → plain_group4 settings bits ≡ goes settings late_group4 (between [] bits)
 plain_group4_goes settings bits wide = repeated_same (move_group4 settings) late_group4 left (move_group4_shrinks settings wide)
     (suc (suc (length bits))) (suc (length bits)) (between [] bits) (omega arith) (omega arith)
 
+-- so are data of Group 4
 pub end_of_goes : (settings : DecodeSettings) (bits : Bits) → settings.encoding ≡ Group4 → 0 < settings.columns
     → end_of settings bits ≡ goes settings late_group4 (between [] bits)
 end_of_goes settings bits four wide = rw (four, end_of) (plain_group4_goes settings bits wide)
@@ -291,6 +299,7 @@ plain_ends settings bytes end rest wide e outcome =
     ∙ ap (λ (x : Ending). (x.rows, bytes_before (bits_of bytes) x.outcome)) e
     ∙ ap (λ (x : Result Bits DecodeError). (end.rows, bytes_before (bits_of bytes) x)) outcome
 
+-- over bytes: a picture closed by EOFB
 pub picture_t6_plain : (settings : DecodeSettings) (rows : List Row) (bits more : Bits) (bytes : List ℕ) → settings.encoding ≡ Group4
     → settings.end_of_block ≡ true → settings.columns ≤ 4294967295 → Allows settings (length rows)
     → PictureT6 settings.columns settings.rows_are_byte_aligned rows bits → bits_of bytes ≡ bits ++ more
@@ -304,6 +313,7 @@ picture_t6_plain settings rows bits more bytes four block small limit pic is =
     (ap (end_of settings) is ∙ picture_t6_end settings rows bits more four block small limit (λ e. whole) pic) refl
     ∙ ap (λ (k : ℕ). (rows, Ok k)) count
 
+-- over bytes: lines up to the limit
 pub rows_t6_plain : (settings : DecodeSettings) (rows : List Row) (body more : Bits) (bytes : List ℕ) → settings.encoding ≡ Group4
     → settings.columns ≤ 4294967295 → 0 < length rows → settings.rows ≡ length rows → IsPicture settings.columns rows
     → EncodesRows Kind.group4 settings.rows_are_byte_aligned (replicate settings.columns false) rows body → bits_of bytes ≡ body ++ more
@@ -314,14 +324,22 @@ rows_t6_plain settings rows body more bytes four small some limit is_picture lin
     plain_ends settings bytes (ended rows (eols_group4 settings more).1) (eols_group4 settings more).1 is_picture.0
     (ap (end_of settings) is ∙ rows_t6_end settings rows body more four small some limit (λ e. whole) is_picture lines) refl
 
+-- the law
 pub closed_picture_t6 : ReadsPictureT6
 closed_picture_t6 settings rows bits more bytes are four block limit pic is =
     picture_t6_plain settings rows bits more bytes four block (omega (arith, are.columns)) limit pic is
 
+-- the law
 pub limited_rows_t6 : ReadsLimitedRowsT6
 limited_rows_t6 settings rows body more bytes are four limit some is_picture lines is =
     let e = rows_t6_plain settings rows body more bytes four (omega (arith, are.columns)) some limit is_picture lines is in
     (ap (λ (a : List Row × Result ℕ DecodeError). a.0) e, rw e refl)
+
+-- over bytes: a picture comes to its EOFB
+pub pictures_come_to_eofb : PicturesComeToEofb
+pictures_come_to_eofb settings rows bits more bytes are limit picture is =
+    let whole : length (bits ++ more) % 8 ≡ 0 = omega (arith, length-bits_of bytes, ap length is) in
+    subst (ComesToEofb settings) (sym is) (picture_t6_comes settings rows bits more (omega (arith, are.columns)) limit (λ e. whole) picture)
 
 -- ---- One beginning, one picture.
 pub one_picture_t6 : OnePictureT6

@@ -33,6 +33,7 @@ first test from zero bound e = record { above = omega arith; within = omega arit
 first test from (suc n) bound e = first_step test from bound (test from) (find test (range_with_len (from + 1) n)) refl (omega arith)
     (first test (from + 1) n bound (omega arith))
 
+-- the search finds the least place
 pub is_least : (bound : ℕ) (test : ℕ → Bool) → IsLeast 0 bound test (least_below bound test)
 is_least bound test = first test 0 bound bound (omega arith)
 
@@ -79,13 +80,16 @@ next_by row from test low high =
       change = λ lt. (and_parts (test p) (is_change row p) (least.there lt)).1;
     }
 
+-- a1 is the next change
 pub a1_next : (row : Row) (from : ℕ) → IsNext row from (a1 row from)
 a1_next row from = next_by row from (leb from) (λ p e. leb-true from p e) (λ p le. le-leb from p le)
 
+-- a2 is the next change after it
 pub a2_next : (row : Row) (from : ℕ) → IsNext row (suc (a1 row from)) (a2 row from)
 a2_next row from = next_by row (suc (a1 row from)) (ltb (a1 row from)) (λ p e. omega (arith, ltb-true (a1 row from) p e))
     (λ p le. lt-ltb (a1 row from) p (omega arith))
 
+-- a2 is not left of a1
 pub a2_least : (row : Row) (from : ℕ) → a1 row from ≤ a2 row from
 a2_least row from =
     let least = is_least (length row) (λ p. ltb (a1 row from) p && is_change row p) in
@@ -134,6 +138,7 @@ b1_right reference (p ∷ front) from color len first =
     let e : suc (suc (length front)) ≡ from = omega arith in
     ap (λ (n : ℕ). b1 reference n color) e
 
+-- b2 of a front, by its place
 pub b2_right : (reference front : Row) (from : ℕ) (color : Color) → length front ≡ from - 1 → (from ≡ 1 → color ≡ Black)
     → b2 reference (right_of front) color ≡ b2 reference from color
 b2_right reference front from color len first =

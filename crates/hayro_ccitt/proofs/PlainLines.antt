@@ -29,6 +29,7 @@ run_spelled color n bits total more (Spells.makeup m word {n = k} {bits = next} 
     run_goes_on color total m ((word ++ next) ++ more) (next ++ more) one (omega arith) large
     ∙ run_spelled color k next (total + m) more rest (omega arith) ∙ rw (add_assoc total m k) refl
 
+-- a run that was read
 abbrev pub read_as : Bits → ℕ → Result (ℕ × Bits) DecodeError
 read_as rest n = Ok (n, rest)
 

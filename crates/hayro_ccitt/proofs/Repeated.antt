@@ -11,6 +11,7 @@ abbrev pub after_turn : {S R : Type 0} → (S → R) → Turn S R → R
 after_turn rest (Turn.next s) = rest s
 after_turn rest (Turn.done r) = r
 
+-- one turn of a repetition
 pub repeated-suc : {S R : Type 0} (step : S → Turn S R) (late : R) (n : ℕ) (s : S) → repeated step late (suc n) s ≡ after_turn (repeated step late n) (step s)
 repeated-suc step late n s = refl
 
@@ -64,6 +65,7 @@ Follows P Q rest (Turn.done r) turn = Q r (after_turn rest turn)
 module _ {S R T U : Type 0} (step : S → Turn S R) (late : R) (size : S → ℕ) (shrinks : Shrinks step size) (other : T → Turn T U) (other_late : U)
     (other_size : T → ℕ) (other_shrinks : Shrinks other other_size)
     (P : S → T → Type 0) (Q : R → U → Type 0) where
+  -- what comes of the other repetition
   abbrev other_rest : T → U
   other_rest t = repeated other other_late (suc (other_size t)) t
 

@@ -10,7 +10,7 @@ use Rattle.hayro_ccitt.specs.EndOfLine.{after_eol, all_eols}
 use Rattle.hayro_ccitt.specs.PlainReading.{at_end}
 use Rattle.hayro_ccitt.specs.Locality.{begins_line, later_starts, starts, IsStart, Descends, StartsAre}
 use Rattle.hayro_ccitt.proofs.Past.{all_eols-some, all_eols-none}
-use Rattle.hayro_ccitt.proofs.Moves.{after_eol_shorter}
+use Rattle.hayro_ccitt.proofs.Moves.{after_eol_shorter, eol_of}
 use Rattle.hayro_ccitt.proofs.ZerosInWords.{front_of_front}
 use Rattle.hayro_ccitt.proofs.Leaves.{Leaves}
 use Rattle.hayro_ccitt.proofs.Tails.{after_eol_is, first_one, drop_at}
@@ -48,10 +48,6 @@ EndsLater seen here end = (at : Bits) × Leaves (replicate seen false ++ here) a
 zeros_along : (seen : ℕ) (here : Bits) → replicate (suc seen) false ++ here ≡ replicate seen false ++ false ∷ here
 zeros_along zero here = refl
 zeros_along (suc seen) here = ap (λ (b : Bits). false ∷ b) (zeros_along seen here)
-
-pub eol_of : (seen k : ℕ) (rest : Bits) → 11 ≤ seen + k → after_eol seen (replicate k false ++ true ∷ rest) ≡ Some rest
-eol_of seen zero rest le = let ge : 11 ≤ seen = omega arith in rw (le-leb 11 seen ge) refl
-eol_of seen (suc k) rest le = eol_of (suc seen) k rest (omega arith)
 
 contains_one : (here other : Bits) → Contains (here ∷ []) other → here ≡ other
 contains_one here other (zero, lt, e) = e
@@ -301,5 +297,6 @@ module _ (bits : Bits) where
                 first_length,
               )
 
+-- the law
 pub starts_are : StartsAre
 starts_are bits = (λ place le. (is_start bits place le, has_start bits place le), (later_below 0 (all_eols bits).1, later_descends 0 (all_eols bits).1))

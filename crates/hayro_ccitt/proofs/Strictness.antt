@@ -40,10 +40,12 @@ agrees_self : (line : Line) → Agrees line line
 agrees_self (Line.whole row rest) = refl
 agrees_self (Line.broken front fault) = tt
 
+-- one pen in both readings
 abbrev SamePen : Pen → Pen → Type 0
 SamePen s t = s ≡ t
 
 module _ (rest : Pen → Line) where
+  -- a strict step that goes on is the lenient one
   abbrev StepFollows : Step → Step → Type 0
   StepFollows a b = Follows SamePen Agrees rest a b
 
@@ -138,12 +140,15 @@ line_by_agrees Group4 columns reference here = tt
 -- ---- Runs
 
 module _ (settings : DecodeSettings) (wide : 0 < settings.columns) where
+  -- the strict settings, and the lenient ones
   abbrev strictly : DecodeSettings
   strictly = record settings { strict = true }
 
+  -- the lenient ones
   abbrev leniently : DecodeSettings
   leniently = record settings { strict = false }
 
+  -- one state in both readings
   abbrev SameRun : Progress → Progress → Type 0
   SameRun s t = s ≡ t
 
@@ -245,6 +250,7 @@ ok_outcome : (bits : Bits) (r : Result Bits DecodeError) → IsOk (bytes_before 
 ok_outcome bits (Ok rest) ok = refl
 ok_outcome bits (Err fault) ok = absurd (false≢true ok)
 
+-- the law
 pub strict_then_lenient : StrictThenLenient
 strict_then_lenient settings bytes are = elim (cases_eq settings.columns 0) [
   | inl none ↦

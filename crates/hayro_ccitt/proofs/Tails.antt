@@ -11,10 +11,12 @@ use Rattle.hayro_ccitt.proofs.Past.{past, past-eol, past_is, then_after}
 use Rattle.hayro_ccitt.proofs.Turns.{found_next}
 use Rattle.hayro_ccitt.proofs.Local.{IsTail}
 
+-- without a front the rest is left
 pub drop_front : {A : Type 0} (front rest : List A) → drop (length front) (front ++ rest) ≡ rest
 drop_front [] rest = refl
 drop_front (a ∷ front) rest = drop_front front rest
 
+-- the same, at a number
 pub drop_at : {A : Type 0} (whole front rest : List A) (n : ℕ) → whole ≡ front ++ rest → length front ≡ n → drop n whole ≡ rest
 drop_at whole front rest n e f = ap (drop n) e ∙ ap (λ (k : ℕ). drop k (front ++ rest)) (sym f) ∙ drop_front front rest
 
@@ -44,6 +46,7 @@ after_eol_more seen more (true ∷ here) rest le e = elim (cases_lt seen 11) [
   | inr ge ↦ let ge2 : 11 ≤ more = omega arith in rw (le-leb 11 more ge2) (rw (le-leb 11 seen ge) at e)
 ]
 
+-- an EOL that stands stays one, whatever follows
 pub after_eol-append : (seen : ℕ) (here rest z : Bits) → after_eol seen here ≡ Some rest → after_eol seen (here ++ z) ≡ Some (rest ++ z)
 after_eol-append seen [] rest z e = absurd cc
 after_eol-append seen (false ∷ here) rest z e = after_eol-append (suc seen) here rest z e
@@ -53,6 +56,7 @@ after_eol-append seen (true ∷ here) rest z e = elim (cases_lt seen 11) [
       = cc in rw (le-leb 11 seen ge) (ap (λ (b : Bits). Some (b ++ z)) same)
 ]
 
+-- the next EOL stands further on in the same bits
 pub next_eol_leaves : (here found : Bits) → next_eol here ≡ Some found → (before : Bits) × (here ≡ before ++ found)
 next_eol_leaves [] found e = absurd cc
 next_eol_leaves (bit ∷ here) found e = by (next_eol_leaves here found) (after_eol 0 (bit ∷ here)) refl
@@ -73,29 +77,37 @@ past_before seen (true ∷ bits) z after none e = elim (cases_lt seen 11) [
 ]
 
 module _ (settings : DecodeSettings) (bits : Bits) (from to : ℕ) (local : IsLocal settings bits from to) where
+  -- the bits from the body on
   abbrev pub line_on : Bits
   line_on = drop from bits
 
+  -- the body
   abbrev pub body : Bits
   body = take (to - from) (drop from bits)
 
+  -- the bits from the EOL behind it on
   abbrev pub eol_on : Bits
   eol_on = drop to bits
 
+  -- the body begins within the data
   pub within_from : from ≤ length bits
   within_from = omega (arith, local.order, local.within)
 
+  -- as many bits stand before it
   pub front_length : length (take from bits) ≡ from
   front_length = length-take-le from bits within_from
 
+  -- its length
   pub body_length : length body ≡ to - from
   body_length = length-take-le (to - from) line_on (omega (arith, length-drop from bits, local.order, local.within))
 
+  -- the body, and what follows
   pub cut : line_on ≡ body ++ eol_on
   cut =
       let sum : from + (to - from) ≡ to = omega (arith, local.order) in
       sym (take-append-drop (to - from) line_on) ∙ ap (λ (b : Bits). body ++ b) (drop-drop (to - from) from bits ∙ ap (λ (n : ℕ). drop n bits) sum)
 
+  -- the data, cut where the body begins
   pub whole : bits ≡ take from bits ++ line_on
   whole = sym (take-append-drop from bits)
 
@@ -125,6 +137,7 @@ module _ (settings : DecodeSettings) (bits : Bits) (from to : ℕ) (local : IsLo
       local.no_eol (from + length before) (from + (length before + (k + 1))) (omega arith) (omega (arith, le, local.order))
       (omega arith, omega (arith, le, local.order, local.within), ap (after_eol 0) drop_place ∙ eol ∙ ap Some (sym drop_end))
 
+  -- no EOL ends within the body
   pub none_in_body : past 0 body ≡ None
   none_in_body = by (past 0 body) refl
     where
@@ -175,5 +188,6 @@ module _ (settings : DecodeSettings) (bits : Bits) (from to : ℕ) (local : IsLo
       let same : local.closes.0 ≡ after = cc in
       omega (arith, local.closes.2 row rest is, ap length same)
 
+  -- a local body begins such a tail
   pub is_tail : IsTail settings.columns local.closes.0 line_on
   is_tail = record { none = no_eol_here; next = next_is; stays = stays_before }

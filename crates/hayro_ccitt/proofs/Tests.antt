@@ -6,11 +6,10 @@ use Rattle.hayro_ccitt.specs.declared.settings.DecodeSettings.{DecodeSettings}
 use Rattle.hayro_ccitt.specs.Bits.{Bits}
 use Rattle.hayro_ccitt.specs.EndOfLine.{after_eol, next_eol}
 use Rattle.hayro_ccitt.specs.Locality.{IsEol, IsLocal, IsLocalByTests, LocalByTests}
-use Rattle.hayro_ccitt.proofs.Moves.{next_eol_found}
+use Rattle.hayro_ccitt.proofs.Moves.{next_eol_found, eol_of}
 use Rattle.hayro_ccitt.proofs.Past.{past_is, then_after}
 use Rattle.hayro_ccitt.proofs.Tails.{after_eol_is, drop_at, none_in_body}
 use Rattle.hayro_ccitt.proofs.Alike.{no_one}
-use Rattle.hayro_ccitt.proofs.Starts.{eol_of}
 
 -- bits that aren't all zeros hold a one
 holds_one : (bits : Bits) → bits ≢ replicate (length bits) false → (before after : Bits) × (bits ≡ before ++ true ∷ after)
@@ -172,5 +171,6 @@ module _ (settings : DecodeSettings) (bits : Bits) (from to : ℕ) where
           ∙ past_is (take (to - from) (drop from bits)) ∙ ap then_after e ∙ f.1.1 in
           absurd cc
 
+-- the law
 pub local_by_tests : LocalByTests
 local_by_tests settings bits from to = (to_tests settings bits from to, from_tests settings bits from to)

@@ -24,6 +24,7 @@ abbrev pub rest_of : Line → Bits → Bits
 rest_of (Line.whole row rest) here = rest
 rest_of (Line.broken front fault) here = here
 
+-- the next EOL, by what follows it
 pub found_next : (here after : Bits) → past 0 here ≡ Some after → (found : Bits) × (next_eol here ≡ Some found) × (after_eol 0 found ≡ Some after)
 found_next here after e = by (next_eol here) refl
   where
@@ -31,11 +32,13 @@ found_next here after e = by (next_eol here) refl
     by None f = absurd (let g : ◌≡◌ {A = Option Bits} None (Some after) = ap then_after (sym f) ∙ sym (past_is here) ∙ e in cc)
     by (Some found) f = (found, f, ap then_after (sym f) ∙ sym (past_is here) ∙ e)
 
+-- where an EOL is to come the data go on
 pub not_past_end : (here after : Bits) → past 0 here ≡ Some after → at_end here ≡ false
 not_past_end [] after e = absurd cc
 not_past_end (b ∷ here) after e = refl
 
 module _ (settings : DecodeSettings) (encoding : settings.encoding ≡ Group3_1D) (lenient : settings.strict ≡ false) where
+  -- EOLs of one-dimensional data have no tags
   pub eols_group3_is : (here : Bits) → eols_group3 settings here ≡ all_eols here
   eols_group3_is here = ap (λ (e : EncodingMode). eols_by e here) encoding
 
@@ -73,6 +76,7 @@ module _ (settings : DecodeSettings) (encoding : settings.encoding ≡ Group3_1D
           let counted : eols_group3 settings next.0 ≡ one_more (all_eols after) = eols_group3_is next.0 ∙ all_eols-some next.0 after next.2 in
           cond-true test _ _ is_true ∙ cond-false settings.strict _ _ lenient ∙ ap (seek_from settings run) next.1 ∙ ap (unless_over settings run) counted
 
+  -- its lines have no reference row
   pub line_is : (reference : Row) (here : Bits) → line_at_group3 settings reference here ≡ line_1d false settings.columns here
   line_is reference here = ap (λ (e : EncodingMode). line_by e settings.strict settings.columns reference here) encoding
       ∙ ap (λ (s : Bool). line_1d s settings.columns here) lenient

@@ -1,11 +1,11 @@
 -- The words that a line finds stand in a row from where it begins, and end before each EOL's one.
-use Rattle.std.proofs.Common.{ltb, leb, cond, ◌≡◌, take, ◌-◌, Result, Ok, Err, subst, append_assoc, ℕ, zero, suc, ◌+◌, ◌<◌, ◌≤◌, Bool, true, false}
+use Rattle.std.proofs.Common.{ltb, leb, cond, ◌≡◌, take, ◌-◌, Result, Ok, Err, subst, append_assoc, ℕ, zero, suc, ◌+◌, ◌<◌, Bool, true, false}
 use Rattle.std.proofs.Common.{List, [], ◌∷◌, ◌++◌, length, replicate, refl, sym, ap, ◌∙◌, arith, inl, inr}
 use Rattle.std.specs.Prelude.{pos, ◌+ℤ◌}
 use Rattle.std.proofs.lemmas.Bool.{false≢true, cases_lt}
 use Rattle.std.proofs.lemmas.List.{length-append, length-replicate, append-nil}
 use Rattle.hayro_ccitt.specs.declared.error.DecodeError.{DecodeError}
-use Rattle.hayro_ccitt.specs.declared.error.DecodeError.TheVariants.{UnexpectedEof, Overflow}
+use Rattle.hayro_ccitt.specs.declared.error.DecodeError.TheVariants.{UnexpectedEof}
 use Rattle.hayro_ccitt.specs.declared.codes.Color.{Color}
 use Rattle.hayro_ccitt.specs.declared.codes.Mode.{Mode}
 use Rattle.hayro_ccitt.specs.declared.codes.Mode.TheVariants.{Pass, Horizontal, Vertical}
@@ -36,14 +36,17 @@ pub record Stands (here : Bits) (found : List Bits) (rest : Bits) : Type 0 where
   pub words : AreWords found
   pub place : here ≡ joined found ++ rest
 
+-- two lists of words
 pub are_words_append : (a b : List Bits) → AreWords a → AreWords b → AreWords (a ++ b)
 are_words_append [] b p q = q
 are_words_append (w ∷ a) b p q = (p.0, are_words_append a b p.1 q)
 
+-- their bits
 pub joined_append : (a b : List Bits) → joined (a ++ b) ≡ joined a ++ joined b
 joined_append [] b = refl
 joined_append (w ∷ a) b = ap (λ (x : Bits). w ++ x) (joined_append a b) ∙ sym (append_assoc w (joined a) (joined b))
 
+-- words that stand behind words
 pub stands_append : (here middle rest : Bits) (a b : List Bits) → Stands here a middle → Stands middle b rest → Stands here (a ++ b) rest
 stands_append here middle rest a b p q = record {
   words = are_words_append a b p.words q.words;
@@ -51,6 +54,7 @@ stands_append here middle rest a b p q = record {
       ∙ ap (λ (x : Bits). x ++ rest) (sym (joined_append a b));
 }
 
+-- no words stand anywhere
 pub stands_none : (here : Bits) → Stands here [] here
 stands_none here = record { words = tt; place = refl }
 
@@ -88,6 +92,7 @@ word_stands {V} list here v rest is e =
     subst (λ (x : List Bits). Stands here x rest) (sym found)
     (record { words = (is f.0 f.1, tt); place = f.2 ∙ ap (λ (x : Bits). x ++ rest) (sym (append-nil f.0)) })
 
+-- a reading that found no word
 pub no_word_stands : {V : Type 0} (list : List (Code V)) (here : Bits) (fault : DecodeError) → read_code list here ≡ Err fault
     → Stands here (word_found list here) here
 no_word_stands list here fault e = let found : word_found list here ≡ []
@@ -98,6 +103,7 @@ abbrev pub RunEnds : Result (ℕ × Bits) DecodeError → Bits → Type 0
 RunEnds (Ok found) rest = found.1 ≡ rest
 RunEnds (Err fault) rest = Unit {0}
 
+-- a turn of a run
 abbrev RunTurn : Type 0
 RunTurn = Turn (ℕ × Bits) (Result (ℕ × Bits) DecodeError)
 
@@ -130,6 +136,7 @@ run_ends color total here r (Ok found) h k =
       ]
     ]
 
+-- the words of a run stand in a row
 pub run_stands : (color : Color) (total : ℕ) (here : Bits) → (rest : Bits) × Stands here (run_found color (total, here)) rest
     × RunEnds (run_from color (total, here)) rest
 run_stands color total here =
@@ -143,10 +150,12 @@ abbrev pub LineEnds : Line → Bits → Type 0
 LineEnds (Line.whole row after) rest = after ≡ rest
 LineEnds (Line.broken front fault) rest = Unit {0}
 
+-- what a step finds stands in a row, up to where it ends
 abbrev pub StepStands : Bits → Step → List Bits → Type 0
 StepStands here (Turn.next t) found = Stands here found t.rest
 StepStands here (Turn.done line) found = (rest : Bits) × Stands here found rest × LineEnds line rest
 
+-- a step behind words
 pub step_after : (here middle : Bits) (a b : List Bits) (step : Step) → Stands here a middle → StepStands middle step b → StepStands here step (a ++ b)
 step_after here middle a b (Turn.next t) p q = stands_append here middle t.rest a b p q
 step_after here middle a b (Turn.done line) p q = (q.0, stands_append here middle q.0 a b p q.1, q.2)
@@ -176,6 +185,7 @@ draw_run_stands strict columns pen f more each = by_run (run_from pen.color (0, 
         by_paint (Ok front) h = rw (e, h, draw_run, draw_run_found)
             (step_after pen.rest run.1 (run_found pen.color (0, pen.rest)) _ _ at (each (record { front = front; color = opposite pen.color; rest = run.1 })))
 
+-- a full line finds nothing more
 pub unless_full_stands : (columns : ℕ) (pen : Pen) (step : Step) (found : List Bits) → StepStands pen.rest step found
     → StepStands pen.rest (unless_full columns pen step) (unless_full_found columns pen found)
 unless_full_stands columns pen step found p = by_full (leb columns (length pen.front))
@@ -187,6 +197,7 @@ unless_full_stands columns pen step found p = by_full (leb columns (length pen.f
 last_stands : (pen : Pen) → StepStands pen.rest (Turn.next pen) (no_words pen)
 last_stands pen = stands_none pen.rest
 
+-- a step of a one-dimensional line
 pub step_1d_stands : (strict : Bool) (columns : ℕ) (pen : Pen) → StepStands pen.rest (step_1d strict columns pen) (gives_1d strict columns pen)
 step_1d_stands strict columns pen = unless_full_stands columns pen (draw_run strict columns pen Turn.next)
     (draw_run_found strict columns pen no_words) (draw_run_stands strict columns pen Turn.next no_words last_stands)
@@ -215,6 +226,7 @@ mode_stands strict columns reference pen (Vertical k) =
 mode_word : (v : Mode) (w : Bits) → Has mode_codes v w → IsWord w
 mode_word v w i = inr (v, i)
 
+-- a step of a two-dimensional line
 pub step_2d_stands : (strict : Bool) (columns : ℕ) (reference : Row) (pen : Pen)
     → StepStands pen.rest (step_2d strict columns reference pen) (gives_2d strict columns pen)
 step_2d_stands strict columns reference pen = unless_full_stands columns pen _ _ (by_mode (read_code mode_codes pen.rest) (word_found mode_codes pen.rest)
@@ -242,11 +254,13 @@ pen_stands step gives late l each n pen =
     (λ s r e. subst (λ (x : Step). StepStands s.rest x (gives s)) e (each s))
     n pen
 
+-- the words of a one-dimensional line stand in a row
 pub line_1d_stands : (strict : Bool) (columns : ℕ) (here : Bits) → (rest : Bits) × Stands here (found_1d strict columns (start here)) rest
     × LineEnds (line_1d strict columns here) rest
 line_1d_stands strict columns here = pen_stands (step_1d strict columns) (gives_1d strict columns) (Line.broken [] UnexpectedEof) (λ b. tt)
     (step_1d_stands strict columns) (suc (length here)) (start here)
 
+-- the words of a two-dimensional line stand in a row
 pub line_2d_stands : (strict : Bool) (columns : ℕ) (reference : Row) (here : Bits) → (rest : Bits)
     × Stands here (found_2d strict columns reference (start here)) rest × LineEnds (line_2d strict columns reference here) rest
 line_2d_stands strict columns reference here =
@@ -317,6 +331,7 @@ found_to_the_end Group4 strict columns reference row here rest whole =
     whole_rest (line_2d strict columns reference here) row found.0 rest here
     (joined (found_2d strict columns reference (start here))) whole found.2 found.1.place
 
+-- the law
 pub words_synchronised : Synchronised
 words_synchronised = record {
   runs_prefix_free = λ color. free_by (codes_of color) (codes_free color);

@@ -23,7 +23,7 @@ use Rattle.hayro_ccitt.specs.Ticks.{tag_at, line_found}
 abbrev pub IsFront : {A : Type 0} → List A → List A → Type 0
 IsFront {A} front whole = (rest : List A) × (whole ≡ front ++ rest)
 
--- what a setting's numbers are
+-- the columns and the limit of rows have 32 bits
 pub record AreSettings (settings : DecodeSettings) : Type 0 where
   pub columns : settings.columns < 2 ^ 32
   pub rows : settings.rows < 2 ^ 32
@@ -217,6 +217,12 @@ abbrev pub AfterEofb : Type 0
 AfterEofb = (settings : DecodeSettings) (one two : List ℕ) (count : ℕ) → AreSettings settings
     → settings.encoding ≡ Group4 → settings.end_of_block ≡ true → ComesToEofb settings (bits_of one)
     → (plain settings one).1 ≡ Ok count → take count two ≡ take count one → plain settings two ≡ plain settings one
+
+-- A T.6 picture comes to its EOFB.
+abbrev pub PicturesComeToEofb : Type 0
+PicturesComeToEofb = (settings : DecodeSettings) (rows : List Row) (bits more : Bits) (bytes : List ℕ) → AreSettings settings
+    → Allows settings (length rows) → PictureT6 settings.columns settings.rows_are_byte_aligned rows bits
+    → bits_of bytes ≡ bits ++ more → ComesToEofb settings (bits_of bytes)
 
 -- ---- rows and their changes
 

@@ -6,7 +6,8 @@ ghost use Rattle.hayro_ccitt.specs.CodeReading.{is_prefix_free};
 ghost use Rattle.hayro_ccitt.specs.Examples.{EncodesTwoLines, EncodesTaggedRows, HaveLocalBodies, ReadsDamage};
 ghost use Rattle.hayro_ccitt.specs.Laws.{each_word, has_few_zeros, Synchronised, StrictThenLenient, RowLimit};
 ghost use Rattle.hayro_ccitt.specs.Laws.{ReadsPictureT6, ReadsLimitedRowsT6, ReadsPictureT4, ReadsLimitedPictureT4, ReadsLimitedRowsT4};
-ghost use Rattle.hayro_ccitt.specs.Laws.{AfterEofb, OnePictureT6, OnePictureT4, EveryPictureHasAnEncoding, BytesBeginWithAnyBits, RowsOfChanges, ChangesOfRows};
+ghost use Rattle.hayro_ccitt.specs.Laws.{AfterEofb, PicturesComeToEofb, OnePictureT6, OnePictureT4};
+ghost use Rattle.hayro_ccitt.specs.Laws.{EveryPictureHasAnEncoding, BytesBeginWithAnyBits, RowsOfChanges, ChangesOfRows};
 ghost use Rattle.hayro_ccitt.specs.Locality.{LinesByEols, StartsAre, Locality, LocalByTests};
 
 /// Code words hold few zeros. Each word of a run has at most seven at its front and three at its end, each word of a
@@ -58,9 +59,11 @@ pub fn one_picture()
     ensures t4 { OnePictureT4 }
 {}
 
-/// Where T.6 data were read up to their EOFB, data with the same bytes so far are read the same, whatever follows.
+/// Where T.6 data were read up to their EOFB, as pictures are, data with the same bytes so far are read the same,
+/// whatever follows.
 pub fn after_eofb()
-    ensures { AfterEofb }
+    ensures law { AfterEofb }
+    ensures pictures { PicturesComeToEofb }
 {}
 
 /// One-dimensional lenient data with EOLs have the lines that begin behind their EOLs, each read by itself, as long as
