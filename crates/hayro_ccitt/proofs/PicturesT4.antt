@@ -22,7 +22,7 @@ use Rattle.hayro_ccitt.specs.Lines.{Line, line_1d, line_2d}
 use Rattle.hayro_ccitt.specs.EndOfLine.{after_eol, one_more, eols, all_eols, after_tag, tagged_eols_from, pass_last_tag, tagged_eols}
 use Rattle.hayro_ccitt.specs.PlainReading.{end_by, Progress, Ending, row_before, aligned, at_end, limit_met, ends_with, line_at_group3, eols_group3}
 use Rattle.hayro_ccitt.specs.PlainReading.{unless_over, after_row, seek_eol, after_line_group3, move_group3, ending_from, plain_group3}
-use Rattle.hayro_ccitt.specs.PlainReading.{end_of, with_settings}
+use Rattle.hayro_ccitt.specs.PlainReading.{end_of}
 use Rattle.hayro_ccitt.specs.Encodings.{Spells, EncodesLine1D, EncodesLine2D, Kind, EncodesLine, eol, tag_of, IsPicture, EncodesRowsWithEols}
 use Rattle.hayro_ccitt.specs.Encodings.{ClosesWithEols, PictureT4}
 use Rattle.hayro_ccitt.specs.Laws.{each_word, Allows, Matches, ReadsPictureT4, ReadsLimitedPictureT4, OnePictureT4}
@@ -31,7 +31,7 @@ use Rattle.hayro_ccitt.proofs.Repeated.{after_turn}
 use Rattle.hayro_ccitt.proofs.ZerosInWords.{each_word_at}
 use Rattle.hayro_ccitt.proofs.PlainLines.{line_1d_again}
 use Rattle.hayro_ccitt.proofs.PicturesOfLines.{line_2d_again}
-use Rattle.hayro_ccitt.proofs.PicturesT6.{misses_eol, missed, goes_on, IsLineStart, not_met, row_before_push, plain_ends}
+use Rattle.hayro_ccitt.proofs.PicturesT6.{closed_settings, misses_eol, missed, goes_on, IsLineStart, not_met, row_before_push, plain_ends}
 
 -- ---- What a line begins with.
 codes_miss : (color : Color) → each_word (misses_eol 0) (codes_of color) ≡ true
@@ -430,6 +430,6 @@ one_picture_at settings kind rows others bits more small matches block none one 
 pub one_picture_t4 : OnePictureT4
 one_picture_t4 Kind.group4 columns rows others bits more three small one two = absurd (three refl)
 one_picture_t4 Kind.group3_1d columns rows others bits more three small one two =
-    one_picture_at (with_settings Group3_1D columns 0 true false false false) Kind.group3_1d rows others bits more (omega arith) refl refl refl one two
+    one_picture_at (closed_settings Group3_1D columns false) Kind.group3_1d rows others bits more (omega arith) refl refl refl one two
 one_picture_t4 Kind.group3_2d columns rows others bits more three small one two =
-    one_picture_at (with_settings Group3_2D columns 0 true false false false) Kind.group3_2d rows others bits more (omega arith) refl refl refl one two
+    one_picture_at (closed_settings Group3_2D columns false) Kind.group3_2d rows others bits more (omega arith) refl refl refl one two

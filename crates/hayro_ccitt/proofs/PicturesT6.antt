@@ -12,6 +12,7 @@ use Rattle.hayro_ccitt.specs.declared.codes.Mode.{Mode}
 use Rattle.hayro_ccitt.specs.declared.error.DecodeError.{DecodeError}
 use Rattle.hayro_ccitt.specs.declared.error.DecodeError.TheVariants.{UnexpectedEof}
 use Rattle.hayro_ccitt.specs.declared.settings.EncodingMode.TheVariants.{Group4}
+use Rattle.hayro_ccitt.specs.declared.settings.EncodingMode.{EncodingMode}
 use Rattle.hayro_ccitt.specs.declared.settings.DecodeSettings.{DecodeSettings}
 use Rattle.hayro_ccitt.specs.Bits.{Bits, bits_of}
 use Rattle.hayro_ccitt.specs.CodeLists.{mode_codes}
@@ -21,7 +22,7 @@ use Rattle.hayro_ccitt.specs.Rows.{Row}
 use Rattle.hayro_ccitt.specs.Lines.{Line, line_2d}
 use Rattle.hayro_ccitt.specs.EndOfLine.{after_eol, eols, all_eols}
 use Rattle.hayro_ccitt.specs.PlainReading.{eols_group4, Progress, Ending, Move, row_before, aligned, at_end, limit_met, ends_with, after_line_group4}
-use Rattle.hayro_ccitt.specs.PlainReading.{line_at_group4, move_group4, plain_group4, end_of, plain, bytes_before, with_settings}
+use Rattle.hayro_ccitt.specs.PlainReading.{line_at_group4, move_group4, plain_group4, end_of, plain, bytes_before}
 use Rattle.hayro_ccitt.specs.Laws.{each_word, Allows, Reaches, ComesToEofb, PicturesComeToEofb, ReadsPictureT6, ReadsLimitedRowsT6, OnePictureT6}
 use Rattle.hayro_ccitt.specs.Encodings.{EncodesLine2D, Kind, padding, EncodesRows, eol, IsPicture, PictureT6}
 use Rattle.hayro_ccitt.proofs.Repeated.{after_turn, repeated_turn, repeated_same}
@@ -29,6 +30,11 @@ use Rattle.hayro_ccitt.proofs.ZerosInWords.{each_word_at}
 use Rattle.hayro_ccitt.proofs.BitLists.{length-bits_of}
 use Rattle.hayro_ccitt.proofs.Moves.{left, move_group4_shrinks, eols-none}
 use Rattle.hayro_ccitt.proofs.PicturesOfLines.{line_2d_again}
+
+-- settings for a closed picture: the end of the block is looked for, and there is no limit
+abbrev pub closed_settings : EncodingMode → ℕ → Bool → DecodeSettings
+closed_settings encoding columns aligned =
+    record { columns = columns; rows = 0; end_of_block = true; end_of_line = false; rows_are_byte_aligned = aligned; encoding = encoding; strict = false }
 
 -- ---- No EOL stands where a mode word stands.
 abbrev pub misses_eol : ℕ → Bits → Bool
@@ -344,7 +350,7 @@ pictures_come_to_eofb settings rows bits more bytes are limit picture is =
 -- ---- One beginning, one picture.
 pub one_picture_t6 : OnePictureT6
 one_picture_t6 columns aligned rows others bits more small one two =
-    let settings : DecodeSettings = with_settings Group4 columns 0 true false aligned false in
+    let settings : DecodeSettings = closed_settings Group4 columns aligned in
     let n : ℕ = length (bits ++ more) in
     let pad : Bits = replicate ((8 - n % 8) % 8) false in
     let long : length ((bits ++ more) ++ pad) ≡ n + (8 - n % 8) % 8 = length-append (bits ++ more) pad
