@@ -1,7 +1,7 @@
 -- What the words of a call mean: a mode, the columns, the rows, and flags.
-use Rattle.std.specs.Prelude.{ℕ, Bool, true, not, ◌&&◌, ◌||◌, List, [], ◌∷◌, length, count_by, nat_lt, nat_le, ◌==◌, Option, Some, None, option_and_then, if◌then◌else◌, codes, bytes_eq}
+use Rattle.std.specs.Prelude.{ℕ, Bool, ◌&&◌, ◌||◌, List, [], ◌∷◌, length, count_by, nat_lt, nat_le, ◌==◌, Option, Some, None, option_and_then, if◌then◌else◌, codes, bytes_eq}
 use Rattle.std.specs.List.{list_all}
-use Rattle.std.specs.Str.{all_ascii_digits}
+use Rattle.std.specs.Char.{is_ascii_digit}
 use Rattle.std.specs.Str.Parse.{digits_value}
 use Rattle.hayro_ccitt.specs.declared.settings.EncodingMode.{EncodingMode}
 use Rattle.hayro_ccitt.specs.declared.settings.EncodingMode.TheVariants.{Group4}
@@ -18,14 +18,13 @@ mode_of word =
     if bytes_eq word (codes "g4") then Some Group4
     else None
 
--- a number of 32 bits, written in one to ten digits
-abbrev pub is_number : List ℕ → Bool
-is_number word =
-    all_ascii_digits word && nat_lt 0 (length word) && nat_le (length word) 10 && nat_le (digits_value 10 word) 4294967295
+-- one to ten digits
+abbrev pub are_digits : List ℕ → Bool
+are_digits word = nat_lt 0 (length word) && nat_le (length word) 10 && list_all is_ascii_digit word
 
--- the number that a word writes
+-- the number of 32 bits that a word of one to ten digits writes
 abbrev pub number_of : List ℕ → Option ℕ
-number_of word = if is_number word then Some (digits_value 10 word) else None
+number_of word = if are_digits word && nat_le (digits_value 10 word) 4294967295 then Some (digits_value 10 word) else None
 
 -- how often a letter stands in a word
 abbrev pub times : ℕ → List ℕ → ℕ

@@ -1,8 +1,9 @@
 //! The words of a call, and the settings that they mean.
 
 ghost use Rattle.std.specs.Prelude.{◌≡◌, map, string_bytes};
+ghost use Rattle.std.specs.Char.{is_ascii_digit};
 ghost use Rattle.std.specs.List.{list_all};
-ghost use Rattle.faxrows.specs.Arguments.{settings_of_words, mode_of, number_of, are_flags, times, has_flag, is_flag, are_apart};
+ghost use Rattle.faxrows.specs.Arguments.{settings_of_words, mode_of, number_of, are_digits, are_flags, times, has_flag, is_flag, are_apart};
 
 use hayro_ccitt::{DecodeSettings, EncodingMode};
 
@@ -45,10 +46,24 @@ fn mode_of(word: &str) -> Option<EncodingMode>
 fn number_of(word: &str) -> Option<u32>
     ensures { result ≡ number_of word.now }
 {
-    if word.is_empty() || word.len() > 10 || !word.bytes().all(|byte| byte.is_ascii_digit()) {
+    if !are_digits(word) {
         return None;
     }
     word.parse().ok()
+}
+
+/// Whether a word is one to ten digits.
+fn are_digits(word: &str) -> bool
+    ensures { result ≡ are_digits word.now }
+{
+    !word.is_empty() && word.len() <= 10 && are_all_digits(word.as_bytes())
+}
+
+/// Whether all bytes of a word are digits.
+fn are_all_digits(word: &[u8]) -> bool
+    ensures { result ≡ list_all is_ascii_digit word.now }
+{
+    word.iter().all(|byte| byte.is_ascii_digit())
 }
 
 /// How often a byte stands in a word.
@@ -62,7 +77,7 @@ fn times(word: &[u8], letter: u8) -> usize
 fn are_flags(word: &[u8]) -> bool
     ensures { result ≡ are_flags word.now }
 {
-    let is_none = word == b"-";
+    let is_none = word == b"-".as_slice();
     is_none || (!word.is_empty() && are_letters(word) && are_apart(word))
 }
 
@@ -70,14 +85,18 @@ fn are_flags(word: &[u8]) -> bool
 fn are_letters(word: &[u8]) -> bool
     ensures { result ≡ list_all is_flag word.now }
 {
-    word.iter().all(|byte| matches!(*byte, b'b' | b'l' | b'a' | b's'))
+    word.iter()
+        .all(|byte| matches!(*byte, b'b' | b'l' | b'a' | b's'))
 }
 
 /// Whether no letter that stands for a flag stands twice in a word.
 fn are_apart(word: &[u8]) -> bool
     ensures { result ≡ are_apart word.now }
 {
-    times(word, b'b') <= 1 && times(word, b'l') <= 1 && times(word, b'a') <= 1 && times(word, b's') <= 1
+    times(word, b'b') <= 1
+        && times(word, b'l') <= 1
+        && times(word, b'a') <= 1
+        && times(word, b's') <= 1
 }
 
 /// Whether a letter stands in a word.

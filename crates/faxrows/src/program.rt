@@ -100,7 +100,10 @@ pub fn run<R: Read, W: Write>(
 }
 
 /// Reads until the reader has no more.
-fn read_all<R: Read>(alloc: Global, reader: &mut Device<R>) -> std::result::Result<Vec<u8>, RunFault>
+fn read_all<R: Read>(
+    alloc: Global,
+    reader: &mut Device<R>,
+) -> std::result::Result<Vec<u8>, RunFault>
     ensures all { IfOk result (λ input. IfSome (R.remaining reader.old.0) (λ known. input.items ≡ known)) }
     ensures fit { IfOk result (λ input. BitsFit input.items) }
     ensures too_long { result ≡ Err RunFault.TooLong → IfSome (R.remaining reader.old.0) (λ known. ¬ (BitsFit known)) }
@@ -147,7 +150,10 @@ fn write_all<W: Write>(writer: &mut Device<W>, bytes: &[u8]) -> std::result::Res
 }
 
 /// Writes the line that says how the decoding ended.
-fn write_last_line<W: Write>(writer: &mut Device<W>, outcome: &hayro_ccitt::Result<usize>) -> std::result::Result<(), RunFault>
+fn write_last_line<W: Write>(
+    writer: &mut Device<W>,
+    outcome: &hayro_ccitt::Result<usize>,
+) -> std::result::Result<(), RunFault>
     ensures ok { OnOk result (Appends (W.contents writer.old.0) (W.contents writer.new.0) (line_of_outcome outcome.now)) }
     ensures flag { OnOk result (writer.new.1 ≡ writer.old.1) }
     ensures failed { OnErr result (writer.new.1 ≡ true) }
