@@ -1,6 +1,7 @@
 pub mod AfterEofb
 pub mod Alike
 pub mod BitLists
+pub mod BitPlaces
 pub mod BodiesT4
 pub mod ByEols
 pub mod Damage
@@ -20,6 +21,7 @@ pub mod PlainLines
 pub mod ReadCodes
 pub mod ReadLines
 pub mod ReadRuns
+pub mod ReferencePlaces
 pub mod Repeated
 pub mod RowChanges
 pub mod Starts
@@ -28,3 +30,9 @@ pub mod Tails
 pub mod Tests
 pub mod Turns
 pub mod ZerosInWords
+pub mod EolCounts
+pub mod Gathered
+pub mod FullRows
+pub mod RowsOfGroup4
+pub mod TakenRows
+pub mod PlainAnswers

@@ -88,7 +88,7 @@ pub try_goes_on : {A : Type 0} (front : Row) (r : Result A DecodeError) (f : A �
 try_goes_on front (Ok x) f g = g x
 try_goes_on front (Err fault) f g = tt
 
-draw_run_goes_on : (strict : Bool) (columns : ℕ) (pen : Pen) (f : Pen → Step) → ((p : Pen) → GoesOn (f p)) → GoesOn (draw_run strict columns pen f)
+pub draw_run_goes_on : (strict : Bool) (columns : ℕ) (pen : Pen) (f : Pen → Step) → ((p : Pen) → GoesOn (f p)) → GoesOn (draw_run strict columns pen f)
 draw_run_goes_on strict columns pen f g =
     try_goes_on pen.front (run_from pen.color (0, pen.rest)) _ (λ run. try_goes_on pen.front (paint strict columns pen.front pen.color run.0) _ (λ front. g _))
 

@@ -91,6 +91,7 @@ impl<'a> BitReader<'a> {
     pub fn align(&mut self)
         ensures moved { self.new ≡ record self.old { place = (self.old.place + 7) / 8 * 8 } }
         ensures rest { here self.new ≡ aligned (here self.old) }
+        ensures within { self.new.place ≤ length self.new.bits }
     {
         self.place = self.place.div_ceil(8) * 8;
     }

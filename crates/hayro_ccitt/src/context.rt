@@ -235,10 +235,11 @@ impl DecoderContext {
         change_or_end(self.ref_changes.as_slice(), index, self.settings.columns)
     }
 
-    /// b2, the next changing element of the reference row after b1, or the row's end (T.4 section 4.2.1.1). It
-    /// takes no memory.
+    /// b2, the next changing element of the reference row after b1, or the row's end (T.4 section 4.2.1.1). It is
+    /// not left of where the front ends, and takes no memory.
     pub fn b2(&mut self) -> u32
         ensures value { result ≡ b2 self.old.held.reference (right_of self.old.held.front) self.old.held.color }
+        ensures right { length self.old.held.front ≤ result }
         ensures held { self.new.held ≡ self.old.held }
         ensures counts { self.old.ticks ≤ self.new.ticks }
     {

@@ -1,35 +1,52 @@
 //! Group 4: every line is two-dimensional (T.6).
 
-ghost use Rattle.std.specs.Prelude.{◌≡◌, ◌≢◌, ◌<◌, ◌≤◌, ◌+◌, ◌^◌, ◌%◌, OnOk, OnErr, IfErr, Ok, Err, true, false, length, take};
+ghost use Rattle.std.specs.Prelude.{◌≡◌, ◌≢◌, ◌<◌, ◌≤◌, ◌+◌, ◌^◌, ◌%◌, OnOk, OnErr, IfErr, Ok, Err, true, false, length, take, if◌then◌else◌};
 ghost use Rattle.hayro_ccitt.specs.Bits.{here};
 ghost use Rattle.hayro_ccitt.specs.Lines.{Line};
 ghost use Rattle.hayro_ccitt.specs.Context.{fresh};
-ghost use Rattle.hayro_ccitt.specs.PlainReading.{plain_group4, lines_by, eols_group4, is_over_group4};
+ghost use Rattle.hayro_ccitt.specs.PlainReading.{plain_group4, lines_by, eols_group4, is_over_group4, aligned};
 ghost use Rattle.hayro_ccitt.specs.Answers.{IsFault, OnAnswer, PaintsBlack, meaning_after};
 
 use crate::bit_reader::BitReader;
 use crate::context::{DecoderContext, decode_2d_line};
 use crate::{DecodeError, Decoder, EncodingMode, Result};
 
-/// Reads the EOLs before a line, at most the two of EOFB with `end_of_block`, and says whether the image ends
-/// there: at EOFB, at the row limit or at the end of the data.
-fn ends_before_line(ctx: &mut DecoderContext, reader: &mut BitReader<'_>) -> bool
-    ensures rest { here reader.new ≡ (eols_group4 ctx.old.held.settings (here reader.old)).1 }
-    ensures over { result ≡ is_over_group4 ctx.old.held.settings ctx.old.held.rows (eols_group4 ctx.old.held.settings (here reader.old)) }
+/// Reads the EOLs before a line, at most the two of EOFB with `end_of_block`, and answers how many there were.
+fn read_eols_before_line(ctx: &mut DecoderContext, reader: &mut BitReader<'_>) -> usize
+    ensures eols { eols_group4 ctx.old.held.settings (here reader.old) ≡ (result, here reader.new) }
     ensures same { reader.new.bits ≡ reader.old.bits }
     ensures held { ctx.new.held ≡ ctx.old.held }
     ensures counts { ctx.old.ticks ≤ ctx.new.ticks }
 {
-    let settings = ctx.settings();
-    let count = if settings.end_of_block {
+    if ctx.settings().end_of_block {
         reader.read_eols(2, ctx.ticks())
     } else {
         reader.read_eol_if_available(ctx.ticks())
-    };
+    }
+}
+
+/// Whether the image ends before a line, where so many EOLs were read: at EOFB, at the row limit or at the end of
+/// the data.
+fn is_over(ctx: &DecoderContext, reader: &BitReader<'_>, count: usize) -> bool
+    ensures over { result ≡ is_over_group4 ctx.now.held.settings ctx.now.held.rows (count, here reader.now) }
+    ensures fit { length reader.now.bits + 64 < 2 ^ 64 }
+{
+    let settings = ctx.settings();
     let limit = u64::from(settings.rows);
-    settings.end_of_block && count == 2
-        || limit != 0 && limit == ctx.decoded_rows()
-        || reader.at_end()
+    let at_eofb = settings.end_of_block && count == 2;
+    let at_limit = limit != 0 && limit == ctx.decoded_rows();
+    let at_end = reader.at_end();
+    at_eofb || at_limit || at_end
+}
+
+/// Moves to the next whole byte after a row, where rows are aligned.
+fn align_row(ctx: &DecoderContext, reader: &mut BitReader<'_>)
+    ensures rest { here reader.new ≡ (if ctx.now.held.settings.rows_are_byte_aligned then aligned (here reader.old) else here reader.old) }
+    ensures same { reader.new.bits ≡ reader.old.bits }
+{
+    if ctx.settings().rows_are_byte_aligned {
+        reader.align();
+    }
 }
 
 /// Decodes the rows of Group 4 data until EOFB (with `end_of_block`), the row limit or the end of the data. The
@@ -61,13 +78,12 @@ pub fn decode<D: Decoder>(
     ensures counts { ctx.old.ticks ≤ ctx.new.ticks }
 {
     'rows: loop {
-        if ends_before_line(ctx, reader) {
+        let count = read_eols_before_line(ctx, reader);
+        if is_over(ctx, reader, count) {
             return Ok(());
         }
         decode_2d_line(ctx, reader)?;
         ctx.next_line(decoder)?;
-        if ctx.settings().rows_are_byte_aligned {
-            reader.align();
-        }
+        align_row(ctx, reader);
     }
 }

@@ -1,0 +1,12 @@
+use Rattle.std.proofs.Common.{arith}
+use Rattle.hayro_ccitt.specs.Bits.{here}
+use Rattle.hayro_ccitt.proofs.EolCounts.{eols_leave, all_eols_leave}
+use Rattle.hayro_ccitt.proofs.group4.read_eols_before_line.Goals as goal
+
+pub returns-then-settings-clause-counts : goal.returns-then-settings-clause-counts
+returns-then-settings-clause-counts c =
+    omega (arith, c.read_eols.ensures.ticks, c.ticks.ensures.value, eols_leave 2 c.read_eols.result (here c.args.reader.now) (here c.read_eols.new.self) c.read_eols.ensures.eols)
+
+pub returns-else-settings-clause-counts : goal.returns-else-settings-clause-counts
+returns-else-settings-clause-counts c =
+    omega (arith, c.read_eol_if_available.ensures.ticks, c.ticks-else-settings.ensures.value, all_eols_leave c.read_eol_if_available.result (here c.args.reader.now) (here c.read_eol_if_available.new.self) c.read_eol_if_available.ensures.eols)
