@@ -48,6 +48,15 @@ impl<T> Device<T> {
         } = self;
         inner
     }
+
+    /// Says that the device has failed.
+    fn fail(&mut self) -> Failed
+        ensures inner { self.new.0 ≡ self.old.0 }
+        ensures flag { self.new.1 ≡ true }
+    {
+        self.has_failed = true;
+        Failed
+    }
 }
 
 impl<R: Read> Device<R> {
@@ -61,10 +70,7 @@ impl<R: Read> Device<R> {
     {
         match self.inner.read(buf) {
             Ok(count) => Ok(count),
-            Err(_) => {
-                self.has_failed = true;
-                Err(Failed)
-            }
+            Err(_) => Err(self.fail()),
         }
     }
 }
@@ -81,10 +87,7 @@ impl<W: Write> Device<W> {
     {
         match self.inner.write(bytes) {
             Ok(count) if count > 0 || bytes.is_empty() => Ok(count),
-            _ => {
-                self.has_failed = true;
-                Err(Failed)
-            }
+            _ => Err(self.fail()),
         }
     }
 }

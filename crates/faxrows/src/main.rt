@@ -15,7 +15,7 @@ pub mod text_sink;
 pub use device::{Device, Failed};
 pub use program::{Done, RunFault, run};
 use std::process::ExitCode;
-use std::{env, io};
+use std::env;
 pub use text_sink::TextSink;
 
 fn main(rt: HostRuntime) -> ExitCode {
@@ -46,3 +46,6 @@ fn run_words(rt: &HostRuntime) -> Result<Done, RunFault> {
     let mut writer = Device::new(rt.stdout());
     run(rt.alloc(), words.as_slice(), &mut reader, &mut writer)
 }
+
+#[cfg(test)]
+mod tests;

@@ -1,7 +1,7 @@
 //! A run of the program: all that a reader has is decoded, and written as text.
 
 ghost use Rattle.std.specs.Prelude.{◌≡◌, ◌++◌, ◌↔◌, ◌≢◌, ◌≤◌, ◌<◌, IfOk, IfErr, OnOk, OnErr, IfSome, IsOk, IsErr, true, false, length, map, string_bytes, None, Ok, Err, List, ℕ};
-ghost use Rattle.std.specs.Io.KnownBytes.{Appends};
+ghost use Rattle.std.specs.Io.KnownBytes.{Appends, IsAtEnd};
 ghost use Rattle.hayro_ccitt.specs.Bits.{BitsFit};
 ghost use Rattle.faxrows.specs.Arguments.{settings_of_words};
 ghost use Rattle.faxrows.specs.Text.{line_of_outcome};
@@ -80,6 +80,7 @@ pub fn run<R: Read, W: Write>(
         (λ settings input. IsErr (outcome_of settings input)) }
     ensures memory { result ≡ Ok Done.Memory → OnKnown (settings_of_words (map string_bytes words.now)) (R.remaining reader.old.0)
         (λ settings input. (text : List ℕ) × IsFrontText (rows_of settings input) text × Appends (W.contents writer.old.0) (W.contents writer.new.0) text) }
+    ensures drained { IfOk result (λ _. IsAtEnd (R.remaining reader.new.0)) }
     ensures fit { IfOk result (λ _. IfSome (R.remaining reader.old.0) BitsFit) }
     ensures too_long { result ≡ Err RunFault.TooLong → IfSome (R.remaining reader.old.0) (λ input. ¬ (BitsFit input)) }
     ensures read { reader.old.1 ≡ false → ((result ≡ Err RunFault.Read) ↔ (reader.new.1 ≡ true)) }
@@ -105,6 +106,7 @@ fn read_all<R: Read>(
     reader: &mut Device<R>,
 ) -> std::result::Result<Vec<u8>, RunFault>
     ensures all { IfOk result (λ input. IfSome (R.remaining reader.old.0) (λ known. input.items ≡ known)) }
+    ensures drained { IfOk result (λ _. IsAtEnd (R.remaining reader.new.0)) }
     ensures fit { IfOk result (λ input. BitsFit input.items) }
     ensures too_long { result ≡ Err RunFault.TooLong → IfSome (R.remaining reader.old.0) (λ known. ¬ (BitsFit known)) }
     ensures read { reader.old.1 ≡ false → ((result ≡ Err RunFault.Read) ↔ (reader.new.1 ≡ true)) }
