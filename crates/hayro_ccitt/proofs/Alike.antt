@@ -1,5 +1,6 @@
 -- EOLs of two data that are equal up to one place, where an EOL ends and none begins.
-use Rattle.std.proofs.Common.{◌≡◌, ℕ, zero, suc, ◌+◌, ◌<◌, ◌≤◌, Bool, true, false, cond, leb, [], ◌∷◌, ◌++◌, length, replicate, Option, Some, None, refl, sym, ap, subst, ◌∙◌, append_assoc, arith, ◌⊎◌, inl, inr}
+use Rattle.std.proofs.Common.{◌≡◌, ℕ, zero, suc, ◌+◌, ◌<◌, ◌≤◌, Bool, true, false, cond, leb, [], ◌∷◌, ◌++◌, length, replicate, Option, Some, None}
+use Rattle.std.proofs.Common.{refl, sym, ap, subst, ◌∙◌, append_assoc, arith, ◌⊎◌, inl, inr}
 use Rattle.std.proofs.lemmas.List.{length-append}
 use Rattle.hayro_ccitt.specs.Bits.{Bits}
 use Rattle.hayro_ccitt.specs.Rows.{Row}
@@ -31,16 +32,19 @@ closes_inside bits closes = record { holds = ap (scan 3) closes.1 ∙ scan_holds
 
 pub inside_after : (bits before after : Bits) → Inside bits → bits ≡ before ++ true ∷ after → Closes after
 inside_after bits before after inside e =
-    closes_after (inside.last.0 ++ before) after inside.last.1 (append_assoc inside.last.0 before (true ∷ after) ∙ ap (λ (x : Bits). inside.last.0 ++ x) (sym e) ∙ inside.last.2)
+    closes_after (inside.last.0 ++ before) after inside.last.1
+    (append_assoc inside.last.0 before (true ∷ after) ∙ ap (λ (x : Bits). inside.last.0 ++ x) (sym e) ∙ inside.last.2)
 
 pub after_shorter : (bits before after : Bits) → bits ≡ before ++ true ∷ after → length after < length bits
 after_shorter bits before after e = omega (arith, ap length e, length-append before (true ∷ after))
 
 -- a whole line ends before the last two bits of an EOL at or after its start
-pub line_1d_before_eol : (columns : ℕ) (fill after : Bits) (row : Row) (rest : Bits) → line_1d false columns ((fill ++ replicate 11 false) ++ true ∷ after) ≡ Line.whole row rest → length after + 2 ≤ length rest
+pub line_1d_before_eol : (columns : ℕ) (fill after : Bits) (row : Row) (rest : Bits)
+    → line_1d false columns ((fill ++ replicate 11 false) ++ true ∷ after) ≡ Line.whole row rest → length after + 2 ≤ length rest
 line_1d_before_eol columns fill after row rest e =
     let here : Bits = (fill ++ replicate 11 false) ++ true ∷ after in
-    let alike = line_1d_alike (true ∷ after) (true ∷ after) columns here here (fill ++ replicate 11 false, closes_inside (fill ++ replicate 11 false) (fill, refl), refl, refl) in
+    let alike = line_1d_alike (true ∷ after) (true ∷ after) columns here here
+    (fill ++ replicate 11 false, closes_inside (fill ++ replicate 11 false) (fill, refl), refl, refl) in
     ends (subst (λ (l : Line). LineAlike (true ∷ after) (true ∷ after) l l) e alike).1
   where
     some : (bits : Bits) → scan 3 bits ≡ None → 0 < length bits
@@ -53,7 +57,8 @@ line_1d_before_eol columns fill after row rest e =
 module _ (x y : Bits) where
   -- what follows an EOL: within the equal bits; or just past them; or there is none
   abbrev pub EolAlike : Bits → Option Bits → Option Bits → Type 0
-  EolAlike bits o p = ((before after : Bits) × (bits ≡ before ++ true ∷ after) × (o ≡ Some (after ++ true ∷ x)) × (p ≡ Some (after ++ true ∷ y))) ⊎ (((o ≡ Some x) × (p ≡ Some y)) ⊎ ((o ≡ None) × (p ≡ None)))
+  EolAlike bits o p = ((before after : Bits) × (bits ≡ before ++ true ∷ after) × (o ≡ Some (after ++ true ∷ x)) × (p ≡ Some (after ++ true ∷ y)))
+      ⊎ (((o ≡ Some x) × (p ≡ Some y)) ⊎ ((o ≡ None) × (p ≡ None)))
 
   pub after_eol_alike : (seen : ℕ) (bits : Bits) → EolAlike bits (after_eol seen (bits ++ true ∷ x)) (after_eol seen (bits ++ true ∷ y))
   after_eol_alike seen [] = by (leb 11 seen)
@@ -73,7 +78,8 @@ module _ (x y : Bits) where
 
   -- what follows the next EOL: within the equal bits; or just past them; or that of what follows them
   abbrev pub PastAlike : Bits → Option Bits → Option Bits → Type 0
-  PastAlike bits o p = ((before after : Bits) × (bits ≡ before ++ true ∷ after) × (o ≡ Some (after ++ true ∷ x)) × (p ≡ Some (after ++ true ∷ y))) ⊎ (((o ≡ Some x) × (p ≡ Some y)) ⊎ ((o ≡ past 0 x) × (p ≡ past 0 y)))
+  PastAlike bits o p = ((before after : Bits) × (bits ≡ before ++ true ∷ after) × (o ≡ Some (after ++ true ∷ x)) × (p ≡ Some (after ++ true ∷ y)))
+      ⊎ (((o ≡ Some x) × (p ≡ Some y)) ⊎ ((o ≡ past 0 x) × (p ≡ past 0 y)))
 
   pub past_alike : (seen : ℕ) (bits : Bits) → PastAlike bits (past seen (bits ++ true ∷ x)) (past seen (bits ++ true ∷ y))
   past_alike seen [] = by (leb 11 seen)
@@ -87,7 +93,9 @@ module _ (x y : Bits) where
   ]
   past_alike seen (true ∷ bits) = by (leb 11 seen) (past_alike 0 bits)
     where
-      by : (b : Bool) → PastAlike bits (past 0 (bits ++ true ∷ x)) (past 0 (bits ++ true ∷ y)) → PastAlike (true ∷ bits) (cond b (Some (bits ++ true ∷ x)) (past 0 (bits ++ true ∷ x))) (cond b (Some (bits ++ true ∷ y)) (past 0 (bits ++ true ∷ y)))
+      by : (b : Bool) → PastAlike bits (past 0 (bits ++ true ∷ x)) (past 0 (bits ++ true ∷ y))
+          → PastAlike (true ∷ bits) (cond b (Some (bits ++ true ∷ x)) (past 0 (bits ++ true ∷ x)))
+          (cond b (Some (bits ++ true ∷ y)) (past 0 (bits ++ true ∷ y)))
       by true on = inl ([], bits, refl, refl, refl)
       by false on = elim on [
         | inl a ↦ inl (true ∷ a.0, a.1, ap (λ (z : Bits). true ∷ z) a.2, a.3, a.4)
@@ -96,7 +104,8 @@ module _ (x y : Bits) where
 
   -- where counting EOLs ends: within the equal bits, or just past them
   abbrev pub RestAlike : Bits → Bits → Bits → Type 0
-  RestAlike bits here there = ((rest : Bits) × (length rest ≤ length bits) × (Closes bits → Closes rest) × (here ≡ rest ++ true ∷ x) × (there ≡ rest ++ true ∷ y)) ⊎ ((here ≡ x) × (there ≡ y))
+  RestAlike bits here there = ((rest : Bits) × (length rest ≤ length bits) × (Closes bits → Closes rest) × (here ≡ rest ++ true ∷ x)
+      × (there ≡ rest ++ true ∷ y)) ⊎ ((here ≡ x) × (there ≡ y))
 
   abbrev pub CountAlike : Bits → ℕ × Bits → ℕ × Bits → Type 0
   CountAlike bits f g = (f.0 ≡ g.0) × RestAlike bits f.1 g.1
@@ -104,9 +113,11 @@ module _ (x y : Bits) where
   module _ (none_x : after_eol 0 x ≡ None) (none_y : after_eol 0 y ≡ None) where
     count_for : (n : ℕ) (bits : Bits) → length bits < n → CountAlike bits (all_eols (bits ++ true ∷ x)) (all_eols (bits ++ true ∷ y))
     count_for zero bits lt = absurd (omega arith)
-    count_for (suc n) bits lt = by (λ rest small. count_for n rest small) (after_eol 0 (bits ++ true ∷ x)) (after_eol 0 (bits ++ true ∷ y)) refl refl (after_eol_alike 0 bits)
+    count_for (suc n) bits lt = by (λ rest small. count_for n rest small) (after_eol 0 (bits ++ true ∷ x)) (after_eol 0 (bits ++ true ∷ y)) refl refl
+        (after_eol_alike 0 bits)
       where
-        by : ((rest : Bits) → length rest < n → CountAlike rest (all_eols (rest ++ true ∷ x)) (all_eols (rest ++ true ∷ y))) → (o p : Option Bits) → after_eol 0 (bits ++ true ∷ x) ≡ o → after_eol 0 (bits ++ true ∷ y) ≡ p
+        by : ((rest : Bits) → length rest < n → CountAlike rest (all_eols (rest ++ true ∷ x)) (all_eols (rest ++ true ∷ y))) → (o p : Option Bits)
+            → after_eol 0 (bits ++ true ∷ x) ≡ o → after_eol 0 (bits ++ true ∷ y) ≡ p
             → EolAlike bits o p → CountAlike bits (all_eols (bits ++ true ∷ x)) (all_eols (bits ++ true ∷ y))
         by on o p e f (inl a) =
             let shorter = after_shorter bits a.0 a.1 a.2 in
@@ -119,9 +130,16 @@ module _ (x y : Bits) where
               ],
             )
         by on o p e f (inr (inl a)) =
-            rw (all_eols-some (bits ++ true ∷ x) x (e ∙ a.0), all_eols-some (bits ++ true ∷ y) y (f ∙ a.1), all_eols-none x none_x, all_eols-none y none_y) (refl, inr (refl, refl))
+            rw (
+              all_eols-some (bits ++ true ∷ x) x (e ∙ a.0),
+              all_eols-some (bits ++ true ∷ y) y
+                  (f ∙ a.1),
+              all_eols-none x none_x,
+              all_eols-none y none_y,
+            ) (refl, inr (refl, refl))
         by on o p e f (inr (inr a)) =
-            rw (all_eols-none (bits ++ true ∷ x) (e ∙ a.0), all_eols-none (bits ++ true ∷ y) (f ∙ a.1)) (refl, inl (bits, omega arith, λ closes. closes, refl, refl))
+            rw (all_eols-none (bits ++ true ∷ x) (e ∙ a.0), all_eols-none (bits ++ true ∷ y) (f ∙ a.1))
+            (refl, inl (bits, omega arith, λ closes. closes, refl, refl))
 
     pub all_eols_alike : (bits : Bits) → CountAlike bits (all_eols (bits ++ true ∷ x)) (all_eols (bits ++ true ∷ y))
     all_eols_alike bits = count_for (suc (length bits)) bits (omega arith)

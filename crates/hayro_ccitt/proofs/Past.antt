@@ -1,5 +1,6 @@
 -- What follows the next EOL.
-use Rattle.std.proofs.Common.{◌≡◌, ℕ, zero, suc, ◌+◌, ◌<◌, ◌≤◌, true, false, cond, leb, [], ◌∷◌, ◌++◌, length, Option, Some, None, refl, sym, ap, ◌∙◌, arith, inl, inr}
+use Rattle.std.proofs.Common.{◌≡◌, ℕ, zero, suc, ◌+◌, ◌<◌, ◌≤◌, true, false, cond, leb, [], ◌∷◌, ◌++◌, length, Option, Some, None, refl, sym, ap, ◌∙◌}
+use Rattle.std.proofs.Common.{arith, inl, inr}
 use Rattle.std.proofs.lemmas.Bool.{cases_lt, lt-leb, le-leb}
 use Rattle.std.proofs.lemmas.List.{length-append}
 use Rattle.hayro_ccitt.specs.Bits.{Bits}
@@ -39,7 +40,8 @@ past_is [] = refl
 past_is (true ∷ here) = past_is here
 past_is (false ∷ here) = by (past_is here) (after_eol 0 (false ∷ here)) refl
   where
-    by : past 0 here ≡ then_after (next_eol here) → (o : Option Bits) → after_eol 0 (false ∷ here) ≡ o → past 0 (false ∷ here) ≡ then_after (next_eol (false ∷ here))
+    by : past 0 here ≡ then_after (next_eol here) → (o : Option Bits) → after_eol 0 (false ∷ here) ≡ o
+        → past 0 (false ∷ here) ≡ then_after (next_eol (false ∷ here))
     by same None e = rw (e, next_eol) (past-none 0 here e ∙ same)
     by same (Some after) e = rw (e, next_eol) (past-eol 0 (false ∷ here) after e ∙ sym e)
 
@@ -52,7 +54,8 @@ eols_same (suc n) zero [] h k = refl
 eols_same (suc n) zero (b ∷ here) h k = absurd (omega arith)
 eols_same (suc n) (suc m) here h k = by (λ rest. eols_same n m rest) (after_eol 0 here) refl
   where
-    by : ((rest : Bits) → length rest ≤ n → length rest ≤ m → eols n rest ≡ eols m rest) → (o : Option Bits) → after_eol 0 here ≡ o → eols (suc n) here ≡ eols (suc m) here
+    by : ((rest : Bits) → length rest ≤ n → length rest ≤ m → eols n rest ≡ eols m rest) → (o : Option Bits) → after_eol 0 here ≡ o
+        → eols (suc n) here ≡ eols (suc m) here
     by on None e = eols-none (suc n) here e ∙ sym (eols-none (suc m) here e)
     by on (Some rest) e =
         let shorter = after_eol_shorter 0 here rest e in
@@ -68,7 +71,8 @@ pub all_eols-none : (here : Bits) → after_eol 0 here ≡ None → all_eols her
 all_eols-none here e = eols-none (length here) here e
 
 -- Where twelve bits are left before the end of the next EOL, it is also the next one from there.
-pub past_here : (seen fewer : ℕ) (here after : Bits) → fewer ≤ seen → past seen here ≡ Some after → length after + 12 ≤ fewer + length here → past fewer here ≡ Some after
+pub past_here : (seen fewer : ℕ) (here after : Bits) → fewer ≤ seen → past seen here ≡ Some after → length after + 12 ≤ fewer + length here
+    → past fewer here ≡ Some after
 past_here seen fewer [] after le e far = absurd cc
 past_here seen fewer (false ∷ here) after le e far = past_here (suc seen) (suc fewer) here after (omega arith) e (omega arith)
 past_here seen fewer (true ∷ here) after le e far = elim (cases_lt seen 11) [

@@ -51,7 +51,7 @@ step_1d_shrinks strict columns s t e =
     let a = draw_run_next strict columns s Turn.next t (unless_full_next columns s _ t e) in
     subst (λ (p : Pen). left p < left s) (next_is a.0 t a.1) a.2
 
-draw_mode_next : (strict : Bool) (columns : ℕ) (reference : Row) (pen : Pen) (mode : Mode) (t : Pen) → draw_mode strict columns reference pen mode ≡ Turn.next t → left t ≤ left pen
+pub draw_mode_next : (strict : Bool) (columns : ℕ) (reference : Row) (pen : Pen) (mode : Mode) (t : Pen) → draw_mode strict columns reference pen mode ≡ Turn.next t → left t ≤ left pen
 draw_mode_next strict columns reference pen Pass t e =
     let a = try_next pen.front _ (λ front. Turn.next (record pen { front = front })) t e in
     subst (λ (p : Pen). left p ≤ left pen) (next_is _ t a.2) (omega arith)

@@ -1,5 +1,6 @@
 -- No row of code words holds the zeros of an EOL.
-use Rattle.std.proofs.Common.{◌≡◌, ℕ, zero, suc, ◌+◌, ◌<◌, ◌≤◌, Bool, true, false, cond, ltb, leb, List, [], ◌∷◌, ◌++◌, length, replicate, Option, Some, None, refl, sym, ap, ◌∙◌, append_assoc, arith, inl, inr}
+use Rattle.std.proofs.Common.{◌≡◌, ℕ, zero, suc, ◌+◌, ◌<◌, ◌≤◌, Bool, true, false, cond, ltb, leb, List, [], ◌∷◌, ◌++◌, length, replicate, Option}
+use Rattle.std.proofs.Common.{Some, None, refl, sym, ap, ◌∙◌, append_assoc, arith, inl, inr}
 use Rattle.std.specs.List.{list_all}
 use Rattle.std.proofs.lemmas.Bool.{and_parts, leb-true, lt-ltb, le-ltb, false≢true, cases_lt}
 use Rattle.std.proofs.lemmas.List.{length-append, length-replicate, append-nil}
@@ -9,13 +10,10 @@ use Rattle.hayro_ccitt.specs.Bits.{Bits}
 use Rattle.hayro_ccitt.specs.CodeLists.{Code, mode_codes}
 use Rattle.hayro_ccitt.specs.CodeReading.{Has, word_at, is_prefix_free}
 use Rattle.hayro_ccitt.specs.Runs.{codes_of}
-use Rattle.hayro_ccitt.specs.Laws.{PrefixFree, IsWord, AreWords, joined, HoldsZeros, Synchronised}
+use Rattle.hayro_ccitt.specs.Laws.{each_word, PrefixFree, IsWord, AreWords, joined, HoldsZeros, Synchronised}
 use Rattle.hayro_ccitt.proofs.ReadCodes.{word_at_again}
 
 -- ---- A test of each word of a list.
-abbrev pub each_word : {V : Type 0} → (Bits → Bool) → List (Code V) → Bool
-each_word test list = list_all (λ c. test c.word) list
-
 pub each_word_at : {V : Type 0} (test : Bits → Bool) (list : List (Code V)) (v : V) (w : Bits) → each_word test list ≡ true → Has list v w → test w ≡ true
 each_word_at test [] v w e i = elim i [ ]
 each_word_at test (c ∷ list) v w e (inl i) = rw (← i.1) (and_parts (test c.word) (each_word test list) e).0
@@ -28,14 +26,14 @@ codes_free Black = refl
 pub modes_free : is_prefix_free mode_codes ≡ true
 modes_free = refl
 
-free_by : {V : Type 0} (list : List (Code V)) → is_prefix_free list ≡ true → PrefixFree list
+pub free_by : {V : Type 0} (list : List (Code V)) → is_prefix_free list ≡ true → PrefixFree list
 free_by {V} list free v w a b rest i j e =
     let one = word_at_again list v a rest free i in
     let two = word_at_again list w b [] free j in
     let same : b ++ [] ≡ a ++ rest = append-nil b ∙ e in
     let three : word_at list (a ++ rest) ≡ Some (w, []) = rw same at two in
     let pairs : ◌≡◌ {A = V × Bits} (v, rest) (w, []) = cc in
-    ap (λ (x : V × Bits). x.1) pairs
+    (ap (λ (x : V × Bits). x.1) pairs, ap (λ (x : V × Bits). x.0) pairs)
 
 -- ---- The zeros at the end of what was read so far, up to ten of them.
 abbrev pub scan : ℕ → Bits → Option ℕ
@@ -110,9 +108,10 @@ scan_holds n (false ∷ before) after le = elim (cases_lt n 10) [
   | inr g ↦ rw (le-ltb n 10 g) refl
 ]
 
-no_eleven_in : (tag : Bool) (words : List Bits) → AreWords words → HoldsZeros 11 (tag ∷ joined words) → ⊥
+pub no_eleven_in : (tag : Bool) (words : List Bits) → AreWords words → HoldsZeros 11 (tag ∷ joined words) → ⊥
 no_eleven_in tag words are holds =
-    let none : scan 0 (tag ∷ joined words) ≡ None = ap (scan 0) (holds.2 ∙ append_assoc holds.0 (replicate 11 false) holds.1) ∙ scan_holds 0 holds.0 holds.1 (omega arith) in
+    let none : scan 0 (tag ∷ joined words) ≡ None = ap (scan 0) (holds.2 ∙ append_assoc holds.0 (replicate 11 false) holds.1)
+    ∙ scan_holds 0 holds.0 holds.1 (omega arith) in
     by_tag tag none
   where
     by_tag : (tag : Bool) → scan 0 (tag ∷ joined words) ≡ None → ⊥
@@ -120,12 +119,12 @@ no_eleven_in tag words are holds =
     by_tag false none = let q = words_quiet 1 words (omega arith) are in let h = q.1 in absurd cc
 
 -- ---- A word holds a one.
-abbrev holds_a_one : Bits → Bool
+abbrev pub holds_a_one : Bits → Bool
 holds_a_one [] = false
 holds_a_one (true ∷ bits) = true
 holds_a_one (false ∷ bits) = holds_a_one bits
 
-no_one : (n : ℕ) → holds_a_one (replicate n false) ≡ false
+pub no_one : (n : ℕ) → holds_a_one (replicate n false) ≡ false
 no_one zero = refl
 no_one (suc n) = no_one n
 
@@ -133,7 +132,7 @@ codes_one : (color : Color) → each_word holds_a_one (codes_of color) ≡ true
 codes_one White = refl
 codes_one Black = refl
 
-word_one : (word : Bits) → IsWord word → holds_a_one word ≡ true
+pub word_one : (word : Bits) → IsWord word → holds_a_one word ≡ true
 word_one word (inl w) = each_word_at holds_a_one (codes_of w.0) w.1 word (codes_one w.0) w.2
 word_one word (inr w) = each_word_at holds_a_one mode_codes w.0 word refl w.1
 
@@ -146,20 +145,3 @@ front_of_front (u ∷ us) vs (x ∷ xs) ys e le =
     let tails : xs ++ ys ≡ us ++ vs = cc in
     let f = front_of_front us vs xs ys tails (omega arith) in
     (f.0, cc)
-
-pub synchronised_lem : Synchronised
-synchronised_lem = record {
-  runs_prefix_free = λ color. free_by (codes_of color) (codes_free color);
-  modes_prefix_free = free_by mode_codes modes_free;
-  holds_one = λ word is e. false≢true (sym (no_one (length word)) ∙ ap holds_a_one (sym e) ∙ word_one word is);
-  no_eleven = no_eleven_in;
-  before_eol = λ words here rest fill after are a b.
-      elim (cases_lt (length (joined words)) (length fill + 11)) [
-        | inl lt ↦ lt
-        | inr ge ↦
-            let cut : joined words ++ rest ≡ (fill ++ replicate 11 false) ++ (true ∷ after) = sym a ∙ b in
-            let long : length (fill ++ replicate 11 false) ≤ length (joined words) = omega (arith, length-append fill (replicate 11 false), length-replicate 11 false) in
-            let f = front_of_front (fill ++ replicate 11 false) (true ∷ after) (joined words) rest cut long in
-            absurd (no_eleven_in true words are (true ∷ fill, f.0, ap (λ (x : Bits). true ∷ x) f.1))
-      ];
-}

@@ -146,7 +146,8 @@ impl<'a> BitReader<'a> {
 
     /// The same bits at the same place.
     pub(crate) fn copy(&self) -> BitReader<'a>
-        ensures { result ≡ self.now }
+        ensures same { result ≡ self.now }
+        ensures fit { length self.now.bits + 64 < 2 ^ 64 }
     {
         BitReader {
             data: self.data,

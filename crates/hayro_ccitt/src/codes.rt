@@ -161,6 +161,41 @@ fn is_cut_word<V>(reader: &BitReader<'_>, list: &[(V, u8, u16)]) -> bool
     false
 }
 
+/// The run and the width of the word of these lists, or of the common make-up words, that stands here.
+fn find_run_word(
+    reader: &BitReader<'_>,
+    terminating: &[(u16, u8, u16)],
+    makeup: &[(u16, u8, u16)],
+) -> Option<(u16, u8)>
+    requires widths { IsTrue (list_all (λ e. nat_le e.1 16) terminating.now) }
+    requires makeup_widths { IsTrue (list_all (λ e. nat_le e.1 16) makeup.now) }
+    ensures found { word_at (numbered (terminating.now ++ makeup.now ++ COMMON_MAKEUP)) (here reader.now) ≡ option_map (λ f. (f.0, drop f.1 (here reader.now))) result }
+    ensures within { IfSome result (λ f. f.1 ≤ length (here reader.now)) }
+{
+    if let Some(found) = find_word(reader, terminating) {
+        return Some(found);
+    }
+    if let Some(found) = find_word(reader, makeup) {
+        return Some(found);
+    }
+    find_word(reader, &COMMON_MAKEUP)
+}
+
+/// Whether the bits from here to the end are a front of a word of these lists or of a common make-up word.
+fn is_cut_run_word(
+    reader: &BitReader<'_>,
+    terminating: &[(u16, u8, u16)],
+    makeup: &[(u16, u8, u16)],
+) -> bool
+    requires widths { IsTrue (list_all (λ e. nat_le e.1 16) terminating.now) }
+    requires makeup_widths { IsTrue (list_all (λ e. nat_le e.1 16) makeup.now) }
+    ensures { result ≡ is_cut (numbered (terminating.now ++ makeup.now ++ COMMON_MAKEUP)) (here reader.now) }
+{
+    is_cut_word(reader, terminating)
+        || is_cut_word(reader, makeup)
+        || is_cut_word(reader, &COMMON_MAKEUP)
+}
+
 impl<'a> BitReader<'a> {
     /// Reads a word of these lists or a common make-up word.
     fn read_run_word(
@@ -173,25 +208,16 @@ impl<'a> BitReader<'a> {
         ensures word { MatchResult result
             (λ n. read_code (numbered (terminating.now ++ makeup.now ++ COMMON_MAKEUP)) (here self.old) ≡ Ok (n, here self.new))
             (λ e. read_code (numbered (terminating.now ++ makeup.now ++ COMMON_MAKEUP)) (here self.old) ≡ Err e) }
+        ensures fault { IfErr result IsFault }
         ensures same { self.new.bits ≡ self.old.bits }
     {
-        let found = match find_word(self, terminating) {
-            Some(found) => Some(found),
-            None => match find_word(self, makeup) {
-                Some(found) => Some(found),
-                None => find_word(self, &COMMON_MAKEUP),
-            },
-        };
-        match found {
+        match find_run_word(self, terminating, makeup) {
             Some((run, width)) => {
                 self.pass(width);
                 Ok(run)
             }
             None => {
-                let first = is_cut_word(self, terminating);
-                let second = is_cut_word(self, makeup);
-                let third = is_cut_word(self, &COMMON_MAKEUP);
-                if first | second | third {
+                if is_cut_run_word(self, terminating, makeup) {
                     Err(DecodeError::UnexpectedEof)
                 } else {
                     Err(DecodeError::InvalidCode)
@@ -203,6 +229,7 @@ impl<'a> BitReader<'a> {
     /// Reads a word of a colour's list.
     fn decode_word(&mut self, color: Color) -> Result<u16>
         ensures word { MatchResult result (λ n. read_code (codes_of color) (here self.old) ≡ Ok (n, here self.new)) (λ e. read_code (codes_of color) (here self.old) ≡ Err e) }
+        ensures fault { IfErr result IsFault }
         ensures same { self.new.bits ≡ self.old.bits }
     {
         match color {
@@ -312,6 +339,7 @@ impl<'a> BitReader<'a> {
         ensures same { self.new.bits ≡ self.old.bits }
         ensures ticks { ticks.new + length (here self.new) ≡ ticks.old + length (here self.old) + looked (here self.new) }
     {
-        self.read_eols(usize::MAX, ticks)
+        // an EOL takes more than one bit
+        self.read_eols(self.bits_left(), ticks)
     }
 }

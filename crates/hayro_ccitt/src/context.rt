@@ -1,7 +1,8 @@
 //! What a decoder keeps from line to line, and the lines themselves.
 
-ghost use Rattle.std.specs.Prelude.{◌≡◌, ◌≢◌, ◌+◌, ◌-◌, ◌^◌, ◌<◌, ◌≤◌, ◌⊎◌, ◌↔◌, Ok, Err, OnOk, OnErr, IfOk, IfErr, true, IsOkUnless, IsTrue, length, get_or, []};
-ghost use Rattle.hayro_ccitt.specs.Rows.{AreChanges, pixels, right_of, b1, b2, paint, changes, opposite};
+ghost use Rattle.std.specs.Prelude.{◌≡◌, ◌≢◌, ◌+◌, ◌-◌, ◌^◌, ◌<◌, ◌≤◌, ◌⊎◌, ◌↔◌, Ok, Err, OnOk, OnErr, IfOk, IfErr, true, IsOkUnless, IsTrue, false, length, get_or, [], ◌++◌, replicate};
+ghost use Rattle.hayro_ccitt.specs.Rows.{AreChanges, pixels, right_of, b1, b2, paint, changes, is_black, opposite};
+ghost use Rattle.hayro_ccitt.specs.Changes.{last_pixel};
 ghost use Rattle.hayro_ccitt.specs.Lines.{Line, draw_run, draw_mode, line_2d};
 ghost use Rattle.hayro_ccitt.specs.Bits.{here};
 ghost use Rattle.hayro_ccitt.specs.Repetition.{Turn};
@@ -72,6 +73,24 @@ fn change_or_end(changes: &[u32], index: usize, columns: u32) -> u32
     ensures { result ≡ get_or changes.now index columns }
 {
     changes.get(index).copied().unwrap_or(columns)
+}
+
+/// Adds so many pixels of a colour to the changes of a front, of which so many are painted. A change is stored
+/// only where the last pixel has another colour. After a refusal nothing is changed.
+fn append_pixels(changes: &mut Vec<u32>, painted: u32, color: Color, count: u32) -> Result<()>
+    requires { AreChanges painted changes.old.items }
+    ensures lawful { OnOk result (AreChanges (painted + count) changes.new.items) }
+    ensures painted { OnOk result (pixels (painted + count) changes.new.items ≡ pixels painted changes.old.items ++ replicate count (is_black color)) }
+    ensures memory { result ≡ Err DecodeError.OutOfMemory → (0 < count) × (last_pixel false (pixels painted changes.old.items) ≢ is_black color) }
+    ensures only_memory { IsOkUnless result DecodeError.OutOfMemory }
+    ensures same { OnErr result (changes.new.items ≡ changes.old.items) }
+{
+    // The colours of a row alternate, so after an odd number of changes its last pixel is black.
+    let last_is_white = changes.len().is_multiple_of(2);
+    if count > 0 && last_is_white != color.is_white() {
+        changes.push(painted)?;
+    }
+    Ok(())
 }
 
 impl DecoderContext {
@@ -193,14 +212,13 @@ impl DecoderContext {
             return Err(DecodeError::InvalidCode);
         }
         let count = count.min(room);
-        if count > 0 {
-            // The colours of a row alternate, so after an odd number of changes its last pixel is black.
-            let last_is_white = self.coding_changes.len().is_multiple_of(2);
-            if last_is_white != self.color.is_white() {
-                self.coding_changes.push(self.pixels_decoded)?;
-            }
-            self.pixels_decoded += count;
-        }
+        append_pixels(
+            &mut self.coding_changes,
+            self.pixels_decoded,
+            self.color,
+            count,
+        )?;
+        self.pixels_decoded += count;
         Ok(())
     }
 

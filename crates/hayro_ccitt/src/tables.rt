@@ -226,6 +226,12 @@ pub const COMMON_MAKEUP: [(u16, u8, u16); 13] = [
     (2560, 12, 0b000000011111),
 ];
 
+/// The arrays are the code lists of T.4 (tables 2, 3a and 3b).
+pub fn arrays_are_the_lists()
+    ensures white { numbered (WHITE_TERMINATING ++ WHITE_MAKEUP ++ COMMON_MAKEUP) ≡ white_codes }
+    ensures black { numbered (BLACK_TERMINATING ++ BLACK_MAKEUP ++ COMMON_MAKEUP) ≡ black_codes }
+{}
+
 /// What run codes are read by. Its fields are for the look-ups of whole words to come; until then the arrays are
 /// scanned and it holds nothing.
 #[derive(Drop)]

@@ -1,0 +1,139 @@
+"""Checks of the built program `faxrows`: real strips, cases with known answers, devices, want of memory."""
+import os
+import re
+import subprocess
+import tempfile
+
+PROGRAM = os.path.abspath("crates/faxrows/out/faxrows")
+
+
+def run(words, data, **more):
+    return subprocess.run([PROGRAM, *words], input=data, capture_output=True, check=False, timeout=60, **more)
+
+
+def row_text(picture, columns, row):
+    """A row of a packed picture, 1 for black, as a line of the program."""
+    width = (columns + 7) // 8
+    bits = int.from_bytes(picture[row * width : (row + 1) * width], "big") if width else 0
+    pixels = [bits >> (8 * width - 1 - place) & 1 for place in range(columns)]
+    changes = [place for place in range(columns) if pixels[place] != (pixels[place - 1] if place else 0)]
+    return " ".join(["r", *map(str, changes)]), len(changes)
+
+
+def real_strips():
+    """Each strip gives exactly the picture that it was made from, with each of its settings."""
+    strips = rows_seen = changes_seen = 0
+    with open("corpus/manifest.tsv", encoding="utf-8") as file:
+        lines = [line.rstrip("\n").split("\t") for line in file if not line.startswith("#")]
+    for name, strip, mode, columns, rows, runs, picture, first, end, *_ in lines:
+        with open(f"corpus/{strip}", "rb") as file:
+            data = file.read()
+        with open(f"corpus/{picture}", "rb") as file:
+            packed = file.read()
+        expected = [row_text(packed, int(columns), int(first) + row) for row in range(int(rows))]
+        for setting in runs.split(","):
+            limit, flags = setting.split(":")
+            done = run([mode, columns, limit, flags], data)
+            text = done.stdout.decode().splitlines()
+            assert text[:-1] == [line for line, _ in expected], f"{name} {setting}: other rows"
+            assert re.fullmatch(r"ok \d+", text[-1]) and done.returncode == 0, f"{name} {setting}: {text[-1]}"
+            if limit == "0":
+                assert text[-1] == f"ok {end}", f"{name} {setting}: {text[-1]}, not {end}"
+            rows_seen += len(expected)
+            changes_seen += sum(count for _, count in expected)
+        strips += 1
+    assert strips > 0
+    print(f"  {strips} strips, {rows_seen} rows and {changes_seen} changes compared")
+
+
+def bytes_of(text):
+    data = b""
+    for part in [] if text == "-" else text.split("+"):
+        piece, _, times = part.partition("*")
+        data += bytes.fromhex(piece) * int(times or 1)
+    return data
+
+
+def known_cases():
+    """Small data of every kind, with the answers of the standard's rules worked out apart from this program."""
+    seen = 0
+    with open("corpus/cases.tsv", encoding="utf-8") as file:
+        for line in file:
+            if line.startswith("#"):
+                continue
+            settings, data, answer = line.rstrip("\n").split("\t")
+            done = run(settings.split(), bytes_of(data))
+            text = done.stdout.decode()
+            assert text == answer.replace("/", "\n") + "\n", f"{settings} {data}: {text!r}, not {answer}"
+            assert done.returncode == (0 if answer.split("/")[-1].startswith("ok") else 1), settings
+            seen += 1
+    assert seen > 0
+    print(f"  {seen} cases")
+
+
+def statuses():
+    """0 for rows and ok, 1 for a fault of the data, 2 for words, 3 for a device that fails."""
+    row = bytes.fromhex("31C0")
+    good = run(["g4", "8", "1", "-"], row)
+    assert (good.returncode, good.stdout, good.stderr) == (0, b"r 3 5\nok 2\n", b""), good
+    faulty = run(["g4", "8", "0", "-"], b"\x80")
+    assert (faulty.returncode, faulty.stdout) == (1, b"r\nerror: invalid CCITT code sequence\n"), faulty
+    for words in [[], ["g4", "8", "1"], ["g4", "8", "1", "bb"], ["1d", "8", "1", "-"], ["g4", "4294967296", "1", "-"]]:
+        bad = run(words, row)
+        assert (bad.returncode, bad.stdout) == (2, b""), (words, bad)
+
+
+def devices_that_fail():
+    with open("/dev/full", "wb") as full:
+        done = subprocess.run([PROGRAM, "g4", "8", "1", "-"], input=bytes.fromhex("31C0"), stdout=full, stderr=subprocess.PIPE, timeout=60, check=False)
+        assert done.returncode == 3, done
+    folder = os.open("/", os.O_RDONLY)
+    try:
+        done = subprocess.run([PROGRAM, "g4", "8", "1", "-"], stdin=folder, capture_output=True, timeout=60, check=False)
+        assert (done.returncode, done.stdout) == (3, b""), done
+    finally:
+        os.close(folder)
+
+
+def a_file_and_a_pipe():
+    with tempfile.NamedTemporaryFile() as file:
+        file.write(bytes.fromhex("31C0"))
+        file.flush()
+        with open(file.name, "rb") as stdin:
+            done = subprocess.run([PROGRAM, "g4", "8", "1", "-"], stdin=stdin, capture_output=True, timeout=60, check=False)
+        assert done.stdout == b"r 3 5\nok 2\n", done
+    piped = subprocess.run(["sh", "-c", f"(printf '\\061'; sleep 0.2; printf '\\300') | '{PROGRAM}' g4 8 1 -"], capture_output=True, timeout=60, check=False)
+    assert piped.stdout == b"r 3 5\nok 2\n", piped
+
+
+def long_data():
+    """A hundred thousand rows, and a wide one."""
+    done = run(["g4", "8", "0", "a"], b"\x80" * 100000)
+    assert done.stdout == b"r\n" * 100000 + b"ok 100000\n", done.stdout[-40:]
+    done = run(["g4", "4294967295", "1", "-"], b"\x50")
+    assert done.stdout == b"r 4294967294\nok 1\n", done
+
+
+def refused_memory():
+    """Each allocation refused in turn: the answer says so, and the rows before it stand."""
+    with tempfile.TemporaryDirectory() as folder:
+        shim = os.path.join(folder, "refuse.so")
+        subprocess.run(["cc", "-shared", "-fPIC", "-o", shim, "checks/refuse.c", "-ldl"], check=True)
+        words, data = ["g4", "8", "2", "-"], bytes.fromhex("31F8")
+        whole = run(words, data).stdout.decode().splitlines()
+        for number in range(1, 1000):
+            done = run(words, data, env={**os.environ, "LD_PRELOAD": shim, "REFUSE": str(number)})
+            text = done.stdout.decode().splitlines()
+            if b"refused\n" not in done.stderr:
+                assert text == whole and done.returncode == 0, done
+                print(f"  {number - 1} allocations refused in turn")
+                assert number > 1, "no allocation was seen"
+                return
+            assert done.returncode in (2, 3), (number, done)
+            if text:
+                assert text[-1] in ("error: out of memory", "error: row refused"), (number, text)
+                assert text[:-1] == whole[: len(text) - 1], (number, text)
+        raise AssertionError("it never ran without a refusal")
+
+
+CHECKS = [real_strips, known_cases, statuses, devices_that_fail, a_file_and_a_pipe, long_data, refused_memory]

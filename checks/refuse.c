@@ -1,0 +1,42 @@
+/* Loaded before a program, this refuses its N-th allocation, N being the variable REFUSE, and says on standard
+   error whether that many came. */
+#define _GNU_SOURCE
+#include <dlfcn.h>
+#include <stdlib.h>
+#include <unistd.h>
+
+static long wanted = -1, seen = 0;
+
+static int refuses(void) {
+    if (wanted < 0) {
+        const char *text = getenv("REFUSE");
+        wanted = text ? atol(text) : 0;
+    }
+    if (wanted == 0 || ++seen != wanted) return 0;
+    if (write(2, "refused\n", 8) < 0) _exit(99);
+    return 1;
+}
+
+void *malloc(size_t size) {
+    static void *(*real)(size_t);
+    if (!real) real = dlsym(RTLD_NEXT, "malloc");
+    return refuses() ? NULL : real(size);
+}
+
+void *realloc(void *block, size_t size) {
+    static void *(*real)(void *, size_t);
+    if (!real) real = dlsym(RTLD_NEXT, "realloc");
+    return refuses() ? NULL : real(block, size);
+}
+
+int posix_memalign(void **block, size_t align, size_t size) {
+    static int (*real)(void **, size_t, size_t);
+    if (!real) real = dlsym(RTLD_NEXT, "posix_memalign");
+    return refuses() ? 12 : real(block, align, size);
+}
+
+void *aligned_alloc(size_t align, size_t size) {
+    static void *(*real)(size_t, size_t);
+    if (!real) real = dlsym(RTLD_NEXT, "aligned_alloc");
+    return refuses() ? NULL : real(align, size);
+}

@@ -1,0 +1,299 @@
+-- What a step of a line paints, and what that says of the finished line.
+use Rattle.std.proofs.Common.{◌≡◌, ◌≢◌, ℕ, zero, suc, ◌-◌, ◌<◌, ◌≤◌, Bool, true, false, cond, not, ◌&&◌, ltb, leb, List, [], ◌∷◌, ◌++◌, length, replicate, w32, Option, Some, None, Result, Ok, Err, refl, sym, subst, ap, ◌∙◌, arith, ◌⊎◌, inl, inr}
+use Rattle.std.specs.Prelude.{◌↔◌, IsTrue, IfErr, Contains, OnOk, OnErr, SomeIff, min, ℤ, pos, negsuc, ◌+ℤ◌}
+use Rattle.std.proofs.lemmas.Bool.{false≢true, cases_lt, le-leb, lt-leb}
+use Rattle.std.proofs.Math.IntN.{nat_abs}
+use Rattle.std.specs.Int.{FitsUnsigned}
+use Rattle.std.proofs.lemmas.Int.{ints}
+use Rattle.std.proofs.lemmas.List.{length-append, length-replicate}
+use Rattle.std.proofs.lemmas.List.Elements.{Contains-append_left, Contains-append_right}
+use Rattle.hayro_ccitt.specs.declared.codes.Color.{Color}
+use Rattle.hayro_ccitt.specs.declared.codes.Color.TheVariants.{White, Black}
+use Rattle.hayro_ccitt.specs.declared.codes.Mode.{Mode}
+use Rattle.hayro_ccitt.specs.declared.codes.Mode.TheVariants.{Pass, Horizontal, Vertical}
+use Rattle.hayro_ccitt.specs.declared.error.DecodeError.{DecodeError}
+use Rattle.hayro_ccitt.specs.declared.settings.DecodeSettings.{DecodeSettings}
+use Rattle.hayro_ccitt.specs.declared.error.DecodeError.TheVariants.{UnexpectedEof, InvalidCode, Overflow, OutOfMemory, Refused}
+use Rattle.hayro_ccitt.specs.Answers.{IsFault, front_of, HasBlack, DrawsLine, pen_of, StepHasBlack, DrawsStep, StoresChange}
+use Rattle.hayro_ccitt.specs.Bits.{Bits}
+use Rattle.hayro_ccitt.specs.Changes.{last_pixel}
+use Rattle.hayro_ccitt.specs.CodeLists.{mode_codes}
+use Rattle.hayro_ccitt.specs.CodeReading.{read_code}
+use Rattle.hayro_ccitt.specs.Context.{Held, redrawn}
+use Rattle.hayro_ccitt.specs.Lines.{Line, Pen, Step, try, draw_run, unless_full, drawn, place_from, draw_mode, step_2d}
+use Rattle.hayro_ccitt.specs.Repetition.{Turn, repeated}
+use Rattle.hayro_ccitt.specs.Rows.{Row, AscendFrom, AreChanges, pixels_from, pixels, is_black, opposite, right_of, b1, b2, paint}
+use Rattle.hayro_ccitt.specs.Runs.{run_from}
+use Rattle.hayro_ccitt.proofs.Places.{b2_above}
+use Rattle.hayro_ccitt.proofs.ReadLines.{draw_mode_next, modes_not_empty, drawn2, step_2d_shrinks, left}
+use Rattle.hayro_ccitt.proofs.ReadRuns.{chosen, read_code_shorter}
+use Rattle.hayro_ccitt.proofs.Repeated.{Shrinks, after_turn, repeated_keeps}
+
+-- ---- What painting gives.
+
+-- what was painted is the front and some more pixels of the colour
+pub paint_ok : (strict : Bool) (columns : ℕ) (front : Row) (color : Color) (n : ℕ) (row : Row) → paint strict columns front color n ≡ Ok row → (k : ℕ) × (front ++ replicate k (is_black color) ≡ row)
+paint_ok strict columns front color n row e = elim (chosen (strict && ltb (columns - length front) n) _ _ _ e) [
+  | inl a ↦ absurd (let f : ◌≡◌ {A = Result Row DecodeError} (Err InvalidCode) (Ok row) = a.1 in cc)
+  | inr a ↦ (min n (columns - length front), let f : ◌≡◌ {A = Result Row DecodeError} (Ok (front ++ replicate (min n (columns - length front)) (is_black color))) (Ok row) = a.1 in cc)
+]
+
+-- painting keeps the black pixels
+paint_keeps_black : (strict : Bool) (columns : ℕ) (front : Row) (color : Color) (n : ℕ) (row : Row) → paint strict columns front color n ≡ Ok row → HasBlack front → HasBlack row
+paint_keeps_black strict columns front color n row e has =
+    let p = paint_ok strict columns front color n row e in
+    subst HasBlack p.1 (Contains-append_left front (replicate p.0 (is_black color)) true has)
+
+first_black : (row : Row) → HasBlack (true ∷ row)
+first_black row = (0, omega arith, refl)
+
+-- a row whose last pixel is black has a black pixel
+last_black : (before : Bool) (row : Row) → before ≡ false → last_pixel before row ≢ false → HasBlack row
+last_black before [] e other = absurd (other e)
+last_black before (true ∷ row) e other = first_black row
+last_black before (false ∷ row) e other = Contains-append_right (false ∷ []) row true (last_black false row refl other)
+
+painted_black : (front : Row) (color : Color) (k : ℕ) → length front < length (front ++ replicate k (is_black color)) → last_pixel false front ≢ is_black color → HasBlack (front ++ replicate k (is_black color))
+painted_black front White k more other = Contains-append_left front (replicate k false) true (last_black false front refl other)
+painted_black front Black zero more other = absurd (omega (arith, length-append front (replicate zero true)))
+painted_black front Black (suc k) more other = Contains-append_right front (replicate (suc k) true) true (first_black (replicate k true))
+
+-- where a change is stored, the new row has a black pixel: the colour that is painted, or the one before it
+pub stores_black : (held : Held) (count : ℕ) → (stored : StoresChange held count) → HasBlack stored.0
+stores_black held count stored =
+    let p = paint_ok held.settings.strict held.settings.columns held.front held.color count stored.0 stored.1 in
+    subst HasBlack p.1 (painted_black held.front held.color p.0 (rw p.1 stored.2) stored.3)
+
+-- ---- What a step answers.
+
+-- a fault of the data ends the line with the front that is left
+pub fault_ends : (step : Step) (e : DecodeError) (pen : Pen) → IsFault e → step ≡ Turn.done (Line.broken pen.front e) → DrawsStep step (Err e) pen
+fault_ends step UnexpectedEof pen fault e = e
+fault_ends step InvalidCode pen fault e = e
+fault_ends step Overflow pen fault e = e
+fault_ends step OutOfMemory pen fault e = absurd fault
+fault_ends step Refused pen fault e = absurd fault
+
+-- why painting so many pixels is refused
+pub record IsUnpainted (held : Held) (count : ℕ) (e : DecodeError) : Type 0 where
+  pub too_many : ◌≡◌ {A = Result (Unit {0}) DecodeError} (Err e) (Err InvalidCode) → paint held.settings.strict held.settings.columns held.front held.color count ≡ Err InvalidCode
+  pub memory : ◌≡◌ {A = Result (Unit {0}) DecodeError} (Err e) (Err OutOfMemory) → StoresChange held count
+  pub only : (e ≡ InvalidCode) ⊎ (e ≡ OutOfMemory)
+
+-- what an answer of painting says, where it is an error
+pub unpainted : (held : Held) (count : ℕ) (r : Result (Unit {0}) DecodeError) (e : DecodeError) → r ≡ Err e
+    → ((r ≡ Err InvalidCode) ↔ (paint held.settings.strict held.settings.columns held.front held.color count ≡ Err InvalidCode))
+    → (r ≡ Err OutOfMemory → StoresChange held count) → IfErr r (λ e. (e ≡ InvalidCode) ⊎ (e ≡ OutOfMemory)) → IsUnpainted held count e
+unpainted held count r e is too_many memory only = record {
+  too_many = λ f. too_many.0 (is ∙ f);
+  memory = λ f. memory (is ∙ f);
+  only = subst (λ (r : Result (Unit {0}) DecodeError). IfErr r (λ e. (e ≡ InvalidCode) ⊎ (e ≡ OutOfMemory))) is only;
+}
+
+-- an error of painting is that of the step that paints and goes on
+pub paint_fails : (held : Held) (count : ℕ) (go_on : Row → Step) (e : DecodeError) (pen : Pen) → pen.front ≡ held.front → IsUnpainted held count e → ((row : Row) → HasBlack row → StepHasBlack (go_on row))
+    → DrawsStep (try held.front (paint held.settings.strict held.settings.columns held.front held.color count) go_on) (Err e) pen
+paint_fails held count go_on e pen same unpainted black = elim unpainted.only [
+  | inl is ↦ rw (is, unpainted.too_many (rw is refl), same) refl
+  | inr is ↦ let stored = unpainted.memory (rw is refl) in rw (is, stored.1) (black stored.0 (stores_black held count stored))
+]
+
+-- a step that paints and keeps the colour, where the painting answers this
+pub paint_draws : (held new : Held) (count : ℕ) (rest : Bits) (r : Result (Unit {0}) DecodeError) → OnOk r (paint held.settings.strict held.settings.columns held.front held.color count ≡ Ok new.front)
+    → OnOk r (new ≡ redrawn held new.front held.color) → OnErr r (new ≡ held) → ((e : DecodeError) → r ≡ Err e → IsUnpainted held count e)
+    → DrawsStep (try held.front (paint held.settings.strict held.settings.columns held.front held.color count) (λ front. Turn.next (record (pen_of held rest) { front = front }))) r (pen_of new rest)
+paint_draws held new count rest (Ok x) painted kept same unpainted = let color : new.color ≡ held.color = ap (λ (h : Held). h.color) kept in rw (painted, color) refl
+paint_draws held new count rest (Err e) painted kept same unpainted =
+    paint_fails held count (λ front. Turn.next (record (pen_of held rest) { front = front })) e (pen_of new rest) (ap (λ (h : Held). h.front) same) (unpainted e refl) (λ row has. has)
+
+-- what pass draws is what its painting draws
+pub pass_draws : (old held new : Held) (count : ℕ) (rest : Bits) (r : Result (Unit {0}) DecodeError) → held ≡ old → count ≡ b2 old.reference (right_of old.front) old.color - length old.front
+    → DrawsStep (try held.front (paint held.settings.strict held.settings.columns held.front held.color count) (λ front. Turn.next (record (pen_of held rest) { front = front }))) r (pen_of new rest)
+    → DrawsStep (draw_mode old.settings.strict old.settings.columns old.reference (pen_of old rest) Pass) r (pen_of new rest)
+pass_draws old held new count rest r same counts draws =
+    let at_old = subst (λ (h : Held). DrawsStep (try h.front (paint h.settings.strict h.settings.columns h.front h.color count) (λ front. Turn.next (record (pen_of h rest) { front = front }))) r (pen_of new rest)) same draws in
+    subst (λ (n : ℕ). DrawsStep (try old.front (paint old.settings.strict old.settings.columns old.front old.color n) (λ front. Turn.next (record (pen_of old rest) { front = front }))) r (pen_of new rest)) counts at_old
+
+-- the place of a vertical mode, where it fits in 32 bits and is not left of the pixels painted
+pub place_ok : (painted p : ℕ) (z : ℤ) → z ≡ pos p → p ≤ 4294967295 → painted ≤ p → place_from painted z ≡ Ok p
+place_ok painted p z is fits above = rw (is, le-leb painted p above, le-leb p 4294967295 fits) refl
+
+-- what is known of a value that stands where a fact holds
+pub some_where : {P : Type 0} {v : ℕ} (o : Option ℕ) (x : ℕ) → SomeIff o P v → o ≡ Some x → P × (x ≡ v)
+some_where None x iff is = absurd (let f : ◌≡◌ {A = Option ℕ} None (Some x) = is in cc)
+some_where {P} {v} (Some y) x iff is = let same : y ≡ x = cc in (iff.0, sym same ∙ iff.1)
+
+-- a sum that fits in 32 bits unsigned is a place
+pub place_of : (z : ℤ) (o : Option ℕ) (p : ℕ) → SomeIff o (FitsUnsigned w32 z) (nat_abs z) → o ≡ Some p → (z ≡ pos p) × (p ≤ 4294967295)
+place_of (pos n) o p iff is = let a = some_where o p iff is in (ap (λ (m : ℕ). pos m) (sym a.1), omega (arith, ints, a.0.1, a.1))
+place_of (negsuc n) o p iff is = absurd (let a = some_where o p iff is in omega (arith, ints, a.0.0))
+
+-- a vertical mode whose pixels are not painted ends the line
+pub vertical_unpainted : (held new : Held) (k : ℤ) (p : ℕ) (rest : Bits) (e : DecodeError) → pos (b1 held.reference (right_of held.front) held.color) +ℤ k ≡ pos p → p ≤ 4294967295 → length held.front ≤ p → new ≡ held
+    → IsUnpainted held (p - length held.front) e → DrawsStep (draw_mode held.settings.strict held.settings.columns held.reference (pen_of held rest) (Vertical k)) (Err e) (pen_of new rest)
+vertical_unpainted held new k p rest e is fits above same unpainted =
+    let go_on : Row → Step = λ front. Turn.next (record { front = front; color = opposite held.color; rest = rest }) in
+    let place = place_ok (length held.front) p (pos (b1 held.reference (right_of held.front) held.color) +ℤ k) is fits above in
+    let whole : draw_mode held.settings.strict held.settings.columns held.reference (pen_of held rest) (Vertical k) ≡ try held.front (paint held.settings.strict held.settings.columns held.front held.color (p - length held.front)) go_on = rw place refl in
+    subst (λ (s : Step). DrawsStep s (Err e) (pen_of new rest)) (sym whole) (paint_fails held (p - length held.front) go_on e (pen_of new rest) (ap (λ (h : Held). h.front) same) unpainted (λ row has. has))
+
+-- a run that isn't read ends the line
+pub run_unread : (held : Held) (rest after : Bits) (e : DecodeError) → IsFault e → run_from held.color (0, rest) ≡ Err e
+    → DrawsStep (draw_run held.settings.strict held.settings.columns (pen_of held rest) Turn.next) (Err e) (pen_of held after)
+run_unread held rest after e fault unread = fault_ends _ e (pen_of held after) fault (rw unread refl)
+
+-- a run that is read and not painted ends the line
+pub run_unpainted : (held new : Held) (n : ℕ) (rest after : Bits) (e : DecodeError) → run_from held.color (0, rest) ≡ Ok (n, after) → new ≡ held → IsUnpainted held n e
+    → DrawsStep (draw_run held.settings.strict held.settings.columns (pen_of held rest) Turn.next) (Err e) (pen_of new after)
+run_unpainted held new n rest after e reads same unpainted =
+    let go_on : Row → Step = λ front. Turn.next (record { front = front; color = opposite held.color; rest = after }) in
+    let whole : draw_run held.settings.strict held.settings.columns (pen_of held rest) Turn.next ≡ try held.front (paint held.settings.strict held.settings.columns held.front held.color n) go_on = rw reads refl in
+    subst (λ (s : Step). DrawsStep s (Err e) (pen_of new after)) (sym whole) (paint_fails held n go_on e (pen_of new after) (ap (λ (h : Held). h.front) same) unpainted (λ row has. has))
+
+-- ---- A step keeps the black pixels of its front.
+
+-- where a front has a black pixel, a step from it has one too
+abbrev KeepsBlack : (Pen → Step) → Type 0
+KeepsBlack go_on = (pen : Pen) → HasBlack pen.front → StepHasBlack (go_on pen)
+
+pub try_keeps_black : {A : Type 0} (front : Row) (r : Result A DecodeError) (go_on : A → Step) → HasBlack front → ((x : A) → r ≡ Ok x → StepHasBlack (go_on x)) → StepHasBlack (try front r go_on)
+try_keeps_black front (Ok x) go_on has keeps = keeps x refl
+try_keeps_black front (Err fault) go_on has keeps = has
+
+pub draw_run_keeps_black : (strict : Bool) (columns : ℕ) (pen : Pen) (go_on : Pen → Step) → ((p : Pen) → HasBlack p.front → StepHasBlack (go_on p)) → HasBlack pen.front → StepHasBlack (draw_run strict columns pen go_on)
+draw_run_keeps_black strict columns pen go_on keeps has =
+    try_keeps_black pen.front (run_from pen.color (0, pen.rest)) _ has (λ run e.
+    try_keeps_black pen.front (paint strict columns pen.front pen.color run.0) _ has (λ front f.
+    keeps (record { front = front; color = opposite pen.color; rest = run.1 }) (paint_keeps_black strict columns pen.front pen.color run.0 front f has)))
+
+draw_mode_keeps_black : (strict : Bool) (columns : ℕ) (reference : Row) (pen : Pen) (mode : Mode) → HasBlack pen.front → StepHasBlack (draw_mode strict columns reference pen mode)
+draw_mode_keeps_black strict columns reference pen Pass has =
+    let n : ℕ = b2 reference (right_of pen.front) pen.color - length pen.front in
+    try_keeps_black pen.front (paint strict columns pen.front pen.color n) (λ front. Turn.next (record pen { front = front })) has
+    (λ front f. paint_keeps_black strict columns pen.front pen.color n front f has)
+draw_mode_keeps_black strict columns reference pen Horizontal has =
+    draw_run_keeps_black strict columns pen (λ pen. draw_run strict columns pen Turn.next) (λ p h. draw_run_keeps_black strict columns p Turn.next (λ q g. g) h) has
+draw_mode_keeps_black strict columns reference pen (Vertical k) has =
+    let paints : ℕ → Step = λ place. try pen.front (paint strict columns pen.front pen.color (place - length pen.front)) (λ front. Turn.next (record { front = front; color = opposite pen.color; rest = pen.rest })) in
+    try_keeps_black pen.front (place_from (length pen.front) (pos (b1 reference (right_of pen.front) pen.color) +ℤ k)) paints has (λ place e.
+    try_keeps_black pen.front (paint strict columns pen.front pen.color (place - length pen.front)) (λ front. Turn.next (record { front = front; color = opposite pen.color; rest = pen.rest })) has
+    (λ front f. paint_keeps_black strict columns pen.front pen.color (place - length pen.front) front f has))
+
+either_black : (b : Bool) (x y : Step) → StepHasBlack x → StepHasBlack y → StepHasBlack (cond b x y)
+either_black true x y one other = one
+either_black false x y one other = other
+
+step_2d_keeps_black : (strict : Bool) (columns : ℕ) (reference : Row) → KeepsBlack (step_2d strict columns reference)
+step_2d_keeps_black strict columns reference pen has =
+    let modes : Step = try pen.front (read_code mode_codes pen.rest) (λ mode. draw_mode strict columns reference (record pen { rest = mode.1 }) mode.0) in
+    either_black (leb columns (length pen.front)) (Turn.done (Line.whole pen.front pen.rest)) modes has
+    (try_keeps_black pen.front (read_code mode_codes pen.rest) (λ mode. draw_mode strict columns reference (record pen { rest = mode.1 }) mode.0) has
+    (λ mode e. draw_mode_keeps_black strict columns reference (record pen { rest = mode.1 }) mode.0 has))
+
+-- a line that goes on from a front with a black pixel has one
+from_black : (step : Pen → Step) → Shrinks step left → KeepsBlack step → (n : ℕ) (pen : Pen) → left pen < n → HasBlack pen.front → HasBlack (front_of (repeated step (Line.broken [] UnexpectedEof) n pen))
+from_black step shrinks keeps zero pen lt has = absurd (omega arith)
+from_black step shrinks keeps (suc n) pen lt has = by (λ p small h. from_black step shrinks keeps n p small h) (step pen) refl (keeps pen has)
+  where
+    by : ((p : Pen) → left p < n → HasBlack p.front → HasBlack (front_of (repeated step (Line.broken [] UnexpectedEof) n p))) → (turn : Step) → step pen ≡ turn → StepHasBlack turn
+        → HasBlack (front_of (after_turn (repeated step (Line.broken [] UnexpectedEof) n) turn))
+    by on (Turn.next p) e h = on p (omega (arith, shrinks pen p e)) h
+    by on (Turn.done line) e h = h
+
+-- ---- The rule of one mode of a line.
+
+after_black : (strict : Bool) (columns : ℕ) (reference : Row) (turn : Step) → StepHasBlack turn → HasBlack (front_of (after_turn (drawn (step_2d strict columns reference)) turn))
+after_black strict columns reference (Turn.next pen) has = from_black (step_2d strict columns reference) (step_2d_shrinks strict columns reference) (step_2d_keeps_black strict columns reference) (suc (length pen.rest)) pen (omega arith) has
+after_black strict columns reference (Turn.done line) has = has
+
+-- a line that isn't full goes on with a mode
+line_open : (strict : Bool) (columns : ℕ) (reference : Row) (pen : Pen) → length pen.front < columns
+    → drawn (step_2d strict columns reference) pen ≡ after_turn (drawn (step_2d strict columns reference)) (try pen.front (read_code mode_codes pen.rest) (λ mode. draw_mode strict columns reference (record pen { rest = mode.1 }) mode.0))
+line_open strict columns reference pen open_row = drawn2 strict columns reference pen ∙ rw (lt-leb columns (length pen.front) open_row) refl
+
+-- after a mode is read, the line is what comes of the step that draws it
+pub line_mode : (strict : Bool) (columns : ℕ) (reference : Row) (pen : Pen) (mode : Mode) (rest : Bits) → length pen.front < columns → read_code mode_codes pen.rest ≡ Ok (mode, rest)
+    → drawn (step_2d strict columns reference) pen ≡ after_turn (drawn (step_2d strict columns reference)) (draw_mode strict columns reference (record pen { rest = rest }) mode)
+line_mode strict columns reference pen mode rest open_row reads = line_open strict columns reference pen open_row ∙ rw reads refl
+
+-- ---- What a line answers.
+
+-- an error of a step is that of the line
+pub line_fails : (strict : Bool) (columns : ℕ) (reference : Row) (line : Line) (step : Step) (e : DecodeError) (pen : Pen) → line ≡ after_turn (drawn (step_2d strict columns reference)) step
+    → DrawsStep step (Err e) pen → DrawsLine line (Err e) pen.front pen.rest
+line_fails strict columns reference line step UnexpectedEof pen is draws = is ∙ rw draws refl
+line_fails strict columns reference line step InvalidCode pen is draws = is ∙ rw draws refl
+line_fails strict columns reference line step Overflow pen is draws = is ∙ rw draws refl
+line_fails strict columns reference line step OutOfMemory pen is draws = subst (λ (l : Line). HasBlack (front_of l)) (sym is) (after_black strict columns reference step draws)
+line_fails strict columns reference line step Refused pen is draws = absurd draws
+
+-- the line of a context whose row isn't full is what comes of the mode that is read
+pub line_by_mode : (before now : Held) (line : Line) (at rest : Bits) (mode : Mode) → now ≡ redrawn before now.front now.color
+    → drawn (step_2d before.settings.strict before.settings.columns before.reference) (pen_of now at) ≡ line → length now.front < now.settings.columns → read_code mode_codes at ≡ Ok (mode, rest)
+    → line ≡ after_turn (drawn (step_2d before.settings.strict before.settings.columns before.reference)) (draw_mode now.settings.strict now.settings.columns now.reference (pen_of now rest) mode)
+line_by_mode before now line at rest mode kept so_far open_row reads =
+    let settings : now.settings ≡ before.settings = ap (λ (h : Held). h.settings) kept in
+    let reference : now.reference ≡ before.reference = ap (λ (h : Held). h.reference) kept in
+    let columns : length now.front < before.settings.columns = subst (λ (s : DecodeSettings). length now.front < s.columns) settings open_row in
+    let after : Step → Line = after_turn (drawn (step_2d before.settings.strict before.settings.columns before.reference)) in
+    sym so_far ∙ line_mode before.settings.strict before.settings.columns before.reference (pen_of now at) mode rest columns reads
+    ∙ ap (λ (s : DecodeSettings). after (draw_mode s.strict s.columns before.reference (pen_of now rest) mode)) (sym settings)
+    ∙ ap (λ (r : Row). after (draw_mode now.settings.strict now.settings.columns r (pen_of now rest) mode)) (sym reference)
+
+-- a row that isn't said to be full has room
+pub open_by : (full : Bool) (n columns : ℕ) → full ≡ false → (columns ≤ n → IsTrue full) → n < columns
+open_by true n columns e said = absurd (false≢true (sym e))
+open_by false n columns e said = elim (cases_lt n columns) [ inl lt ↦ lt | inr ge ↦ absurd (false≢true (said ge)) ]
+
+-- a mode that is read and drawn takes bits
+pub mode_shorter : (strict : Bool) (columns : ℕ) (reference : Row) (pen t : Pen) (at : Bits) (mode : Mode) → read_code mode_codes at ≡ Ok (mode, pen.rest) → draw_mode strict columns reference pen mode ≡ Turn.next t → length t.rest < length at
+mode_shorter strict columns reference pen t at mode reads draws =
+    omega (arith, draw_mode_next strict columns reference pen mode t draws, read_code_shorter mode_codes at mode pen.rest modes_not_empty reads)
+
+-- ---- Two runs.
+
+-- what comes after a step of a pen
+abbrev pub and_then : (Pen → Step) → Step → Step
+and_then go_on (Turn.next pen) = go_on pen
+and_then go_on (Turn.done line) = Turn.done line
+
+try_and_then : {A : Type 0} (front : Row) (r : Result A DecodeError) (f : A → Step) (go_on : Pen → Step) → try front r (λ x. and_then go_on (f x)) ≡ and_then go_on (try front r f)
+try_and_then front (Ok x) f go_on = refl
+try_and_then front (Err fault) f go_on = refl
+
+-- a run that goes on is the run alone, and then what it goes on with
+pub draw_run_and_then : (strict : Bool) (columns : ℕ) (pen : Pen) (go_on : Pen → Step) → draw_run strict columns pen go_on ≡ and_then go_on (draw_run strict columns pen Turn.next)
+draw_run_and_then strict columns pen go_on = by (run_from pen.color (0, pen.rest))
+  where
+    by : (r : Result (ℕ × Bits) DecodeError)
+        → try pen.front r (λ run. try pen.front (paint strict columns pen.front pen.color run.0) (λ front. go_on (record { front = front; color = opposite pen.color; rest = run.1 })))
+        ≡ and_then go_on (try pen.front r (λ run. try pen.front (paint strict columns pen.front pen.color run.0) (λ front. Turn.next (record { front = front; color = opposite pen.color; rest = run.1 }))))
+    by (Ok run) = try_and_then pen.front (paint strict columns pen.front pen.color run.0) (λ front. Turn.next (record { front = front; color = opposite pen.color; rest = run.1 })) go_on
+    by (Err fault) = refl
+
+-- an error of the first step is that of both, if what follows keeps black pixels
+pub and_then_fails : (go_on : Pen → Step) (step : Step) (e : DecodeError) (pen : Pen) → ((p : Pen) → HasBlack p.front → StepHasBlack (go_on p)) → DrawsStep step (Err e) pen → DrawsStep (and_then go_on step) (Err e) pen
+and_then_fails go_on step UnexpectedEof pen keeps draws = rw draws refl
+and_then_fails go_on step InvalidCode pen keeps draws = rw draws refl
+and_then_fails go_on step Overflow pen keeps draws = rw draws refl
+and_then_fails go_on (Turn.next p) OutOfMemory pen keeps draws = keeps p draws
+and_then_fails go_on (Turn.done line) OutOfMemory pen keeps draws = draws
+and_then_fails go_on step Refused pen keeps draws = absurd draws
+
+-- a second run, where the first was drawn
+pub second_run : (held new : Held) (rest after : Bits) (r : Result (Unit {0}) DecodeError) (pen : Pen) → draw_run held.settings.strict held.settings.columns (pen_of held rest) Turn.next ≡ Turn.next (pen_of new after)
+    → new ≡ redrawn held new.front new.color → DrawsStep (draw_run new.settings.strict new.settings.columns (pen_of new after) Turn.next) r pen
+    → DrawsStep (draw_run held.settings.strict held.settings.columns (pen_of held rest) (λ pen. draw_run held.settings.strict held.settings.columns pen Turn.next)) r pen
+second_run held new rest after r pen first kept second =
+    let settings : new.settings ≡ held.settings = ap (λ (h : Held). h.settings) kept in
+    let go_on : Pen → Step = λ pen. draw_run held.settings.strict held.settings.columns pen Turn.next in
+    let whole : draw_run held.settings.strict held.settings.columns (pen_of held rest) go_on ≡ go_on (pen_of new after) = draw_run_and_then held.settings.strict held.settings.columns (pen_of held rest) go_on ∙ ap (and_then go_on) first in
+    subst (λ (s : Step). DrawsStep s r pen) (sym whole) (subst (λ (s : DecodeSettings). DrawsStep (draw_run s.strict s.columns (pen_of new after) Turn.next) r pen) settings second)
+
+-- two runs, where the first is refused
+pub first_run_fails : (strict : Bool) (columns : ℕ) (pen left : Pen) (e : DecodeError) → DrawsStep (draw_run strict columns pen Turn.next) (Err e) left
+    → DrawsStep (draw_run strict columns pen (λ pen. draw_run strict columns pen Turn.next)) (Err e) left
+first_run_fails strict columns pen left e draws =
+    let go_on : Pen → Step = λ pen. draw_run strict columns pen Turn.next in
+    subst (λ (s : Step). DrawsStep s (Err e) left) (sym (draw_run_and_then strict columns pen go_on))
+    (and_then_fails go_on (draw_run strict columns pen Turn.next) e left (λ p has. draw_run_keeps_black strict columns p Turn.next (λ q g. g) has) draws)

@@ -1,0 +1,12 @@
+use Rattle.std.proofs.Common.{◌≡◌, length, arith}
+use Rattle.std.proofs.lemmas.Bool.{eqb-true, eq-eqb}
+use Rattle.hayro_ccitt.specs.Rows.{pixels}
+use Rattle.hayro_ccitt.proofs.ChangesAndPixels.{length-pixels}
+use Rattle.hayro_ccitt.proofs.context.DecoderContext.is_full.Goals as goal
+
+pub returns : goal.returns
+returns c =
+    let s = c.self.inside in
+    let within = c.self.invariant.within in
+    let painted = length-pixels s.pixels_decoded s.coding_changes.items c.self.invariant.front in
+    rw (← c.self.view_is, painted) (λ e. omega (arith, eqb-true s.pixels_decoded s.settings.columns e), λ le. eq-eqb s.pixels_decoded s.settings.columns (omega arith))
