@@ -115,7 +115,7 @@ fn writes_rows_and_the_outcome(rt: HostRuntime) -> Result<(), Fail> {
         ),
         (
             "g4 8 0 s",
-            [].as_slice(),
+            [0x20].as_slice(),
             Done::Faulty,
             "error: unexpected end of input\n",
         ),
