@@ -14,8 +14,8 @@ pub mod text_sink;
 
 pub use device::{Device, Failed};
 pub use program::{Done, RunFault, run};
-use std::process::ExitCode;
 use std::env;
+use std::process::ExitCode;
 pub use text_sink::TextSink;
 
 fn main(rt: HostRuntime) -> ExitCode {
