@@ -1,12 +1,12 @@
 -- What a run writes, from what decoding answers.
-use Rattle.std.proofs.Common.{◌≡◌, ◌≢◌, ◌≤◌, ℕ, List, [], ◌∷◌, ◌++◌, refl, sym, ap, ◌∙◌, subst, take, length, map, take_all, arith, append_assoc, append-nil, Option, None, Some, Result, Ok, Err, IfSome, inl, inr}
+use Rattle.std.proofs.Common.{◌≡◌, ◌≤◌, ℕ, List, [], ◌∷◌, ◌++◌, refl, sym, ap, ◌∙◌, subst, take, length, map, take_all, arith, append_assoc, append-nil, Option, None, Some, Result, Ok, Err, IfSome, inl, inr}
 use Rattle.std.specs.Prelude.{IfOk, IfErr, IsOk, IsErr}
 use Rattle.std.specs.List.{fold}
 use Rattle.std.proofs.lemmas.List.{take-map, length-map}
 use Rattle.hayro_ccitt.specs.declared.error.DecodeError.{DecodeError}
 use Rattle.hayro_ccitt.specs.declared.error.DecodeError.TheVariants.{UnexpectedEof, InvalidCode, Overflow, OutOfMemory, Refused}
 use Rattle.hayro_ccitt.specs.declared.settings.DecodeSettings.{DecodeSettings}
-use Rattle.hayro_ccitt.specs.Answers.{IsFault, meaning_after}
+use Rattle.hayro_ccitt.specs.Answers.{OnAnswer, IsFault, meaning_after}
 use Rattle.hayro_ccitt.specs.PlainReading.{Answer}
 use Rattle.hayro_ccitt.specs.Rows.{Row, changes}
 use Rattle.faxrows.specs.declared.program.Done.TheVariants.{Good, Faulty, Memory}
@@ -24,7 +24,7 @@ pub record Decoded (answer : Answer) (outcome : Result ℕ DecodeError) (taken :
   pub within : taken ≤ length answer.0
   pub ok : IfOk outcome (λ n. answer.1 ≡ Ok n)
   pub fault : IfErr outcome (λ e. IsFault e → answer.1 ≡ Err e)
-  pub all : outcome ≢ Err OutOfMemory → outcome ≢ Err Refused → taken ≡ length answer.0
+  pub all : OnAnswer outcome (taken ≡ length answer.0)
 
 -- the sink's text is the lines of the rows that were taken
 sink_text : (rows : List Row) (taken : ℕ) (text : List ℕ) → text ≡ meaning_after (λ t row. t ++ line_of_row row) [] (take taken rows) → text ≡ lines_of_rows (map changes (take taken rows))
@@ -42,7 +42,7 @@ all_text answer outcome taken text meaning all same =
 -- a good run writes the whole text
 pub text_of_good : (answer : Answer) (outcome : Result ℕ DecodeError) (taken : ℕ) (text : List ℕ) → Decoded answer outcome taken text → done_of outcome ≡ Good
     → (text ++ line_of_outcome outcome ≡ text_of (map changes answer.0) answer.1) × IsOk answer.1
-text_of_good answer (Ok n) taken text d e = (all_text answer (Ok n) taken text d.meaning (d.all (λ x. cc) (λ x. cc)) d.ok, rw (d.ok) refl)
+text_of_good answer (Ok n) taken text d e = (all_text answer (Ok n) taken text d.meaning d.all d.ok, rw (d.ok) refl)
 text_of_good answer (Err UnexpectedEof) taken text d e = cc
 text_of_good answer (Err InvalidCode) taken text d e = cc
 text_of_good answer (Err Overflow) taken text d e = cc
@@ -54,11 +54,11 @@ pub text_of_faulty : (answer : Answer) (outcome : Result ℕ DecodeError) (taken
     → (text ++ line_of_outcome outcome ≡ text_of (map changes answer.0) answer.1) × IsErr answer.1
 text_of_faulty answer (Ok n) taken text d e = cc
 text_of_faulty answer (Err UnexpectedEof) taken text d e =
-    (all_text answer (Err UnexpectedEof) taken text d.meaning (d.all (λ x. cc) (λ x. cc)) (d.fault tt), rw (d.fault tt) refl)
+    (all_text answer (Err UnexpectedEof) taken text d.meaning (d.all tt) (d.fault tt), rw (d.fault tt) refl)
 text_of_faulty answer (Err InvalidCode) taken text d e =
-    (all_text answer (Err InvalidCode) taken text d.meaning (d.all (λ x. cc) (λ x. cc)) (d.fault tt), rw (d.fault tt) refl)
+    (all_text answer (Err InvalidCode) taken text d.meaning (d.all tt) (d.fault tt), rw (d.fault tt) refl)
 text_of_faulty answer (Err Overflow) taken text d e =
-    (all_text answer (Err Overflow) taken text d.meaning (d.all (λ x. cc) (λ x. cc)) (d.fault tt), rw (d.fault tt) refl)
+    (all_text answer (Err Overflow) taken text d.meaning (d.all tt) (d.fault tt), rw (d.fault tt) refl)
 text_of_faulty answer (Err OutOfMemory) taken text d e = cc
 text_of_faulty answer (Err Refused) taken text d e = cc
 
