@@ -232,6 +232,12 @@ pub fn arrays_are_the_lists()
     ensures black { numbered (BLACK_TERMINATING ++ BLACK_MAKEUP ++ COMMON_MAKEUP) ≡ black_codes }
 {}
 
+/// The number of bits of the longest code word, by which whole words will be looked up.
+pub const LOOKUP_BITS: u32 = 13;
+
+/// The run length that stands in a look-up where no code word does.
+pub const LOOKUP_INVALID: u16 = 0xFFF;
+
 /// What run codes are read by. Its fields are for the look-ups of whole words to come; until then the arrays are
 /// scanned and it holds nothing.
 #[derive(Drop)]
