@@ -1,5 +1,6 @@
 -- EOLs of two data that are equal up to one place, where an EOL ends and none begins.
-use Rattle.std.proofs.Common.{◌≡◌, ℕ, zero, suc, ◌+◌, ◌<◌, ◌≤◌, Bool, true, false, cond, leb, [], ◌∷◌, ◌++◌, length, replicate, Option, Some, None, refl, sym, ap, subst, ◌∙◌, append_assoc, arith, ◌⊎◌, inl, inr}
+use Rattle.std.proofs.Common.{◌≡◌, ℕ, zero, suc, ◌+◌, ◌<◌, ◌≤◌, Bool, true, false, cond, leb, [], ◌∷◌, ◌++◌, length, replicate, Option, Some, None}
+use Rattle.std.proofs.Common.{refl, sym, ap, subst, ◌∙◌, append_assoc, arith, ◌⊎◌, inl, inr}
 use Rattle.std.proofs.lemmas.List.{length-append}
 use Rattle.hayro_ccitt.specs.Bits.{Bits}
 use Rattle.hayro_ccitt.specs.Rows.{Row}
@@ -13,6 +14,7 @@ use Rattle.hayro_ccitt.proofs.Fronts.{Inside, InFront, LineAlike, line_1d_alike}
 abbrev pub Closes : Bits → Type 0
 Closes bits = (first : Bits) × (bits ≡ first ++ replicate 11 false)
 
+-- no zeros hold a one
 pub no_one : (n : ℕ) (before after : Bits) → before ++ true ∷ after ≡ replicate n false → ⊥
 no_one zero [] after e = absurd cc
 no_one zero (b ∷ before) after e = absurd cc
@@ -26,21 +28,27 @@ closes_after [] after (b ∷ first) e = (first, cc)
 closes_after (b ∷ before) after [] e = absurd (no_one 11 (b ∷ before) after e)
 closes_after (b ∷ before) after (c ∷ first) e = closes_after before after first (let f : before ++ true ∷ after ≡ first ++ replicate 11 false = cc in f)
 
+-- what ends in eleven zeros holds them
 pub closes_inside : (bits : Bits) → Closes bits → Inside bits
 closes_inside bits closes = record { holds = ap (scan 3) closes.1 ∙ scan_holds 3 closes.0 [] (omega arith); last = ([], closes.0, closes.1) }
 
+-- what follows a one within them ends in them too
 pub inside_after : (bits before after : Bits) → Inside bits → bits ≡ before ++ true ∷ after → Closes after
 inside_after bits before after inside e =
-    closes_after (inside.last.0 ++ before) after inside.last.1 (append_assoc inside.last.0 before (true ∷ after) ∙ ap (λ (x : Bits). inside.last.0 ++ x) (sym e) ∙ inside.last.2)
+    closes_after (inside.last.0 ++ before) after inside.last.1
+    (append_assoc inside.last.0 before (true ∷ after) ∙ ap (λ (x : Bits). inside.last.0 ++ x) (sym e) ∙ inside.last.2)
 
+-- what follows a one is shorter
 pub after_shorter : (bits before after : Bits) → bits ≡ before ++ true ∷ after → length after < length bits
 after_shorter bits before after e = omega (arith, ap length e, length-append before (true ∷ after))
 
 -- a whole line ends before the last two bits of an EOL at or after its start
-pub line_1d_before_eol : (columns : ℕ) (fill after : Bits) (row : Row) (rest : Bits) → line_1d false columns ((fill ++ replicate 11 false) ++ true ∷ after) ≡ Line.whole row rest → length after + 2 ≤ length rest
+pub line_1d_before_eol : (columns : ℕ) (fill after : Bits) (row : Row) (rest : Bits)
+    → line_1d false columns ((fill ++ replicate 11 false) ++ true ∷ after) ≡ Line.whole row rest → length after + 2 ≤ length rest
 line_1d_before_eol columns fill after row rest e =
     let here : Bits = (fill ++ replicate 11 false) ++ true ∷ after in
-    let alike = line_1d_alike (true ∷ after) (true ∷ after) columns here here (fill ++ replicate 11 false, closes_inside (fill ++ replicate 11 false) (fill, refl), refl, refl) in
+    let alike = line_1d_alike (true ∷ after) (true ∷ after) columns here here
+    (fill ++ replicate 11 false, closes_inside (fill ++ replicate 11 false) (fill, refl), refl, refl) in
     ends (subst (λ (l : Line). LineAlike (true ∷ after) (true ∷ after) l l) e alike).1
   where
     some : (bits : Bits) → scan 3 bits ≡ None → 0 < length bits
@@ -53,8 +61,10 @@ line_1d_before_eol columns fill after row rest e =
 module _ (x y : Bits) where
   -- what follows an EOL: within the equal bits; or just past them; or there is none
   abbrev pub EolAlike : Bits → Option Bits → Option Bits → Type 0
-  EolAlike bits o p = ((before after : Bits) × (bits ≡ before ++ true ∷ after) × (o ≡ Some (after ++ true ∷ x)) × (p ≡ Some (after ++ true ∷ y))) ⊎ (((o ≡ Some x) × (p ≡ Some y)) ⊎ ((o ≡ None) × (p ≡ None)))
+  EolAlike bits o p = ((before after : Bits) × (bits ≡ before ++ true ∷ after) × (o ≡ Some (after ++ true ∷ x)) × (p ≡ Some (after ++ true ∷ y)))
+      ⊎ (((o ≡ Some x) × (p ≡ Some y)) ⊎ ((o ≡ None) × (p ≡ None)))
 
+  -- an EOL that stands before the one in the one data stands there in the other
   pub after_eol_alike : (seen : ℕ) (bits : Bits) → EolAlike bits (after_eol seen (bits ++ true ∷ x)) (after_eol seen (bits ++ true ∷ y))
   after_eol_alike seen [] = by (leb 11 seen)
     where
@@ -73,8 +83,10 @@ module _ (x y : Bits) where
 
   -- what follows the next EOL: within the equal bits; or just past them; or that of what follows them
   abbrev pub PastAlike : Bits → Option Bits → Option Bits → Type 0
-  PastAlike bits o p = ((before after : Bits) × (bits ≡ before ++ true ∷ after) × (o ≡ Some (after ++ true ∷ x)) × (p ≡ Some (after ++ true ∷ y))) ⊎ (((o ≡ Some x) × (p ≡ Some y)) ⊎ ((o ≡ past 0 x) × (p ≡ past 0 y)))
+  PastAlike bits o p = ((before after : Bits) × (bits ≡ before ++ true ∷ after) × (o ≡ Some (after ++ true ∷ x)) × (p ≡ Some (after ++ true ∷ y)))
+      ⊎ (((o ≡ Some x) × (p ≡ Some y)) ⊎ ((o ≡ past 0 x) × (p ≡ past 0 y)))
 
+  -- the next EOL ends alike in both
   pub past_alike : (seen : ℕ) (bits : Bits) → PastAlike bits (past seen (bits ++ true ∷ x)) (past seen (bits ++ true ∷ y))
   past_alike seen [] = by (leb 11 seen)
     where
@@ -87,7 +99,9 @@ module _ (x y : Bits) where
   ]
   past_alike seen (true ∷ bits) = by (leb 11 seen) (past_alike 0 bits)
     where
-      by : (b : Bool) → PastAlike bits (past 0 (bits ++ true ∷ x)) (past 0 (bits ++ true ∷ y)) → PastAlike (true ∷ bits) (cond b (Some (bits ++ true ∷ x)) (past 0 (bits ++ true ∷ x))) (cond b (Some (bits ++ true ∷ y)) (past 0 (bits ++ true ∷ y)))
+      by : (b : Bool) → PastAlike bits (past 0 (bits ++ true ∷ x)) (past 0 (bits ++ true ∷ y))
+          → PastAlike (true ∷ bits) (cond b (Some (bits ++ true ∷ x)) (past 0 (bits ++ true ∷ x)))
+          (cond b (Some (bits ++ true ∷ y)) (past 0 (bits ++ true ∷ y)))
       by true on = inl ([], bits, refl, refl, refl)
       by false on = elim on [
         | inl a ↦ inl (true ∷ a.0, a.1, ap (λ (z : Bits). true ∷ z) a.2, a.3, a.4)
@@ -96,17 +110,21 @@ module _ (x y : Bits) where
 
   -- where counting EOLs ends: within the equal bits, or just past them
   abbrev pub RestAlike : Bits → Bits → Bits → Type 0
-  RestAlike bits here there = ((rest : Bits) × (length rest ≤ length bits) × (Closes bits → Closes rest) × (here ≡ rest ++ true ∷ x) × (there ≡ rest ++ true ∷ y)) ⊎ ((here ≡ x) × (there ≡ y))
+  RestAlike bits here there = ((rest : Bits) × (length rest ≤ length bits) × (Closes bits → Closes rest) × (here ≡ rest ++ true ∷ x)
+      × (there ≡ rest ++ true ∷ y)) ⊎ ((here ≡ x) × (there ≡ y))
 
+  -- counts of EOLs that end alike
   abbrev pub CountAlike : Bits → ℕ × Bits → ℕ × Bits → Type 0
   CountAlike bits f g = (f.0 ≡ g.0) × RestAlike bits f.1 g.1
 
   module _ (none_x : after_eol 0 x ≡ None) (none_y : after_eol 0 y ≡ None) where
     count_for : (n : ℕ) (bits : Bits) → length bits < n → CountAlike bits (all_eols (bits ++ true ∷ x)) (all_eols (bits ++ true ∷ y))
     count_for zero bits lt = absurd (omega arith)
-    count_for (suc n) bits lt = by (λ rest small. count_for n rest small) (after_eol 0 (bits ++ true ∷ x)) (after_eol 0 (bits ++ true ∷ y)) refl refl (after_eol_alike 0 bits)
+    count_for (suc n) bits lt = by (λ rest small. count_for n rest small) (after_eol 0 (bits ++ true ∷ x)) (after_eol 0 (bits ++ true ∷ y)) refl refl
+        (after_eol_alike 0 bits)
       where
-        by : ((rest : Bits) → length rest < n → CountAlike rest (all_eols (rest ++ true ∷ x)) (all_eols (rest ++ true ∷ y))) → (o p : Option Bits) → after_eol 0 (bits ++ true ∷ x) ≡ o → after_eol 0 (bits ++ true ∷ y) ≡ p
+        by : ((rest : Bits) → length rest < n → CountAlike rest (all_eols (rest ++ true ∷ x)) (all_eols (rest ++ true ∷ y))) → (o p : Option Bits)
+            → after_eol 0 (bits ++ true ∷ x) ≡ o → after_eol 0 (bits ++ true ∷ y) ≡ p
             → EolAlike bits o p → CountAlike bits (all_eols (bits ++ true ∷ x)) (all_eols (bits ++ true ∷ y))
         by on o p e f (inl a) =
             let shorter = after_shorter bits a.0 a.1 a.2 in
@@ -119,9 +137,17 @@ module _ (x y : Bits) where
               ],
             )
         by on o p e f (inr (inl a)) =
-            rw (all_eols-some (bits ++ true ∷ x) x (e ∙ a.0), all_eols-some (bits ++ true ∷ y) y (f ∙ a.1), all_eols-none x none_x, all_eols-none y none_y) (refl, inr (refl, refl))
+            rw (
+              all_eols-some (bits ++ true ∷ x) x (e ∙ a.0),
+              all_eols-some (bits ++ true ∷ y) y
+                  (f ∙ a.1),
+              all_eols-none x none_x,
+              all_eols-none y none_y,
+            ) (refl, inr (refl, refl))
         by on o p e f (inr (inr a)) =
-            rw (all_eols-none (bits ++ true ∷ x) (e ∙ a.0), all_eols-none (bits ++ true ∷ y) (f ∙ a.1)) (refl, inl (bits, omega arith, λ closes. closes, refl, refl))
+            rw (all_eols-none (bits ++ true ∷ x) (e ∙ a.0), all_eols-none (bits ++ true ∷ y) (f ∙ a.1))
+            (refl, inl (bits, omega arith, λ closes. closes, refl, refl))
 
+    -- the EOLs that stand in a row are alike in both
     pub all_eols_alike : (bits : Bits) → CountAlike bits (all_eols (bits ++ true ∷ x)) (all_eols (bits ++ true ∷ y))
     all_eols_alike bits = count_for (suc (length bits)) bits (omega arith)

@@ -297,26 +297,3 @@ first_run_fails strict columns pen left e draws =
     let go_on : Pen → Step = λ pen. draw_run strict columns pen Turn.next in
     subst (λ (s : Step). DrawsStep s (Err e) left) (sym (draw_run_and_then strict columns pen go_on))
     (and_then_fails go_on (draw_run strict columns pen Turn.next) e left (λ p has. draw_run_keeps_black strict columns p Turn.next (λ q g. g) has) draws)
-
--- ---- The place of b2.
-
--- b2 is not left of the front's end
-pub b2_least : (reference front : Row) (color : Color) → length front ≤ length reference → length front ≤ b2 reference (right_of front) color
-b2_least reference front color within = elim (cases_lt (b2 reference (right_of front) color) (length reference)) [
-  | inl lt ↦ let above = b2_above reference (right_of front) color lt in omega (arith, above.0, above.1, right_of_least front)
-  | inr ge ↦ omega arith
-]
-  where
-    right_of_least : (front : Row) → length front ≤ right_of front
-    right_of_least [] = omega arith
-    right_of_least (p ∷ front) = omega arith
-
--- ---- The length of a row.
-length-pixels_from : (place first width : ℕ) (color : Bool) (places : List ℕ) → place ≤ first → AscendFrom first width places → length (pixels_from place color width places) ≡ width - place
-length-pixels_from place first width color [] le ascend = length-replicate (width - place) color
-length-pixels_from place first width color (change ∷ places) le ascend =
-    omega (arith, length-append (replicate (change - place) color) (pixels_from change (not color) width places), length-replicate (change - place) color, length-pixels_from change (suc change) width (not color) places (omega arith) ascend.2, ascend.0, ascend.1)
-
--- a row of a width has so many pixels
-pub length-pixels : (width : ℕ) (places : List ℕ) → AreChanges width places → length (pixels width places) ≡ width
-length-pixels width places are = omega (arith, length-pixels_from 0 0 width false places (omega arith) are)

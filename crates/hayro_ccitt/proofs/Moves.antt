@@ -1,7 +1,8 @@
 -- Each line of a run moves the place on.
-use Rattle.std.proofs.Common.{◌≡◌, ℕ, zero, suc, ◌+◌, ◌-◌, ◌%◌, ◌<◌, ◌≤◌, Bool, true, false, cond, not, ◌&&◌, ◌||◌, eqb, ltb, leb, [], ◌∷◌, ◌++◌, length, replicate, Option, Some, None, Result, Ok, Err, refl, sym, ap, subst, ◌∙◌, arith, ◌⊎◌, inl, inr}
+use Rattle.std.proofs.Common.{◌≡◌, ℕ, zero, suc, ◌+◌, ◌-◌, ◌%◌, ◌<◌, ◌≤◌, Bool, true, false, cond, not, ◌&&◌, ◌||◌, eqb, ltb, leb, [], ◌∷◌, ◌++◌}
+use Rattle.std.proofs.Common.{length, replicate, Option, Some, None, Result, Ok, Err, refl, sym, ap, subst, ◌∙◌, arith, ◌⊎◌, inl, inr}
 use Rattle.std.proofs.lemmas.List.{length-drop}
-use Rattle.std.proofs.lemmas.Bool.{cases_lt, not-false, and_parts, and_cases, or_parts, false≢true, lt-ltb, ltb-true, ltb-false, eqb-false}
+use Rattle.std.proofs.lemmas.Bool.{cases_lt, not-false, and_parts, and_cases, or_parts, false≢true, lt-ltb, le-leb, ltb-true, ltb-false, eqb-false}
 use Rattle.hayro_ccitt.specs.declared.error.DecodeError.{DecodeError}
 use Rattle.hayro_ccitt.specs.declared.settings.DecodeSettings.{DecodeSettings}
 use Rattle.hayro_ccitt.specs.Bits.{Bits}
@@ -12,11 +13,19 @@ use Rattle.hayro_ccitt.specs.declared.settings.EncodingMode.TheVariants.{Group4,
 use Rattle.hayro_ccitt.specs.declared.error.DecodeError.TheVariants.{InvalidCode}
 use Rattle.hayro_ccitt.specs.Lines.{Line, line_1d, line_2d}
 use Rattle.hayro_ccitt.specs.EndOfLine.{after_eol, one_more, eols, all_eols, next_eol, after_tag, tagged_eols_from, pass_last_tag, tagged_eols}
-use Rattle.hayro_ccitt.specs.PlainReading.{Progress, Ending, Move, row_before, aligned, ends_with, after_line_group4, line_at_group4, move_group4, limit_met, at_end, line_by, eols_by, eols_group3, line_at_group3, unless_over, seek_from, seek_eol, after_row, after_line_group3, move_group3}
+use Rattle.hayro_ccitt.specs.PlainReading.{Progress, Ending, Move, row_before, aligned, ends_with, after_line_group4, line_at_group4, move_group4}
+use Rattle.hayro_ccitt.specs.PlainReading.{limit_met, at_end, line_by, eols_by, eols_group3, line_at_group3, unless_over, seek_from, seek_eol}
+use Rattle.hayro_ccitt.specs.PlainReading.{after_row, after_line_group3, move_group3}
 use Rattle.hayro_ccitt.proofs.Repeated.{Shrinks}
 use Rattle.hayro_ccitt.proofs.ReadRuns.{chosen}
 use Rattle.hayro_ccitt.proofs.ReadLines.{TookBits, line_1d_took_bits, line_2d_took_bits}
 
+-- enough zeros and a one are an EOL
+pub eol_of : (seen k : ℕ) (rest : Bits) → 11 ≤ seen + k → after_eol seen (replicate k false ++ true ∷ rest) ≡ Some rest
+eol_of seen zero rest le = let ge : 11 ≤ seen = omega arith in rw (le-leb 11 seen ge) refl
+eol_of seen (suc k) rest le = eol_of (suc seen) k rest (omega arith)
+
+-- what follows an EOL is shorter
 pub after_eol_shorter : (seen : ℕ) (here rest : Bits) → after_eol seen here ≡ Some rest → length rest < length here
 after_eol_shorter seen [] rest e = absurd cc
 after_eol_shorter seen (false ∷ here) rest e = omega (arith, after_eol_shorter (suc seen) here rest e)
@@ -25,9 +34,11 @@ after_eol_shorter seen (true ∷ here) rest e = elim (chosen (leb 11 seen) _ _ _
   | inr a ↦ absurd (let f = a.1 in cc)
 ]
 
+-- one more EOL, and the same bits
 pub length-one_more : (found : ℕ × Bits) → length (one_more found).1 ≡ length found.1
 length-one_more (count, here) = refl
 
+-- what follows EOLs is not longer
 pub eols_shorter : (most : ℕ) (here : Bits) → length (eols most here).1 ≤ length here
 eols_shorter zero here = omega arith
 eols_shorter (suc most) here =
@@ -38,29 +49,37 @@ eols_shorter (suc most) here =
     ] in
     by (after_eol 0 here) refl
 
+-- the bits that are left
 abbrev pub left : Progress → ℕ
 left run = length run.rest
 
+-- states of equal turns are equal
 pub next_is : (s t : Progress) → ◌≡◌ {A = Move} (Turn.next s) (Turn.next t) → s ≡ t
 next_is s t e = cc
 
+-- a turn that ends does not go on
 pub not_next : (l : Ending) (t : Progress) → ◌≡◌ {A = Move} (Turn.done l) (Turn.next t) → ⊥
 not_next l t e = cc
 
-unless_next : (b : Bool) (run : Progress) (outcome : Result Bits DecodeError) (on : Move) (t : Progress) → cond b (ends_with run outcome) on ≡ Turn.next t → on ≡ Turn.next t
+unless_next : (b : Bool) (run : Progress) (outcome : Result Bits DecodeError) (on : Move) (t : Progress)
+    → cond b (ends_with run outcome) on ≡ Turn.next t → on ≡ Turn.next t
 unless_next true run outcome on t e = absurd (not_next _ t e)
 unless_next false run outcome on t e = e
 
+-- of two lists that are short enough either is
 pub cond_le : (b : Bool) (x y : Bits) (n : ℕ) → length x ≤ n → length y ≤ n → length (cond b x y) ≤ n
 cond_le true x y n p q = p
 cond_le false x y n p q = q
 
-after_line_group4_next : (settings : DecodeSettings) (run t : Progress) (n : ℕ) (line : Line) → TookBits n line → after_line_group4 settings run line ≡ Turn.next t → left t < n
+after_line_group4_next : (settings : DecodeSettings) (run t : Progress) (n : ℕ) (line : Line) → TookBits n line
+    → after_line_group4 settings run line ≡ Turn.next t → left t < n
 after_line_group4_next settings run t n (Line.broken front fault) took e = absurd (not_next _ t e)
 after_line_group4_next settings run t n (Line.whole row rest) took e =
-    let shorter : length (cond settings.rows_are_byte_aligned (aligned rest) rest) ≤ length rest = cond_le settings.rows_are_byte_aligned (aligned rest) rest (length rest) (omega (arith, length-drop (length rest % 8) rest)) (omega arith) in
+    let shorter : length (cond settings.rows_are_byte_aligned (aligned rest) rest) ≤ length rest
+    = cond_le settings.rows_are_byte_aligned (aligned rest) rest (length rest) (omega (arith, length-drop (length rest % 8) rest)) (omega arith) in
     subst (λ (r : Progress). left r < n) (next_is _ t e) (omega (arith, shorter, took))
 
+-- a turn of Group 4 leaves fewer bits
 pub move_group4_shrinks : (settings : DecodeSettings) → 0 < settings.columns → Shrinks (move_group4 settings) left
 move_group4_shrinks settings wide run t e = by_eols (cond settings.end_of_block (eols 2 run.rest) (all_eols run.rest)) at_most e
   where
@@ -76,11 +95,13 @@ move_group4_shrinks settings wide run t e = by_eols (cond settings.end_of_block 
         let line : Line = line_2d settings.strict settings.columns (row_before settings.columns run.rows) rest in
         let over : Bool = ((settings.end_of_block && (eqb count 2)) || limit_met settings (length run.rows)) || at_end rest in
         let on = unless_next over run (Ok rest) (after_line_group4 settings run line) t k in
-        let f = after_line_group4_next settings run t (length rest) line (line_2d_took_bits settings.strict settings.columns (row_before settings.columns run.rows) rest wide) on in
+        let f = after_line_group4_next settings run t (length rest) line
+        (line_2d_took_bits settings.strict settings.columns (row_before settings.columns run.rows) rest wide) on in
         omega (arith, f, le)
 
 -- ---- Group 3
 
+-- one more EOL
 pub one_more-count : (found : ℕ × Bits) → (one_more found).0 ≡ suc found.0
 one_more-count (count, here) = refl
 
@@ -88,6 +109,7 @@ one_more-count (count, here) = refl
 pub eols-some : (most : ℕ) (here rest : Bits) → after_eol 0 here ≡ Some rest → eols (suc most) here ≡ one_more (eols most rest)
 eols-some most here rest e = rw (e, eols) refl
 
+-- where no EOL stands, none is counted
 pub eols-none : (most : ℕ) (here : Bits) → after_eol 0 here ≡ None → eols most here ≡ (0, here)
 eols-none zero here e = refl
 eols-none (suc most) here e = rw (e, eols) refl
@@ -99,8 +121,10 @@ eols_moves (suc most) here some = by (after_eol 0 here) refl
   where
     by : (o : Option Bits) → after_eol 0 here ≡ o → length (eols (suc most) here).1 < length here
     by None e = absurd (let f : eols (suc most) here ≡ (0, here) = eols-none (suc most) here e in omega (arith, ap (λ (x : ℕ × Bits). x.0) f, some))
-    by (Some rest) e = rw (eols-some most here rest e) (omega (arith, length-one_more (eols most rest), eols_shorter most rest, after_eol_shorter 0 here rest e))
+    by (Some rest) e = rw (eols-some most here rest e)
+        (omega (arith, length-one_more (eols most rest), eols_shorter most rest, after_eol_shorter 0 here rest e))
 
+-- where the next EOL was found, one stands
 pub next_eol_found : (here found : Bits) → next_eol here ≡ Some found → (length found ≤ length here) × ((after : Bits) × (after_eol 0 found ≡ Some after))
 next_eol_found [] found e = absurd cc
 next_eol_found (bit ∷ here) found e = by (next_eol_found here found) (after_eol 0 (bit ∷ here)) refl
@@ -113,6 +137,7 @@ next_eol_found (bit ∷ here) found e = by (next_eol_found here found) (after_eo
         let same : (bit ∷ here) ≡ found = cc in
         subst (λ (x : Bits). (length x ≤ length (bit ∷ here)) × ((after : Bits) × (after_eol 0 x ≡ Some after))) same (omega arith, (rest, f))
 
+-- an EOL that stands is counted
 pub eols_some_counts : (here rest : Bits) → after_eol 0 here ≡ Some rest → 0 < (all_eols here).0
 eols_some_counts [] rest e = absurd cc
 eols_some_counts (bit ∷ here) rest e = rw (eols-some (length here) (bit ∷ here) rest e) (omega (arith, one_more-count (eols (length here) rest)))
@@ -133,9 +158,11 @@ tagged_eols_from_shorter : (turns count : ℕ) (here : Bits) → length (tagged_
 tagged_eols_from_shorter zero count here = omega arith
 tagged_eols_from_shorter (suc turns) count here = by (tagged_eols_from_shorter turns) (after_tag here) refl
   where
-    by : ((count : ℕ) (here : Bits) → length (tagged_eols_from turns (count, here)).1 ≤ length here) → (o : Option Bits) → after_tag here ≡ o → length (tagged_eols_from (suc turns) (count, here)).1 ≤ length here
+    by : ((count : ℕ) (here : Bits) → length (tagged_eols_from turns (count, here)).1 ≤ length here) → (o : Option Bits) → after_tag here ≡ o
+        → length (tagged_eols_from (suc turns) (count, here)).1 ≤ length here
     by on None e = rw (e, tagged_eols_from) (omega arith)
-    by on (Some rest) e = rw (e, tagged_eols_from) (omega (arith, on (count + (all_eols rest).0) (all_eols rest).1, eols_shorter (length rest) rest, after_tag_shorter here rest e))
+    by on (Some rest) e = rw (e, tagged_eols_from)
+        (omega (arith, on (count + (all_eols rest).0) (all_eols rest).1, eols_shorter (length rest) rest, after_tag_shorter here rest e))
 
 last_tag_count : (found : ℕ × Bits) → (pass_last_tag found).0 ≡ found.0
 last_tag_count (count, []) = refl
@@ -165,17 +192,20 @@ all_counted here = (eols_shorter (length here) here, eols_moves (length here) he
 tagged_eols_counted : (here : Bits) → Counted here (tagged_eols here)
 tagged_eols_counted here = by (ltb 0 (all_eols here).0) refl
   where
-    by : (b : Bool) → ltb 0 (all_eols here).0 ≡ b → Counted here (pass_last_tag (cond {A = ℕ × Bits} b (tagged_eols_from (length here) (all_eols here)) (all_eols here)))
+    by : (b : Bool) → ltb 0 (all_eols here).0 ≡ b
+        → Counted here (pass_last_tag (cond {A = ℕ × Bits} b (tagged_eols_from (length here) (all_eols here)) (all_eols here)))
     by true e =
         let found : ℕ × Bits = tagged_eols_from (length here) (all_eols here) in
         let fewer : length (all_eols here).1 < length here = eols_moves (length here) here (ltb-true 0 (all_eols here).0 e) in
-        let left : length (pass_last_tag found).1 < length here = omega (arith, last_tag_shorter found, tagged_eols_from_shorter (length here) (all_eols here).0 (all_eols here).1, fewer) in
+        let left : length (pass_last_tag found).1 < length here
+        = omega (arith, last_tag_shorter found, tagged_eols_from_shorter (length here) (all_eols here).0 (all_eols here).1, fewer) in
         (omega arith, λ some. left)
     by false e =
         let none : 0 ≡ (all_eols here).0 = omega (arith, ltb-false 0 (all_eols here).0 e) in
         let left : length (pass_last_tag (all_eols here)).1 ≤ length here = omega (arith, last_tag_shorter (all_eols here), eols_shorter (length here) here) in
         (left, λ some. absurd (omega (arith, last_tag_count (all_eols here), none, some)))
 
+-- so many EOLs took bits
 pub eols_group3_counted : (settings : DecodeSettings) (here : Bits) → Counted here (eols_group3 settings here)
 eols_group3_counted settings here = by settings.encoding
   where
@@ -188,7 +218,8 @@ tagged_eols_from_count : (turns count : ℕ) (here : Bits) → count ≤ (tagged
 tagged_eols_from_count zero count here = omega arith
 tagged_eols_from_count (suc turns) count here = by (tagged_eols_from_count turns) (after_tag here) refl
   where
-    by : ((count : ℕ) (here : Bits) → count ≤ (tagged_eols_from turns (count, here)).0) → (o : Option Bits) → after_tag here ≡ o → count ≤ (tagged_eols_from (suc turns) (count, here)).0
+    by : ((count : ℕ) (here : Bits) → count ≤ (tagged_eols_from turns (count, here)).0) → (o : Option Bits) → after_tag here ≡ o
+        → count ≤ (tagged_eols_from (suc turns) (count, here)).0
     by on None e = rw (e, tagged_eols_from) (omega arith)
     by on (Some rest) e = rw (e, tagged_eols_from) (omega (arith, on (count + (all_eols rest).0) (all_eols rest).1))
 
@@ -211,29 +242,38 @@ eols_group3_some settings here rest e = by settings.encoding
 abbrev pub left_group3 : Progress → ℕ
 left_group3 run = cond run.has_eols (suc (length run.rest)) (length run.rest)
 
-pub unless_over_next : (settings : DecodeSettings) (run t : Progress) (found : ℕ × Bits) → unless_over settings run found ≡ Turn.next t → ◌≡◌ {A = Progress} (record run { rest = found.1 }) t
-unless_over_next settings run t (count, rest) e = next_is _ t (unless_next (((settings.end_of_block && leb 6 count) || limit_met settings (length run.rows)) || at_end rest) run (Ok rest) (Turn.next (record run { rest = rest })) t e)
+-- where the reading goes on, it does so behind the EOLs
+pub unless_over_next : (settings : DecodeSettings) (run t : Progress) (found : ℕ × Bits) → unless_over settings run found ≡ Turn.next t
+    → ◌≡◌ {A = Progress} (record run { rest = found.1 }) t
+unless_over_next settings run t (count, rest) e =
+    next_is _ t (unless_next (((settings.end_of_block && leb 6 count) || limit_met settings (length run.rows)) || at_end rest) run (Ok rest)
+    (Turn.next (record run { rest = rest })) t e)
 
 -- a run goes on neither at its limit nor at the end
-pub unless_over_open : (settings : DecodeSettings) (run t : Progress) (found : ℕ × Bits) → unless_over settings run found ≡ Turn.next t → (limit_met settings (length run.rows) ≡ false) × (at_end found.1 ≡ false)
-unless_over_open settings run t (count, rest) e = elim (chosen (((settings.end_of_block && leb 6 count) || limit_met settings (length run.rows)) || at_end rest) _ _ _ e) [
-  | inl a ↦ absurd (not_next _ t a.1)
-  | inr a ↦
-      let b = or_parts ((settings.end_of_block && leb 6 count) || limit_met settings (length run.rows)) (at_end rest) a.0 in
-      let c = or_parts (settings.end_of_block && leb 6 count) (limit_met settings (length run.rows)) b.0 in
-      (c.1, b.1)
-]
+pub unless_over_open : (settings : DecodeSettings) (run t : Progress) (found : ℕ × Bits) → unless_over settings run found ≡ Turn.next t
+    → (limit_met settings (length run.rows) ≡ false) × (at_end found.1 ≡ false)
+unless_over_open settings run t (count, rest) e =
+    elim (chosen (((settings.end_of_block && leb 6 count) || limit_met settings (length run.rows)) || at_end rest) _ _ _ e) [
+      | inl a ↦ absurd (not_next _ t a.1)
+      | inr a ↦
+          let b = or_parts ((settings.end_of_block && leb 6 count) || limit_met settings (length run.rows)) (at_end rest) a.0 in
+          let c = or_parts (settings.end_of_block && leb 6 count) (limit_met settings (length run.rows)) b.0 in
+          (c.1, b.1)
+    ]
 
 not_at_end : (rest : Bits) → at_end rest ≡ true → length rest ≡ 0
 not_at_end [] e = refl
 not_at_end (b ∷ rest) e = absurd (false≢true e)
 
-seek_left : (settings : DecodeSettings) (run t : Progress) (o : Option Bits) → run.has_eols ≡ true → next_eol run.rest ≡ o → seek_from settings run o ≡ Turn.next t → left_group3 t ≤ length run.rest
-seek_left settings run t None h e k = subst (λ (r : Progress). left_group3 r ≤ length run.rest) (unless_over_next settings (record run { has_eols = false }) t (0, run.rest) k) (omega arith)
+seek_left : (settings : DecodeSettings) (run t : Progress) (o : Option Bits) → run.has_eols ≡ true → next_eol run.rest ≡ o
+    → seek_from settings run o ≡ Turn.next t → left_group3 t ≤ length run.rest
+seek_left settings run t None h e k = subst (λ (r : Progress). left_group3 r ≤ length run.rest)
+    (unless_over_next settings (record run { has_eols = false }) t (0, run.rest) k) (omega arith)
 seek_left settings run t (Some found) h e k =
     let f = next_eol_found run.rest found e in
     let g = eols_group3_counted settings found in
-    subst (λ (r : Progress). left_group3 r ≤ length run.rest) (unless_over_next settings run t (eols_group3 settings found) k) (rw h (omega (arith, f.0, g.1 (eols_group3_some settings found f.1.0 f.1.1))))
+    subst (λ (r : Progress). left_group3 r ≤ length run.rest) (unless_over_next settings run t (eols_group3 settings found) k)
+    (rw h (omega (arith, f.0, g.1 (eols_group3_some settings found f.1.0 f.1.1))))
 
 seek_eol_next : (settings : DecodeSettings) (run t : Progress) → seek_eol settings run ≡ Turn.next t → seek_from settings run (next_eol run.rest) ≡ Turn.next t
 seek_eol_next settings run t e = unless_next settings.strict run (Err InvalidCode) (seek_from settings run (next_eol run.rest)) t e
@@ -254,8 +294,10 @@ took_more (Line.whole row rest) n took = omega arith
 took_more (Line.broken front fault) n took = tt
 
 -- where a run goes on without seeking an EOL, one came or none are sought
-went_on : (settings : DecodeSettings) (run : Progress) (found : ℕ × Bits) → Counted run.rest found → limit_met settings (length run.rows) ≡ false → at_end found.1 ≡ false
-    → (((eqb found.0 0 && run.has_eols) && not (limit_met settings (length run.rows))) && not (at_end run.rest)) ≡ false → (0 < found.0) ⊎ (run.has_eols ≡ false)
+went_on : (settings : DecodeSettings) (run : Progress) (found : ℕ × Bits) → Counted run.rest found → limit_met settings (length run.rows) ≡ false
+    → at_end found.1 ≡ false
+    → (((eqb found.0 0 && run.has_eols) && not (limit_met settings (length run.rows))) && not (at_end run.rest)) ≡ false → (0 < found.0)
+    ⊎ (run.has_eols ≡ false)
 went_on settings run found counted open_limit open_end e =
     elim (and_cases ((eqb found.0 0 && run.has_eols) && not (limit_met settings (length run.rows))) (not (at_end run.rest)) e) [
       | inl a ↦ elim (and_cases (eqb found.0 0 && run.has_eols) (not (limit_met settings (length run.rows))) a) [
@@ -270,54 +312,70 @@ went_on settings run found counted open_limit open_end e =
 
 -- the EOLs after a row leave less than there was before its line: it took bits, or EOLs are sought
 pub after_row_next : (settings : DecodeSettings) (run t : Progress) (n : ℕ) → after_row settings run ≡ Turn.next t → length run.rest < n → left_group3 t < n
-after_row_next settings run t n e small = elim (chosen ((((eqb (eols_group3 settings run.rest).0 0) && run.has_eols) && not (limit_met settings (length run.rows))) && not (at_end run.rest)) _ _ _ e) [
-  | inl a ↦
-      let b = (and_parts ((eqb (eols_group3 settings run.rest).0 0 && run.has_eols) && not (limit_met settings (length run.rows))) (not (at_end run.rest)) a.0).0 in
-      let c = (and_parts (eqb (eols_group3 settings run.rest).0 0 && run.has_eols) (not (limit_met settings (length run.rows))) b).0 in
-      let d = (and_parts (eqb (eols_group3 settings run.rest).0 0) run.has_eols c).1 in
-      omega (arith, seek_left settings run t (next_eol run.rest) d refl (seek_eol_next settings run t a.1), small)
-  | inr a ↦
-      let open_run = unless_over_open settings run t (eols_group3 settings run.rest) a.1 in
-      let counted = eols_group3_counted settings run.rest in
-      subst (λ (r : Progress). left_group3 r < n) (unless_over_next settings run t (eols_group3 settings run.rest) a.1)
-      (elim (went_on settings run (eols_group3 settings run.rest) counted open_run.0 open_run.1 a.0) [
-        | inl some ↦ either run.has_eols (length (eols_group3 settings run.rest).1) (omega (arith, counted.1 some, small))
-        | inr gave_up ↦ rw gave_up (omega (arith, counted.0, small))
-      ])
-]
+after_row_next settings run t n e small = elim
+    (chosen ((((eqb (eols_group3 settings run.rest).0 0) && run.has_eols) && not (limit_met settings (length run.rows))) && not (at_end run.rest)) _ _ _ e) [
+      | inl a ↦
+          let b = (and_parts ((eqb (eols_group3 settings run.rest).0 0 && run.has_eols) && not (limit_met settings (length run.rows)))
+          (not (at_end run.rest)) a.0).0 in
+          let c = (and_parts (eqb (eols_group3 settings run.rest).0 0 && run.has_eols) (not (limit_met settings (length run.rows))) b).0 in
+          let d = (and_parts (eqb (eols_group3 settings run.rest).0 0) run.has_eols c).1 in
+          omega (arith, seek_left settings run t (next_eol run.rest) d refl (seek_eol_next settings run t a.1), small)
+      | inr a ↦
+          let open_run = unless_over_open settings run t (eols_group3 settings run.rest) a.1 in
+          let counted = eols_group3_counted settings run.rest in
+          subst (λ (r : Progress). left_group3 r < n) (unless_over_next settings run t (eols_group3 settings run.rest) a.1)
+          (elim (went_on settings run (eols_group3 settings run.rest) counted open_run.0 open_run.1 a.0) [
+            | inl some ↦ either run.has_eols (length (eols_group3 settings run.rest).1) (omega (arith, counted.1 some, small))
+            | inr gave_up ↦ rw gave_up (omega (arith, counted.0, small))
+          ])
+    ]
   where
     either : (b : Bool) (k : ℕ) → suc k < n → cond b (suc k) k < n
     either true k lt = lt
     either false k lt = omega arith
 
-pub line_by_took : (encoding : EncodingMode) (strict : Bool) (columns : ℕ) (reference : Row) (here : Bits) → 0 < columns → TookBits (length here) (line_by encoding strict columns reference here)
+-- a whole line took bits
+pub line_by_took : (encoding : EncodingMode) (strict : Bool) (columns : ℕ) (reference : Row) (here : Bits) → 0 < columns
+    → TookBits (length here) (line_by encoding strict columns reference here)
 line_by_took Group3_1D strict columns reference here wide = line_1d_took_bits strict columns here wide
 line_by_took Group3_2D strict columns reference [] wide = tt
-line_by_took Group3_2D strict columns reference (true ∷ rest) wide = took_more (line_1d strict columns rest) (length rest) (line_1d_took_bits strict columns rest wide)
-line_by_took Group3_2D strict columns reference (false ∷ rest) wide = took_more (line_2d strict columns reference rest) (length rest) (line_2d_took_bits strict columns reference rest wide)
+line_by_took Group3_2D strict columns reference (true ∷ rest) wide =
+    took_more (line_1d strict columns rest) (length rest) (line_1d_took_bits strict columns rest wide)
+line_by_took Group3_2D strict columns reference (false ∷ rest) wide =
+    took_more (line_2d strict columns reference rest) (length rest) (line_2d_took_bits strict columns reference rest wide)
 line_by_took Group4 strict columns reference here wide = tt
 
-after_line_group3_next : (settings : DecodeSettings) (run t : Progress) (line : Line) → TookBits (length run.rest) line → after_line_group3 settings run line ≡ Turn.next t → left_group3 t < left_group3 run
+after_line_group3_next : (settings : DecodeSettings) (run t : Progress) (line : Line) → TookBits (length run.rest) line
+    → after_line_group3 settings run line ≡ Turn.next t → left_group3 t < left_group3 run
 after_line_group3_next settings run t (Line.whole row rest) took e =
     let al : Bool = settings.rows_are_byte_aligned && not run.has_eols in
-    let shorter : length (cond al (aligned rest) rest) ≤ length rest = cond_le al (aligned rest) rest (length rest) (omega (arith, length-drop (length rest % 8) rest)) (omega arith) in
-    after_row_next settings (record run { rows = run.rows ++ row ∷ []; rest = cond al (aligned rest) rest }) t (left_group3 run) e (omega (arith, shorter, took, left_group3_least run))
+    let shorter : length (cond al (aligned rest) rest) ≤ length rest
+    = cond_le al (aligned rest) rest (length rest) (omega (arith, length-drop (length rest % 8) rest)) (omega arith) in
+    after_row_next settings (record run { rows = run.rows ++ row ∷ []; rest = cond al (aligned rest) rest }) t (left_group3 run) e
+    (omega (arith, shorter, took, left_group3_least run))
 after_line_group3_next settings run t (Line.broken front fault) took e =
     elim (chosen (settings.strict || not run.has_eols) _ _ _ e) [
       | inl a ↦ absurd (not_next _ t a.1)
       | inr a ↦
           let sought : run.has_eols ≡ true = not-false run.has_eols (or_parts settings.strict (not run.has_eols) a.0).1 in
           let al : Bool = settings.rows_are_byte_aligned && not run.has_eols in
-          let more : Progress = record run { rows = run.rows ++ (front ++ replicate (settings.columns - length front) false) ∷ []; rest = cond al (aligned run.rest) run.rest } in
-          let shorter : length (cond al (aligned run.rest) run.rest) ≤ length run.rest = cond_le al (aligned run.rest) run.rest (length run.rest) (omega (arith, length-drop (length run.rest % 8) run.rest)) (omega arith) in
+          let more : Progress = record run {
+            rows = run.rows ++ (front ++ replicate (settings.columns - length front) false) ∷ [];
+            rest =
+                cond al (aligned run.rest) run.rest;
+          } in
+          let shorter : length (cond al (aligned run.rest) run.rest) ≤ length run.rest
+          = cond_le al (aligned run.rest) run.rest (length run.rest) (omega (arith, length-drop (length run.rest % 8) run.rest)) (omega arith) in
           let left_is : left_group3 run ≡ suc (length run.rest) = rw sought refl in
           rw left_is (after_row_next settings more t (suc (length run.rest)) a.1 (omega (arith, shorter)))
     ]
 
+-- a turn of Group 3 leaves fewer bits, or gives up EOLs
 pub move_group3_shrinks : (settings : DecodeSettings) → 0 < settings.columns → Shrinks (move_group3 settings) left_group3
 move_group3_shrinks settings wide run t e =
     let reference : Row = row_before settings.columns run.rows in
-    after_line_group3_next settings run t (line_at_group3 settings reference run.rest) (line_by_took settings.encoding settings.strict settings.columns reference run.rest wide) e
+    after_line_group3_next settings run t (line_at_group3 settings reference run.rest)
+    (line_by_took settings.encoding settings.strict settings.columns reference run.rest wide) e
 
 -- a run is allowed more turns than that
 pub left_group3_below : (run : Progress) → left_group3 run < suc (suc (length run.rest))

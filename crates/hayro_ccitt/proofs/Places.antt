@@ -1,5 +1,6 @@
 -- The places b1, b2, a1 and a2, and the pixels between changes.
-use Rattle.std.proofs.Common.{◌≡◌, ℕ, zero, suc, ◌+◌, ◌-◌, ◌<◌, ◌≤◌, Bool, true, false, cond, not, ◌&&◌, ltb, leb, [], ◌∷◌, ◌++◌, length, take, replicate, Option, Some, refl, sym, ap, ◌∙◌, arith, inl, inr}
+use Rattle.std.proofs.Common.{◌≡◌, ℕ, zero, suc, ◌+◌, ◌-◌, ◌<◌, ◌≤◌, Bool, true, false, cond, not, ◌&&◌, ltb, leb, [], ◌∷◌, ◌++◌, length, take}
+use Rattle.std.proofs.Common.{replicate, Option, Some, refl, sym, ap, ◌∙◌, arith, inl, inr}
 use mathlib.Core.Bool.{beq}
 use Rattle.std.specs.List.{range_with_len, find}
 use Rattle.std.specs.Option.{unwrap_or}
@@ -15,7 +16,8 @@ pub record IsLeast (from bound : ℕ) (test : ℕ → Bool) (p : ℕ) : Type 0 w
   pub before : (q : ℕ) → from ≤ q → q < p → test q ≡ false
   pub there : p < bound → test p ≡ true
 
-first_step : (test : ℕ → Bool) (from bound : ℕ) (t : Bool) (rest : Option ℕ) → test from ≡ t → from < bound → IsLeast (from + 1) bound test (unwrap_or rest bound) → IsLeast from bound test (unwrap_or (cond t (Some from) rest) bound)
+first_step : (test : ℕ → Bool) (from bound : ℕ) (t : Bool) (rest : Option ℕ) → test from ≡ t → from < bound
+    → IsLeast (from + 1) bound test (unwrap_or rest bound) → IsLeast from bound test (unwrap_or (cond t (Some from) rest) bound)
 first_step test from bound true rest e lt least = record { above = omega arith; within = omega arith; before = λ q le l. absurd (omega arith); there = λ l. e }
 first_step test from bound false rest e lt least =
     let above : from + 1 ≤ unwrap_or rest bound = least.above in
@@ -28,8 +30,10 @@ first_step test from bound false rest e lt least =
 
 first : (test : ℕ → Bool) (from n bound : ℕ) → from + n ≡ bound → IsLeast from bound test (unwrap_or (find test (range_with_len from n)) bound)
 first test from zero bound e = record { above = omega arith; within = omega arith; before = λ q le l. absurd (omega arith); there = λ l. absurd (omega arith) }
-first test from (suc n) bound e = first_step test from bound (test from) (find test (range_with_len (from + 1) n)) refl (omega arith) (first test (from + 1) n bound (omega arith))
+first test from (suc n) bound e = first_step test from bound (test from) (find test (range_with_len (from + 1) n)) refl (omega arith)
+    (first test (from + 1) n bound (omega arith))
 
+-- the search finds the least place
 pub is_least : (bound : ℕ) (test : ℕ → Bool) → IsLeast 0 bound test (least_below bound test)
 is_least bound test = first test 0 bound bound (omega arith)
 
@@ -57,7 +61,8 @@ pub record IsNext (row : Row) (from p : ℕ) : Type 0 where
   pub before : (q : ℕ) → from ≤ q → q < p → is_change row q ≡ false
   pub change : p < length row → is_change row p ≡ true
 
-next_by : (row : Row) (from : ℕ) (test : ℕ → Bool) → ((p : ℕ) → test p ≡ true → from ≤ p) → ((p : ℕ) → from ≤ p → test p ≡ true) → IsNext row from (least_below (length row) (λ p. test p && is_change row p))
+next_by : (row : Row) (from : ℕ) (test : ℕ → Bool) → ((p : ℕ) → test p ≡ true → from ≤ p) → ((p : ℕ) → from ≤ p → test p ≡ true)
+    → IsNext row from (least_below (length row) (λ p. test p && is_change row p))
 next_by row from test low high =
     let least = is_least (length row) (λ p. test p && is_change row p) in
     let p : ℕ = least_below (length row) (λ p. test p && is_change row p) in
@@ -75,12 +80,16 @@ next_by row from test low high =
       change = λ lt. (and_parts (test p) (is_change row p) (least.there lt)).1;
     }
 
+-- a1 is the next change
 pub a1_next : (row : Row) (from : ℕ) → IsNext row from (a1 row from)
 a1_next row from = next_by row from (leb from) (λ p e. leb-true from p e) (λ p le. le-leb from p le)
 
+-- a2 is the next change after it
 pub a2_next : (row : Row) (from : ℕ) → IsNext row (suc (a1 row from)) (a2 row from)
-a2_next row from = next_by row (suc (a1 row from)) (ltb (a1 row from)) (λ p e. omega (arith, ltb-true (a1 row from) p e)) (λ p le. lt-ltb (a1 row from) p (omega arith))
+a2_next row from = next_by row (suc (a1 row from)) (ltb (a1 row from)) (λ p e. omega (arith, ltb-true (a1 row from) p e))
+    (λ p le. lt-ltb (a1 row from) p (omega arith))
 
+-- a2 is not left of a1
 pub a2_least : (row : Row) (from : ℕ) → a1 row from ≤ a2 row from
 a2_least row from =
     let least = is_least (length row) (λ p. ltb (a1 row from) p && is_change row p) in
@@ -94,7 +103,8 @@ a2_least row from =
 
 -- ---- b1 and b2
 -- where b2 is inside the row, b1 is left of it, and right of a0
-pub b2_above : (reference : Row) (from : ℕ) (color : Color) → b2 reference from color < length reference → (from ≤ b1 reference from color) × (b1 reference from color < b2 reference from color)
+pub b2_above : (reference : Row) (from : ℕ) (color : Color) → b2 reference from color < length reference → (from ≤ b1 reference from color)
+    × (b1 reference from color < b2 reference from color)
 b2_above reference from color lt =
     let two = is_least (length reference) (λ p. ltb (b1 reference from color) p && is_change reference p) in
     let one = is_least (length reference) (λ p. leb from p && is_change reference p && beq (pixel_before reference p) (is_black color)) in
@@ -106,16 +116,19 @@ b2_above reference from color lt =
     (leb-true from q (and_parts (leb from q) (is_change reference q) u.0).0, less)
 
 -- no change of a row at its first pixel is from black
-b1_black : (reference : Row) (p : ℕ) → (leb 0 p && is_change reference p && beq (pixel_before reference p) true) ≡ (leb 1 p && is_change reference p && beq (pixel_before reference p) true)
+b1_black : (reference : Row) (p : ℕ) → (leb 0 p && is_change reference p && beq
+    (pixel_before reference p) true) ≡ (leb 1 p && is_change reference p && beq (pixel_before reference p) true)
 b1_black reference zero = by (is_change reference 0)
   where
     by : (b : Bool) → (b && false) ≡ false
     by true = refl
     by false = refl
-b1_black reference (suc p) = let a : leb 0 (suc p) ≡ true = le-leb 0 (suc p) (omega arith) in let b : leb 1 (suc p) ≡ true = le-leb 1 (suc p) (omega arith) in rw (a, b) refl
+b1_black reference (suc p) = let a : leb 0 (suc p) ≡ true = le-leb 0 (suc p) (omega arith) in let b : leb 1 (suc p) ≡ true
+    = le-leb 1 (suc p) (omega arith) in rw (a, b) refl
 
 -- the pen's place right of a0 serves as well as a0's own
-pub b1_right : (reference front : Row) (from : ℕ) (color : Color) → length front ≡ from - 1 → (from ≡ 1 → color ≡ Black) → b1 reference (right_of front) color ≡ b1 reference from color
+pub b1_right : (reference front : Row) (from : ℕ) (color : Color) → length front ≡ from - 1 → (from ≡ 1 → color ≡ Black)
+    → b1 reference (right_of front) color ≡ b1 reference from color
 b1_right reference [] zero color len first = refl
 b1_right reference [] (suc zero) color len first =
     let c : color ≡ Black = first refl in
@@ -125,7 +138,9 @@ b1_right reference (p ∷ front) from color len first =
     let e : suc (suc (length front)) ≡ from = omega arith in
     ap (λ (n : ℕ). b1 reference n color) e
 
-pub b2_right : (reference front : Row) (from : ℕ) (color : Color) → length front ≡ from - 1 → (from ≡ 1 → color ≡ Black) → b2 reference (right_of front) color ≡ b2 reference from color
+-- b2 of a front, by its place
+pub b2_right : (reference front : Row) (from : ℕ) (color : Color) → length front ≡ from - 1 → (from ≡ 1 → color ≡ Black)
+    → b2 reference (right_of front) color ≡ b2 reference from color
 b2_right reference front from color len first =
     ap (λ (b : ℕ). least_below (length reference) (λ p. ltb b p && is_change reference p)) (b1_right reference front from color len first)
 
@@ -143,7 +158,8 @@ other_by true false e = refl
 other_by false true e = refl
 
 -- up to the next change, the pixel to the left keeps its colour
-pub before_same : (row : Row) (from p : ℕ) (c : Bool) → pixel_before row from ≡ c → ((q : ℕ) → from ≤ q → q < p → is_change row q ≡ false) → (q : ℕ) → from ≤ q → q ≤ p → pixel_before row q ≡ c
+pub before_same : (row : Row) (from p : ℕ) (c : Bool) → pixel_before row from ≡ c → ((q : ℕ) → from ≤ q → q < p → is_change row q ≡ false) → (q : ℕ)
+    → from ≤ q → q ≤ p → pixel_before row q ≡ c
 before_same row from p c e none zero le lt = let z : from ≡ 0 = omega arith in rw z at e
 before_same row from p c e none (suc q) le lt = elim (cases_eq from (suc q)) [
   | inl same ↦ rw same at e
@@ -151,7 +167,8 @@ before_same row from p c e none (suc q) le lt = elim (cases_eq from (suc q)) [
 ]
 
 -- and so do the pixels, from the one left of the start on
-pub pixels_same : (row : Row) (from p : ℕ) (c : Bool) → pixel_before row from ≡ c → ((q : ℕ) → from ≤ q → q < p → is_change row q ≡ false) → (q : ℕ) → from - 1 ≤ q → q < p → pixel row q ≡ c
+pub pixels_same : (row : Row) (from p : ℕ) (c : Bool) → pixel_before row from ≡ c → ((q : ℕ) → from ≤ q → q < p → is_change row q ≡ false) → (q : ℕ)
+    → from - 1 ≤ q → q < p → pixel row q ≡ c
 pixels_same row from p c e none q le lt = elim (cases_lt q from) [
   | inl l ↦ let s : from ≡ suc q = omega arith in rw s at e
   | inr ge ↦ before_same_next ge
@@ -166,7 +183,8 @@ at_change row p White change e = other_by (pixel_before row p) (pixel row p) cha
 at_change row p Black change e = other_by (pixel_before row p) (pixel row p) change ∙ ap not e
 
 -- painting pixels of one colour
-pub take_painted : (row : Row) (a n : ℕ) (c : Bool) → a + n ≤ length row → ((q : ℕ) → a ≤ q → q < a + n → pixel row q ≡ c) → take (a + n) row ≡ take a row ++ replicate n c
+pub take_painted : (row : Row) (a n : ℕ) (c : Bool) → a + n ≤ length row → ((q : ℕ) → a ≤ q → q < a + n → pixel row q ≡ c)
+    → take (a + n) row ≡ take a row ++ replicate n c
 take_painted row zero zero c le same = refl
 take_painted [] zero (suc n) c le same = absurd (omega arith)
 take_painted (x ∷ row) zero (suc n) c le same =

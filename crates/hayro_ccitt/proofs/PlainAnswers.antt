@@ -1,17 +1,21 @@
 -- The plain reading of bytes, where there are columns and the encoding is known.
-use Rattle.std.proofs.Common.{◌≡◌, ◌≢◌, ℕ, ◌+◌, ◌-◌, ◌*◌, ◌/◌, ◌≤◌, Bool, true, false, cond, eqb, List, [], length, drop, Result, Ok, Err, refl, sym, ap, ◌∙◌, arith}
-use Rattle.std.proofs.lemmas.Bool.{cond-false, eqb-true}
+use Rattle.std.proofs.Common.{◌≡◌, ◌≢◌, ℕ, ◌+◌, ◌-◌, ◌*◌, ◌/◌, ◌≤◌, Bool, true, false, cond, eqb, List, [], length, take, drop, Result, Ok, Err, IsOk, refl, sym, ap, ◌∙◌, arith}
+use Rattle.std.proofs.lemmas.Bool.{cond-false, eqb-true, false≢true}
 use Rattle.std.proofs.lemmas.List.{length-drop}
 use Rattle.hayro_ccitt.specs.declared.error.DecodeError.{DecodeError}
-use Rattle.hayro_ccitt.specs.declared.error.DecodeError.TheVariants.{UnexpectedEof, InvalidCode, Overflow, OutOfMemory, Refused}
-use Rattle.hayro_ccitt.specs.Answers.{IsFault}
+use Rattle.hayro_ccitt.specs.Answers.{meaning_after}
 use Rattle.hayro_ccitt.specs.declared.settings.EncodingMode.{EncodingMode}
 use Rattle.hayro_ccitt.specs.declared.settings.EncodingMode.TheVariants.{Group4}
 use Rattle.hayro_ccitt.specs.declared.settings.DecodeSettings.{DecodeSettings}
 use Rattle.hayro_ccitt.specs.Bits.{Bits, bits_of}
+use Rattle.std.proofs.Math.Seq.{take-length}
+use Rattle.hayro_ccitt.specs.Rows.{Row}
+use Rattle.hayro_ccitt.specs.Laws.{AreSettings, Gives}
+use Rattle.hayro_ccitt.specs.Pictures.{BeginsWithPictureT6, BeginsWithRowsT6}
 use Rattle.hayro_ccitt.specs.Lines.{Line}
 use Rattle.hayro_ccitt.specs.PlainReading.{Answer, plain, plain_group4, end_by, lines_of, lines_by, bytes_before}
 use Rattle.hayro_ccitt.proofs.BitLists.{length-bits_of}
+use Rattle.hayro_ccitt.proofs.PicturesT6.{closed_picture_t6, limited_rows_t6}
 
 -- some columns are not none
 some_columns : (n : ℕ) → n ≢ 0 → eqb n 0 ≡ false
@@ -46,14 +50,6 @@ bytes_before-place bytes place within =
 abbrev pub failed : DecodeError → Result ℕ DecodeError
 failed e = Err e
 
--- an error that is neither want of memory nor a refusal is a fault of the data
-pub answer_or_fault : (e : DecodeError) → e ≢ OutOfMemory → e ≢ Refused → IsFault e
-answer_or_fault UnexpectedEof m r = tt
-answer_or_fault InvalidCode m r = tt
-answer_or_fault Overflow m r = tt
-answer_or_fault OutOfMemory m r = absurd (m refl)
-answer_or_fault Refused m r = absurd (r refl)
-
 -- the same error, as the answer of a driver
 abbrev pub driver_failed : DecodeError → Result (Unit {0}) DecodeError
 driver_failed e = Err e
@@ -61,3 +57,29 @@ driver_failed e = Err e
 -- what an answer failed with
 pub failed-is : (e f : DecodeError) → failed e ≡ failed f → driver_failed e ≡ driver_failed f
 failed-is e f is = let same : e ≡ f = cc in ap driver_failed same
+
+-- ---- Pictures
+
+-- what is known of an answer and of what a sink means, where the whole reading is known
+module _ {M : Type 0} (step : M → List ℕ → M) (old new : M) (answer : Answer) (rows : List Row) (taken : ℕ)
+    (same : answer.0 ≡ rows) (all : taken ≡ length answer.0) (meaning : new ≡ meaning_after step old (take taken answer.0)) where
+  -- the sink means its rows
+  pub picture_meaning : new ≡ meaning_after step old rows
+  picture_meaning = meaning ∙ ap (meaning_after step old) (ap (λ (n : ℕ). take n answer.0) all ∙ take-length answer.0 ∙ same)
+
+-- an answer is no fault
+pub not_fault : (answer : Result ℕ DecodeError) (e : DecodeError) → IsOk answer → answer ≡ failed e → ⊥
+not_fault (Ok n) e ok is = cc
+not_fault (Err f) e ok is = false≢true ok
+
+-- a T.6 encoding closed by EOFB is its picture
+pub picture_is : (settings : DecodeSettings) (rows : List Row) (bits : Bits) (bytes : List ℕ) → AreSettings settings → BeginsWithPictureT6 settings rows bits (bits_of bytes)
+    → plain settings bytes ≡ (rows, Ok ((length bits + 7) / 8))
+picture_is settings rows bits bytes small begins =
+    closed_picture_t6 settings rows bits begins.begins.0 bytes small begins.encoding begins.end_of_block begins.limit begins.picture begins.begins.1
+
+-- and so are as many lines as the limit
+pub rows_are : (settings : DecodeSettings) (rows : List Row) (bits : Bits) (bytes : List ℕ) → AreSettings settings → BeginsWithRowsT6 settings rows bits (bits_of bytes)
+    → Gives settings bytes rows
+rows_are settings rows bits bytes small begins =
+    limited_rows_t6 settings rows bits begins.begins.0 bytes small begins.encoding begins.limit begins.some begins.picture begins.lines begins.begins.1

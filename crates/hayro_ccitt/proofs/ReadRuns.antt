@@ -58,13 +58,13 @@ chosen false x y z e = inr (refl, e)
 goes_to : (s t : ℕ × Bits) → ◌≡◌ {A = RunTurn} (Turn.next s) (Turn.next t) → s ≡ t
 goes_to s t e = cc
 
-not_done : (r : Result (ℕ × Bits) DecodeError) (t : ℕ × Bits) → ◌≡◌ {A = RunTurn} (Turn.done r) (Turn.next t) → ⊥
+pub not_done : (r : Result (ℕ × Bits) DecodeError) (t : ℕ × Bits) → ◌≡◌ {A = RunTurn} (Turn.done r) (Turn.next t) → ⊥
 not_done r t e = cc
 
-done_is : (r q : Result (ℕ × Bits) DecodeError) → ◌≡◌ {A = RunTurn} (Turn.done r) (Turn.done q) → r ≡ q
+pub done_is : (r q : Result (ℕ × Bits) DecodeError) → ◌≡◌ {A = RunTurn} (Turn.done r) (Turn.done q) → r ≡ q
 done_is r q e = cc
 
-word_next : (total : ℕ) (found t : ℕ × Bits) → run_of_word total found ≡ Turn.next t → (total + found.0, found.1) ≡ t
+pub word_next : (total : ℕ) (found t : ℕ × Bits) → run_of_word total found ≡ Turn.next t → (total + found.0, found.1) ≡ t
 word_next total found t e = elim (chosen (ltb 4294967295 (total + found.0)) _ _ _ e) [
   | inl a ↦ absurd (not_done _ t a.1)
   | inr a ↦ elim (chosen (ltb found.0 64) _ _ _ a.1) [

@@ -1,5 +1,6 @@
 -- Where lines begin, by places.
-use Rattle.std.proofs.Common.{◌≡◌, ℕ, zero, suc, ◌+◌, ◌<◌, ◌≤◌, Bool, true, false, cond, not, ◌&&◌, leb, List, [], ◌∷◌, ◌++◌, length, take, drop, replicate, Option, Some, None, refl, sym, ap, subst, ◌∙◌, append_assoc, arith, ◌⊎◌, inl, inr}
+use Rattle.std.proofs.Common.{◌≡◌, ℕ, zero, suc, ◌+◌, ◌<◌, ◌≤◌, Bool, true, false, cond, not, ◌&&◌, leb, List, [], ◌∷◌, ◌++◌, length, take, drop}
+use Rattle.std.proofs.Common.{replicate, Option, Some, None, refl, sym, ap, subst, ◌∙◌, append_assoc, arith, ◌⊎◌, inl, inr}
 use Rattle.std.specs.Prelude.{Contains, All, is_some}
 use Rattle.std.proofs.lemmas.Bool.{cases_lt, le-leb, leb-true, and_parts, and_from, not-true, not_from_false, false≢true}
 use Rattle.std.proofs.lemmas.List.{length-append, length-drop, take-append-drop, length-replicate, append_cancel_left}
@@ -9,7 +10,7 @@ use Rattle.hayro_ccitt.specs.EndOfLine.{after_eol, all_eols}
 use Rattle.hayro_ccitt.specs.PlainReading.{at_end}
 use Rattle.hayro_ccitt.specs.Locality.{begins_line, later_starts, starts, IsStart, Descends, StartsAre}
 use Rattle.hayro_ccitt.proofs.Past.{all_eols-some, all_eols-none}
-use Rattle.hayro_ccitt.proofs.Moves.{after_eol_shorter}
+use Rattle.hayro_ccitt.proofs.Moves.{after_eol_shorter, eol_of}
 use Rattle.hayro_ccitt.proofs.ZerosInWords.{front_of_front}
 use Rattle.hayro_ccitt.proofs.Leaves.{Leaves}
 use Rattle.hayro_ccitt.proofs.Tails.{after_eol_is, first_one, drop_at}
@@ -17,10 +18,13 @@ use Rattle.hayro_ccitt.proofs.Tails.{after_eol_is, first_one, drop_at}
 -- ---- Later starts come in order
 later_below : (seen : ℕ) (here : Bits) → All (λ other. length other < length here) (later_starts seen here)
 later_below seen [] = All-nil (λ other. length other < 0)
-later_below seen (false ∷ here) = All-weaker (λ other. length other < length here) (λ other. length other < suc (length here)) (λ other lt. omega arith) (later_starts (suc seen) here) (later_below (suc seen) here)
+later_below seen (false ∷ here) = All-weaker (λ other. length other < length here) (λ other. length other < suc (length here))
+    (λ other lt. omega arith) (later_starts (suc seen) here) (later_below (suc seen) here)
 later_below seen (true ∷ here) =
-    All-append (λ other. length other < suc (length here)) (cond (leb 11 seen && begins_line here) (here ∷ []) []) (later_starts 0 here) (by (leb 11 seen && begins_line here))
-    (All-weaker (λ other. length other < length here) (λ other. length other < suc (length here)) (λ other lt. omega arith) (later_starts 0 here) (later_below 0 here))
+    All-append (λ other. length other < suc (length here)) (cond (leb 11 seen && begins_line here) (here ∷ []) []) (later_starts 0 here)
+    (by (leb 11 seen && begins_line here))
+    (All-weaker (λ other. length other < length here) (λ other. length other < suc (length here)) (λ other lt. omega arith) (later_starts 0 here)
+    (later_below 0 here))
   where
     by : (b : Bool) → All (λ other. length other < suc (length here)) (cond {A = List Bits} b (here ∷ []) [])
     by true = All-cons (λ other. length other < suc (length here)) here [] (omega arith) (All-nil (λ other. length other < suc (length here)))
@@ -45,10 +49,6 @@ zeros_along : (seen : ℕ) (here : Bits) → replicate (suc seen) false ++ here 
 zeros_along zero here = refl
 zeros_along (suc seen) here = ap (λ (b : Bits). false ∷ b) (zeros_along seen here)
 
-pub eol_of : (seen k : ℕ) (rest : Bits) → 11 ≤ seen + k → after_eol seen (replicate k false ++ true ∷ rest) ≡ Some rest
-eol_of seen zero rest le = let ge : 11 ≤ seen = omega arith in rw (le-leb 11 seen ge) refl
-eol_of seen (suc k) rest le = eol_of (suc seen) k rest (omega arith)
-
 contains_one : (here other : Bits) → Contains (here ∷ []) other → here ≡ other
 contains_one here other (zero, lt, e) = e
 contains_one here other (suc k, lt, e) = absurd (omega arith)
@@ -63,18 +63,32 @@ from_later seen (false ∷ here) end c =
     let g = f.0 in
     ((g.0, (g.1.0, sym (zeros_along seen here) ∙ g.1.1), g.2, omega (arith, g.3)), f.1)
 from_later seen (true ∷ here) end c =
-    by (leb 11 seen && begins_line here) refl (from_later 0 here end) (Contains-append_cases (cond (leb 11 seen && begins_line here) (here ∷ []) []) (later_starts 0 here) end c)
+    by (leb 11 seen && begins_line here) refl (from_later 0 here end)
+    (Contains-append_cases (cond (leb 11 seen && begins_line here) (here ∷ []) []) (later_starts 0 here) end c)
   where
-    by : (b : Bool) → (leb 11 seen && begins_line here) ≡ b → (Contains (later_starts 0 here) end → EndsLater 0 here end × (begins_line end ≡ true)) → Contains (cond b (here ∷ []) []) end ⊎ Contains (later_starts 0 here) end → EndsLater seen (true ∷ here) end × (begins_line end ≡ true)
+    by : (b : Bool) → (leb 11 seen && begins_line here) ≡ b → (Contains (later_starts 0 here) end → EndsLater 0 here end × (begins_line end ≡ true))
+        → Contains (cond b (here ∷ []) []) end ⊎ Contains (later_starts 0 here) end → EndsLater seen (true ∷ here) end × (begins_line end ≡ true)
     by true e on (inl found) =
         let same = contains_one here end found in
         let both = and_parts (leb 11 seen) (begins_line here) e in
-        subst (λ (h : Bits). EndsLater seen (true ∷ here) h × (begins_line h ≡ true)) same ((replicate seen false ++ true ∷ here, ([], refl), eol_of 0 seen here (omega (arith, leb-true 11 seen both.0)), omega arith), both.1)
+        subst (λ (h : Bits). EndsLater seen (true ∷ here) h × (begins_line h ≡ true)) same
+        ((replicate seen false ++ true ∷ here, ([], refl), eol_of 0 seen here (omega (arith, leb-true 11 seen both.0)), omega arith), both.1)
     by false e on (inl found) = absurd (contains_none end found)
     by b e on (inr found) =
         let f = on found in
-        let g = f.0 in
-        ((g.0, (replicate seen false ++ true ∷ g.1.0, ap (λ (h : Bits). replicate seen false ++ true ∷ h) g.1.1 ∙ sym (append_assoc (replicate seen false) (true ∷ g.1.0) g.0)), g.2, omega (arith, g.3)), f.1)
+        let g = f.0 in (
+          (
+            g.0,
+            (
+              replicate seen false ++ true ∷ g.1.0,
+              ap (λ (h : Bits). replicate seen false ++ true ∷ h) g.1.1
+                  ∙ sym (append_assoc (replicate seen false) (true ∷ g.1.0) g.0),
+            ),
+            g.2,
+            omega (arith, g.3),
+          ),
+          f.1,
+        )
 
 -- of two ends of one list the shorter is an end of the longer
 shorter_end : (xs ys us vs : Bits) → xs ++ ys ≡ us ++ vs → length vs ≤ length ys → Leaves ys vs
@@ -96,25 +110,40 @@ to_later : (seen : ℕ) (here end : Bits) → EndsLater seen here end → begins
 to_later seen [] end (at, leaves, eol, lt) b = absurd (omega arith)
 to_later seen (false ∷ here) end (at, leaves, eol, lt) b =
     let is = after_eol_is 0 at end eol in
-    let whole : replicate seen false ++ false ∷ here ≡ (leaves.0 ++ replicate is.0 false) ++ true ∷ end = leaves.1 ∙ ap (λ (h : Bits). leaves.0 ++ h) is.1 ∙ sym (append_assoc leaves.0 (replicate is.0 false) (true ∷ end)) in
+    let whole : replicate seen false ++ false ∷ here ≡ (leaves.0 ++ replicate is.0 false) ++ true ∷ end = leaves.1
+    ∙ ap (λ (h : Bits). leaves.0 ++ h) is.1 ∙ sym (append_assoc leaves.0 (replicate is.0 false) (true ∷ end)) in
     to_later (suc seen) here end (
       at,
       (leaves.0, zeros_along seen here ∙ leaves.1),
       eol,
       elim (cases_lt (length end) (length here)) [
         | inl less ↦ less
-        | inr ge ↦ absurd (let same : false ∷ here ≡ true ∷ end = same_end (replicate seen false) (false ∷ here) (leaves.0 ++ replicate is.0 false) (true ∷ end) whole (omega arith) in cc)
+        | inr ge ↦ absurd (let same : false ∷ here ≡ true ∷ end
+            = same_end (replicate seen false) (false ∷ here) (leaves.0 ++ replicate is.0 false) (true ∷ end) whole (omega arith) in cc)
       ],
     ) b
 to_later seen (true ∷ here) end (at, leaves, eol, lt) b = elim (cases_lt (length end) (length here)) [
-  | inl less ↦ Contains-append_right (cond (leb 11 seen && begins_line here) (here ∷ []) []) (later_starts 0 here) end (to_later 0 here end (at, inside less, eol, less) b)
+  | inl less ↦ Contains-append_right (cond (leb 11 seen && begins_line here) (here ∷ []) []) (later_starts 0 here) end
+      (to_later 0 here end (at, inside less, eol, less) b)
   | inr ge ↦
       let same : true ∷ here ≡ true ∷ end = same_end (replicate seen false) (true ∷ here) (leaves.0 ++ replicate is.0 false) (true ∷ end) whole (omega arith) in
       let here_is : here ≡ end = cc in
-      let lengths : length (replicate seen false) + length (true ∷ here) ≡ length (leaves.0 ++ replicate is.0 false) + length (true ∷ end) = sym (length-append (replicate seen false) (true ∷ here)) ∙ ap length whole ∙ length-append (leaves.0 ++ replicate is.0 false) (true ∷ end) in
-      let enough : 11 ≤ seen = omega (arith, lengths, ap length here_is, length-replicate seen false, length-append leaves.0 (replicate is.0 false), length-replicate is.0 false, is.2) in
+      let lengths : length (replicate seen false) + length (true ∷ here) ≡ length (leaves.0 ++ replicate is.0 false) + length (true ∷ end)
+      = sym (length-append (replicate seen false) (true ∷ here)) ∙ ap length whole ∙ length-append (leaves.0 ++ replicate is.0 false) (true ∷ end) in
+      let enough : 11 ≤ seen = omega (
+        arith,
+        lengths,
+        ap length here_is,
+        length-replicate seen false,
+        length-append leaves.0
+            (replicate is.0 false),
+        length-replicate is.0 false,
+        is.2,
+      ) in
       let test : (leb 11 seen && begins_line here) ≡ true = and_from (leb 11 seen) (begins_line here) (le-leb 11 seen enough) (ap begins_line here_is ∙ b) in
-      Contains-append_left (cond (leb 11 seen && begins_line here) (here ∷ []) []) (later_starts 0 here) end (subst (λ (t : Bool). Contains (cond t (here ∷ []) []) end) (sym test) (subst (λ (h : Bits). Contains (h ∷ []) end) (sym here_is) (0, omega arith, refl)))
+      Contains-append_left (cond (leb 11 seen && begins_line here) (here ∷ []) []) (later_starts 0 here) end
+      (subst (λ (t : Bool). Contains (cond t (here ∷ []) []) end) (sym test)
+      (subst (λ (h : Bits). Contains (h ∷ []) end) (sym here_is) (0, omega arith, refl)))
 ]
   where
     is : (k : ℕ) × (at ≡ replicate k false ++ true ∷ end) × (11 ≤ 0 + k)
@@ -127,7 +156,17 @@ to_later seen (true ∷ here) end (at, leaves, eol, lt) b = elim (cases_lt (leng
     inside less = elim (cases_lt (length here) (length at)) [
       | inl longer ↦ absurd (
           let f = shorter_end leaves.0 at (replicate seen false) (true ∷ here) (sym leaves.1) (omega arith) in
-          omega (arith, less, first_one is.0 end f.0 here (sym is.1 ∙ f.1), ap length f.1, length-append f.0 (true ∷ here), ap length is.1, length-append (replicate is.0 false) (true ∷ end), length-replicate is.0 false))
+          omega (
+            arith,
+            less,
+            first_one is.0 end f.0 here (sym is.1 ∙ f.1),
+            ap length f.1,
+            length-append f.0
+                (true ∷ here),
+            ap length is.1,
+            length-append (replicate is.0 false) (true ∷ end),
+            length-replicate is.0 false,
+          ))
       | inr short ↦ shorter_end (replicate seen false ++ true ∷ []) here leaves.0 at (append_assoc (replicate seen false) (true ∷ []) here ∙ leaves.1) short
     ]
 
@@ -151,7 +190,11 @@ first_leaves (suc n) bits lt = by (first_leaves n) (after_eol 0 bits) refl
           is.1 ∙ ap (λ (b : Bits). replicate is.0 false ++ true ∷ b) f.1 ∙ sym (append_assoc (replicate is.0 false) (true ∷ f.0) (all_eols rest).1),
           inr (elim f.2 [
             | inl none ↦ (replicate is.0 false, ap (λ (b : Bits). replicate is.0 false ++ true ∷ b) none)
-            | inr more ↦ (replicate is.0 false ++ true ∷ more.0, ap (λ (b : Bits). replicate is.0 false ++ true ∷ b) more.1 ∙ sym (append_assoc (replicate is.0 false) (true ∷ more.0) (true ∷ [])))
+            | inr more ↦ (
+              replicate is.0 false ++ true ∷ more.0,
+              ap (λ (b : Bits). replicate is.0 false ++ true ∷ b) more.1
+                  ∙ sym (append_assoc (replicate is.0 false) (true ∷ more.0) (true ∷ [])),
+            )
           ]),
         )
 
@@ -198,7 +241,15 @@ module _ (bits : Bits) where
         inr (
           omega (arith, f.0.3, length-drop place bits, first_length),
           omega (arith, begins, length-drop place bits),
-          (length front, (omega (arith, shorter, lengths, length-drop place bits, le), ap (after_eol 0) (drop_at bits front f.0.0 (length front) cut refl) ∙ f.0.2)),
+          (
+            length front,
+            (
+              omega (arith, shorter, lengths, length-drop place bits, le),
+              le,
+              ap (after_eol 0)
+                  (drop_at bits front f.0.0 (length front) cut refl) ∙ f.0.2,
+            ),
+          ),
           not_some (after_eol 0 (drop place bits)) (not-true (is_some (after_eol 0 (drop place bits))) both.1),
         )
   ]
@@ -209,10 +260,11 @@ module _ (bits : Bits) where
       (0, omega arith, sym at)
   has_start place le (inr (later, below, (at, eol), none)) =
       contains_more (all_eols bits).1 (drop place bits) (later_starts 0 (all_eols bits).1)
-      (to_later 0 (all_eols bits).1 (drop place bits) (drop at bits, inside, eol.1, omega (arith, length-drop place bits, first_length, later, below)) begins)
+      (to_later 0 (all_eols bits).1 (drop place bits) (drop at bits, inside, eol.2, omega (arith, length-drop place bits, first_length, later, below)) begins)
     where
       begins : begins_line (drop place bits) ≡ true
-      begins = and_from (not (at_end (drop place bits))) (not (is_some (after_eol 0 (drop place bits)))) (not_from_false (at_end (drop place bits)) (more_left (drop place bits) (omega (arith, length-drop place bits, below))))
+      begins = and_from (not (at_end (drop place bits))) (not (is_some (after_eol 0 (drop place bits))))
+          (not_from_false (at_end (drop place bits)) (more_left (drop place bits) (omega (arith, length-drop place bits, below))))
           (not_from_false (is_some (after_eol 0 (drop place bits))) (ap (λ (o : Option Bits). is_some o) none))
 
       whole : leaves_first.0 ++ (all_eols bits).1 ≡ take at bits ++ drop at bits
@@ -227,9 +279,10 @@ module _ (bits : Bits) where
           before : (leaves_first.0 ≡ []) ⊎ ((more : Bits) × (leaves_first.0 ≡ more ++ true ∷ [])) → length (all_eols bits).1 < length (drop at bits) → ⊥
           before (inl none_before) longer = omega (arith, longer, ap length none_before, first_length, length-drop at bits)
           before (inr (more, is)) longer =
-              let split : more ++ true ∷ (all_eols bits).1 ≡ take at bits ++ drop at bits = sym (append_assoc more (true ∷ []) (all_eols bits).1) ∙ ap (λ (b : Bits). b ++ (all_eols bits).1) (sym is) ∙ whole in
+              let split : more ++ true ∷ (all_eols bits).1 ≡ take at bits ++ drop at bits = sym (append_assoc more (true ∷ []) (all_eols bits).1)
+              ∙ ap (λ (b : Bits). b ++ (all_eols bits).1) (sym is) ∙ whole in
               let f = shorter_end (take at bits) (drop at bits) more (true ∷ (all_eols bits).1) (sym split) (omega (arith, longer)) in
-              let zeros_one = after_eol_is 0 (drop at bits) (drop place bits) eol.1 in
+              let zeros_one = after_eol_is 0 (drop at bits) (drop place bits) eol.2 in
               omega (
                 arith,
                 first_one zeros_one.0 (drop place bits) f.0 (all_eols bits).1 (sym zeros_one.1 ∙ f.1),
@@ -244,5 +297,6 @@ module _ (bits : Bits) where
                 first_length,
               )
 
+-- the law
 pub starts_are : StartsAre
 starts_are bits = (λ place le. (is_start bits place le, has_start bits place le), (later_below 0 (all_eols bits).1, later_descends 0 (all_eols bits).1))

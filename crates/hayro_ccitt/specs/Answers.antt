@@ -70,7 +70,7 @@ PaintsBlack lines index = (line : Line) × (slice_get lines index ≡ Some line)
 abbrev pub meaning_after : {M : Type 0} → (M → List ℕ → M) → M → List Row → M
 meaning_after step meaning rows = fold step meaning (map changes rows)
 
--- the plain reading's rows, and how it ends, with the bits that are left then; no row where no sink refuses one
-abbrev pub OnAnswer : Result (Unit {0}) DecodeError → Type 0 → Type 0
+-- what holds unless a call wants memory or a row was refused
+abbrev pub OnAnswer : {T : Type 0} → Result T DecodeError → Type 0 → Type 0
 OnAnswer (Ok x) P = P
 OnAnswer (Err fault) P = IsFault fault → P

@@ -1,5 +1,6 @@
 -- Encodings of pictures, from rows to bits: nothing is read here (T.4, 4.1 and 4.2; T.6, 2).
-use Rattle.std.specs.Prelude.{◌≡◌, ◌≢◌, ℕ, zero, suc, ◌+◌, ◌-◌, ◌%◌, ◌<◌, ◌≤◌, Bool, true, false, List, [], ◌∷◌, ◌++◌, length, replicate, if◌then◌else◌, ℤ, pos, ◌+ℤ◌, ◌⊎◌, All}
+use Rattle.std.specs.Prelude.{◌≡◌, ◌≢◌, ℕ, zero, suc, ◌+◌, ◌-◌, ◌%◌, ◌<◌, ◌≤◌, ℤ, pos, ◌+ℤ◌, Bool, true, false, if◌then◌else◌, ◌⊎◌}
+use Rattle.std.specs.Prelude.{List, [], ◌∷◌, ◌++◌, length, replicate, All}
 use Rattle.hayro_ccitt.specs.declared.codes.Color.{Color}
 use Rattle.hayro_ccitt.specs.declared.codes.Color.TheVariants.{White}
 use Rattle.hayro_ccitt.specs.declared.codes.Mode.TheVariants.{Pass, Horizontal, Vertical}
@@ -9,30 +10,36 @@ use Rattle.hayro_ccitt.specs.CodeReading.{Has}
 use Rattle.hayro_ccitt.specs.Runs.{codes_of}
 use Rattle.hayro_ccitt.specs.Rows.{Row, is_black, opposite, b1, b2, a1, a2}
 
--- make-up words of a colour and one terminating word, which sum to n
+-- make-up words of a colour and one terminating word, which sum to n (T.4, 4.1.1)
 pub data Spells (color : Color) : ℕ → Bits → Type 0 where
   terminating : (n : ℕ) (word : Bits) → Has (codes_of color) n word → n < 64 → Spells color n word
-  makeup : (m : ℕ) (word : Bits) {n : ℕ} {bits : Bits} → Has (codes_of color) m word → 64 ≤ m → Spells color n bits → Spells color (m + n) (word ++ bits)
+  makeup : (m : ℕ) (word : Bits) {n : ℕ} {bits : Bits} → Has (codes_of color) m word → 64 ≤ m → Spells color n bits
+      → Spells color (m + n) (word ++ bits)
 
 -- The runs of a row in order, from a colour on. A run goes as far as its colour; only the first may be empty.
 pub data EncodesLine1D : Color → Row → Bits → Type 0 where
   over : {color : Color} → EncodesLine1D color [] []
-  run : {color : Color} (n : ℕ) (word : Bits) {row : Row} {bits : Bits} → Spells color n word → 0 < n + length row → ((rest : Row) → row ≢ is_black color ∷ rest) → EncodesLine1D (opposite color) row bits
+  run : {color : Color} (n : ℕ) (word : Bits) {row : Row} {bits : Bits} → Spells color n word
+      → 0 < n + length row → ((rest : Row) → row ≢ is_black color ∷ rest) → EncodesLine1D (opposite color) row bits
       → EncodesLine1D color (replicate n (is_black color) ++ row) (word ++ bits)
 
--- Lawful steps from a place a0 to the row's end, against a reference row. Here `from` is the first place right
--- of a0, so the runs of a horizontal mode begin at `from - 1`, or at 0 where a0 is left of the row.
+-- Lawful steps from a place a0 to the row's end, against a reference row (T.4, 4.2.1.3; T.6, 2.2). Here `from` is the
+-- first place right of a0, so the runs of a horizontal mode begin at `from - 1`, or at 0 where a0 is left of the row.
 pub data EncodesLine2D (reference row : Row) : ℕ → Color → Bits → Type 0 where
   over : {color : Color} → EncodesLine2D reference row (suc (length row)) color []
-  pass : (from : ℕ) (word : Bits) {color : Color} {bits : Bits} → from ≤ length row → Has mode_codes Pass word → b2 reference from color < a1 row from
-      → EncodesLine2D reference row (suc (b2 reference from color)) color bits → EncodesLine2D reference row from color (word ++ bits)
-  vertical : (from : ℕ) (word : Bits) (k : ℤ) {color : Color} {bits : Bits} → from ≤ length row → Has mode_codes (Vertical k) word → pos (a1 row from) ≡ pos (b1 reference from color) +ℤ k
-      → EncodesLine2D reference row (suc (a1 row from)) (opposite color) bits → EncodesLine2D reference row from color (word ++ bits)
-  horizontal : (from : ℕ) (word : Bits) {first second : Bits} {color : Color} {bits : Bits} → from ≤ length row → Has mode_codes Horizontal word
+  pass : (from : ℕ) (word : Bits) {color : Color} {bits : Bits} → from ≤ length row → Has mode_codes Pass word
+      → b2 reference from color < a1 row from → EncodesLine2D reference row (suc (b2 reference from color)) color bits
+      → EncodesLine2D reference row from color (word ++ bits)
+  vertical : (from : ℕ) (word : Bits) (k : ℤ) {color : Color} {bits : Bits} → from ≤ length row → Has mode_codes (Vertical k) word
+      → pos (a1 row from) ≡ pos (b1 reference from color) +ℤ k → EncodesLine2D reference row (suc (a1 row from)) (opposite color) bits
+      → EncodesLine2D reference row from color (word ++ bits)
+  horizontal : (from : ℕ) (word : Bits) {first second : Bits} {color : Color} {bits : Bits}
+      → from ≤ length row → Has mode_codes Horizontal word
       → Spells color (a1 row from - (from - 1)) first → Spells (opposite color) (a2 row from - a1 row from) second
-      → EncodesLine2D reference row (suc (a2 row from)) color bits → EncodesLine2D reference row from color (word ++ (first ++ (second ++ bits)))
+      → EncodesLine2D reference row (suc (a2 row from)) color bits
+      → EncodesLine2D reference row from color (word ++ (first ++ (second ++ bits)))
 
--- the kinds of lines
+-- the kinds of lines: of T.6; of one-dimensional T.4; of two-dimensional T.4, with a tag (T.4, 4.2.2)
 pub data Kind : Type 0 where
   group4 : Kind
   group3_1d : Kind
@@ -41,7 +48,8 @@ pub data Kind : Type 0 where
 abbrev pub EncodesLine : Kind → Row → Row → Bits → Type 0
 EncodesLine Kind.group4 reference row bits = EncodesLine2D reference row 0 White bits
 EncodesLine Kind.group3_1d reference row bits = EncodesLine1D White row bits
-EncodesLine Kind.group3_2d reference row bits = (line : Bits) × (((bits ≡ true ∷ line) × EncodesLine1D White row line) ⊎ ((bits ≡ false ∷ line) × EncodesLine2D reference row 0 White line))
+EncodesLine Kind.group3_2d reference row bits = (line : Bits)
+    × (((bits ≡ true ∷ line) × EncodesLine1D White row line) ⊎ ((bits ≡ false ∷ line) × EncodesLine2D reference row 0 White line))
 
 -- zeros up to a whole byte
 abbrev pub padding : ℕ → Bits
@@ -50,24 +58,32 @@ padding n = replicate ((8 - n % 8) % 8) false
 -- lines in order, each filled up to a whole byte where they are aligned
 abbrev pub EncodesRows : Kind → Bool → Row → List Row → Bits → Type 0
 EncodesRows kind aligned reference [] bits = bits ≡ []
-EncodesRows kind aligned reference (row ∷ rows) bits = (line next : Bits) × EncodesLine kind reference row line × EncodesRows kind aligned row rows next × (bits ≡ line ++ (if aligned then padding (length line) else []) ++ next)
+EncodesRows kind aligned reference (row ∷ rows) bits = (line next : Bits)
+    × EncodesLine kind reference row line × EncodesRows kind aligned row rows next
+    × (bits ≡ line ++ (if aligned then padding (length line) else []) ++ next)
 
--- eleven zeros, so many more, and a one
+-- eleven zeros, so many more, and a one (T.4, 4.1.2 and 4.1.3)
 abbrev pub eol : ℕ → Bits
 eol fill = replicate (11 + fill) false ++ true ∷ []
+
+-- the row before the first (T.4, 4.2.1.1)
+abbrev pub white_row : ℕ → Row
+white_row columns = replicate columns false
 
 -- rows of one width
 abbrev pub IsPicture : ℕ → List Row → Type 0
 IsPicture columns rows = (0 < columns) × All (λ row. length row ≡ columns) rows
 
--- a T.6 stream, closed by EOFB
+-- a T.6 stream, closed by EOFB, which is two EOLs (T.6, 2.4.1.1)
 abbrev pub PictureT6 : ℕ → Bool → List Row → Bits → Type 0
-PictureT6 columns aligned rows bits = (body : Bits) × IsPicture columns rows × EncodesRows Kind.group4 aligned (replicate columns false) rows body × (bits ≡ body ++ eol 0 ++ eol 0)
+PictureT6 columns aligned rows bits = (body : Bits)
+    × IsPicture columns rows × EncodesRows Kind.group4 aligned (white_row columns) rows body × (bits ≡ body ++ eol 0 ++ eol 0)
 
 -- lines in order, an EOL before each
 abbrev pub EncodesRowsWithEols : Kind → Row → List Row → Bits → Type 0
 EncodesRowsWithEols kind reference [] bits = bits ≡ []
-EncodesRowsWithEols kind reference (row ∷ rows) bits = (fill : ℕ) × (line next : Bits) × EncodesLine kind reference row line × EncodesRowsWithEols kind row rows next × (bits ≡ eol fill ++ line ++ next)
+EncodesRowsWithEols kind reference (row ∷ rows) bits = (fill : ℕ) × (line next : Bits)
+    × EncodesLine kind reference row line × EncodesRowsWithEols kind row rows next × (bits ≡ eol fill ++ line ++ next)
 
 abbrev pub tag_of : Kind → Bits
 tag_of Kind.group3_2d = true ∷ []
@@ -79,6 +95,7 @@ abbrev pub ClosesWithEols : Kind → ℕ → Bits → Type 0
 ClosesWithEols kind zero bits = bits ≡ []
 ClosesWithEols kind (suc n) bits = (fill : ℕ) × (next : Bits) × ClosesWithEols kind n next × (bits ≡ eol fill ++ tag_of kind ++ next)
 
--- a T.4 stream, closed by RTC
+-- a T.4 stream, closed by RTC, which is six EOLs (T.4, 4.1.4)
 abbrev pub PictureT4 : Kind → ℕ → List Row → Bits → Type 0
-PictureT4 kind columns rows bits = (lines closing : Bits) × (0 < length rows) × IsPicture columns rows × EncodesRowsWithEols kind (replicate columns false) rows lines × ClosesWithEols kind 6 closing × (bits ≡ lines ++ closing)
+PictureT4 kind columns rows bits = (lines closing : Bits) × (0 < length rows) × IsPicture columns rows
+    × EncodesRowsWithEols kind (white_row columns) rows lines × ClosesWithEols kind 6 closing × (bits ≡ lines ++ closing)

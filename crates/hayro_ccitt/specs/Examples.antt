@@ -1,12 +1,15 @@
 -- Worked examples, written as texts: settings, bytes, and what the plain reading gives.
-use Rattle.std.specs.Prelude.{ℕ, ◌+◌, ◌-◌, ◌*◌, ◌==◌, nat_lt, List, [], ◌∷◌, map, codes, Bool, Result, if◌then◌else◌}
+use Rattle.std.specs.Prelude.{ℕ, ◌+◌, ◌-◌, ◌*◌, ◌==◌, ◌≡◌, nat_lt, List, [], ◌∷◌, take, map, codes, Bool, false, Ok, Result, if◌then◌else◌}
 use Rattle.std.specs.List.{list_any}
 use Prim.Native.String.{String}
 use Rattle.hayro_ccitt.specs.declared.error.DecodeError.{DecodeError}
 use Rattle.hayro_ccitt.specs.declared.settings.EncodingMode.{EncodingMode}
 use Rattle.hayro_ccitt.specs.declared.settings.EncodingMode.TheVariants.{Group4, Group3_1D, Group3_2D}
 use Rattle.hayro_ccitt.specs.declared.settings.DecodeSettings.{DecodeSettings}
-use Rattle.hayro_ccitt.specs.Rows.{changes}
+use Rattle.hayro_ccitt.specs.Bits.{bits_of}
+use Rattle.hayro_ccitt.specs.Rows.{changes, pixels}
+use Rattle.hayro_ccitt.specs.Encodings.{Kind, white_row, EncodesRows, PictureT4}
+use Rattle.hayro_ccitt.specs.Locality.{IsLocal}
 use Rattle.hayro_ccitt.specs.PlainReading.{plain}
 
 -- the value of a hexadecimal digit, a capital letter or a figure
@@ -52,3 +55,51 @@ group3_2d = settings_with Group3_2D
 -- the plain reading of a text of bytes, with its rows as changes
 abbrev pub reading_of : DecodeSettings → String → List (List ℕ) × Result ℕ DecodeError
 reading_of settings text = (map changes (plain settings (hex text)).0, (plain settings (hex text)).1)
+
+-- ---- Encodings
+
+-- two lines of T.6: horizontal, and a vertical mode; then vertical modes to the left and the rest of the row
+abbrev pub two_lines : String
+two_lines = "38A08170"
+
+-- two white rows of T.4 with tags, closed by RTC
+abbrev pub tagged_rows : String
+tagged_rows = "001CC005001800C006003001800C"
+
+-- the lines of the rows with the changes 5, 6 and 2, 3, 5, 6, of eight columns
+abbrev pub EncodesTwoLines : Type 0
+EncodesTwoLines = EncodesRows Kind.group4 false (white_row 8) (pixels 8 (5 ∷ 6 ∷ []) ∷ pixels 8 (2 ∷ 3 ∷ 5 ∷ 6 ∷ []) ∷ [])
+    (take 28 (bits_of (hex two_lines)))
+
+-- a line with the tag 1, one with the tag 0, and RTC with its tags
+abbrev pub EncodesTaggedRows : Type 0
+EncodesTaggedRows = PictureT4 Kind.group3_2d 8 (pixels 8 [] ∷ pixels 8 [] ∷ []) (take 110 (bits_of (hex tagged_rows)))
+
+-- ---- Locality
+
+-- eight columns of lenient one-dimensional data with EOLs
+abbrev pub with_eols : DecodeSettings
+with_eols = group3_1d 8 0 "l"
+
+-- three rows, of which the second has the bits from 29 to 39; with one of these bits changed; and with a black run of
+-- no pixels and a white one in their place, up to 47
+abbrev pub three_rows : String
+three_rows = "0019800C700033"
+
+abbrev pub bits_changed : String
+bits_changed = "0019800C400033"
+
+abbrev pub bits_added : String
+bits_added = "0019800C06F80033"
+
+-- each body is local, so that `Locality` is about each two of these
+abbrev pub HaveLocalBodies : Type 0
+HaveLocalBodies = IsLocal with_eols (bits_of (hex three_rows)) 29 39
+    × IsLocal with_eols (bits_of (hex bits_changed)) 29 39
+    × IsLocal with_eols (bits_of (hex bits_added)) 29 47
+
+-- the second row alone is another
+abbrev pub ReadsDamage : Type 0
+ReadsDamage = (reading_of with_eols three_rows ≡ ([] ∷ (3 ∷ 5 ∷ []) ∷ [] ∷ [], Ok 7))
+    × (reading_of with_eols bits_changed ≡ ([] ∷ (3 ∷ 6 ∷ []) ∷ [] ∷ [], Ok 7))
+    × (reading_of with_eols bits_added ≡ ([] ∷ [] ∷ [] ∷ [], Ok 8))

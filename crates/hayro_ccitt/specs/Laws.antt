@@ -1,68 +1,126 @@
 -- The laws of the plain reading.
-use Rattle.std.specs.Prelude.{◌≡◌, ◌≢◌, ℕ, ◌+◌, ◌-◌, ◌/◌, ◌^◌, ◌<◌, ◌≤◌, Bool, true, false, List, [], ◌∷◌, ◌++◌, length, take, drop, replicate, ◌⊎◌, Some, Ok, IsOk, set}
+use Rattle.std.specs.Prelude.{◌≡◌, ◌≢◌, ℕ, ◌+◌, ◌-◌, ◌/◌, ◌^◌, ◌<◌, ◌≤◌, Bool, true, false, not, ◌&&◌, ◌||◌, nat_le, ◌⊎◌, Ok, IsOk}
+use Rattle.std.specs.Prelude.{List, [], ◌∷◌, ◌++◌, length, take, replicate, reverse, All}
+use Rattle.std.specs.List.{list_all, list_any}
 use Rattle.hayro_ccitt.specs.declared.codes.Color.{Color}
 use Rattle.hayro_ccitt.specs.declared.codes.Mode.{Mode}
+use Rattle.hayro_ccitt.specs.declared.settings.EncodingMode.{EncodingMode}
 use Rattle.hayro_ccitt.specs.declared.settings.EncodingMode.TheVariants.{Group4, Group3_1D, Group3_2D}
 use Rattle.hayro_ccitt.specs.declared.settings.DecodeSettings.{DecodeSettings}
 use Rattle.hayro_ccitt.specs.Bits.{Bits, bits_of}
 use Rattle.hayro_ccitt.specs.CodeLists.{Code, mode_codes}
-use Rattle.hayro_ccitt.specs.CodeReading.{Has}
+use Rattle.hayro_ccitt.specs.CodeReading.{Has, leading_zeros}
 use Rattle.hayro_ccitt.specs.Runs.{codes_of}
 use Rattle.hayro_ccitt.specs.Rows.{Row, AreChanges, pixels, changes}
-use Rattle.hayro_ccitt.specs.Lines.{Line, line_1d}
-use Rattle.hayro_ccitt.specs.EndOfLine.{after_eol, eols}
-use Rattle.hayro_ccitt.specs.Encodings.{Kind, EncodesRows, IsPicture, EncodesRowsWithEols, ClosesWithEols, PictureT6, PictureT4}
+use Rattle.hayro_ccitt.specs.Lines.{Line, line_2d}
+use Rattle.hayro_ccitt.specs.EndOfLine.{eols}
+use Rattle.hayro_ccitt.specs.Encodings.{Kind, white_row, EncodesRows, IsPicture, EncodesRowsWithEols, ClosesWithEols, PictureT6, PictureT4}
 use Rattle.hayro_ccitt.specs.Repetition.{Turn}
-use Rattle.hayro_ccitt.specs.PlainReading.{Progress, move_group4, eols_group3, plain}
+use Rattle.hayro_ccitt.specs.PlainReading.{line_by, Progress, start_group4, move_group4, eols_group3, plain}
+use Rattle.hayro_ccitt.specs.Ticks.{tag_at, line_found}
 
+-- a list begins another
 abbrev pub IsFront : {A : Type 0} → List A → List A → Type 0
 IsFront {A} front whole = (rest : List A) × (whole ≡ front ++ rest)
 
--- what a clause's numbers are
+-- the columns and the limit of rows have 32 bits
 pub record AreSettings (settings : DecodeSettings) : Type 0 where
   pub columns : settings.columns < 2 ^ 32
   pub rows : settings.rows < 2 ^ 32
 
 -- ---- synchronised
 
+-- no word of a list is a front of another one, and none stands for two values
 abbrev pub PrefixFree : {V : Type 0} → List (Code V) → Type 0
-PrefixFree {V} list = (v w : V) (a b rest : Bits) → Has list v a → Has list w b → b ≡ a ++ rest → rest ≡ []
+PrefixFree {V} list = (v w : V) (a b rest : Bits) → Has list v a → Has list w b → b ≡ a ++ rest → (rest ≡ []) × (v ≡ w)
 
 -- a word of a run or of a mode
 abbrev pub IsWord : Bits → Type 0
 IsWord word = ((color : Color) × (n : ℕ) × Has (codes_of color) n word) ⊎ ((mode : Mode) × Has mode_codes mode word)
 
--- words in a row
+-- a list of such words
 abbrev pub AreWords : List Bits → Type 0
 AreWords [] = Unit {0}
 AreWords (word ∷ words) = IsWord word × AreWords words
 
+-- words in a row
 abbrev pub joined : List Bits → Bits
 joined [] = []
 joined (word ∷ words) = word ++ joined words
 
+-- so many zeros stand in a row somewhere
 abbrev pub HoldsZeros : ℕ → Bits → Type 0
 HoldsZeros n bits = (before after : Bits) × (bits ≡ before ++ replicate n false ++ after)
 
+-- the line that stands here, by the encoding
+abbrev pub line_here : EncodingMode → Bool → ℕ → Row → Bits → Line
+line_here Group4 strict columns reference here = line_2d strict columns reference here
+line_here Group3_1D strict columns reference here = line_by Group3_1D strict columns reference here
+line_here Group3_2D strict columns reference here = line_by Group3_2D strict columns reference here
+
+-- Words stand in a row here, behind a tag or none; and where an EOL stands here or further on, they end before its one.
+pub record EndBeforeEol (tag : Bits) (words : List Bits) (here : Bits) : Type 0 where
+  pub are : AreWords words
+  pub stand : IsFront (tag ++ joined words) here
+  pub end : (before after : Bits) → here ≡ before ++ replicate 11 false ++ true ∷ after → length (tag ++ joined words) < length before + 11
+
+-- No code word is a front of another, and no words in a row, nor a tag before them, hold the eleven zeros of an EOL
+-- (T.4, 4.1.2). So each word that the reading of a line finds ends before the one of each EOL at or after its start;
+-- a whole line ends with the last of these words.
 pub record Synchronised : Type 0 where
   pub runs_prefix_free : (color : Color) → PrefixFree (codes_of color)
   pub modes_prefix_free : PrefixFree mode_codes
   pub holds_one : (word : Bits) → IsWord word → word ≢ replicate (length word) false
   pub no_eleven : (tag : Bool) (words : List Bits) → AreWords words → HoldsZeros 11 (tag ∷ joined words) → ⊥
-  -- an EOL at or after a place ends past each word that stands in a row from that place
-  pub before_eol : (words : List Bits) (here rest fill after : Bits) → AreWords words → here ≡ joined words ++ rest → here ≡ fill ++ replicate 11 false ++ true ∷ after → length (joined words) < length fill + 11
+  pub before_eol : (encoding : EncodingMode) (strict : Bool) (columns : ℕ) (reference : Row) (here : Bits)
+      → EndBeforeEol (tag_at encoding here) (line_found encoding strict columns reference here) here
+  pub to_the_end : (encoding : EncodingMode) (strict : Bool) (columns : ℕ) (reference row : Row) (here rest : Bits)
+      → line_here encoding strict columns reference here ≡ Line.whole row rest
+      → here ≡ (tag_at encoding here ++ joined (line_found encoding strict columns reference here)) ++ rest
+
+-- ---- code words
+
+-- each word of a list passes a test
+abbrev pub each_word : {V : Type 0} → (Bits → Bool) → List (Code V) → Bool
+each_word test list = list_all (λ c. test c.word) list
+
+-- the zeros at the end
+abbrev pub trailing_zeros : Bits → ℕ
+trailing_zeros bits = leading_zeros (reverse bits)
+
+-- so many zeros stand in a row somewhere
+abbrev pub holds_zeros : ℕ → Bits → Bool
+holds_zeros n [] = nat_le n 0
+holds_zeros n (bit ∷ bits) = nat_le n (leading_zeros (bit ∷ bits)) || holds_zeros n bits
+
+-- a word holds a one, at most so many zeros at its front and at its end, and nowhere eight zeros in a row
+abbrev pub has_few_zeros : ℕ → ℕ → Bits → Bool
+has_few_zeros front end word =
+    list_any (λ bit. bit) word && nat_le (leading_zeros word) front && nat_le (trailing_zeros word) end && not (holds_zeros 8 word)
 
 -- ---- laws over settings
 
+-- the same settings, strict and lenient, and with a limit of rows
+abbrev pub strictly : DecodeSettings → DecodeSettings
+strictly settings = record settings { strict = true }
+
+abbrev pub leniently : DecodeSettings → DecodeSettings
+leniently settings = record settings { strict = false }
+
+abbrev pub limited : ℕ → DecodeSettings → DecodeSettings
+limited limit settings = record settings { rows = limit }
+
+-- The strict reading's rows are the first of the lenient one's; where it ends without a fault, both answer the same.
 abbrev pub StrictThenLenient : Type 0
 StrictThenLenient = (settings : DecodeSettings) (bytes : List ℕ) → AreSettings settings
-    → IsFront (plain (record settings { strict = true }) bytes).0 (plain (record settings { strict = false }) bytes).0
-    × (IsOk (plain (record settings { strict = true }) bytes).1 → plain (record settings { strict = true }) bytes ≡ plain (record settings { strict = false }) bytes)
+    → IsFront (plain (strictly settings) bytes).0 (plain (leniently settings) bytes).0
+    × (IsOk (plain (strictly settings) bytes).1 → plain (strictly settings) bytes ≡ plain (leniently settings) bytes)
 
+-- With a limit the rows are as many of the first as it allows; with so many rows the reading ends without a fault.
 abbrev pub RowLimit : Type 0
 RowLimit = (settings : DecodeSettings) (limit : ℕ) (bytes : List ℕ) → AreSettings settings → 0 < limit → limit < 2 ^ 32
-    → ((plain (record settings { rows = limit }) bytes).0 ≡ take limit (plain (record settings { rows = 0 }) bytes).0)
-    × (length (plain (record settings { rows = limit }) bytes).0 ≡ limit → IsOk (plain (record settings { rows = limit }) bytes).1)
+    → ((plain (limited limit settings) bytes).0 ≡ take limit (plain (limited 0 settings) bytes).0)
+    × (length (plain (limited limit settings) bytes).0 ≡ limit → IsOk (plain (limited limit settings) bytes).1)
 
 -- ---- pictures
 
@@ -70,66 +128,108 @@ RowLimit = (settings : DecodeSettings) (limit : ℕ) (bytes : List ℕ) → AreS
 abbrev pub Allows : DecodeSettings → ℕ → Type 0
 Allows settings n = (settings.rows ≡ 0) ⊎ (n ≤ settings.rows)
 
--- A T.6 picture closed by EOFB gives its rows, whatever follows, and the count is the end of EOFB rounded up to a byte.
+-- the reading of some bytes gives these rows, without a fault
+abbrev pub Gives : DecodeSettings → List ℕ → List Row → Type 0
+Gives settings bytes rows = ((plain settings bytes).0 ≡ rows) × IsOk (plain settings bytes).1
+
+-- A T.6 picture closed by EOFB gives its rows, whatever follows. The count is the end of EOFB, rounded up to a byte
+-- (T.6, 2.4.1.1).
 abbrev pub ReadsPictureT6 : Type 0
-ReadsPictureT6 = (settings : DecodeSettings) (rows : List Row) (bits more : Bits) (bytes : List ℕ) → AreSettings settings → settings.encoding ≡ Group4 → settings.end_of_block ≡ true → Allows settings (length rows)
-    → PictureT6 settings.columns settings.rows_are_byte_aligned rows bits → bits_of bytes ≡ bits ++ more → plain settings bytes ≡ (rows, Ok ((length bits + 7) / 8))
+ReadsPictureT6 = (settings : DecodeSettings) (rows : List Row) (bits more : Bits) (bytes : List ℕ) → AreSettings settings
+    → settings.encoding ≡ Group4 → settings.end_of_block ≡ true → Allows settings (length rows)
+    → PictureT6 settings.columns settings.rows_are_byte_aligned rows bits → bits_of bytes ≡ bits ++ more
+    → plain settings bytes ≡ (rows, Ok ((length bits + 7) / 8))
 
--- Without EOFB the limit ends a T.6 picture.
+-- Lines of T.6 without EOFB are a picture too, where the limit is as many rows.
 abbrev pub ReadsLimitedRowsT6 : Type 0
-ReadsLimitedRowsT6 = (settings : DecodeSettings) (rows : List Row) (body more : Bits) (bytes : List ℕ) → AreSettings settings → settings.encoding ≡ Group4 → 0 < length rows → settings.rows ≡ length rows → IsPicture settings.columns rows
-    → EncodesRows Kind.group4 settings.rows_are_byte_aligned (replicate settings.columns false) rows body → bits_of bytes ≡ body ++ more → ((plain settings bytes).0 ≡ rows) × IsOk (plain settings bytes).1
+ReadsLimitedRowsT6 = (settings : DecodeSettings) (rows : List Row) (body more : Bits) (bytes : List ℕ) → AreSettings settings
+    → settings.encoding ≡ Group4 → settings.rows ≡ length rows → 0 < length rows → IsPicture settings.columns rows
+    → EncodesRows Kind.group4 settings.rows_are_byte_aligned (white_row settings.columns) rows body → bits_of bytes ≡ body ++ more
+    → Gives settings bytes rows
 
--- the settings are for lines of this kind, with their EOLs
+-- the settings are for lines of this kind of T.4
 abbrev pub Matches : Kind → DecodeSettings → Type 0
 Matches Kind.group4 settings = ⊥
 Matches Kind.group3_1d settings = settings.encoding ≡ Group3_1D
 Matches Kind.group3_2d settings = settings.encoding ≡ Group3_2D
 
--- A T.4 picture closed by RTC gives its rows, whatever follows. The count is the end of the EOLs where the last line ends.
+-- A T.4 picture closed by RTC gives its rows, whatever follows. The count is the end of the EOLs that stand where the
+-- last line ends, rounded up to a byte (T.4, 4.1.4).
 abbrev pub ReadsPictureT4 : Type 0
-ReadsPictureT4 = (settings : DecodeSettings) (kind : Kind) (rows : List Row) (lines closing more : Bits) (bytes : List ℕ) → AreSettings settings → Matches kind settings → settings.end_of_block ≡ true → Allows settings (length rows)
-    → 0 < length rows → IsPicture settings.columns rows → EncodesRowsWithEols kind (replicate settings.columns false) rows lines → ClosesWithEols kind 6 closing → bits_of bytes ≡ lines ++ (closing ++ more)
+ReadsPictureT4 = (settings : DecodeSettings) (kind : Kind) (rows : List Row) (lines closing more : Bits) (bytes : List ℕ)
+    → AreSettings settings → Matches kind settings → settings.end_of_block ≡ true → Allows settings (length rows)
+    → 0 < length rows → IsPicture settings.columns rows → EncodesRowsWithEols kind (white_row settings.columns) rows lines
+    → ClosesWithEols kind 6 closing → bits_of bytes ≡ lines ++ (closing ++ more)
     → plain settings bytes ≡ (rows, Ok ((length (bits_of bytes) - length (eols_group3 settings (closing ++ more)).1 + 7) / 8))
 
--- Without RTC the limit ends a T.4 picture.
+-- Lines of T.4 with EOLs and without RTC are a picture too, where the limit is as many rows.
 abbrev pub ReadsLimitedPictureT4 : Type 0
-ReadsLimitedPictureT4 = (settings : DecodeSettings) (kind : Kind) (rows : List Row) (lines more : Bits) (bytes : List ℕ) → AreSettings settings → Matches kind settings → settings.rows ≡ length rows
-    → 0 < length rows → IsPicture settings.columns rows → EncodesRowsWithEols kind (replicate settings.columns false) rows lines → bits_of bytes ≡ lines ++ more → ((plain settings bytes).0 ≡ rows) × IsOk (plain settings bytes).1
+ReadsLimitedPictureT4 = (settings : DecodeSettings) (kind : Kind) (rows : List Row) (lines more : Bits) (bytes : List ℕ)
+    → AreSettings settings → Matches kind settings → settings.rows ≡ length rows → 0 < length rows → IsPicture settings.columns rows
+    → EncodesRowsWithEols kind (white_row settings.columns) rows lines → bits_of bytes ≡ lines ++ more
+    → Gives settings bytes rows
 
--- Without EOLs the limit ends a T.4 picture.
+-- So are lines of T.4 without EOLs, where none are looked for.
 abbrev pub ReadsLimitedRowsT4 : Type 0
-ReadsLimitedRowsT4 = (settings : DecodeSettings) (kind : Kind) (rows : List Row) (body more : Bits) (bytes : List ℕ) → AreSettings settings → Matches kind settings → settings.end_of_line ≡ false → settings.rows ≡ length rows
-    → 0 < length rows → IsPicture settings.columns rows → EncodesRows kind settings.rows_are_byte_aligned (replicate settings.columns false) rows body → bits_of bytes ≡ body ++ more → ((plain settings bytes).0 ≡ rows) × IsOk (plain settings bytes).1
+ReadsLimitedRowsT4 = (settings : DecodeSettings) (kind : Kind) (rows : List Row) (body more : Bits) (bytes : List ℕ)
+    → AreSettings settings → Matches kind settings → settings.end_of_line ≡ false → settings.rows ≡ length rows
+    → 0 < length rows → IsPicture settings.columns rows
+    → EncodesRows kind settings.rows_are_byte_aligned (white_row settings.columns) rows body → bits_of bytes ≡ body ++ more
+    → Gives settings bytes rows
+
+-- Every picture has encodings: as T.6, as T.4 with an EOL before each line, and as lines alone.
+abbrev pub EveryPictureHasAnEncoding : Type 0
+EveryPictureHasAnEncoding = (columns : ℕ) (rows : List Row) → IsPicture columns rows
+    → ((aligned : Bool) → (bits : Bits) × PictureT6 columns aligned rows bits)
+    × ((kind : Kind) → 0 < length rows → (bits : Bits) × PictureT4 kind columns rows bits)
+    × ((kind : Kind) (aligned : Bool) → (bits : Bits) × EncodesRows kind aligned (white_row columns) rows bits)
+
+-- Any bits are the first of some bytes.
+abbrev pub BytesBeginWithAnyBits : Type 0
+BytesBeginWithAnyBits = (bits : Bits) → (bytes : List ℕ) × All (λ byte. byte < 256) bytes × IsFront bits (bits_of bytes)
+
+-- ---- one picture
+
+-- Where one T.6 stream begins another of the same width and alignment, their rows are equal.
+abbrev pub OnePictureT6 : Type 0
+OnePictureT6 = (columns : ℕ) (aligned : Bool) (rows others : List Row) (bits more : Bits) → columns < 2 ^ 32
+    → PictureT6 columns aligned rows bits → PictureT6 columns aligned others (bits ++ more) → rows ≡ others
+
+-- Where one T.4 stream begins another of the same width and kind, their rows are equal.
+abbrev pub OnePictureT4 : Type 0
+OnePictureT4 = (kind : Kind) (columns : ℕ) (rows others : List Row) (bits more : Bits) → kind ≢ Kind.group4 → columns < 2 ^ 32
+    → PictureT4 kind columns rows bits → PictureT4 kind columns others (bits ++ more) → rows ≡ others
 
 -- ---- after EOFB
 
--- a run of Group 4 comes from one state between lines to another
+-- the reading of T.6 data comes from one state between lines to another
 pub data Reaches (settings : DecodeSettings) : Progress → Progress → Type 0 where
-  stays : (run : Progress) → Reaches settings run run
-  moves : (run after last : Progress) → move_group4 settings run ≡ Turn.next after → Reaches settings after last → Reaches settings run last
+  stays : (so_far : Progress) → Reaches settings so_far so_far
+  moves : (so_far after last : Progress) → move_group4 settings so_far ≡ Turn.next after → Reaches settings after last
+      → Reaches settings so_far last
 
--- the reading of Group 4 comes to a place between lines where two EOLs stand
+-- the reading of T.6 data comes to a place between lines where two EOLs stand
 abbrev pub ComesToEofb : DecodeSettings → Bits → Type 0
-ComesToEofb settings bits = (last : Progress) × Reaches settings (record { rows = []; has_eols = false; rest = bits }) last × ((eols 2 last.rest).0 ≡ 2)
+ComesToEofb settings bits = (last : Progress) × Reaches settings (start_group4 bits) last × ((eols 2 last.rest).0 ≡ 2)
 
--- where plain4 ended at two EOLs, what follows the bytes that it counted changes nothing
+-- Where T.6 data were read up to their EOFB, data with the same bytes so far are read the same (T.6, 2.4.1.1).
 abbrev pub AfterEofb : Type 0
-AfterEofb = (settings : DecodeSettings) (one two : List ℕ) (count : ℕ) → AreSettings settings → settings.encoding ≡ Group4 → settings.end_of_block ≡ true → 0 < settings.columns
-    → ComesToEofb settings (bits_of one) → (plain settings one).1 ≡ Ok count → take count two ≡ take count one → plain settings two ≡ plain settings one
+AfterEofb = (settings : DecodeSettings) (one two : List ℕ) (count : ℕ) → AreSettings settings
+    → settings.encoding ≡ Group4 → settings.end_of_block ≡ true → ComesToEofb settings (bits_of one)
+    → (plain settings one).1 ≡ Ok count → take count two ≡ take count one → plain settings two ≡ plain settings one
 
--- streams of one width and one alignment, one a beginning of the other
-abbrev pub OnePictureT6 : Type 0
-OnePictureT6 = (columns : ℕ) (aligned : Bool) (rows others : List Row) (bits more : Bits) → columns < 2 ^ 32 → PictureT6 columns aligned rows bits → PictureT6 columns aligned others (bits ++ more) → rows ≡ others
-
-abbrev pub OnePictureT4 : Type 0
-OnePictureT4 = (kind : Kind) (columns : ℕ) (rows others : List Row) (bits more : Bits) → columns < 2 ^ 32 → kind ≢ Kind.group4 → PictureT4 kind columns rows bits → PictureT4 kind columns others (bits ++ more) → rows ≡ others
+-- A T.6 picture comes to its EOFB.
+abbrev pub PicturesComeToEofb : Type 0
+PicturesComeToEofb = (settings : DecodeSettings) (rows : List Row) (bits more : Bits) (bytes : List ℕ) → AreSettings settings
+    → Allows settings (length rows) → PictureT6 settings.columns settings.rows_are_byte_aligned rows bits
+    → bits_of bytes ≡ bits ++ more → ComesToEofb settings (bits_of bytes)
 
 -- ---- rows and their changes
 
 -- a lawful list of changes is a row of the width, and that row's changes
 abbrev pub RowsOfChanges : Type 0
-RowsOfChanges = (width : ℕ) (places : List ℕ) → AreChanges width places → (length (pixels width places) ≡ width) × (changes (pixels width places) ≡ places)
+RowsOfChanges = (width : ℕ) (places : List ℕ) → AreChanges width places
+    → (length (pixels width places) ≡ width) × (changes (pixels width places) ≡ places)
 
 -- the changes of a row are lawful, and stand for the row
 abbrev pub ChangesOfRows : Type 0

@@ -12,6 +12,7 @@ pub mod Laws
 pub mod Lending
 pub mod Lines
 pub mod Locality
+pub mod Pictures
 pub mod PlainReading
 pub mod Repetition
 pub mod Rows

@@ -1,5 +1,7 @@
 -- One-dimensional lenient data with EOLs: lines by EOLs, and how far damage reaches.
-use Rattle.std.specs.Prelude.{◌≡◌, ◌≢◌, ℕ, suc, ◌+◌, ◌-◌, ◌<◌, ◌≤◌, Bool, true, false, not, ◌&&◌, List, [], ◌∷◌, ◌++◌, length, take, drop, replicate, map, set, nat_le, ◌⊎◌, Some, is_some, Ok, Err, IsOk, All, Contains, ◌↔◌, None, if◌then◌else◌}
+use Rattle.std.specs.Prelude.{◌≡◌, ◌≢◌, ℕ, suc, ◌+◌, ◌-◌, ◌<◌, ◌≤◌, nat_le, ◌⊎◌, ◌↔◌, Some, None, is_some, Ok, Err, IsOk}
+use Rattle.std.specs.Prelude.{Bool, true, false, not, ◌&&◌, if◌then◌else◌}
+use Rattle.std.specs.Prelude.{List, [], ◌∷◌, ◌++◌, length, take, drop, replicate, map, set, All, Contains}
 use Rattle.hayro_ccitt.specs.declared.error.DecodeError.{DecodeError}
 use Rattle.hayro_ccitt.specs.declared.settings.EncodingMode.TheVariants.{Group3_1D}
 use Rattle.hayro_ccitt.specs.declared.settings.DecodeSettings.{DecodeSettings}
@@ -31,19 +33,27 @@ abbrev pub row_of : ℕ → Line → Row
 row_of columns (Line.whole row rest) = row
 row_of columns (Line.broken front fault) = front ++ replicate (columns - length front) false
 
+-- the row of the line that stands here
 abbrev pub row_at : ℕ → Bits → Row
 row_at columns here = row_of columns (line_1d false columns here)
 
--- where an EOL stands at or after a line's start and the line is whole, it ends with eleven zeros of the EOL left
-abbrev pub StaysBefore : ℕ → Bits → Type 0
-StaysBefore columns here = (found after : Bits) → next_eol here ≡ Some found → after_eol 0 found ≡ Some after → (row : Row) (rest : Bits) → line_1d false columns here ≡ Line.whole row rest → length after + 12 ≤ length rest
+-- a line that is whole ends before the last twelve bits of an EOL, where `after` is what follows that
+abbrev pub EndsBefore : ℕ → Bits → Bits → Type 0
+EndsBefore columns after here = (row : Row) (rest : Bits)
+    → line_1d false columns here ≡ Line.whole row rest → length after + 12 ≤ length rest
 
+-- the line here ends before the last twelve bits of the next EOL, if there is one
+abbrev pub StaysBefore : ℕ → Bits → Type 0
+StaysBefore columns here = (found after : Bits)
+    → next_eol here ≡ Some found → after_eol 0 found ≡ Some after → EndsBefore columns after here
+
+-- an EOL stands here
 abbrev pub IsEolAt : Bits → Type 0
 IsEolAt here = (after : Bits) × (after_eol 0 here ≡ Some after)
 
--- an EOL stands at one place, and ends at another
+-- an EOL stands at one place, and ends at another within the data
 abbrev pub IsEol : Bits → ℕ → ℕ → Type 0
-IsEol bits place end = (place < end) × (after_eol 0 (drop place bits) ≡ Some (drop end bits))
+IsEol bits place end = (place < end) × (end ≤ length bits) × (after_eol 0 (drop place bits) ≡ Some (drop end bits))
 
 -- the place where the EOLs at the front of the data end
 abbrev pub first_start : Bits → ℕ
@@ -51,13 +61,16 @@ first_start bits = length bits - length (all_eols bits).1
 
 -- a line begins past the EOLs at the front, and at each later place below the end where an EOL ends and none begins
 abbrev pub IsStart : Bits → ℕ → Type 0
-IsStart bits place = (place ≡ first_start bits) ⊎ ((first_start bits < place) × (place < length bits) × ((at : ℕ) × IsEol bits at place) × (after_eol 0 (drop place bits) ≡ None))
+IsStart bits place = (place ≡ first_start bits)
+    ⊎ ((first_start bits < place) × (place < length bits) × ((at : ℕ) × IsEol bits at place) × (after_eol 0 (drop place bits) ≡ None))
 
 -- each is longer than all that come after it
 abbrev pub Descends : List Bits → Type 0
 Descends [] = Unit {0}
 Descends (here ∷ rest) = All (λ other. length other < length here) rest × Descends rest
 
+-- If each line ends before the next EOL does, the first rows are those of the lines that begin behind EOLs, in order
+-- (T.4, 4.1.2).
 abbrev pub LinesByEols : Type 0
 LinesByEols = (settings : DecodeSettings) (bytes : List ℕ) → AreSettings settings
     → settings.encoding ≡ Group3_1D → settings.strict ≡ false → settings.end_of_block ≡ false → settings.rows ≡ 0 → 0 < settings.columns
@@ -65,22 +78,24 @@ LinesByEols = (settings : DecodeSettings) (bytes : List ℕ) → AreSettings set
     → All (StaysBefore settings.columns) (starts (bits_of bytes))
     → IsFront (map (row_at settings.columns) (starts (bits_of bytes))) (plain settings bytes).0
 
--- the starts are these places, in order
+-- The starts are these places, in order.
 abbrev pub StartsAre : Type 0
-StartsAre = (bits : Bits) → ((place : ℕ) → place ≤ length bits → (Contains (starts bits) (drop place bits) ↔ IsStart bits place)) × Descends (starts bits)
+StartsAre = (bits : Bits)
+    → ((place : ℕ) → place ≤ length bits → (Contains (starts bits) (drop place bits) ↔ IsStart bits place)) × Descends (starts bits)
 
 -- ---- locality
 
--- The body of a line, between two places, and the EOLs about it: see `body_is_local`.
+-- The body of a line lies between two places: an EOL ends where it begins, or the data do; it holds a one and no EOL;
+-- an EOL stands behind it, and the line ends before that.
 pub record IsLocal (settings : DecodeSettings) (bits : Bits) (from to : ℕ) : Type 0 where
   pub encoding : settings.encoding ≡ Group3_1D
   pub lenient : settings.strict ≡ false
   pub order : from ≤ to
   pub within : to ≤ length bits
   pub starts : (from ≡ 0) ⊎ ((place : ℕ) × IsEol bits place from)
-  pub one : (place : ℕ) × (from ≤ place) × (place < to) × ((more : Bits) × (drop place bits ≡ true ∷ more))
+  pub one : (place : ℕ) × (from ≤ place) × (place < to) × IsFront (true ∷ []) (drop place bits)
   pub no_eol : (place end : ℕ) → from ≤ place → end ≤ to → IsEol bits place end → ⊥
-  pub closes : (after : Bits) × (after_eol 0 (drop to bits) ≡ Some after) × ((row : Row) (rest : Bits) → line_1d false settings.columns (drop from bits) ≡ Line.whole row rest → length after + 12 ≤ length rest)
+  pub closes : (after : Bits) × (after_eol 0 (drop to bits) ≡ Some after) × EndsBefore settings.columns after (drop from bits)
 
 -- The same as tests of the bits: the twelve before `from`, the body, and what stands at `to`.
 pub record IsLocalByTests (settings : DecodeSettings) (bits : Bits) (from to : ℕ) : Type 0 where
@@ -91,34 +106,47 @@ pub record IsLocalByTests (settings : DecodeSettings) (bits : Bits) (from to : �
   pub starts : (from ≡ 0) ⊎ ((12 ≤ from) × (after_eol 0 (drop (from - 12) bits) ≡ Some (drop from bits)))
   pub one : take (to - from) (drop from bits) ≢ replicate (to - from) false
   pub no_eol : next_eol (take (to - from) (drop from bits)) ≡ None
-  pub closes : (after : Bits) × (after_eol 0 (drop to bits) ≡ Some after) × ((row : Row) (rest : Bits) → line_1d false settings.columns (drop from bits) ≡ Line.whole row rest → length after + 12 ≤ length rest)
+  pub closes : (after : Bits) × (after_eol 0 (drop to bits) ≡ Some after) × EndsBefore settings.columns after (drop from bits)
 
+-- The tests say whether a body is local.
 abbrev pub LocalByTests : Type 0
-LocalByTests = (settings : DecodeSettings) (bits : Bits) (from to : ℕ) → IsLocal settings bits from to ↔ IsLocalByTests settings bits from to
+LocalByTests = (settings : DecodeSettings) (bits : Bits) (from to : ℕ)
+    → IsLocal settings bits from to ↔ IsLocalByTests settings bits from to
 
 -- the last place of a run that ends without a fault
 abbrev pub LastPlace : DecodeSettings → List ℕ → ℕ → Type 0
-LastPlace settings bytes place = (rest : Bits) × ((end_of settings (bits_of bytes)).outcome ≡ Ok rest) × (place + length rest ≡ length (bits_of bytes))
+LastPlace settings bytes place = (rest : Bits)
+    × ((end_of settings (bits_of bytes)).outcome ≡ Ok rest) × (place + length rest ≡ length (bits_of bytes))
 
--- How two runs end, whose data differ in the line of one index, from a place on.
+-- some data are read with this count
+abbrev pub Counts : DecodeSettings → List ℕ → ℕ → Type 0
+Counts settings bytes count = (plain settings bytes).1 ≡ Ok count
+
+-- How the readings of two data end that differ in the line of one index, from a place on.
 pub data EndAlike (settings : DecodeSettings) (one two : List ℕ) (from index : ℕ) : Type 0 where
   -- both with the same fault
-  faults : (fault : DecodeError) → (plain settings one).1 ≡ Err fault → (plain settings two).1 ≡ Err fault → EndAlike settings one two from index
+  faults : (fault : DecodeError) → (plain settings one).1 ≡ Err fault → (plain settings two).1 ≡ Err fault
+      → EndAlike settings one two from index
   -- without columns
-  no_columns : (count : ℕ) → settings.columns ≡ 0 → (plain settings one).1 ≡ Ok count → (plain settings two).1 ≡ Ok count → EndAlike settings one two from index
+  no_columns : (count : ℕ) → settings.columns ≡ 0 → Counts settings one count → Counts settings two count
+      → EndAlike settings one two from index
   -- at the same place, at or before `from`, with the same count
-  before : (place count : ℕ) → place ≤ from → LastPlace settings one place → LastPlace settings two place → (plain settings one).1 ≡ Ok count → (plain settings two).1 ≡ Ok count → EndAlike settings one two from index
+  before : (place count : ℕ) → place ≤ from → LastPlace settings one place → LastPlace settings two place
+      → Counts settings one count → Counts settings two count → EndAlike settings one two from index
   -- after `from`, with counts that differ by as much as the lengths
-  past : (place place2 count count2 : ℕ) → from < place → from < place2 → LastPlace settings one place → LastPlace settings two place2 → (plain settings one).1 ≡ Ok count → (plain settings two).1 ≡ Ok count2
-      → count + length two ≡ count2 + length one → EndAlike settings one two from index
+  past : (place place2 count count2 : ℕ) → from < place → from < place2 → LastPlace settings one place → LastPlace settings two place2
+      → Counts settings one count → Counts settings two count2 → count + length two ≡ count2 + length one
+      → EndAlike settings one two from index
   -- at the limit, which is met by this very row
-  at_limit : (place place2 : ℕ) → settings.rows ≡ suc index → length (plain settings one).0 ≡ suc index → from ≤ place → from ≤ place2 → LastPlace settings one place → LastPlace settings two place2
+  at_limit : (place place2 : ℕ) → settings.rows ≡ suc index → length (plain settings one).0 ≡ suc index
+      → from ≤ place → from ≤ place2 → LastPlace settings one place → LastPlace settings two place2
       → IsOk (plain settings one).1 → IsOk (plain settings two).1 → EndAlike settings one two from index
 
 -- equally many rows, all but at most one of them equal
 abbrev pub OneRowDiffers : List Row → List Row → ℕ → Type 0
 OneRowDiffers rows others index = (row : Row) × (others ≡ set rows index row)
 
+-- Where two data differ within a local body alone, all their rows but the one of this body are equal, and they end alike.
 abbrev pub Locality : Type 0
 Locality = (settings : DecodeSettings) (one two : List ℕ) (from to to2 : ℕ) → AreSettings settings
     → take from (bits_of one) ≡ take from (bits_of two) → drop to (bits_of one) ≡ drop to2 (bits_of two)

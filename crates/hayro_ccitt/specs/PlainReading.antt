@@ -1,5 +1,5 @@
 -- The plain reading of whole data: rows, and how it ends.
-use Rattle.std.specs.Prelude.{ℕ, suc, ◌+◌, ◌-◌, ◌/◌, ◌%◌, Bool, true, false, not, ◌&&◌, ◌||◌, List, [], ◌∷◌, ◌++◌, length, drop, map, replicate, nat_le, nat_lt, ◌==◌, Option, Some, None, Result, Ok, Err, if◌then◌else◌}
+use Rattle.std.specs.Prelude.{ℕ, suc, ◌+◌, ◌-◌, ◌/◌, ◌%◌, Bool, true, false, not, ◌&&◌, ◌||◌, List, [], ◌∷◌, ◌++◌, length, drop, replicate, nat_le, nat_lt, ◌==◌, Option, Some, None, Result, Ok, Err, if◌then◌else◌}
 use Rattle.hayro_ccitt.specs.declared.error.DecodeError.{DecodeError}
 use Rattle.hayro_ccitt.specs.declared.error.DecodeError.TheVariants.{UnexpectedEof, InvalidCode}
 use Rattle.hayro_ccitt.specs.declared.settings.EncodingMode.{EncodingMode}
@@ -7,7 +7,7 @@ use Rattle.hayro_ccitt.specs.declared.settings.EncodingMode.TheVariants.{Group4,
 use Rattle.hayro_ccitt.specs.declared.settings.DecodeSettings.{DecodeSettings}
 use Rattle.hayro_ccitt.specs.Bits.{Bits, bits_of}
 use Rattle.hayro_ccitt.specs.Repetition.{Turn, repeated, gathered}
-use Rattle.hayro_ccitt.specs.Rows.{Row, changes}
+use Rattle.hayro_ccitt.specs.Rows.{Row}
 use Rattle.hayro_ccitt.specs.Lines.{Line, line_1d, line_2d}
 use Rattle.hayro_ccitt.specs.EndOfLine.{eols, all_eols, tagged_eols, next_eol}
 
@@ -218,22 +218,3 @@ lines_by Group3_2D settings bits = lines_from (move_group3 settings) (lines_of_m
 -- The lines that the plain reading reads, in order. The line of an index is read when so many rows stand.
 abbrev pub lines_of : DecodeSettings → List ℕ → List Line
 lines_of settings bytes = if settings.columns == 0 then [] else lines_by settings.encoding settings (bits_of bytes)
-
--- ---- For examples
-
--- settings in the order encoding, columns, rows, end of block, end of line, aligned, strict
-abbrev pub with_settings : EncodingMode → ℕ → ℕ → Bool → Bool → Bool → Bool → DecodeSettings
-with_settings encoding columns rows end_of_block end_of_line rows_are_byte_aligned strict =
-    record {
-      columns = columns;
-      rows = rows;
-      end_of_block = end_of_block;
-      end_of_line = end_of_line;
-      rows_are_byte_aligned = rows_are_byte_aligned;
-      encoding = encoding;
-      strict = strict;
-    }
-
--- an answer with its rows as changes
-abbrev pub shown : DecodeSettings → List ℕ → List (List ℕ) × Result ℕ DecodeError
-shown settings bytes = (map changes (plain settings bytes).0, (plain settings bytes).1)

@@ -97,6 +97,7 @@ impl DecoderContext {
     ghost use Rattle.std.specs.Borrow.{sem};
     ghost use Rattle.hayro_ccitt.specs.Context.{fresh, after_taking, continued};
     ghost use Rattle.hayro_ccitt.specs.Lending.{LendsTicks};
+    ghost use Rattle.hayro_ccitt.specs.Laws.{AreSettings};
 
     /// A context for images with these settings: a white reference row, nothing painted, no row taken. Its only
     /// refusal is `OutOfMemory`, and nothing is made then.
@@ -120,8 +121,12 @@ impl DecoderContext {
 
     /// The settings that the context was made with.
     pub fn settings(&self) -> DecodeSettings
-        ensures { result ≡ self.now.held.settings }
+        ensures value { result ≡ self.now.held.settings }
+        ensures fit { AreSettings result }
     {
+        // A number's range is known once it is read.
+        let _columns = self.settings.columns;
+        let _rows = self.settings.rows;
         self.settings
     }
 
@@ -275,16 +280,6 @@ impl DecoderContext {
         )
     }
 
-    /// The number of pixels from the end of the front up to b2. It takes no memory.
-    fn pixels_to_b2(&mut self) -> u32
-        ensures value { result ≡ b2 self.old.held.reference (right_of self.old.held.front) self.old.held.color - length self.old.held.front }
-        ensures held { self.new.held ≡ self.old.held }
-        ensures counts { self.old.ticks ≤ self.new.ticks }
-    {
-        let painted = self.pixels_decoded;
-        self.b2() - painted
-    }
-
     /// Hands the row over, continued in its last colour where it isn't full. On Ok it is the reference row, the
     /// front is empty, the colour is white and one more row was taken. Where the sink refuses, the context and
     /// the sink's meaning are as before. It takes no memory.
@@ -332,8 +327,8 @@ impl DecoderContext {
     {
         match mode {
             Mode::Pass => {
-                let to_b2 = self.pixels_to_b2();
-                self.push_pixels(to_b2)
+                let b2 = self.b2();
+                self.push_pixels(b2 - self.pixels_painted())
             }
             Mode::Vertical(offset) => {
                 let place = self

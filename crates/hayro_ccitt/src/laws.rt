@@ -3,58 +3,77 @@
 ghost use Rattle.std.specs.Prelude.{IsTrue};
 ghost use Rattle.hayro_ccitt.specs.CodeLists.{white_codes, black_codes, mode_codes};
 ghost use Rattle.hayro_ccitt.specs.CodeReading.{is_prefix_free};
-ghost use Rattle.hayro_ccitt.specs.Laws.{Synchronised, StrictThenLenient, RowLimit, ReadsPictureT6, ReadsLimitedRowsT6, ReadsPictureT4, ReadsLimitedPictureT4, ReadsLimitedRowsT4, AfterEofb, OnePictureT6, OnePictureT4, RowsOfChanges, ChangesOfRows};
+ghost use Rattle.hayro_ccitt.specs.Examples.{EncodesTwoLines, EncodesTaggedRows, HaveLocalBodies, ReadsDamage};
+ghost use Rattle.hayro_ccitt.specs.Laws.{each_word, has_few_zeros, Synchronised, StrictThenLenient, RowLimit};
+ghost use Rattle.hayro_ccitt.specs.Laws.{ReadsPictureT6, ReadsLimitedRowsT6, ReadsPictureT4, ReadsLimitedPictureT4, ReadsLimitedRowsT4};
+ghost use Rattle.hayro_ccitt.specs.Laws.{AfterEofb, PicturesComeToEofb, OnePictureT6, OnePictureT4};
+ghost use Rattle.hayro_ccitt.specs.Laws.{EveryPictureHasAnEncoding, BytesBeginWithAnyBits, RowsOfChanges, ChangesOfRows};
 ghost use Rattle.hayro_ccitt.specs.Locality.{LinesByEols, StartsAre, Locality, LocalByTests};
 
-/// No code word is a front of another one of its list.
-pub fn prefix_free()
+/// Code words hold few zeros. Each word of a run has at most seven at its front and three at its end, each word of a
+/// mode at most five and one; none has eight in a row, and each holds a one.
+pub fn code_words()
+    ensures white { IsTrue (each_word (has_few_zeros 7 3) white_codes) }
+    ensures black { IsTrue (each_word (has_few_zeros 7 3) black_codes) }
+    ensures mode { IsTrue (each_word (has_few_zeros 5 1) mode_codes) }
+{}
+
+/// The code words stay in step with EOLs. No word of a list is a front of another one. Words in a row, and a tag
+/// before them, never hold the eleven zeros of an EOL; so every word that the reading of a line finds ends before the
+/// one of each EOL that stands at or after the line's start.
+pub fn synchronised()
+    ensures law { Synchronised }
     ensures white { IsTrue (is_prefix_free white_codes) }
     ensures black { IsTrue (is_prefix_free black_codes) }
     ensures mode { IsTrue (is_prefix_free mode_codes) }
 {}
 
-/// The code words stay in step with EOLs.
-pub fn synchronised()
-    ensures { Synchronised }
-{}
-
+/// A strict reading gives the first rows of the lenient one; where it ends without a fault, both answer the same.
 pub fn strict_then_lenient()
     ensures { StrictThenLenient }
 {}
 
+/// A limit of rows gives as many of the first rows as it allows; with so many rows the reading ends without a fault.
 pub fn row_limit()
     ensures { RowLimit }
 {}
 
-/// A T.6 picture is read as its rows, closed by EOFB or by a limit.
+/// A T.6 picture is read as its rows, whatever follows: closed by EOFB, with the exact count of bytes; or ended by a
+/// limit of as many rows.
 pub fn t6_pictures()
     ensures closed { ReadsPictureT6 }
     ensures limited { ReadsLimitedRowsT6 }
 {}
 
-/// A T.4 picture is read as its rows, closed by RTC or by a limit.
+/// A T.4 picture is read as its rows, whatever follows: closed by RTC, with the exact count of bytes; or ended by a
+/// limit of as many rows, with EOLs before its lines or without.
 pub fn t4_pictures()
     ensures closed { ReadsPictureT4 }
     ensures limited { ReadsLimitedPictureT4 }
     ensures body { ReadsLimitedRowsT4 }
 {}
 
-/// Of two pictures of which one begins the other the rows are equal.
+/// Where one stream begins another, both closed and of one width, their pictures are the same.
 pub fn one_picture()
     ensures t6 { OnePictureT6 }
     ensures t4 { OnePictureT4 }
 {}
 
-/// What follows EOFB changes nothing.
+/// Where T.6 data were read up to their EOFB, as pictures are, data with the same bytes so far are read the same,
+/// whatever follows.
 pub fn after_eofb()
-    ensures { AfterEofb }
+    ensures law { AfterEofb }
+    ensures pictures { PicturesComeToEofb }
 {}
 
+/// One-dimensional lenient data with EOLs have the lines that begin behind their EOLs, each read by itself, as long as
+/// the lines stay before the next EOL.
 pub fn lines_by_eols()
     ensures rows { LinesByEols }
     ensures starts { StartsAre }
 {}
 
+/// In one-dimensional lenient data with EOLs, a change between two EOLs changes the one row there and no other.
 pub fn locality()
     ensures one_row { Locality }
     ensures tests { LocalByTests }
@@ -64,4 +83,19 @@ pub fn locality()
 pub fn changes_are_rows()
     ensures pixels { RowsOfChanges }
     ensures changes { ChangesOfRows }
+{}
+
+/// Every picture with a column has a T.6 encoding, and with a row a T.4 encoding of each kind, and bytes begin with any
+/// bits: the laws about encodings are about all pictures.
+pub fn every_picture_has_an_encoding()
+    ensures bits { EveryPictureHasAnEncoding }
+    ensures bytes { BytesBeginWithAnyBits }
+{}
+
+/// Examples: two lines of T.6, two of T.4 closed by RTC, and three bodies of which each may stand for the other.
+pub fn examples()
+    ensures t6 { EncodesTwoLines }
+    ensures t4 { EncodesTaggedRows }
+    ensures bodies { HaveLocalBodies }
+    ensures damage { ReadsDamage }
 {}

@@ -1,4 +1,4 @@
-use Rattle.std.proofs.Common.{arith, ◌≡◌, ◌≢◌, ◌+◌, ◌<◌, ◌≤◌, ◌*◌, ◌/◌, ℕ, List, length, take, drop, Result, Ok, Err, refl, sym, ap, ◌∙◌, subst}
+use Rattle.std.proofs.Common.{arith, ◌≡◌, ◌≢◌, ◌+◌, ◌<◌, ◌≤◌, ◌*◌, ◌/◌, ℕ, List, length, take, drop, Result, Ok, Err, IfErr, IsOk, refl, sym, ap, ◌∙◌, subst}
 use Rattle.std.proofs.lemmas.Result.{err_from_is_err_and}
 use Rattle.hayro_ccitt.specs.declared.error.DecodeError.{DecodeError}
 use Rattle.hayro_ccitt.specs.declared.error.DecodeError.TheVariants.{OutOfMemory, Refused}
@@ -8,10 +8,11 @@ use Rattle.hayro_ccitt.specs.Bits.{Bits, BitsAt, bits_of, here}
 use Rattle.hayro_ccitt.specs.Rows.{Row}
 use Rattle.hayro_ccitt.specs.Lines.{Line}
 use Rattle.hayro_ccitt.specs.Context.{Held}
+use Rattle.hayro_ccitt.specs.Laws.{AreSettings}
 use Rattle.hayro_ccitt.specs.Answers.{IsFault, PaintsBlack, meaning_after}
 use Rattle.hayro_ccitt.specs.PlainReading.{Answer, Ending, plain, plain_group4, lines_of, lines_by, bytes_before}
 use Rattle.hayro_ccitt.proofs.BitLists.{length-bits_of}
-use Rattle.hayro_ccitt.proofs.PlainAnswers.{counted, failed, failed-is, plain_is, lines_are, bytes_before-place, answer_or_fault}
+use Rattle.hayro_ccitt.proofs.PlainAnswers.{counted, failed, failed-is, plain_is, lines_are, bytes_before-place, picture_is, rows_are, picture_meaning, not_fault}
 use Rattle.hayro_ccitt.proofs.decode.Goals as goal
 
 pub returns-in_err-decode-clause-meaning : goal.returns-in_err-decode-clause-meaning
@@ -20,7 +21,7 @@ returns-in_err-decode-clause-meaning g c =
     let bytes = c.args.«data».now in
     let same_settings : c.restart.new.self.held.settings ≡ settings = ap (λ (h : Held). h.settings) c.restart.ensures.held in
     let same_bits : c.new-reader.result.bits ≡ bits_of bytes = ap (λ (at : BitsAt). at.bits) c.new-reader.ensures in
-    let some : settings.columns ≢ 0 = λ e. c.if-settings-eq0.false (ap (λ (s : DecodeSettings). s.columns) (c.settings.ensures ∙ same_settings) ∙ e) in
+    let some : settings.columns ≢ 0 = λ e. c.if-settings-eq0.false (ap (λ (s : DecodeSettings). s.columns) (c.settings.ensures.value ∙ same_settings) ∙ e) in
     let ending : plain_group4 c.restart.new.self.held.settings c.new-reader.result.bits ≡ plain_group4 settings (bits_of bytes)
     = ap (λ (s : DecodeSettings). plain_group4 s c.new-reader.result.bits) same_settings ∙ ap (plain_group4 settings) same_bits in
     let answer = plain_is settings bytes some c.requires.encoding in
@@ -37,7 +38,7 @@ returns-in_err-decode-clause-taken g c =
     let bytes = c.args.«data».now in
     let same_settings : c.restart.new.self.held.settings ≡ settings = ap (λ (h : Held). h.settings) c.restart.ensures.held in
     let same_bits : c.new-reader.result.bits ≡ bits_of bytes = ap (λ (at : BitsAt). at.bits) c.new-reader.ensures in
-    let some : settings.columns ≢ 0 = λ e. c.if-settings-eq0.false (ap (λ (s : DecodeSettings). s.columns) (c.settings.ensures ∙ same_settings) ∙ e) in
+    let some : settings.columns ≢ 0 = λ e. c.if-settings-eq0.false (ap (λ (s : DecodeSettings). s.columns) (c.settings.ensures.value ∙ same_settings) ∙ e) in
     let ending : plain_group4 c.restart.new.self.held.settings c.new-reader.result.bits ≡ plain_group4 settings (bits_of bytes)
     = ap (λ (s : DecodeSettings). plain_group4 s c.new-reader.result.bits) same_settings ∙ ap (plain_group4 settings) same_bits in
     let answer = plain_is settings bytes some c.requires.encoding in
@@ -53,7 +54,7 @@ returns-in_err-decode-clause-fault g c =
     let bytes = c.args.«data».now in
     let same_settings : c.restart.new.self.held.settings ≡ settings = ap (λ (h : Held). h.settings) c.restart.ensures.held in
     let same_bits : c.new-reader.result.bits ≡ bits_of bytes = ap (λ (at : BitsAt). at.bits) c.new-reader.ensures in
-    let some : settings.columns ≢ 0 = λ e. c.if-settings-eq0.false (ap (λ (s : DecodeSettings). s.columns) (c.settings.ensures ∙ same_settings) ∙ e) in
+    let some : settings.columns ≢ 0 = λ e. c.if-settings-eq0.false (ap (λ (s : DecodeSettings). s.columns) (c.settings.ensures.value ∙ same_settings) ∙ e) in
     let ending : plain_group4 c.restart.new.self.held.settings c.new-reader.result.bits ≡ plain_group4 settings (bits_of bytes)
     = ap (λ (s : DecodeSettings). plain_group4 s c.new-reader.result.bits) same_settings ∙ ap (plain_group4 settings) same_bits in
     let answer = plain_is settings bytes some c.requires.encoding in
@@ -70,7 +71,7 @@ returns-in_err-decode-clause-all g c =
     let bytes = c.args.«data».now in
     let same_settings : c.restart.new.self.held.settings ≡ settings = ap (λ (h : Held). h.settings) c.restart.ensures.held in
     let same_bits : c.new-reader.result.bits ≡ bits_of bytes = ap (λ (at : BitsAt). at.bits) c.new-reader.ensures in
-    let some : settings.columns ≢ 0 = λ e. c.if-settings-eq0.false (ap (λ (s : DecodeSettings). s.columns) (c.settings.ensures ∙ same_settings) ∙ e) in
+    let some : settings.columns ≢ 0 = λ e. c.if-settings-eq0.false (ap (λ (s : DecodeSettings). s.columns) (c.settings.ensures.value ∙ same_settings) ∙ e) in
     let ending : plain_group4 c.restart.new.self.held.settings c.new-reader.result.bits ≡ plain_group4 settings (bits_of bytes)
     = ap (λ (s : DecodeSettings). plain_group4 s c.new-reader.result.bits) same_settings ∙ ap (plain_group4 settings) same_bits in
     let answer = plain_is settings bytes some c.requires.encoding in
@@ -79,9 +80,7 @@ returns-in_err-decode-clause-all g c =
     let outcome : bytes_before (bits_of bytes) (plain_group4 c.restart.new.self.held.settings c.new-reader.result.bits).outcome ≡ (plain settings bytes).1
     = ap (λ (e : Ending). bytes_before (bits_of bytes) e.outcome) ending ∙ sym (ap (λ (a : Answer). a.1) answer) in
     let fault = err_from_is_err_and c.from_residual.result c.from_residual.ensures.1 in
-    rw (fault.1, fault.2) (λ no_memory not_refused.
-    c.in_err-decode.ensures.all (answer_or_fault c.in_err-decode.field-0.0 (λ e. no_memory (ap failed e)) (λ e. not_refused (ap failed e)))
-    ∙ ap (λ (rs : List Row). length rs) rows)
+    rw (fault.1, fault.2) (λ f. c.in_err-decode.ensures.all f ∙ ap (λ (rs : List Row). length rs) rows)
 
 pub returns-in_err-decode-clause-memory : goal.returns-in_err-decode-clause-memory
 returns-in_err-decode-clause-memory g c =
@@ -89,7 +88,7 @@ returns-in_err-decode-clause-memory g c =
     let bytes = c.args.«data».now in
     let same_settings : c.restart.new.self.held.settings ≡ settings = ap (λ (h : Held). h.settings) c.restart.ensures.held in
     let same_bits : c.new-reader.result.bits ≡ bits_of bytes = ap (λ (at : BitsAt). at.bits) c.new-reader.ensures in
-    let some : settings.columns ≢ 0 = λ e. c.if-settings-eq0.false (ap (λ (s : DecodeSettings). s.columns) (c.settings.ensures ∙ same_settings) ∙ e) in
+    let some : settings.columns ≢ 0 = λ e. c.if-settings-eq0.false (ap (λ (s : DecodeSettings). s.columns) (c.settings.ensures.value ∙ same_settings) ∙ e) in
     let ending : plain_group4 c.restart.new.self.held.settings c.new-reader.result.bits ≡ plain_group4 settings (bits_of bytes)
     = ap (λ (s : DecodeSettings). plain_group4 s c.new-reader.result.bits) same_settings ∙ ap (plain_group4 settings) same_bits in
     let answer = plain_is settings bytes some c.requires.encoding in
@@ -109,7 +108,7 @@ returns-in_err-decode-clause-refused g c =
     let bytes = c.args.«data».now in
     let same_settings : c.restart.new.self.held.settings ≡ settings = ap (λ (h : Held). h.settings) c.restart.ensures.held in
     let same_bits : c.new-reader.result.bits ≡ bits_of bytes = ap (λ (at : BitsAt). at.bits) c.new-reader.ensures in
-    let some : settings.columns ≢ 0 = λ e. c.if-settings-eq0.false (ap (λ (s : DecodeSettings). s.columns) (c.settings.ensures ∙ same_settings) ∙ e) in
+    let some : settings.columns ≢ 0 = λ e. c.if-settings-eq0.false (ap (λ (s : DecodeSettings). s.columns) (c.settings.ensures.value ∙ same_settings) ∙ e) in
     let ending : plain_group4 c.restart.new.self.held.settings c.new-reader.result.bits ≡ plain_group4 settings (bits_of bytes)
     = ap (λ (s : DecodeSettings). plain_group4 s c.new-reader.result.bits) same_settings ∙ ap (plain_group4 settings) same_bits in
     let answer = plain_is settings bytes some c.requires.encoding in
@@ -127,7 +126,7 @@ returns-clause-meaning g c =
     let bytes = c.args.«data».now in
     let same_settings : c.restart.new.self.held.settings ≡ settings = ap (λ (h : Held). h.settings) c.restart.ensures.held in
     let same_bits : c.new-reader.result.bits ≡ bits_of bytes = ap (λ (at : BitsAt). at.bits) c.new-reader.ensures in
-    let some : settings.columns ≢ 0 = λ e. c.if-settings-eq0.false (ap (λ (s : DecodeSettings). s.columns) (c.settings.ensures ∙ same_settings) ∙ e) in
+    let some : settings.columns ≢ 0 = λ e. c.if-settings-eq0.false (ap (λ (s : DecodeSettings). s.columns) (c.settings.ensures.value ∙ same_settings) ∙ e) in
     let ending : plain_group4 c.restart.new.self.held.settings c.new-reader.result.bits ≡ plain_group4 settings (bits_of bytes)
     = ap (λ (s : DecodeSettings). plain_group4 s c.new-reader.result.bits) same_settings ∙ ap (plain_group4 settings) same_bits in
     let answer = plain_is settings bytes some c.requires.encoding in
@@ -144,7 +143,7 @@ returns-clause-taken g c =
     let bytes = c.args.«data».now in
     let same_settings : c.restart.new.self.held.settings ≡ settings = ap (λ (h : Held). h.settings) c.restart.ensures.held in
     let same_bits : c.new-reader.result.bits ≡ bits_of bytes = ap (λ (at : BitsAt). at.bits) c.new-reader.ensures in
-    let some : settings.columns ≢ 0 = λ e. c.if-settings-eq0.false (ap (λ (s : DecodeSettings). s.columns) (c.settings.ensures ∙ same_settings) ∙ e) in
+    let some : settings.columns ≢ 0 = λ e. c.if-settings-eq0.false (ap (λ (s : DecodeSettings). s.columns) (c.settings.ensures.value ∙ same_settings) ∙ e) in
     let ending : plain_group4 c.restart.new.self.held.settings c.new-reader.result.bits ≡ plain_group4 settings (bits_of bytes)
     = ap (λ (s : DecodeSettings). plain_group4 s c.new-reader.result.bits) same_settings ∙ ap (plain_group4 settings) same_bits in
     let answer = plain_is settings bytes some c.requires.encoding in
@@ -160,7 +159,7 @@ returns-clause-ok g c =
     let bytes = c.args.«data».now in
     let same_settings : c.restart.new.self.held.settings ≡ settings = ap (λ (h : Held). h.settings) c.restart.ensures.held in
     let same_bits : c.new-reader.result.bits ≡ bits_of bytes = ap (λ (at : BitsAt). at.bits) c.new-reader.ensures in
-    let some : settings.columns ≢ 0 = λ e. c.if-settings-eq0.false (ap (λ (s : DecodeSettings). s.columns) (c.settings.ensures ∙ same_settings) ∙ e) in
+    let some : settings.columns ≢ 0 = λ e. c.if-settings-eq0.false (ap (λ (s : DecodeSettings). s.columns) (c.settings.ensures.value ∙ same_settings) ∙ e) in
     let ending : plain_group4 c.restart.new.self.held.settings c.new-reader.result.bits ≡ plain_group4 settings (bits_of bytes)
     = ap (λ (s : DecodeSettings). plain_group4 s c.new-reader.result.bits) same_settings ∙ ap (plain_group4 settings) same_bits in
     let answer = plain_is settings bytes some c.requires.encoding in
@@ -183,7 +182,7 @@ returns-clause-all g c =
     let bytes = c.args.«data».now in
     let same_settings : c.restart.new.self.held.settings ≡ settings = ap (λ (h : Held). h.settings) c.restart.ensures.held in
     let same_bits : c.new-reader.result.bits ≡ bits_of bytes = ap (λ (at : BitsAt). at.bits) c.new-reader.ensures in
-    let some : settings.columns ≢ 0 = λ e. c.if-settings-eq0.false (ap (λ (s : DecodeSettings). s.columns) (c.settings.ensures ∙ same_settings) ∙ e) in
+    let some : settings.columns ≢ 0 = λ e. c.if-settings-eq0.false (ap (λ (s : DecodeSettings). s.columns) (c.settings.ensures.value ∙ same_settings) ∙ e) in
     let ending : plain_group4 c.restart.new.self.held.settings c.new-reader.result.bits ≡ plain_group4 settings (bits_of bytes)
     = ap (λ (s : DecodeSettings). plain_group4 s c.new-reader.result.bits) same_settings ∙ ap (plain_group4 settings) same_bits in
     let answer = plain_is settings bytes some c.requires.encoding in
@@ -191,7 +190,7 @@ returns-clause-all g c =
     = ap (λ (e : Ending). e.rows) ending ∙ sym (ap (λ (a : Answer). a.0) answer) in
     let outcome : bytes_before (bits_of bytes) (plain_group4 c.restart.new.self.held.settings c.new-reader.result.bits).outcome ≡ (plain settings bytes).1
     = ap (λ (e : Ending). bytes_before (bits_of bytes) e.outcome) ending ∙ sym (ap (λ (a : Answer). a.1) answer) in
-    λ no_memory not_refused. c.in_ok-decode.ensures.all ∙ ap (λ (rs : List Row). length rs) rows
+    c.in_ok-decode.ensures.all ∙ ap (λ (rs : List Row). length rs) rows
 
 pub returns-clause-within : goal.returns-clause-within
 returns-clause-within g c =
@@ -199,7 +198,7 @@ returns-clause-within g c =
     let bytes = c.args.«data».now in
     let same_settings : c.restart.new.self.held.settings ≡ settings = ap (λ (h : Held). h.settings) c.restart.ensures.held in
     let same_bits : c.new-reader.result.bits ≡ bits_of bytes = ap (λ (at : BitsAt). at.bits) c.new-reader.ensures in
-    let some : settings.columns ≢ 0 = λ e. c.if-settings-eq0.false (ap (λ (s : DecodeSettings). s.columns) (c.settings.ensures ∙ same_settings) ∙ e) in
+    let some : settings.columns ≢ 0 = λ e. c.if-settings-eq0.false (ap (λ (s : DecodeSettings). s.columns) (c.settings.ensures.value ∙ same_settings) ∙ e) in
     let ending : plain_group4 c.restart.new.self.held.settings c.new-reader.result.bits ≡ plain_group4 settings (bits_of bytes)
     = ap (λ (s : DecodeSettings). plain_group4 s c.new-reader.result.bits) same_settings ∙ ap (plain_group4 settings) same_bits in
     let answer = plain_is settings bytes some c.requires.encoding in
@@ -212,3 +211,55 @@ returns-clause-within g c =
     let aligned_place : c.align.new.self.place ≡ (place + 7) / 8 * 8 = ap (λ (at : BitsAt). at.place) c.align.ensures.moved in
     let aligned_bits : length c.align.new.self.bits ≡ length (bits_of bytes) = ap (λ (at : BitsAt). length at.bits) c.align.ensures.moved ∙ ap (λ (b : Bits). length b) same in
     omega (arith, c.align.ensures.within, aligned_bits, c.byte_pos.ensures, length-bits_of bytes)
+
+pub returns-then-settings-eq0-clause-picture : goal.returns-then-settings-eq0-clause-picture
+returns-then-settings-eq0-clause-picture g c =
+    let none : c.args.ctx.now.held.settings.columns ≡ 0
+    = ap (λ (s : DecodeSettings). s.columns) (sym (c.settings.ensures.value ∙ ap (λ (h : Held). h.settings) c.restart.ensures.held)) ∙ c.if-settings-eq0.true in
+    λ rows bits begins. absurd (omega (arith, begins.picture.1.0, none))
+
+pub returns-then-settings-eq0-clause-limited : goal.returns-then-settings-eq0-clause-limited
+returns-then-settings-eq0-clause-limited g c =
+    let none : c.args.ctx.now.held.settings.columns ≡ 0
+    = ap (λ (s : DecodeSettings). s.columns) (sym (c.settings.ensures.value ∙ ap (λ (h : Held). h.settings) c.restart.ensures.held)) ∙ c.if-settings-eq0.true in
+    λ rows bits begins. absurd (omega (arith, begins.picture.0, none))
+
+pub returns-in_err-decode-clause-picture : goal.returns-in_err-decode-clause-picture
+returns-in_err-decode-clause-picture g c =
+    let fault = err_from_is_err_and c.from_residual.result c.from_residual.ensures.1 in
+    let told : IsFault fault.0 → (plain c.args.ctx.now.held.settings c.args.«data».now).1 ≡ failed fault.0
+    = subst (λ (r : Result ℕ DecodeError). IfErr r (λ e. IsFault e → (plain c.args.ctx.now.held.settings c.args.«data».now).1 ≡ Err e)) fault.1 (returns-in_err-decode-clause-fault g c) in
+    let small : AreSettings c.args.ctx.now.held.settings = subst AreSettings (c.settings.ensures.value ∙ ap (λ (h : Held). h.settings) c.restart.ensures.held) c.settings.ensures.fit in
+    λ rows bits begins.
+    let is = picture_is c.args.ctx.now.held.settings rows bits c.args.«data».now small begins in
+    rw fault.1 (λ f. absurd (not_fault _ fault.0 (subst (λ (a : Answer). IsOk a.1) (sym is) refl) (told f)))
+
+pub returns-in_err-decode-clause-limited : goal.returns-in_err-decode-clause-limited
+returns-in_err-decode-clause-limited g c =
+    let fault = err_from_is_err_and c.from_residual.result c.from_residual.ensures.1 in
+    let told : IsFault fault.0 → (plain c.args.ctx.now.held.settings c.args.«data».now).1 ≡ failed fault.0
+    = subst (λ (r : Result ℕ DecodeError). IfErr r (λ e. IsFault e → (plain c.args.ctx.now.held.settings c.args.«data».now).1 ≡ Err e)) fault.1 (returns-in_err-decode-clause-fault g c) in
+    let small : AreSettings c.args.ctx.now.held.settings = subst AreSettings (c.settings.ensures.value ∙ ap (λ (h : Held). h.settings) c.restart.ensures.held) c.settings.ensures.fit in
+    λ rows bits begins.
+    let gives = rows_are c.args.ctx.now.held.settings rows bits c.args.«data».now small begins in
+    rw fault.1 (λ f. absurd (not_fault _ fault.0 gives.1 (told f)))
+
+pub returns-clause-picture : goal.returns-clause-picture
+returns-clause-picture g c =
+    let small : AreSettings c.args.ctx.now.held.settings = subst AreSettings (c.settings.ensures.value ∙ ap (λ (h : Held). h.settings) c.restart.ensures.held) c.settings.ensures.fit in
+    λ rows bits begins.
+    let is = picture_is c.args.ctx.now.held.settings rows bits c.args.«data».now small begins in (
+      sym (returns-clause-ok g c) ∙ ap (λ (a : Answer). a.1) is,
+      picture_meaning (g.D.Decoder.step (g.D.Decoder.width c.args.decoder.now)) (g.D.Decoder.meaning c.args.decoder.now) _ (plain c.args.ctx.now.held.settings c.args.«data».now) rows
+          c.decode.new.ctx.held.rows (ap (λ (a : Answer). a.0) is) (returns-clause-all g c) (returns-clause-meaning g c),
+    )
+
+pub returns-clause-limited : goal.returns-clause-limited
+returns-clause-limited g c =
+    let small : AreSettings c.args.ctx.now.held.settings = subst AreSettings (c.settings.ensures.value ∙ ap (λ (h : Held). h.settings) c.restart.ensures.held) c.settings.ensures.fit in
+    λ rows bits begins.
+    let gives = rows_are c.args.ctx.now.held.settings rows bits c.args.«data».now small begins in (
+      refl,
+      picture_meaning (g.D.Decoder.step (g.D.Decoder.width c.args.decoder.now)) (g.D.Decoder.meaning c.args.decoder.now) _ (plain c.args.ctx.now.held.settings c.args.«data».now) rows
+          c.decode.new.ctx.held.rows gives.0 (returns-clause-all g c) (returns-clause-meaning g c),
+    )

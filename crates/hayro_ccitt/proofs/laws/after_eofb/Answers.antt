@@ -1,5 +1,9 @@
-use Rattle.hayro_ccitt.proofs.AfterEofb.{after_eofb_lem}
+use Rattle.hayro_ccitt.proofs.AfterEofb.{after_eofb as the_lemma}
+use Rattle.hayro_ccitt.proofs.PicturesT6.{pictures_come_to_eofb}
 use Rattle.hayro_ccitt.proofs.laws.after_eofb.Goals as goal
 
-pub returns : goal.returns
-returns c = after_eofb_lem
+pub returns-clause-law : goal.returns-clause-law
+returns-clause-law c = the_lemma
+
+pub returns-clause-pictures : goal.returns-clause-pictures
+returns-clause-pictures c = pictures_come_to_eofb

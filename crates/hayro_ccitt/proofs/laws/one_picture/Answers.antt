@@ -1,9 +1,9 @@
-use Rattle.hayro_ccitt.proofs.PicturesT6.{one_picture_lem}
-use Rattle.hayro_ccitt.proofs.PicturesT4.{one_picture3_lem}
+use Rattle.hayro_ccitt.proofs.PicturesT6.{one_picture_t6}
+use Rattle.hayro_ccitt.proofs.PicturesT4.{one_picture_t4}
 use Rattle.hayro_ccitt.proofs.laws.one_picture.Goals as goal
 
 pub returns-clause-t6 : goal.returns-clause-t6
-returns-clause-t6 c = one_picture_lem
+returns-clause-t6 c = one_picture_t6
 
 pub returns-clause-t4 : goal.returns-clause-t4
-returns-clause-t4 c = one_picture3_lem
+returns-clause-t4 c = one_picture_t4

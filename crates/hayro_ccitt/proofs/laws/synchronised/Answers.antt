@@ -1,5 +1,5 @@
-use Rattle.hayro_ccitt.proofs.ZerosInWords.{synchronised_lem}
+use Rattle.hayro_ccitt.proofs.WordsFound.{words_synchronised}
 use Rattle.hayro_ccitt.proofs.laws.synchronised.Goals as goal
 
-pub returns : goal.returns
-returns c = synchronised_lem
+pub returns-clause-law : goal.returns-clause-law
+returns-clause-law c = words_synchronised

@@ -1,12 +1,12 @@
-use Rattle.hayro_ccitt.proofs.PicturesT4.{closed_picture3_lem, limited_picture3_lem}
-use Rattle.hayro_ccitt.proofs.BodiesT4.{limited_body3_lem}
+use Rattle.hayro_ccitt.proofs.PicturesT4.{closed_picture_t4, limited_picture_t4}
+use Rattle.hayro_ccitt.proofs.BodiesT4.{limited_rows_t4}
 use Rattle.hayro_ccitt.proofs.laws.t4_pictures.Goals as goal
 
 pub returns-clause-closed : goal.returns-clause-closed
-returns-clause-closed c = closed_picture3_lem
+returns-clause-closed c = closed_picture_t4
 
 pub returns-clause-limited : goal.returns-clause-limited
-returns-clause-limited c = limited_picture3_lem
+returns-clause-limited c = limited_picture_t4
 
 pub returns-clause-body : goal.returns-clause-body
-returns-clause-body c = limited_body3_lem
+returns-clause-body c = limited_rows_t4

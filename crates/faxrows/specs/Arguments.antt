@@ -1,0 +1,72 @@
+-- What the words of a call mean: a mode, the columns, the rows, and flags.
+use Rattle.std.specs.Prelude.{ℕ, Bool, ◌&&◌, ◌||◌, List, [], ◌∷◌, length, count_by, nat_lt, nat_le, ◌==◌, Option, Some, None, option_and_then, if◌then◌else◌, codes, bytes_eq}
+use Rattle.std.specs.List.{list_all}
+use Rattle.std.specs.Char.{is_ascii_digit}
+use Rattle.std.specs.Str.Parse.{digits_value}
+use Rattle.hayro_ccitt.specs.declared.settings.EncodingMode.{EncodingMode}
+use Rattle.hayro_ccitt.specs.declared.settings.EncodingMode.TheVariants.{Group4}
+use Rattle.hayro_ccitt.specs.declared.settings.DecodeSettings.{DecodeSettings}
+
+-- what follows where there is a value
+infixl 10 ◌>>=◌
+abbrev pub ◌>>=◌ : {A B : Type 0} → Option A → (A → Option B) → Option B
+o >>= next = option_and_then next o
+
+-- the encoding that a word names
+abbrev pub mode_of : List ℕ → Option EncodingMode
+mode_of word =
+    if bytes_eq word (codes "g4") then Some Group4
+    else None
+
+-- one to ten digits
+abbrev pub are_digits : List ℕ → Bool
+are_digits word = nat_lt 0 (length word) && nat_le (length word) 10 && list_all is_ascii_digit word
+
+-- the number of 32 bits that a word of one to ten digits writes
+abbrev pub number_of : List ℕ → Option ℕ
+number_of word = if are_digits word && nat_le (digits_value 10 word) 4294967295 then Some (digits_value 10 word) else None
+
+-- how often a letter stands in a word
+abbrev pub times : ℕ → List ℕ → ℕ
+times letter word = count_by (λ byte. byte == letter) word
+
+-- the letters that stand for flags: b, l, a and s
+abbrev pub is_flag : ℕ → Bool
+is_flag letter = (letter == 98) || (letter == 108) || (letter == 97) || (letter == 115)
+
+-- no letter that stands for a flag stands twice
+abbrev pub are_apart : List ℕ → Bool
+are_apart word = nat_le (times 98 word) 1 && nat_le (times 108 word) 1 && nat_le (times 97 word) 1 && nat_le (times 115 word) 1
+
+-- a word of flags is `-`, or one or more letters that stand for flags, none of them twice
+abbrev pub are_flags : List ℕ → Bool
+are_flags word = bytes_eq word (codes "-") || (nat_lt 0 (length word) && list_all is_flag word && are_apart word)
+
+-- a letter stands in a word
+abbrev pub has_flag : ℕ → List ℕ → Bool
+has_flag letter word = nat_lt 0 (times letter word)
+
+-- the settings with these numbers and flags
+abbrev pub settings_with : EncodingMode → ℕ → ℕ → List ℕ → DecodeSettings
+settings_with encoding columns rows flags = record {
+  columns = columns;
+  rows = rows;
+  end_of_block = has_flag 98 flags;
+  end_of_line = has_flag 108 flags;
+  rows_are_byte_aligned = has_flag 97 flags;
+  encoding = encoding;
+  strict = has_flag 115 flags;
+}
+
+-- the settings that four words mean
+abbrev pub settings_of_four : List ℕ → List ℕ → List ℕ → List ℕ → Option DecodeSettings
+settings_of_four mode columns rows flags = do
+  encoding ← mode_of mode
+  width ← number_of columns
+  limit ← number_of rows
+  if are_flags flags then Some (settings_with encoding width limit flags) else None
+
+-- the settings that the words of a call mean, if they mean any
+abbrev pub settings_of_words : List (List ℕ) → Option DecodeSettings
+settings_of_words (mode ∷ columns ∷ rows ∷ flags ∷ []) = settings_of_four mode columns rows flags
+settings_of_words _ = None

@@ -1,0 +1,12 @@
+-- What the faults of a run print.
+use Rattle.std.specs.Prelude.{ℕ, List, codes}
+use Rattle.faxrows.specs.declared.program.RunFault.{RunFault}
+use Rattle.faxrows.specs.declared.program.RunFault.TheVariants.{BadArguments, Read, Memory, TooLong, Write}
+
+-- the text of a fault
+abbrev pub text_of_fault : RunFault → List ℕ
+text_of_fault BadArguments = codes "bad arguments"
+text_of_fault Read = codes "cannot read"
+text_of_fault Memory = codes "out of memory"
+text_of_fault TooLong = codes "input too long"
+text_of_fault Write = codes "cannot write"

@@ -1,0 +1,107 @@
+//! The words of a call, and the settings that they mean.
+
+ghost use Rattle.std.specs.Prelude.{◌≡◌, map, string_bytes};
+ghost use Rattle.std.specs.Char.{is_ascii_digit};
+ghost use Rattle.std.specs.List.{list_all};
+ghost use Rattle.faxrows.specs.Arguments.{settings_of_words, mode_of, number_of, are_digits, are_flags, times, has_flag, is_flag, are_apart};
+
+use hayro_ccitt::{DecodeSettings, EncodingMode};
+
+/// The settings that the words of a call mean: a mode, the columns, the rows and the flags.
+pub fn settings_of(words: &[String]) -> Option<DecodeSettings>
+    ensures { result ≡ settings_of_words (map string_bytes words.now) }
+{
+    let [mode, columns, rows, flags] = words else {
+        return None;
+    };
+    let encoding = mode_of(mode.as_str())?;
+    let columns = number_of(columns.as_str())?;
+    let rows = number_of(rows.as_str())?;
+    let flags = flags.as_bytes();
+    if !are_flags(flags) {
+        return None;
+    }
+    Some(DecodeSettings {
+        columns,
+        rows,
+        end_of_block: has_flag(flags, b'b'),
+        end_of_line: has_flag(flags, b'l'),
+        rows_are_byte_aligned: has_flag(flags, b'a'),
+        encoding,
+        strict: has_flag(flags, b's'),
+    })
+}
+
+/// The encoding that a word names.
+fn mode_of(word: &str) -> Option<EncodingMode>
+    ensures { result ≡ mode_of word.now }
+{
+    match word {
+        "g4" => Some(EncodingMode::Group4),
+        _ => None,
+    }
+}
+
+/// The number that a word of one to ten digits writes, if it is one of 32 bits.
+fn number_of(word: &str) -> Option<u32>
+    ensures { result ≡ number_of word.now }
+{
+    if !are_digits(word) {
+        return None;
+    }
+    word.parse().ok()
+}
+
+/// Whether a word is one to ten digits.
+fn are_digits(word: &str) -> bool
+    ensures { result ≡ are_digits word.now }
+{
+    !word.is_empty() && word.len() <= 10 && are_all_digits(word.as_bytes())
+}
+
+/// Whether all bytes of a word are digits.
+fn are_all_digits(word: &[u8]) -> bool
+    ensures { result ≡ list_all is_ascii_digit word.now }
+{
+    word.iter().all(|byte| byte.is_ascii_digit())
+}
+
+/// How often a byte stands in a word.
+fn times(word: &[u8], letter: u8) -> usize
+    ensures { result ≡ times letter word.now }
+{
+    word.iter().filter(|byte| **byte == letter).count()
+}
+
+/// Whether a word is `-`, or one or more of the letters b, l, a and s, none of them twice.
+fn are_flags(word: &[u8]) -> bool
+    ensures { result ≡ are_flags word.now }
+{
+    let is_none = word == b"-".as_slice();
+    is_none || (!word.is_empty() && are_letters(word) && are_apart(word))
+}
+
+/// Whether a word has only letters that stand for flags.
+fn are_letters(word: &[u8]) -> bool
+    ensures { result ≡ list_all is_flag word.now }
+{
+    word.iter()
+        .all(|byte| matches!(*byte, b'b' | b'l' | b'a' | b's'))
+}
+
+/// Whether no letter that stands for a flag stands twice in a word.
+fn are_apart(word: &[u8]) -> bool
+    ensures { result ≡ are_apart word.now }
+{
+    times(word, b'b') <= 1
+        && times(word, b'l') <= 1
+        && times(word, b'a') <= 1
+        && times(word, b's') <= 1
+}
+
+/// Whether a letter stands in a word.
+fn has_flag(word: &[u8], letter: u8) -> bool
+    ensures { result ≡ has_flag letter word.now }
+{
+    times(word, letter) > 0
+}

@@ -1,0 +1,183 @@
+//! A run of the program: all that a reader has is decoded, and written as text.
+
+ghost use Rattle.std.specs.Prelude.{◌≡◌, ◌++◌, ◌↔◌, ◌≢◌, ◌≤◌, ◌<◌, IfOk, IfErr, OnOk, OnErr, IfSome, IsOk, IsErr, true, false, length, map, string_bytes, None, Ok, Err, List, ℕ};
+ghost use Rattle.std.specs.Io.KnownBytes.{Appends, IsAtEnd};
+ghost use Rattle.hayro_ccitt.specs.Bits.{BitsFit};
+ghost use Rattle.faxrows.specs.Arguments.{settings_of_words};
+ghost use Rattle.faxrows.specs.Text.{line_of_outcome};
+ghost use Rattle.faxrows.specs.Runs.{OnKnown, IsFrontText, whole_text, rows_of, outcome_of, done_of};
+
+use crate::arguments::settings_of;
+use crate::device::Device;
+use crate::last_line::{ROOM, error_line, put_ok};
+use crate::text_sink::TextSink;
+use hayro_ccitt::{DecodeError, DecoderContext, decode};
+use std::alloc::Global;
+use std::fmt;
+use std::io::{Read, Write};
+
+/// How a run ended that wrote its text.
+#[derive(Debug, Clone, Copy, PartialEq, Eq)]
+pub enum Done {
+    /// The data was decoded.
+    Good,
+    /// The data is at fault. The rows before the fault were written.
+    Faulty,
+    /// There was no memory to go on. The rows that were taken were written.
+    Memory,
+}
+
+/// Why a run ended without its text.
+#[derive(Debug, Clone, Copy, PartialEq, Eq)]
+pub enum RunFault {
+    /// The words mean no settings. Nothing was read or written.
+    BadArguments,
+    /// The reader failed. Nothing was written.
+    Read,
+    /// There was no memory to begin. Nothing was written.
+    Memory,
+    /// There are more bytes than can be decoded. Nothing was written.
+    TooLong,
+    /// The writer failed.
+    Write,
+}
+
+impl fmt::Display for RunFault {
+    ghost use Rattle.std.specs.Prelude.{Some};
+    ghost use Rattle.faxrows.specs.Faults.{text_of_fault};
+
+    ghost output = { λ fault. Some (text_of_fault fault) };
+
+    fn fmt<W: fmt::Write>(&self, f: &mut fmt::Formatter<W>) -> fmt::Result {
+        f.write_str(match self {
+            RunFault::BadArguments => "bad arguments",
+            RunFault::Read => "cannot read",
+            RunFault::Memory => "out of memory",
+            RunFault::TooLong => "input too long",
+            RunFault::Write => "cannot write",
+        })
+    }
+}
+
+/// Reads all that the reader has, decodes it with the settings that the words mean, and writes a line for each
+/// row, and then a line that says how the decoding ended.
+pub fn run<R: Read, W: Write>(
+    alloc: Global,
+    words: &[String],
+    reader: &mut Device<R>,
+    writer: &mut Device<W>,
+) -> std::result::Result<Done, RunFault>
+    ensures bad_arguments { (result ≡ Err RunFault.BadArguments) ↔ (settings_of_words (map string_bytes words.now) ≡ None) }
+    ensures unread { result ≡ Err RunFault.BadArguments → reader.new ≡ reader.old }
+    ensures unwritten { IfErr result (λ fault. fault ≢ RunFault.Write → writer.new ≡ writer.old) }
+    ensures good { result ≡ Ok Done.Good → OnKnown (settings_of_words (map string_bytes words.now)) (R.remaining reader.old.0)
+        (λ settings input. Appends (W.contents writer.old.0) (W.contents writer.new.0) (whole_text settings input)) }
+    ensures good_outcome { result ≡ Ok Done.Good → OnKnown (settings_of_words (map string_bytes words.now)) (R.remaining reader.old.0)
+        (λ settings input. IsOk (outcome_of settings input)) }
+    ensures faulty { result ≡ Ok Done.Faulty → OnKnown (settings_of_words (map string_bytes words.now)) (R.remaining reader.old.0)
+        (λ settings input. Appends (W.contents writer.old.0) (W.contents writer.new.0) (whole_text settings input)) }
+    ensures faulty_outcome { result ≡ Ok Done.Faulty → OnKnown (settings_of_words (map string_bytes words.now)) (R.remaining reader.old.0)
+        (λ settings input. IsErr (outcome_of settings input)) }
+    ensures memory { result ≡ Ok Done.Memory → OnKnown (settings_of_words (map string_bytes words.now)) (R.remaining reader.old.0)
+        (λ settings input. (text : List ℕ) × IsFrontText (rows_of settings input) text × Appends (W.contents writer.old.0) (W.contents writer.new.0) text) }
+    ensures drained { IfOk result (λ _. IsAtEnd (R.remaining reader.new.0)) }
+    ensures fit { IfOk result (λ _. IfSome (R.remaining reader.old.0) BitsFit) }
+    ensures too_long { result ≡ Err RunFault.TooLong → IfSome (R.remaining reader.old.0) (λ input. ¬ (BitsFit input)) }
+    ensures read { reader.old.1 ≡ false → ((result ≡ Err RunFault.Read) ↔ (reader.new.1 ≡ true)) }
+    ensures write { writer.old.1 ≡ false → ((result ≡ Err RunFault.Write) ↔ (writer.new.1 ≡ true)) }
+{
+    let Some(settings) = settings_of(words) else {
+        return Err(RunFault::BadArguments);
+    };
+    let input = read_all(alloc, reader)?;
+    let mut sink = TextSink::new(alloc);
+    let Ok(mut ctx) = DecoderContext::new(alloc, settings) else {
+        return Err(RunFault::Memory);
+    };
+    let outcome = decode(input.as_slice(), &mut sink, &mut ctx);
+    write_all(writer, sink.text())?;
+    write_last_line(writer, &outcome)?;
+    Ok(done_of(&outcome))
+}
+
+/// Reads until the reader has no more.
+fn read_all<R: Read>(
+    alloc: Global,
+    reader: &mut Device<R>,
+) -> std::result::Result<Vec<u8>, RunFault>
+    ensures all { IfOk result (λ input. IfSome (R.remaining reader.old.0) (λ known. input.items ≡ known)) }
+    ensures drained { IfOk result (λ _. IsAtEnd (R.remaining reader.new.0)) }
+    ensures fit { IfOk result (λ input. BitsFit input.items) }
+    ensures too_long { result ≡ Err RunFault.TooLong → IfSome (R.remaining reader.old.0) (λ known. ¬ (BitsFit known)) }
+    ensures read { reader.old.1 ≡ false → ((result ≡ Err RunFault.Read) ↔ (reader.new.1 ≡ true)) }
+    ensures not_write { result ≢ Err RunFault.Write }
+    ensures not_arguments { result ≢ Err RunFault.BadArguments }
+{
+    let mut input = Vec::new(alloc);
+    let mut buffer = [0u8; 4096];
+    loop {
+        let Ok(count) = reader.read(&mut buffer) else {
+            return Err(RunFault::Read);
+        };
+        if count == 0 {
+            return Ok(input);
+        }
+        if input.len() > MOST_BYTES - count {
+            return Err(RunFault::TooLong);
+        }
+        if input.extend_from_slice(&buffer[..count]).is_err() {
+            return Err(RunFault::Memory);
+        }
+    }
+}
+
+/// The most bytes that `hayro_ccitt::bits_fit` holds of.
+const MOST_BYTES: usize = (usize::MAX - 64) / 8;
+
+/// Writes bytes until the writer has taken all of them.
+fn write_all<W: Write>(writer: &mut Device<W>, bytes: &[u8]) -> std::result::Result<(), RunFault>
+    ensures ok { OnOk result (Appends (W.contents writer.old.0) (W.contents writer.new.0) bytes.now) }
+    ensures flag { OnOk result (writer.new.1 ≡ writer.old.1) }
+    ensures failed { OnErr result (writer.new.1 ≡ true) }
+    ensures only { IfErr result (λ fault. fault ≡ RunFault.Write) }
+{
+    let mut rest = bytes;
+    while !rest.is_empty() {
+        let Ok(count) = writer.write(rest) else {
+            return Err(RunFault::Write);
+        };
+        rest = &rest[count..];
+    }
+    Ok(())
+}
+
+/// Writes the line that says how the decoding ended.
+fn write_last_line<W: Write>(
+    writer: &mut Device<W>,
+    outcome: &hayro_ccitt::Result<usize>,
+) -> std::result::Result<(), RunFault>
+    ensures ok { OnOk result (Appends (W.contents writer.old.0) (W.contents writer.new.0) (line_of_outcome outcome.now)) }
+    ensures flag { OnOk result (writer.new.1 ≡ writer.old.1) }
+    ensures failed { OnErr result (writer.new.1 ≡ true) }
+    ensures only { IfErr result (λ fault. fault ≡ RunFault.Write) }
+{
+    match outcome {
+        Ok(count) => {
+            let mut line = [0u8; ROOM];
+            let start = put_ok(*count, &mut line);
+            write_all(writer, &line[start..])
+        }
+        Err(error) => write_all(writer, error_line(*error)),
+    }
+}
+
+/// How a run ends that wrote this outcome.
+fn done_of(outcome: &hayro_ccitt::Result<usize>) -> Done
+    ensures { result ≡ done_of outcome.now }
+{
+    match outcome {
+        Ok(_) => Done::Good,
+        Err(DecodeError::OutOfMemory) | Err(DecodeError::Refused) => Done::Memory,
+        Err(_) => Done::Faulty,
+    }
+}

@@ -1,0 +1,245 @@
+use super::*;
+use std::alloc::{AllocError, Global};
+use std::io;
+use std::io::{Read, Write};
+use std::test::Fail;
+
+/// A reader that gives one byte a read, and fails at a read.
+#[derive(Drop)]
+struct Dripping {
+    bytes: Vec<u8>,
+    place: usize,
+    reads_before_failure: usize,
+}
+
+impl Read for Dripping {
+    fn read(&mut self, buf: &mut [u8]) -> io::Result<usize> {
+        if self.reads_before_failure == 0 {
+            return Err(io::Error::from(io::ErrorKind::Other));
+        }
+        self.reads_before_failure -= 1;
+        if buf.is_empty() {
+            return Ok(0);
+        }
+        let Some(byte) = self.bytes.get(self.place) else {
+            return Ok(0);
+        };
+        buf[0] = *byte;
+        self.place += 1;
+        Ok(1)
+    }
+}
+
+/// A writer that takes one byte a write, and fails at a write.
+#[derive(Drop)]
+struct Choking {
+    bytes: Vec<u8>,
+    writes_before_failure: usize,
+}
+
+impl Write for Choking {
+    fn write(&mut self, buf: &[u8]) -> io::Result<usize> {
+        if self.writes_before_failure == 0 {
+            return Err(io::Error::from(io::ErrorKind::Other));
+        }
+        self.writes_before_failure -= 1;
+        let Some(byte) = buf.first() else {
+            return Ok(0);
+        };
+        if self.bytes.push(*byte).is_err() {
+            return Err(io::Error::from(io::ErrorKind::OutOfMemory));
+        }
+        Ok(1)
+    }
+
+    fn flush(&mut self) -> io::Result<()> {
+        Ok(())
+    }
+}
+
+/// The words of a line, parted by spaces.
+fn words_of(alloc: Global, line: &str) -> Result<Vec<String>, AllocError> {
+    let mut words = Vec::new(alloc);
+    for word in line.split(' ') {
+        words.push(String::from_str(alloc, word)?)?;
+    }
+    Ok(words)
+}
+
+fn bytes_of(alloc: Global, bytes: &[u8]) -> Result<Vec<u8>, AllocError> {
+    let mut all = Vec::new(alloc);
+    all.extend_from_slice(bytes)?;
+    Ok(all)
+}
+
+/// Runs over bytes, and answers how the run ended and what was written.
+fn ran(
+    alloc: Global,
+    line: &str,
+    input: &[u8],
+) -> Result<(Result<Done, RunFault>, Vec<u8>), AllocError> {
+    let words = words_of(alloc, line)?;
+    let mut reader = Device::new(input);
+    let mut writer = Device::new(Vec::new(alloc));
+    let answer = run(alloc, words.as_slice(), &mut reader, &mut writer);
+    Ok((answer, writer.into_inner()))
+}
+
+#[test]
+fn writes_rows_and_the_outcome(rt: HostRuntime) -> Result<(), Fail> {
+    for (line, input, want, text) in [
+        (
+            "g4 8 1 -",
+            [0x31, 0xC0].as_slice(),
+            Done::Good,
+            "r 3 5\nok 2\n",
+        ),
+        (
+            "g4 0000000008 1 -",
+            [0x31, 0xC0].as_slice(),
+            Done::Good,
+            "r 3 5\nok 2\n",
+        ),
+        (
+            "g4 8 0000000001 -",
+            [0x31, 0xC0].as_slice(),
+            Done::Good,
+            "r 3 5\nok 2\n",
+        ),
+        ("g4 0 0 -", [0x31, 0xC0].as_slice(), Done::Good, "ok 0\n"),
+        (
+            "g4 8 0 -",
+            [0x80].as_slice(),
+            Done::Faulty,
+            "r\nerror: invalid CCITT code sequence\n",
+        ),
+        (
+            "g4 8 0 s",
+            [0x20].as_slice(),
+            Done::Faulty,
+            "error: unexpected end of input\n",
+        ),
+    ] {
+        let (answer, written) = ran(rt.alloc(), line, input)?;
+        assert_eq!(rt; answer, Ok(want), "at {line}");
+        assert_eq!(rt; written.as_slice(), text.as_bytes(), "at {line}");
+    }
+    Ok(())
+}
+
+#[test]
+fn knows_good_words(rt: HostRuntime) -> Result<(), Fail> {
+    for line in [
+        "g4 8 2 asbl",
+        "g4 8 2 blas",
+        "g4 8 2 b",
+        "g4 8 2 sa",
+        "g4 4294967295 1 -",
+        "g4 8 4294967295 -",
+    ] {
+        let (answer, _) = ran(rt.alloc(), line, [].as_slice())?;
+        assert!(rt; answer != Err(RunFault::BadArguments), "at {line}");
+    }
+    Ok(())
+}
+
+#[test]
+fn knows_bad_words(rt: HostRuntime) -> Result<(), Fail> {
+    for line in [
+        "",
+        "g4",
+        "g4 8 1",
+        "g4 8 1 - -",
+        "1d 8 1 -",
+        "2d 8 1 -",
+        "G4 8 1 -",
+        "g4 00000000008 1 -",
+        "g4 8 00000000001 -",
+        "g4 4294967296 1 -",
+        "g4 8 4294967296 -",
+        "g4 9999999999 1 -",
+        "g4 +8 1 -",
+        "g4 -8 1 -",
+        "g4  1 -",
+        "g4 8x 1 -",
+        "g4 8 1 ",
+        "g4 8 1 bb",
+        "g4 8 1 bsb",
+        "g4 8 1 x",
+        "g4 8 1 bx",
+        "g4 8 1 b-",
+        "g4 8 1 --",
+    ] {
+        let (answer, written) = ran(rt.alloc(), line, [0x31, 0xC0].as_slice())?;
+        assert_eq!(rt; answer, Err(RunFault::BadArguments), "at {line}");
+        assert!(rt; written.is_empty(), "at {line}");
+    }
+    Ok(())
+}
+
+#[test]
+fn fails_at_each_read(rt: HostRuntime) -> Result<(), Fail> {
+    for reads in 0..5usize {
+        let words = words_of(rt.alloc(), "g4 8 1 -")?;
+        let mut reader = Device::new(Dripping {
+            bytes: bytes_of(rt.alloc(), [0x31, 0xC0].as_slice())?,
+            place: 0,
+            reads_before_failure: reads,
+        });
+        let mut writer = Device::new(Vec::new(rt.alloc()));
+        let answer = run(rt.alloc(), words.as_slice(), &mut reader, &mut writer);
+        let written: Vec<u8> = writer.into_inner();
+        if reads < 3 {
+            assert_eq!(rt; answer, Err(RunFault::Read), "at {reads}");
+            assert!(rt; written.is_empty(), "at {reads}");
+        } else {
+            assert_eq!(rt; answer, Ok(Done::Good), "at {reads}");
+            assert_eq!(rt;
+                written.as_slice(),
+                b"r 3 5\nok 2\n".as_slice(),
+                "at {reads}"
+            );
+        }
+    }
+    Ok(())
+}
+
+#[test]
+fn fails_at_each_write(rt: HostRuntime) -> Result<(), Fail> {
+    let text = b"r 3 5\nok 2\n";
+    for writes in 0..13usize {
+        let words = words_of(rt.alloc(), "g4 8 1 -")?;
+        let mut reader = Device::new([0x31u8, 0xC0].as_slice());
+        let mut writer = Device::new(Choking {
+            bytes: Vec::new(rt.alloc()),
+            writes_before_failure: writes,
+        });
+        let answer = run(rt.alloc(), words.as_slice(), &mut reader, &mut writer);
+        let written = writer.into_inner().bytes;
+        if writes < text.len() {
+            assert_eq!(rt; answer, Err(RunFault::Write), "at {writes}");
+            assert_eq!(rt; written.as_slice(), &text[..writes], "at {writes}");
+        } else {
+            assert_eq!(rt; answer, Ok(Done::Good), "at {writes}");
+            assert_eq!(rt; written.as_slice(), text.as_slice(), "at {writes}");
+        }
+    }
+    Ok(())
+}
+
+#[test]
+fn prints_faults(rt: HostRuntime) -> Result<(), Fail> {
+    for (fault, text) in [
+        (RunFault::BadArguments, "bad arguments"),
+        (RunFault::Read, "cannot read"),
+        (RunFault::Memory, "out of memory"),
+        (RunFault::TooLong, "input too long"),
+        (RunFault::Write, "cannot write"),
+    ] {
+        assert_eq!(rt;
+            String::format(rt.alloc(), format_args!("{fault}"))?.as_str(),
+            text
+        );
+    }
+    Ok(())
+}
