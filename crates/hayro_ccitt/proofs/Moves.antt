@@ -343,7 +343,7 @@ line_by_took Group3_2D strict columns reference (true ∷ rest) wide =
     took_more (line_1d strict columns rest) (length rest) (line_1d_took_bits strict columns rest wide)
 line_by_took Group3_2D strict columns reference (false ∷ rest) wide =
     took_more (line_2d strict columns reference rest) (length rest) (line_2d_took_bits strict columns reference rest wide)
-line_by_took Group4 strict columns reference here wide = tt
+line_by_took Group4 strict columns reference here wide = line_2d_took_bits strict columns reference here wide
 
 after_line_group3_next : (settings : DecodeSettings) (run t : Progress) (line : Line) → TookBits (length run.rest) line
     → after_line_group3 settings run line ≡ Turn.next t → left_group3 t < left_group3 run

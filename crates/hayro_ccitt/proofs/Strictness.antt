@@ -135,7 +135,7 @@ line_by_agrees Group3_1D columns reference here = line_1d_agrees columns here
 line_by_agrees Group3_2D columns reference [] = tt
 line_by_agrees Group3_2D columns reference (true ∷ rest) = line_1d_agrees columns rest
 line_by_agrees Group3_2D columns reference (false ∷ rest) = line_2d_agrees columns reference rest
-line_by_agrees Group4 columns reference here = tt
+line_by_agrees Group4 columns reference here = line_2d_agrees columns reference here
 
 -- ---- Runs
 

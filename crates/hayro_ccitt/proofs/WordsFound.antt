@@ -20,7 +20,8 @@ use Rattle.hayro_ccitt.specs.Runs.{codes_of, run_of_word, run_turn, run_from}
 use Rattle.hayro_ccitt.specs.Lines.{Line, Pen, Step, try, draw_run, unless_full, start, step_1d, line_1d, place_from, draw_mode, step_2d, line_2d}
 use Rattle.hayro_ccitt.specs.Ticks.{word_found, run_gives, run_found, draw_run_found, no_words, unless_full_found, gives_1d, found_1d, mode_found}
 use Rattle.hayro_ccitt.specs.Ticks.{gives_2d, found_2d, tag_at, line_found}
-use Rattle.hayro_ccitt.specs.Laws.{IsWord, AreWords, joined, HoldsZeros, line_here, EndBeforeEol, Synchronised}
+use Rattle.hayro_ccitt.specs.PlainReading.{line_by}
+use Rattle.hayro_ccitt.specs.Laws.{IsWord, AreWords, joined, HoldsZeros, EndBeforeEol, Synchronised}
 use Rattle.hayro_ccitt.proofs.Repeated.{after_turn}
 use Rattle.hayro_ccitt.proofs.ReadCodes.{read_code_found}
 use Rattle.hayro_ccitt.proofs.ReadRuns.{chosen, word_next, not_done, done_is}
@@ -312,7 +313,7 @@ whole_rest line row end rest here words whole ends is = let same : rest ≡ end 
     ∙ ap (λ (b : Bits). words ++ b) (sym same)
 
 found_to_the_end : (encoding : EncodingMode) (strict : Bool) (columns : ℕ) (reference row : Row) (here rest : Bits)
-    → line_here encoding strict columns reference here ≡ Line.whole row rest
+    → line_by encoding strict columns reference here ≡ Line.whole row rest
     → here ≡ (tag_at encoding here ++ joined (line_found encoding strict columns reference here)) ++ rest
 found_to_the_end Group3_2D strict columns reference row [] rest whole = absurd cc
 found_to_the_end Group3_2D strict columns reference row (true ∷ here) rest whole =

@@ -35,8 +35,3 @@ pub record BitsAt : Type 0 where
 -- the bits from the place on
 abbrev pub here : BitsAt → Bits
 here at = drop at.place at.bits
-
--- the same bits, at a place of them
-pub record IsMoved (old new : BitsAt) : Type 0 where
-  pub same : new.bits ≡ old.bits
-  pub within : new.place ≤ length new.bits

@@ -35,8 +35,8 @@ abbrev pub is_cut : {V : Type 0} → List (Code V) → Bits → Bool
 is_cut [] here = false
 is_cut (c ∷ list) here = is_front here c.word || is_cut list here
 
--- Reading a list: a word of it stands here; or the bits from here to the end are a proper front of
--- a word, and it is the end that is missing; or neither.
+-- Reading a list: a word of it stands here; or the bits from here to the end, possibly none, are a front of a word, and
+-- it is the end that is missing; or neither.
 abbrev pub read_code : {V : Type 0} → List (Code V) → Bits → Result (V × Bits) DecodeError
 read_code list here = elim (word_at list here) [
   | Some found ↦ Ok found

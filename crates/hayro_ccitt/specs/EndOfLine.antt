@@ -20,7 +20,7 @@ eols (suc most) here = elim (after_eol 0 here) [
   | Some rest ↦ one_more (eols most rest)
 ]
 
--- all of them: there are fewer than bits
+-- all of them: there are no more than bits
 abbrev pub all_eols : Bits → ℕ × Bits
 all_eols here = eols (length here) here
 

@@ -52,12 +52,6 @@ joined (word ∷ words) = word ++ joined words
 abbrev pub HoldsZeros : ℕ → Bits → Type 0
 HoldsZeros n bits = (before after : Bits) × (bits ≡ before ++ replicate n false ++ after)
 
--- the line that stands here, by the encoding
-abbrev pub line_here : EncodingMode → Bool → ℕ → Row → Bits → Line
-line_here Group4 strict columns reference here = line_2d strict columns reference here
-line_here Group3_1D strict columns reference here = line_by Group3_1D strict columns reference here
-line_here Group3_2D strict columns reference here = line_by Group3_2D strict columns reference here
-
 -- Words stand in a row here, behind a tag or none; and where an EOL stands here or further on, they end before its one.
 pub record EndBeforeEol (tag : Bits) (words : List Bits) (here : Bits) : Type 0 where
   pub are : AreWords words
@@ -75,7 +69,7 @@ pub record Synchronised : Type 0 where
   pub before_eol : (encoding : EncodingMode) (strict : Bool) (columns : ℕ) (reference : Row) (here : Bits)
       → EndBeforeEol (tag_at encoding here) (line_found encoding strict columns reference here) here
   pub to_the_end : (encoding : EncodingMode) (strict : Bool) (columns : ℕ) (reference row : Row) (here rest : Bits)
-      → line_here encoding strict columns reference here ≡ Line.whole row rest
+      → line_by encoding strict columns reference here ≡ Line.whole row rest
       → here ≡ (tag_at encoding here ++ joined (line_found encoding strict columns reference here)) ++ rest
 
 -- ---- code words

@@ -83,13 +83,14 @@ move_group4 settings so_far = line_at_group4 settings so_far (eols_group4 settin
 
 -- ---- Group 3 (T.4)
 
--- the line that stands here: in two-dimensional data its tag says of which kind it is (T.4, 4.2.2)
+-- The line that stands here: one-dimensional, or of the kind that its tag says in two-dimensional data of Group 3 (T.4,
+-- 4.2.2), or two-dimensional in Group 4.
 abbrev pub line_by : EncodingMode → Bool → ℕ → Row → Bits → Line
 line_by Group3_1D strict columns reference here = line_1d strict columns here
 line_by Group3_2D strict columns reference [] = Line.broken [] UnexpectedEof
 line_by Group3_2D strict columns reference (true ∷ rest) = line_1d strict columns rest
 line_by Group3_2D strict columns reference (false ∷ rest) = line_2d strict columns reference rest
-line_by Group4 strict columns reference here = Line.broken [] InvalidCode
+line_by Group4 strict columns reference here = line_2d strict columns reference here
 
 abbrev pub line_at_group3 : DecodeSettings → Row → Bits → Line
 line_at_group3 settings reference here = line_by settings.encoding settings.strict settings.columns reference here

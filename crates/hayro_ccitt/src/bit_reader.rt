@@ -115,7 +115,8 @@ impl<'a> BitReader<'a> {
 
     /// The number of bits before the place.
     pub fn bit_pos(&self) -> usize
-        ensures { result ≡ self.now.place }
+        ensures place { result ≡ self.now.place }
+        ensures within { result ≤ length self.now.bits }
     {
         self.place
     }

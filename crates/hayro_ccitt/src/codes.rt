@@ -4,7 +4,7 @@ ghost use Rattle.std.specs.Prelude.{◌≡◌, ℕ, ◌+◌, ◌≤◌, ◌<◌,
 ghost use Rattle.std.specs.Borrow.{ftrue};
 ghost use Rattle.std.specs.List.{list_all};
 ghost use Rattle.hayro_ccitt.specs.Answers.{IsFault};
-ghost use Rattle.hayro_ccitt.specs.Bits.{here, low_bits, IsMoved};
+ghost use Rattle.hayro_ccitt.specs.Bits.{here, low_bits};
 ghost use Rattle.hayro_ccitt.specs.CodeLists.{mode_codes, numbered};
 ghost use Rattle.hayro_ccitt.specs.CodeReading.{agreement, word_at, is_cut, read_code, leading_zeros};
 ghost use Rattle.hayro_ccitt.specs.EndOfLine.{after_eol, eols, all_eols};

@@ -245,6 +245,8 @@ impl DecoderContext {
     /// other one, or the row's end (T.4 section 4.2.1.1). It takes no memory.
     pub fn b1(&mut self) -> u32
         ensures value { result ≡ b1 self.old.held.reference (right_of self.old.held.front) self.old.held.color }
+        ensures edge { length self.old.held.reference ≡ self.old.held.settings.columns }
+        ensures within { length self.old.held.front ≤ self.old.held.settings.columns }
         ensures held { self.new.held ≡ self.old.held }
         ensures counts { self.old.ticks ≤ self.new.ticks }
     {
@@ -262,6 +264,8 @@ impl DecoderContext {
     /// not left of where the front ends, and takes no memory.
     pub fn b2(&mut self) -> u32
         ensures value { result ≡ b2 self.old.held.reference (right_of self.old.held.front) self.old.held.color }
+        ensures edge { length self.old.held.reference ≡ self.old.held.settings.columns }
+        ensures within { length self.old.held.front ≤ self.old.held.settings.columns }
         ensures right { length self.old.held.front ≤ result }
         ensures held { self.new.held ≡ self.old.held }
         ensures counts { self.old.ticks ≤ self.new.ticks }
@@ -352,7 +356,7 @@ impl DecoderContext {
 
 /// Decodes a two-dimensional line against the reference row, whatever front stood (T.4 section 4.2, T.6
 /// section 2.2). After an error of the data the front is what was painted until then. `OutOfMemory` comes only
-/// where a change is stored. All else of the context stands.
+/// where the line paints a black pixel, while a change is stored. All else of the context stands.
 pub fn decode_2d_line(ctx: &mut DecoderContext, reader: &mut BitReader<'_>) -> Result<()>
     ensures line { DrawsLine (line_2d ctx.old.held.settings.strict ctx.old.held.settings.columns ctx.old.held.reference (here reader.old)) result ctx.new.held.front (here reader.new) }
     ensures held { ctx.new.held ≡ redrawn ctx.old.held ctx.new.held.front ctx.new.held.color }

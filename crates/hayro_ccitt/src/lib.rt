@@ -66,7 +66,8 @@ pub fn bits_fit(data: &[u8]) -> bool
 /// first, so what it decoded before doesn't matter.
 ///
 /// `UnexpectedEof`, `InvalidCode` and `Overflow` say that the data is at fault; the rows before stand.
-/// `OutOfMemory` comes only while a change of a row is stored, and `Refused` only where the sink refuses a row.
+/// `OutOfMemory` comes only while a change of a row is stored, so in a line that paints a black pixel, and
+/// `Refused` only where the sink refuses a row.
 /// After any answer the context may be used again.
 pub fn decode<D: Decoder>(data: &[u8], decoder: &mut D, ctx: &mut DecoderContext) -> Result<usize>
     requires fit { BitsFit «data».now }

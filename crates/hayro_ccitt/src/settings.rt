@@ -21,7 +21,8 @@ pub struct DecodeSettings {
     pub end_of_block: bool,
     /// Whether EOLs stand between the lines of Group 3. EOLs at the front of the data say so too.
     pub end_of_line: bool,
-    /// Whether each row is followed by zeros up to a whole byte. In Group 3 this holds only without EOLs.
+    /// Whether each row is padded up to a whole byte; what the padding is doesn't matter. In Group 3 this holds
+    /// only without EOLs.
     pub rows_are_byte_aligned: bool,
     /// How the image is encoded.
     pub encoding: EncodingMode,

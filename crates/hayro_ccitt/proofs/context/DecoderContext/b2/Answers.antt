@@ -16,3 +16,12 @@ returns-clause-right c =
     let front = row_length inside.pixels_decoded inside.coding_changes.items c.self.invariant.front in
     let within : length c.args.self.now.held.front ≤ length c.args.self.now.held.reference = rw (← c.self.view_is) (omega (arith, reference, front, c.self.invariant.within)) in
     rw (returns-clause-value c) (b2_from_front _ _ _ within)
+
+pub returns-clause-edge : goal.returns-clause-edge
+returns-clause-edge c =
+    rw (← c.self.view_is) (row_length c.self.inside.settings.columns c.self.inside.ref_changes.items c.self.invariant.reference)
+
+pub returns-clause-within : goal.returns-clause-within
+returns-clause-within c =
+    let painted = row_length c.self.inside.pixels_decoded c.self.inside.coding_changes.items c.self.invariant.front in
+    rw (← c.self.view_is) (omega (arith, painted, c.self.invariant.within))
