@@ -67,22 +67,30 @@ pub fn run<R: Read, W: Write>(
     reader: &mut Device<R>,
     writer: &mut Device<W>,
 ) -> std::result::Result<Done, RunFault>
-    ensures bad_arguments { (result ≡ Err RunFault.BadArguments) ↔ (settings_of_words (map string_bytes words.now) ≡ None) }
+    ensures bad_arguments { (result ≡ Err RunFault.BadArguments)
+        ↔ (settings_of_words (map string_bytes words.now) ≡ None) }
     ensures unread { result ≡ Err RunFault.BadArguments → reader.new ≡ reader.old }
     ensures unwritten { IfErr result (λ fault. fault ≢ RunFault.Write → writer.new ≡ writer.old) }
-    ensures good { result ≡ Ok Done.Good → OnKnown (settings_of_words (map string_bytes words.now)) (R.remaining reader.old.0)
-        (λ settings input. Appends (W.contents writer.old.0) (W.contents writer.new.0) (whole_text settings input)) }
-    ensures good_outcome { result ≡ Ok Done.Good → OnKnown (settings_of_words (map string_bytes words.now)) (R.remaining reader.old.0)
-        (λ settings input. IsOk (outcome_of settings input)) }
-    ensures faulty { result ≡ Ok Done.Faulty → OnKnown (settings_of_words (map string_bytes words.now)) (R.remaining reader.old.0)
-        (λ settings input. Appends (W.contents writer.old.0) (W.contents writer.new.0) (whole_text settings input)) }
-    ensures faulty_outcome { result ≡ Ok Done.Faulty → OnKnown (settings_of_words (map string_bytes words.now)) (R.remaining reader.old.0)
-        (λ settings input. IsErr (outcome_of settings input)) }
-    ensures memory { result ≡ Ok Done.Memory → OnKnown (settings_of_words (map string_bytes words.now)) (R.remaining reader.old.0)
-        (λ settings input. (text : List ℕ) × IsFrontText (rows_of settings input) text × Appends (W.contents writer.old.0) (W.contents writer.new.0) text) }
+    ensures good { result ≡ Ok Done.Good
+        → OnKnown (settings_of_words (map string_bytes words.now)) (R.remaining reader.old.0) (λ settings input.
+        Appends (W.contents writer.old.0) (W.contents writer.new.0) (whole_text settings input)) }
+    ensures good_outcome { result ≡ Ok Done.Good
+        → OnKnown (settings_of_words (map string_bytes words.now)) (R.remaining reader.old.0) (λ settings input.
+        IsOk (outcome_of settings input)) }
+    ensures faulty { result ≡ Ok Done.Faulty
+        → OnKnown (settings_of_words (map string_bytes words.now)) (R.remaining reader.old.0) (λ settings input.
+        Appends (W.contents writer.old.0) (W.contents writer.new.0) (whole_text settings input)) }
+    ensures faulty_outcome { result ≡ Ok Done.Faulty
+        → OnKnown (settings_of_words (map string_bytes words.now)) (R.remaining reader.old.0) (λ settings input.
+        IsErr (outcome_of settings input)) }
+    ensures memory { result ≡ Ok Done.Memory
+        → OnKnown (settings_of_words (map string_bytes words.now)) (R.remaining reader.old.0) (λ settings input.
+        (text : List ℕ) × IsFrontText (rows_of settings input) text
+        × Appends (W.contents writer.old.0) (W.contents writer.new.0) text) }
     ensures drained { IfOk result (λ _. IsAtEnd (R.remaining reader.new.0)) }
     ensures fit { IfOk result (λ _. IfSome (R.remaining reader.old.0) BitsFit) }
-    ensures too_long { result ≡ Err RunFault.TooLong → IfSome (R.remaining reader.old.0) (λ input. ¬ (BitsFit input)) }
+    ensures too_long { result ≡ Err RunFault.TooLong
+        → IfSome (R.remaining reader.old.0) (λ input. ¬ (BitsFit input)) }
     ensures read { reader.old.1 ≡ false → ((result ≡ Err RunFault.Read) ↔ (reader.new.1 ≡ true)) }
     ensures write { writer.old.1 ≡ false → ((result ≡ Err RunFault.Write) ↔ (writer.new.1 ≡ true)) }
 {
@@ -108,7 +116,8 @@ fn read_all<R: Read>(
     ensures all { IfOk result (λ input. IfSome (R.remaining reader.old.0) (λ known. input.items ≡ known)) }
     ensures drained { IfOk result (λ _. IsAtEnd (R.remaining reader.new.0)) }
     ensures fit { IfOk result (λ input. BitsFit input.items) }
-    ensures too_long { result ≡ Err RunFault.TooLong → IfSome (R.remaining reader.old.0) (λ known. ¬ (BitsFit known)) }
+    ensures too_long { result ≡ Err RunFault.TooLong
+        → IfSome (R.remaining reader.old.0) (λ known. ¬ (BitsFit known)) }
     ensures read { reader.old.1 ≡ false → ((result ≡ Err RunFault.Read) ↔ (reader.new.1 ≡ true)) }
     ensures not_write { result ≢ Err RunFault.Write }
     ensures not_arguments { result ≢ Err RunFault.BadArguments }
@@ -156,7 +165,8 @@ fn write_last_line<W: Write>(
     writer: &mut Device<W>,
     outcome: &hayro_ccitt::Result<usize>,
 ) -> std::result::Result<(), RunFault>
-    ensures ok { OnOk result (Appends (W.contents writer.old.0) (W.contents writer.new.0) (line_of_outcome outcome.now)) }
+    ensures ok { OnOk result (Appends (W.contents writer.old.0) (W.contents writer.new.0)
+        (line_of_outcome outcome.now)) }
     ensures flag { OnOk result (writer.new.1 ≡ writer.old.1) }
     ensures failed { OnErr result (writer.new.1 ≡ true) }
     ensures only { IfErr result (λ fault. fault ≡ RunFault.Write) }

@@ -3,11 +3,12 @@ use Rattle.std.specs.Prelude.{◌≡◌, ◌≢◌, ◌<◌, ℕ, true, false, l
 use Rattle.std.specs.List.{fold}
 use Rattle.hayro_ccitt.specs.declared.error.DecodeError.{DecodeError}
 use Rattle.hayro_ccitt.specs.declared.error.DecodeError.TheVariants.{UnexpectedEof, InvalidCode, Overflow, OutOfMemory, Refused}
+use Rattle.hayro_ccitt.specs.declared.codes.Mode.{Mode}
 use Rattle.hayro_ccitt.specs.Bits.{Bits}
-use Rattle.hayro_ccitt.specs.Rows.{Row, is_black, paint, changes}
+use Rattle.hayro_ccitt.specs.Rows.{Row, is_black, changes}
 use Rattle.hayro_ccitt.specs.Changes.{last_pixel}
-use Rattle.hayro_ccitt.specs.Context.{Held}
-use Rattle.hayro_ccitt.specs.Lines.{Line, Pen, Step}
+use Rattle.hayro_ccitt.specs.Context.{Held, painted_front}
+use Rattle.hayro_ccitt.specs.Lines.{Line, Pen, Step, draw_run, draw_mode, line_2d}
 use Rattle.hayro_ccitt.specs.Repetition.{Turn}
 
 -- an error that the data is at fault for
@@ -41,6 +42,18 @@ DrawsLine line (Err Refused) front rest = ⊥
 abbrev pub pen_of : Held → Bits → Pen
 pen_of held rest = record { front = held.front; color = held.color; rest = rest }
 
+-- a run of the present colour, read and painted
+abbrev pub step_of_run : Held → Bits → Step
+step_of_run held rest = draw_run held.settings.strict held.settings.columns (pen_of held rest) Turn.next
+
+-- a mode, drawn against the reference row
+abbrev pub step_of_mode : Held → Bits → Mode → Step
+step_of_mode held rest mode = draw_mode held.settings.strict held.settings.columns held.reference (pen_of held rest) mode
+
+-- a two-dimensional line against the reference row
+abbrev pub line_from_2d : Held → Bits → Line
+line_from_2d held rest = line_2d held.settings.strict held.settings.columns held.reference rest
+
 -- a step after which a black pixel is painted
 abbrev pub StepHasBlack : Step → Type 0
 StepHasBlack (Turn.next pen) = HasBlack pen.front
@@ -58,7 +71,7 @@ DrawsStep step (Err Refused) pen = ⊥
 -- Painting so many pixels makes a changing element at the end of the front.
 abbrev pub StoresChange : Held → ℕ → Type 0
 StoresChange held count = (row : Row)
-    × (paint held.settings.strict held.settings.columns held.front held.color count ≡ Ok row)
+    × (painted_front held count ≡ Ok row)
     × (length held.front < length row)
     × (last_pixel false held.front ≢ is_black held.color)
 

@@ -1,9 +1,10 @@
 -- What a context holds between its calls.
-use Rattle.std.specs.Prelude.{ℕ, zero, suc, ◌+◌, ◌-◌, [], ◌++◌, Bool, false, length, replicate}
+use Rattle.std.specs.Prelude.{ℕ, zero, suc, ◌+◌, ◌-◌, [], ◌++◌, Bool, false, length, replicate, Result}
 use Rattle.hayro_ccitt.specs.declared.codes.Color.{Color}
 use Rattle.hayro_ccitt.specs.declared.codes.Color.TheVariants.{White}
 use Rattle.hayro_ccitt.specs.declared.settings.DecodeSettings.{DecodeSettings}
-use Rattle.hayro_ccitt.specs.Rows.{Row}
+use Rattle.hayro_ccitt.specs.declared.error.DecodeError.{DecodeError}
+use Rattle.hayro_ccitt.specs.Rows.{Row, paint}
 use Rattle.hayro_ccitt.specs.Changes.{last_pixel}
 
 -- the reference row, the front of the coding row, the present colour, the number of rows that were taken, whether
@@ -30,10 +31,18 @@ fresh settings =
 abbrev pub continued : ℕ → Row → Row
 continued columns front = front ++ replicate (columns - length front) (last_pixel false front)
 
+-- the row that is handed over
+abbrev pub taken_row : Held → Row
+taken_row h = continued h.settings.columns h.front
+
+-- the front with so many more pixels of the present colour
+abbrev pub painted_front : Held → ℕ → Result Row DecodeError
+painted_front h count = paint h.settings.strict h.settings.columns h.front h.color count
+
 -- the row that was drawn becomes the reference row of an empty front
 abbrev pub after_taking : Held → Held
 after_taking h =
-    record { reference = continued h.settings.columns h.front; front = []; color = White; rows = h.rows + 1; has_eols = h.has_eols; settings = h.settings }
+    record { reference = taken_row h; front = []; color = White; rows = h.rows + 1; has_eols = h.has_eols; settings = h.settings }
 
 -- another front and another colour, and all else the same
 abbrev pub redrawn : Held → Row → Color → Held

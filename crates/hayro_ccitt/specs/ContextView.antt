@@ -7,7 +7,17 @@ use Rattle.hayro_ccitt.specs.declared.context.DecoderContext.TheInside.{Inside}
 -- the rows that the lists of changes stand for
 abbrev pub context_of : Inside → Context
 context_of c =
-    record { held = record { reference = pixels c.settings.columns c.ref_changes.items; front = pixels c.pixels_decoded c.coding_changes.items; color = c.color; rows = c.decoded_rows; has_eols = c.has_eols; settings = c.settings }; ticks = c.ticks }
+    record {
+      held = record {
+        reference = pixels c.settings.columns c.ref_changes.items;
+        front = pixels c.pixels_decoded c.coding_changes.items;
+        color = c.color;
+        rows = c.decoded_rows;
+        has_eols = c.has_eols;
+        settings = c.settings;
+      };
+      ticks = c.ticks;
+    }
 
 -- both lists are lawful, the front's below the pixels decoded, and these at most the columns
 pub record IsLawful (c : Inside) : Type 0 where

@@ -56,7 +56,10 @@ ends_with so_far outcome = Turn.done (record { rows = so_far.rows; has_eols = so
 abbrev pub after_line_group4 : DecodeSettings → Progress → Line → Move
 after_line_group4 settings so_far (Line.broken front fault) = ends_with so_far (Err fault)
 after_line_group4 settings so_far (Line.whole row rest) =
-    Turn.next (record so_far { rows = so_far.rows ++ row ∷ []; rest = if settings.rows_are_byte_aligned then aligned rest else rest })
+    Turn.next (record so_far {
+      rows = so_far.rows ++ row ∷ [];
+      rest = if settings.rows_are_byte_aligned then aligned rest else rest;
+    })
 
 -- the EOLs that are read before a line: at most the two of EOFB with `end_of_block`, else all
 abbrev pub eols_group4 : DecodeSettings → Bits → ℕ × Bits
@@ -108,7 +111,8 @@ eols_group3 settings here = eols_by settings.encoding here
 -- limit and the end of the data; else the next line begins here
 abbrev pub unless_over : DecodeSettings → Progress → ℕ × Bits → Move
 unless_over settings so_far (count, rest) =
-    if (settings.end_of_block && nat_le 6 count) || limit_met settings (length so_far.rows) || at_end rest then ends_with so_far (Ok rest)
+    if (settings.end_of_block && nat_le 6 count) || limit_met settings (length so_far.rows) || at_end rest
+    then ends_with so_far (Ok rest)
     else Turn.next (record so_far { rest = rest })
 
 -- The next EOL was looked for. The EOLs that stand there are counted; where there is none, EOLs are given up.
@@ -124,13 +128,17 @@ seek_eol settings so_far =
 -- what comes after a row: its EOLs are counted, and sought where none came although the data has them
 abbrev pub after_row : DecodeSettings → Progress → Move
 after_row settings so_far =
-    if ((eols_group3 settings so_far.rest).0 == 0) && so_far.has_eols && not (limit_met settings (length so_far.rows)) && not (at_end so_far.rest) then seek_eol settings so_far
+    if ((eols_group3 settings so_far.rest).0 == 0) && so_far.has_eols && not (limit_met settings (length so_far.rows)) && not (at_end so_far.rest)
+    then seek_eol settings so_far
     else unless_over settings so_far (eols_group3 settings so_far.rest)
 
 -- a row is added; without EOLs the next line may begin at a whole byte
 abbrev pub add_row : DecodeSettings → Progress → Row → Bits → Move
 add_row settings so_far row rest =
-    after_row settings (record so_far { rows = so_far.rows ++ row ∷ []; rest = if settings.rows_are_byte_aligned && not so_far.has_eols then aligned rest else rest })
+    after_row settings (record so_far {
+      rows = so_far.rows ++ row ∷ [];
+      rest = if settings.rows_are_byte_aligned && not so_far.has_eols then aligned rest else rest;
+    })
 
 -- After a line. In lenient data with EOLs a broken row is repaired: its front is continued in white, and the place
 -- goes back to the line's start.
@@ -150,7 +158,8 @@ move_group3 settings so_far =
 -- rows are read from here on; there are at most two more turns than bits
 abbrev pub ending_from : (Progress → Move) → Progress → Ending
 ending_from move so_far =
-    repeated move (record { rows = so_far.rows; has_eols = so_far.has_eols; outcome = Err UnexpectedEof }) (suc (suc (length so_far.rest))) so_far
+    repeated move (record { rows = so_far.rows; has_eols = so_far.has_eols; outcome = Err UnexpectedEof })
+    (suc (suc (length so_far.rest))) so_far
 
 -- where the plain reading of Group 4 starts
 abbrev pub start_group4 : Bits → Progress
@@ -158,7 +167,8 @@ start_group4 bits = record { rows = []; has_eols = false; rest = bits }
 
 -- where that of Group 3 starts: EOLs at the front are read without tags, and say that the data has EOLs
 abbrev pub start_group3 : DecodeSettings → Bits → Progress
-start_group3 settings bits = record { rows = []; has_eols = nat_lt 0 (all_eols bits).0 || settings.end_of_line; rest = (all_eols bits).1 }
+start_group3 settings bits =
+    record { rows = []; has_eols = nat_lt 0 (all_eols bits).0 || settings.end_of_line; rest = (all_eols bits).1 }
 
 -- the plain reading of Group 4
 abbrev pub plain_group4 : DecodeSettings → Bits → Ending

@@ -136,7 +136,8 @@ fn agreement(reader: &BitReader<'_>, width: u8, word: u16) -> u8
 /// The value and the width of the word of the list that stands here.
 fn find_word<V: Copy>(reader: &BitReader<'_>, list: &[(V, u8, u16)]) -> Option<(V, u8)>
     requires { IsTrue (list_all (λ e. nat_le e.1 16) list.now) }
-    ensures found { word_at (numbered list.now) (here reader.now) ≡ option_map (λ f. (f.0, drop f.1 (here reader.now))) result }
+    ensures found { word_at (numbered list.now) (here reader.now)
+        ≡ option_map (λ f. (f.0, drop f.1 (here reader.now))) result }
     ensures within { IfSome result (λ f. f.1 ≤ length (here reader.now)) }
 {
     for (value, width, word) in list {
@@ -169,7 +170,8 @@ fn find_run_word(
 ) -> Option<(u16, u8)>
     requires widths { IsTrue (list_all (λ e. nat_le e.1 16) terminating.now) }
     requires makeup_widths { IsTrue (list_all (λ e. nat_le e.1 16) makeup.now) }
-    ensures found { word_at (numbered (terminating.now ++ makeup.now ++ COMMON_MAKEUP)) (here reader.now) ≡ option_map (λ f. (f.0, drop f.1 (here reader.now))) result }
+    ensures found { word_at (numbered (terminating.now ++ makeup.now ++ COMMON_MAKEUP)) (here reader.now)
+        ≡ option_map (λ f. (f.0, drop f.1 (here reader.now))) result }
     ensures within { IfSome result (λ f. f.1 ≤ length (here reader.now)) }
 {
     if let Some(found) = find_word(reader, terminating) {
@@ -206,7 +208,8 @@ impl<'a> BitReader<'a> {
         requires widths { IsTrue (list_all (λ e. nat_le e.1 16) terminating.now) }
         requires makeup_widths { IsTrue (list_all (λ e. nat_le e.1 16) makeup.now) }
         ensures word { MatchResult result
-            (λ n. read_code (numbered (terminating.now ++ makeup.now ++ COMMON_MAKEUP)) (here self.old) ≡ Ok (n, here self.new))
+            (λ n. read_code (numbered (terminating.now ++ makeup.now ++ COMMON_MAKEUP)) (here self.old)
+            ≡ Ok (n, here self.new))
             (λ e. read_code (numbered (terminating.now ++ makeup.now ++ COMMON_MAKEUP)) (here self.old) ≡ Err e) }
         ensures fault { IfErr result IsFault }
         ensures same { self.new.bits ≡ self.old.bits }
@@ -228,7 +231,9 @@ impl<'a> BitReader<'a> {
 
     /// Reads a word of a colour's list.
     fn decode_word(&mut self, color: Color) -> Result<u16>
-        ensures word { MatchResult result (λ n. read_code (codes_of color) (here self.old) ≡ Ok (n, here self.new)) (λ e. read_code (codes_of color) (here self.old) ≡ Err e) }
+        ensures word { MatchResult result
+            (λ n. read_code (codes_of color) (here self.old) ≡ Ok (n, here self.new))
+            (λ e. read_code (codes_of color) (here self.old) ≡ Err e) }
         ensures fault { IfErr result IsFault }
         ensures same { self.new.bits ≡ self.old.bits }
     {
@@ -242,7 +247,9 @@ impl<'a> BitReader<'a> {
     /// looked for is a tick. `UnexpectedEof` where the data ends inside a word, `InvalidCode` where none
     /// stands, `Overflow` where the sum passes 32 bits; where the reader then stands isn't said.
     pub fn decode_run(&mut self, color: Color, _tables: &Tables, ticks: &mut Ticks) -> Result<u32>
-        ensures run { MatchResult result (λ n. read_run color (here self.old) ≡ Ok (n, here self.new)) (λ e. read_run color (here self.old) ≡ Err e) }
+        ensures run { MatchResult result
+            (λ n. read_run color (here self.old) ≡ Ok (n, here self.new))
+            (λ e. read_run color (here self.old) ≡ Err e) }
         ensures fault { IfErr result IsFault }
         ensures same { self.new.bits ≡ self.old.bits }
         ensures ticks { OnOk result (ticks.new ≡ ticks.old + length (run_found color (0, here self.old))) }
@@ -265,7 +272,9 @@ impl<'a> BitReader<'a> {
     /// Reads a mode of a two-dimensional line (T.4 table 4, T.6 table 1), which is one tick. `UnexpectedEof`
     /// where the data ends inside a word, `InvalidCode` where none stands.
     pub fn decode_mode(&mut self, ticks: &mut Ticks) -> Result<Mode>
-        ensures mode { MatchResult result (λ m. read_code mode_codes (here self.old) ≡ Ok (m, here self.new)) (λ e. read_code mode_codes (here self.old) ≡ Err e) }
+        ensures mode { MatchResult result
+            (λ m. read_code mode_codes (here self.old) ≡ Ok (m, here self.new))
+            (λ e. read_code mode_codes (here self.old) ≡ Err e) }
         ensures fault { IfErr result IsFault }
         ensures same { self.new.bits ≡ self.old.bits }
         ensures ticks { ticks.new ≡ ticks.old + 1 }
@@ -290,9 +299,11 @@ impl<'a> BitReader<'a> {
     /// None, where no one follows. Each bit that is looked at is a tick.
     pub fn zero_run(&self, ticks: &mut Ticks) -> (usize, Option<BitReader<'a>>)
         ensures zeros { result.0 ≡ leading_zeros (here self.now) }
-        ensures one { IfSome result.1 (λ after. (after.bits ≡ self.now.bits) × (here self.now ≡ replicate result.0 false ++ true ∷ here after)) }
+        ensures one { IfSome result.1 (λ after. (after.bits ≡ self.now.bits)
+            × (here self.now ≡ replicate result.0 false ++ true ∷ here after)) }
         ensures end { IfNone result.1 (here self.now ≡ replicate result.0 false) }
-        ensures eol { IfSome result.1 (λ after. after_eol 0 (here self.now) ≡ (if nat_le 11 result.0 then Some (here after) else None)) }
+        ensures eol { IfSome result.1 (λ after. after_eol 0 (here self.now)
+            ≡ (if nat_le 11 result.0 then Some (here after) else None)) }
         ensures no_eol { IfNone result.1 (after_eol 0 (here self.now) ≡ None) }
         ensures ticks { ticks.new ≡ ticks.old + looked (here self.now) }
     {
@@ -318,7 +329,8 @@ impl<'a> BitReader<'a> {
     pub fn read_eols(&mut self, max: usize, ticks: &mut Ticks) -> usize
         ensures eols { eols max (here self.old) ≡ (result, here self.new) }
         ensures same { self.new.bits ≡ self.old.bits }
-        ensures ticks { ticks.new + length (here self.new) ≡ ticks.old + length (here self.old) + (if result == max then 0 else looked (here self.new)) }
+        ensures ticks { ticks.new + length (here self.new)
+            ≡ ticks.old + length (here self.old) + (if result == max then 0 else looked (here self.new)) }
     {
         let mut count = 0;
         'eols: while count < max {
@@ -337,7 +349,8 @@ impl<'a> BitReader<'a> {
     pub fn read_eol_if_available(&mut self, ticks: &mut Ticks) -> usize
         ensures eols { all_eols (here self.old) ≡ (result, here self.new) }
         ensures same { self.new.bits ≡ self.old.bits }
-        ensures ticks { ticks.new + length (here self.new) ≡ ticks.old + length (here self.old) + looked (here self.new) }
+        ensures ticks { ticks.new + length (here self.new)
+            ≡ ticks.old + length (here self.old) + looked (here self.new) }
     {
         // an EOL takes more than one bit
         self.read_eols(self.bits_left(), ticks)

@@ -1,13 +1,11 @@
 //! What a decoder keeps from line to line, and the lines themselves.
 
 ghost use Rattle.std.specs.Prelude.{◌≡◌, ◌≢◌, ◌+◌, ◌-◌, ◌^◌, ◌<◌, ◌≤◌, ◌⊎◌, ◌↔◌, Ok, Err, OnOk, OnErr, IfOk, IfErr, true, IsOkUnless, IsTrue, false, length, get_or, [], ◌++◌, replicate};
-ghost use Rattle.hayro_ccitt.specs.Rows.{AreChanges, pixels, right_of, b1, b2, paint, changes, is_black, opposite};
+ghost use Rattle.hayro_ccitt.specs.Rows.{AreChanges, pixels, right_of, b1, b2, changes, is_black, opposite};
 ghost use Rattle.hayro_ccitt.specs.Changes.{last_pixel};
-ghost use Rattle.hayro_ccitt.specs.Lines.{Line, draw_run, draw_mode, line_2d};
 ghost use Rattle.hayro_ccitt.specs.Bits.{here};
-ghost use Rattle.hayro_ccitt.specs.Repetition.{Turn};
-ghost use Rattle.hayro_ccitt.specs.Context.{redrawn, right_of_painted};
-ghost use Rattle.hayro_ccitt.specs.Answers.{DrawsLine, DrawsStep, StoresChange, pen_of};
+ghost use Rattle.hayro_ccitt.specs.Context.{redrawn, right_of_painted, painted_front, taken_row};
+ghost use Rattle.hayro_ccitt.specs.Answers.{DrawsLine, DrawsStep, StoresChange, pen_of, step_of_run, step_of_mode, line_from_2d};
 
 use crate::bit_reader::BitReader;
 use crate::codes::{Color, Mode, Ticks};
@@ -48,8 +46,10 @@ impl Model for DecoderContext {
 /// this colour; b2 is the next change. Each change that is looked at is a tick.
 fn b1_index(changes: &[u32], painted: u32, color: Color, columns: u32, ticks: &mut Ticks) -> usize
     requires { AreChanges columns changes.now }
-    ensures b1 { b1 (pixels columns changes.now) (right_of_painted painted) color ≡ get_or changes.now result columns }
-    ensures b2 { b2 (pixels columns changes.now) (right_of_painted painted) color ≡ get_or changes.now (result + 1) columns }
+    ensures b1 { b1 (pixels columns changes.now) (right_of_painted painted) color
+        ≡ get_or changes.now result columns }
+    ensures b2 { b2 (pixels columns changes.now) (right_of_painted painted) color
+        ≡ get_or changes.now (result + 1) columns }
     ensures within { result ≤ length changes.now + 1 }
     ensures counts { ticks.old ≤ ticks.new }
 {
@@ -80,8 +80,10 @@ fn change_or_end(changes: &[u32], index: usize, columns: u32) -> u32
 fn append_pixels(changes: &mut Vec<u32>, painted: u32, color: Color, count: u32) -> Result<()>
     requires { AreChanges painted changes.old.items }
     ensures lawful { OnOk result (AreChanges (painted + count) changes.new.items) }
-    ensures painted { OnOk result (pixels (painted + count) changes.new.items ≡ pixels painted changes.old.items ++ replicate count (is_black color)) }
-    ensures memory { result ≡ Err DecodeError.OutOfMemory → (0 < count) × (last_pixel false (pixels painted changes.old.items) ≢ is_black color) }
+    ensures painted { OnOk result (pixels (painted + count) changes.new.items
+        ≡ pixels painted changes.old.items ++ replicate count (is_black color)) }
+    ensures memory { result ≡ Err DecodeError.OutOfMemory
+        → (0 < count) × (last_pixel false (pixels painted changes.old.items) ≢ is_black color) }
     ensures only_memory { IsOkUnless result DecodeError.OutOfMemory }
     ensures same { OnErr result (changes.new.items ≡ changes.old.items) }
 {
@@ -95,7 +97,7 @@ fn append_pixels(changes: &mut Vec<u32>, painted: u32, color: Color, count: u32)
 
 impl DecoderContext {
     ghost use Rattle.std.specs.Borrow.{sem};
-    ghost use Rattle.hayro_ccitt.specs.Context.{fresh, after_taking, continued};
+    ghost use Rattle.hayro_ccitt.specs.Context.{fresh, after_taking};
     ghost use Rattle.hayro_ccitt.specs.Lending.{LendsTicks};
     ghost use Rattle.hayro_ccitt.specs.Laws.{AreSettings};
 
@@ -204,9 +206,10 @@ impl DecoderContext {
     /// cut off at its end; in strict data they are `InvalidCode`. `OutOfMemory` comes only where a change is
     /// stored, so where the colour of the last pixel differs. After a refusal nothing is changed.
     pub fn push_pixels(&mut self, count: u32) -> Result<()>
-        ensures painted { OnOk result (paint self.old.held.settings.strict self.old.held.settings.columns self.old.held.front self.old.held.color count ≡ Ok self.new.held.front) }
+        ensures painted { OnOk result (painted_front self.old.held count ≡ Ok self.new.held.front) }
         ensures rest { OnOk result (self.new.held ≡ redrawn self.old.held self.new.held.front self.old.held.color) }
-        ensures too_many { (result ≡ Err DecodeError.InvalidCode) ↔ (paint self.old.held.settings.strict self.old.held.settings.columns self.old.held.front self.old.held.color count ≡ Err DecodeError.InvalidCode) }
+        ensures too_many { (result ≡ Err DecodeError.InvalidCode)
+            ↔ (painted_front self.old.held count ≡ Err DecodeError.InvalidCode) }
         ensures memory { result ≡ Err DecodeError.OutOfMemory → StoresChange self.old.held count }
         ensures only { IfErr result (λ e. (e ≡ DecodeError.InvalidCode) ⊎ (e ≡ DecodeError.OutOfMemory)) }
         ensures same { OnErr result (self.new.held ≡ self.old.held) }
@@ -291,7 +294,8 @@ impl DecoderContext {
         requires width { self.old.held.settings.columns ≤ D.width decoder.old }
         requires rows { self.old.held.rows + 1 < 2 ^ 64 }
         ensures width { D.width decoder.new ≡ D.width decoder.old }
-        ensures taken { OnOk result (D.meaning decoder.new ≡ D.step (D.width decoder.old) (D.meaning decoder.old) (changes (continued self.old.held.settings.columns self.old.held.front))) }
+        ensures taken { OnOk result (D.meaning decoder.new
+            ≡ D.step (D.width decoder.old) (D.meaning decoder.old) (changes (taken_row self.old.held))) }
         ensures moved { OnOk result (self.new.held ≡ after_taking self.old.held) }
         ensures flag { OnOk result (D.has_refused decoder.new ≡ D.has_refused decoder.old) }
         ensures kept { OnErr result (D.meaning decoder.new ≡ D.meaning decoder.old) }
@@ -311,7 +315,8 @@ impl DecoderContext {
 
     /// Reads a run of the present colour, paints it and turns the colour.
     fn draw_run(&mut self, reader: &mut BitReader<'_>) -> Result<()>
-        ensures step { DrawsStep (draw_run self.old.held.settings.strict self.old.held.settings.columns (pen_of self.old.held (here reader.old)) Turn.next) result (pen_of self.new.held (here reader.new)) }
+        ensures step { DrawsStep (step_of_run self.old.held (here reader.old))
+            result (pen_of self.new.held (here reader.new)) }
         ensures held { self.new.held ≡ redrawn self.old.held self.new.held.front self.new.held.color }
         ensures same { reader.new.bits ≡ reader.old.bits }
         ensures counts { self.old.ticks ≤ self.new.ticks }
@@ -324,7 +329,8 @@ impl DecoderContext {
 
     /// Draws what a mode says (T.4 section 4.2.1.3).
     fn draw_mode(&mut self, mode: Mode, reader: &mut BitReader<'_>) -> Result<()>
-        ensures step { DrawsStep (draw_mode self.old.held.settings.strict self.old.held.settings.columns self.old.held.reference (pen_of self.old.held (here reader.old)) mode) result (pen_of self.new.held (here reader.new)) }
+        ensures step { DrawsStep (step_of_mode self.old.held (here reader.old) mode)
+            result (pen_of self.new.held (here reader.new)) }
         ensures held { self.new.held ≡ redrawn self.old.held self.new.held.front self.new.held.color }
         ensures same { reader.new.bits ≡ reader.old.bits }
         ensures counts { self.old.ticks ≤ self.new.ticks }
@@ -358,7 +364,8 @@ impl DecoderContext {
 /// section 2.2). After an error of the data the front is what was painted until then. `OutOfMemory` comes only
 /// where the line paints a black pixel, while a change is stored. All else of the context stands.
 pub fn decode_2d_line(ctx: &mut DecoderContext, reader: &mut BitReader<'_>) -> Result<()>
-    ensures line { DrawsLine (line_2d ctx.old.held.settings.strict ctx.old.held.settings.columns ctx.old.held.reference (here reader.old)) result ctx.new.held.front (here reader.new) }
+    ensures line { DrawsLine (line_from_2d ctx.old.held (here reader.old))
+        result ctx.new.held.front (here reader.new) }
     ensures held { ctx.new.held ≡ redrawn ctx.old.held ctx.new.held.front ctx.new.held.color }
     ensures same { reader.new.bits ≡ reader.old.bits }
     ensures counts { ctx.old.ticks ≤ ctx.new.ticks }

@@ -41,7 +41,8 @@ fn is_over(ctx: &DecoderContext, reader: &BitReader<'_>, count: usize) -> bool
 
 /// Moves to the next whole byte after a row, where rows are aligned.
 fn align_row(ctx: &DecoderContext, reader: &mut BitReader<'_>)
-    ensures rest { here reader.new ≡ (if ctx.now.held.settings.rows_are_byte_aligned then aligned (here reader.old) else here reader.old) }
+    ensures rest { here reader.new ≡ (if ctx.now.held.settings.rows_are_byte_aligned
+        then aligned (here reader.old) else here reader.old) }
     ensures same { reader.new.bits ≡ reader.old.bits }
 {
     if ctx.settings().rows_are_byte_aligned {
@@ -67,11 +68,15 @@ pub fn decode<D: Decoder>(
     ensures meaning { D.meaning decoder.new ≡ meaning_after (D.step (D.width decoder.old)) (D.meaning decoder.old)
         (take ctx.new.held.rows (plain_group4 ctx.old.held.settings reader.old.bits).rows) }
     ensures taken { ctx.new.held.rows ≤ length (plain_group4 ctx.old.held.settings reader.old.bits).rows }
-    ensures all { OnAnswer result (ctx.new.held.rows ≡ length (plain_group4 ctx.old.held.settings reader.old.bits).rows) }
+    ensures all { OnAnswer result (ctx.new.held.rows
+        ≡ length (plain_group4 ctx.old.held.settings reader.old.bits).rows) }
     ensures ok { OnOk result ((plain_group4 ctx.old.held.settings reader.old.bits).outcome ≡ Ok (here reader.new)) }
-    ensures fault { IfErr result (λ e. IsFault e → (plain_group4 ctx.old.held.settings reader.old.bits).outcome ≡ Err e) }
-    ensures memory { result ≡ Err DecodeError.OutOfMemory → PaintsBlack (lines_by EncodingMode.Group4 ctx.old.held.settings reader.old.bits) ctx.new.held.rows }
-    ensures refused { result ≡ Err DecodeError.Refused → ctx.new.held.rows < length (plain_group4 ctx.old.held.settings reader.old.bits).rows }
+    ensures fault { IfErr result (λ e. IsFault e
+        → (plain_group4 ctx.old.held.settings reader.old.bits).outcome ≡ Err e) }
+    ensures memory { result ≡ Err DecodeError.OutOfMemory
+        → PaintsBlack (lines_by EncodingMode.Group4 ctx.old.held.settings reader.old.bits) ctx.new.held.rows }
+    ensures refused { result ≡ Err DecodeError.Refused
+        → ctx.new.held.rows < length (plain_group4 ctx.old.held.settings reader.old.bits).rows }
     ensures flag { result ≡ Err DecodeError.Refused → D.has_refused decoder.new ≡ true }
     ensures no_flag { result ≢ Err DecodeError.Refused → D.has_refused decoder.new ≡ D.has_refused decoder.old }
     ensures same { reader.new.bits ≡ reader.old.bits }

@@ -82,17 +82,23 @@ pub fn decode<D: Decoder>(data: &[u8], decoder: &mut D, ctx: &mut DecoderContext
     ensures fault { IfErr result (λ e. IsFault e → (plain ctx.old.held.settings «data».now).1 ≡ Err e) }
     ensures all { OnAnswer result (ctx.new.held.rows ≡ length (plain ctx.old.held.settings «data».now).0) }
     ensures within { IfOk result (λ n. n ≤ length «data».now) }
-    ensures memory { result ≡ Err DecodeError.OutOfMemory → PaintsBlack (lines_of ctx.old.held.settings «data».now) ctx.new.held.rows }
-    ensures refused { result ≡ Err DecodeError.Refused → ctx.new.held.rows < length (plain ctx.old.held.settings «data».now).0 }
+    ensures memory { result ≡ Err DecodeError.OutOfMemory
+        → PaintsBlack (lines_of ctx.old.held.settings «data».now) ctx.new.held.rows }
+    ensures refused { result ≡ Err DecodeError.Refused
+        → ctx.new.held.rows < length (plain ctx.old.held.settings «data».now).0 }
     ensures flag { result ≡ Err DecodeError.Refused → D.has_refused decoder.new ≡ true }
     ensures no_flag { result ≢ Err DecodeError.Refused → D.has_refused decoder.new ≡ D.has_refused decoder.old }
     ensures has_eols { ctx.new.held.has_eols ≡ false }
 
     // A T.6 encoding closed by EOFB gives its picture, whatever follows it, and so do as many lines as the limit.
-    ensures picture { (rows : List Row) (bits : Bits) → BeginsWithPictureT6 ctx.old.held.settings rows bits (bits_of «data».now)
-        → OnAnswer result ((result ≡ Ok ((length bits + 7) / 8)) × (D.meaning decoder.new ≡ meaning_after (D.step (D.width decoder.old)) (D.meaning decoder.old) rows)) }
-    ensures limited { (rows : List Row) (bits : Bits) → BeginsWithRowsT6 ctx.old.held.settings rows bits (bits_of «data».now)
-        → OnAnswer result (IsOk result × (D.meaning decoder.new ≡ meaning_after (D.step (D.width decoder.old)) (D.meaning decoder.old) rows)) }
+    ensures picture { (rows : List Row) (bits : Bits)
+        → BeginsWithPictureT6 ctx.old.held.settings rows bits (bits_of «data».now)
+        → OnAnswer result ((result ≡ Ok ((length bits + 7) / 8))
+        × (D.meaning decoder.new ≡ meaning_after (D.step (D.width decoder.old)) (D.meaning decoder.old) rows)) }
+    ensures limited { (rows : List Row) (bits : Bits)
+        → BeginsWithRowsT6 ctx.old.held.settings rows bits (bits_of «data».now)
+        → OnAnswer result (IsOk result
+        × (D.meaning decoder.new ≡ meaning_after (D.step (D.width decoder.old)) (D.meaning decoder.old) rows)) }
 {
     ctx.restart();
     if ctx.settings().columns == 0 {
