@@ -1,8 +1,9 @@
 //! What no clause says: that the rules are those of the standards, and that each call succeeds. The answers were
-//! worked out by hand from T.4 and T.6.
+//! worked out from T.4 and T.6, apart from the decoder.
 
-ghost use Rattle.std.specs.Prelude.{◌≡◌, ◌≤◌};
+ghost use Rattle.std.specs.Prelude.{◌≡◌};
 
+use hayro_ccitt::DecodeError::{InvalidCode, OutOfMemory, Overflow, Refused, UnexpectedEof};
 use hayro_ccitt::bit_reader::BitReader;
 use hayro_ccitt::codes::{Color, Mode, Ticks};
 use hayro_ccitt::context::decode_2d_line;
@@ -11,7 +12,7 @@ use hayro_ccitt::{
     DecodeError, DecodeSettings, Decoder, DecoderContext, EncodingMode, Result, bits_fit, decode,
     group4,
 };
-use std::alloc::{AllocError, Global};
+use std::alloc::{AllocError, AllocGlobal, Global};
 use std::process::Abort;
 use std::test::Fail;
 
@@ -46,7 +47,7 @@ impl Decoder for Limited {
             return Ok(());
         }
         self.has_refused = true;
-        Err(DecodeError::Refused)
+        Err(Refused)
     }
 }
 
@@ -93,8 +94,7 @@ fn has_rows(rt: &impl Abort, sink: &Limited, rows: &[&[u32]], data: &[u8]) {
 
 /// Decodes in a context, and compares the rows and the answer.
 fn decodes_in(
-    rt: &impl Abort,
-    alloc: Global,
+    rt: &(impl Abort + AllocGlobal),
     ctx: &mut DecoderContext,
     data: &[u8],
     rows: &[&[u32]],
@@ -104,7 +104,7 @@ fn decodes_in(
     ensures { ctx.new.held.settings ≡ ctx.old.held.settings }
 {
     assert!(rt; bits_fit(data));
-    let mut sink = sink_of(alloc, ctx.settings().columns, usize::MAX);
+    let mut sink = sink_of(rt.alloc(), ctx.settings().columns, usize::MAX);
     assert_eq!(rt;
         decode(data, &mut sink, ctx),
         answer,
@@ -120,8 +120,7 @@ fn decodes_in(
 
 /// Decodes in a context of its own, and compares the rows and the answer.
 fn decodes(
-    rt: &impl Abort,
-    alloc: Global,
+    rt: &(impl Abort + AllocGlobal),
     settings: DecodeSettings,
     data: &[u8],
     rows: &[&[u32]],
@@ -129,10 +128,10 @@ fn decodes(
 )
     requires { settings.encoding ≡ EncodingMode.Group4 }
 {
-    let Ok(mut ctx) = DecoderContext::new(alloc, settings) else {
+    let Ok(mut ctx) = DecoderContext::new(rt.alloc(), settings) else {
         panic!(rt; "no memory");
     };
-    decodes_in(rt, alloc, &mut ctx, data, rows, answer);
+    decodes_in(rt, &mut ctx, data, rows, answer);
 }
 
 /// So many copies of a piece, and what follows them.
@@ -152,8 +151,7 @@ fn repeated(
 
 /// Refuses each row in turn; the same context then gives all the rows and the answer.
 fn refuses_each(
-    rt: &impl Abort,
-    alloc: Global,
+    rt: &(impl Abort + AllocGlobal),
     settings: DecodeSettings,
     data: &[u8],
     rows: &[&[u32]],
@@ -163,16 +161,16 @@ fn refuses_each(
 {
     assert!(rt; bits_fit(data));
     for limit in 0..rows.len() {
-        let Ok(mut ctx) = DecoderContext::new(alloc, settings) else {
+        let Ok(mut ctx) = DecoderContext::new(rt.alloc(), settings) else {
             panic!(rt; "no memory");
         };
-        let mut sink = sink_of(alloc, settings.columns, limit);
+        let mut sink = sink_of(rt.alloc(), settings.columns, limit);
         let refused = decode(data, &mut sink, &mut ctx);
-        assert_eq!(rt; refused, Err(DecodeError::Refused), "after {limit} rows");
+        assert_eq!(rt; refused, Err(Refused), "after {limit} rows");
         assert!(rt; sink.has_refused);
         has_rows(rt, &sink, &rows[..limit], data);
         assert_eq!(rt; ctx.decoded_rows(), limit as u64);
-        decodes_in(rt, alloc, &mut ctx, data, rows, answer);
+        decodes_in(rt, &mut ctx, data, rows, answer);
     }
 }
 
@@ -189,28 +187,13 @@ fn first_32(bits: &[u8]) -> u32 {
 #[test]
 fn rows_of_each_mode(rt: HostRuntime) {
     let one_row = group_4(8, 1, "");
-    decodes(&rt, rt.alloc(), one_row, &[0x80], &[&[]], Ok(1));
-    decodes(&rt, rt.alloc(), one_row, &[0x31, 0xC0], &[&[3, 5]], Ok(2));
+    decodes(&rt, one_row, &[0x80], &[&[]], Ok(1));
+    decodes(&rt, one_row, &[0x31, 0xC0], &[&[3, 5]], Ok(2));
     let two_rows = group_4(8, 2, "");
+    decodes(&rt, two_rows, &[0x31, 0xF8], &[&[3, 5], &[3, 5]], Ok(2));
+    decodes(&rt, two_rows, &[0x31, 0xC6], &[&[3, 5], &[]], Ok(2));
     decodes(
         &rt,
-        rt.alloc(),
-        two_rows,
-        &[0x31, 0xF8],
-        &[&[3, 5], &[3, 5]],
-        Ok(2),
-    );
-    decodes(
-        &rt,
-        rt.alloc(),
-        two_rows,
-        &[0x31, 0xC6],
-        &[&[3, 5], &[]],
-        Ok(2),
-    );
-    decodes(
-        &rt,
-        rt.alloc(),
         two_rows,
         &[0x31, 0xDB, 0x80],
         &[&[3, 5], &[4, 6]],
@@ -218,7 +201,6 @@ fn rows_of_each_mode(rt: HostRuntime) {
     );
     decodes(
         &rt,
-        rt.alloc(),
         two_rows,
         &[0x38, 0xA0, 0x81, 0x70],
         &[&[5, 6], &[2, 3, 5, 6]],
@@ -229,143 +211,58 @@ fn rows_of_each_mode(rt: HostRuntime) {
 #[test]
 fn faults_of_the_data(rt: HostRuntime) {
     let one_row = group_4(8, 1, "");
+    decodes(&rt, one_row, &[0x00], &[], Err(InvalidCode));
+    decodes(&rt, one_row, &[0x31], &[], Err(UnexpectedEof));
+    decodes(&rt, group_4(8, 0, ""), &[0x80], &[&[]], Err(InvalidCode));
     decodes(
         &rt,
-        rt.alloc(),
-        one_row,
-        &[0x00],
-        &[],
-        Err(DecodeError::InvalidCode),
-    );
-    decodes(
-        &rt,
-        rt.alloc(),
-        one_row,
-        &[0x31],
-        &[],
-        Err(DecodeError::UnexpectedEof),
-    );
-    decodes(
-        &rt,
-        rt.alloc(),
-        group_4(8, 0, ""),
-        &[0x80],
-        &[&[]],
-        Err(DecodeError::InvalidCode),
-    );
-    decodes(
-        &rt,
-        rt.alloc(),
         group_4(8, 2, ""),
         &[0x26, 0xA2, 0xA0],
         &[&[0]],
-        Err(DecodeError::Overflow),
+        Err(Overflow),
     );
 }
 
 #[test]
 fn strict_and_lenient(rt: HostRuntime) {
-    decodes(&rt, rt.alloc(), group_4(8, 1, ""), &[0x60], &[&[]], Ok(1));
-    decodes(
-        &rt,
-        rt.alloc(),
-        group_4(8, 1, "s"),
-        &[0x60],
-        &[],
-        Err(DecodeError::InvalidCode),
-    );
-    decodes(
-        &rt,
-        rt.alloc(),
-        group_4(8, 1, ""),
-        &[0x00, 0x18],
-        &[&[]],
-        Ok(2),
-    );
-    decodes(
-        &rt,
-        rt.alloc(),
-        group_4(8, 1, "s"),
-        &[0x00, 0x18],
-        &[&[]],
-        Ok(2),
-    );
+    decodes(&rt, group_4(8, 1, ""), &[0x60], &[&[]], Ok(1));
+    decodes(&rt, group_4(8, 1, "s"), &[0x60], &[], Err(InvalidCode));
+    decodes(&rt, group_4(8, 1, ""), &[0x00, 0x18], &[&[]], Ok(2));
+    decodes(&rt, group_4(8, 1, "s"), &[0x00, 0x18], &[&[]], Ok(2));
 }
 
 #[test]
 fn aligned_rows(rt: HostRuntime) {
-    decodes(&rt, rt.alloc(), group_4(8, 0, "a"), &[0x80], &[&[]], Ok(1));
+    decodes(&rt, group_4(8, 0, "a"), &[0x80], &[&[]], Ok(1));
     let rows: &[&[u32]] = &[&[3, 5], &[3, 5]];
-    decodes(
-        &rt,
-        rt.alloc(),
-        group_4(8, 2, "a"),
-        &[0x31, 0xC0, 0xE0],
-        rows,
-        Ok(3),
-    );
+    decodes(&rt, group_4(8, 2, "a"), &[0x31, 0xC0, 0xE0], rows, Ok(3));
     let closed = [0x31, 0xC0, 0xE0, 0x00, 0x10, 0x01];
-    decodes(&rt, rt.alloc(), group_4(8, 0, "ba"), &closed, rows, Ok(6));
+    decodes(&rt, group_4(8, 0, "ba"), &closed, rows, Ok(6));
 }
 
 #[test]
 fn ends_of_an_image(rt: HostRuntime) {
-    decodes(&rt, rt.alloc(), group_4(8, 1, ""), &[], &[], Ok(0));
-    decodes(
-        &rt,
-        rt.alloc(),
-        group_4(0, 0, ""),
-        &[0x31, 0xC0],
-        &[],
-        Ok(0),
-    );
+    decodes(&rt, group_4(8, 1, ""), &[], &[], Ok(0));
+    decodes(&rt, group_4(0, 0, ""), &[0x31, 0xC0], &[], Ok(0));
     let closed = [0x80, 0x08, 0x00, 0x80];
-    decodes(&rt, rt.alloc(), group_4(8, 0, "b"), &closed, &[&[]], Ok(4));
-    decodes(&rt, rt.alloc(), group_4(8, 1, "b"), &closed, &[&[]], Ok(4));
-    decodes(
-        &rt,
-        rt.alloc(),
-        group_4(8, 0, "b"),
-        &[0x00, 0x10, 0x01],
-        &[],
-        Ok(3),
-    );
+    decodes(&rt, group_4(8, 0, "b"), &closed, &[&[]], Ok(4));
+    decodes(&rt, group_4(8, 1, "b"), &closed, &[&[]], Ok(4));
+    decodes(&rt, group_4(8, 0, "b"), &[0x00, 0x10, 0x01], &[], Ok(3));
     let more = [0x80, 0x08, 0x00, 0x80, 0x00, 0x10, 0x01];
-    decodes(&rt, rt.alloc(), group_4(8, 0, "b"), &more, &[&[]], Ok(4));
-    decodes(&rt, rt.alloc(), group_4(8, 1, ""), &more, &[&[]], Ok(7));
+    decodes(&rt, group_4(8, 0, "b"), &more, &[&[]], Ok(4));
+    decodes(&rt, group_4(8, 1, ""), &more, &[&[]], Ok(7));
 }
 
 #[test]
 fn widest_rows(rt: HostRuntime) {
     let one_row = group_4(u32::MAX, 1, "");
-    decodes(&rt, rt.alloc(), one_row, &[0x80], &[&[]], Ok(1));
-    decodes(&rt, rt.alloc(), one_row, &[0x50], &[&[4294967294]], Ok(1));
-    decodes(
-        &rt,
-        rt.alloc(),
-        one_row,
-        &[0x60],
-        &[],
-        Err(DecodeError::Overflow),
-    );
+    decodes(&rt, one_row, &[0x80], &[&[]], Ok(1));
+    decodes(&rt, one_row, &[0x50], &[&[4294967294]], Ok(1));
+    decodes(&rt, one_row, &[0x60], &[], Err(Overflow));
     let strict = group_4(u32::MAX, 1, "s");
-    decodes(
-        &rt,
-        rt.alloc(),
-        strict,
-        &[0x60],
-        &[],
-        Err(DecodeError::Overflow),
-    );
+    decodes(&rt, strict, &[0x60], &[], Err(Overflow));
     let rows: &[&[u32]] = &[&[4294967294], &[4294967294]];
-    decodes(
-        &rt,
-        rt.alloc(),
-        group_4(u32::MAX, 2, ""),
-        &[0x5C],
-        rows,
-        Ok(1),
-    );
+    decodes(&rt, group_4(u32::MAX, 2, ""), &[0x5C], rows, Ok(1));
 }
 
 #[test]
@@ -378,57 +275,29 @@ fn rows_of_many_changes(rt: HostRuntime) -> std::result::Result<(), Fail> {
     let runs = [0x23, 0xA2, 0x3A];
     let then_white = [0x20, 0x3E, 0x99, 0x35, 0x0D, 0xC0];
     let data = repeated(rt.alloc(), &runs, 1024, &then_white)?;
-    decodes(&rt, rt.alloc(), settings, &data, &[&changes, &[]], Ok(3078));
+    decodes(&rt, settings, &data, &[&changes, &[]], Ok(3078));
     let verticals = repeated(rt.alloc(), &[0xFF], 512, &[])?;
     let data = repeated(rt.alloc(), &runs, 1024, &verticals)?;
-    decodes(
-        &rt,
-        rt.alloc(),
-        settings,
-        &data,
-        &[&changes, &changes],
-        Ok(3584),
-    );
+    decodes(&rt, settings, &data, &[&changes, &changes], Ok(3584));
     Ok(())
 }
 
 #[test]
 fn refusals_of_rows(rt: HostRuntime) {
     let rows: &[&[u32]] = &[&[3, 5], &[3, 5]];
-    refuses_each(
-        &rt,
-        rt.alloc(),
-        group_4(8, 2, ""),
-        &[0x31, 0xF8],
-        rows,
-        Ok(2),
-    );
+    refuses_each(&rt, group_4(8, 2, ""), &[0x31, 0xF8], rows, Ok(2));
     let white: &[&[u32]] = &[&[], &[], &[]];
-    refuses_each(
-        &rt,
-        rt.alloc(),
-        group_4(8, 0, "a"),
-        &[0x80; 3],
-        white,
-        Ok(3),
-    );
+    refuses_each(&rt, group_4(8, 0, "a"), &[0x80; 3], white, Ok(3));
     let closed = [0x31, 0xC0, 0xE0, 0x00, 0x10, 0x01];
-    refuses_each(&rt, rt.alloc(), group_4(8, 0, "ba"), &closed, rows, Ok(6));
+    refuses_each(&rt, group_4(8, 0, "ba"), &closed, rows, Ok(6));
 }
 
 #[test]
 fn one_context_decodes_again(rt: HostRuntime) -> std::result::Result<(), Fail> {
     let mut ctx = DecoderContext::new(rt.alloc(), group_4(8, 2, ""))?;
     let left_of_the_row = [0x26, 0xA2, 0xA0];
-    decodes_in(
-        &rt,
-        rt.alloc(),
-        &mut ctx,
-        &left_of_the_row,
-        &[&[0]],
-        Err(DecodeError::Overflow),
-    );
-    decodes_in(&rt, rt.alloc(), &mut ctx, &[0xC0], &[&[], &[]], Ok(1));
+    decodes_in(&rt, &mut ctx, &left_of_the_row, &[&[0]], Err(Overflow));
+    decodes_in(&rt, &mut ctx, &[0xC0], &[&[], &[]], Ok(1));
     Ok(())
 }
 
@@ -437,45 +306,31 @@ fn cut_before_and_in_eofb(rt: HostRuntime) {
     let settings = group_4(8, 0, "b");
     let data = [0x80, 0x08, 0x00, 0x80];
     for (length, answer) in [
-        (1, Err(DecodeError::InvalidCode)),
-        (2, Err(DecodeError::UnexpectedEof)),
-        (3, Err(DecodeError::InvalidCode)),
+        (1, Err(InvalidCode)),
+        (2, Err(UnexpectedEof)),
+        (3, Err(InvalidCode)),
         (4, Ok(4)),
     ] {
-        decodes(&rt, rt.alloc(), settings, &data[..length], &[&[]], answer);
+        decodes(&rt, settings, &data[..length], &[&[]], answer);
     }
-    decodes(&rt, rt.alloc(), settings, &[], &[], Ok(0));
-    decodes(
-        &rt,
-        rt.alloc(),
-        settings,
-        &[0x00],
-        &[],
-        Err(DecodeError::InvalidCode),
-    );
-    decodes(
-        &rt,
-        rt.alloc(),
-        settings,
-        &[0x00, 0x10],
-        &[],
-        Err(DecodeError::UnexpectedEof),
-    );
+    decodes(&rt, settings, &[], &[], Ok(0));
+    decodes(&rt, settings, &[0x00], &[], Err(InvalidCode));
+    decodes(&rt, settings, &[0x00, 0x10], &[], Err(UnexpectedEof));
 }
 
 #[test]
 fn cut_after_the_row_limit(rt: HostRuntime) {
     let settings = group_4(8, 1, "");
     let data = [0x80, 0x08, 0x00, 0x80, 0x00, 0x10, 0x01];
-    decodes(&rt, rt.alloc(), settings, &[], &[], Ok(0));
+    decodes(&rt, settings, &[], &[], Ok(0));
     for (length, read) in [(1, 1), (2, 2), (3, 2), (4, 4), (5, 4), (6, 6), (7, 7)] {
-        decodes(&rt, rt.alloc(), settings, &data[..length], &[&[]], Ok(read));
+        decodes(&rt, settings, &data[..length], &[&[]], Ok(read));
     }
 }
 
 #[test]
 fn cut_between_and_in_rows(rt: HostRuntime) {
-    let cut = Err(DecodeError::UnexpectedEof);
+    let cut = Err(UnexpectedEof);
     let aligned = group_4(8, 0, "ba");
     let rows: &[&[u32]] = &[&[3, 5], &[3, 5]];
     let data = [0x31, 0xC0, 0xE0, 0x00, 0x10];
@@ -484,29 +339,15 @@ fn cut_between_and_in_rows(rt: HostRuntime) {
         (1, 0, cut),
         (2, 1, Ok(2)),
         (3, 2, Ok(3)),
-        (4, 2, Err(DecodeError::InvalidCode)),
+        (4, 2, Err(InvalidCode)),
         (5, 2, cut),
     ] {
-        decodes(
-            &rt,
-            rt.alloc(),
-            aligned,
-            &data[..length],
-            &rows[..count],
-            answer,
-        );
+        decodes(&rt, aligned, &data[..length], &rows[..count], answer);
     }
     let packed = group_4(8, 2, "");
-    decodes(&rt, rt.alloc(), packed, &[0x31], &[], cut);
-    decodes(&rt, rt.alloc(), packed, &[0x31, 0xDB], &[&[3, 5]], cut);
-    decodes(
-        &rt,
-        rt.alloc(),
-        packed,
-        &[0x38, 0xA0, 0x81],
-        &[&[5, 6]],
-        cut,
-    );
+    decodes(&rt, packed, &[0x31], &[], cut);
+    decodes(&rt, packed, &[0x31, 0xDB], &[&[3, 5]], cut);
+    decodes(&rt, packed, &[0x38, 0xA0, 0x81], &[&[5, 6]], cut);
 }
 
 #[test]
@@ -525,7 +366,7 @@ fn reads_bits(rt: HostRuntime) -> std::result::Result<(), Fail> {
     assert!(rt; !reader.at_end());
     assert_eq!(rt; reader.read_bit(), Ok(0));
     assert!(rt; reader.at_end());
-    assert_eq!(rt; reader.read_bit(), Err(DecodeError::UnexpectedEof));
+    assert_eq!(rt; reader.read_bit(), Err(UnexpectedEof));
     assert_eq!(rt; kept.bit_pos(), 2);
     Ok(())
 }
@@ -544,7 +385,7 @@ fn consumes_as_a_list_of_bits(rt: HostRuntime) {
                 let answer = if n <= rest.len() {
                     Ok(())
                 } else {
-                    Err(DecodeError::UnexpectedEof)
+                    Err(UnexpectedEof)
                 };
                 rest = rest.get(n..).unwrap_or(&[]);
                 assert_eq!(rt; reader.consume(n), answer, "{n} of {data:?}");
@@ -584,8 +425,8 @@ fn runs_that_are_none(rt: HostRuntime) -> std::result::Result<(), Fail> {
     let tables = Tables::new(rt.alloc())?;
     let mut ticks = Ticks::new();
     for (data, error) in [
-        (&[0x01][..], DecodeError::UnexpectedEof),
-        (&[0x00, 0x00, 0x00], DecodeError::InvalidCode),
+        (&[0x01][..], UnexpectedEof),
+        (&[0x00, 0x00, 0x00], InvalidCode),
     ] {
         assert!(rt; bits_fit(data));
         let found = BitReader::new(data).decode_run(Color::White, &tables, &mut ticks);
@@ -614,10 +455,7 @@ fn reads_modes(rt: HostRuntime) {
         assert_eq!(rt; reader.decode_mode(&mut ticks), Ok(mode));
     }
     assert_eq!(rt; reader.bit_pos(), 40);
-    assert_eq!(rt;
-        reader.decode_mode(&mut ticks),
-        Err(DecodeError::UnexpectedEof)
-    );
+    assert_eq!(rt; reader.decode_mode(&mut ticks), Err(UnexpectedEof));
 }
 
 #[test]
@@ -675,7 +513,7 @@ fn makes_and_resets_a_context(rt: HostRuntime) -> std::result::Result<(), Fail> 
     );
     assert_eq!(rt; (ctx.decoded_rows(), ctx.has_eols()), (0, false));
     ctx.ticks().tick();
-    decodes_in(&rt, rt.alloc(), &mut ctx, &[0xC0], &[&[], &[]], Ok(1));
+    decodes_in(&rt, &mut ctx, &[0xC0], &[&[], &[]], Ok(1));
     ctx.set_has_eols(true);
     assert_eq!(rt; (ctx.decoded_rows(), ctx.has_eols()), (2, true));
     ctx.reset();
@@ -700,7 +538,7 @@ fn draws_lines(rt: HostRuntime) -> std::result::Result<(), Fail> {
     assert_eq!(rt; ctx.next_line(&mut sink), Ok(()));
     has_rows(&rt, &sink, &[&[3, 5], &[]], &data);
     assert_eq!(rt; ctx.decoded_rows(), 2);
-    assert_eq!(rt; ctx.next_line(&mut sink), Err(DecodeError::Refused));
+    assert_eq!(rt; ctx.next_line(&mut sink), Err(Refused));
     Ok(())
 }
 
@@ -720,17 +558,14 @@ fn decodes_from_a_reader(rt: HostRuntime) -> std::result::Result<(), Fail> {
 #[test]
 fn prints_errors(rt: HostRuntime) -> std::result::Result<(), Fail> {
     for (error, text) in [
-        (DecodeError::UnexpectedEof, "unexpected end of input"),
-        (DecodeError::InvalidCode, "invalid CCITT code sequence"),
-        (
-            DecodeError::Overflow,
-            "arithmetic overflow in position calculation",
-        ),
-        (DecodeError::OutOfMemory, "out of memory"),
-        (DecodeError::Refused, "row refused"),
+        (UnexpectedEof, "unexpected end of input"),
+        (InvalidCode, "invalid CCITT code sequence"),
+        (Overflow, "arithmetic overflow in position calculation"),
+        (OutOfMemory, "out of memory"),
+        (Refused, "row refused"),
     ] {
         assert_eq!(rt; error.to_string(rt.alloc())?.as_str(), text);
     }
-    assert_eq!(rt; DecodeError::from(AllocError), DecodeError::OutOfMemory);
+    assert_eq!(rt; DecodeError::from(AllocError), OutOfMemory);
     Ok(())
 }
