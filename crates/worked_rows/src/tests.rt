@@ -80,7 +80,7 @@ fn group_4(columns: u32, rows: u32, flags: &str) -> DecodeSettings
     }
 }
 
-/// Compares the rows of a sink.
+/// Compares the rows of a sink, which are named by data.
 fn has_rows(rt: &impl Abort, sink: &Limited, rows: &[&[u32]], data: &[u8]) {
     assert_eq!(rt;
         sink.rows.len(),
@@ -103,18 +103,19 @@ fn decodes_in(
     requires { ctx.old.held.settings.encoding ≡ EncodingMode.Group4 }
     ensures { ctx.new.held.settings ≡ ctx.old.held.settings }
 {
+    let front = data.get(..16).unwrap_or(data);
     assert!(rt; bits_fit(data));
     let mut sink = sink_of(rt.alloc(), ctx.settings().columns, usize::MAX);
     assert_eq!(rt;
         decode(data, &mut sink, ctx),
         answer,
-        "the answer of {data:?}"
+        "the answer of {front:?}"
     );
-    has_rows(rt, &sink, rows, data);
+    has_rows(rt, &sink, rows, front);
     assert_eq!(rt;
         ctx.decoded_rows(),
         rows.len() as u64,
-        "decoded_rows of {data:?}"
+        "decoded_rows of {front:?}"
     );
 }
 
