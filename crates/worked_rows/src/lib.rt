@@ -9,6 +9,9 @@ ghost use Rattle.hayro_ccitt.specs.Examples.{reading_of, group4, group3_1d, grou
 
 use hayro_ccitt::DecodeError;
 
+#[cfg(test)]
+mod tests;
+
 /// Group 4 (T.6).
 pub fn group4_examples()
     ensures empty_data_ends_a_group_4_run { reading_of (group4 8 1 "") "" ≡ ([], Ok 0) }

@@ -1,0 +1,572 @@
+//! What no clause says: that the rules are those of the standards, and that each call succeeds. The answers were
+//! worked out from T.4 and T.6, apart from the decoder.
+
+ghost use Rattle.std.specs.Prelude.{◌≡◌};
+
+use hayro_ccitt::DecodeError::{InvalidCode, OutOfMemory, Overflow, Refused, UnexpectedEof};
+use hayro_ccitt::bit_reader::BitReader;
+use hayro_ccitt::codes::{Color, Mode, Ticks};
+use hayro_ccitt::context::decode_2d_line;
+use hayro_ccitt::tables::Tables;
+use hayro_ccitt::{
+    DecodeError, DecodeSettings, Decoder, DecoderContext, EncodingMode, Result, bits_fit, decode,
+    group4,
+};
+use std::alloc::{AllocError, AllocGlobal, Global};
+use std::process::Abort;
+use std::test::Fail;
+
+/// A sink that keeps so many rows and refuses the next.
+#[derive(Drop)]
+struct Limited {
+    alloc: Global,
+    columns: u32,
+    limit: usize,
+    rows: Vec<Vec<u32>>,
+    has_refused: bool,
+}
+
+impl Decoder for Limited {
+    ghost use Rattle.std.specs.Prelude.{ℕ, ◌+◌, length};
+
+    ghost Meaning = { ℕ };
+
+    ghost meaning = { λ s. length s.rows.items };
+
+    ghost step = { λ _ rows _. rows + 1 };
+
+    ghost width = { λ s. s.columns };
+
+    ghost has_refused = { λ s. s.has_refused };
+
+    fn push_row(&mut self, changes: &[u32]) -> Result<()> {
+        if self.rows.len() < self.limit
+            && let Ok(row) = changes.to_vec(self.alloc)
+            && self.rows.push(row).is_ok()
+        {
+            return Ok(());
+        }
+        self.has_refused = true;
+        Err(Refused)
+    }
+}
+
+/// A sink for rows of so many columns.
+fn sink_of(alloc: Global, columns: u32, limit: usize) -> Limited
+    ensures { result.columns ≡ columns }
+{
+    Limited {
+        alloc,
+        columns,
+        limit,
+        rows: Vec::new(alloc),
+        has_refused: false,
+    }
+}
+
+/// Settings of Group 4. The flags are a for aligned rows, b for EOFB and s for strict.
+fn group_4(columns: u32, rows: u32, flags: &str) -> DecodeSettings
+    ensures columns { result.columns ≡ columns }
+    ensures encoding { result.encoding ≡ EncodingMode.Group4 }
+{
+    DecodeSettings {
+        columns,
+        rows,
+        end_of_block: flags.contains('b'),
+        end_of_line: false,
+        rows_are_byte_aligned: flags.contains('a'),
+        encoding: EncodingMode::Group4,
+        strict: flags.contains('s'),
+    }
+}
+
+/// Compares the rows of a sink, which are named by data.
+fn has_rows(rt: &impl Abort, sink: &Limited, rows: &[&[u32]], data: &[u8]) {
+    assert_eq!(rt;
+        sink.rows.len(),
+        rows.len(),
+        "the number of rows of {data:?}"
+    );
+    for (row, changes) in sink.rows.iter().zip(rows) {
+        assert_eq!(rt; row.as_slice(), *changes, "a row of {data:?}");
+    }
+}
+
+/// Decodes in a context, and compares the rows and the answer.
+fn decodes_in(
+    rt: &(impl Abort + AllocGlobal),
+    ctx: &mut DecoderContext,
+    data: &[u8],
+    rows: &[&[u32]],
+    answer: Result<usize>,
+)
+    requires { ctx.old.held.settings.encoding ≡ EncodingMode.Group4 }
+    ensures { ctx.new.held.settings ≡ ctx.old.held.settings }
+{
+    let front = data.get(..16).unwrap_or(data);
+    assert!(rt; bits_fit(data));
+    let mut sink = sink_of(rt.alloc(), ctx.settings().columns, usize::MAX);
+    assert_eq!(rt;
+        decode(data, &mut sink, ctx),
+        answer,
+        "the answer of {front:?}"
+    );
+    has_rows(rt, &sink, rows, front);
+    assert_eq!(rt;
+        ctx.decoded_rows(),
+        rows.len() as u64,
+        "decoded_rows of {front:?}"
+    );
+}
+
+/// Decodes in a context of its own, and compares the rows and the answer.
+fn decodes(
+    rt: &(impl Abort + AllocGlobal),
+    settings: DecodeSettings,
+    data: &[u8],
+    rows: &[&[u32]],
+    answer: Result<usize>,
+)
+    requires { settings.encoding ≡ EncodingMode.Group4 }
+{
+    let Ok(mut ctx) = DecoderContext::new(rt.alloc(), settings) else {
+        panic!(rt; "no memory");
+    };
+    decodes_in(rt, &mut ctx, data, rows, answer);
+}
+
+/// So many copies of a piece, and what follows them.
+fn repeated(
+    alloc: Global,
+    piece: &[u8],
+    times: usize,
+    after: &[u8],
+) -> std::result::Result<Vec<u8>, AllocError> {
+    let mut data = Vec::new(alloc);
+    for _ in 0..times {
+        data.extend_from_slice(piece)?;
+    }
+    data.extend_from_slice(after)?;
+    Ok(data)
+}
+
+/// Refuses each row in turn; the same context then gives all the rows and the answer.
+fn refuses_each(
+    rt: &(impl Abort + AllocGlobal),
+    settings: DecodeSettings,
+    data: &[u8],
+    rows: &[&[u32]],
+    answer: Result<usize>,
+)
+    requires { settings.encoding ≡ EncodingMode.Group4 }
+{
+    assert!(rt; bits_fit(data));
+    for limit in 0..rows.len() {
+        let Ok(mut ctx) = DecoderContext::new(rt.alloc(), settings) else {
+            panic!(rt; "no memory");
+        };
+        let mut sink = sink_of(rt.alloc(), settings.columns, limit);
+        let refused = decode(data, &mut sink, &mut ctx);
+        assert_eq!(rt; refused, Err(Refused), "after {limit} rows");
+        assert!(rt; sink.has_refused);
+        has_rows(rt, &sink, &rows[..limit], data);
+        assert_eq!(rt; ctx.decoded_rows(), limit as u64);
+        decodes_in(rt, &mut ctx, data, rows, answer);
+    }
+}
+
+/// The first 32 of some bits, written as digits, as a number; zeros where there are fewer.
+fn first_32(bits: &[u8]) -> u32 {
+    let mut number = 0;
+    for place in 0..32usize {
+        let is_one = bits.get(place) == Some(&b'1');
+        number = number << 1 | u32::from(is_one);
+    }
+    number
+}
+
+#[test]
+fn rows_of_each_mode(rt: HostRuntime) {
+    let one_row = group_4(8, 1, "");
+    decodes(&rt, one_row, &[0x80], &[&[]], Ok(1));
+    decodes(&rt, one_row, &[0x31, 0xC0], &[&[3, 5]], Ok(2));
+    let two_rows = group_4(8, 2, "");
+    decodes(&rt, two_rows, &[0x31, 0xF8], &[&[3, 5], &[3, 5]], Ok(2));
+    decodes(&rt, two_rows, &[0x31, 0xC6], &[&[3, 5], &[]], Ok(2));
+    decodes(
+        &rt,
+        two_rows,
+        &[0x31, 0xDB, 0x80],
+        &[&[3, 5], &[4, 6]],
+        Ok(3),
+    );
+    decodes(
+        &rt,
+        two_rows,
+        &[0x38, 0xA0, 0x81, 0x70],
+        &[&[5, 6], &[2, 3, 5, 6]],
+        Ok(4),
+    );
+}
+
+#[test]
+fn faults_of_the_data(rt: HostRuntime) {
+    let one_row = group_4(8, 1, "");
+    decodes(&rt, one_row, &[0x00], &[], Err(InvalidCode));
+    decodes(&rt, one_row, &[0x31], &[], Err(UnexpectedEof));
+    decodes(&rt, group_4(8, 0, ""), &[0x80], &[&[]], Err(InvalidCode));
+    decodes(
+        &rt,
+        group_4(8, 2, ""),
+        &[0x26, 0xA2, 0xA0],
+        &[&[0]],
+        Err(Overflow),
+    );
+}
+
+#[test]
+fn strict_and_lenient(rt: HostRuntime) {
+    decodes(&rt, group_4(8, 1, ""), &[0x60], &[&[]], Ok(1));
+    decodes(&rt, group_4(8, 1, "s"), &[0x60], &[], Err(InvalidCode));
+    decodes(&rt, group_4(8, 1, ""), &[0x00, 0x18], &[&[]], Ok(2));
+    decodes(&rt, group_4(8, 1, "s"), &[0x00, 0x18], &[&[]], Ok(2));
+}
+
+#[test]
+fn aligned_rows(rt: HostRuntime) {
+    decodes(&rt, group_4(8, 0, "a"), &[0x80], &[&[]], Ok(1));
+    let rows: &[&[u32]] = &[&[3, 5], &[3, 5]];
+    decodes(&rt, group_4(8, 2, "a"), &[0x31, 0xC0, 0xE0], rows, Ok(3));
+    let closed = [0x31, 0xC0, 0xE0, 0x00, 0x10, 0x01];
+    decodes(&rt, group_4(8, 0, "ba"), &closed, rows, Ok(6));
+}
+
+#[test]
+fn ends_of_an_image(rt: HostRuntime) {
+    decodes(&rt, group_4(8, 1, ""), &[], &[], Ok(0));
+    decodes(&rt, group_4(0, 0, ""), &[0x31, 0xC0], &[], Ok(0));
+    let closed = [0x80, 0x08, 0x00, 0x80];
+    decodes(&rt, group_4(8, 0, "b"), &closed, &[&[]], Ok(4));
+    decodes(&rt, group_4(8, 1, "b"), &closed, &[&[]], Ok(4));
+    decodes(&rt, group_4(8, 0, "b"), &[0x00, 0x10, 0x01], &[], Ok(3));
+    let more = [0x80, 0x08, 0x00, 0x80, 0x00, 0x10, 0x01];
+    decodes(&rt, group_4(8, 0, "b"), &more, &[&[]], Ok(4));
+    decodes(&rt, group_4(8, 1, ""), &more, &[&[]], Ok(7));
+}
+
+#[test]
+fn widest_rows(rt: HostRuntime) {
+    let one_row = group_4(u32::MAX, 1, "");
+    decodes(&rt, one_row, &[0x80], &[&[]], Ok(1));
+    decodes(&rt, one_row, &[0x50], &[&[4294967294]], Ok(1));
+    decodes(&rt, one_row, &[0x60], &[], Err(Overflow));
+    let strict = group_4(u32::MAX, 1, "s");
+    decodes(&rt, strict, &[0x60], &[], Err(Overflow));
+    let rows: &[&[u32]] = &[&[4294967294], &[4294967294]];
+    decodes(&rt, group_4(u32::MAX, 2, ""), &[0x5C], rows, Ok(1));
+}
+
+#[test]
+fn rows_of_many_changes(rt: HostRuntime) -> std::result::Result<(), Fail> {
+    let mut changes = Vec::new(rt.alloc());
+    for place in 1..4096u32 {
+        changes.push(place)?;
+    }
+    let settings = group_4(4096, 2, "");
+    let runs = [0x23, 0xA2, 0x3A];
+    let then_white = [0x20, 0x3E, 0x99, 0x35, 0x0D, 0xC0];
+    let data = repeated(rt.alloc(), &runs, 1024, &then_white)?;
+    decodes(&rt, settings, &data, &[&changes, &[]], Ok(3078));
+    let verticals = repeated(rt.alloc(), &[0xFF], 512, &[])?;
+    let data = repeated(rt.alloc(), &runs, 1024, &verticals)?;
+    decodes(&rt, settings, &data, &[&changes, &changes], Ok(3584));
+    Ok(())
+}
+
+#[test]
+fn refusals_of_rows(rt: HostRuntime) {
+    let rows: &[&[u32]] = &[&[3, 5], &[3, 5]];
+    refuses_each(&rt, group_4(8, 2, ""), &[0x31, 0xF8], rows, Ok(2));
+    let white: &[&[u32]] = &[&[], &[], &[]];
+    refuses_each(&rt, group_4(8, 0, "a"), &[0x80; 3], white, Ok(3));
+    let closed = [0x31, 0xC0, 0xE0, 0x00, 0x10, 0x01];
+    refuses_each(&rt, group_4(8, 0, "ba"), &closed, rows, Ok(6));
+}
+
+#[test]
+fn one_context_decodes_again(rt: HostRuntime) -> std::result::Result<(), Fail> {
+    let mut ctx = DecoderContext::new(rt.alloc(), group_4(8, 2, ""))?;
+    let left_of_the_row = [0x26, 0xA2, 0xA0];
+    decodes_in(&rt, &mut ctx, &left_of_the_row, &[&[0]], Err(Overflow));
+    decodes_in(&rt, &mut ctx, &[0xC0], &[&[], &[]], Ok(1));
+    Ok(())
+}
+
+#[test]
+fn cut_before_and_in_eofb(rt: HostRuntime) {
+    let settings = group_4(8, 0, "b");
+    let data = [0x80, 0x08, 0x00, 0x80];
+    for (length, answer) in [
+        (1, Err(InvalidCode)),
+        (2, Err(UnexpectedEof)),
+        (3, Err(InvalidCode)),
+        (4, Ok(4)),
+    ] {
+        decodes(&rt, settings, &data[..length], &[&[]], answer);
+    }
+    decodes(&rt, settings, &[], &[], Ok(0));
+    decodes(&rt, settings, &[0x00], &[], Err(InvalidCode));
+    decodes(&rt, settings, &[0x00, 0x10], &[], Err(UnexpectedEof));
+}
+
+#[test]
+fn cut_after_the_row_limit(rt: HostRuntime) {
+    let settings = group_4(8, 1, "");
+    let data = [0x80, 0x08, 0x00, 0x80, 0x00, 0x10, 0x01];
+    decodes(&rt, settings, &[], &[], Ok(0));
+    for (length, read) in [(1, 1), (2, 2), (3, 2), (4, 4), (5, 4), (6, 6), (7, 7)] {
+        decodes(&rt, settings, &data[..length], &[&[]], Ok(read));
+    }
+}
+
+#[test]
+fn cut_between_and_in_rows(rt: HostRuntime) {
+    let cut = Err(UnexpectedEof);
+    let aligned = group_4(8, 0, "ba");
+    let rows: &[&[u32]] = &[&[3, 5], &[3, 5]];
+    let data = [0x31, 0xC0, 0xE0, 0x00, 0x10];
+    for (length, count, answer) in [
+        (0, 0, Ok(0)),
+        (1, 0, cut),
+        (2, 1, Ok(2)),
+        (3, 2, Ok(3)),
+        (4, 2, Err(InvalidCode)),
+        (5, 2, cut),
+    ] {
+        decodes(&rt, aligned, &data[..length], &rows[..count], answer);
+    }
+    let packed = group_4(8, 2, "");
+    decodes(&rt, packed, &[0x31], &[], cut);
+    decodes(&rt, packed, &[0x31, 0xDB], &[&[3, 5]], cut);
+    decodes(&rt, packed, &[0x38, 0xA0, 0x81], &[&[5, 6]], cut);
+}
+
+#[test]
+fn reads_bits(rt: HostRuntime) -> std::result::Result<(), Fail> {
+    let data = [0b1010_0101, 0b1000_0000];
+    assert!(rt; bits_fit(&data));
+    let mut reader = BitReader::new(&data);
+    assert_eq!(rt; reader.read_bit(), Ok(1));
+    assert_eq!(rt; reader.read_bit(), Ok(0));
+    assert_eq!(rt; (reader.bit_pos(), reader.byte_pos()), (2, 0));
+    assert_eq!(rt; reader.peek_u32(), 0b1001_0110 << 24);
+    let kept = reader.clone()?;
+    reader.align();
+    assert_eq!(rt; (reader.bit_pos(), reader.byte_pos()), (8, 1));
+    assert_eq!(rt; reader.consume(7), Ok(()));
+    assert!(rt; !reader.at_end());
+    assert_eq!(rt; reader.read_bit(), Ok(0));
+    assert!(rt; reader.at_end());
+    assert_eq!(rt; reader.read_bit(), Err(UnexpectedEof));
+    assert_eq!(rt; kept.bit_pos(), 2);
+    Ok(())
+}
+
+#[test]
+fn consumes_as_a_list_of_bits(rt: HostRuntime) {
+    let data = [0xA5, 0x3C, 0x0F, 0x81, 0x7E, 0xC3, 0x18, 0xFF, 0x01];
+    let digits = b"101001010011110000001111100000010111111011000011000110001111111100000001";
+    for length in 0..10usize {
+        let (data, bits) = (&data[..length], &digits[..8 * length]);
+        assert!(rt; bits_fit(data));
+        for n in 0..33usize {
+            let mut reader = BitReader::new(data);
+            let mut rest = bits;
+            for _ in 0..4u32 {
+                let answer = if n <= rest.len() {
+                    Ok(())
+                } else {
+                    Err(UnexpectedEof)
+                };
+                rest = rest.get(n..).unwrap_or(&[]);
+                assert_eq!(rt; reader.consume(n), answer, "{n} of {data:?}");
+                let place = bits.len().checked_sub(rest.len());
+                assert_eq!(rt; Some(reader.bit_pos()), place, "{n} of {data:?}");
+                assert_eq!(rt; reader.peek_u32(), first_32(rest), "{n} of {data:?}");
+            }
+        }
+    }
+}
+
+#[test]
+fn reads_runs(rt: HostRuntime) -> std::result::Result<(), Fail> {
+    let tables = Tables::new(rt.alloc())?;
+    let mut ticks = Ticks::new();
+    for (data, color, run, place) in [
+        ([0x8C, 0x00, 0x00], Color::White, 3, 4),
+        ([0xC0, 0x00, 0x00], Color::Black, 2, 2),
+        ([0x35, 0x00, 0x00], Color::White, 0, 8),
+        ([0x0D, 0xC0, 0x00], Color::Black, 0, 10),
+        ([0x03, 0xC3, 0x70], Color::Black, 64, 20),
+        ([0x4D, 0x9A, 0x80], Color::White, 1728, 17),
+        ([0x01, 0xF3, 0x00], Color::White, 2588, 19),
+        ([0x01, 0xF3, 0x00], Color::Black, 2565, 16),
+    ] {
+        assert!(rt; bits_fit(&data));
+        let mut reader = BitReader::new(&data);
+        let found = reader.decode_run(color, &tables, &mut ticks);
+        assert_eq!(rt; found, Ok(run), "{color:?} of {data:?}");
+        assert_eq!(rt; reader.bit_pos(), place, "{color:?} of {data:?}");
+    }
+    Ok(())
+}
+
+#[test]
+fn runs_that_are_none(rt: HostRuntime) -> std::result::Result<(), Fail> {
+    let tables = Tables::new(rt.alloc())?;
+    let mut ticks = Ticks::new();
+    for (data, error) in [
+        (&[0x01][..], UnexpectedEof),
+        (&[0x00, 0x00, 0x00], InvalidCode),
+    ] {
+        assert!(rt; bits_fit(data));
+        let found = BitReader::new(data).decode_run(Color::White, &tables, &mut ticks);
+        assert_eq!(rt; found, Err(error), "{data:?}");
+    }
+    Ok(())
+}
+
+#[test]
+fn reads_modes(rt: HostRuntime) {
+    let data = [0x13, 0x61, 0x83, 0x41, 0x02];
+    assert!(rt; bits_fit(&data));
+    let mut reader = BitReader::new(&data);
+    let mut ticks = Ticks::new();
+    for mode in [
+        Mode::Pass,
+        Mode::Horizontal,
+        Mode::Vertical(0),
+        Mode::Vertical(1),
+        Mode::Vertical(2),
+        Mode::Vertical(3),
+        Mode::Vertical(-1),
+        Mode::Vertical(-2),
+        Mode::Vertical(-3),
+    ] {
+        assert_eq!(rt; reader.decode_mode(&mut ticks), Ok(mode));
+    }
+    assert_eq!(rt; reader.bit_pos(), 40);
+    assert_eq!(rt; reader.decode_mode(&mut ticks), Err(UnexpectedEof));
+}
+
+#[test]
+fn reads_line_ends(rt: HostRuntime) {
+    let mut ticks = Ticks::new();
+    let two_and_a_one = [0x00, 0x10, 0x01, 0x80];
+    assert!(rt; bits_fit(&two_and_a_one));
+    let mut reader = BitReader::new(&two_and_a_one);
+    let (zeros, after) = reader.zero_run(&mut ticks);
+    assert_eq!(rt; (zeros, after.map(|after| after.bit_pos())), (11, Some(12)));
+    assert_eq!(rt;
+        (reader.read_eols(1, &mut ticks), reader.bit_pos()),
+        (1, 12)
+    );
+    assert_eq!(rt;
+        (reader.read_eols(9, &mut ticks), reader.bit_pos()),
+        (1, 24)
+    );
+    let mut reader = BitReader::new(&two_and_a_one);
+    assert_eq!(rt;
+        (reader.read_eol_if_available(&mut ticks), reader.bit_pos()),
+        (2, 24)
+    );
+    // eight zeros alone, ten zeros and a one, fifteen zeros and a one
+    for (data, count, place) in [
+        (&[0x00][..], 0, 0),
+        (&[0x00, 0x20], 0, 0),
+        (&[0x00, 0x01], 1, 16),
+    ] {
+        assert!(rt; bits_fit(data));
+        let mut reader = BitReader::new(data);
+        assert_eq!(rt; reader.read_eol_if_available(&mut ticks), count, "{data:?}");
+        assert_eq!(rt; reader.bit_pos(), place, "{data:?}");
+    }
+    assert!(rt; bits_fit(&[0x00]));
+    let (zeros, after) = BitReader::new(&[0x00]).zero_run(&mut ticks);
+    assert!(rt; zeros == 8 && after.is_none());
+}
+
+#[test]
+fn colors_and_ticks(rt: HostRuntime) {
+    assert_eq!(rt; Color::White.opposite(), Color::Black);
+    assert_eq!(rt; Color::Black.opposite(), Color::White);
+    assert!(rt; Color::White.is_white() && !Color::Black.is_white());
+    assert_eq!(rt; std::mem::size_of::<Ticks>(), 0);
+}
+
+#[test]
+fn makes_and_resets_a_context(rt: HostRuntime) -> std::result::Result<(), Fail> {
+    let mut ctx = DecoderContext::new(rt.alloc(), group_4(8, 2, "s"))?;
+    let settings = ctx.settings();
+    assert_eq!(rt;
+        (settings.columns, settings.rows, settings.strict),
+        (8, 2, true)
+    );
+    assert_eq!(rt; (ctx.decoded_rows(), ctx.has_eols()), (0, false));
+    ctx.ticks().tick();
+    decodes_in(&rt, &mut ctx, &[0xC0], &[&[], &[]], Ok(1));
+    ctx.set_has_eols(true);
+    assert_eq!(rt; (ctx.decoded_rows(), ctx.has_eols()), (2, true));
+    ctx.reset();
+    assert_eq!(rt; (ctx.decoded_rows(), ctx.has_eols()), (0, false));
+    Ok(())
+}
+
+#[test]
+fn draws_lines(rt: HostRuntime) -> std::result::Result<(), Fail> {
+    let mut ctx = DecoderContext::new(rt.alloc(), group_4(8, 0, ""))?;
+    let mut sink = sink_of(rt.alloc(), 8, 2);
+    let data = [0x31, 0xC0];
+    assert!(rt; bits_fit(&data));
+    let mut reader = BitReader::new(&data);
+    assert_eq!(rt; (ctx.b1(), ctx.b2()), (8, 8));
+    assert_eq!(rt; decode_2d_line(&mut ctx, &mut reader), Ok(()));
+    assert_eq!(rt; reader.bit_pos(), 10);
+    assert_eq!(rt; ctx.next_line(&mut sink), Ok(()));
+    assert_eq!(rt; (ctx.b1(), ctx.b2()), (3, 5));
+    assert_eq!(rt; ctx.push_pixels(4), Ok(()));
+    assert_eq!(rt; (ctx.b1(), ctx.b2()), (8, 8));
+    assert_eq!(rt; ctx.next_line(&mut sink), Ok(()));
+    has_rows(&rt, &sink, &[&[3, 5], &[]], &data);
+    assert_eq!(rt; ctx.decoded_rows(), 2);
+    assert_eq!(rt; ctx.next_line(&mut sink), Err(Refused));
+    Ok(())
+}
+
+#[test]
+fn decodes_from_a_reader(rt: HostRuntime) -> std::result::Result<(), Fail> {
+    let mut ctx = DecoderContext::new(rt.alloc(), group_4(8, 0, "b"))?;
+    let mut sink = sink_of(rt.alloc(), 8, 9);
+    let data = [0x80, 0x08, 0x00, 0x80];
+    assert!(rt; bits_fit(&data));
+    let mut reader = BitReader::new(&data);
+    assert_eq!(rt; group4::decode(&mut ctx, &mut reader, &mut sink), Ok(()));
+    assert_eq!(rt; reader.bit_pos(), 25);
+    has_rows(&rt, &sink, &[&[]], &data);
+    Ok(())
+}
+
+#[test]
+fn prints_errors(rt: HostRuntime) -> std::result::Result<(), Fail> {
+    for (error, text) in [
+        (UnexpectedEof, "unexpected end of input"),
+        (InvalidCode, "invalid CCITT code sequence"),
+        (Overflow, "arithmetic overflow in position calculation"),
+        (OutOfMemory, "out of memory"),
+        (Refused, "row refused"),
+    ] {
+        assert_eq!(rt; error.to_string(rt.alloc())?.as_str(), text);
+    }
+    assert_eq!(rt; DecodeError::from(AllocError), OutOfMemory);
+    Ok(())
+}
