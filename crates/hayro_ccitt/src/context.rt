@@ -287,6 +287,20 @@ impl DecoderContext {
         )
     }
 
+    /// Hands the row over to the sink, continued in its last colour where it isn't full.
+    fn hand_over<D: Decoder>(&self, decoder: &mut D) -> Result<()>
+        requires { self.now.held.settings.columns ≤ D.width decoder.old }
+        ensures width { D.width decoder.new ≡ D.width decoder.old }
+        ensures taken { OnOk result (D.meaning decoder.new
+            ≡ D.step (D.width decoder.old) (D.meaning decoder.old) (changes (taken_row self.now.held))) }
+        ensures flag { OnOk result (D.has_refused decoder.new ≡ D.has_refused decoder.old) }
+        ensures kept { OnErr result (D.meaning decoder.new ≡ D.meaning decoder.old) }
+        ensures refused { OnErr result (D.has_refused decoder.new ≡ true) }
+        ensures only_refused { IsOkUnless result DecodeError.Refused }
+    {
+        decoder.push_row(self.coding_changes.as_slice())
+    }
+
     /// Hands the row over, continued in its last colour where it isn't full. On Ok it is the reference row, the
     /// front is empty, the colour is white and one more row was taken. Where the sink refuses, the context and
     /// the sink's meaning are as before. It takes no memory.
@@ -304,7 +318,7 @@ impl DecoderContext {
         ensures only_refused { IsOkUnless result DecodeError.Refused }
         ensures count { self.new.ticks ≡ self.old.ticks }
     {
-        decoder.push_row(self.coding_changes.as_slice())?;
+        self.hand_over(decoder)?;
         mem::swap(&mut self.ref_changes, &mut self.coding_changes);
         self.coding_changes.clear();
         self.pixels_decoded = 0;
