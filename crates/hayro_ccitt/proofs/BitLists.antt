@@ -3,6 +3,7 @@ use Rattle.std.proofs.Common.{◌≡◌, ℕ, zero, suc, ◌+◌, ◌-◌, ◌*�
 use Rattle.std.specs.Prelude.{slice_get}
 use Rattle.std.proofs.lemmas.Nat.Bits.{shr_and_one}
 use Rattle.hayro_ccitt.specs.Bits.{bit_of, bits_of, low_bits}
+use Rattle.std.proofs.lemmas.Option.{slice_get_past}
 
 pub length-bits_of : (bytes : List ℕ) → length (bits_of bytes) ≡ 8 * length bytes
 length-bits_of [] = refl
@@ -22,11 +23,6 @@ slice_get-bits_of (b ∷ bytes) zero (suc (suc (suc (suc (suc (suc (suc (suc r))
 slice_get-bits_of (b ∷ bytes) (suc q) r h k =
     let i : 8 * suc q + r ≡ suc (suc (suc (suc (suc (suc (suc (suc (8 * q + r)))))))) = omega arith in
     rw i (slice_get-bits_of bytes q r (omega arith) k)
-
-pub slice_get_past : {A : Type 0} (xs : List A) (i : ℕ) → length xs ≤ i → slice_get xs i ≡ None
-slice_get_past [] i h = refl
-slice_get_past (x ∷ xs) zero h = absurd (omega arith)
-slice_get_past (x ∷ xs) (suc i) h = slice_get_past xs i (omega arith)
 
 -- the bits from a place on begin with the bit there
 pub drop_some : {A : Type 0} (xs : List A) (i : ℕ) (x : A) → slice_get xs i ≡ Some x → drop i xs ≡ x ∷ drop (i + 1) xs

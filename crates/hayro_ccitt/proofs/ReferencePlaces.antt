@@ -11,6 +11,7 @@ use Rattle.hayro_ccitt.specs.declared.codes.Color.TheVariants.{White, Black}
 use Rattle.hayro_ccitt.specs.Rows.{Row, AscendFrom, AreChanges, pixels_from, pixels, pixel, pixel_before, is_change, is_black, right_of, least_below, b1, b2}
 use Rattle.hayro_ccitt.specs.Context.{right_of_painted}
 use Rattle.hayro_ccitt.proofs.Places.{IsLeast, is_least, b2_above}
+use Rattle.hayro_ccitt.proofs.ChangesAndPixels.{length-pixels}
 
 -- there is one least place
 least_unique : (bound : ℕ) (test : ℕ → Bool) (p q : ℕ) → IsLeast 0 bound test p → IsLeast 0 bound test q → p ≡ q
@@ -86,17 +87,6 @@ ascend_order first width (place ∷ places) ascend zero (suc k) lt l = omega (ar
 ascend_order first width (place ∷ places) ascend (suc j) (suc k) lt l = ascend_order (suc place) width places ascend.2 j k (omega arith) (omega arith)
 
 -- ---- The pixels between ascending places.
--- they are as many as there is room for
-pixels_from-length : (place first : ℕ) (color : Bool) (width : ℕ) (places : List ℕ) → AscendFrom first width places
-    → place ≤ first → place ≤ width → length (pixels_from place color width places) ≡ width - place
-pixels_from-length place first color width [] ascend le lew = length-replicate (width - place) color
-pixels_from-length place first color width (change ∷ places) ascend le lew =
-    let rest : length (pixels_from change (not color) width places) ≡ width - change =
-    pixels_from-length change (suc change) (not color) width places ascend.2 (omega arith) (omega (arith, ascend.1)) in
-    let both = length-append (replicate (change - place) color) (pixels_from change (not color) width places) in
-    let run = length-replicate (change - place) color in
-    omega (arith, both, rest, run, ascend.0, ascend.1)
-
 -- a pixel has the colour that the changes up to it give
 pixels_from-pixel : (place first : ℕ) (color : Bool) (width : ℕ) (places : List ℕ) (p j : ℕ) → AscendFrom first width places
     → place ≤ first → place ≤ p → p < width → IsSplit places (suc p) j → get_or (pixels_from place color width places) (p - place) false ≡ turned j color
@@ -152,7 +142,7 @@ module _ (columns : ℕ) (places : List ℕ) (ascend : AreChanges columns places
 
   -- the row has its width
   pub row_length : length row ≡ columns
-  row_length = omega (arith, pixels_from-length 0 0 false columns places ascend (omega arith) (omega arith))
+  row_length = length-pixels columns places ascend
 
   -- a pixel is turned by the changes up to it
   pixel_is : (p j : ℕ) → p < columns → IsSplit places (suc p) j → pixel row p ≡ turned j false
