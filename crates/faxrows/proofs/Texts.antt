@@ -27,7 +27,8 @@ pub record Decoded (answer : Answer) (outcome : Result ℕ DecodeError) (taken :
   pub all : OnAnswer outcome (taken ≡ length answer.0)
 
 -- the sink's text is the lines of the rows that were taken
-sink_text : (rows : List Row) (taken : ℕ) (text : List ℕ) → text ≡ meaning_after (λ t row. t ++ line_of_row row) [] (take taken rows) → text ≡ lines_of_rows (map changes (take taken rows))
+sink_text : (rows : List Row) (taken : ℕ) (text : List ℕ)
+    → text ≡ meaning_after (λ t row. t ++ line_of_row row) [] (take taken rows) → text ≡ lines_of_rows (map changes (take taken rows))
 sink_text rows taken text e = e ∙ fold_lines [] (map changes (take taken rows))
 
 -- the whole text, where all rows were taken and the outcome is the plain reading's
@@ -40,7 +41,8 @@ all_text answer outcome taken text meaning all same =
     rw (lines, same) refl
 
 -- a good run writes the whole text
-pub text_of_good : (answer : Answer) (outcome : Result ℕ DecodeError) (taken : ℕ) (text : List ℕ) → Decoded answer outcome taken text → done_of outcome ≡ Good
+pub text_of_good : (answer : Answer) (outcome : Result ℕ DecodeError) (taken : ℕ) (text : List ℕ)
+    → Decoded answer outcome taken text → done_of outcome ≡ Good
     → (text ++ line_of_outcome outcome ≡ text_of (map changes answer.0) answer.1) × IsOk answer.1
 text_of_good answer (Ok n) taken text d e = (all_text answer (Ok n) taken text d.meaning d.all d.ok, rw (d.ok) refl)
 text_of_good answer (Err UnexpectedEof) taken text d e = cc
@@ -50,7 +52,8 @@ text_of_good answer (Err OutOfMemory) taken text d e = cc
 text_of_good answer (Err Refused) taken text d e = cc
 
 -- a faulty run writes the whole text
-pub text_of_faulty : (answer : Answer) (outcome : Result ℕ DecodeError) (taken : ℕ) (text : List ℕ) → Decoded answer outcome taken text → done_of outcome ≡ Faulty
+pub text_of_faulty : (answer : Answer) (outcome : Result ℕ DecodeError) (taken : ℕ) (text : List ℕ)
+    → Decoded answer outcome taken text → done_of outcome ≡ Faulty
     → (text ++ line_of_outcome outcome ≡ text_of (map changes answer.0) answer.1) × IsErr answer.1
 text_of_faulty answer (Ok n) taken text d e = cc
 text_of_faulty answer (Err UnexpectedEof) taken text d e =
@@ -71,7 +74,8 @@ front_text answer fault taken text d want =
     (taken, rw (length-map answer.0 changes) d.within, (fault, want, ap (λ t. t ++ line_of_outcome (Err fault)) lines))
 
 -- a run that memory ended writes the text of the first rows
-pub text_of_memory : (answer : Answer) (outcome : Result ℕ DecodeError) (taken : ℕ) (text : List ℕ) → Decoded answer outcome taken text → done_of outcome ≡ Memory
+pub text_of_memory : (answer : Answer) (outcome : Result ℕ DecodeError) (taken : ℕ) (text : List ℕ)
+    → Decoded answer outcome taken text → done_of outcome ≡ Memory
     → IsFrontText (map changes answer.0) (text ++ line_of_outcome outcome)
 text_of_memory answer (Ok n) taken text d e = cc
 text_of_memory answer (Err UnexpectedEof) taken text d e = cc

@@ -7,14 +7,16 @@ use Rattle.faxrows.proofs.digits.put_decimal.Goals as goal
 -- a number of more than one digit has at least two
 two_digits : (n : ℕ) → 10 ≤ n → n < 2 ^ 64 → 2 ≤ length (decimal n)
 two_digits n more small =
-    let split : length (decimal n) ≡ length (decimal (n / 10)) + 1 = ap length (decimal_step n more small) ∙ length-append (decimal (n / 10)) _ in
+    let split : length (decimal n) ≡ length (decimal (n / 10)) + 1 =
+    ap length (decimal_step n more small) ∙ length-append (decimal (n / 10)) _ in
     omega (arith, split, decimal_nonempty (n / 10) (omega arith))
 
 -- the digits that are left to write have their room among the twenty
 room_left : (number rest start end : ℕ) (old new : List ℕ) → number < 2 ^ 64 → start < end → end ≤ length old → length new ≡ length old
     → decimal number ++ drop end old ≡ decimal rest ++ drop (start + 1) new → end + length (decimal rest) ≤ start + 21
 room_left number rest start end old new small before within same e =
-    let lengths : length (decimal number) + (length old - end) ≡ length (decimal rest) + (length new - (start + 1)) = simp (length-append, length-drop) at (ap length e) in
+    let lengths : length (decimal number) + (length old - end) ≡ length (decimal rest) + (length new - (start + 1)) =
+    simp (length-append, length-drop) at (ap length e) in
     omega (arith, lengths, length-decimal-le 20 number (omega arith) (omega arith) small)
 
 -- a digit written before the others
@@ -25,12 +27,14 @@ one_more front digit start bytes within =
 
 pub overflow_sub-start-in-loop-rest : goal.overflow_sub-start-in-loop-rest
 overflow_sub-start-in-loop-rest c =
-    let room = room_left _ _ _ _ _ _ c.ranges.number.fits c.loop-rest.invariant.before c.requires.within c.loop-rest.invariant.same_length c.loop-rest.invariant.digits in
+    let so_far = c.loop-rest.invariant in
+    let room = room_left _ _ _ _ _ _ c.ranges.number.fits so_far.before c.requires.within so_far.same_length so_far.digits in
     omega (arith, room, two_digits c.loop-rest.rest c.loop-rest-test.true c.loop-rest.auto.rest-fits.fits)
 
 pub loop-rest-preserved : goal.loop-rest-preserved
 loop-rest-preserved c =
-    let room = room_left _ _ _ _ _ _ c.ranges.number.fits c.loop-rest.invariant.before c.requires.within c.loop-rest.invariant.same_length c.loop-rest.invariant.digits in
+    let so_far = c.loop-rest.invariant in
+    let room = room_left _ _ _ _ _ _ c.ranges.number.fits so_far.before c.requires.within so_far.same_length so_far.digits in
     let two = two_digits c.loop-rest.rest c.loop-rest-test.true c.loop-rest.auto.rest-fits.fits in
     let next : c.loop-rest.start - 1 + 1 ≡ c.loop-rest.start = omega (arith, room, two) in
     record {
@@ -49,5 +53,6 @@ returns-clause-digits c =
 
 pub returns-clause-most : goal.returns-clause-most
 returns-clause-most c =
-    let room = room_left _ _ _ _ _ _ c.ranges.number.fits c.loop-rest.invariant.before c.requires.within c.loop-rest.invariant.same_length c.loop-rest.invariant.digits in
+    let so_far = c.loop-rest.invariant in
+    let room = room_left _ _ _ _ _ _ c.ranges.number.fits so_far.before c.requires.within so_far.same_length so_far.digits in
     omega (arith, room, decimal_nonempty c.loop-rest.rest c.loop-rest.auto.rest-fits.fits)

@@ -1,0 +1,46 @@
+-- Words and lines, worked out.
+use Rattle.std.proofs.Common.{◌≡◌, refl, [], ◌∷◌, true, false, Some, None, Ok, Err}
+use Rattle.std.specs.Prelude.{codes}
+use Rattle.std.specs.Fmt.{digits}
+use Rattle.hayro_ccitt.specs.declared.error.DecodeError.TheVariants.{InvalidCode}
+use Rattle.hayro_ccitt.specs.declared.settings.EncodingMode.TheVariants.{Group4}
+use Rattle.faxrows.specs.Arguments.{settings_of_words}
+use Rattle.faxrows.specs.Text.{text_of}
+
+-- leading zeros are allowed, and `-` is no flag
+plain_words : settings_of_words (codes "g4" ∷ codes "0000000008" ∷ codes "1" ∷ codes "-" ∷ [])
+    ≡ Some (record { columns = 8; rows = 1; end_of_block = false; end_of_line = false; rows_are_byte_aligned = false; encoding = Group4; strict = false })
+plain_words = refl
+
+-- the greatest number, and flags in any order
+flags : settings_of_words (codes "g4" ∷ codes "4294967295" ∷ codes "0" ∷ codes "sab" ∷ [])
+    ≡ Some (record { columns = 4294967295; rows = 0; end_of_block = true; end_of_line = false; rows_are_byte_aligned = true; encoding = Group4; strict = true })
+flags = refl
+
+-- a number too large, a number too long, a letter twice, no flag, another mode, a word too many
+too_large : settings_of_words (codes "g4" ∷ codes "4294967296" ∷ codes "1" ∷ codes "-" ∷ []) ≡ None
+too_large = refl
+
+too_long : settings_of_words (codes "g4" ∷ codes "00000000008" ∷ codes "1" ∷ codes "-" ∷ []) ≡ None
+too_long = refl
+
+letter_twice : settings_of_words (codes "g4" ∷ codes "8" ∷ codes "1" ∷ codes "bsb" ∷ []) ≡ None
+letter_twice = refl
+
+no_flag : settings_of_words (codes "g4" ∷ codes "8" ∷ codes "1" ∷ codes "" ∷ []) ≡ None
+no_flag = refl
+
+another_mode : settings_of_words (codes "1d" ∷ codes "8" ∷ codes "1" ∷ codes "-" ∷ []) ≡ None
+another_mode = refl
+
+a_word_too_many : settings_of_words (codes "g4" ∷ codes "8" ∷ codes "1" ∷ codes "-" ∷ codes "-" ∷ []) ≡ None
+a_word_too_many = refl
+
+-- two rows, one of them white, and a good outcome
+good_text : text_of ((3 ∷ 15 ∷ []) ∷ [] ∷ []) (Ok 120) ≡ codes "r 3 15\nr\nok 120\n"
+unfolding digits
+good_text = refl
+
+-- no row, and a fault
+faulty_text : text_of [] (Err InvalidCode) ≡ codes "error: invalid CCITT code sequence\n"
+faulty_text = refl
