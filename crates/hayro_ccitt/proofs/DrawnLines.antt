@@ -1,11 +1,11 @@
 -- What a step of a line paints, and what that says of the finished line.
-use Rattle.std.proofs.Common.{◌≡◌, ◌≢◌, ℕ, zero, suc, ◌-◌, ◌<◌, ◌≤◌, Bool, true, false, cond, not, ◌&&◌, ltb, leb, List, [], ◌∷◌, ◌++◌, length, replicate, w32, Option, Some, None, Result, Ok, Err, refl, sym, subst, ap, ◌∙◌, arith, ◌⊎◌, inl, inr}
-use Rattle.std.specs.Prelude.{◌↔◌, IsTrue, IfErr, Contains, OnOk, OnErr, SomeIff, min, ℤ, pos, negsuc, ◌+ℤ◌}
+use Rattle.std.proofs.Common.{◌≡◌, ◌≢◌, ℕ, zero, suc, ◌-◌, ◌<◌, ◌≤◌, Bool, true, false, cond, ◌&&◌, ltb, leb, [], ◌∷◌, ◌++◌, length, replicate, w32, Option, Some, None, Result, Ok, Err, refl, sym, subst, ap, ◌∙◌, arith, ◌⊎◌, inl, inr}
+use Rattle.std.specs.Prelude.{◌↔◌, IsTrue, IfErr, OnOk, OnErr, SomeIff, min, ℤ, pos, negsuc, ◌+ℤ◌}
 use Rattle.std.proofs.lemmas.Bool.{false≢true, cases_lt, le-leb, lt-leb}
 use Rattle.std.proofs.Math.IntN.{nat_abs}
 use Rattle.std.specs.Int.{FitsUnsigned}
 use Rattle.std.proofs.lemmas.Int.{ints}
-use Rattle.std.proofs.lemmas.List.{length-append, length-replicate}
+use Rattle.std.proofs.lemmas.List.{length-append}
 use Rattle.std.proofs.lemmas.List.Elements.{Contains-append_left, Contains-append_right}
 use Rattle.hayro_ccitt.specs.declared.codes.Color.{Color}
 use Rattle.hayro_ccitt.specs.declared.codes.Color.TheVariants.{White, Black}
@@ -20,14 +20,13 @@ use Rattle.hayro_ccitt.specs.Changes.{last_pixel}
 use Rattle.hayro_ccitt.specs.CodeLists.{mode_codes}
 use Rattle.hayro_ccitt.specs.CodeReading.{read_code}
 use Rattle.hayro_ccitt.specs.Context.{Held, redrawn}
-use Rattle.hayro_ccitt.specs.Lines.{Line, Pen, Step, try, draw_run, unless_full, drawn, place_from, draw_mode, step_2d}
+use Rattle.hayro_ccitt.specs.Lines.{Line, Pen, Step, try, draw_run, drawn, place_from, draw_mode, step_2d}
 use Rattle.hayro_ccitt.specs.Repetition.{Turn, repeated}
-use Rattle.hayro_ccitt.specs.Rows.{Row, AscendFrom, AreChanges, pixels_from, pixels, is_black, opposite, right_of, b1, b2, paint}
+use Rattle.hayro_ccitt.specs.Rows.{Row, is_black, opposite, right_of, b1, b2, paint}
 use Rattle.hayro_ccitt.specs.Runs.{run_from}
-use Rattle.hayro_ccitt.proofs.Places.{b2_above}
 use Rattle.hayro_ccitt.proofs.ReadLines.{draw_mode_next, modes_not_empty, drawn2, step_2d_shrinks, left}
 use Rattle.hayro_ccitt.proofs.ReadRuns.{chosen, read_code_shorter}
-use Rattle.hayro_ccitt.proofs.Repeated.{Shrinks, after_turn, repeated_keeps}
+use Rattle.hayro_ccitt.proofs.Repeated.{Shrinks, after_turn}
 
 -- ---- What painting gives.
 

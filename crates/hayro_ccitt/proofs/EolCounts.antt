@@ -1,5 +1,5 @@
 -- What counting EOLs leaves, as the reader's calls say it.
-use Rattle.std.proofs.Common.{◌≡◌, ◌≤◌, ℕ, length, ap, sym, subst}
+use Rattle.std.proofs.Common.{◌≡◌, ◌≤◌, ℕ, length, ap, subst}
 use Rattle.hayro_ccitt.specs.Bits.{Bits}
 use Rattle.hayro_ccitt.specs.EndOfLine.{eols, all_eols}
 use Rattle.hayro_ccitt.proofs.Moves.{eols_shorter}

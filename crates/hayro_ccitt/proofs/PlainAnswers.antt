@@ -1,5 +1,5 @@
 -- The plain reading of bytes, where there are columns and the encoding is known.
-use Rattle.std.proofs.Common.{◌≡◌, ◌≢◌, ℕ, ◌+◌, ◌-◌, ◌*◌, ◌/◌, ◌≤◌, Bool, true, false, cond, eqb, List, [], length, take, drop, Result, Ok, Err, IsOk, refl, sym, ap, ◌∙◌, arith}
+use Rattle.std.proofs.Common.{◌≡◌, ◌≢◌, ℕ, ◌+◌, ◌-◌, ◌/◌, ◌≤◌, Bool, true, false, eqb, List, length, take, drop, Result, Ok, Err, IsOk, refl, ap, ◌∙◌, arith}
 use Rattle.std.proofs.lemmas.Bool.{cond-false, eqb-true, false≢true}
 use Rattle.std.proofs.lemmas.List.{length-drop}
 use Rattle.hayro_ccitt.specs.declared.error.DecodeError.{DecodeError}
@@ -12,9 +12,7 @@ use Rattle.std.proofs.Math.Seq.{take-length}
 use Rattle.hayro_ccitt.specs.Rows.{Row}
 use Rattle.hayro_ccitt.specs.Laws.{AreSettings, Gives}
 use Rattle.hayro_ccitt.specs.Pictures.{BeginsWithPictureT6, BeginsWithRowsT6}
-use Rattle.hayro_ccitt.specs.Lines.{Line}
 use Rattle.hayro_ccitt.specs.PlainReading.{Answer, plain, plain_group4, end_by, lines_of, lines_by, bytes_before}
-use Rattle.hayro_ccitt.proofs.BitLists.{length-bits_of}
 use Rattle.hayro_ccitt.proofs.PicturesT6.{closed_picture_t6, limited_rows_t6}
 
 -- some columns are not none

@@ -4,7 +4,7 @@ use mathlib.Core.Bool.{beq}
 use Rattle.std.proofs.Math.Bool.{and-false}
 use Rattle.std.specs.Bool.{IsTrue}
 use Rattle.std.proofs.lemmas.Bool.{lt-ltb, le-leb, le-ltb, lt-leb, false≢true, cases_lt, cases_eq}
-use Rattle.std.proofs.lemmas.List.{length-replicate, length-append, get_or-replicate, get_or_append_left, get_or-append_right, get_or_past}
+use Rattle.std.proofs.lemmas.List.{length-replicate, get_or-replicate, get_or_append_left, get_or-append_right, get_or_past}
 use Rattle.std.proofs.lemmas.Grind.{get_or_default_zero}
 use Rattle.hayro_ccitt.specs.declared.codes.Color.{Color}
 use Rattle.hayro_ccitt.specs.declared.codes.Color.TheVariants.{White, Black}

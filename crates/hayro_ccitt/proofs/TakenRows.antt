@@ -1,5 +1,5 @@
 -- One turn of the Group 4 driver: what its calls answered is what the plain reading does.
-use Rattle.std.proofs.Common.{◌≡◌, ℕ, zero, suc, ◌+◌, ◌-◌, ◌<◌, ◌≤◌, Bool, true, false, cond, List, [], ◌∷◌, ◌++◌, length, map, replicate, append-nil, Result, Ok, Err, refl, sym, ap, ◌∙◌, subst, arith}
+use Rattle.std.proofs.Common.{◌≡◌, ℕ, ◌+◌, ◌-◌, ◌<◌, ◌≤◌, false, cond, List, [], ◌∷◌, ◌++◌, length, map, append-nil, Result, Ok, Err, sym, ap, ◌∙◌, subst, arith}
 use Rattle.std.specs.List.{fold}
 use Rattle.std.proofs.lemmas.List.{length-append, map-append}
 use Rattle.std.proofs.lemmas.List.Sums.{fold-append}
@@ -10,11 +10,10 @@ use Rattle.hayro_ccitt.specs.declared.settings.DecodeSettings.{DecodeSettings}
 use Rattle.hayro_ccitt.specs.declared.codes.Color.{Color}
 use Rattle.hayro_ccitt.specs.Bits.{Bits}
 use Rattle.hayro_ccitt.specs.Rows.{Row, changes}
-use Rattle.hayro_ccitt.specs.Changes.{last_pixel}
 use Rattle.hayro_ccitt.specs.Context.{Held, continued, after_taking, redrawn}
 use Rattle.hayro_ccitt.specs.Lines.{Line, line_2d}
-use Rattle.hayro_ccitt.specs.PlainReading.{Ending, row_before, aligned, eols_group4, is_over_group4, line_group4, plain_group4, lines_by}
-use Rattle.hayro_ccitt.specs.Answers.{IsFault, DrawsLine, PaintsBlack, HasBlack, front_of, meaning_after}
+use Rattle.hayro_ccitt.specs.PlainReading.{row_before, aligned, eols_group4, is_over_group4, line_group4, plain_group4, lines_by}
+use Rattle.hayro_ccitt.specs.Answers.{IsFault, DrawsLine, PaintsBlack, meaning_after}
 use Rattle.hayro_ccitt.proofs.FullRows.{IsFull, line_2d_full}
 use Rattle.hayro_ccitt.proofs.PicturesT6.{row_before_push}
 use Rattle.hayro_ccitt.proofs.RowsOfGroup4.{Comes, between, held_between, comes_line, comes_broken, comes_whole, comes_shorter, comes_more}

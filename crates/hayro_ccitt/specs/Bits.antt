@@ -1,5 +1,5 @@
 -- The bits of the data.
-use Rattle.std.specs.Prelude.{◌≡◌, ◌≤◌, ◌+◌, ◌*◌, ◌<◌, length, ℕ, zero, suc, drop, Bool, List, [], ◌∷◌, ◌^◌, ◌/◌, ◌%◌, ◌==◌}
+use Rattle.std.specs.Prelude.{◌+◌, ◌*◌, ◌<◌, length, ℕ, zero, suc, drop, Bool, List, [], ◌∷◌, ◌^◌, ◌/◌, ◌%◌, ◌==◌}
 use Rattle.std.specs.List.{flat_map}
 
 -- bits in the order in which they are read

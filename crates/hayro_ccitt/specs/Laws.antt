@@ -12,7 +12,7 @@ use Rattle.hayro_ccitt.specs.CodeLists.{Code, mode_codes}
 use Rattle.hayro_ccitt.specs.CodeReading.{Has, leading_zeros}
 use Rattle.hayro_ccitt.specs.Runs.{codes_of}
 use Rattle.hayro_ccitt.specs.Rows.{Row, AreChanges, pixels, changes}
-use Rattle.hayro_ccitt.specs.Lines.{Line, line_2d}
+use Rattle.hayro_ccitt.specs.Lines.{Line}
 use Rattle.hayro_ccitt.specs.EndOfLine.{eols}
 use Rattle.hayro_ccitt.specs.Encodings.{Kind, white_row, EncodesRows, IsPicture, EncodesRowsWithEols, ClosesWithEols, PictureT6, PictureT4}
 use Rattle.hayro_ccitt.specs.Repetition.{Turn}

@@ -1,10 +1,10 @@
-use Rattle.std.proofs.Common.{arith, ◌≡◌, ◌≢◌, ◌+◌, ◌<◌, ◌≤◌, ◌*◌, ◌/◌, ℕ, List, length, take, drop, Result, Ok, Err, IfErr, IsOk, refl, sym, ap, ◌∙◌, subst}
+use Rattle.std.proofs.Common.{arith, ◌≡◌, ◌≢◌, ◌+◌, ◌≤◌, ◌*◌, ◌/◌, ℕ, List, length, take, drop, Result, Ok, Err, IfErr, IsOk, refl, sym, ap, ◌∙◌, subst}
 use Rattle.std.proofs.lemmas.Result.{err_from_is_err_and}
 use Rattle.hayro_ccitt.specs.declared.error.DecodeError.{DecodeError}
 use Rattle.hayro_ccitt.specs.declared.error.DecodeError.TheVariants.{OutOfMemory, Refused}
 use Rattle.hayro_ccitt.specs.declared.settings.EncodingMode.TheVariants.{Group4}
 use Rattle.hayro_ccitt.specs.declared.settings.DecodeSettings.{DecodeSettings}
-use Rattle.hayro_ccitt.specs.Bits.{Bits, BitsAt, bits_of, here}
+use Rattle.hayro_ccitt.specs.Bits.{Bits, BitsAt, bits_of}
 use Rattle.hayro_ccitt.specs.Rows.{Row}
 use Rattle.hayro_ccitt.specs.Lines.{Line}
 use Rattle.hayro_ccitt.specs.Context.{Held}

@@ -1,15 +1,15 @@
-use Rattle.std.proofs.Common.{rules, arith, ◌≡◌, ◌+◌, ◌<◌, ◌≤◌, ◌^◌, ℕ, false, List, [], ◌∷◌, ◌++◌, cond, length, take, drop, Result, Ok, Err, refl, sym, ap, ◌∙◌, subst}
+use Rattle.std.proofs.Common.{arith, ◌≡◌, ◌<◌, ℕ, List, [], ◌∷◌, ◌++◌, cond, length, take, drop, Result, Err, refl, sym, ap, ◌∙◌, subst}
 use Rattle.std.proofs.lemmas.Result.{err_from_is_err_and}
 use Rattle.hayro_ccitt.specs.declared.error.DecodeError.{DecodeError}
 use Rattle.hayro_ccitt.specs.declared.error.DecodeError.TheVariants.{OutOfMemory}
-use Rattle.hayro_ccitt.specs.Answers.{IsFault, DrawsLine, PaintsBlack, meaning_after}
+use Rattle.hayro_ccitt.specs.Answers.{DrawsLine, PaintsBlack, meaning_after}
 use Rattle.hayro_ccitt.specs.Bits.{Bits, here}
 use Rattle.hayro_ccitt.specs.Rows.{Row, changes}
 use Rattle.hayro_ccitt.specs.Context.{Held, continued, after_taking, redrawn}
 use Rattle.hayro_ccitt.specs.Lines.{line_2d}
 use Rattle.hayro_ccitt.specs.declared.settings.EncodingMode.TheVariants.{Group4}
 use Rattle.hayro_ccitt.specs.PlainReading.{Ending, aligned, eols_group4, plain_group4, lines_by}
-use Rattle.hayro_ccitt.proofs.RowsOfGroup4.{Comes, held_between, comes_first, comes_taken, comes_within}
+use Rattle.hayro_ccitt.proofs.RowsOfGroup4.{Comes, comes_first, comes_taken, comes_within}
 use Rattle.hayro_ccitt.proofs.TakenRows.{meaning_after-more, row_fault, row_memory, row_comes, row_shorter, row_more, row_continued, row_held}
 use Rattle.hayro_ccitt.proofs.group4.decode.Goals as goal
 

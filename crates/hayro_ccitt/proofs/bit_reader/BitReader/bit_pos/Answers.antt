@@ -1,4 +1,3 @@
-use Rattle.std.proofs.Common.{arith}
 use Rattle.hayro_ccitt.proofs.BitPlaces.{within_bits}
 use Rattle.hayro_ccitt.proofs.bit_reader.BitReader.bit_pos.Goals as goal
 

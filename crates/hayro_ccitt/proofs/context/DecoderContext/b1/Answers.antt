@@ -1,4 +1,4 @@
-use Rattle.std.proofs.Common.{arith, length, ◌≤◌, sym}
+use Rattle.std.proofs.Common.{arith, sym}
 use Rattle.hayro_ccitt.proofs.ReferencePlaces.{row_length, right_of-pixels}
 use Rattle.hayro_ccitt.proofs.context.DecoderContext.b1.Goals as goal
 

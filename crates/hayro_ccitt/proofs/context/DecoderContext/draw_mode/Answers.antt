@@ -1,4 +1,4 @@
-use Rattle.std.proofs.Common.{◌≡◌, ℕ, ◌≤◌, ◌-◌, ◌+ℤ◌, pos, length, Err, ap, subst, ◌∙◌, w8, w32, SFits, to_z, of_z, arith, rules}
+use Rattle.std.proofs.Common.{◌≡◌, ℕ, ◌-◌, ◌+ℤ◌, pos, length, ap, subst, ◌∙◌, w8, w32, SFits, to_z, of_z, arith, rules}
 use Rattle.std.proofs.Math.Facts.{to_z-of_z}
 use Rattle.std.proofs.lemmas.Result.{err_from_is_err_and}
 use Rattle.hayro_ccitt.specs.declared.error.DecodeError.{DecodeError}

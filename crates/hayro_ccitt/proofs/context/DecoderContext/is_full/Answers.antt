@@ -1,6 +1,5 @@
-use Rattle.std.proofs.Common.{◌≡◌, length, arith}
+use Rattle.std.proofs.Common.{arith}
 use Rattle.std.proofs.lemmas.Bool.{eqb-true, eq-eqb}
-use Rattle.hayro_ccitt.specs.Rows.{pixels}
 use Rattle.hayro_ccitt.proofs.ChangesAndPixels.{length-pixels}
 use Rattle.hayro_ccitt.proofs.context.DecoderContext.is_full.Goals as goal
 
