@@ -1,14 +1,12 @@
 -- EOLs of two data that are equal up to one place, where an EOL ends and none begins.
-use Rattle.std.proofs.Common.{◌≡◌, ℕ, zero, suc, ◌+◌, ◌<◌, ◌≤◌, Bool, true, false, cond, leb, [], ◌∷◌, ◌++◌, length, replicate, Option, Some, None}
-use Rattle.std.proofs.Common.{refl, sym, ap, subst, ◌∙◌, append_assoc, arith, ◌⊎◌, inl, inr}
+use Rattle.std.proofs.Common.{◌≡◌, ℕ, zero, suc, ◌<◌, ◌≤◌, Bool, true, false, cond, leb, [], ◌∷◌, ◌++◌, length, replicate, Option, Some, None}
+use Rattle.std.proofs.Common.{refl, sym, ap, ◌∙◌, append_assoc, arith, ◌⊎◌, inl, inr}
 use Rattle.std.proofs.lemmas.List.{length-append}
 use Rattle.hayro_ccitt.specs.Bits.{Bits}
-use Rattle.hayro_ccitt.specs.Rows.{Row}
-use Rattle.hayro_ccitt.specs.Lines.{Line, line_1d}
 use Rattle.hayro_ccitt.specs.EndOfLine.{after_eol, all_eols}
 use Rattle.hayro_ccitt.proofs.Past.{past, all_eols-some, all_eols-none}
 use Rattle.hayro_ccitt.proofs.ZerosInWords.{scan, scan_holds}
-use Rattle.hayro_ccitt.proofs.Fronts.{Inside, InFront, LineAlike, line_1d_alike}
+use Rattle.hayro_ccitt.proofs.Fronts.{Inside}
 
 -- bits that end with the zeros of an EOL
 abbrev pub Closes : Bits → Type 0
@@ -41,22 +39,6 @@ inside_after bits before after inside e =
 -- what follows a one is shorter
 pub after_shorter : (bits before after : Bits) → bits ≡ before ++ true ∷ after → length after < length bits
 after_shorter bits before after e = omega (arith, ap length e, length-append before (true ∷ after))
-
--- a whole line ends before the last two bits of an EOL at or after its start
-pub line_1d_before_eol : (columns : ℕ) (fill after : Bits) (row : Row) (rest : Bits)
-    → line_1d false columns ((fill ++ replicate 11 false) ++ true ∷ after) ≡ Line.whole row rest → length after + 2 ≤ length rest
-line_1d_before_eol columns fill after row rest e =
-    let here : Bits = (fill ++ replicate 11 false) ++ true ∷ after in
-    let alike = line_1d_alike (true ∷ after) (true ∷ after) columns here here
-    (fill ++ replicate 11 false, closes_inside (fill ++ replicate 11 false) (fill, refl), refl, refl) in
-    ends (subst (λ (l : Line). LineAlike (true ∷ after) (true ∷ after) l l) e alike).1
-  where
-    some : (bits : Bits) → scan 3 bits ≡ None → 0 < length bits
-    some [] none = absurd cc
-    some (b ∷ bits) none = omega arith
-
-    ends : InFront (true ∷ after) (true ∷ after) rest rest → length after + 2 ≤ length rest
-    ends (bits, inside, is, _) = omega (arith, some bits inside.holds, ap length is, length-append bits (true ∷ after))
 
 module _ (x y : Bits) where
   -- what follows an EOL: within the equal bits; or just past them; or there is none

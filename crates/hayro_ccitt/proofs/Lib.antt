@@ -5,6 +5,7 @@ pub mod BitPlaces
 pub mod BodiesT4
 pub mod ByEols
 pub mod ChangesAndPixels
+pub mod CodeReadings
 pub mod Damage
 pub mod DrawnLines
 pub mod EncodingsExist

@@ -1,11 +1,12 @@
 -- What reading a list finds, by the words that stand there.
-use Rattle.std.proofs.Common.{◌≡◌, drop, ◌<◌, ◌≤◌, Bool, true, false, not, List, [], ◌∷◌, ◌++◌, length, Option, Some, None, Result, Ok, Err, refl, sym, ap, subst, ◌∙◌, append_assoc, arith, ◌⊎◌, inl, inr}
-use Rattle.std.proofs.lemmas.Bool.{and_parts, or_parts, or_cases, false≢true, not-true}
+use Rattle.std.proofs.Common.{◌≡◌, drop, ◌<◌, ◌≤◌, Bool, true, false, not, List, [], ◌∷◌, ◌++◌, length, Option, Some, None, Result, Ok, Err, refl, sym, ap, subst, ◌∙◌, arith, ◌⊎◌, inl, inr}
+use Rattle.std.proofs.lemmas.Bool.{and_parts, false≢true, not-true}
 use Rattle.std.specs.List.{list_all}
 use Rattle.hayro_ccitt.specs.declared.error.DecodeError.{DecodeError}
 use Rattle.hayro_ccitt.specs.declared.error.DecodeError.TheVariants.{UnexpectedEof, InvalidCode}
 use Rattle.hayro_ccitt.specs.Bits.{Bits}
 use Rattle.hayro_ccitt.specs.CodeLists.{Code}
+use Rattle.hayro_ccitt.specs.Ticks.{missed}
 use Rattle.hayro_ccitt.specs.CodeReading.{agreement, after, is_front, word_at, is_cut, Has, read_code, apart, is_prefix_free}
 
 pub after_is : (word here rest : Bits) → after word here ≡ Some rest → here ≡ word ++ rest
@@ -74,7 +75,7 @@ word_at_found {V} (c ∷ list) here found e =
     by (after c.word here) refl e
 
 -- What reading answers, in three cases.
-cases_reading : {V : Type 0} (list : List (Code V)) (here : Bits) (answer : Result (V × Bits) DecodeError) → read_code list here ≡ answer
+pub cases_reading : {V : Type 0} (list : List (Code V)) (here : Bits) (answer : Result (V × Bits) DecodeError) → read_code list here ≡ answer
     → ((found : V × Bits) × (answer ≡ Ok found) × (word_at list here ≡ Some found))
     ⊎ (((answer ≡ Err UnexpectedEof) × (word_at list here ≡ None) × (is_cut list here ≡ true))
     ⊎ ((answer ≡ Err InvalidCode) × (word_at list here ≡ None) × (is_cut list here ≡ false)))
@@ -94,59 +95,19 @@ cases_reading {V} list here answer e =
     ] in
     by (word_at list here) refl
 
+-- A fault of reading is a word that was missed.
+pub read_code_missed : {V T : Type 0} (list : List (Code V)) (here : Bits) (e : DecodeError) (r : Result T DecodeError) → read_code list here ≡ Err e → r ≡ Err e → missed r ≡ 1
+read_code_missed list here e r h k = elim (cases_reading list here (Err e) h) [
+  | inl a ↦ absurd cc
+  | inr b ↦ elim b [ inl c ↦ let f : r ≡ Err UnexpectedEof = cc in rw f refl | inr c ↦ let f : r ≡ Err InvalidCode = cc in rw f refl ]
+]
+
 -- Found: a word of the list stands here.
 pub read_code_found : {V : Type 0} (list : List (Code V)) (here : Bits) (v : V) (rest : Bits) → read_code list here ≡ Ok (v, rest) → (w : Bits) × Has list v w × (here ≡ w ++ rest)
 read_code_found {V} list here v rest e = elim (cases_reading list here (Ok (v, rest)) e) [
   | inl a ↦ let p : (v, rest) ≡ a.0 = cc in subst (λ (x : V × Bits). (w : Bits) × Has list x.0 w × (here ≡ w ++ x.1)) (sym p) (word_at_found list here a.0 a.2)
   | inr b ↦ elim b [ inl c ↦ absurd cc | inr c ↦ absurd cc ]
 ]
-
-no_word : {V : Type 0} (list : List (Code V)) (here : Bits) → is_prefix_free list ≡ true → word_at list here ≡ None → (v : V) (w rest : Bits) → Has list v w → here ≡ w ++ rest → ⊥
-no_word list here free e v w rest i h = absurd (let a = word_at_again list v w rest free i in let b : word_at list (w ++ rest) ≡ None = rw h at e in cc)
-
-any_front : {V : Type 0} (list : List (Code V)) (here : Bits) → is_cut list here ≡ true → (v : V) × (w : Bits) × (more : Bits) × Has list v w × (w ≡ here ++ more)
-any_front [] here e = absurd (false≢true e)
-any_front {V} (c ∷ list) here e = elim (or_cases (is_front here c.word) (is_cut list here) e) [
-  | inl f ↦ let by : (o : Option Bits) → after here c.word ≡ o → (v : V) × (w : Bits) × (more : Bits) × Has (c ∷ list) v w × (w ≡ here ++ more)
-      = λ o. elim o as (λ (o : Option Bits). after here c.word ≡ o → (v : V) × (w : Bits) × (more : Bits) × Has (c ∷ list) v w × (w ≡ here ++ more)) [
-        | None ↦ λ a. absurd (false≢true (rw a at f))
-        | Some more ↦ λ a. (c.value, c.word, more, inl (refl, refl), after_is here c.word more a)
-      ] in
-      by (after here c.word) refl
-  | inr f ↦ let g = any_front list here f in (g.0, g.1, g.2, inr g.3, g.4)
-]
-
-all_no_front : {V : Type 0} (list : List (Code V)) (here : Bits) → is_cut list here ≡ false → (v : V) (w more : Bits) → Has list v w → w ≡ here ++ more → ⊥
-all_no_front [] here e v w more i h = elim i [ ]
-all_no_front (c ∷ list) here e v w more (inl i) h =
-    let f = (or_parts (is_front here c.word) (is_cut list here) e).0 in
-    let w_is : c.word ≡ here ++ more = i.1 ∙ h in
-    false≢true (sym f ∙ rw (w_is, after_at here more, is_front) refl)
-all_no_front (c ∷ list) here e v w more (inr i) h =
-    all_no_front list here (or_parts (is_front here c.word) (is_cut list here) e).1 v w more i h
-
--- Short: no word stands, and the bits from here to the end are a front of a word.
-pub read_code_short : {V : Type 0} (list : List (Code V)) (here : Bits) → is_prefix_free list ≡ true → read_code list here ≡ Err UnexpectedEof
-    → ((v : V) (w rest : Bits) → Has list v w → here ≡ w ++ rest → ⊥) × ((v : V) × (w : Bits) × (more : Bits) × Has list v w × (w ≡ here ++ more))
-read_code_short {V} list here free e = elim (cases_reading list here (Err UnexpectedEof) e) [
-  | inl a ↦ absurd cc
-  | inr b ↦ elim b [ inl c ↦ (no_word list here free c.1, any_front list here c.2) | inr c ↦ absurd cc ]
-]
-
--- Wrong: neither.
-pub read_code_wrong : {V : Type 0} (list : List (Code V)) (here : Bits) → is_prefix_free list ≡ true → read_code list here ≡ Err InvalidCode
-    → ((v : V) (w rest : Bits) → Has list v w → here ≡ w ++ rest → ⊥) × ((v : V) (w more : Bits) → Has list v w → w ≡ here ++ more → ⊥)
-read_code_wrong {V} list here free e = elim (cases_reading list here (Err InvalidCode) e) [
-  | inl a ↦ absurd cc
-  | inr b ↦ elim b [ inl c ↦ absurd cc | inr c ↦ (no_word list here free c.1, all_no_front list here c.2) ]
-]
-
--- What is found doesn't depend on what follows it.
-pub read_code_front : {V : Type 0} (list : List (Code V)) (here : Bits) (v : V) (rest more : Bits) → is_prefix_free list ≡ true → read_code list here ≡ Ok (v, rest) → read_code list (here ++ more) ≡ Ok (v, rest ++ more)
-read_code_front {V} list here v rest more free e =
-    let a = read_code_found list here v rest e in
-    let p : here ++ more ≡ a.0 ++ (rest ++ more) = ap (λ (x : Bits). x ++ more) a.2 ∙ append_assoc a.0 rest more in
-    rw p (read_code_again list v a.0 (rest ++ more) free a.1)
 
 -- The agreement of a word with the bits here says whether it stands, and whether they are a front of it.
 pub agreement_le : (word here : Bits) → (agreement word here ≤ length word) × (agreement word here ≤ length here)

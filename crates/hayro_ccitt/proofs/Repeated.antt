@@ -11,10 +11,6 @@ abbrev pub after_turn : {S R : Type 0} → (S → R) → Turn S R → R
 after_turn rest (Turn.next s) = rest s
 after_turn rest (Turn.done r) = r
 
--- one turn of a repetition
-pub repeated-suc : {S R : Type 0} (step : S → Turn S R) (late : R) (n : ℕ) (s : S) → repeated step late (suc n) s ≡ after_turn (repeated step late n) (step s)
-repeated-suc step late n s = refl
-
 -- with more turns than the size of the state, the number of turns doesn't matter
 pub repeated_same : {S R : Type 0} (step : S → Turn S R) (late : R) (size : S → ℕ) → Shrinks step size → (n m : ℕ) (s : S) → size s < n → size s < m
     → repeated step late n s ≡ repeated step late m s

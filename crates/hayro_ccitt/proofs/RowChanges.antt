@@ -1,5 +1,5 @@
 -- What painting does to the changes.
-use Rattle.std.proofs.Common.{◌≡◌, ℕ, zero, suc, ◌+◌, Bool, true, false, cond, List, [], ◌∷◌, ◌++◌, length, replicate, refl, sym, ap, ◌∙◌, arith, zero-add}
+use Rattle.std.proofs.Common.{◌≡◌, ℕ, zero, suc, ◌+◌, Bool, true, false, cond, List, [], ◌∷◌, ◌++◌, length, replicate, refl, sym, arith}
 use mathlib.Core.Bool.{beq}
 use Rattle.hayro_ccitt.specs.Rows.{Row}
 use Rattle.hayro_ccitt.specs.Changes.{changes_from, last_pixel}
@@ -22,9 +22,3 @@ same_beq false = refl
 pub changes_from-same : (place n : ℕ) (color : Bool) → changes_from place color (replicate n color) ≡ []
 changes_from-same place zero color = refl
 changes_from-same place (suc n) color = rw (same_beq color) (changes_from-same (suc place) n color)
-
--- painting pixels adds one change, where their colour differs from the last pixel's
-pub changes_from-painted : (front : Row) (n : ℕ) (color : Bool) → changes_from 0 false (front ++ replicate (suc n) color) ≡ changes_from 0 false front ++ cond (beq (last_pixel false front) color) [] (length front ∷ [])
-changes_from-painted front n color =
-    changes_from-append 0 false front (replicate (suc n) color)
-    ∙ ap (λ (xs : List ℕ). changes_from 0 false front ++ xs) (rw (zero-add, changes_from-same (suc (length front)) n color) refl)

@@ -36,10 +36,6 @@ abbrev pub Agrees : Line → Line → Type 0
 Agrees (Line.whole row rest) other = other ≡ Line.whole row rest
 Agrees (Line.broken front fault) other = Unit {0}
 
-agrees_self : (line : Line) → Agrees line line
-agrees_self (Line.whole row rest) = refl
-agrees_self (Line.broken front fault) = tt
-
 -- one pen in both readings
 abbrev SamePen : Pen → Pen → Type 0
 SamePen s t = s ≡ t

@@ -1,8 +1,9 @@
 -- The words that the turns of a run find.
-use Rattle.std.proofs.Common.{◌≡◌, ℕ, suc, ◌+◌, ◌≤◌, List, ◌++◌, length, Ok, refl, ap, ◌∙◌, arith}
+use Rattle.std.proofs.Common.{◌≡◌, ℕ, suc, ◌+◌, ◌≤◌, List, ◌++◌, length, Ok, Err, refl, ap, ◌∙◌, arith}
 use Rattle.std.proofs.lemmas.Bool.{le-ltb}
 use Rattle.std.proofs.lemmas.List.{length-append}
 use Rattle.hayro_ccitt.specs.declared.codes.Color.{Color}
+use Rattle.hayro_ccitt.specs.declared.error.DecodeError.{DecodeError}
 use Rattle.hayro_ccitt.specs.Bits.{Bits}
 use Rattle.hayro_ccitt.specs.CodeLists.{Code}
 use Rattle.hayro_ccitt.specs.CodeReading.{read_code}
@@ -31,3 +32,7 @@ run_found_on color total n here rest h k l =
     let turn : run_found color (total, here) ≡ word_found (codes_of color) here ++ run_found color (total + n, rest) =
     run_found_turn color total here ∙ rw (h, run_turn, le-ltb 4294967295 (total + n) k, le-ltb n 64 l) refl in
     omega (arith, ap length turn, length-append (word_found (codes_of color) here) (run_found color (total + n, rest)), one_word (codes_of color) here (n, rest) h)
+
+-- a word that is missed is none
+pub run_found_missed : (color : Color) (total : ℕ) (here : Bits) (e : DecodeError) → read_code (codes_of color) here ≡ Err e → length (run_found color (total, here)) ≡ 0
+run_found_missed color total here e h = ap length (run_found_turn color total here) ∙ rw (h, run_turn, word_found) refl

@@ -10,7 +10,7 @@ use Rattle.hayro_ccitt.specs.EndOfLine.{after_eol, one_more, eols}
 use Rattle.hayro_ccitt.specs.Ticks.{looked}
 use Rattle.hayro_ccitt.proofs.BitLists.{drop_some}
 use Rattle.hayro_ccitt.proofs.ReadRuns.{chosen}
-use Rattle.hayro_ccitt.proofs.Moves.{after_eol_shorter, length-one_more, one_more-count, eols-none}
+use Rattle.hayro_ccitt.proofs.Moves.{after_eol_shorter, length-one_more, one_more-count}
 
 -- a zero behind zeros is one more of them
 pub zeros_more : (n : ℕ) (bits : Bits) → replicate n false ++ (false ∷ bits) ≡ replicate (n + 1) false ++ bits
@@ -57,11 +57,6 @@ eols_stepped max count start now after e h lt =
     let f : eols (max - count) now ≡ (suc (eols (max - (count + 1)) after).0, (eols (max - (count + 1)) after).1) = rw n at one in
     let m : count + suc (eols (max - (count + 1)) after).0 ≡ count + 1 + (eols (max - (count + 1)) after).0 = omega arith in
     e ∙ rw f (ap (λ (k : ℕ). (k, (eols (max - (count + 1)) after).1)) m)
-
--- no EOL more
-pub eols_ended : (max count : ℕ) (start now : Bits) → eols max start ≡ (count + (eols (max - count) now).0, (eols (max - count) now).1)
-    → after_eol 0 now ≡ None → eols max start ≡ (count, now)
-eols_ended max count start now e h = let m : count + 0 ≡ count = omega arith in e ∙ rw (eols-none (max - count) now h) (ap (λ (k : ℕ). (k, now)) m)
 
 -- an EOL takes a bit
 pub eols_fewer : (most : ℕ) (here : Bits) → (eols most here).0 + length (eols most here).1 ≤ length here

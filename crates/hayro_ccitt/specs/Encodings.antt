@@ -45,6 +45,7 @@ pub data Kind : Type 0 where
   group3_1d : Kind
   group3_2d : Kind
 
+-- a line of a kind, behind its tag where the kind has one (T.4, 4.2.2)
 abbrev pub EncodesLine : Kind → Row → Row → Bits → Type 0
 EncodesLine Kind.group4 reference row bits = EncodesLine2D reference row 0 White bits
 EncodesLine Kind.group3_1d reference row bits = EncodesLine1D White row bits
@@ -85,6 +86,7 @@ EncodesRowsWithEols kind reference [] bits = bits ≡ []
 EncodesRowsWithEols kind reference (row ∷ rows) bits = (fill : ℕ) × (line next : Bits)
     × EncodesLine kind reference row line × EncodesRowsWithEols kind row rows next × (bits ≡ eol fill ++ line ++ next)
 
+-- the tag behind an EOL of RTC (T.4, 4.1.4)
 abbrev pub tag_of : Kind → Bits
 tag_of Kind.group3_2d = true ∷ []
 tag_of Kind.group3_1d = []

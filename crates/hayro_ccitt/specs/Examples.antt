@@ -16,6 +16,7 @@ use Rattle.hayro_ccitt.specs.PlainReading.{plain}
 abbrev pub digit : ℕ → ℕ
 digit c = if nat_lt c 58 then c - 48 else c - 55
 
+-- the bytes of pairs of digits
 abbrev pub bytes_of_digits : List ℕ → List ℕ
 bytes_of_digits [] = []
 bytes_of_digits (high ∷ []) = []
@@ -43,12 +44,15 @@ settings_with encoding columns rows flags =
       strict = has_letter 115 flags;
     }
 
+-- such settings for Group 4
 abbrev pub group4 : ℕ → ℕ → String → DecodeSettings
 group4 = settings_with Group4
 
+-- for Group 3, one-dimensional
 abbrev pub group3_1d : ℕ → ℕ → String → DecodeSettings
 group3_1d = settings_with Group3_1D
 
+-- for Group 3, two-dimensional
 abbrev pub group3_2d : ℕ → ℕ → String → DecodeSettings
 group3_2d = settings_with Group3_2D
 
@@ -81,14 +85,15 @@ EncodesTaggedRows = PictureT4 Kind.group3_2d 8 (pixels 8 [] ∷ pixels 8 [] ∷ 
 abbrev pub with_eols : DecodeSettings
 with_eols = group3_1d 8 0 "l"
 
--- three rows, of which the second has the bits from 29 to 39; with one of these bits changed; and with a black run of
--- no pixels and a white one in their place, up to 47
+-- three rows, of which the second has the bits from 29 to 39
 abbrev pub three_rows : String
 three_rows = "0019800C700033"
 
+-- with one of these bits changed
 abbrev pub bits_changed : String
 bits_changed = "0019800C400033"
 
+-- with a black run of no pixels and a white one in their place, up to 47
 abbrev pub bits_added : String
 bits_added = "0019800C06F80033"
 

@@ -1,15 +1,16 @@
 -- The laws of the plain reading.
-use Rattle.std.specs.Prelude.{◌≡◌, ◌≢◌, ℕ, ◌+◌, ◌-◌, ◌/◌, ◌^◌, ◌<◌, ◌≤◌, Bool, true, false, not, ◌&&◌, ◌||◌, nat_le, ◌⊎◌, Ok, IsOk}
+use Rattle.std.specs.Prelude.{◌≡◌, ◌≢◌, ℕ, ◌+◌, ◌-◌, ◌/◌, ◌^◌, ◌<◌, ◌≤◌, Bool, true, false, not, ◌&&◌, ◌||◌, nat_le, ◌⊎◌, ◌↔◌, Ok, Err, IsOk}
 use Rattle.std.specs.Prelude.{List, [], ◌∷◌, ◌++◌, length, take, replicate, reverse, All}
 use Rattle.std.specs.List.{list_all, list_any}
 use Rattle.hayro_ccitt.specs.declared.codes.Color.{Color}
 use Rattle.hayro_ccitt.specs.declared.codes.Mode.{Mode}
+use Rattle.hayro_ccitt.specs.declared.error.DecodeError.TheVariants.{UnexpectedEof, InvalidCode}
 use Rattle.hayro_ccitt.specs.declared.settings.EncodingMode.{EncodingMode}
 use Rattle.hayro_ccitt.specs.declared.settings.EncodingMode.TheVariants.{Group4, Group3_1D, Group3_2D}
 use Rattle.hayro_ccitt.specs.declared.settings.DecodeSettings.{DecodeSettings}
 use Rattle.hayro_ccitt.specs.Bits.{Bits, bits_of}
 use Rattle.hayro_ccitt.specs.CodeLists.{Code, mode_codes}
-use Rattle.hayro_ccitt.specs.CodeReading.{Has, leading_zeros}
+use Rattle.hayro_ccitt.specs.CodeReading.{Has, read_code, leading_zeros}
 use Rattle.hayro_ccitt.specs.Runs.{codes_of}
 use Rattle.hayro_ccitt.specs.Rows.{Row, AreChanges, pixels, changes}
 use Rattle.hayro_ccitt.specs.Lines.{Line}
@@ -27,6 +28,28 @@ IsFront {A} front whole = (rest : List A) × (whole ≡ front ++ rest)
 pub record AreSettings (settings : DecodeSettings) : Type 0 where
   pub columns : settings.columns < 2 ^ 32
   pub rows : settings.rows < 2 ^ 32
+
+-- ---- code reading
+
+-- a word of the list stands here, for this value, and this follows it
+abbrev pub Stands : {V : Type 0} → List (Code V) → Bits → V → Bits → Type 0
+Stands list here v rest = (w : Bits) × Has list v w × (here ≡ w ++ rest)
+
+-- no word of the list stands here
+abbrev pub NoneStands : {V : Type 0} → List (Code V) → Bits → Type 0
+NoneStands {V} list here = (v : V) (rest : Bits) → Stands list here v rest → ⊥
+
+-- the bits from here to the end are a front of a word of the list
+abbrev pub IsCut : {V : Type 0} → List (Code V) → Bits → Type 0
+IsCut {V} list here = (v : V) × (w : Bits) × Has list v w × IsFront here w
+
+-- What reading a list answers (T.4, 4.1.1): the word that stands here, whatever follows it. Where none does, the end is
+-- missing if the bits up to it are a front of a word, and the code is wrong if they aren't.
+pub record ReadsCodes {V : Type 0} (list : List (Code V)) : Type 0 where
+  pub found : (here : Bits) (v : V) (rest : Bits) → (read_code list here ≡ Ok (v, rest)) ↔ Stands list here v rest
+  pub alone : (here : Bits) (v : V) (rest more : Bits) → read_code list here ≡ Ok (v, rest) → read_code list (here ++ more) ≡ Ok (v, rest ++ more)
+  pub cut : (here : Bits) → (read_code list here ≡ Err UnexpectedEof) ↔ (NoneStands list here × IsCut list here)
+  pub wrong : (here : Bits) → (read_code list here ≡ Err InvalidCode) ↔ (NoneStands list here × (IsCut list here → ⊥))
 
 -- ---- synchronised
 
@@ -94,13 +117,15 @@ has_few_zeros front end word =
 
 -- ---- laws over settings
 
--- the same settings, strict and lenient, and with a limit of rows
+-- the same settings, but strict
 abbrev pub strictly : DecodeSettings → DecodeSettings
 strictly settings = record settings { strict = true }
 
+-- the same settings, but lenient
 abbrev pub leniently : DecodeSettings → DecodeSettings
 leniently settings = record settings { strict = false }
 
+-- the same settings, but with this limit of rows
 abbrev pub limited : ℕ → DecodeSettings → DecodeSettings
 limited limit settings = record settings { rows = limit }
 

@@ -95,6 +95,7 @@ line_by Group3_2D strict columns reference (true ∷ rest) = line_1d strict colu
 line_by Group3_2D strict columns reference (false ∷ rest) = line_2d strict columns reference rest
 line_by Group4 strict columns reference here = line_2d strict columns reference here
 
+-- the line of Group 3 that stands here, read by the settings
 abbrev pub line_at_group3 : DecodeSettings → Row → Bits → Line
 line_at_group3 settings reference here = line_by settings.encoding settings.strict settings.columns reference here
 
@@ -104,6 +105,7 @@ eols_by Group3_1D here = all_eols here
 eols_by Group3_2D here = tagged_eols here
 eols_by Group4 here = all_eols here
 
+-- the EOLs of Group 3 that stand here
 abbrev pub eols_group3 : DecodeSettings → Bits → ℕ × Bits
 eols_group3 settings here = eols_by settings.encoding here
 
@@ -210,6 +212,7 @@ abbrev pub lines_at_group4 : DecodeSettings → Progress → ℕ × Bits → Lis
 lines_at_group4 settings so_far (count, rest) =
     if is_over_group4 settings (length so_far.rows) (count, rest) then [] else line_group4 settings so_far rest ∷ []
 
+-- the line of a turn of Group 4, if it reads one
 abbrev pub lines_of_move_group4 : DecodeSettings → Progress → List Line
 lines_of_move_group4 settings so_far = lines_at_group4 settings so_far (eols_group4 settings so_far.rest)
 
@@ -221,6 +224,7 @@ lines_of_move_group3 settings so_far = line_at_group3 settings (row_before setti
 abbrev pub lines_from : (Progress → Move) → (Progress → List Line) → Progress → List Line
 lines_from move lines so_far = gathered move lines (suc (suc (length so_far.rest))) so_far
 
+-- the lines of an encoding
 abbrev pub lines_by : EncodingMode → DecodeSettings → Bits → List Line
 lines_by Group4 settings bits = lines_from (move_group4 settings) (lines_of_move_group4 settings) (start_group4 bits)
 lines_by Group3_1D settings bits = lines_from (move_group3 settings) (lines_of_move_group3 settings) (start_group3 settings bits)

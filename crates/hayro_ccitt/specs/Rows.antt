@@ -21,10 +21,11 @@ abbrev pub opposite : Color → Color
 opposite White = Black
 opposite Black = White
 
--- the pixel at a place, and the one to its left: white stands left of the row
+-- the pixel at a place; outside the row it is white
 abbrev pub pixel : Row → ℕ → Bool
 pixel row p = get_or row p false
 
+-- the pixel left of a place; left of the row it is white
 abbrev pub pixel_before : Row → ℕ → Bool
 pixel_before row zero = false
 pixel_before row (suc p) = pixel row p

@@ -1,8 +1,10 @@
 -- What is counted while bits are read.
-use Rattle.std.specs.Prelude.{ℕ, suc, ◌-◌, nat_le, Bool, true, false, if◌then◌else◌, Ok, Err, List, [], ◌∷◌, ◌++◌, length, take}
+use Rattle.std.specs.Prelude.{ℕ, suc, ◌-◌, nat_le, Bool, true, false, if◌then◌else◌, Result, Ok, Err, List, [], ◌∷◌, ◌++◌, length, take}
 use Rattle.hayro_ccitt.specs.declared.codes.Color.{Color}
 use Rattle.hayro_ccitt.specs.declared.codes.Mode.{Mode}
 use Rattle.hayro_ccitt.specs.declared.codes.Mode.TheVariants.{Pass, Horizontal, Vertical}
+use Rattle.hayro_ccitt.specs.declared.error.DecodeError.{DecodeError}
+use Rattle.hayro_ccitt.specs.declared.error.DecodeError.TheVariants.{UnexpectedEof, InvalidCode, Overflow, OutOfMemory, Refused}
 use Rattle.hayro_ccitt.specs.Bits.{Bits}
 use Rattle.hayro_ccitt.specs.CodeLists.{Code, mode_codes}
 use Rattle.hayro_ccitt.specs.CodeReading.{read_code}
@@ -26,14 +28,24 @@ word_found list here = elim (read_code list here) [
   | Err fault ↦ []
 ]
 
--- the words that a run finds
+-- the word that one turn of a run finds
 abbrev pub run_gives : Color → ℕ × Bits → List Bits
 run_gives color (total, here) = word_found (codes_of color) here
 
+-- the words that a run finds, also where it then fails
 abbrev pub run_found : Color → ℕ × Bits → List Bits
 run_found color (total, here) = gathered (run_turn color) (run_gives color) (suc (length here)) (total, here)
 
--- the words that a line finds from a pen on
+-- one, where a reading ends because a word that it looked for doesn't stand there
+abbrev pub missed : {T : Type 0} → Result T DecodeError → ℕ
+missed (Ok x) = 0
+missed (Err UnexpectedEof) = 1
+missed (Err InvalidCode) = 1
+missed (Err Overflow) = 0
+missed (Err OutOfMemory) = 0
+missed (Err Refused) = 0
+
+-- these words, unless the row is full
 abbrev pub unless_full_found : ℕ → Pen → List Bits → List Bits
 unless_full_found columns pen found = if nat_le columns (length pen.front) then [] else found
 
@@ -47,26 +59,32 @@ draw_run_found strict columns pen more = run_found pen.color (0, pen.rest) ++ el
   | Err fault ↦ []
 ]
 
+-- no words: nothing more is drawn
 abbrev pub no_words : Pen → List Bits
 no_words pen = []
 
+-- the words of one turn of a one-dimensional line
 abbrev pub gives_1d : Bool → ℕ → Pen → List Bits
 gives_1d strict columns pen = unless_full_found columns pen (draw_run_found strict columns pen no_words)
 
+-- the words that a one-dimensional line finds from a pen on
 abbrev pub found_1d : Bool → ℕ → Pen → List Bits
 found_1d strict columns pen = gathered (step_1d strict columns) (gives_1d strict columns) (suc (length pen.rest)) pen
 
+-- the words behind the word of a mode: the two runs of a horizontal one
 abbrev pub mode_found : Bool → ℕ → Pen → Mode → List Bits
 mode_found strict columns pen Pass = []
 mode_found strict columns pen Horizontal = draw_run_found strict columns pen (λ pen. draw_run_found strict columns pen no_words)
 mode_found strict columns pen (Vertical k) = []
 
+-- the words of one turn of a two-dimensional line
 abbrev pub gives_2d : Bool → ℕ → Pen → List Bits
 gives_2d strict columns pen = unless_full_found columns pen (word_found mode_codes pen.rest ++ elim (read_code mode_codes pen.rest) [
   | Ok mode ↦ mode_found strict columns (record pen { rest = mode.1 }) mode.0
   | Err fault ↦ []
 ])
 
+-- the words that a two-dimensional line finds from a pen on
 abbrev pub found_2d : Bool → ℕ → Row → Pen → List Bits
 found_2d strict columns reference pen = gathered (step_2d strict columns reference) (gives_2d strict columns) (suc (length pen.rest)) pen
 

@@ -1,6 +1,6 @@
 //! Colours, modes, and the code words and EOLs of the data.
 
-ghost use Rattle.std.specs.Prelude.{◌≡◌, ℕ, ◌+◌, ◌≤◌, ◌<◌, ◌==◌, ◌↔◌, ◌++◌, ◌∷◌, IsTrue, IfSome, IfNone, IfErr, OnOk, MatchResult, Ok, Err, Some, None, true, false, length, replicate, nat_le, if◌then◌else◌, drop, option_map};
+ghost use Rattle.std.specs.Prelude.{◌≡◌, ℕ, ◌+◌, ◌≤◌, ◌==◌, ◌↔◌, ◌++◌, ◌∷◌, IsTrue, IfSome, IfNone, IfErr, MatchResult, Ok, Err, Some, None, true, false, length, replicate, nat_le, if◌then◌else◌, drop, option_map};
 ghost use Rattle.std.specs.Borrow.{ftrue};
 ghost use Rattle.std.specs.List.{list_all};
 ghost use Rattle.hayro_ccitt.specs.Answers.{IsFault};
@@ -10,7 +10,7 @@ ghost use Rattle.hayro_ccitt.specs.CodeReading.{agreement, word_at, is_cut, read
 ghost use Rattle.hayro_ccitt.specs.EndOfLine.{after_eol, eols, all_eols};
 ghost use Rattle.hayro_ccitt.specs.Rows.{opposite};
 ghost use Rattle.hayro_ccitt.specs.Runs.{codes_of, read_run};
-ghost use Rattle.hayro_ccitt.specs.Ticks.{run_found, looked};
+ghost use Rattle.hayro_ccitt.specs.Ticks.{run_found, missed, looked};
 
 use crate::bit_reader::BitReader;
 use crate::tables::{
@@ -252,9 +252,7 @@ impl<'a> BitReader<'a> {
             (λ e. read_run color (here self.old) ≡ Err e) }
         ensures fault { IfErr result IsFault }
         ensures same { self.new.bits ≡ self.old.bits }
-        ensures ticks { OnOk result (ticks.new ≡ ticks.old + length (run_found color (0, here self.old))) }
-        ensures at_least { ticks.old + length (run_found color (0, here self.old)) ≤ ticks.new }
-        ensures at_most { ticks.new ≤ ticks.old + length (run_found color (0, here self.old)) + 1 }
+        ensures ticks { ticks.new ≡ ticks.old + length (run_found color (0, here self.old)) + missed result }
     {
         let mut total: u32 = 0;
         'words: loop {

@@ -3,8 +3,10 @@
 ghost use Rattle.std.specs.Prelude.{IsTrue};
 ghost use Rattle.hayro_ccitt.specs.CodeLists.{white_codes, black_codes, mode_codes};
 ghost use Rattle.hayro_ccitt.specs.CodeReading.{is_prefix_free};
+ghost use Rattle.hayro_ccitt.specs.Runs.{codes_of};
+ghost use Rattle.hayro_ccitt.specs.declared.codes.Color.{Color};
 ghost use Rattle.hayro_ccitt.specs.Examples.{EncodesTwoLines, EncodesTaggedRows, HaveLocalBodies, ReadsDamage};
-ghost use Rattle.hayro_ccitt.specs.Laws.{each_word, has_few_zeros, Synchronised, StrictThenLenient, RowLimit};
+ghost use Rattle.hayro_ccitt.specs.Laws.{each_word, has_few_zeros, ReadsCodes, Synchronised, StrictThenLenient, RowLimit};
 ghost use Rattle.hayro_ccitt.specs.Laws.{ReadsPictureT6, ReadsLimitedRowsT6, ReadsPictureT4, ReadsLimitedPictureT4, ReadsLimitedRowsT4};
 ghost use Rattle.hayro_ccitt.specs.Laws.{AfterEofb, PicturesComeToEofb, OnePictureT6, OnePictureT4};
 ghost use Rattle.hayro_ccitt.specs.Laws.{EveryPictureHasAnEncoding, BytesBeginWithAnyBits, RowsOfChanges, ChangesOfRows};
@@ -16,6 +18,13 @@ pub fn code_words()
     ensures white { IsTrue (each_word (has_few_zeros 7 3) white_codes) }
     ensures black { IsTrue (each_word (has_few_zeros 7 3) black_codes) }
     ensures mode { IsTrue (each_word (has_few_zeros 5 1) mode_codes) }
+{}
+
+/// Reading a code list answers the word of it that stands here, whatever follows it. Where none does, the end of the
+/// data is missing exactly if the bits up to it are a front of a word; else the code is wrong.
+pub fn code_reading()
+    ensures runs { (color : Color) → ReadsCodes (codes_of color) }
+    ensures modes { ReadsCodes mode_codes }
 {}
 
 /// The code words stay in step with EOLs. No word of a list is a front of another one. Words in a row, and a tag

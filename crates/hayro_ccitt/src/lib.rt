@@ -30,6 +30,7 @@ pub trait Decoder {
     /// What the rows that the sink took come to.
     ghost Meaning: { Type 0 };
 
+    /// What the sink means now.
     ghost meaning: { Self → Meaning };
 
     /// From the width, a meaning and a row's changes to the meaning with that row.

@@ -1,9 +1,12 @@
-use Rattle.std.proofs.Common.{length, ◌≡◌, ℕ, Option, Some, ◌+◌, ◌<◌, ap, ◌∙◌, arith}
+use Rattle.std.proofs.Common.{length, ◌≡◌, ℕ, Option, Some, ◌+◌, ◌<◌, Err, refl, ap, ◌∙◌, arith}
 use Rattle.std.specs.Option.{SomeIff}
+use Rattle.std.proofs.lemmas.Result.{err_from_is_err_and}
+use Rattle.hayro_ccitt.specs.declared.error.DecodeError.{DecodeError}
 use Rattle.hayro_ccitt.specs.Bits.{here}
 use Rattle.hayro_ccitt.specs.Runs.{codes_of, run_from}
 use Rattle.hayro_ccitt.specs.Ticks.{run_found}
-use Rattle.hayro_ccitt.proofs.TickTurns.{run_found_on}
+use Rattle.hayro_ccitt.proofs.TickTurns.{run_found_on, run_found_missed}
+use Rattle.hayro_ccitt.proofs.ReadCodes.{read_code_missed}
 use Rattle.hayro_ccitt.proofs.ReadRuns.{read_code_shorter, words_not_empty, run_goes_on}
 use Rattle.hayro_ccitt.proofs.bit_reader.BitReader.decode_run.Goals as goal
 
@@ -30,3 +33,13 @@ words-preserved c =
       c.decode_word.ensures.same ∙ c.words.invariant.1,
       omega (arith, c.words.invariant.2, c.tick.ensures, found_on, ap (λ (n : ℕ). length (run_found color (n, new))) total),
     )
+
+pub returns-in_err-run-clause-ticks : goal.returns-in_err-run-clause-ticks
+returns-in_err-run-clause-ticks c =
+    let e : DecodeError = c.in_err-run.field-0.0 in
+    let old = here c.words.self in
+    let answer = err_from_is_err_and c.from_residual.result c.from_residual.ensures.1 in
+    let is : c.from_residual.result ≡ Err e = rw (answer.1, answer.2) refl in
+    let none = run_found_missed c.args.color c.words.total old e c.in_err-run.ensures.word in
+    let one = read_code_missed (codes_of c.args.color) old e c.from_residual.result c.in_err-run.ensures.word is in
+    omega (arith, c.words.invariant.2, c.tick.ensures, none, one)

@@ -1,0 +1,11 @@
+use Rattle.hayro_ccitt.specs.CodeLists.{mode_codes}
+use Rattle.hayro_ccitt.specs.Runs.{codes_of}
+use Rattle.hayro_ccitt.proofs.CodeReadings.{reads_codes}
+use Rattle.hayro_ccitt.proofs.ZerosInWords.{codes_free, modes_free}
+use Rattle.hayro_ccitt.proofs.laws.code_reading.Goals as goal
+
+pub returns-clause-runs : goal.returns-clause-runs
+returns-clause-runs c = λ color. reads_codes (codes_of color) (codes_free color)
+
+pub returns-clause-modes : goal.returns-clause-modes
+returns-clause-modes c = reads_codes mode_codes modes_free
