@@ -37,6 +37,7 @@ def real_strips():
             text = done.stdout.decode().splitlines()
             assert text[:-1] == [line for line, _ in expected], f"{name} {setting}: other rows"
             assert re.fullmatch(r"ok \d+", text[-1]) and done.returncode == 0, f"{name} {setting}: {text[-1]}"
+            assert done.stderr == b"", f"{name} {setting}: {done.stderr!r} on standard error"
             if limit == "0":
                 assert text[-1] == f"ok {end}", f"{name} {setting}: {text[-1]}, not {end}"
             rows_seen += len(expected)
@@ -65,6 +66,7 @@ def known_cases():
             done = run(settings.split(), bytes_of(data))
             text = done.stdout.decode()
             assert text == answer.replace("/", "\n") + "\n", f"{settings} {data}: {text!r}, not {answer}"
+            assert done.stderr == b"", f"{settings} {data}: {done.stderr!r} on standard error"
             assert done.returncode == (0 if answer.split("/")[-1].startswith("ok") else 1), settings
             seen += 1
     assert seen > 0
@@ -77,20 +79,20 @@ def statuses():
     good = run(["g4", "8", "1", "-"], row)
     assert (good.returncode, good.stdout, good.stderr) == (0, b"r 3 5\nok 2\n", b""), good
     faulty = run(["g4", "8", "0", "-"], b"\x80")
-    assert (faulty.returncode, faulty.stdout) == (1, b"r\nerror: invalid CCITT code sequence\n"), faulty
+    assert (faulty.returncode, faulty.stdout, faulty.stderr) == (1, b"r\nerror: invalid CCITT code sequence\n", b""), faulty
     for words in [[], ["g4", "8", "1"], ["g4", "8", "1", "bb"], ["1d", "8", "1", "-"], ["g4", "4294967296", "1", "-"]]:
         bad = run(words, row)
-        assert (bad.returncode, bad.stdout) == (2, b""), (words, bad)
+        assert (bad.returncode, bad.stdout, bad.stderr) == (2, b"", b"faxrows: bad arguments\n"), (words, bad)
 
 
 def devices_that_fail():
     with open("/dev/full", "wb") as full:
         done = subprocess.run([PROGRAM, "g4", "8", "1", "-"], input=bytes.fromhex("31C0"), stdout=full, stderr=subprocess.PIPE, timeout=60, check=False)
-        assert done.returncode == 3, done
+        assert (done.returncode, done.stderr) == (3, b"faxrows: cannot write\n"), done
     folder = os.open("/", os.O_RDONLY)
     try:
         done = subprocess.run([PROGRAM, "g4", "8", "1", "-"], stdin=folder, capture_output=True, timeout=60, check=False)
-        assert (done.returncode, done.stdout) == (3, b""), done
+        assert (done.returncode, done.stdout, done.stderr) == (3, b"", b"faxrows: cannot read\n"), done
     finally:
         os.close(folder)
 

@@ -12,10 +12,17 @@ import repository  # noqa: E402
 
 
 def build():
-    """The program as LLVM builds it. `rt run` proves it first, and feeds it the stored input."""
-    done = subprocess.run(["rt", "run"], cwd="crates/faxrows", capture_output=True, text=True, check=False)
-    if not os.path.exists(program.PROGRAM):
-        print(done.stdout[-2000:], done.stderr[-2000:])
+    """The program as LLVM builds it. `rt run` proves it first, and gives the program its words and its stored input.
+
+    Its status is the program's own where it was built, so that a program of an older build is never taken.
+    """
+    folder = "crates/faxrows"
+    with open(f"{folder}/args", encoding="utf-8") as file:
+        words = file.read().splitlines()
+    with open(f"{folder}/stdin", "rb") as stored:
+        done = subprocess.run(["rt", "run", "--", *words], cwd=folder, stdin=stored, capture_output=True, check=False)
+    if done.returncode != 0 or not os.path.exists(program.PROGRAM):
+        print(done.stdout.decode(errors="replace")[-2000:], done.stderr.decode(errors="replace")[-2000:])
         sys.exit("faxrows was not built")
 
 

@@ -10,7 +10,7 @@ use Rattle.hayro_ccitt.specs.Answers.{OnAnswer, IsFault, meaning_after}
 use Rattle.hayro_ccitt.specs.PlainReading.{Answer}
 use Rattle.hayro_ccitt.specs.Rows.{Row, changes}
 use Rattle.faxrows.specs.declared.program.Done.TheVariants.{Good, Faulty, Memory}
-use Rattle.faxrows.specs.Runs.{OnKnown, IsFrontText, IsWant, done_of}
+use Rattle.faxrows.specs.Runs.{OnKnown, IsFrontText, EndedByMemory, done_of}
 use Rattle.faxrows.specs.Text.{line_of_row, lines_of_rows, line_of_outcome, text_of}
 
 -- the lines added one by one are the lines of all
@@ -66,7 +66,7 @@ text_of_faulty answer (Err OutOfMemory) taken text d e = cc
 text_of_faulty answer (Err Refused) taken text d e = cc
 
 -- the text of the first rows, and of a want of memory
-front_text : (answer : Answer) (fault : DecodeError) (taken : ℕ) (text : List ℕ) → Decoded answer (Err fault) taken text → IsWant fault
+front_text : (answer : Answer) (fault : DecodeError) (taken : ℕ) (text : List ℕ) → Decoded answer (Err fault) taken text → EndedByMemory fault
     → IsFrontText (map changes answer.0) (text ++ line_of_outcome (Err fault))
 front_text answer fault taken text d want =
     let lines : text ≡ lines_of_rows (take taken (map changes answer.0)) =

@@ -22,13 +22,13 @@ abbrev pub whole_text : DecodeSettings → List ℕ → List ℕ
 whole_text settings input = text_of (rows_of settings input) (outcome_of settings input)
 
 -- the error of a run that memory ended
-abbrev pub IsWant : DecodeError → Type 0
-IsWant fault = (fault ≡ OutOfMemory) ⊎ (fault ≡ Refused)
+abbrev pub EndedByMemory : DecodeError → Type 0
+EndedByMemory fault = (fault ≡ OutOfMemory) ⊎ (fault ≡ Refused)
 
 -- the lines of the first rows, and the line of a want of memory
 abbrev pub IsFrontText : List (List ℕ) → List ℕ → Type 0
 IsFrontText rows text =
-    (n : ℕ) × (n ≤ length rows) × ((fault : DecodeError) × IsWant fault × (text ≡ text_of (take n rows) (Err fault)))
+    (n : ℕ) × (n ≤ length rows) × ((fault : DecodeError) × EndedByMemory fault × (text ≡ text_of (take n rows) (Err fault)))
 
 -- a fact on the settings that words mean, and the bytes that a reader tells
 abbrev pub OnKnown : Option DecodeSettings → Option (List ℕ) → (DecodeSettings → List ℕ → Type 0) → Type 0

@@ -1,6 +1,6 @@
 //! Readers and writers of which one can tell whether they have failed.
 
-ghost use Rattle.std.specs.Prelude.{◌≡◌, ◌≤◌, ◌<◌, OnOk, OnErr, IfOk, IsOk, true, false, Bool, length, take, MatchResult};
+ghost use Rattle.std.specs.Prelude.{◌≡◌, ◌<◌, OnOk, OnErr, IfOk, true, false, length};
 ghost use Rattle.std.specs.Io.KnownBytes.{ReadConsumes, WriteAppends};
 ghost use Rattle.std.specs.Io.{ReadsAtMost, WritesAtMost};
 

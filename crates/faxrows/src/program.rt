@@ -1,6 +1,6 @@
 //! A run of the program: all that a reader has is decoded, and written as text.
 
-ghost use Rattle.std.specs.Prelude.{◌≡◌, ◌++◌, ◌↔◌, ◌≢◌, ◌≤◌, ◌<◌, IfOk, IfErr, OnOk, OnErr, IfSome, IsOk, IsErr, true, false, length, map, string_bytes, None, Ok, Err, List, ℕ};
+ghost use Rattle.std.specs.Prelude.{◌≡◌, ◌↔◌, ◌≢◌, IfOk, IfErr, OnOk, OnErr, IfSome, IsOk, IsErr, true, false, map, string_bytes, None, Ok, Err, List, ℕ};
 ghost use Rattle.std.specs.Io.KnownBytes.{Appends, IsAtEnd};
 ghost use Rattle.hayro_ccitt.specs.Bits.{BitsFit};
 ghost use Rattle.faxrows.specs.Arguments.{settings_of_words};
@@ -89,6 +89,7 @@ pub fn run<R: Read, W: Write>(
         × Appends (W.contents writer.old.0) (W.contents writer.new.0) text) }
     ensures drained { IfOk result (λ _. IsAtEnd (R.remaining reader.new.0)) }
     ensures fit { IfOk result (λ _. IfSome (R.remaining reader.old.0) BitsFit) }
+    ensures fit_write { result ≡ Err RunFault.Write → IfSome (R.remaining reader.old.0) BitsFit }
     ensures too_long { result ≡ Err RunFault.TooLong
         → IfSome (R.remaining reader.old.0) (λ input. ¬ (BitsFit input)) }
     ensures read { reader.old.1 ≡ false → ((result ≡ Err RunFault.Read) ↔ (reader.new.1 ≡ true)) }

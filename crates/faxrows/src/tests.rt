@@ -4,20 +4,48 @@ use std::io;
 use std::io::{Read, Write};
 use std::test::Fail;
 
+/// The calls of a device: how many come before one fails, and whether those after it fail too.
+#[derive(Drop)]
+struct Calls {
+    before_failure: usize,
+    have_failed: bool,
+    fail_for_ever: bool,
+}
+
+impl Calls {
+    fn new(before_failure: usize, fail_for_ever: bool) -> Calls {
+        Calls {
+            before_failure,
+            have_failed: false,
+            fail_for_ever,
+        }
+    }
+
+    /// Counts a call, and says whether it fails.
+    fn fails(&mut self) -> bool {
+        if self.before_failure > 0 {
+            self.before_failure -= 1;
+            return false;
+        }
+        let fails = self.fail_for_ever || !self.have_failed;
+        self.have_failed = true;
+        fails
+    }
+}
+
 /// A reader that gives one byte a read, and fails at a read.
 #[derive(Drop)]
 struct Dripping {
     bytes: Vec<u8>,
     place: usize,
-    reads_before_failure: usize,
+    calls: Calls,
 }
 
 impl Read for Dripping {
     fn read(&mut self, buf: &mut [u8]) -> io::Result<usize> {
-        if self.reads_before_failure == 0 {
+        if self.calls.fails() {
             return Err(io::Error::from(io::ErrorKind::Other));
         }
-        self.reads_before_failure -= 1;
         if buf.is_empty() {
             return Ok(0);
         }
@@ -34,15 +62,14 @@ impl Read for Dripping {
 #[derive(Drop)]
 struct Choking {
     bytes: Vec<u8>,
-    writes_before_failure: usize,
+    calls: Calls,
 }
 
 impl Write for Choking {
     fn write(&mut self, buf: &[u8]) -> io::Result<usize> {
-        if self.writes_before_failure == 0 {
+        if self.calls.fails() {
             return Err(io::Error::from(io::ErrorKind::Other));
         }
-        self.writes_before_failure -= 1;
         let Some(byte) = buf.first() else {
             return Ok(0);
         };
@@ -180,25 +207,28 @@ fn knows_bad_words(rt: HostRuntime) -> Result<(), Fail> {
 #[test]
 fn fails_at_each_read(rt: HostRuntime) -> Result<(), Fail> {
     for reads in 0..5usize {
-        let words = words_of(rt.alloc(), "g4 8 1 -")?;
-        let mut reader = Device::new(Dripping {
-            bytes: bytes_of(rt.alloc(), [0x31, 0xC0].as_slice())?,
-            place: 0,
-            reads_before_failure: reads,
-        });
-        let mut writer = Device::new(Vec::new(rt.alloc()));
-        let answer = run(rt.alloc(), words.as_slice(), &mut reader, &mut writer);
-        let written: Vec<u8> = writer.into_inner();
-        if reads < 3 {
-            assert_eq!(rt; answer, Err(RunFault::Read), "at {reads}");
-            assert!(rt; written.is_empty(), "at {reads}");
-        } else {
-            assert_eq!(rt; answer, Ok(Done::Good), "at {reads}");
-            assert_eq!(rt;
-                written.as_slice(),
-                b"r 3 5\nok 2\n".as_slice(),
-                "at {reads}"
-            );
+        for fail_for_ever in [false, true] {
+            let words = words_of(rt.alloc(), "g4 8 1 -")?;
+            let mut reader = Device::new(Dripping {
+                bytes: bytes_of(rt.alloc(), [0x31, 0xC0].as_slice())?,
+                place: 0,
+                calls: Calls::new(reads, fail_for_ever),
+            });
+            let mut writer = Device::new(Vec::new(rt.alloc()));
+            let answer = run(rt.alloc(), words.as_slice(), &mut reader, &mut writer);
+            let written: Vec<u8> = writer.into_inner();
+            if reads < 3 {
+                assert_eq!(rt; answer, Err(RunFault::Read), "at {reads}");
+                assert!(rt; written.is_empty(), "at {reads}");
+                assert_eq!(rt; reader.into_inner().place, reads, "at {reads}");
+            } else {
+                assert_eq!(rt; answer, Ok(Done::Good), "at {reads}");
+                assert_eq!(rt;
+                    written.as_slice(),
+                    b"r 3 5\nok 2\n".as_slice(),
+                    "at {reads}"
+                );
+            }
         }
     }
     Ok(())
@@ -208,20 +238,22 @@ fn fails_at_each_read(rt: HostRuntime) -> Result<(), Fail> {
 fn fails_at_each_write(rt: HostRuntime) -> Result<(), Fail> {
     let text = b"r 3 5\nok 2\n";
     for writes in 0..13usize {
-        let words = words_of(rt.alloc(), "g4 8 1 -")?;
-        let mut reader = Device::new([0x31u8, 0xC0].as_slice());
-        let mut writer = Device::new(Choking {
-            bytes: Vec::new(rt.alloc()),
-            writes_before_failure: writes,
-        });
-        let answer = run(rt.alloc(), words.as_slice(), &mut reader, &mut writer);
-        let written = writer.into_inner().bytes;
-        if writes < text.len() {
-            assert_eq!(rt; answer, Err(RunFault::Write), "at {writes}");
-            assert_eq!(rt; written.as_slice(), &text[..writes], "at {writes}");
-        } else {
-            assert_eq!(rt; answer, Ok(Done::Good), "at {writes}");
-            assert_eq!(rt; written.as_slice(), text.as_slice(), "at {writes}");
+        for fail_for_ever in [false, true] {
+            let words = words_of(rt.alloc(), "g4 8 1 -")?;
+            let mut reader = Device::new([0x31u8, 0xC0].as_slice());
+            let mut writer = Device::new(Choking {
+                bytes: Vec::new(rt.alloc()),
+                calls: Calls::new(writes, fail_for_ever),
+            });
+            let answer = run(rt.alloc(), words.as_slice(), &mut reader, &mut writer);
+            let written = writer.into_inner().bytes;
+            if writes < text.len() {
+                assert_eq!(rt; answer, Err(RunFault::Write), "at {writes}");
+                assert_eq!(rt; written.as_slice(), &text[..writes], "at {writes}");
+            } else {
+                assert_eq!(rt; answer, Ok(Done::Good), "at {writes}");
+                assert_eq!(rt; written.as_slice(), text.as_slice(), "at {writes}");
+            }
         }
     }
     Ok(())

@@ -48,7 +48,7 @@ impl TextSink {
 
 impl Decoder for TextSink {
     ghost use Rattle.std.specs.Prelude.{List, ℕ, ◌++◌};
-    ghost use Rattle.faxrows.specs.Text.{line_of_row, text_of_change};
+    ghost use Rattle.faxrows.specs.Text.{line_of_row};
 
     ghost Meaning = { List ℕ };
 
