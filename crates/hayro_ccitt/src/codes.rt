@@ -229,14 +229,17 @@ impl<'a> BitReader<'a> {
         }
     }
 
-    /// Reads a word of a colour's list.
-    fn decode_word(&mut self, color: Color) -> Result<u16>
+    /// Reads a word of a colour's list, which is one tick.
+    fn decode_word(&mut self, color: Color, ticks: &mut Ticks) -> Result<u16>
         ensures word { MatchResult result
             (λ n. read_code (codes_of color) (here self.old) ≡ Ok (n, here self.new))
             (λ e. read_code (codes_of color) (here self.old) ≡ Err e) }
         ensures fault { IfErr result IsFault }
         ensures same { self.new.bits ≡ self.old.bits }
+        ensures count { ticks.new ≡ ticks.old + 1 }
     {
+        // A word that doesn't stand here was looked for too.
+        ticks.tick();
         match color {
             Color::White => self.read_run_word(&WHITE_TERMINATING, &WHITE_MAKEUP),
             Color::Black => self.read_run_word(&BLACK_TERMINATING, &BLACK_MAKEUP),
@@ -256,8 +259,7 @@ impl<'a> BitReader<'a> {
     {
         let mut total: u32 = 0;
         'words: loop {
-            ticks.tick();
-            let run = self.decode_word(color)?;
+            let run = self.decode_word(color, ticks)?;
             total = total
                 .checked_add(u32::from(run))
                 .ok_or(DecodeError::Overflow)?;
