@@ -4,10 +4,9 @@ use mathlib.Core.Bool.{beq}
 use Rattle.std.specs.List.{range_with_len, filter}
 use Rattle.std.proofs.lemmas.Bool.{cases_eq}
 use Rattle.std.proofs.lemmas.List.{length-replicate, replicate-append-replicate}
-use Rattle.hayro_ccitt.specs.Rows.{Row, pixel, pixel_before, is_change, changes, AscendFrom, AreChanges, pixels_from, pixels}
-use Rattle.hayro_ccitt.specs.Changes.{changes_from, last_pixel}
+use Rattle.hayro_ccitt.specs.Rows.{Row, pixel, pixel_before, is_change, changes, AscendFrom, AreChanges, pixels_from, pixels, last_pixel}
 use Rattle.hayro_ccitt.specs.Context.{continued}
-use Rattle.hayro_ccitt.proofs.RowChanges.{changes_from-append, changes_from-same}
+use Rattle.hayro_ccitt.proofs.RowChanges.{changes_from, changes_from-append, changes_from-same}
 
 -- ---- Ascending places.
 

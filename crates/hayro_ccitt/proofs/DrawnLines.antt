@@ -16,13 +16,12 @@ use Rattle.hayro_ccitt.specs.declared.settings.DecodeSettings.{DecodeSettings}
 use Rattle.hayro_ccitt.specs.declared.error.DecodeError.TheVariants.{UnexpectedEof, InvalidCode, Overflow, OutOfMemory, Refused}
 use Rattle.hayro_ccitt.specs.Answers.{IsFault, front_of, HasBlack, DrawsLine, pen_of, StepHasBlack, DrawsStep, StoresChange}
 use Rattle.hayro_ccitt.specs.Bits.{Bits}
-use Rattle.hayro_ccitt.specs.Changes.{last_pixel}
 use Rattle.hayro_ccitt.specs.CodeLists.{mode_codes}
 use Rattle.hayro_ccitt.specs.CodeReading.{read_code}
 use Rattle.hayro_ccitt.specs.Context.{Held, redrawn}
 use Rattle.hayro_ccitt.specs.Lines.{Line, Pen, Step, try, draw_run, drawn, place_from, draw_mode, step_2d}
 use Rattle.hayro_ccitt.specs.Repetition.{Turn, repeated}
-use Rattle.hayro_ccitt.specs.Rows.{Row, is_black, opposite, right_of, b1, b2, paint}
+use Rattle.hayro_ccitt.specs.Rows.{Row, is_black, opposite, right_of, b1, b2, paint, last_pixel}
 use Rattle.hayro_ccitt.specs.Runs.{run_from}
 use Rattle.hayro_ccitt.proofs.ReadLines.{draw_mode_next, modes_not_empty, drawn2, step_2d_shrinks, left}
 use Rattle.hayro_ccitt.proofs.ReadRuns.{chosen, read_code_shorter}

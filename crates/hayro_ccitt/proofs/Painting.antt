@@ -7,8 +7,7 @@ use Rattle.std.proofs.lemmas.List.{length-replicate}
 use Rattle.hayro_ccitt.specs.declared.codes.Color.{Color}
 use Rattle.hayro_ccitt.specs.declared.codes.Color.TheVariants.{White, Black}
 use Rattle.hayro_ccitt.specs.declared.error.DecodeError.TheVariants.{InvalidCode}
-use Rattle.hayro_ccitt.specs.Rows.{AreChanges, pixels, is_black, paint}
-use Rattle.hayro_ccitt.specs.Changes.{last_pixel}
+use Rattle.hayro_ccitt.specs.Rows.{AreChanges, pixels, is_black, paint, last_pixel}
 use Rattle.hayro_ccitt.specs.Context.{Held}
 use Rattle.hayro_ccitt.specs.Answers.{StoresChange}
 use Rattle.hayro_ccitt.proofs.ChangesAndPixels.{length-pixels, last_pixel-odd}

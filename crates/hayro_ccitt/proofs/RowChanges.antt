@@ -1,8 +1,13 @@
 -- What painting does to the changes.
 use Rattle.std.proofs.Common.{◌≡◌, ℕ, zero, suc, ◌+◌, Bool, true, false, cond, List, [], ◌∷◌, ◌++◌, length, replicate, refl, sym, arith}
 use mathlib.Core.Bool.{beq}
-use Rattle.hayro_ccitt.specs.Rows.{Row}
-use Rattle.hayro_ccitt.specs.Changes.{changes_from, last_pixel}
+use Rattle.hayro_ccitt.specs.Rows.{Row, last_pixel}
+
+-- The changes of a row by recursion: the places, counted from one on, where a pixel differs from the one before it. It is
+-- the same list as `changes`, in a form for induction.
+abbrev pub changes_from : ℕ → Bool → Row → List ℕ
+changes_from place before [] = []
+changes_from place before (pixel ∷ row) = cond (beq before pixel) (changes_from (suc place) pixel row) (place ∷ changes_from (suc place) pixel row)
 
 cond-append : (b : Bool) (x y zs : List ℕ) → cond b x y ++ zs ≡ cond b (x ++ zs) (y ++ zs)
 cond-append true x y zs = refl

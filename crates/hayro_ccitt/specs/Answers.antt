@@ -5,8 +5,7 @@ use Rattle.hayro_ccitt.specs.declared.error.DecodeError.{DecodeError}
 use Rattle.hayro_ccitt.specs.declared.error.DecodeError.TheVariants.{UnexpectedEof, InvalidCode, Overflow, OutOfMemory, Refused}
 use Rattle.hayro_ccitt.specs.declared.codes.Mode.{Mode}
 use Rattle.hayro_ccitt.specs.Bits.{Bits}
-use Rattle.hayro_ccitt.specs.Rows.{Row, is_black, changes}
-use Rattle.hayro_ccitt.specs.Changes.{last_pixel}
+use Rattle.hayro_ccitt.specs.Rows.{Row, is_black, changes, last_pixel}
 use Rattle.hayro_ccitt.specs.Context.{Held, painted_front}
 use Rattle.hayro_ccitt.specs.Lines.{Line, Pen, Step, draw_run, draw_mode, line_2d}
 use Rattle.hayro_ccitt.specs.Repetition.{Turn}

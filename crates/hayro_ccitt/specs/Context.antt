@@ -4,8 +4,7 @@ use Rattle.hayro_ccitt.specs.declared.codes.Color.{Color}
 use Rattle.hayro_ccitt.specs.declared.codes.Color.TheVariants.{White}
 use Rattle.hayro_ccitt.specs.declared.settings.DecodeSettings.{DecodeSettings}
 use Rattle.hayro_ccitt.specs.declared.error.DecodeError.{DecodeError}
-use Rattle.hayro_ccitt.specs.Rows.{Row, paint}
-use Rattle.hayro_ccitt.specs.Changes.{last_pixel}
+use Rattle.hayro_ccitt.specs.Rows.{Row, paint, last_pixel}
 
 -- the reference row, the front of the coding row, the present colour, the number of rows that were taken, whether
 -- EOLs are sought, and the settings

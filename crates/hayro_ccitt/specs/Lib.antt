@@ -1,6 +1,5 @@
 pub mod Answers
 pub mod Bits
-pub mod Changes
 pub mod CodeLists
 pub mod CodeReading
 pub mod Context

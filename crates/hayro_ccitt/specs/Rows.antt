@@ -30,6 +30,11 @@ abbrev pub pixel_before : Row → ℕ → Bool
 pixel_before row zero = false
 pixel_before row (suc p) = pixel row p
 
+-- the last pixel, or the one before them all
+abbrev pub last_pixel : Bool → Row → Bool
+last_pixel before [] = before
+last_pixel before (pixel ∷ row) = last_pixel pixel row
+
 -- a changing element: a place whose pixel differs from the one before it (T.4, 4.2.1.1)
 abbrev pub is_change : Row → ℕ → Bool
 is_change row p = not (beq (pixel_before row p) (pixel row p))

@@ -1,8 +1,7 @@
 //! What a decoder keeps from line to line, and the lines themselves.
 
 ghost use Rattle.std.specs.Prelude.{◌≡◌, ◌≢◌, ◌+◌, ◌-◌, ◌^◌, ◌<◌, ◌≤◌, ◌⊎◌, ◌↔◌, Ok, Err, OnOk, OnErr, IfOk, IfErr, true, IsOkUnless, IsTrue, false, length, get_or, [], ◌++◌, replicate};
-ghost use Rattle.hayro_ccitt.specs.Rows.{AreChanges, pixels, right_of, b1, b2, changes, is_black, opposite};
-ghost use Rattle.hayro_ccitt.specs.Changes.{last_pixel};
+ghost use Rattle.hayro_ccitt.specs.Rows.{AreChanges, pixels, right_of, b1, b2, changes, is_black, opposite, last_pixel};
 ghost use Rattle.hayro_ccitt.specs.Bits.{here};
 ghost use Rattle.hayro_ccitt.specs.Context.{redrawn, right_of_painted, painted_front, taken_row};
 ghost use Rattle.hayro_ccitt.specs.Answers.{DrawsLine, DrawsStep, StoresChange, pen_of, step_of_run, step_of_mode, line_from_2d};
