@@ -19,11 +19,11 @@ use Rattle.hayro_ccitt.specs.Bits.{Bits}
 use Rattle.hayro_ccitt.specs.CodeLists.{mode_codes}
 use Rattle.hayro_ccitt.specs.CodeReading.{read_code}
 use Rattle.hayro_ccitt.specs.Context.{Held, redrawn}
-use Rattle.hayro_ccitt.specs.Lines.{Line, Pen, Step, try, draw_run, drawn, place_from, draw_mode, step_2d}
+use Rattle.hayro_ccitt.specs.Lines.{Line, Pen, Step, try, draw_run, drawn, place_from, draw_mode, step_1d, step_2d}
 use Rattle.hayro_ccitt.specs.Repetition.{Turn, repeated}
 use Rattle.hayro_ccitt.specs.Rows.{Row, is_black, opposite, right_of, b1, b2, paint, last_pixel}
 use Rattle.hayro_ccitt.specs.Runs.{run_from}
-use Rattle.hayro_ccitt.proofs.ReadLines.{draw_mode_next, modes_not_empty, drawn2, step_2d_shrinks, left}
+use Rattle.hayro_ccitt.proofs.ReadLines.{next_is, draw_run_next, draw_mode_next, modes_not_empty, drawn1, drawn2, step_1d_shrinks, step_2d_shrinks, left}
 use Rattle.hayro_ccitt.proofs.ReadRuns.{chosen, read_code_shorter}
 use Rattle.hayro_ccitt.proofs.Repeated.{Shrinks, after_turn}
 
@@ -188,6 +188,11 @@ step_2d_keeps_black strict columns reference pen has =
     (try_keeps_black pen.front (read_code mode_codes pen.rest) (λ mode. draw_mode strict columns reference (record pen { rest = mode.1 }) mode.0) has
     (λ mode e. draw_mode_keeps_black strict columns reference (record pen { rest = mode.1 }) mode.0 has))
 
+step_1d_keeps_black : (strict : Bool) (columns : ℕ) → KeepsBlack (step_1d strict columns)
+step_1d_keeps_black strict columns pen has =
+    either_black (leb columns (length pen.front)) (Turn.done (Line.whole pen.front pen.rest)) (draw_run strict columns pen Turn.next) has
+    (draw_run_keeps_black strict columns pen Turn.next (λ q h. h) has)
+
 -- a line that goes on from a front with a black pixel has one
 from_black : (step : Pen → Step) → Shrinks step left → KeepsBlack step → (n : ℕ) (pen : Pen) → left pen < n → HasBlack pen.front → HasBlack (front_of (repeated step (Line.broken [] UnexpectedEof) n pen))
 from_black step shrinks keeps zero pen lt has = absurd (omega arith)
@@ -198,13 +203,17 @@ from_black step shrinks keeps (suc n) pen lt has = by (λ p small h. from_black 
     by on (Turn.next p) e h = on p (omega (arith, shrinks pen p e)) h
     by on (Turn.done line) e h = h
 
--- ---- The rule of one mode of a line.
+-- ---- The rule of one step of a line.
 
-after_black : (strict : Bool) (columns : ℕ) (reference : Row) (turn : Step) → StepHasBlack turn → HasBlack (front_of (after_turn (drawn (step_2d strict columns reference)) turn))
-after_black strict columns reference (Turn.next pen) has = from_black (step_2d strict columns reference) (step_2d_shrinks strict columns reference) (step_2d_keeps_black strict columns reference) (suc (length pen.rest)) pen (omega arith) has
-after_black strict columns reference (Turn.done line) has = has
+after_black : (step : Pen → Step) → Shrinks step left → KeepsBlack step → (turn : Step) → StepHasBlack turn → HasBlack (front_of (after_turn (drawn step) turn))
+after_black step shrinks keeps (Turn.next pen) has = from_black step shrinks keeps (suc (length pen.rest)) pen (omega arith) has
+after_black step shrinks keeps (Turn.done line) has = has
 
--- a line that isn't full goes on with a mode
+-- a line that isn't full goes on with a run, or with a mode
+run_open : (strict : Bool) (columns : ℕ) (pen : Pen) → length pen.front < columns
+    → drawn (step_1d strict columns) pen ≡ after_turn (drawn (step_1d strict columns)) (draw_run strict columns pen Turn.next)
+run_open strict columns pen open_row = drawn1 strict columns pen ∙ rw (lt-leb columns (length pen.front) open_row) refl
+
 line_open : (strict : Bool) (columns : ℕ) (reference : Row) (pen : Pen) → length pen.front < columns
     → drawn (step_2d strict columns reference) pen ≡ after_turn (drawn (step_2d strict columns reference)) (try pen.front (read_code mode_codes pen.rest) (λ mode. draw_mode strict columns reference (record pen { rest = mode.1 }) mode.0))
 line_open strict columns reference pen open_row = drawn2 strict columns reference pen ∙ rw (lt-leb columns (length pen.front) open_row) refl
@@ -217,13 +226,32 @@ line_mode strict columns reference pen mode rest open_row reads = line_open stri
 -- ---- What a line answers.
 
 -- an error of a step is that of the line
-pub line_fails : (strict : Bool) (columns : ℕ) (reference : Row) (line : Line) (step : Step) (e : DecodeError) (pen : Pen) → line ≡ after_turn (drawn (step_2d strict columns reference)) step
+fails_by : (step : Pen → Step) → Shrinks step left → KeepsBlack step → (line : Line) (turn : Step) (e : DecodeError) (pen : Pen) → line ≡ after_turn (drawn step) turn
+    → DrawsStep turn (Err e) pen → DrawsLine line (Err e) pen.front pen.rest
+fails_by step shrinks keeps line turn UnexpectedEof pen is draws = is ∙ rw draws refl
+fails_by step shrinks keeps line turn InvalidCode pen is draws = is ∙ rw draws refl
+fails_by step shrinks keeps line turn Overflow pen is draws = is ∙ rw draws refl
+fails_by step shrinks keeps line turn OutOfMemory pen is draws = subst (λ (l : Line). HasBlack (front_of l)) (sym is) (after_black step shrinks keeps turn draws)
+fails_by step shrinks keeps line turn Refused pen is draws = absurd draws
+
+pub line_1d_fails : (strict : Bool) (columns : ℕ) (line : Line) (step : Step) (e : DecodeError) (pen : Pen) → line ≡ after_turn (drawn (step_1d strict columns)) step
     → DrawsStep step (Err e) pen → DrawsLine line (Err e) pen.front pen.rest
-line_fails strict columns reference line step UnexpectedEof pen is draws = is ∙ rw draws refl
-line_fails strict columns reference line step InvalidCode pen is draws = is ∙ rw draws refl
-line_fails strict columns reference line step Overflow pen is draws = is ∙ rw draws refl
-line_fails strict columns reference line step OutOfMemory pen is draws = subst (λ (l : Line). HasBlack (front_of l)) (sym is) (after_black strict columns reference step draws)
-line_fails strict columns reference line step Refused pen is draws = absurd draws
+line_1d_fails strict columns = fails_by (step_1d strict columns) (step_1d_shrinks strict columns) (step_1d_keeps_black strict columns)
+
+pub line_2d_fails : (strict : Bool) (columns : ℕ) (reference : Row) (line : Line) (step : Step) (e : DecodeError) (pen : Pen) → line ≡ after_turn (drawn (step_2d strict columns reference)) step
+    → DrawsStep step (Err e) pen → DrawsLine line (Err e) pen.front pen.rest
+line_2d_fails strict columns reference = fails_by (step_2d strict columns reference) (step_2d_shrinks strict columns reference) (step_2d_keeps_black strict columns reference)
+
+-- the line of a context whose row isn't full is what comes of the run that is drawn
+pub line_by_run : (before now : Held) (line : Line) (at : Bits) → now ≡ redrawn before now.front now.color
+    → drawn (step_1d before.settings.strict before.settings.columns) (pen_of now at) ≡ line → length now.front < now.settings.columns
+    → line ≡ after_turn (drawn (step_1d before.settings.strict before.settings.columns)) (draw_run now.settings.strict now.settings.columns (pen_of now at) Turn.next)
+line_by_run before now line at kept so_far open_row =
+    let settings : now.settings ≡ before.settings = ap (λ (h : Held). h.settings) kept in
+    let columns : length now.front < before.settings.columns = subst (λ (s : DecodeSettings). length now.front < s.columns) settings open_row in
+    let after : Step → Line = after_turn (drawn (step_1d before.settings.strict before.settings.columns)) in
+    sym so_far ∙ run_open before.settings.strict before.settings.columns (pen_of now at) columns
+    ∙ ap (λ (s : DecodeSettings). after (draw_run s.strict s.columns (pen_of now at) Turn.next)) (sym settings)
 
 -- the line of a context whose row isn't full is what comes of the mode that is read
 pub line_by_mode : (before now : Held) (line : Line) (at rest : Bits) (mode : Mode) → now ≡ redrawn before now.front now.color
@@ -295,3 +323,9 @@ first_run_fails strict columns pen left e draws =
     let go_on : Pen → Step = λ pen. draw_run strict columns pen Turn.next in
     subst (λ (s : Step). DrawsStep s (Err e) left) (sym (draw_run_and_then strict columns pen go_on))
     (and_then_fails go_on (draw_run strict columns pen Turn.next) e left (λ p has. draw_run_keeps_black strict columns p Turn.next (λ q g. g) has) draws)
+
+-- a run that is read and drawn takes bits
+pub drawn_run_shorter : (strict : Bool) (columns : ℕ) (pen t : Pen) → draw_run strict columns pen Turn.next ≡ Turn.next t → length t.rest < length pen.rest
+drawn_run_shorter strict columns pen t draws =
+    let a = draw_run_next strict columns pen Turn.next t draws in
+    subst (λ (p : Pen). left p < left pen) (next_is a.0 t a.1) a.2

@@ -40,7 +40,7 @@ abbrev pub left : Pen → ℕ
 left pen = length pen.rest
 
 -- a run that was drawn took bits
-draw_run_next : (strict : Bool) (columns : ℕ) (pen : Pen) (f : Pen → Step) (t : Pen) → draw_run strict columns pen f ≡ Turn.next t → (p : Pen) × (f p ≡ Turn.next t) × (left p < left pen)
+pub draw_run_next : (strict : Bool) (columns : ℕ) (pen : Pen) (f : Pen → Step) (t : Pen) → draw_run strict columns pen f ≡ Turn.next t → (p : Pen) × (f p ≡ Turn.next t) × (left p < left pen)
 draw_run_next strict columns pen f t e =
     let a = try_next pen.front (run_from pen.color (0, pen.rest)) (λ run. try pen.front (paint strict columns pen.front pen.color run.0) (λ front. f (record { front = front; color = opposite pen.color; rest = run.1 }))) t e in
     let b = try_next pen.front (paint strict columns pen.front pen.color a.0.0) (λ front. f (record { front = front; color = opposite pen.color; rest = a.0.1 })) t a.2 in

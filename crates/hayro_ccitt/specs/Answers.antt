@@ -7,7 +7,7 @@ use Rattle.hayro_ccitt.specs.declared.codes.Mode.{Mode}
 use Rattle.hayro_ccitt.specs.Bits.{Bits}
 use Rattle.hayro_ccitt.specs.Rows.{Row, is_black, changes, last_pixel}
 use Rattle.hayro_ccitt.specs.Context.{Held, painted_front}
-use Rattle.hayro_ccitt.specs.Lines.{Line, Pen, Step, draw_run, draw_mode, line_2d}
+use Rattle.hayro_ccitt.specs.Lines.{Line, Pen, Step, draw_run, draw_mode, line_1d, line_2d}
 use Rattle.hayro_ccitt.specs.Repetition.{Turn}
 
 -- an error that the data is at fault for
@@ -48,6 +48,10 @@ step_of_run held rest = draw_run held.settings.strict held.settings.columns (pen
 -- a mode, drawn against the reference row
 abbrev pub step_of_mode : Held → Bits → Mode → Step
 step_of_mode held rest mode = draw_mode held.settings.strict held.settings.columns held.reference (pen_of held rest) mode
+
+-- a one-dimensional line
+abbrev pub line_from_1d : Held → Bits → Line
+line_from_1d held rest = line_1d held.settings.strict held.settings.columns rest
 
 -- a two-dimensional line against the reference row
 abbrev pub line_from_2d : Held → Bits → Line

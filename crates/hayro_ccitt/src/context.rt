@@ -4,7 +4,7 @@ ghost use Rattle.std.specs.Prelude.{◌≡◌, ◌≢◌, ◌+◌, ◌-◌, ◌^
 ghost use Rattle.hayro_ccitt.specs.Rows.{AreChanges, pixels, right_of, b1, b2, changes, is_black, opposite, last_pixel};
 ghost use Rattle.hayro_ccitt.specs.Bits.{here};
 ghost use Rattle.hayro_ccitt.specs.Context.{redrawn, right_of_painted, painted_front, taken_row};
-ghost use Rattle.hayro_ccitt.specs.Answers.{DrawsLine, DrawsStep, StoresChange, pen_of, step_of_run, step_of_mode, line_from_2d};
+ghost use Rattle.hayro_ccitt.specs.Answers.{DrawsLine, DrawsStep, StoresChange, pen_of, step_of_run, step_of_mode, line_from_1d, line_from_2d};
 
 use crate::bit_reader::BitReader;
 use crate::codes::{Color, Mode, Ticks};
@@ -373,6 +373,23 @@ impl DecoderContext {
     }
 }
 
+/// Decodes a one-dimensional line, whatever front stood (T.4 section 4.1.1). After an error of the data the front is
+/// what was painted until then. `OutOfMemory` comes only where the line paints a black pixel, while a change is
+/// stored. All else of the context stands.
+pub fn decode_1d_line(ctx: &mut DecoderContext, reader: &mut BitReader<'_>) -> Result<()>
+    ensures line { DrawsLine (line_from_1d ctx.old.held (here reader.old))
+        result ctx.new.held.front (here reader.new) }
+    ensures held { ctx.new.held ≡ redrawn ctx.old.held ctx.new.held.front ctx.new.held.color }
+    ensures same { reader.new.bits ≡ reader.old.bits }
+    ensures counts { ctx.old.ticks ≤ ctx.new.ticks }
+{
+    ctx.begin_line(); // The first run is white.
+    'runs: while !ctx.is_full() {
+        ctx.draw_run(reader)?;
+    }
+    Ok(())
+}
+
 /// Decodes a two-dimensional line against the reference row, whatever front stood (T.4 section 4.2, T.6
 /// section 2.2). After an error of the data the front is what was painted until then. `OutOfMemory` comes only
 /// where the line paints a black pixel, while a change is stored. All else of the context stands.
@@ -383,7 +400,7 @@ pub fn decode_2d_line(ctx: &mut DecoderContext, reader: &mut BitReader<'_>) -> R
     ensures same { reader.new.bits ≡ reader.old.bits }
     ensures counts { ctx.old.ticks ≤ ctx.new.ticks }
 {
-    ctx.begin_line();
+    ctx.begin_line(); // The place a0 is left of the row.
     'modes: while !ctx.is_full() {
         let mode = reader.decode_mode(&mut ctx.ticks)?;
         ctx.draw_mode(mode, reader)?;

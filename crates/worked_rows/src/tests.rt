@@ -6,7 +6,7 @@ ghost use Rattle.std.specs.Prelude.{◌≡◌};
 use hayro_ccitt::DecodeError::{InvalidCode, OutOfMemory, Overflow, Refused, UnexpectedEof};
 use hayro_ccitt::bit_reader::BitReader;
 use hayro_ccitt::codes::{Color, Mode, Ticks};
-use hayro_ccitt::context::decode_2d_line;
+use hayro_ccitt::context::{decode_1d_line, decode_2d_line};
 use hayro_ccitt::tables::Tables;
 use hayro_ccitt::{
     DecodeError, DecodeSettings, Decoder, DecoderContext, EncodingMode, Result, bits_fit, decode,
@@ -540,6 +540,25 @@ fn draws_lines(rt: HostRuntime) -> std::result::Result<(), Fail> {
     has_rows(&rt, &sink, &[&[3, 5], &[]], &data);
     assert_eq!(rt; ctx.decoded_rows(), 2);
     assert_eq!(rt; ctx.next_line(&mut sink), Err(Refused));
+    Ok(())
+}
+
+/// White 3, black 2, white 3; and white 8.
+#[test]
+fn draws_lines_of_runs(rt: HostRuntime) -> std::result::Result<(), Fail> {
+    let mut ctx = DecoderContext::new(rt.alloc(), group_4(8, 0, ""))?;
+    let mut sink = sink_of(rt.alloc(), 8, 2);
+    let data = [0x8E, 0x26];
+    assert!(rt; bits_fit(&data));
+    let mut reader = BitReader::new(&data);
+    assert_eq!(rt; decode_1d_line(&mut ctx, &mut reader), Ok(()));
+    assert_eq!(rt; reader.bit_pos(), 10);
+    assert_eq!(rt; ctx.next_line(&mut sink), Ok(()));
+    assert_eq!(rt; decode_1d_line(&mut ctx, &mut reader), Ok(()));
+    assert_eq!(rt; reader.bit_pos(), 15);
+    assert_eq!(rt; ctx.next_line(&mut sink), Ok(()));
+    has_rows(&rt, &sink, &[&[3, 5], &[]], &data);
+    assert_eq!(rt; decode_1d_line(&mut ctx, &mut reader), Err(UnexpectedEof));
     Ok(())
 }
 

@@ -9,7 +9,7 @@ use Rattle.hayro_ccitt.specs.ContextView.{context_of}
 use Rattle.hayro_ccitt.specs.Lines.{Line, Pen, drawn, draw_mode, step_2d, line_2d}
 use Rattle.hayro_ccitt.specs.Repetition.{Turn}
 use Rattle.hayro_ccitt.proofs.Repeated.{after_turn}
-use Rattle.hayro_ccitt.proofs.DrawnLines.{open_by, line_by_mode, line_fails, mode_shorter}
+use Rattle.hayro_ccitt.proofs.DrawnLines.{open_by, line_by_mode, line_2d_fails, mode_shorter}
 use Rattle.hayro_ccitt.proofs.context.decode_2d_line.Goals as goal
 
 pub modes-smaller : goal.modes-smaller
@@ -57,6 +57,6 @@ returns-in_err-draw_mode-clause-line c =
     = subst (λ (x : Context). DrawsStep (draw_mode x.held.settings.strict x.held.settings.columns x.held.reference (pen_of x.held rest) mode) (Err fault) pen) left c.in_err-draw_mode.ensures.step in
     let line : Line = line_2d before.settings.strict before.settings.columns before.reference (here c.args.reader.now) in
     let fails : DrawsLine line (Err fault) pen.front pen.rest
-    = line_fails before.settings.strict before.settings.columns before.reference line (draw_mode now.settings.strict now.settings.columns now.reference (pen_of now rest) mode) fault pen
+    = line_2d_fails before.settings.strict before.settings.columns before.reference line (draw_mode now.settings.strict now.settings.columns now.reference (pen_of now rest) mode) fault pen
     (line_by_mode before now line (here c.modes.reader) rest mode so_far.held so_far.line open_row c.in_ok-mode.ensures.mode) draws in
     subst (λ (r : Result (Unit {0}) DecodeError). DrawsLine line r pen.front pen.rest) (sym (p.1 ∙ ap (λ (e : DecodeError). Err e) p.2)) fails
