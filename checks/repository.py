@@ -24,10 +24,8 @@ def two_proofs_by_hand():
     assert by_hand == [f"{folder}/after/Proof.antt", f"{folder}/new/Proof.antt"], by_hand
 
 
-NUMBERED = re.compile(
-    r"\b(document 0[1-4]|the papers?|paper 0?[0-9]|demand [0-9]+)\b"
-    r"|\b(D(1?[0-9]|20)|W(1?[0-9]|2[0-2])|T[1-5]\.[0-9]|R(1[0-4]|[1-9])(\.[0-9]+)?|L[1-7])\b"
-)
+# A page of demands cited by a word and a number, or by a letter and a number. T.4 and T.6 are the standards.
+NUMBERED = re.compile(r"\b(?:document|paper|demand) \d+\b|\bthe papers?\b|\b(?:[DLRW]\d{1,2}|T[1-5]\.\d)\b")
 BYTES = re.compile(r"0x|\b[0-9A-F]{2} [0-9A-F]{2}\b|\"[0-9A-F]+\"|~ \d")
 
 

@@ -15,15 +15,15 @@ use Rattle.hayro_ccitt.specs.declared.error.DecodeError.{DecodeError}
 use Rattle.hayro_ccitt.specs.declared.settings.DecodeSettings.{DecodeSettings}
 use Rattle.hayro_ccitt.specs.declared.error.DecodeError.TheVariants.{UnexpectedEof, InvalidCode, Overflow, OutOfMemory, Refused}
 use Rattle.hayro_ccitt.specs.Answers.{IsFault, front_of, HasBlack, DrawsLine, pen_of, StepHasBlack, DrawsStep, StoresChange}
-use Rattle.hayro_ccitt.specs.Bits.{Bits}
+use Rattle.hayro_ccitt.specs.Bits.{Bits, BitsAt, here}
 use Rattle.hayro_ccitt.specs.CodeLists.{mode_codes}
 use Rattle.hayro_ccitt.specs.CodeReading.{read_code}
-use Rattle.hayro_ccitt.specs.Context.{Held, redrawn}
-use Rattle.hayro_ccitt.specs.Lines.{Line, Pen, Step, try, draw_run, drawn, place_from, draw_mode, step_1d, step_2d}
+use Rattle.hayro_ccitt.specs.Context.{Context, Held, redrawn}
+use Rattle.hayro_ccitt.specs.Lines.{Line, Pen, Step, try, draw_run, start, drawn, place_from, draw_mode, step_1d, step_2d}
 use Rattle.hayro_ccitt.specs.Repetition.{Turn, repeated}
 use Rattle.hayro_ccitt.specs.Rows.{Row, is_black, opposite, right_of, b1, b2, paint, last_pixel}
 use Rattle.hayro_ccitt.specs.Runs.{run_from}
-use Rattle.hayro_ccitt.proofs.ReadLines.{next_is, draw_run_next, draw_mode_next, modes_not_empty, drawn1, drawn2, step_1d_shrinks, step_2d_shrinks, left}
+use Rattle.hayro_ccitt.proofs.ReadLines.{draw_mode_next, modes_not_empty, drawn1, drawn2, step_1d_shrinks, step_2d_shrinks, left}
 use Rattle.hayro_ccitt.proofs.ReadRuns.{chosen, read_code_shorter}
 use Rattle.hayro_ccitt.proofs.Repeated.{Shrinks, after_turn}
 
@@ -324,8 +324,10 @@ first_run_fails strict columns pen left e draws =
     subst (λ (s : Step). DrawsStep s (Err e) left) (sym (draw_run_and_then strict columns pen go_on))
     (and_then_fails go_on (draw_run strict columns pen Turn.next) e left (λ p has. draw_run_keeps_black strict columns p Turn.next (λ q g. g) has) draws)
 
--- a run that is read and drawn takes bits
-pub drawn_run_shorter : (strict : Bool) (columns : ℕ) (pen t : Pen) → draw_run strict columns pen Turn.next ≡ Turn.next t → length t.rest < length pen.rest
-drawn_run_shorter strict columns pen t draws =
-    let a = draw_run_next strict columns pen Turn.next t draws in
-    subst (λ (p : Pen). left p < left pen) (next_is a.0 t a.1) a.2
+-- Between two steps of a line: the line from the pen on is the whole line; all but the front and the colour of the
+-- context stands.
+pub record IsDrawnSoFar (step : Pen → Step) (before now : Context) (begun at : BitsAt) : Type 0 where
+  pub line : drawn step (pen_of now.held (here at)) ≡ drawn step (start (here begun))
+  pub held : now.held ≡ redrawn before.held now.held.front now.held.color
+  pub same : at.bits ≡ begun.bits
+  pub counts : before.ticks ≤ now.ticks

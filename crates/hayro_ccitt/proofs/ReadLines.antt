@@ -40,16 +40,19 @@ abbrev pub left : Pen → ℕ
 left pen = length pen.rest
 
 -- a run that was drawn took bits
-pub draw_run_next : (strict : Bool) (columns : ℕ) (pen : Pen) (f : Pen → Step) (t : Pen) → draw_run strict columns pen f ≡ Turn.next t → (p : Pen) × (f p ≡ Turn.next t) × (left p < left pen)
+draw_run_next : (strict : Bool) (columns : ℕ) (pen : Pen) (f : Pen → Step) (t : Pen) → draw_run strict columns pen f ≡ Turn.next t → (p : Pen) × (f p ≡ Turn.next t) × (left p < left pen)
 draw_run_next strict columns pen f t e =
     let a = try_next pen.front (run_from pen.color (0, pen.rest)) (λ run. try pen.front (paint strict columns pen.front pen.color run.0) (λ front. f (record { front = front; color = opposite pen.color; rest = run.1 }))) t e in
     let b = try_next pen.front (paint strict columns pen.front pen.color a.0.0) (λ front. f (record { front = front; color = opposite pen.color; rest = a.0.1 })) t a.2 in
     (record { front = b.0; color = opposite pen.color; rest = a.0.1 }, b.2, run_shorter pen.color 0 pen.rest a.0.0 a.0.1 a.1)
 
-pub step_1d_shrinks : (strict : Bool) (columns : ℕ) → Shrinks (step_1d strict columns) left
-step_1d_shrinks strict columns s t e =
-    let a = draw_run_next strict columns s Turn.next t (unless_full_next columns s _ t e) in
+pub drawn_run_shorter : (strict : Bool) (columns : ℕ) (s t : Pen) → draw_run strict columns s Turn.next ≡ Turn.next t → left t < left s
+drawn_run_shorter strict columns s t e =
+    let a = draw_run_next strict columns s Turn.next t e in
     subst (λ (p : Pen). left p < left s) (next_is a.0 t a.1) a.2
+
+pub step_1d_shrinks : (strict : Bool) (columns : ℕ) → Shrinks (step_1d strict columns) left
+step_1d_shrinks strict columns s t e = drawn_run_shorter strict columns s t (unless_full_next columns s _ t e)
 
 pub draw_mode_next : (strict : Bool) (columns : ℕ) (reference : Row) (pen : Pen) (mode : Mode) (t : Pen) → draw_mode strict columns reference pen mode ≡ Turn.next t → left t ≤ left pen
 draw_mode_next strict columns reference pen Pass t e =

@@ -7,7 +7,8 @@ use Rattle.hayro_ccitt.specs.Context.{Held, redrawn}
 use Rattle.hayro_ccitt.specs.Lines.{Line, Pen, drawn, draw_run, step_1d, line_1d}
 use Rattle.hayro_ccitt.specs.Repetition.{Turn}
 use Rattle.hayro_ccitt.proofs.Repeated.{after_turn}
-use Rattle.hayro_ccitt.proofs.DrawnLines.{open_by, line_by_run, line_1d_fails, drawn_run_shorter}
+use Rattle.hayro_ccitt.proofs.DrawnLines.{open_by, line_by_run, line_1d_fails}
+use Rattle.hayro_ccitt.proofs.ReadLines.{drawn_run_shorter}
 use Rattle.hayro_ccitt.proofs.context.decode_1d_line.Goals as goal
 
 pub runs-smaller : goal.runs-smaller
