@@ -36,12 +36,12 @@ pub mod Repeated
 pub mod RowChanges
 pub mod RowsAndGaps
 pub mod RowsOfGroup4
+pub mod RunsOverRows
 pub mod ScanWords
 pub mod Starts
 pub mod Strictness
 pub mod TablesAgree
 pub mod Tails
-pub mod TakenRows
 pub mod Tests
 pub mod TickTurns
 pub mod Turns

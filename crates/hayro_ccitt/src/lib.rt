@@ -17,6 +17,7 @@ pub mod context;
 mod error;
 pub mod group4;
 pub mod laws;
+mod rows;
 mod settings;
 pub mod tables;
 
