@@ -14,7 +14,7 @@ ghost use Rattle.hayro_ccitt.specs.Ticks.{run_found, missed, looked};
 
 use crate::bit_reader::BitReader;
 use crate::tables::{
-    BLACK_MAKEUP, BLACK_TERMINATING, COMMON_MAKEUP, Tables, WHITE_MAKEUP, WHITE_TERMINATING,
+    BLACK_MAKEUP, BLACK_TERMINATING, COMMON_MAKEUP, MODES, Tables, WHITE_MAKEUP, WHITE_TERMINATING,
 };
 use crate::{DecodeError, Result};
 use std::marker::Model;
@@ -97,20 +97,6 @@ impl Ticks {
         *self = next;
     }
 }
-
-/// The modes (T.4 table 4, T.6 table 1): the mode, the number of bits, and the word.
-#[rattlefmt::skip]
-const MODES: [(Mode, u8, u16); 9] = [
-    (Mode::Pass, 4, 0b0001),
-    (Mode::Horizontal, 3, 0b001),
-    (Mode::Vertical(0), 1, 0b1),
-    (Mode::Vertical(1), 3, 0b011),
-    (Mode::Vertical(2), 6, 0b000011),
-    (Mode::Vertical(3), 7, 0b0000011),
-    (Mode::Vertical(-1), 3, 0b010),
-    (Mode::Vertical(-2), 6, 0b000010),
-    (Mode::Vertical(-3), 7, 0b0000010),
-];
 
 /// How many bits of a word of this width, from its front, stand here.
 fn agreement(reader: &BitReader<'_>, width: u8, word: u16) -> u8
