@@ -36,6 +36,7 @@ pub mod Repeated
 pub mod RowChanges
 pub mod RowsOfGroup4
 pub mod ScanWords
+pub mod SoughtEols
 pub mod Starts
 pub mod Strictness
 pub mod TablesAgree
