@@ -38,6 +38,7 @@ pub mod RowsAndGaps
 pub mod RowsOfGroup4
 pub mod RunsOverRows
 pub mod ScanWords
+pub mod SoughtEols
 pub mod Starts
 pub mod Strictness
 pub mod TablesAgree
