@@ -14,6 +14,7 @@ use Rattle.hayro_ccitt.specs.Context.{Held, continued, after_taking, redrawn}
 use Rattle.hayro_ccitt.specs.Lines.{Line, line_2d}
 use Rattle.hayro_ccitt.specs.PlainReading.{row_before, aligned, eols_group4, is_over_group4, line_group4, plain_group4, lines_by}
 use Rattle.hayro_ccitt.specs.Answers.{IsFault, DrawsLine, PaintsBlack, meaning_after}
+use Rattle.hayro_ccitt.proofs.DrawnLines.{memory_has_black}
 use Rattle.hayro_ccitt.proofs.FullRows.{IsFull, line_2d_full}
 use Rattle.hayro_ccitt.proofs.PicturesT6.{row_before_push}
 use Rattle.hayro_ccitt.proofs.RowsOfGroup4.{Comes, between, held_between, comes_line, comes_broken, comes_whole, comes_shorter, comes_more}
@@ -58,7 +59,7 @@ module _ (settings : DecodeSettings) (wide : 0 < settings.columns) (bits : Bits)
   -- want of memory comes where the line of this index paints a black pixel
   pub row_memory : (front : Row) (after : Bits) → DrawsLine (line_2d h.settings.strict h.settings.columns h.reference here) (Err OutOfMemory) front after
       → PaintsBlack (lines_by Group4 settings bits) (length rows)
-  row_memory front after d = (line, comes_line settings wide bits rows rest comes count here found not_over, draws (Err OutOfMemory) front after d)
+  row_memory front after d = (line, comes_line settings wide bits rows rest comes count here found not_over, memory_has_black line front after (draws (Err OutOfMemory) front after d))
 
   module _ (front : Row) (after : Bits) (d : DrawsLine (line_2d h.settings.strict h.settings.columns h.reference here) (Ok tt) front after) where
     whole : line ≡ Line.whole front after
