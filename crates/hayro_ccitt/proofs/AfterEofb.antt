@@ -13,7 +13,7 @@ use Rattle.hayro_ccitt.specs.Rows.{Row}
 use Rattle.hayro_ccitt.specs.Lines.{Line, line_2d}
 use Rattle.hayro_ccitt.specs.EndOfLine.{after_eol, one_more, eols, all_eols}
 use Rattle.hayro_ccitt.specs.PlainReading.{eols_group4, Progress, Ending, row_before, aligned, at_end, limit_met, ends_with, after_line_group4, Reading, nothing_read, whole_reading}
-use Rattle.hayro_ccitt.specs.PlainReading.{line_at_group4, move_group4, end_of, bytes_before, plain}
+use Rattle.hayro_ccitt.specs.PlainReading.{move_group4, end_of, bytes_before, plain}
 use Rattle.hayro_ccitt.specs.Laws.{Reaches, AfterEofb}
 use Rattle.hayro_ccitt.proofs.Moves.{eols-none, next_is, not_next}
 use Rattle.hayro_ccitt.proofs.Repeated.{after_turn}
@@ -22,6 +22,7 @@ use Rattle.hayro_ccitt.proofs.BitLists.{length-bits_of}
 use Rattle.hayro_ccitt.proofs.ZerosInWords.{prefix_of_prefix}
 use Rattle.hayro_ccitt.proofs.Follows.{line_2d_found}
 use Rattle.hayro_ccitt.proofs.PicturesT6.{IsLineStart, mode_starts, goes, goes_is, between, move_group4_eofb, late_group4, end_of_goes, plain_ends}
+use Rattle.hayro_ccitt.proofs.RowsAndGaps.{line_at_group4, move_group4-is}
 
 -- ---- EOLs.
 after_eol_found : (seen : ℕ) (here rest : Bits) → after_eol seen here ≡ Some rest → (w : Bits) × (here ≡ w ++ rest)
@@ -123,7 +124,7 @@ module _ (settings : DecodeSettings) (block : settings.end_of_block ≡ true) (w
             let counted2 : eols_group4 settings run2.rest ≡ (count, t2) = cond-true settings.end_of_block _ _ block ∙ ap (eols 2) here
             ∙ eol.2 t2 (inr begins.no_eol) in
             let over2 : is_over settings run2 count t2 ≡ false = or_from _ _ (or_parts _ _ over).0 begins.open_end in
-            ap (line_at_group4 settings run2) counted2
+            move_group4-is settings run2 ∙ ap (line_at_group4 settings run2) counted2
             ∙ cond-false (is_over settings run2 count t2) (ends_with run2 (Ok t2)) (after_line_group4 settings run2 (reader settings run2 t2)) over2
             ∙ ap (after_line_group4 settings run2) (line.again (pad ++ more))
             ∙ ap (λ (x : Bits). Turn.next (record then { rest = x })) (split.2 more same);
@@ -139,7 +140,7 @@ module _ (settings : DecodeSettings) (block : settings.end_of_block ≡ true) (w
 
   move_group4_found : (run after : Progress) → move_group4 settings run ≡ Turn.next after → MoveFound settings run after
   move_group4_found run after e = by_eols run after (eols 2 run.rest) refl
-      (sym (ap (line_at_group4 settings run) (cond-true settings.end_of_block (eols 2 run.rest) (all_eols run.rest) block)) ∙ e)
+      (sym (move_group4-is settings run ∙ ap (line_at_group4 settings run) (cond-true settings.end_of_block (eols 2 run.rest) (all_eols run.rest) block)) ∙ e)
 
   -- ---- A run that comes to two EOLs.
   abbrev ended_at : Progress → Bits → Ending

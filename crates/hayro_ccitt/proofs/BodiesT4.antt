@@ -14,7 +14,7 @@ use Rattle.hayro_ccitt.specs.Rows.{Row}
 use Rattle.hayro_ccitt.specs.Lines.{Line}
 use Rattle.hayro_ccitt.specs.EndOfLine.{after_eol, all_eols, tagged_eols_from, pass_last_tag}
 use Rattle.hayro_ccitt.specs.PlainReading.{Progress, Ending, row_before, aligned, at_end, limit_met, ends_with, line_at_group3, eols_group3, Reading}
-use Rattle.hayro_ccitt.specs.PlainReading.{unless_over, after_row, seek_eol, after_line_group3, move_group3, ending_from, plain_group3, end_of}
+use Rattle.hayro_ccitt.specs.PlainReading.{after_line_group3, move_group3, ending_from, plain_group3, end_of}
 use Rattle.hayro_ccitt.specs.Encodings.{IsPicture, EncodesRows}
 use Rattle.hayro_ccitt.specs.Laws.{Matches, ReadsLimitedRowsT4}
 use Rattle.hayro_ccitt.proofs.Moves.{eols-none}
@@ -24,6 +24,7 @@ use Rattle.hayro_ccitt.proofs.Repeated.{after_turn}
 use Rattle.hayro_ccitt.proofs.PicturesT6.{IsLineStart, not_met, row_before_push, plain_ends, fill, aligned_again, aligned_on}
 use Rattle.hayro_ccitt.specs.declared.settings.EncodingMode.TheVariants.{Group4, Group3_1D, Group3_2D}
 use Rattle.hayro_ccitt.specs.declared.settings.EncodingMode.{EncodingMode}
+use Rattle.hayro_ccitt.proofs.RowsAndGaps.{unless_over, after_row, seek_eol, after_whole-is}
 
 -- ---- No EOL is counted where none stands.
 pass_zero : (here : Bits) → pass_last_tag (0, here) ≡ (0, here)
@@ -73,7 +74,7 @@ module _ (settings : DecodeSettings) (wide : 0 < settings.columns) (small : sett
       → move_group3 settings (without_eols before here) ≡ after_row settings (without_eols (before ++ row ∷ []) tail)
   row_added before row here line tail whole read =
       let j : Bits = fill b line ++ tail in
-      ap (after_line_group3 settings (without_eols before here)) read
+      ap (after_line_group3 settings (without_eols before here)) read ∙ after_whole-is settings (without_eols before here) row j
       ∙ ap (λ (t : Bool). after_row settings (without_eols (before ++ row ∷ []) (cond t (aligned j) j))) (with_true b)
       ∙ ap (λ (x : Bits). after_row settings (without_eols (before ++ row ∷ []) x)) (aligned_again b line tail whole)
 

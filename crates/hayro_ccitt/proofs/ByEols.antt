@@ -14,7 +14,7 @@ use Rattle.hayro_ccitt.specs.Repetition.{Turn, repeated}
 use Rattle.hayro_ccitt.specs.Rows.{Row}
 use Rattle.hayro_ccitt.specs.Lines.{Line, line_1d}
 use Rattle.hayro_ccitt.specs.EndOfLine.{after_eol, one_more, all_eols}
-use Rattle.hayro_ccitt.specs.PlainReading.{Progress, Ending, Move, limit_met, at_end, ends_with, unless_over, after_row, move_group3, plain_group3, end_by}
+use Rattle.hayro_ccitt.specs.PlainReading.{Progress, Ending, Move, limit_met, at_end, ends_with, move_group3, plain_group3, end_by}
 use Rattle.hayro_ccitt.specs.Locality.{begins_line, later_starts, starts, row_at, StaysBefore, IsEolAt, LinesByEols}
 use Rattle.hayro_ccitt.proofs.Repeated.{after_turn, repeated_turn, repeated_same}
 use Rattle.hayro_ccitt.proofs.Moves.{after_eol_shorter, eols_shorter, eols_some_counts, left_group3, left_group3_below, move_group3_shrinks}
@@ -22,6 +22,7 @@ use Rattle.hayro_ccitt.proofs.Grown.{Keeps, after_row_keeps, move_group3_adds, r
 use Rattle.hayro_ccitt.proofs.Past.{past, past-eol, past_later, all_eols-some, all_eols-none}
 use Rattle.hayro_ccitt.proofs.Turns.{sought, rest_of, found_next, after_row_past, move_line}
 use Rattle.hayro_ccitt.proofs.Leaves.{line_1d_leaves, LineLeaves}
+use Rattle.hayro_ccitt.proofs.RowsAndGaps.{unless_over, after_row}
 
 -- what follows the next EOL is shorter
 pub past_shorter : (seen : ℕ) (here after : Bits) → past seen here ≡ Some after → length after < length here

@@ -15,13 +15,14 @@ use Rattle.hayro_ccitt.specs.Repetition.{Turn, repeated}
 use Rattle.hayro_ccitt.specs.Rows.{Row}
 use Rattle.hayro_ccitt.specs.Lines.{Line, line_2d}
 use Rattle.hayro_ccitt.specs.EndOfLine.{eols, all_eols, next_eol}
-use Rattle.hayro_ccitt.specs.PlainReading.{Progress, Ending, Move, row_before, aligned, ends_with, after_line_group4, line_at_group4, move_group4}
+use Rattle.hayro_ccitt.specs.PlainReading.{Progress, Ending, Move, row_before, aligned, ends_with, after_line_group4, move_group4}
 use Rattle.hayro_ccitt.specs.PlainReading.{limit_met, at_end, plain_group3, plain_group4, end_by, bytes_before, eols_group3, line_at_group3}
-use Rattle.hayro_ccitt.specs.PlainReading.{unless_over, seek_from, after_row, after_line_group3, move_group3}
+use Rattle.hayro_ccitt.specs.PlainReading.{after_line_group3, move_group3}
 use Rattle.hayro_ccitt.specs.Laws.{RowLimit}
 use Rattle.hayro_ccitt.proofs.Repeated.{Follows, after_turn, repeated_follows}
 use Rattle.hayro_ccitt.proofs.Moves.{left, move_group4_shrinks, left_group3, left_group3_below, move_group3_shrinks}
 use Rattle.hayro_ccitt.proofs.Grown.{Adds, move_group4_adds, Keeps, after_row_keeps, move_group3_adds, repeated_adds, prefix_trans}
+use Rattle.hayro_ccitt.proofs.RowsAndGaps.{line_at_group4, unless_over, seek_from, after_row, move_group4-is, after_whole-is, after_damage-is}
 
 module _ (settings : DecodeSettings) (limit : ℕ) (some : 0 < limit) (wide : 0 < settings.columns) where
   -- the settings with the limit, and without one
@@ -86,7 +87,7 @@ module _ (settings : DecodeSettings) (limit : ℕ) (some : 0 < limit) (wide : 0 
     unless_over_open run (count, here) e = rw e refl
 
     seek_from_open : (run : Progress) (o : Option Bits) → limit_met limited (length run.rows) ≡ false → seek_from limited run o ≡ seek_from unlimited run o
-    seek_from_open run None e = unless_over_open (record run { has_eols = false }) (0, run.rest) e
+    seek_from_open run None e = refl
     seek_from_open run (Some found) e = unless_over_open run (eols_group3 settings found) e
 
     after_row_open : (run : Progress) → limit_met limited (length run.rows) ≡ false → after_row limited run ≡ after_row unlimited run
@@ -112,12 +113,13 @@ module _ (settings : DecodeSettings) (limit : ℕ) (some : 0 < limit) (wide : 0 
     after_line_group3_follows : (run : Progress) (line : Line) → length run.rows < limit
         → Follows Same Cut rest (after_line_group3 limited run line) (after_line_group3 unlimited run line)
     after_line_group3_follows run (Line.whole row here) lt =
-        after_row_follows (record run {
+        rw (after_whole-is limited run row here, after_whole-is unlimited run row here) (after_row_follows (record run {
           rows = run.rows ++ row ∷ [];
           rest =
               cond (settings.rows_are_byte_aligned && not run.has_eols) (aligned here) here;
-        }) (one_longer run.rows row lt)
-    after_line_group3_follows run (Line.broken front fault) lt = by (settings.strict || not run.has_eols)
+        }) (one_longer run.rows row lt))
+    after_line_group3_follows run (Line.broken front fault) lt =
+        rw (after_damage-is limited run front fault, after_damage-is unlimited run front fault) (by (settings.strict || not run.has_eols))
       where
         more : Progress
         more = record run {
@@ -173,7 +175,9 @@ module _ (settings : DecodeSettings) (limit : ℕ) (some : 0 < limit) (wide : 0 
 
     move_group4_follows : (s t : Progress) → SameGroup4 s t → Follows SameGroup4 Cut rest (move_group4 limited s) (move_group4 unlimited t)
     move_group4_follows s t same = subst (λ (r : Progress). Follows SameGroup4 Cut rest (move_group4 limited s) (move_group4 unlimited r)) same.0
-        (line_at_group4_follows s (cond settings.end_of_block (eols 2 s.rest) (all_eols s.rest)) same.1 (move_group4_adds unlimited s))
+        (rw (move_group4-is limited s, move_group4-is unlimited s)
+        (line_at_group4_follows s (cond settings.end_of_block (eols 2 s.rest) (all_eols s.rest)) same.1
+        (subst (Adds s.rows) (move_group4-is unlimited s) (move_group4_adds unlimited s))))
 
   -- ---- The whole
   cut_group3 : (n m : ℕ) (run : Progress) (late : Ending) → left_group3 run < n → left_group3 run < m → length run.rows < limit

@@ -21,7 +21,7 @@ use Rattle.hayro_ccitt.specs.Runs.{codes_of}
 use Rattle.hayro_ccitt.specs.Lines.{Line, line_1d, line_2d}
 use Rattle.hayro_ccitt.specs.EndOfLine.{after_eol, one_more, eols, all_eols, after_tag, tagged_eols_from, pass_last_tag, tagged_eols}
 use Rattle.hayro_ccitt.specs.PlainReading.{end_by, Progress, Ending, row_before, aligned, at_end, limit_met, ends_with, line_at_group3, eols_group3, Reading}
-use Rattle.hayro_ccitt.specs.PlainReading.{unless_over, after_row, seek_eol, after_line_group3, move_group3, ending_from, plain_group3}
+use Rattle.hayro_ccitt.specs.PlainReading.{after_line_group3, move_group3, ending_from, plain_group3}
 use Rattle.hayro_ccitt.specs.PlainReading.{end_of}
 use Rattle.hayro_ccitt.specs.Encodings.{Spells, EncodesLine1D, EncodesLine2D, EncodesLine, eol, tag_of, IsPicture, EncodesRowsWithEols}
 use Rattle.hayro_ccitt.specs.Encodings.{ClosesWithEols, PictureT4}
@@ -32,6 +32,7 @@ use Rattle.hayro_ccitt.proofs.ZerosInWords.{each_word_at}
 use Rattle.hayro_ccitt.proofs.PlainLines.{line_1d_again}
 use Rattle.hayro_ccitt.proofs.PicturesOfLines.{line_2d_again}
 use Rattle.hayro_ccitt.proofs.PicturesT6.{closed_settings, misses_eol, missed, goes_on, IsLineStart, not_met, row_before_push, plain_ends}
+use Rattle.hayro_ccitt.proofs.RowsAndGaps.{unless_over, after_row, seek_eol, after_whole-is}
 
 -- ---- What a line begins with.
 codes_miss : (color : Color) → each_word (misses_eol 0) (codes_of color) ≡ true
@@ -268,7 +269,7 @@ module _ (settings : DecodeSettings) (wide : 0 < settings.columns) (small : sett
       → line_at_group3 settings (row_before settings.columns before) here ≡ Line.whole row tail
       → move_group3 settings (with_eols before here) ≡ after_row settings (with_eols (before ++ row ∷ []) tail)
   row_added before row here tail read =
-      ap (after_line_group3 settings (with_eols before here)) read
+      ap (after_line_group3 settings (with_eols before here)) read ∙ after_whole-is settings (with_eols before here) row tail
       ∙ ap (λ (x : Bits). after_row settings (with_eols (before ++ row ∷ []) x))
       (cond-false (settings.rows_are_byte_aligned && false) (aligned tail) tail (and_right settings.rows_are_byte_aligned false refl))
 

@@ -22,7 +22,7 @@ use Rattle.hayro_ccitt.specs.Rows.{Row}
 use Rattle.hayro_ccitt.specs.Lines.{Line, line_2d}
 use Rattle.hayro_ccitt.specs.EndOfLine.{after_eol, eols, all_eols}
 use Rattle.hayro_ccitt.specs.PlainReading.{eols_group4, Progress, Ending, Move, row_before, aligned, at_end, limit_met, ends_with, after_line_group4, Reading, nothing_read, whole_reading}
-use Rattle.hayro_ccitt.specs.PlainReading.{line_at_group4, move_group4, plain_group4, end_of, plain, bytes_before}
+use Rattle.hayro_ccitt.specs.PlainReading.{move_group4, plain_group4, end_of, plain, bytes_before}
 use Rattle.hayro_ccitt.specs.Laws.{each_word, Allows, Reaches, ComesToEofb, PicturesComeToEofb, ReadsPictureT6, ReadsLimitedRowsT6, OnePictureT6}
 use Rattle.hayro_ccitt.specs.Encodings.{EncodesLine2D, padding, EncodesRows, eol, IsPicture, PictureT6}
 use Rattle.hayro_ccitt.proofs.Repeated.{after_turn, repeated_turn, repeated_same}
@@ -30,6 +30,7 @@ use Rattle.hayro_ccitt.proofs.ZerosInWords.{each_word_at}
 use Rattle.hayro_ccitt.proofs.BitLists.{length-bits_of}
 use Rattle.hayro_ccitt.proofs.Moves.{left, move_group4_shrinks, eols-none}
 use Rattle.hayro_ccitt.proofs.PicturesOfLines.{line_2d_again}
+use Rattle.hayro_ccitt.proofs.RowsAndGaps.{line_at_group4, move_group4-is}
 
 -- settings for a closed picture: the end of the block is looked for, and there is no limit
 abbrev pub closed_settings : EncodingMode → ℕ → Bool → DecodeSettings
@@ -100,7 +101,7 @@ move_group4_line settings run row rest start limit line =
     = same_pair settings.end_of_block _ _ _ (eols-none 2 run.rest start.no_eol) (eols-none (length run.rest) run.rest start.no_eol) in
     let over : ((settings.end_of_block && (eqb 0 2)) || limit_met settings (length run.rows) || at_end run.rest) ≡ false
     = or_from _ _ (or_from _ _ (and_right settings.end_of_block (eqb 0 2) refl) limit) start.open_end in
-    ap (line_at_group4 settings run) found
+    move_group4-is settings run ∙ ap (line_at_group4 settings run) found
     ∙ cond-false ((settings.end_of_block && (eqb 0 2)) || limit_met settings (length run.rows) || at_end run.rest) (ends_with run (Ok run.rest))
     (after_line_group4 settings run (line_2d settings.strict settings.columns (row_before settings.columns run.rows) run.rest)) over
     ∙ ap (after_line_group4 settings run) line
@@ -206,7 +207,7 @@ move_group4_eofb settings run rest block two =
     let line : Move = after_line_group4 settings run (line_2d settings.strict settings.columns (row_before settings.columns run.rows) rest) in
     let over : ((settings.end_of_block && (eqb 2 2)) || limit_met settings (length run.rows) || at_end rest) ≡ true
     = or_left _ _ (or_left _ _ (and_from settings.end_of_block (eqb 2 2) block refl)) in
-    ap (line_at_group4 settings run) found ∙ cond-true ((settings.end_of_block && (eqb 2 2)) || limit_met settings (length run.rows) || at_end rest)
+    move_group4-is settings run ∙ ap (line_at_group4 settings run) found ∙ cond-true ((settings.end_of_block && (eqb 2 2)) || limit_met settings (length run.rows) || at_end rest)
     (ends_with run (Ok rest)) line over
 
 -- the limit ends the reading
@@ -216,7 +217,7 @@ move_group4_limit settings run met =
     let found : ℕ × Bits = eols_group4 settings run.rest in
     let line : Move = after_line_group4 settings run (line_2d settings.strict settings.columns (row_before settings.columns run.rows) found.1) in
     let over : ((settings.end_of_block && (eqb found.0 2)) || limit_met settings (length run.rows) || at_end found.1) ≡ true = or_left _ _ (or_right _ _ met) in
-    cond-true ((settings.end_of_block && (eqb found.0 2)) || limit_met settings (length run.rows) || at_end found.1) (ends_with run (Ok found.1)) line over
+    move_group4-is settings run ∙ cond-true ((settings.end_of_block && (eqb found.0 2)) || limit_met settings (length run.rows) || at_end found.1) (ends_with run (Ok found.1)) line over
 
 -- two EOLs are counted, whatever follows
 pub eofb_stands : (more : Bits) → eols 2 (eol 0 ++ (eol 0 ++ more)) ≡ (2, more)

@@ -12,7 +12,7 @@ use Rattle.hayro_ccitt.specs.Bits.{Bits, IsPrefix}
 use Rattle.hayro_ccitt.specs.Repetition.{repeated, gathered}
 use Rattle.hayro_ccitt.specs.Rows.{Row}
 use Rattle.hayro_ccitt.specs.Lines.{Line}
-use Rattle.hayro_ccitt.specs.PlainReading.{Progress, Ending, Move, aligned, eols_group4, is_over_group4, line_group4, line_at_group4, move_group4, plain_group4, after_line_group4, row_before, lines_at_group4, lines_of_move_group4, lines_by, start_group4}
+use Rattle.hayro_ccitt.specs.PlainReading.{Progress, Ending, Move, aligned, eols_group4, is_over_group4, line_group4, move_group4, plain_group4, after_line_group4, row_before, lines_at_group4, lines_of_move_group4, lines_by, start_group4}
 use Rattle.hayro_ccitt.specs.declared.codes.Color.TheVariants.{White}
 use Rattle.hayro_ccitt.specs.Context.{Held}
 use Rattle.hayro_ccitt.proofs.Repeated.{after_turn, repeated_turn, repeated_same}
@@ -22,6 +22,7 @@ use Rattle.hayro_ccitt.proofs.ReadLines.{TookBits, line_2d_took_bits}
 use Rattle.hayro_ccitt.proofs.EolCounts.{eols_leave, all_eols_leave}
 use Rattle.hayro_ccitt.specs.EndOfLine.{eols, all_eols}
 use Rattle.hayro_ccitt.proofs.Grown.{move_group4_adds, repeated_adds}
+use Rattle.hayro_ccitt.proofs.RowsAndGaps.{line_at_group4}
 
 -- the element at an index begins what stands from there on
 slice_get-drop_cons : {A : Type 0} (xs : List A) (k : ℕ) (x : A) (more : List A) → drop k xs ≡ x ∷ more → slice_get xs k ≡ Some x
