@@ -12,7 +12,7 @@ use Rattle.hayro_ccitt.specs.declared.settings.EncodingMode.{EncodingMode}
 use Rattle.hayro_ccitt.specs.declared.settings.EncodingMode.TheVariants.{Group4, Group3_1D, Group3_2D}
 use Rattle.hayro_ccitt.specs.declared.error.DecodeError.TheVariants.{InvalidCode}
 use Rattle.hayro_ccitt.specs.Lines.{Line, line_1d, line_2d}
-use Rattle.hayro_ccitt.specs.EndOfLine.{after_eol, one_more, eols, all_eols, next_eol, past_tag, eols_with_tags}
+use Rattle.hayro_ccitt.specs.EndOfLine.{after_eol, one_more, eols, all_eols, next_eol, past_tag, eols_with_tags, pass_last_tag, tagged_eols}
 use Rattle.hayro_ccitt.specs.PlainReading.{Progress, Ending, Move, row_before, aligned, ends_with, after_line_group4, move_group4, limit_met, at_end, line_by, eols_by, eols_group3, line_at_group3, after_line_group3, move_group3}
 use Rattle.hayro_ccitt.proofs.Repeated.{Shrinks}
 use Rattle.hayro_ccitt.proofs.ReadRuns.{chosen}
