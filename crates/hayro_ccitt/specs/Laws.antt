@@ -1,22 +1,21 @@
 -- The laws of the plain reading.
-use Rattle.std.specs.Prelude.{◌≡◌, ◌≢◌, ℕ, ◌+◌, ◌-◌, ◌/◌, ◌^◌, ◌<◌, ◌≤◌, Bool, true, false, not, ◌&&◌, ◌||◌, nat_le, ◌⊎◌, ◌↔◌, Ok, Err, IsOk}
+use Rattle.std.specs.Prelude.{◌≡◌, ◌≢◌, ℕ, ◌+◌, ◌-◌, ◌/◌, ◌^◌, ◌<◌, ◌≤◌, Bool, true, false, not, ◌&&◌, ◌||◌, nat_le, ◌⊎◌, Ok, IsOk}
 use Rattle.std.specs.Prelude.{List, [], ◌∷◌, ◌++◌, length, take, replicate, reverse, All}
 use Rattle.std.specs.List.{list_all, list_any}
 use Rattle.hayro_ccitt.specs.declared.codes.Color.{Color}
 use Rattle.hayro_ccitt.specs.declared.codes.Mode.{Mode}
-use Rattle.hayro_ccitt.specs.declared.error.DecodeError.TheVariants.{UnexpectedEof, InvalidCode}
 use Rattle.hayro_ccitt.specs.declared.settings.EncodingMode.{EncodingMode}
 use Rattle.hayro_ccitt.specs.declared.settings.EncodingMode.TheVariants.{Group4, Group3_1D, Group3_2D}
 use Rattle.hayro_ccitt.specs.declared.settings.DecodeSettings.{DecodeSettings}
 use Rattle.hayro_ccitt.specs.Bits.{Bits, bits_of, IsPrefix}
 use Rattle.hayro_ccitt.specs.CodeLists.{Code, mode_codes}
-use Rattle.hayro_ccitt.specs.CodeReading.{Has, read_code, leading_zeros, PrefixFree}
+use Rattle.hayro_ccitt.specs.CodeReading.{Has, leading_zeros, PrefixFree}
 use Rattle.hayro_ccitt.specs.Runs.{codes_of}
 use Rattle.hayro_ccitt.specs.Rows.{Row, AreChanges, pixels, changes, white_row}
 use Rattle.hayro_ccitt.specs.Lines.{Line}
 use Rattle.hayro_ccitt.specs.EndOfLine.{eols}
 use Rattle.hayro_ccitt.specs.Encodings.{EncodesRows, IsPicture, EncodesRowsWithEols, ClosesWithEols, PictureT6, PictureT4}
-use Rattle.hayro_ccitt.specs.Repetition.{Turn}
+use Rattle.hayro_ccitt.specs.Repetition.{Reaches}
 use Rattle.hayro_ccitt.specs.PlainReading.{line_by, Progress, start_group4, move_group4, eols_group3, plain}
 use Rattle.hayro_ccitt.specs.Ticks.{tag_at, line_found}
 use Rattle.hayro_ccitt.specs.Settings.{AreSettings}
@@ -191,15 +190,9 @@ OnePictureT4 = (encoding : EncodingMode) (columns : ℕ) (rows others : List Row
 
 -- ---- after EOFB
 
--- the reading of T.6 data comes from one state between lines to another
-pub data Reaches (settings : DecodeSettings) : Progress → Progress → Type 0 where
-  stays : (so_far : Progress) → Reaches settings so_far so_far
-  moves : (so_far after last : Progress) → move_group4 settings so_far ≡ Turn.next after → Reaches settings after last
-      → Reaches settings so_far last
-
 -- the reading of T.6 data comes to a place between lines where two EOLs stand
 abbrev pub ComesToEofb : DecodeSettings → Bits → Type 0
-ComesToEofb settings bits = (last : Progress) × Reaches settings (start_group4 bits) last × ((eols 2 last.rest).0 ≡ 2)
+ComesToEofb settings bits = (last : Progress) × Reaches (move_group4 settings) (start_group4 bits) last × ((eols 2 last.rest).0 ≡ 2)
 
 -- Where T.6 data were read up to their EOFB, data with the same bytes so far are read the same (T.6, 2.4.1.1).
 abbrev pub AfterEofb : Type 0
