@@ -23,7 +23,8 @@ use Rattle.hayro_ccitt.specs.Lines.{Line, line_2d}
 use Rattle.hayro_ccitt.specs.EndOfLine.{after_eol, eols, all_eols}
 use Rattle.hayro_ccitt.specs.PlainReading.{eols_group4, Progress, Ending, Move, row_before, aligned, at_end, limit_met, ends_with, after_line_group4, Reading, nothing_read, whole_reading}
 use Rattle.hayro_ccitt.specs.PlainReading.{move_group4, plain_group4, end_of, plain}
-use Rattle.hayro_ccitt.specs.Laws.{each_word, Allows, ComesToEofb, PicturesComeToEofb, ReadsPictureT6, ReadsLimitedRowsT6, OnePictureT6}
+use Rattle.hayro_ccitt.specs.Pictures.{Allows}
+use Rattle.hayro_ccitt.specs.Laws.{each_word, ComesToEofb, PicturesComeToEofb, ReadsPictureT6, ReadsLimitedRowsT6, OnePictureT6}
 use Rattle.hayro_ccitt.specs.Encodings.{EncodesLine2D, padding, EncodesRows, eol, IsPicture, PictureT6}
 use Rattle.hayro_ccitt.proofs.Repeated.{after_turn, repeated_turn, repeated_same}
 use Rattle.hayro_ccitt.proofs.ZerosInWords.{each_word_at}
@@ -332,13 +333,15 @@ rows_t6_plain settings rows body more bytes four small some limit is_picture lin
 
 -- the law
 pub closed_picture_t6 : ReadsPictureT6
-closed_picture_t6 settings rows bits more bytes are four block limit pic is =
-    picture_t6_plain settings rows bits more bytes four block (omega (arith, are.columns)) limit pic is
+closed_picture_t6 settings rows bits bytes are begins =
+    picture_t6_plain settings rows bits begins.begins.0 bytes begins.encoding begins.end_of_block (omega (arith, are.columns)) begins.limit begins.picture
+    begins.begins.1
 
 -- the law
 pub limited_rows_t6 : ReadsLimitedRowsT6
-limited_rows_t6 settings rows body more bytes are four limit some is_picture lines is =
-    let e = rows_t6_plain settings rows body more bytes four (omega (arith, are.columns)) some limit is_picture lines is in
+limited_rows_t6 settings rows bits bytes are begins =
+    let e = rows_t6_plain settings rows bits begins.begins.0 bytes begins.encoding (omega (arith, are.columns)) begins.some begins.limit begins.picture
+    begins.lines begins.begins.1 in
     (ap (λ (a : Reading). a.rows) e, rw e refl)
 
 -- over bytes: a picture comes to its EOFB
