@@ -22,6 +22,7 @@ pub mod Local
 pub mod Moves
 pub mod Painting
 pub mod Past
+pub mod PicturesOfEachKind
 pub mod PicturesOfLines
 pub mod PicturesT4
 pub mod PicturesT6

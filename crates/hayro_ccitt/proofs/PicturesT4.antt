@@ -1,6 +1,6 @@
 -- A T.4 picture is read again.
-use Rattle.std.proofs.Common.{◌≡◌, ℕ, zero, suc, ◌+◌, ◌<◌, ◌≤◌, Bool, true, false, cond, not, ◌&&◌, ◌||◌, eqb, ltb, leb, List, [], ◌∷◌, ◌++◌, length}
-use Rattle.std.proofs.Common.{replicate, Option, Some, None, Result, Ok, Err, refl, sym, ap, subst, ◌∙◌, append_assoc, arith, inl, inr}
+use Rattle.std.proofs.Common.{◌≡◌, ◌≢◌, ℕ, zero, suc, ◌+◌, ◌<◌, ◌≤◌, Bool, true, false, cond, not, ◌&&◌, ◌||◌, eqb, ltb, leb, List, [], ◌∷◌, ◌++◌, length}
+use Rattle.std.proofs.Common.{replicate, Option, Some, None, Ok, Err, refl, sym, ap, subst, ◌∙◌, append_assoc, arith, inl, inr}
 use Rattle.std.specs.Prelude.{All}
 use Rattle.std.proofs.lemmas.Bool.{and_right, and_left, and_from, not_from_false, not_from_true, or_from, or_left, or_right, cond-true, cond-false}
 use Rattle.std.proofs.lemmas.Bool.{eq-eqb, ne_eqb, le-leb}
@@ -8,12 +8,11 @@ use Rattle.std.proofs.lemmas.List.{length-append, length-replicate, append-nil}
 use Rattle.std.proofs.lemmas.List.Elements.{All-head, All-tail}
 use Rattle.hayro_ccitt.specs.declared.codes.Color.{Color}
 use Rattle.hayro_ccitt.specs.declared.codes.Color.TheVariants.{White, Black}
-use Rattle.hayro_ccitt.specs.declared.error.DecodeError.{DecodeError}
 use Rattle.hayro_ccitt.specs.declared.error.DecodeError.TheVariants.{UnexpectedEof}
 use Rattle.hayro_ccitt.specs.declared.settings.EncodingMode.{EncodingMode}
 use Rattle.hayro_ccitt.specs.declared.settings.EncodingMode.TheVariants.{Group3_1D, Group3_2D, Group4}
 use Rattle.hayro_ccitt.specs.declared.settings.DecodeSettings.{DecodeSettings}
-use Rattle.hayro_ccitt.specs.Bits.{Bits}
+use Rattle.hayro_ccitt.specs.Bits.{Bits, bits_of}
 use Rattle.hayro_ccitt.specs.CodeLists.{mode_codes}
 use Rattle.hayro_ccitt.specs.Repetition.{Turn, repeated}
 use Rattle.hayro_ccitt.specs.Rows.{Row}
@@ -27,6 +26,7 @@ use Rattle.hayro_ccitt.specs.Encodings.{Spells, EncodesLine1D, EncodesLine2D, En
 use Rattle.hayro_ccitt.specs.Encodings.{ClosesWithEols, PictureT4}
 use Rattle.hayro_ccitt.specs.Laws.{each_word, Allows, Matches, ReadsPictureT4, ReadsLimitedPictureT4, OnePictureT4}
 use Rattle.hayro_ccitt.proofs.Moves.{eols-none, one_more-count, eol_of, eols_with_tags-some, eols_with_tags-none, last_tag_count}
+use Rattle.hayro_ccitt.specs.Pictures.{Allows}
 use Rattle.hayro_ccitt.proofs.Repeated.{after_turn}
 use Rattle.hayro_ccitt.proofs.ZerosInWords.{each_word_at}
 use Rattle.hayro_ccitt.proofs.PlainLines.{line_1d_again}
@@ -180,6 +180,25 @@ six_tagged closing more is =
     let on = tagged_eols_closing 6 (length (closing ++ more)) closing more is (length-closing Group3_2D 6 closing more is) in
     omega (arith, on, last_tag_count (eols_with_tags (length (closing ++ more)) (closing ++ more)))
 
+-- the settings are for this encoding, which is one of T.4
+abbrev pub Matches : EncodingMode → DecodeSettings → Type 0
+Matches Group4 settings = ⊥
+Matches Group3_1D settings = settings.encoding ≡ Group3_1D
+Matches Group3_2D settings = settings.encoding ≡ Group3_2D
+
+-- settings for T.4 are for their own encoding
+pub matches_itself : (settings : DecodeSettings) → settings.encoding ≢ Group4 → Matches settings.encoding settings
+matches_itself settings three = by settings.encoding refl
+  where
+    by : (encoding : EncodingMode) → settings.encoding ≡ encoding → Matches encoding settings
+    by Group4 e = absurd (three e)
+    by Group3_1D e = e
+    by Group3_2D e = e
+
+-- the end of lines that were read with EOLs
+abbrev ends_well : List Row → Bits → Ending
+ends_well rows rest = record { rows = rows; has_eols = true; outcome = Ok rest }
+
 six_close : (settings : DecodeSettings) (encoding : EncodingMode) (closing more : Bits) → Matches encoding settings → ClosesWithEols encoding 6 closing
     → 6 ≤ (eols_group3 settings (closing ++ more)).0
 six_close settings Group4 closing more matches is = absurd matches
@@ -254,10 +273,6 @@ module _ (settings : DecodeSettings) (wide : 0 < settings.columns) (small : sett
       ap (after_line_group3 settings (with_eols before here)) read ∙ after_whole-is settings (with_eols before here) row tail
       ∙ ap (λ (x : Bits). after_row settings (with_eols (before ++ row ∷ []) x))
       (cond-false (settings.rows_are_byte_aligned && false) (aligned tail) tail (and_right settings.rows_are_byte_aligned false refl))
-
-  -- the end of a reading that sought EOLs
-  abbrev ends_well : List Row → Bits → Ending
-  ends_well rows rest = record { rows = rows; has_eols = true; outcome = Ok rest }
 
   module _ (encoding : EncodingMode) (matches : Matches encoding settings) (late : Ending) (tail last : Bits) (whole : List Row)
       (allows : Allows settings (length whole)) (stops : after_row settings (with_eols whole tail) ≡ Turn.done (ends_well whole last)) where
@@ -383,19 +398,27 @@ module _ (settings : DecodeSettings) (wide : 0 < settings.columns) (small : sett
 
 -- ---- Over bytes.
 pub closed_picture_t4 : ReadsPictureT4
-closed_picture_t4 settings encoding rows lines closing more bytes are matches block allows some is_picture lines3 closed is =
-    let small : settings.columns ≤ 4294967295 = omega (arith, are.columns) in
-    plain_ends settings bytes (record { rows = rows; has_eols = true; outcome = Ok (eols_group3 settings (closing ++ more)).1 })
-    (eols_group3 settings (closing ++ more)).1 is_picture.0
-    (ap (end_of settings) is ∙ closed_t4_end settings is_picture.0 small encoding rows lines closing more matches block some is_picture lines3 closed allows) refl
+closed_picture_t4 settings rows bits behind bytes are begins =
+    let wide : 0 < settings.columns = begins.picture.0 in
+    let closing : Bits = begins.closing.0 in
+    let more : Bits = begins.closing.2.0 in
+    let found : Bits = (eols_group3 settings behind).1 in
+    let is : bits_of bytes ≡ bits ++ (closing ++ more) = begins.begins ∙ ap (λ (x : Bits). bits ++ x) begins.closing.2.1 in
+    let matches : Matches settings.encoding settings = matches_itself settings begins.encoding in
+    let ends : end_of settings (bits ++ (closing ++ more)) ≡ ends_well rows found
+    = closed_t4_end settings wide (omega (arith, are.columns)) settings.encoding rows bits closing more matches begins.end_of_block begins.some begins.picture
+    begins.lines begins.closing.1 begins.limit ∙ ap (λ (x : Bits). ends_well rows (eols_group3 settings x).1) (sym begins.closing.2.1) in
+    plain_ends settings bytes (ends_well rows found) found wide (ap (end_of settings) is ∙ ends) refl
 
 -- the law
 pub limited_picture_t4 : ReadsLimitedPictureT4
-limited_picture_t4 settings encoding rows lines more bytes are matches limit some is_picture lines3 is =
-    let small : settings.columns ≤ 4294967295 = omega (arith, are.columns) in
-    let e = plain_ends settings bytes (record { rows = rows; has_eols = true; outcome = Ok (eols_group3 settings more).1 })
-    (eols_group3 settings more).1 is_picture.0
-    (ap (end_of settings) is ∙ limited_t4_end settings is_picture.0 small encoding rows lines more matches limit some is_picture lines3) refl in
+limited_picture_t4 settings rows bits bytes are begins =
+    let wide : 0 < settings.columns = begins.picture.0 in
+    let more : Bits = begins.begins.0 in
+    let found : Bits = (eols_group3 settings more).1 in
+    let ends = limited_t4_end settings wide (omega (arith, are.columns)) settings.encoding rows bits more (matches_itself settings begins.encoding)
+    begins.limit begins.some begins.picture begins.lines in
+    let e = plain_ends settings bytes (ends_well rows found) found wide (ap (end_of settings) begins.begins.1 ∙ ends) refl in
     (ap (λ (a : Reading). a.rows) e, rw e refl)
 
 -- ---- One beginning, one picture.
