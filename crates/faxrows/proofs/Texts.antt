@@ -19,13 +19,13 @@ fold_lines text (row ∷ rows) = fold_lines (text ++ line_of_row row) rows ∙ a
 
 -- What decoding says of some data: the outcome, the number of rows that were taken, and the sink's text.
 pub record Decoded (settings : DecodeSettings) (input : List ℕ) (outcome : Outcome) (taken : ℕ) (text : List ℕ) : Type 0 where
-  pub meaning : text ≡ meaning_after (λ t row. t ++ line_of_row row) [] (take taken (plain settings input).0)
-  pub within : taken ≤ length (plain settings input).0
+  pub meaning : text ≡ meaning_after (λ t row. t ++ line_of_row row) [] (take taken (plain settings input).rows)
+  pub within : taken ≤ length (plain settings input).rows
   pub ok : IfOk outcome (λ n. outcome_of settings input ≡ Ok n)
   pub fault : IfErr outcome (λ e. IsFault e → outcome_of settings input ≡ Err e)
-  pub all : OnAnswer outcome (taken ≡ length (plain settings input).0)
+  pub all : OnAnswer outcome (taken ≡ length (plain settings input).rows)
   pub memory : outcome ≡ Err OutOfMemory → PaintsBlack (lines_of settings input) taken
-  pub refused : outcome ≡ Err Refused → taken < length (plain settings input).0
+  pub refused : outcome ≡ Err Refused → taken < length (plain settings input).rows
 
 -- the sink's text is the lines of the rows that were taken
 pub sink_text : (rows : List Row) (taken : ℕ) (text : List ℕ)
@@ -43,8 +43,8 @@ ends_after settings input (Ok n) taken text d = (all_changes _ taken d.all, d.ok
 ends_after settings input (Err UnexpectedEof) taken text d = (all_changes _ taken (d.all tt), d.fault tt)
 ends_after settings input (Err InvalidCode) taken text d = (all_changes _ taken (d.all tt), d.fault tt)
 ends_after settings input (Err Overflow) taken text d = (all_changes _ taken (d.all tt), d.fault tt)
-ends_after settings input (Err OutOfMemory) taken text d = (rw (length-map (plain settings input).0 changes) d.within, d.memory refl)
-ends_after settings input (Err Refused) taken text d = rw (length-map (plain settings input).0 changes) (d.refused refl)
+ends_after settings input (Err OutOfMemory) taken text d = (rw (length-map (plain settings input).rows changes) d.within, d.memory refl)
+ends_after settings input (Err Refused) taken text d = rw (length-map (plain settings input).rows changes) (d.refused refl)
 
 -- with all rows and the outcome of the plain reading, the whole text is written
 all_text : (settings : DecodeSettings) (input : List ℕ) (taken : ℕ) (outcome : Outcome)

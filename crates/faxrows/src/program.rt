@@ -48,6 +48,8 @@ impl fmt::Display for RunFault {
 
     ghost output = { λ fault. Some (text_of_fault fault) };
 
+    ghost styled_output = { λ fault _. Some (text_of_fault fault) };
+
     fn fmt<W: fmt::Write>(&self, f: &mut fmt::Formatter<W>) -> fmt::Result {
         f.write_str(match self {
             RunFault::BadArguments => "bad arguments",
@@ -119,10 +121,10 @@ fn write_decoded<W: Write>(
     requires columns { ctx.old.held.settings.columns ≤ 4294967295 }
     requires encoding { ctx.old.held.settings.encoding ≡ EncodingMode.Group4 }
     ensures written { IfOk result (λ done. (outcome : Outcome)
-        × EndsAfter ctx.old.held.settings input.now ctx.new.held.rows outcome
+        × EndsAfter ctx.old.held.settings input.now ctx.new.held.taken outcome
         × (done ≡ done_of outcome)
         × Appends (W.contents writer.old.0) (W.contents writer.new.0)
-            (text_after ctx.old.held.settings input.now ctx.new.held.rows outcome)) }
+            (text_after ctx.old.held.settings input.now ctx.new.held.taken outcome)) }
     ensures flag { OnOk result (writer.new.1 ≡ writer.old.1) }
     ensures failed { OnErr result (writer.new.1 ≡ true) }
     ensures only { IfErr result (λ fault. fault ≡ RunFault.Write) }

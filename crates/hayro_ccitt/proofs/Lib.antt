@@ -34,6 +34,7 @@ pub mod ReadRuns
 pub mod ReferencePlaces
 pub mod Repeated
 pub mod RowChanges
+pub mod RowsAndGaps
 pub mod RowsOfGroup4
 pub mod ScanWords
 pub mod Starts

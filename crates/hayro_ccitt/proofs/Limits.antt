@@ -10,18 +10,19 @@ use Rattle.hayro_ccitt.specs.declared.error.DecodeError.TheVariants.{UnexpectedE
 use Rattle.hayro_ccitt.specs.declared.settings.DecodeSettings.{DecodeSettings}
 use Rattle.hayro_ccitt.specs.declared.settings.EncodingMode.{EncodingMode}
 use Rattle.hayro_ccitt.specs.declared.settings.EncodingMode.TheVariants.{Group4, Group3_1D, Group3_2D}
-use Rattle.hayro_ccitt.specs.Bits.{Bits, bits_of}
+use Rattle.hayro_ccitt.specs.Bits.{Bits, bits_of, IsPrefix}
 use Rattle.hayro_ccitt.specs.Repetition.{Turn, repeated}
 use Rattle.hayro_ccitt.specs.Rows.{Row}
 use Rattle.hayro_ccitt.specs.Lines.{Line, line_2d}
 use Rattle.hayro_ccitt.specs.EndOfLine.{eols, all_eols, next_eol}
-use Rattle.hayro_ccitt.specs.PlainReading.{Progress, Ending, Move, row_before, aligned, ends_with, after_line_group4, line_at_group4, move_group4}
+use Rattle.hayro_ccitt.specs.PlainReading.{Progress, Ending, Move, row_before, aligned, ends_with, after_line_group4, move_group4}
 use Rattle.hayro_ccitt.specs.PlainReading.{limit_met, at_end, plain_group3, plain_group4, end_by, bytes_before, eols_group3, line_at_group3}
-use Rattle.hayro_ccitt.specs.PlainReading.{unless_over, seek_from, after_row, after_line_group3, move_group3}
-use Rattle.hayro_ccitt.specs.Laws.{IsFront, RowLimit}
+use Rattle.hayro_ccitt.specs.PlainReading.{after_line_group3, move_group3}
+use Rattle.hayro_ccitt.specs.Laws.{RowLimit}
 use Rattle.hayro_ccitt.proofs.Repeated.{Follows, after_turn, repeated_follows}
 use Rattle.hayro_ccitt.proofs.Moves.{left, move_group4_shrinks, left_group3, left_group3_below, move_group3_shrinks}
-use Rattle.hayro_ccitt.proofs.Grown.{Adds, move_group4_adds, Keeps, after_row_keeps, move_group3_adds, repeated_adds, front_trans}
+use Rattle.hayro_ccitt.proofs.Grown.{Adds, move_group4_adds, Keeps, after_row_keeps, move_group3_adds, repeated_adds, prefix_trans}
+use Rattle.hayro_ccitt.proofs.RowsAndGaps.{line_at_group4, unless_over, seek_from, after_row, move_group4-is, after_whole-is, after_damage-is}
 
 module _ (settings : DecodeSettings) (limit : ℕ) (some : 0 < limit) (wide : 0 < settings.columns) where
   -- the settings with the limit, and without one
@@ -44,7 +45,7 @@ module _ (settings : DecodeSettings) (limit : ℕ) (some : 0 < limit) (wide : 0 
   abbrev SameGroup4 : Progress → Progress → Type 0
   SameGroup4 s t = (s ≡ t) × (length s.rows ≤ limit)
 
-  cut_rows : (rows more : List Row) → length rows ≡ limit → IsFront rows more → rows ≡ take limit more
+  cut_rows : (rows more : List Row) → length rows ≡ limit → IsPrefix rows more → rows ≡ take limit more
   cut_rows rows more full front = sym (ap (take limit) front.1 ∙ ap (λ (n : ℕ). take n (rows ++ front.0)) (sym full)
       ∙ take-append-le (length rows) rows front.0 (omega arith) ∙ take_all (length rows) rows (omega arith))
 
@@ -55,9 +56,9 @@ module _ (settings : DecodeSettings) (limit : ℕ) (some : 0 < limit) (wide : 0 
   is_open : (n : ℕ) → n < limit → limit_met limited n ≡ false
   is_open n lt = and_right (not (eqb limit 0)) (eqb limit n) (ne_eqb limit n (λ e. absurd (omega (arith, e, lt))))
 
-  module _ (rest : Progress → Ending) (extends : (t : Progress) → IsFront t.rows (rest t).rows) where
-    turn_extends : (rows : List Row) (m : Move) → Keeps rows m → IsFront rows (after_turn rest m).rows
-    turn_extends rows (Turn.next t) k = subst (λ (x : List Row). IsFront x (rest t).rows) k (extends t)
+  module _ (rest : Progress → Ending) (extends : (t : Progress) → IsPrefix t.rows (rest t).rows) where
+    turn_extends : (rows : List Row) (m : Move) → Keeps rows m → IsPrefix rows (after_turn rest m).rows
+    turn_extends rows (Turn.next t) k = subst (λ (x : List Row). IsPrefix x (rest t).rows) k (extends t)
     turn_extends rows (Turn.done e) k = ([], k ∙ sym (append-nil rows))
 
     short : (e : Ending) → length e.rows < limit → Cut e e
@@ -86,7 +87,7 @@ module _ (settings : DecodeSettings) (limit : ℕ) (some : 0 < limit) (wide : 0 
     unless_over_open run (count, here) e = rw e refl
 
     seek_from_open : (run : Progress) (o : Option Bits) → limit_met limited (length run.rows) ≡ false → seek_from limited run o ≡ seek_from unlimited run o
-    seek_from_open run None e = unless_over_open (record run { has_eols = false }) (0, run.rest) e
+    seek_from_open run None e = refl
     seek_from_open run (Some found) e = unless_over_open run (eols_group3 settings found) e
 
     after_row_open : (run : Progress) → limit_met limited (length run.rows) ≡ false → after_row limited run ≡ after_row unlimited run
@@ -112,12 +113,13 @@ module _ (settings : DecodeSettings) (limit : ℕ) (some : 0 < limit) (wide : 0 
     after_line_group3_follows : (run : Progress) (line : Line) → length run.rows < limit
         → Follows Same Cut rest (after_line_group3 limited run line) (after_line_group3 unlimited run line)
     after_line_group3_follows run (Line.whole row here) lt =
-        after_row_follows (record run {
+        rw (after_whole-is limited run row here, after_whole-is unlimited run row here) (after_row_follows (record run {
           rows = run.rows ++ row ∷ [];
           rest =
               cond (settings.rows_are_byte_aligned && not run.has_eols) (aligned here) here;
-        }) (one_longer run.rows row lt)
-    after_line_group3_follows run (Line.broken front fault) lt = by (settings.strict || not run.has_eols)
+        }) (one_longer run.rows row lt))
+    after_line_group3_follows run (Line.broken front fault) lt =
+        rw (after_damage-is limited run front fault, after_damage-is unlimited run front fault) (by (settings.strict || not run.has_eols))
       where
         more : Progress
         more = record run {
@@ -140,8 +142,8 @@ module _ (settings : DecodeSettings) (limit : ℕ) (some : 0 < limit) (wide : 0 
     after_line_group4_follows run (Line.whole row here) lt = (refl, one_longer run.rows row lt)
     after_line_group4_follows run (Line.broken front fault) lt = short (record { rows = run.rows; has_eols = run.has_eols; outcome = Err fault }) lt
 
-    turn_group4_extends : (rows : List Row) (m : Move) → Adds rows m → IsFront rows (after_turn rest m).rows
-    turn_group4_extends rows (Turn.next t) k = front_trans rows t.rows (rest t).rows k (extends t)
+    turn_group4_extends : (rows : List Row) (m : Move) → Adds rows m → IsPrefix rows (after_turn rest m).rows
+    turn_group4_extends rows (Turn.next t) k = prefix_trans rows t.rows (rest t).rows k (extends t)
     turn_group4_extends rows (Turn.done e) k = k
 
     line_at_group4_follows : (run : Progress) (found : ℕ × Bits) → length run.rows ≤ limit → Adds run.rows (line_at_group4 unlimited run found)
@@ -173,7 +175,9 @@ module _ (settings : DecodeSettings) (limit : ℕ) (some : 0 < limit) (wide : 0 
 
     move_group4_follows : (s t : Progress) → SameGroup4 s t → Follows SameGroup4 Cut rest (move_group4 limited s) (move_group4 unlimited t)
     move_group4_follows s t same = subst (λ (r : Progress). Follows SameGroup4 Cut rest (move_group4 limited s) (move_group4 unlimited r)) same.0
-        (line_at_group4_follows s (cond settings.end_of_block (eols 2 s.rest) (all_eols s.rest)) same.1 (move_group4_adds unlimited s))
+        (rw (move_group4-is limited s, move_group4-is unlimited s)
+        (line_at_group4_follows s (cond settings.end_of_block (eols 2 s.rest) (all_eols s.rest)) same.1
+        (subst (Adds s.rows) (move_group4-is unlimited s) (move_group4_adds unlimited s))))
 
   -- ---- The whole
   cut_group3 : (n m : ℕ) (run : Progress) (late : Ending) → left_group3 run < n → left_group3 run < m → length run.rows < limit

@@ -12,8 +12,8 @@ use Rattle.hayro_ccitt.specs.Repetition.{Turn}
 use Rattle.hayro_ccitt.specs.Rows.{Row}
 use Rattle.hayro_ccitt.specs.Lines.{Line, line_1d}
 use Rattle.hayro_ccitt.specs.EndOfLine.{after_eol, one_more, all_eols, next_eol}
-use Rattle.hayro_ccitt.specs.PlainReading.{Progress, Ending, Move, row_before, aligned, limit_met, at_end, ends_with, eols_group3, unless_over}
-use Rattle.hayro_ccitt.specs.PlainReading.{seek_from, seek_eol, after_row, add_row, after_line_group3, move_group3}
+use Rattle.hayro_ccitt.specs.PlainReading.{Progress, Ending, Move, row_before, aligned, limit_met, at_end, ends_with, eols_group3}
+use Rattle.hayro_ccitt.specs.PlainReading.{after_line_group3, move_group3}
 use Rattle.hayro_ccitt.specs.Locality.{row_of, row_at, StaysBefore}
 use Rattle.hayro_ccitt.proofs.Repeated.{Follows}
 use Rattle.hayro_ccitt.proofs.Moves.{cond_le, eols_shorter, next_eol_found, eols_group3_counted}
@@ -23,6 +23,7 @@ use Rattle.hayro_ccitt.proofs.Leaves.{LineLeaves, line_1d_leaves}
 use Rattle.hayro_ccitt.proofs.ByEols.{line_past}
 use Rattle.hayro_ccitt.proofs.Fronts.{Inside, LineAlike, line_1d_alike}
 use Rattle.hayro_ccitt.proofs.Alike.{Closes, closes_inside, inside_after, after_shorter, past_alike, PastAlike, CountAlike, RestAlike, all_eols_alike}
+use Rattle.hayro_ccitt.proofs.RowsAndGaps.{unless_over, seek_from, seek_eol, after_row, add_row, after_whole-is, after_damage-is}
 
 -- ---- Rows of which one may differ
 abbrev pub RowsAlike : List Row → List Row → Type 0
@@ -107,7 +108,7 @@ module _ (settings : DecodeSettings) (encoding : settings.encoding ≡ Group3_1D
       test n = ((eqb (eols_group3 settings here).0 0 && has_eols) && not (limit_met settings n)) && not (at_end here)
 
       from_next : (o : Option Bits) → next_eol here ≡ o → Both (seek_from settings (run_at xs has_eols here) o) (seek_from settings (run_at ys has_eols here) o)
-      from_next None e = unless_beyond xs ys false here here (0, here) alike short
+      from_next None e = RunsAlike.beyond xs ys false here alike short refl refl
       from_next (Some found) e = unless_beyond xs ys has_eols here here (eols_group3 settings found) alike
           (omega (arith, (next_eol_found here found e).0, (eols_group3_counted settings found).0, short))
 
@@ -129,9 +130,12 @@ module _ (settings : DecodeSettings) (encoding : settings.encoding ≡ Group3_1D
       let al : Bool = settings.rows_are_byte_aligned && not has_eols in
       let shorter : length (cond al (aligned left) left) ≤ length left
       = cond_le al (aligned left) left (length left) (omega (arith, length-drop (length left % 8) left)) (omega arith) in
-      row_beyond (xs ++ row ∷ []) (ys ++ row ∷ []) has_eols (cond al (aligned left) left) (rows_more xs ys row alike)
-      (omega (arith, shorter, short, ap length leaves.1, length-append leaves.0 left))
-  line_beyond xs ys has_eols here (Line.broken front fault) alike short leaves = by (settings.strict || not has_eols)
+      rw (after_whole-is settings (run_at xs has_eols here) row left, after_whole-is settings (run_at ys has_eols here) row left)
+      (row_beyond (xs ++ row ∷ []) (ys ++ row ∷ []) has_eols (cond al (aligned left) left) (rows_more xs ys row alike)
+      (omega (arith, shorter, short, ap length leaves.1, length-append leaves.0 left)))
+  line_beyond xs ys has_eols here (Line.broken front fault) alike short leaves =
+      rw (after_damage-is settings (run_at xs has_eols here) front fault, after_damage-is settings (run_at ys has_eols here) front fault)
+      (by (settings.strict || not has_eols))
     where
       row : Row
       row = front ++ replicate (settings.columns - length front) false

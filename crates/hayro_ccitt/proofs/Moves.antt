@@ -13,12 +13,13 @@ use Rattle.hayro_ccitt.specs.declared.settings.EncodingMode.TheVariants.{Group4,
 use Rattle.hayro_ccitt.specs.declared.error.DecodeError.TheVariants.{InvalidCode}
 use Rattle.hayro_ccitt.specs.Lines.{Line, line_1d, line_2d}
 use Rattle.hayro_ccitt.specs.EndOfLine.{after_eol, one_more, eols, all_eols, next_eol, after_tag, tagged_eols_from, pass_last_tag, tagged_eols}
-use Rattle.hayro_ccitt.specs.PlainReading.{Progress, Ending, Move, row_before, aligned, ends_with, after_line_group4, line_at_group4, move_group4}
-use Rattle.hayro_ccitt.specs.PlainReading.{limit_met, at_end, line_by, eols_by, eols_group3, line_at_group3, unless_over, seek_from, seek_eol}
-use Rattle.hayro_ccitt.specs.PlainReading.{after_row, after_line_group3, move_group3}
+use Rattle.hayro_ccitt.specs.PlainReading.{Progress, Ending, Move, row_before, aligned, ends_with, after_line_group4, move_group4}
+use Rattle.hayro_ccitt.specs.PlainReading.{limit_met, at_end, line_by, eols_by, eols_group3, line_at_group3}
+use Rattle.hayro_ccitt.specs.PlainReading.{after_line_group3, move_group3}
 use Rattle.hayro_ccitt.proofs.Repeated.{Shrinks}
 use Rattle.hayro_ccitt.proofs.ReadRuns.{chosen}
 use Rattle.hayro_ccitt.proofs.ReadLines.{TookBits, line_1d_took_bits, line_2d_took_bits}
+use Rattle.hayro_ccitt.proofs.RowsAndGaps.{line_at_group4, unless_over, seek_from, seek_eol, after_row, move_group4-is, after_whole-is, after_damage-is}
 
 -- enough zeros and a one are an EOL
 pub eol_of : (seen k : ℕ) (rest : Bits) → 11 ≤ seen + k → after_eol seen (replicate k false ++ true ∷ rest) ≡ Some rest
@@ -81,7 +82,7 @@ after_line_group4_next settings run t n (Line.whole row rest) took e =
 
 -- a turn of Group 4 leaves fewer bits
 pub move_group4_shrinks : (settings : DecodeSettings) → 0 < settings.columns → Shrinks (move_group4 settings) left
-move_group4_shrinks settings wide run t e = by_eols (cond settings.end_of_block (eols 2 run.rest) (all_eols run.rest)) at_most e
+move_group4_shrinks settings wide run t e = by_eols (cond settings.end_of_block (eols 2 run.rest) (all_eols run.rest)) at_most (sym (move_group4-is settings run) ∙ e)
   where
     at_most : length (cond settings.end_of_block (eols 2 run.rest) (all_eols run.rest)).1 ≤ length run.rest
     at_most = by settings.end_of_block
@@ -267,8 +268,10 @@ not_at_end (b ∷ rest) e = absurd (false≢true e)
 
 seek_left : (settings : DecodeSettings) (run t : Progress) (o : Option Bits) → run.has_eols ≡ true → next_eol run.rest ≡ o
     → seek_from settings run o ≡ Turn.next t → left_group3 t ≤ length run.rest
-seek_left settings run t None h e k = subst (λ (r : Progress). left_group3 r ≤ length run.rest)
-    (unless_over_next settings (record run { has_eols = false }) t (0, run.rest) k) (omega arith)
+seek_left settings run t None h e k =
+    let given_up : Progress = record run { has_eols = false } in
+    let same : given_up ≡ t = let turn : ◌≡◌ {A = Move} (Turn.next given_up) (Turn.next t) = k in cc in
+    subst (λ (r : Progress). left_group3 r ≤ length run.rest) same (omega arith)
 seek_left settings run t (Some found) h e k =
     let f = next_eol_found run.rest found e in
     let g = eols_group3_counted settings found in
@@ -351,10 +354,10 @@ after_line_group3_next settings run t (Line.whole row rest) took e =
     let al : Bool = settings.rows_are_byte_aligned && not run.has_eols in
     let shorter : length (cond al (aligned rest) rest) ≤ length rest
     = cond_le al (aligned rest) rest (length rest) (omega (arith, length-drop (length rest % 8) rest)) (omega arith) in
-    after_row_next settings (record run { rows = run.rows ++ row ∷ []; rest = cond al (aligned rest) rest }) t (left_group3 run) e
+    after_row_next settings (record run { rows = run.rows ++ row ∷ []; rest = cond al (aligned rest) rest }) t (left_group3 run) (sym (after_whole-is settings run row rest) ∙ e)
     (omega (arith, shorter, took, left_group3_least run))
 after_line_group3_next settings run t (Line.broken front fault) took e =
-    elim (chosen (settings.strict || not run.has_eols) _ _ _ e) [
+    elim (chosen (settings.strict || not run.has_eols) _ _ _ (sym (after_damage-is settings run front fault) ∙ e)) [
       | inl a ↦ absurd (not_next _ t a.1)
       | inr a ↦
           let sought : run.has_eols ≡ true = not-false run.has_eols (or_parts settings.strict (not run.has_eols) a.0).1 in

@@ -10,10 +10,11 @@ use Rattle.hayro_ccitt.specs.Rows.{Row}
 use Rattle.hayro_ccitt.specs.Lines.{Line, line_1d}
 use Rattle.hayro_ccitt.specs.EndOfLine.{after_eol, one_more, all_eols, next_eol}
 use Rattle.hayro_ccitt.specs.PlainReading.{Progress, row_before, line_by, eols_by, line_at_group3, aligned, limit_met, at_end, ends_with, eols_group3}
-use Rattle.hayro_ccitt.specs.PlainReading.{unless_over, seek_from, after_row, add_row, after_line_group3, move_group3}
+use Rattle.hayro_ccitt.specs.PlainReading.{after_line_group3, move_group3}
 use Rattle.hayro_ccitt.specs.Locality.{row_of, row_at}
 use Rattle.hayro_ccitt.proofs.Moves.{one_more-count}
 use Rattle.hayro_ccitt.proofs.Past.{past, past-eol, past_is, then_after, all_eols-some, all_eols-none}
+use Rattle.hayro_ccitt.proofs.RowsAndGaps.{unless_over, seek_from, after_row, add_row, after_whole-is, after_damage-is}
 
 -- a run that seeks EOLs
 abbrev pub sought : List Row → Bits → Progress
@@ -93,11 +94,11 @@ module _ (settings : DecodeSettings) (encoding : settings.encoding ≡ Group3_1D
 
       by : (line : Line) → after_line_group3 settings (sought rows here) line ≡ after_row settings
           (sought (rows ++ row_of settings.columns line ∷ []) (rest_of line here))
-      by (Line.whole row rest) = ap (λ (x : Bits). after_row settings (sought (rows ++ row ∷ []) x))
+      by (Line.whole row rest) = after_whole-is settings (sought rows here) row rest ∙ ap (λ (x : Bits). after_row settings (sought (rows ++ row ∷ []) x))
           (cond-false (settings.rows_are_byte_aligned && false) (aligned rest) rest no_align)
       by (Line.broken front fault) =
           let row : Row = front ++ replicate (settings.columns - length front) false in
-          cond-false (settings.strict || false) (ends_with (sought rows here) (Err fault)) (add_row settings (sought rows here) row here)
+          after_damage-is settings (sought rows here) front fault ∙ cond-false (settings.strict || false) (ends_with (sought rows here) (Err fault)) (add_row settings (sought rows here) row here)
           (or_from settings.strict false lenient refl)
           ∙ ap (λ (x : Bits). after_row settings (sought (rows ++ row ∷ []) x))
           (cond-false (settings.rows_are_byte_aligned && false) (aligned here) here no_align)

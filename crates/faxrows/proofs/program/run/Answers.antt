@@ -22,7 +22,7 @@ module _ (g : Over) (c : goal.After-drop-input-2 g) where
 
   -- how many rows were taken
   abbrev taken : ℕ
-  taken = c.write_decoded.new.ctx.held.rows
+  taken = c.write_decoded.new.ctx.held.taken
 
   -- what the writer holds grew by a text
   abbrev Grew : List ℕ → Type 0

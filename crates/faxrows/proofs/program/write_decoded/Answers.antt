@@ -9,7 +9,7 @@ use Rattle.faxrows.proofs.program.write_decoded.Goals as goal
 
 module _ (g : Over) (c : goal.After-drop-sink-inside-2 g) where
   -- what decoding said of its answer
-  decoded : Decoded c.args.ctx.now.held.settings c.args.input.now c.decode-outcome.result c.decode-outcome.new.ctx.held.rows c.text-lines.result.now
+  decoded : Decoded c.args.ctx.now.held.settings c.args.input.now c.decode-outcome.result c.decode-outcome.new.ctx.held.taken c.text-lines.result.now
   decoded = record {
     meaning = search rules;
     within = c.decode-outcome.ensures.taken;
@@ -31,7 +31,7 @@ module _ (g : Over) (c : goal.After-drop-sink-inside-2 g) where
       c.text-lines.result.now (line_of_outcome c.decode-outcome.result) (search rules) (search rules)
 
   -- the sink's text is the lines of the rows that were taken
-  lines : c.text-lines.result.now ≡ lines_of_rows (take c.decode-outcome.new.ctx.held.rows (rows_of c.args.ctx.now.held.settings c.args.input.now))
+  lines : c.text-lines.result.now ≡ lines_of_rows (take c.decode-outcome.new.ctx.held.taken (rows_of c.args.ctx.now.held.settings c.args.input.now))
   lines = sink_text _ _ _ decoded.meaning
 
 pub returns-clause-written : goal.returns-clause-written
