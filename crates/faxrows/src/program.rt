@@ -124,7 +124,7 @@ fn write_decoded<W: Write>(
         × EndsAfter ctx.old.held.settings input.now ctx.new.held.taken outcome
         × (done ≡ done_of outcome)
         × Appends (W.contents writer.old.0) (W.contents writer.new.0)
-            (text_after ctx.old.held.settings input.now ctx.new.held.taken outcome)) }
+        (text_after ctx.old.held.settings input.now ctx.new.held.taken outcome)) }
     ensures flag { OnOk result (writer.new.1 ≡ writer.old.1) }
     ensures failed { OnErr result (writer.new.1 ≡ true) }
     ensures only { IfErr result (λ fault. fault ≡ RunFault.Write) }

@@ -302,7 +302,11 @@ fn asks_a_stalled_writer_once(rt: HostRuntime) -> Result<(), Fail> {
         let answer = run(rt.alloc(), words.as_slice(), &mut reader, &mut writer);
         let writer: Stalling = writer.into_inner();
         assert_eq!(rt; answer, Err(RunFault::Write), "at {stalls_after}");
-        assert_eq!(rt; writer.bytes.as_slice(), &text[..stalls_after], "at {stalls_after}");
+        assert_eq!(rt;
+            writer.bytes.as_slice(),
+            &text[..stalls_after],
+            "at {stalls_after}"
+        );
         assert_eq!(rt; writer.writes, stalls_after + 1, "at {stalls_after}");
     }
     Ok(())

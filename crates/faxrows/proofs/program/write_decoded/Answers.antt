@@ -35,6 +35,9 @@ module _ (g : Over) (c : goal.After-drop-sink-inside-2 g) where
   lines = sink_text _ _ _ decoded.meaning
 
 pub returns-clause-written : goal.returns-clause-written
-returns-clause-written g c =
-    (c.decode-outcome.result, ends_after _ _ _ _ _ (decoded g c), c.done_of.ensures,
-    subst (λ text. Grew g c (text ++ line_of_outcome c.decode-outcome.result)) (lines g c) (grew g c))
+returns-clause-written g c = (
+  c.decode-outcome.result,
+  ends_after _ _ _ _ _ (decoded g c),
+  c.done_of.ensures,
+  subst (λ text. Grew g c (text ++ line_of_outcome c.decode-outcome.result)) (lines g c) (grew g c),
+)
