@@ -7,7 +7,7 @@ ghost use Rattle.hayro_ccitt.specs.Answers.{IsFault};
 ghost use Rattle.hayro_ccitt.specs.Bits.{here, low_bits};
 ghost use Rattle.hayro_ccitt.specs.CodeLists.{mode_codes, numbered};
 ghost use Rattle.hayro_ccitt.specs.CodeReading.{agreement, word_at, is_cut, read_code, leading_zeros};
-ghost use Rattle.hayro_ccitt.specs.EndOfLine.{after_eol, eols, all_eols};
+ghost use Rattle.hayro_ccitt.specs.EndOfLine.{after_eol, eols, all_eols, next_eol};
 ghost use Rattle.hayro_ccitt.specs.Rows.{opposite};
 ghost use Rattle.hayro_ccitt.specs.Runs.{codes_of, read_run};
 ghost use Rattle.hayro_ccitt.specs.Ticks.{run_found, missed, looked};
@@ -340,5 +340,29 @@ impl<'a> BitReader<'a> {
     {
         // an EOL takes more than one bit
         self.read_eols(self.bits_left(), ticks)
+    }
+
+    /// Moves to the start of the zeros of the next EOL at or after here (T.4 sections 4.1.2 and 4.1.3), without
+    /// reading it. Where there is none it answers false, and the place stays. It never fails. Each bit that is
+    /// looked at is a tick.
+    pub fn skip_to_eol(&mut self, ticks: &mut Ticks) -> bool
+        ensures next { next_eol (here self.old) ≡ (if result then Some (here self.new) else None) }
+        ensures stays { result ≡ false → self.new ≡ self.old }
+        ensures same_bits { self.new.bits ≡ self.old.bits }
+        ensures ticks { ticks.new + length (here self.new)
+            ≡ ticks.old + length (here self.old) + (if result then looked (here self.new) else length (here self.new)) }
+    {
+        let mut reader = self.copy();
+        'eols: loop {
+            let (zeros, after) = reader.zero_run(ticks);
+            match after {
+                Some(_) if zeros >= 11 => {
+                    *self = reader;
+                    return true;
+                }
+                Some(after) => reader = after,
+                None => return false,
+            }
+        }
     }
 }

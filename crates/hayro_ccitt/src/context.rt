@@ -351,8 +351,8 @@ impl DecoderContext {
 }
 
 /// Decodes a one-dimensional line, whatever front stood (T.4 section 4.1.1). After an error of the data the front is
-/// what was painted until then. `OutOfMemory` comes only where the line paints a black pixel, while a change is
-/// stored. All else of the context stands.
+/// what was painted until then. `OutOfMemory` comes only while a change is stored: the front that stands then is a
+/// prefix of the line's row, where the next pixel differs from the last one. All else of the context stands.
 pub fn decode_1d_line(ctx: &mut DecoderContext, reader: &mut BitReader<'_>) -> Result<()>
     ensures line { DrawsLine (line_from_1d ctx.old.held (here reader.old))
         result ctx.new.held.front (here reader.new) }
@@ -369,7 +369,8 @@ pub fn decode_1d_line(ctx: &mut DecoderContext, reader: &mut BitReader<'_>) -> R
 
 /// Decodes a two-dimensional line against the reference row, whatever front stood (T.4 section 4.2, T.6
 /// section 2.2). After an error of the data the front is what was painted until then. `OutOfMemory` comes only
-/// where the line paints a black pixel, while a change is stored. All else of the context stands.
+/// while a change is stored: the front that stands then is a prefix of the line's row, where the next pixel differs
+/// from the last one. All else of the context stands.
 pub fn decode_2d_line(ctx: &mut DecoderContext, reader: &mut BitReader<'_>) -> Result<()>
     ensures line { DrawsLine (line_from_2d ctx.old.held (here reader.old))
         result ctx.new.held.front (here reader.new) }

@@ -19,6 +19,7 @@ mod error;
 pub mod group3;
 pub mod group4;
 pub mod laws;
+mod rows;
 mod settings;
 pub mod tables;
 
