@@ -9,11 +9,10 @@ use Rattle.hayro_ccitt.specs.declared.settings.EncodingMode.TheVariants.{Group4}
 use Rattle.hayro_ccitt.specs.declared.settings.DecodeSettings.{DecodeSettings}
 use Rattle.hayro_ccitt.specs.Bits.{Bits, bits_of_byte, bits_of}
 use Rattle.hayro_ccitt.specs.Repetition.{Turn}
-use Rattle.hayro_ccitt.specs.Rows.{Row}
 use Rattle.hayro_ccitt.specs.Lines.{Line, line_2d}
 use Rattle.hayro_ccitt.specs.EndOfLine.{after_eol, one_more, eols, all_eols}
 use Rattle.hayro_ccitt.specs.PlainReading.{eols_group4, Progress, Ending, row_before, aligned, at_end, limit_met, ends_with, after_line_group4, Reading, nothing_read, whole_reading}
-use Rattle.hayro_ccitt.specs.PlainReading.{line_at_group4, move_group4, end_of, bytes_before, plain}
+use Rattle.hayro_ccitt.specs.PlainReading.{line_at_group4, move_group4, end_of, plain}
 use Rattle.hayro_ccitt.specs.Laws.{Reaches, AfterEofb}
 use Rattle.hayro_ccitt.proofs.Moves.{eols-none, next_is, not_next}
 use Rattle.hayro_ccitt.proofs.Repeated.{after_turn}

@@ -22,7 +22,7 @@ use Rattle.hayro_ccitt.specs.Rows.{Row}
 use Rattle.hayro_ccitt.specs.Lines.{Line, line_2d}
 use Rattle.hayro_ccitt.specs.EndOfLine.{after_eol, eols, all_eols}
 use Rattle.hayro_ccitt.specs.PlainReading.{eols_group4, Progress, Ending, Move, row_before, aligned, at_end, limit_met, ends_with, after_line_group4, Reading, nothing_read, whole_reading}
-use Rattle.hayro_ccitt.specs.PlainReading.{line_at_group4, move_group4, plain_group4, end_of, plain, bytes_before}
+use Rattle.hayro_ccitt.specs.PlainReading.{line_at_group4, move_group4, plain_group4, end_of, plain}
 use Rattle.hayro_ccitt.specs.Laws.{each_word, Allows, Reaches, ComesToEofb, PicturesComeToEofb, ReadsPictureT6, ReadsLimitedRowsT6, OnePictureT6}
 use Rattle.hayro_ccitt.specs.Encodings.{EncodesLine2D, padding, EncodesRows, eol, IsPicture, PictureT6}
 use Rattle.hayro_ccitt.proofs.Repeated.{after_turn, repeated_turn, repeated_same}

@@ -1,16 +1,15 @@
 -- The laws of the plain reading.
-use Rattle.std.specs.Prelude.{◌≡◌, ◌≢◌, ℕ, ◌+◌, ◌-◌, ◌/◌, ◌^◌, ◌<◌, ◌≤◌, Bool, true, false, not, ◌&&◌, ◌||◌, nat_le, ◌⊎◌, ◌↔◌, Ok, Err, IsOk}
+use Rattle.std.specs.Prelude.{◌≡◌, ◌≢◌, ℕ, ◌+◌, ◌-◌, ◌/◌, ◌^◌, ◌<◌, ◌≤◌, Bool, true, false, not, ◌&&◌, ◌||◌, nat_le, ◌⊎◌, Ok, IsOk}
 use Rattle.std.specs.Prelude.{List, [], ◌∷◌, ◌++◌, length, take, replicate, reverse, All}
 use Rattle.std.specs.List.{list_all, list_any}
 use Rattle.hayro_ccitt.specs.declared.codes.Color.{Color}
 use Rattle.hayro_ccitt.specs.declared.codes.Mode.{Mode}
-use Rattle.hayro_ccitt.specs.declared.error.DecodeError.TheVariants.{UnexpectedEof, InvalidCode}
 use Rattle.hayro_ccitt.specs.declared.settings.EncodingMode.{EncodingMode}
 use Rattle.hayro_ccitt.specs.declared.settings.EncodingMode.TheVariants.{Group4, Group3_1D, Group3_2D}
 use Rattle.hayro_ccitt.specs.declared.settings.DecodeSettings.{DecodeSettings}
 use Rattle.hayro_ccitt.specs.Bits.{Bits, bits_of, IsPrefix}
 use Rattle.hayro_ccitt.specs.CodeLists.{Code, mode_codes}
-use Rattle.hayro_ccitt.specs.CodeReading.{Has, read_code, leading_zeros, PrefixFree}
+use Rattle.hayro_ccitt.specs.CodeReading.{Has, leading_zeros, PrefixFree}
 use Rattle.hayro_ccitt.specs.Runs.{codes_of}
 use Rattle.hayro_ccitt.specs.Rows.{Row, AreChanges, pixels, changes, white_row}
 use Rattle.hayro_ccitt.specs.Lines.{Line}
