@@ -63,7 +63,7 @@ first_black : (row : Row) → HasBlack (true ∷ row)
 first_black row = (0, omega arith, refl)
 
 -- a row whose last pixel is black has a black pixel
-last_black : (before : Bool) (row : Row) → before ≡ false → last_pixel before row ≢ false → HasBlack row
+pub last_black : (before : Bool) (row : Row) → before ≡ false → last_pixel before row ≢ false → HasBlack row
 last_black before [] e other = absurd (other e)
 last_black before (true ∷ row) e other = first_black row
 last_black before (false ∷ row) e other = Contains-append_right (false ∷ []) row true (last_black false row refl other)

@@ -1,11 +1,15 @@
 -- A whole line has all its pixels.
-use Rattle.std.proofs.Common.{◌≡◌, ◌≤◌, ℕ, suc, Bool, [], length, refl, sym, ◌∙◌, subst}
+use Rattle.std.proofs.Common.{◌≡◌, ◌≤◌, ◌-◌, ℕ, suc, Bool, true, false, [], ◌∷◌, length, replicate, refl, sym, ◌∙◌, subst, arith}
+use Rattle.std.proofs.lemmas.List.{length-append, length-replicate}
+use Rattle.hayro_ccitt.specs.declared.settings.EncodingMode.{EncodingMode}
+use Rattle.hayro_ccitt.specs.declared.settings.EncodingMode.TheVariants.{Group4, Group3_1D, Group3_2D}
+use Rattle.hayro_ccitt.specs.PlainReading.{line_by}
 use Rattle.hayro_ccitt.specs.declared.error.DecodeError.TheVariants.{UnexpectedEof}
 use Rattle.hayro_ccitt.specs.Bits.{Bits}
 use Rattle.hayro_ccitt.specs.CodeLists.{mode_codes}
 use Rattle.hayro_ccitt.specs.CodeReading.{read_code}
 use Rattle.hayro_ccitt.specs.Repetition.{Turn}
-use Rattle.hayro_ccitt.specs.Rows.{Row}
+use Rattle.hayro_ccitt.specs.Rows.{Row, repaired}
 use Rattle.hayro_ccitt.specs.Lines.{Line, Pen, Step, start, try, drawn, draw_run, draw_mode, unless_full, step_1d, line_1d, step_2d, line_2d}
 use Rattle.hayro_ccitt.proofs.Repeated.{repeated_keeps}
 use Rattle.hayro_ccitt.proofs.ReadLines.{GoesOn, full_by, try_goes_on, draw_run_goes_on, draw_mode_goes_on}
@@ -38,3 +42,16 @@ line_2d_full strict columns reference here =
     (λ p. try p.front (read_code mode_codes p.rest) (λ mode. draw_mode strict columns reference (record p { rest = mode.1 }) mode.0))
     (λ p. try_goes_on p.front (read_code mode_codes p.rest) _ (λ mode. draw_mode_goes_on strict columns reference (record p { rest = mode.1 }) mode.0))
     (λ p. refl) (start here)
+
+-- and so is each line of Group 3
+pub line_by_full : (encoding : EncodingMode) (strict : Bool) (columns : ℕ) (reference : Row) (here : Bits) → IsFull columns (line_by encoding strict columns reference here)
+line_by_full Group3_1D strict columns reference here = line_1d_full strict columns here
+line_by_full Group3_2D strict columns reference [] = tt
+line_by_full Group3_2D strict columns reference (true ∷ here) = line_1d_full strict columns here
+line_by_full Group3_2D strict columns reference (false ∷ here) = line_2d_full strict columns reference here
+line_by_full Group4 strict columns reference here = line_2d_full strict columns reference here
+
+-- and a repaired row
+pub repaired_full : (columns : ℕ) (front : Row) → columns ≤ length (repaired columns front)
+repaired_full columns front =
+    omega (arith, length-append front (replicate (columns - length front) false), length-replicate (columns - length front) false)

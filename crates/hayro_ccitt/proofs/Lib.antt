@@ -36,6 +36,7 @@ pub mod ReferencePlaces
 pub mod Repeated
 pub mod RowChanges
 pub mod RowsAndGaps
+pub mod RowsOfGroup3
 pub mod RowsOfGroup4
 pub mod RunsOverRows
 pub mod ScanWords
