@@ -7,7 +7,7 @@ use Rattle.hayro_ccitt.specs.declared.codes.Mode.{Mode}
 use Rattle.hayro_ccitt.specs.Bits.{Bits}
 use Rattle.hayro_ccitt.specs.Rows.{Row, is_black, changes, last_pixel}
 use Rattle.hayro_ccitt.specs.Context.{Held, painted_front}
-use Rattle.hayro_ccitt.specs.Lines.{Line, Pen, Step, draw_run, draw_mode, line_1d, line_2d}
+use Rattle.hayro_ccitt.specs.Lines.{Line, Pen, draw_run, draw_mode, line_1d, line_2d}
 use Rattle.hayro_ccitt.specs.Repetition.{Turn}
 
 -- an error that the data is at fault for
@@ -46,13 +46,17 @@ DrawsLine line (Err Refused) front rest = ⊥
 abbrev pub pen_of : Held → Bits → Pen
 pen_of held rest = record { front = held.front; color = held.color; rest = rest }
 
+-- what a step of a line comes to: the pen to go on with, or the line
+abbrev pub Step : Type 0
+Step = Turn Pen Line
+
 -- a run of the present colour, read and painted
 abbrev pub step_of_run : Held → Bits → Step
-step_of_run held rest = draw_run held.settings.strict held.settings.columns (pen_of held rest) Turn.next
+step_of_run held rest = (draw_run held.settings.strict held.settings.columns (pen_of held rest)).turn
 
 -- a mode, drawn against the reference row
 abbrev pub step_of_mode : Held → Bits → Mode → Step
-step_of_mode held rest mode = draw_mode held.settings.strict held.settings.columns held.reference (pen_of held rest) mode
+step_of_mode held rest mode = (draw_mode held.settings.strict held.settings.columns held.reference (pen_of held rest) mode).turn
 
 -- a one-dimensional line
 abbrev pub line_from_1d : Held → Bits → Line
