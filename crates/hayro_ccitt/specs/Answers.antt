@@ -87,6 +87,10 @@ StoresChange held count = (row : Row)
     × (length held.front < length row)
     × (last_pixel false held.front ≢ is_black held.color)
 
+-- To continue the front in white makes a changing element: the row isn't full, and its last pixel is black.
+abbrev pub RepairStoresChange : Held → Type 0
+RepairStoresChange held = (length held.front < held.settings.columns) × (last_pixel false held.front ≡ true)
+
 -- the line of an index is among these lines, and paints a black pixel
 abbrev pub PaintsBlack : List Line → ℕ → Type 0
 PaintsBlack lines index = (line : Line) × (slice_get lines index ≡ Some line) × HasBlack (front_of line)
