@@ -17,7 +17,7 @@ use Rattle.hayro_ccitt.specs.CodeReading.{read_code, Has}
 use Rattle.hayro_ccitt.specs.Repetition.{Turn, repeated, gathered}
 use Rattle.hayro_ccitt.specs.Rows.{Row, opposite, b1, b2, right_of, paint}
 use Rattle.hayro_ccitt.specs.Runs.{codes_of, run_of_word, run_turn, run_from}
-use Rattle.hayro_ccitt.specs.Lines.{Line, Pen, Drawing, ◌>>=◌, turn_behind, words_behind, go_on, unless_fault, read, wordless, unless_full, draw_run, place_from, draw_mode, draw_1d, draw_2d, start, line_1d, line_2d, found_1d, found_2d, tag_at, line_found}
+use Rattle.hayro_ccitt.specs.Lines.{Line, Pen, Drawing, ◌>>=◌, turn_behind, words_behind, go_on, unless_fault, finds, run_here, mode_here, painted, painted_to, place_by, unless_full, draw_run, draw_mode, draw_1d, draw_2d, start, line_1d, line_2d, found_1d, found_2d, tag_at, line_found}
 use Rattle.hayro_ccitt.specs.Ticks.{word_found, run_gives, run_found}
 use Rattle.hayro_ccitt.specs.PlainReading.{line_by}
 use Rattle.hayro_ccitt.specs.Laws.{IsWord, AreWords, joined, HoldsZeros, EndBeforeEol, Synchronised}
@@ -180,13 +180,13 @@ behind_stands {A} {B} here rest_of last_of drawing behind stands each = by drawi
     by (Turn.done line) words p = (p.0, stands_append here p.0 p.0 words [] p.1 (stands_none p.0), p.2)
 
 -- what finds no words
-wordless_stands : {A : Type 0} (here : Bits) (pen : Pen) (result : Result A DecodeError) → DrawingStands here (λ (x : A). here) (wordless pen result)
+wordless_stands : {A : Type 0} (here : Bits) (pen : Pen) (result : Result A DecodeError) → DrawingStands here (λ (x : A). here) (finds pen [] result)
 wordless_stands here pen (Ok x) = stands_none here
 wordless_stands here pen (Err fault) = (here, stands_none here, tt)
 
 -- a run that is read
 run_read_stands : (pen : Pen)
-    → DrawingStands pen.rest (λ (run : ℕ × Bits). run.1) (read pen (run_from pen.color (0, pen.rest)) (run_found pen.color (0, pen.rest)))
+    → DrawingStands pen.rest (λ (run : ℕ × Bits). run.1) (run_here pen)
 run_read_stands pen = by (run_from pen.color (0, pen.rest)) stands.2
   where
     stands : (rest : Bits) × Stands pen.rest (run_found pen.color (0, pen.rest)) rest × RunEnds (run_from pen.color (0, pen.rest)) rest
@@ -202,7 +202,7 @@ mode_word v w i = inr (v, i)
 
 -- a mode that is read
 mode_read_stands : (pen : Pen)
-    → DrawingStands pen.rest (λ (mode : Mode × Bits). mode.1) (read pen (read_code mode_codes pen.rest) (word_found mode_codes pen.rest))
+    → DrawingStands pen.rest (λ (mode : Mode × Bits). mode.1) (mode_here pen)
 mode_read_stands pen = by (read_code mode_codes pen.rest) refl
   where
     by : (r : Result (Mode × Bits) DecodeError) → read_code mode_codes pen.rest ≡ r
@@ -213,10 +213,10 @@ mode_read_stands pen = by (read_code mode_codes pen.rest) refl
 -- a run that is drawn
 pub draw_run_stands : (strict : Bool) (columns : ℕ) (pen : Pen) → DrawingStands pen.rest rest_of_pen (draw_run strict columns pen)
 draw_run_stands strict columns pen =
-    behind_stands pen.rest (λ (run : ℕ × Bits). run.1) rest_of_pen (read pen (run_from pen.color (0, pen.rest)) (run_found pen.color (0, pen.rest)))
-    (λ run. wordless pen (paint strict columns pen.front pen.color run.0) >>= (λ front. go_on (record { front = front; color = opposite pen.color; rest = run.1 })))
+    behind_stands pen.rest (λ (run : ℕ × Bits). run.1) rest_of_pen (run_here pen)
+    (λ run. painted strict columns pen run.0 >>= (λ front. go_on (record { front = front; color = opposite pen.color; rest = run.1 })))
     (run_read_stands pen)
-    (λ run. behind_stands run.1 (λ (front : Row). run.1) rest_of_pen (wordless pen (paint strict columns pen.front pen.color run.0))
+    (λ run. behind_stands run.1 (λ (front : Row). run.1) rest_of_pen (painted strict columns pen run.0)
     (λ front. go_on (record { front = front; color = opposite pen.color; rest = run.1 })) (wordless_stands run.1 pen _) (λ front. stands_none run.1))
 
 -- a full line finds nothing more
@@ -231,16 +231,16 @@ unless_full_stands columns pen = by (leb columns (length pen.front))
 mode_stands : (strict : Bool) (columns : ℕ) (reference : Row) (pen : Pen) (mode : Mode) → DrawingStands pen.rest rest_of_pen (draw_mode strict columns reference pen mode)
 mode_stands strict columns reference pen Pass =
     behind_stands pen.rest (λ (front : Row). pen.rest) rest_of_pen
-    (wordless pen (paint strict columns pen.front pen.color (b2 reference (right_of pen.front) pen.color - length pen.front)))
+    (painted_to strict columns pen (b2 reference (right_of pen.front) pen.color))
     (λ front. go_on (record pen { front = front })) (wordless_stands pen.rest pen _) (λ front. stands_none pen.rest)
 mode_stands strict columns reference pen Horizontal =
     behind_stands pen.rest rest_of_pen rest_of_pen (draw_run strict columns pen) (draw_run strict columns) (draw_run_stands strict columns pen)
     (draw_run_stands strict columns)
 mode_stands strict columns reference pen (Vertical k) =
-    let paints : ℕ → Drawing Row = λ place. wordless pen (paint strict columns pen.front pen.color (place - length pen.front)) in
+    let paints : ℕ → Drawing Row = painted_to strict columns pen in
     let turns : Row → Drawing Pen = λ front. go_on (record { front = front; color = opposite pen.color; rest = pen.rest }) in
     behind_stands pen.rest (λ (place : ℕ). pen.rest) rest_of_pen
-    (wordless pen (place_from (length pen.front) (pos (b1 reference (right_of pen.front) pen.color) +ℤ k))) (λ place. paints place >>= turns)
+    (place_by reference pen k) (λ place. paints place >>= turns)
     (wordless_stands pen.rest pen _)
     (λ place. behind_stands pen.rest (λ (front : Row). pen.rest) rest_of_pen (paints place) turns (wordless_stands pen.rest pen _)
     (λ front. stands_none pen.rest))
@@ -254,10 +254,9 @@ draw_1d_stands strict columns pen =
 -- a step of a two-dimensional line
 pub draw_2d_stands : (strict : Bool) (columns : ℕ) (reference : Row) (pen : Pen) → DrawingStands pen.rest rest_of_pen (draw_2d strict columns reference pen)
 draw_2d_stands strict columns reference pen =
-    let reads : Pen → Drawing (Mode × Bits) = λ p. read p (read_code mode_codes p.rest) (word_found mode_codes p.rest) in
     let draws : Pen → Mode × Bits → Drawing Pen = λ p mode. draw_mode strict columns reference (record p { rest = mode.1 }) mode.0 in
-    behind_stands pen.rest rest_of_pen rest_of_pen (unless_full columns pen) (λ p. reads p >>= draws p) (unless_full_stands columns pen)
-    (λ p. behind_stands p.rest (λ (mode : Mode × Bits). mode.1) rest_of_pen (reads p) (draws p) (mode_read_stands p)
+    behind_stands pen.rest rest_of_pen rest_of_pen (unless_full columns pen) (λ p. mode_here p >>= draws p) (unless_full_stands columns pen)
+    (λ p. behind_stands p.rest (λ (mode : Mode × Bits). mode.1) rest_of_pen (mode_here p) (draws p) (mode_read_stands p)
     (λ mode. mode_stands strict columns reference (record p { rest = mode.1 }) mode.0))
 
 -- what a repeated step finds

@@ -48,7 +48,7 @@ abbrev pub words_behind : {A : Type 0} → Turn A Line → (A → List Bits) →
 words_behind (Turn.next x) behind = behind x
 words_behind (Turn.done line) behind = []
 
--- one step after another, until the line ends
+-- one step behind another, unless the line ends with the first: the lines of a `do`
 infixl 10 ◌>>=◌
 abbrev pub ◌>>=◌ : {A B : Type 0} → Drawing A → (A → Drawing B) → Drawing B
 drawing >>= behind = record {
@@ -65,13 +65,36 @@ abbrev pub unless_fault : {A : Type 0} → Row → Result A DecodeError → Turn
 unless_fault front (Ok x) = Turn.next x
 unless_fault front (Err fault) = Turn.done (Line.broken front fault)
 
--- what the pen reads, and the words that it finds
-abbrev pub read : {A : Type 0} → Pen → Result A DecodeError → List Bits → Drawing A
-read pen result words = record { turn = unless_fault pen.front result; words = words }
+-- what a pen finds of a reading or a painting, and the words for it
+abbrev pub finds : {A : Type 0} → Pen → List Bits → Result A DecodeError → Drawing A
+finds pen words result = record { turn = unless_fault pen.front result; words = words }
 
--- what finds no words
-abbrev pub wordless : {A : Type 0} → Pen → Result A DecodeError → Drawing A
-wordless pen result = read pen result []
+-- ---- What a pen does.
+
+-- the run of the pen's colour that stands here, and the bits behind it (T.4, 4.1.1)
+abbrev pub run_here : Pen → Drawing (ℕ × Bits)
+run_here pen = finds pen (run_found pen.color (0, pen.rest)) (run_from pen.color (0, pen.rest))
+
+-- the mode that stands here, and the bits behind it (T.4, 4.2.1.3; T.6, 2.2)
+abbrev pub mode_here : Pen → Drawing (Mode × Bits)
+mode_here pen = finds pen (word_found mode_codes pen.rest) (read_code mode_codes pen.rest)
+
+-- the front, with so many more pixels of the pen's colour (T.4, 4.1.1)
+abbrev pub painted : Bool → ℕ → Pen → ℕ → Drawing Row
+painted strict columns pen count = finds pen [] (paint strict columns pen.front pen.color count)
+
+-- the front, painted up to a place (T.4, 4.2.1.3)
+abbrev pub painted_to : Bool → ℕ → Pen → ℕ → Drawing Row
+painted_to strict columns pen place = painted strict columns pen (place - length pen.front)
+
+-- the place that a vertical mode names, where it is not left of the pixels painted and fits in 32 bits (T.4, 4.2.1.3)
+abbrev pub place_from : ℕ → ℤ → Result ℕ DecodeError
+place_from painted (pos p) = if nat_le painted p && nat_le p 4294967295 then Ok p else Err Overflow
+place_from painted (negsuc p) = Err Overflow
+
+-- the place so far right of b1 (T.4, 4.2.1.3)
+abbrev pub place_by : Row → Pen → ℤ → Drawing ℕ
+place_by reference pen k = finds pen [] (place_from (length pen.front) (pos (b1 reference (right_of pen.front) pen.color) +ℤ k))
 
 -- ---- One step of a line.
 
@@ -83,28 +106,23 @@ unless_full columns pen =
 -- Reads a run of the pen's colour, paints it and turns the colour (T.4, 4.1.1).
 abbrev pub draw_run : Bool → ℕ → Pen → Drawing Pen
 draw_run strict columns pen = do
-  run ← read pen (run_from pen.color (0, pen.rest)) (run_found pen.color (0, pen.rest))
-  front ← wordless pen (paint strict columns pen.front pen.color run.0)
-  go_on (record { front = front; color = opposite pen.color; rest = run.1 })
-
--- the place that a vertical mode names, where it is not left of the pixels painted and fits in 32 bits (T.4, 4.2.1.3)
-abbrev pub place_from : ℕ → ℤ → Result ℕ DecodeError
-place_from painted (pos p) = if nat_le painted p && nat_le p 4294967295 then Ok p else Err Overflow
-place_from painted (negsuc p) = Err Overflow
+  (run, rest) ← run_here pen
+  front ← painted strict columns pen run
+  go_on (record { front = front; color = opposite pen.color; rest = rest })
 
 -- What a mode draws (T.4, 4.2.1.3). Pass paints up to b2 and keeps the colour; horizontal draws two runs; vertical
 -- paints up to a place next to b1 and turns the colour.
 abbrev pub draw_mode : Bool → ℕ → Row → Pen → Mode → Drawing Pen
 draw_mode strict columns reference pen Pass = do
-  front ← wordless pen (paint strict columns pen.front pen.color (b2 reference (right_of pen.front) pen.color - length pen.front))
+  front ← painted_to strict columns pen (b2 reference (right_of pen.front) pen.color)
   go_on (record pen { front = front })
 draw_mode strict columns reference pen Horizontal = do
   pen ← draw_run strict columns pen
   draw_run strict columns pen
 draw_mode strict columns reference pen (Vertical k) = do
-  place ← wordless pen (place_from (length pen.front) (pos (b1 reference (right_of pen.front) pen.color) +ℤ k))
-  front ← wordless pen (paint strict columns pen.front pen.color (place - length pen.front))
-  go_on (record { front = front; color = opposite pen.color; rest = pen.rest })
+  place ← place_by reference pen k
+  front ← painted_to strict columns pen place
+  go_on (record pen { front = front; color = opposite pen.color })
 
 -- One step of a one-dimensional line: a run, unless the row is full (T.4, 4.1.1).
 abbrev pub draw_1d : Bool → ℕ → Pen → Drawing Pen
@@ -116,8 +134,8 @@ draw_1d strict columns pen = do
 abbrev pub draw_2d : Bool → ℕ → Row → Pen → Drawing Pen
 draw_2d strict columns reference pen = do
   pen ← unless_full columns pen
-  mode ← read pen (read_code mode_codes pen.rest) (word_found mode_codes pen.rest)
-  draw_mode strict columns reference (record pen { rest = mode.1 }) mode.0
+  (mode, rest) ← mode_here pen
+  draw_mode strict columns reference (record pen { rest = rest }) mode
 
 -- ---- Lines, and the words that they find.
 
