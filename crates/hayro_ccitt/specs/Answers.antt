@@ -91,6 +91,13 @@ StoresChange held count = (row : Row)
 abbrev pub RepairStoresChange : Held → Type 0
 RepairStoresChange held = (length held.front < held.settings.columns) × (last_pixel false held.front ≡ true)
 
+-- A line that failed with this error is repaired: the reading is lenient, the data have EOLs, and they are at fault (T.4,
+-- 4.1.2).
+pub record IsRepairable (held : Held) (error : DecodeError) : Type 0 where
+  pub lenient : held.settings.strict ≡ false
+  pub has_eols : held.has_eols ≡ true
+  pub fault : IsFault error
+
 -- the line of an index is among these lines, and paints a black pixel
 abbrev pub PaintsBlack : List Line → ℕ → Type 0
 PaintsBlack lines index = (line : Line) × (slice_get lines index ≡ Some line) × HasBlack (front_of line)

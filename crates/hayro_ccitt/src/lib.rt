@@ -16,6 +16,7 @@ pub mod changes;
 pub mod codes;
 pub mod context;
 mod error;
+pub mod group3;
 pub mod group4;
 pub mod laws;
 mod rows;
