@@ -126,7 +126,7 @@ paint_draws held new count rest (Err e) painted kept same unpainted =
 -- what pass draws is what its painting draws
 pub pass_draws : (old held new : Held) (count : ℕ) (rest : Bits) (r : Result (Unit {0}) DecodeError) → held ≡ old → count ≡ b2 old.reference (right_of old.front) old.color - length old.front
     → DrawsStep (try held.front (paint held.settings.strict held.settings.columns held.front held.color count) (λ front. Turn.next (record (pen_of held rest) { front = front }))) r (pen_of new rest)
-    → DrawsStep (mode_step old.settings.strict old.settings.columns old.reference (pen_of old rest) Pass) r (pen_of new rest)
+    → DrawsStep (step_of_mode old rest Pass) r (pen_of new rest)
 pass_draws old held new count rest r same counts draws =
     let at_old = subst (λ (h : Held). DrawsStep (try h.front (paint h.settings.strict h.settings.columns h.front h.color count) (λ front. Turn.next (record (pen_of h rest) { front = front }))) r (pen_of new rest)) same draws in
     subst (λ (n : ℕ). DrawsStep (try old.front (paint old.settings.strict old.settings.columns old.front old.color n) (λ front. Turn.next (record (pen_of old rest) { front = front }))) r (pen_of new rest)) counts at_old
@@ -147,24 +147,24 @@ place_of (negsuc n) o p iff is = absurd (let a = some_where o p iff is in omega 
 
 -- a vertical mode whose pixels are not painted ends the line
 pub vertical_unpainted : (held new : Held) (k : ℤ) (p : ℕ) (rest : Bits) (e : DecodeError) → pos (b1 held.reference (right_of held.front) held.color) +ℤ k ≡ pos p → p ≤ 4294967295 → length held.front ≤ p → new ≡ held
-    → IsUnpainted held (p - length held.front) e → DrawsStep (mode_step held.settings.strict held.settings.columns held.reference (pen_of held rest) (Vertical k)) (Err e) (pen_of new rest)
+    → IsUnpainted held (p - length held.front) e → DrawsStep (step_of_mode held rest (Vertical k)) (Err e) (pen_of new rest)
 vertical_unpainted held new k p rest e is fits above same unpainted =
     let go_on : Row → Step = λ front. Turn.next (record { front = front; color = opposite held.color; rest = rest }) in
     let place = place_ok (length held.front) p (pos (b1 held.reference (right_of held.front) held.color) +ℤ k) is fits above in
-    let whole : mode_step held.settings.strict held.settings.columns held.reference (pen_of held rest) (Vertical k) ≡ try held.front (paint held.settings.strict held.settings.columns held.front held.color (p - length held.front)) go_on = rw place refl in
+    let whole : step_of_mode held rest (Vertical k) ≡ try held.front (paint held.settings.strict held.settings.columns held.front held.color (p - length held.front)) go_on = rw place refl in
     subst (λ (s : Step). DrawsStep s (Err e) (pen_of new rest)) (sym whole) (paint_fails held (p - length held.front) go_on e (pen_of new rest) (ap (λ (h : Held). h.front) same) unpainted (λ row stops. stops))
 
 -- a run that isn't read ends the line
 pub run_unread : (held : Held) (rest after : Bits) (e : DecodeError) → IsFault e → run_from held.color (0, rest) ≡ Err e
-    → DrawsStep (run_then held.settings.strict held.settings.columns (pen_of held rest) Turn.next) (Err e) (pen_of held after)
+    → DrawsStep (step_of_run held rest) (Err e) (pen_of held after)
 run_unread held rest after e fault unread = fault_ends _ e (pen_of held after) fault (rw unread refl)
 
 -- a run that is read and not painted ends the line
 pub run_unpainted : (held new : Held) (n : ℕ) (rest after : Bits) (e : DecodeError) → run_from held.color (0, rest) ≡ Ok (n, after) → new ≡ held → IsUnpainted held n e
-    → DrawsStep (run_then held.settings.strict held.settings.columns (pen_of held rest) Turn.next) (Err e) (pen_of new after)
+    → DrawsStep (step_of_run held rest) (Err e) (pen_of new after)
 run_unpainted held new n rest after e reads same unpainted =
     let go_on : Row → Step = λ front. Turn.next (record { front = front; color = opposite held.color; rest = after }) in
-    let whole : run_then held.settings.strict held.settings.columns (pen_of held rest) Turn.next ≡ try held.front (paint held.settings.strict held.settings.columns held.front held.color n) go_on = rw reads refl in
+    let whole : step_of_run held rest ≡ try held.front (paint held.settings.strict held.settings.columns held.front held.color n) go_on = rw reads refl in
     subst (λ (s : Step). DrawsStep s (Err e) (pen_of new after)) (sym whole) (paint_fails held n go_on e (pen_of new after) (ap (λ (h : Held). h.front) same) unpainted (λ row stops. stops))
 
 -- ---- A step keeps what is painted: a change behind a front that stood is there in the finished row.
@@ -272,7 +272,7 @@ line_2d_fails strict columns reference = fails_by (step_2d strict columns refere
 -- the line of a context whose row isn't full is what comes of the run that is drawn
 pub line_by_run : (before now : Held) (line : Line) (at : Bits) → now ≡ redrawn before now.front now.color
     → drawn_by (step_1d before.settings.strict before.settings.columns) (pen_of now at) ≡ line → length now.front < now.settings.columns
-    → line ≡ after_turn (drawn_by (step_1d before.settings.strict before.settings.columns)) (run_then now.settings.strict now.settings.columns (pen_of now at) Turn.next)
+    → line ≡ after_turn (drawn_by (step_1d before.settings.strict before.settings.columns)) (step_of_run now at)
 line_by_run before now line at kept so_far open_row =
     let settings : now.settings ≡ before.settings = ap (λ (h : Held). h.settings) kept in
     let columns : length now.front < before.settings.columns = subst (λ (s : DecodeSettings). length now.front < s.columns) settings open_row in
@@ -283,7 +283,7 @@ line_by_run before now line at kept so_far open_row =
 -- the line of a context whose row isn't full is what comes of the mode that is read
 pub line_by_mode : (before now : Held) (line : Line) (at rest : Bits) (mode : Mode) → now ≡ redrawn before now.front now.color
     → drawn_by (step_2d before.settings.strict before.settings.columns before.reference) (pen_of now at) ≡ line → length now.front < now.settings.columns → read_code mode_codes at ≡ Ok (mode, rest)
-    → line ≡ after_turn (drawn_by (step_2d before.settings.strict before.settings.columns before.reference)) (mode_step now.settings.strict now.settings.columns now.reference (pen_of now rest) mode)
+    → line ≡ after_turn (drawn_by (step_2d before.settings.strict before.settings.columns before.reference)) (step_of_mode now rest mode)
 line_by_mode before now line at rest mode kept so_far open_row reads =
     let settings : now.settings ≡ before.settings = ap (λ (h : Held). h.settings) kept in
     let reference : now.reference ≡ before.reference = ap (λ (h : Held). h.reference) kept in

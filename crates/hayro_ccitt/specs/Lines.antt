@@ -16,12 +16,12 @@ use Rattle.hayro_ccitt.specs.Runs.{run_from}
 use Rattle.hayro_ccitt.specs.Rows.{Row, opposite, right_of, b1, b2, paint}
 use Rattle.hayro_ccitt.specs.Ticks.{word_found, run_found}
 
--- a line: the whole row, and the bits after it; or the front that was painted, and the fault
+-- a line: the whole row, and the bits after it; or the front that was painted, and the fault (T.4, 4.1 and 4.2; T.6, 2.2)
 pub data Line : Type 0 where
   whole : Row → Bits → Line
   broken : Row → DecodeError → Line
 
--- the pixels painted, the present colour, and the bits from here on
+-- the pixels painted, the present colour, and the bits from here on (T.4, 4.1.1 and 4.2.1.3)
 pub record Pen : Type 0 where
   pub front : Row
   pub color : Color
@@ -139,11 +139,11 @@ draw_2d strict columns reference pen = do
 
 -- ---- Lines, and the words that they find.
 
--- steps from a pen on, until the line is whole or broken
+-- steps from a pen on, until the line is whole or broken (T.4, 4.1 and 4.2; T.6, 2.2)
 abbrev pub drawn : (Pen → Drawing Pen) → Pen → Line
 drawn draw pen = repeated (λ pen. (draw pen).turn) (Line.broken [] UnexpectedEof) (suc (length pen.rest)) pen
 
--- the words that these steps find
+-- the words that these steps find (T.4, 4.1 and 4.2; T.6, 2.2)
 abbrev pub words_drawn : (Pen → Drawing Pen) → Pen → List Bits
 words_drawn draw pen = gathered (λ pen. (draw pen).turn) (λ pen. (draw pen).words) (suc (length pen.rest)) pen
 
