@@ -1,5 +1,5 @@
 -- A whole line has all its pixels.
-use Rattle.std.proofs.Common.{◌≡◌, ◌≤◌, ℕ, suc, Bool, [], length, refl, sym, ◌∙◌, subst}
+use Rattle.std.proofs.Common.{◌≡◌, ◌≤◌, ℕ, suc, Bool, [], length, sym, ◌∙◌, subst}
 use Rattle.hayro_ccitt.specs.declared.error.DecodeError.TheVariants.{UnexpectedEof}
 use Rattle.hayro_ccitt.specs.Bits.{Bits}
 use Rattle.hayro_ccitt.specs.CodeLists.{mode_codes}

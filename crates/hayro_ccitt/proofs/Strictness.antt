@@ -30,7 +30,7 @@ use Rattle.hayro_ccitt.proofs.Repeated.{Follows, after_turn, repeated_follows}
 use Rattle.hayro_ccitt.proofs.ReadLines.{left as pen_left, step_1d_shrinks, step_2d_shrinks}
 use Rattle.hayro_ccitt.proofs.Moves.{left, move_group4_shrinks, left_group3, left_group3_below, move_group3_shrinks}
 use Rattle.hayro_ccitt.proofs.Grown.{Keeps, Adds, seek_from_keeps, after_line_group4_adds, move_group3_adds, move_group4_adds, repeated_adds, prefix_trans}
-use Rattle.hayro_ccitt.proofs.RowsAndGaps.{line_at_group4, unless_over, seek_from, after_row, move_group4-is, after_whole-is, after_damage-is}
+use Rattle.hayro_ccitt.proofs.RowsAndGaps.{line_at_group4, unless_over, seek_from, after_row, move_group4-is, after_whole-is}
 
 -- ---- Lines
 

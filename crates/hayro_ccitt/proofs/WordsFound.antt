@@ -1,7 +1,6 @@
 -- The words that a line finds stand in a row from where it begins, and end before each EOL's one.
 use Rattle.std.proofs.Common.{ltb, leb, cond, ◌≡◌, take, ◌-◌, Result, Ok, Err, subst, append_assoc, ℕ, zero, suc, ◌+◌, ◌<◌, Bool, true, false}
 use Rattle.std.proofs.Common.{List, [], ◌∷◌, ◌++◌, length, replicate, refl, sym, ap, ◌∙◌, arith, inl, inr}
-use Rattle.std.specs.Prelude.{pos, ◌+ℤ◌}
 use Rattle.std.proofs.lemmas.Bool.{false≢true, cases_lt}
 use Rattle.std.proofs.lemmas.List.{length-append, length-replicate, append-nil}
 use Rattle.hayro_ccitt.specs.declared.error.DecodeError.{DecodeError}
@@ -15,7 +14,7 @@ use Rattle.hayro_ccitt.specs.Bits.{Bits}
 use Rattle.hayro_ccitt.specs.CodeLists.{Code, mode_codes}
 use Rattle.hayro_ccitt.specs.CodeReading.{read_code, Has}
 use Rattle.hayro_ccitt.specs.Repetition.{Turn, repeated, gathered}
-use Rattle.hayro_ccitt.specs.Rows.{Row, opposite, b1, b2, right_of, paint}
+use Rattle.hayro_ccitt.specs.Rows.{Row, opposite, b2, right_of}
 use Rattle.hayro_ccitt.specs.Runs.{codes_of, run_of_word, run_turn, run_from}
 use Rattle.hayro_ccitt.specs.Lines.{Line, Pen, Drawing, ◌>>=◌, turn_behind, words_behind, go_on, unless_fault, finds, run_here, mode_here, painted, painted_to, place_by, unless_full, draw_run, draw_mode, draw_1d, draw_2d, start, line_1d, line_2d, found_1d, found_2d, tag_at, line_found}
 use Rattle.hayro_ccitt.specs.Ticks.{word_found, run_gives, run_found}

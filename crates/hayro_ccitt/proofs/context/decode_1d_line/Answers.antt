@@ -6,7 +6,6 @@ use Rattle.hayro_ccitt.specs.Bits.{Bits, here}
 use Rattle.hayro_ccitt.specs.Context.{Held, redrawn}
 use Rattle.hayro_ccitt.specs.Lines.{Line, Pen, line_1d}
 use Rattle.hayro_ccitt.proofs.Drawings.{drawn_by, step_1d}
-use Rattle.hayro_ccitt.specs.Repetition.{Turn}
 use Rattle.hayro_ccitt.proofs.Repeated.{after_turn}
 use Rattle.hayro_ccitt.proofs.DrawnLines.{open_by, line_by_run, line_1d_fails}
 use Rattle.hayro_ccitt.proofs.ReadLines.{drawn_run_shorter}
