@@ -9,7 +9,7 @@ use Rattle.hayro_ccitt.specs.CodeReading.{read_code}
 use Rattle.hayro_ccitt.specs.Repetition.{gathered}
 use Rattle.hayro_ccitt.specs.Runs.{codes_of, run_turn}
 
--- the bits that a count of zeros looks at: the zeros here, and the one that follows
+-- the bits that a count of zeros looks at: the zeros here, and the one that follows (T.4, 4.1.2)
 abbrev pub looked : Bits → ℕ
 looked [] = 0
 looked (false ∷ here) = suc (looked here)
@@ -22,22 +22,22 @@ looked_at_tag [] = 0
 looked_at_tag (false ∷ here) = 1
 looked_at_tag (true ∷ here) = suc (looked here)
 
--- the word that a reading finds, if it finds one
+-- the word that a reading finds, if it finds one (T.4, 4.1.1 and 4.2.1)
 abbrev pub word_found : {V : Type 0} → List (Code V) → Bits → List Bits
 word_found list here = elim (read_code list here) [
   | Ok found ↦ take (length here - length found.1) here ∷ []
   | Err fault ↦ []
 ]
 
--- the word that one turn of a run finds
+-- the word that one turn of a run finds (T.4, 4.1.1)
 abbrev pub run_gives : Color → ℕ × Bits → List Bits
 run_gives color (total, here) = word_found (codes_of color) here
 
--- the words that a run finds, also where it then fails
+-- the words that a run finds, also where it then fails (T.4, 4.1.1)
 abbrev pub run_found : Color → ℕ × Bits → List Bits
 run_found color (total, here) = gathered (run_turn color) (run_gives color) (suc (length here)) (total, here)
 
--- one, where a reading ends because a word that it looked for doesn't stand there
+-- one, where a reading ends because a word that it looked for doesn't stand there (glue)
 abbrev pub missed : {T : Type 0} → Result T DecodeError → ℕ
 missed (Ok x) = 0
 missed (Err UnexpectedEof) = 1
