@@ -65,7 +65,7 @@ abbrev pub unless_fault : {A : Type 0} → Row → Result A DecodeError → Turn
 unless_fault front (Ok x) = Turn.next x
 unless_fault front (Err fault) = Turn.done (Line.broken front fault)
 
--- what a pen finds of a reading or a painting, and the words for it
+-- what a pen reads or paints, if there is no fault, and the words that it finds
 abbrev pub finds : {A : Type 0} → Pen → List Bits → Result A DecodeError → Drawing A
 finds pen words result = record { turn = unless_fault pen.front result; words = words }
 
@@ -87,12 +87,12 @@ painted strict columns pen count = finds pen [] (paint strict columns pen.front 
 abbrev pub painted_to : Bool → ℕ → Pen → ℕ → Drawing Row
 painted_to strict columns pen place = painted strict columns pen (place - length pen.front)
 
--- the place that a vertical mode names, where it is not left of the pixels painted and fits in 32 bits (T.4, 4.2.1.3)
+-- a place, where it is not left of the pixels painted and fits in 32 bits (T.4, 4.2.1.3)
 abbrev pub place_from : ℕ → ℤ → Result ℕ DecodeError
 place_from painted (pos p) = if nat_le painted p && nat_le p 4294967295 then Ok p else Err Overflow
 place_from painted (negsuc p) = Err Overflow
 
--- the place so far right of b1 (T.4, 4.2.1.3)
+-- the place that a vertical mode names: so far right of b1, or left of it (T.4, 4.2.1.3)
 abbrev pub place_by : Row → Pen → ℤ → Drawing ℕ
 place_by reference pen k = finds pen [] (place_from (length pen.front) (pos (b1 reference (right_of pen.front) pen.color) +ℤ k))
 
