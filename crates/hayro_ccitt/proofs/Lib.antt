@@ -7,6 +7,7 @@ pub mod ByEols
 pub mod ChangesAndPixels
 pub mod CodeReadings
 pub mod Damage
+pub mod Drawings
 pub mod DrawnLines
 pub mod EncodingsExist
 pub mod EolCounts

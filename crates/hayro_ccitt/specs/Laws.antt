@@ -12,14 +12,13 @@ use Rattle.hayro_ccitt.specs.CodeLists.{Code, mode_codes}
 use Rattle.hayro_ccitt.specs.CodeReading.{Has, leading_zeros, PrefixFree}
 use Rattle.hayro_ccitt.specs.Runs.{codes_of}
 use Rattle.hayro_ccitt.specs.Rows.{Row, AreChanges, pixels, changes, white_row}
-use Rattle.hayro_ccitt.specs.Lines.{Line}
 use Rattle.hayro_ccitt.specs.EndOfLine.{eols}
 use Rattle.hayro_ccitt.specs.Encodings.{EncodesRows, IsPicture, PictureT6, PictureT4}
 use Rattle.hayro_ccitt.specs.Pictures.{Allows, BeginsWithPictureT6, BeginsWithPictureT4, IsClosedPicture}
 use Rattle.hayro_ccitt.specs.Pictures.{BeginsWithRowsT6, BeginsWithRowsT4, BeginsWithRowsAndEolsT4, IsLimitedPicture}
 use Rattle.hayro_ccitt.specs.Repetition.{Reaches}
 use Rattle.hayro_ccitt.specs.PlainReading.{line_by, Progress, start_group4, move_group4, eols_group3, plain}
-use Rattle.hayro_ccitt.specs.Ticks.{tag_at, line_found}
+use Rattle.hayro_ccitt.specs.Lines.{Line, tag_at, line_found}
 use Rattle.hayro_ccitt.specs.Settings.{AreSettings}
 
 -- ---- synchronised
