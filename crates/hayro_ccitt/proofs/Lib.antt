@@ -10,7 +10,6 @@ pub mod Damage
 pub mod DrawnLines
 pub mod EncodingsExist
 pub mod EolCounts
-pub mod Examples
 pub mod Follows
 pub mod Fronts
 pub mod FullRows

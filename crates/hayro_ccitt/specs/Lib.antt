@@ -6,7 +6,6 @@ pub mod Context
 pub mod ContextView
 pub mod Encodings
 pub mod EndOfLine
-pub mod Examples
 pub mod Laws
 pub mod Lending
 pub mod Lines

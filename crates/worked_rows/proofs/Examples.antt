@@ -8,7 +8,7 @@ use Rattle.hayro_ccitt.specs.Bits.{Bits, bits_of}
 use Rattle.hayro_ccitt.specs.Rows.{Row, pixels}
 use Rattle.hayro_ccitt.specs.Lines.{Line}
 use Rattle.hayro_ccitt.specs.Encodings.{Spells, EncodesLine1D, EncodesLine2D}
-use Rattle.hayro_ccitt.specs.Examples.{hex, EncodesTwoLines, EncodesTaggedRows, with_eols, three_rows, bits_changed, bits_added, HaveLocalBodies, ReadsDamage}
+use Rattle.worked_rows.specs.Examples.{hex, EncodesTwoLines, EncodesTaggedRows, with_eols, three_rows, bits_changed, bits_added, HaveLocalBodies, ReadsDamage}
 use Rattle.hayro_ccitt.specs.Locality.{IsLocal, IsLocalByTests}
 use Rattle.hayro_ccitt.proofs.Tests.{local_by_tests}
 
