@@ -11,12 +11,12 @@ use Rattle.hayro_ccitt.specs.Bits.{Bits}
 use Rattle.hayro_ccitt.specs.Repetition.{Turn, repeated}
 use Rattle.hayro_ccitt.specs.Rows.{Row}
 use Rattle.hayro_ccitt.specs.Lines.{Line}
-use Rattle.hayro_ccitt.specs.EndOfLine.{after_eol, all_eols, tagged_eols_from, pass_last_tag}
+use Rattle.hayro_ccitt.specs.EndOfLine.{after_eol, all_eols, pass_last_tag}
 use Rattle.hayro_ccitt.specs.PlainReading.{Progress, Ending, row_before, aligned, at_end, limit_met, ends_with, line_at_group3, eols_group3, Reading}
 use Rattle.hayro_ccitt.specs.PlainReading.{after_line_group3, move_group3, ending_from, plain_group3, end_of}
 use Rattle.hayro_ccitt.specs.Encodings.{IsPicture, EncodesRows}
 use Rattle.hayro_ccitt.specs.Laws.{ReadsLimitedRowsT4}
-use Rattle.hayro_ccitt.proofs.Moves.{eols-none}
+use Rattle.hayro_ccitt.proofs.Moves.{eols-none, eols_with_tags-none}
 use Rattle.hayro_ccitt.proofs.BitLists.{length-bits_of}
 use Rattle.hayro_ccitt.proofs.PicturesT4.{Matches, matches_itself, eols_group3_one, eols_group3_two, line_t4_again, line_t4_starts, end_of_three}
 use Rattle.hayro_ccitt.proofs.Repeated.{after_turn}
@@ -35,8 +35,7 @@ no_eols : (settings : DecodeSettings) (encoding : EncodingMode) (here : Bits) �
 no_eols settings Group4 here matches none = absurd matches
 no_eols settings Group3_1D here matches none = eols_group3_one settings here matches ∙ eols-none (length here) here none
 no_eols settings Group3_2D here matches none =
-    let all : all_eols here ≡ (0, here) = eols-none (length here) here none in
-    eols_group3_two settings here matches ∙ ap (λ (f : ℕ × Bits). pass_last_tag (cond (ltb 0 f.0) (tagged_eols_from (length here) f) f)) all ∙ pass_zero here
+    eols_group3_two settings here matches ∙ ap pass_last_tag (eols_with_tags-none (length here) here none) ∙ pass_zero here
 
 some_bits : (here : Bits) → at_end here ≡ false → 0 < length here
 some_bits [] e = absurd (false≢true (sym e))

@@ -7,14 +7,14 @@ ghost use Rattle.hayro_ccitt.specs.Answers.{IsFault};
 ghost use Rattle.hayro_ccitt.specs.Bits.{here, low_bits};
 ghost use Rattle.hayro_ccitt.specs.CodeLists.{mode_codes, numbered};
 ghost use Rattle.hayro_ccitt.specs.CodeReading.{agreement, word_at, is_cut, read_code, leading_zeros};
-ghost use Rattle.hayro_ccitt.specs.EndOfLine.{after_eol, eols, all_eols};
+ghost use Rattle.hayro_ccitt.specs.EndOfLine.{after_eol, eols, all_eols, next_eol};
 ghost use Rattle.hayro_ccitt.specs.Rows.{opposite};
 ghost use Rattle.hayro_ccitt.specs.Runs.{codes_of, read_run};
 ghost use Rattle.hayro_ccitt.specs.Ticks.{run_found, missed, looked};
 
 use crate::bit_reader::BitReader;
 use crate::tables::{
-    BLACK_MAKEUP, BLACK_TERMINATING, COMMON_MAKEUP, Tables, WHITE_MAKEUP, WHITE_TERMINATING,
+    BLACK_MAKEUP, BLACK_TERMINATING, COMMON_MAKEUP, MODES, Tables, WHITE_MAKEUP, WHITE_TERMINATING,
 };
 use crate::{DecodeError, Result};
 use std::marker::Model;
@@ -97,20 +97,6 @@ impl Ticks {
         *self = next;
     }
 }
-
-/// The modes (T.4 table 4, T.6 table 1): the mode, the number of bits, and the word.
-#[rattlefmt::skip]
-const MODES: [(Mode, u8, u16); 9] = [
-    (Mode::Pass, 4, 0b0001),
-    (Mode::Horizontal, 3, 0b001),
-    (Mode::Vertical(0), 1, 0b1),
-    (Mode::Vertical(1), 3, 0b011),
-    (Mode::Vertical(2), 6, 0b000011),
-    (Mode::Vertical(3), 7, 0b0000011),
-    (Mode::Vertical(-1), 3, 0b010),
-    (Mode::Vertical(-2), 6, 0b000010),
-    (Mode::Vertical(-3), 7, 0b0000010),
-];
 
 /// How many bits of a word of this width, from its front, stand here.
 fn agreement(reader: &BitReader<'_>, width: u8, word: u16) -> u8
@@ -354,5 +340,29 @@ impl<'a> BitReader<'a> {
     {
         // an EOL takes more than one bit
         self.read_eols(self.bits_left(), ticks)
+    }
+
+    /// Moves to the start of the zeros of the next EOL at or after here (T.4 sections 4.1.2 and 4.1.3), without
+    /// reading it. Where there is none it answers false, and the place stays. It never fails. Each bit that is
+    /// looked at is a tick.
+    pub fn skip_to_eol(&mut self, ticks: &mut Ticks) -> bool
+        ensures next { next_eol (here self.old) ≡ (if result then Some (here self.new) else None) }
+        ensures stays { result ≡ false → self.new ≡ self.old }
+        ensures same_bits { self.new.bits ≡ self.old.bits }
+        ensures ticks { ticks.new + length (here self.new)
+            ≡ ticks.old + length (here self.old) + (if result then looked (here self.new) else length (here self.new)) }
+    {
+        let mut reader = self.copy();
+        'eols: loop {
+            let (zeros, after) = reader.zero_run(ticks);
+            match after {
+                Some(_) if zeros >= 11 => {
+                    *self = reader;
+                    return true;
+                }
+                Some(after) => reader = after,
+                None => return false,
+            }
+        }
     }
 }
