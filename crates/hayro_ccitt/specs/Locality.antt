@@ -1,5 +1,5 @@
 -- One-dimensional lenient data with EOLs: lines by EOLs, and how far damage reaches.
-use Rattle.std.specs.Prelude.{◌≡◌, ◌≢◌, ℕ, suc, ◌+◌, ◌-◌, ◌<◌, ◌≤◌, nat_le, ◌⊎◌, ◌↔◌, Some, None, is_some, Ok, Err}
+use Rattle.std.specs.Prelude.{◌≡◌, ◌≢◌, ℕ, suc, ◌+◌, ◌-◌, ◌<◌, ◌≤◌, nat_le, ◌⊎◌, ◌↔◌, Some, None, is_some, Result, Ok, Err}
 use Rattle.std.specs.Prelude.{Bool, true, false, not, ◌&&◌, if◌then◌else◌}
 use Rattle.std.specs.Prelude.{List, [], ◌∷◌, ◌++◌, length, take, drop, replicate, map, set, All, Contains}
 use Rattle.hayro_ccitt.specs.declared.error.DecodeError.{DecodeError}
@@ -10,7 +10,7 @@ use Rattle.hayro_ccitt.specs.Repetition.{Reaches}
 use Rattle.hayro_ccitt.specs.Rows.{Row, repaired}
 use Rattle.hayro_ccitt.specs.Lines.{Line, line_1d}
 use Rattle.hayro_ccitt.specs.EndOfLine.{after_eol, all_eols, next_eol}
-use Rattle.hayro_ccitt.specs.PlainReading.{Progress, at_end, start_group3, move_group3, end_of, plain, nothing_read}
+use Rattle.hayro_ccitt.specs.PlainReading.{Progress, at_end, start_group3, move_group3, end_of, plain}
 use Rattle.hayro_ccitt.specs.Settings.{AreSettings}
 
 -- ---- lines by EOLs
@@ -122,47 +122,56 @@ ComesToLine settings bits place index = (so_far : Progress)
     × Reaches (move_group3 settings) (start_group3 settings bits) so_far
     × (so_far.rest ≡ drop place bits) × (length so_far.rows ≡ index)
 
--- the rows are equal, but for at most the one whose line begins at a place in both data (T.4, 4.1.2)
-abbrev pub OneRowDiffers : DecodeSettings → List ℕ → List ℕ → ℕ → Type 0
-OneRowDiffers settings one two from = ((plain settings two).rows ≡ (plain settings one).rows)
+-- the rows of two data are equal, but for at most the one whose line begins at a place in both (T.4, 4.1.2)
+abbrev pub OneRowDiffers : DecodeSettings → List ℕ → List ℕ → ℕ → List Row → List Row → Type 0
+OneRowDiffers settings one two from rows others = (others ≡ rows)
     ⊎ ((index : ℕ) × (row : Row)
-    × ComesToLine settings (bits_of one) from index × ComesToLine settings (bits_of two) from index
-    × ((plain settings two).rows ≡ set (plain settings one).rows index row))
+    × ComesToLine settings (bits_of one) from index × ComesToLine settings (bits_of two) from index × (others ≡ set rows index row))
 
--- glue: the reading of some data ends without a fault at this place among their bits, and answers this count of bytes
-pub record EndsAt (settings : DecodeSettings) (bytes : List ℕ) (place count : ℕ) : Type 0 where
+-- glue: the reading of some data, which had this outcome, ended without a fault, at this place among the bits, with this
+-- count of bytes
+pub record EndsAt (settings : DecodeSettings) (bytes : List ℕ) (outcome : Result ℕ DecodeError) (place count : ℕ) : Type 0 where
   pub rest : Bits
   pub ends : (end_of settings (bits_of bytes)).outcome ≡ Ok rest
   pub place_is : place + length rest ≡ length (bits_of bytes)
-  pub count_is : (plain settings bytes).outcome ≡ Ok count
+  pub count_is : outcome ≡ Ok count
 
--- How the readings of two data end that differ in the line at a place alone (T.4, 4.1.2).
-pub data EndAlike (settings : DecodeSettings) (one two : List ℕ) (from : ℕ) : Type 0 where
+-- How the readings of two data end that differ in the line at a place alone; the first gave these rows (T.4, 4.1.2).
+pub data EndAlike (settings : DecodeSettings) (one two : List ℕ) (from : ℕ) (rows : List Row) (outcome other : Result ℕ DecodeError) : Type 0 where
   -- both with the same fault
-  faults : (fault : DecodeError) → (plain settings one).outcome ≡ Err fault → (plain settings two).outcome ≡ Err fault
-      → EndAlike settings one two from
+  faults : (fault : DecodeError) → outcome ≡ Err fault → other ≡ Err fault → EndAlike settings one two from rows outcome other
   -- both at once, without columns
-  no_columns : settings.columns ≡ 0 → plain settings one ≡ nothing_read → plain settings two ≡ nothing_read
-      → EndAlike settings one two from
+  no_columns : settings.columns ≡ 0 → outcome ≡ Ok 0 → other ≡ Ok 0 → EndAlike settings one two from rows outcome other
   -- both at one place that isn't behind the line's beginning, with one count
-  before : (place count : ℕ) → place ≤ from → EndsAt settings one place count → EndsAt settings two place count
-      → EndAlike settings one two from
+  before : (place count : ℕ) → place ≤ from → EndsAt settings one outcome place count → EndsAt settings two other place count
+      → EndAlike settings one two from rows outcome other
   -- both behind the line's beginning, as many bytes before the end of their data
   past : (place place2 count count2 : ℕ) → from < place → from < place2
-      → EndsAt settings one place count → EndsAt settings two place2 count2 → count + length two ≡ count2 + length one
-      → EndAlike settings one two from
+      → EndsAt settings one outcome place count → EndsAt settings two other place2 count2 → count + length two ≡ count2 + length one
+      → EndAlike settings one two from rows outcome other
   -- both at the limit, which the row of this very line meets, wherever the line ends
   at_limit : (index place place2 count count2 : ℕ)
       → ComesToLine settings (bits_of one) from index → ComesToLine settings (bits_of two) from index
-      → settings.rows ≡ suc index → length (plain settings one).rows ≡ suc index → from ≤ place → from ≤ place2
-      → EndsAt settings one place count → EndsAt settings two place2 count2
-      → EndAlike settings one two from
+      → settings.rows ≡ suc index → length rows ≡ suc index → from ≤ place → from ≤ place2
+      → EndsAt settings one outcome place count → EndsAt settings two other place2 count2
+      → EndAlike settings one two from rows outcome other
 
--- Where two data differ within a local body alone, all their rows but at most the one of this body are equal, and they end
--- alike (T.4, 4.1.2).
+-- Two data differ within one body alone, which is local in both; and EOLs are sought from the front on (T.4, 4.1.2).
+pub record DifferInOneBody (settings : DecodeSettings) (one two : List ℕ) (from to to2 : ℕ) : Type 0 where
+  pub before : take from (bits_of one) ≡ take from (bits_of two)
+  pub behind : drop to (bits_of one) ≡ drop to2 (bits_of two)
+  pub body : IsLocal settings (bits_of one) from to
+  pub other : IsLocal settings (bits_of two) from to2
+  pub sought : (settings.end_of_line ≡ true) ⊎ ((end : ℕ) × (end ≤ from) × IsEol (bits_of one) 0 end)
+
+-- Some data were read as these rows, with this outcome. Whatever stands in the place of one local body, all rows but at
+-- most the one of this body are those of the other data's plain reading, and both end alike (T.4, 4.1.2).
+abbrev pub DamageStaysInRow : DecodeSettings → List ℕ → List Row → Result ℕ DecodeError → Type 0
+DamageStaysInRow settings one rows outcome = (two : List ℕ) (from to to2 : ℕ) → DifferInOneBody settings one two from to to2
+    → OneRowDiffers settings one two from rows (plain settings two).rows
+    × EndAlike settings one two from rows outcome (plain settings two).outcome
+
+-- The plain reading is such a one (T.4, 4.1.2).
 abbrev pub Locality : Type 0
-Locality = (settings : DecodeSettings) (one two : List ℕ) (from to to2 : ℕ) → AreSettings settings
-    → take from (bits_of one) ≡ take from (bits_of two) → drop to (bits_of one) ≡ drop to2 (bits_of two)
-    → IsLocal settings (bits_of one) from to → IsLocal settings (bits_of two) from to2
-    → (settings.end_of_line ≡ true) ⊎ ((end : ℕ) × (end ≤ from) × IsEol (bits_of one) 0 end)
-    → OneRowDiffers settings one two from × EndAlike settings one two from
+Locality = (settings : DecodeSettings) (bytes : List ℕ) → AreSettings settings
+    → DamageStaysInRow settings bytes (plain settings bytes).rows (plain settings bytes).outcome
