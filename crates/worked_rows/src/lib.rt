@@ -6,7 +6,7 @@
 
 ghost use Rattle.std.specs.Prelude.{◌≡◌, [], ◌∷◌, Ok, Err};
 ghost use Rattle.worked_rows.specs.Examples.{reading_of, group4, group3_1d, group3_2d};
-ghost use Rattle.worked_rows.specs.Examples.{EncodesTwoLines, EncodesTaggedRows, HaveLocalBodies, ReadsDamage};
+ghost use Rattle.worked_rows.specs.Examples.{EncodesTwoLines, EncodesTaggedRows, HaveLocalBodies, ReadsDamage, LimitBehindTheBody};
 
 use hayro_ccitt::DecodeError;
 
@@ -117,8 +117,10 @@ pub fn encoding_examples()
     ensures t4 { EncodesTaggedRows }
 {}
 
-/// Locality: three bodies of which each may stand for the others, and the rows of each.
+/// Locality: four bodies of which each may stand for the others, and the rows of three; and a limit that a later row
+/// meets, where the counts still differ by as much as the lengths.
 pub fn locality_examples()
     ensures bodies { HaveLocalBodies }
     ensures damage { ReadsDamage }
+    ensures limit { LimitBehindTheBody }
 {}
