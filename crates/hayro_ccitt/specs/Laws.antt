@@ -83,7 +83,7 @@ abbrev pub has_few_zeros : ℕ → ℕ → Bits → Bool
 has_few_zeros front end word =
     list_any (λ bit. bit) word && nat_le (leading_zeros word) front && nat_le (trailing_zeros word) end && not (holds_zeros 8 word)
 
--- ---- laws over settings, of which no section of T.4 or T.6 speaks
+-- ---- glue: settings with one field changed
 
 -- the same settings, but strict
 abbrev pub strictly : DecodeSettings → DecodeSettings
@@ -96,6 +96,8 @@ leniently settings = record settings { strict = false }
 -- the same settings, but with this limit of rows
 abbrev pub limited : ℕ → DecodeSettings → DecodeSettings
 limited limit settings = record settings { rows = limit }
+
+-- ---- laws over settings, of which no section of T.4 or T.6 speaks
 
 -- The strict reading's rows are the first of the lenient one's; where it ends without a fault, both answer the same.
 abbrev pub StrictThenLenient : Type 0
