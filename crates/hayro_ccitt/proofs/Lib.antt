@@ -11,7 +11,6 @@ pub mod Drawings
 pub mod DrawnLines
 pub mod EncodingsExist
 pub mod EolCounts
-pub mod Examples
 pub mod Follows
 pub mod Fronts
 pub mod FullRows
