@@ -43,8 +43,7 @@ line_2d_full strict columns reference here =
     drawn_full columns (step_2d strict columns reference)
     (λ p. try p.front (read_code mode_codes p.rest) (λ mode. mode_step strict columns reference (record p { rest = mode.1 }) mode.0))
     (λ p. try_goes_on p.front (read_code mode_codes p.rest) _ (λ mode. draw_mode_goes_on strict columns reference (record p { rest = mode.1 }) mode.0))
-<<<<<<<
-    (λ p. refl) (start here)
+    (λ p. step_2d_is strict columns reference p) (start here)
 
 -- and so is each line of Group 3
 pub line_by_full : (encoding : EncodingMode) (strict : Bool) (columns : ℕ) (reference : Row) (here : Bits) → IsFull columns (line_by encoding strict columns reference here)
@@ -58,6 +57,3 @@ line_by_full Group4 strict columns reference here = line_2d_full strict columns 
 pub repaired_full : (columns : ℕ) (front : Row) → columns ≤ length (repaired columns front)
 repaired_full columns front =
     omega (arith, length-append front (replicate (columns - length front) false), length-replicate (columns - length front) false)
-=======
-    (λ p. step_2d_is strict columns reference p) (start here)
->>>>>>>
