@@ -207,6 +207,7 @@ module _ {M : Type 0} (step : M → List ℕ → M) (before after : SinkState M)
         no_memory InvalidCode f e = cc
         no_memory Overflow f e = cc
         no_memory Refused f e = f
+
         no_refusal : (fault : DecodeError) → IsFault fault → ◌≡◌ {A = Result Bits DecodeError} (Err fault) (Err Refused) → ⊥
         no_refusal OutOfMemory f e = f
         no_refusal UnexpectedEof f e = cc

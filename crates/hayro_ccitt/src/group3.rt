@@ -152,7 +152,7 @@ fn read_row<D: Decoder>(
     ensures width { D.width decoder.new ≡ D.width decoder.old }
     ensures row { TakesOneRow (line_at_group3 ctx.old.held.settings ctx.old.held.reference (here reader.old))
         (row_group3 ctx.old.held.settings ctx.old.held.has_eols (here reader.old)
-            (line_at_group3 ctx.old.held.settings ctx.old.held.reference (here reader.old)))
+        (line_at_group3 ctx.old.held.settings ctx.old.held.reference (here reader.old)))
         (D.step (D.width decoder.old))
         (record { meaning = D.meaning decoder.old; refused = D.has_refused decoder.old })
         (record { meaning = D.meaning decoder.new; refused = D.has_refused decoder.new })
