@@ -3,6 +3,7 @@ pub mod Alike
 pub mod BitLists
 pub mod BitPlaces
 pub mod BodiesT4
+pub mod BodyTests
 pub mod ByEols
 pub mod ChangesAndPixels
 pub mod CodeReadings

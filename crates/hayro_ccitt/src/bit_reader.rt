@@ -41,6 +41,15 @@ impl<'a> BitReader<'a> {
         BitReader { data, place: 0 }
     }
 
+    /// A reader at a place among the bits.
+    pub(crate) fn starting_at(data: &'a [u8], place: usize) -> BitReader<'a>
+        requires fit { BitsFit «data».now }
+        requires within { place ≤ 8 * length «data».now }
+        ensures { result ≡ record { bits = bits_of «data».now; place = place } }
+    {
+        BitReader { data, place }
+    }
+
     /// The next bit. At the end it is `UnexpectedEof`, and the place stays.
     pub fn read_bit(&mut self) -> Result<u32>
         ensures bit { IfOk result (λ bit. (bit ≤ 1) × (slice_get self.old.bits self.old.place ≡ Some (bit == 1))) }
