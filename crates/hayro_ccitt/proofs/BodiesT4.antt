@@ -15,7 +15,7 @@ use Rattle.hayro_ccitt.specs.EndOfLine.{after_eol, all_eols, pass_last_tag}
 use Rattle.hayro_ccitt.specs.PlainReading.{Progress, Ending, row_before, aligned, at_end, limit_met, ends_with, line_at_group3, eols_group3, Reading}
 use Rattle.hayro_ccitt.specs.PlainReading.{after_line_group3, move_group3, ending_from, plain_group3, end_of}
 use Rattle.hayro_ccitt.specs.Encodings.{IsPicture, EncodesRows}
-use Rattle.hayro_ccitt.specs.Laws.{Matches, ReadsLimitedRowsT4}
+use Rattle.hayro_ccitt.specs.Laws.{ReadsLimitedRowsT4}
 use Rattle.hayro_ccitt.proofs.Moves.{eols-none, eols_with_tags-none}
 use Rattle.hayro_ccitt.proofs.BitLists.{length-bits_of}
 use Rattle.hayro_ccitt.proofs.PicturesT4.{Matches, matches_itself, eols_group3_one, eols_group3_two, line_t4_again, line_t4_starts, end_of_three}

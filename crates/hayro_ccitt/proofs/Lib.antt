@@ -47,6 +47,7 @@ pub mod Tails
 pub mod Tests
 pub mod TickTurns
 pub mod Turns
+pub mod UnreadRows
 pub mod WordsFound
 pub mod ZeroRuns
 pub mod ZerosInWords

@@ -24,7 +24,7 @@ use Rattle.hayro_ccitt.specs.PlainReading.{after_line_group3, move_group3, endin
 use Rattle.hayro_ccitt.specs.PlainReading.{end_of}
 use Rattle.hayro_ccitt.specs.Encodings.{Spells, EncodesLine1D, EncodesLine2D, EncodesLine, eol, tag_of, IsPicture, EncodesRowsWithEols}
 use Rattle.hayro_ccitt.specs.Encodings.{ClosesWithEols, PictureT4}
-use Rattle.hayro_ccitt.specs.Laws.{each_word, Allows, Matches, ReadsPictureT4, ReadsLimitedPictureT4, OnePictureT4}
+use Rattle.hayro_ccitt.specs.Laws.{each_word, ReadsPictureT4, ReadsLimitedPictureT4, OnePictureT4}
 use Rattle.hayro_ccitt.proofs.Moves.{eols-none, one_more-count, eol_of, eols_with_tags-some, eols_with_tags-none, last_tag_count}
 use Rattle.hayro_ccitt.specs.Pictures.{Allows}
 use Rattle.hayro_ccitt.proofs.Repeated.{after_turn}
