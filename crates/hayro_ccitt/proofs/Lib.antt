@@ -43,6 +43,7 @@ pub mod SoughtEols
 pub mod Starts
 pub mod Strictness
 pub mod TablesAgree
+pub mod TaggedEols
 pub mod Tails
 pub mod Tests
 pub mod TickTurns

@@ -1,8 +1,8 @@
 -- Each line of a run moves the place on.
-use Rattle.std.proofs.Common.{◌≡◌, ℕ, zero, suc, ◌+◌, ◌-◌, ◌%◌, ◌<◌, ◌≤◌, Bool, true, false, cond, not, ◌&&◌, ◌||◌, eqb, ltb, leb, [], ◌∷◌, ◌++◌}
+use Rattle.std.proofs.Common.{◌≡◌, ℕ, zero, suc, ◌+◌, ◌-◌, ◌%◌, ◌<◌, ◌≤◌, Bool, true, false, cond, not, ◌&&◌, ◌||◌, eqb, leb, [], ◌∷◌, ◌++◌}
 use Rattle.std.proofs.Common.{length, replicate, Option, Some, None, Result, Ok, Err, refl, sym, ap, subst, ◌∙◌, arith, ◌⊎◌, inl, inr}
 use Rattle.std.proofs.lemmas.List.{length-drop}
-use Rattle.std.proofs.lemmas.Bool.{cases_lt, not-false, and_parts, and_cases, or_parts, false≢true, lt-ltb, le-leb, ltb-true, ltb-false, eqb-false}
+use Rattle.std.proofs.lemmas.Bool.{cases_lt, not-false, and_parts, and_cases, or_parts, false≢true, le-leb, eqb-false}
 use Rattle.hayro_ccitt.specs.declared.error.DecodeError.{DecodeError}
 use Rattle.hayro_ccitt.specs.declared.settings.DecodeSettings.{DecodeSettings}
 use Rattle.hayro_ccitt.specs.Bits.{Bits}
@@ -217,7 +217,7 @@ tagged_eols_counted here =
     let found : ℕ × Bits = eols_with_tags (length here) here in (
       omega (arith, last_tag_shorter found, eols_with_tags_shorter (length here) here),
       λ some. let counts : 0 < found.0 = omega (arith, last_tag_count found, some) in
-      omega (arith, last_tag_shorter found, eols_with_tags_moves (length here) here counts),
+          omega (arith, last_tag_shorter found, eols_with_tags_moves (length here) here counts),
     )
 
 -- so many EOLs took bits

@@ -1,5 +1,5 @@
 -- The laws of the plain reading.
-use Rattle.std.specs.Prelude.{◌≡◌, ◌≢◌, ℕ, ◌+◌, ◌-◌, ◌/◌, ◌^◌, ◌<◌, Bool, true, false, not, ◌&&◌, ◌||◌, nat_le, ◌⊎◌, Ok, IsOk}
+use Rattle.std.specs.Prelude.{◌≡◌, ◌≢◌, ℕ, ◌+◌, ◌-◌, ◌/◌, ◌^◌, ◌<◌, Bool, true, false, not, ◌&&◌, ◌||◌, nat_le, ◌⊎◌, Ok, IsOk, ◌≤◌}
 use Rattle.std.specs.Prelude.{List, [], ◌∷◌, ◌++◌, length, take, replicate, reverse, All}
 use Rattle.std.specs.List.{list_all, list_any}
 use Rattle.hayro_ccitt.specs.declared.codes.Color.{Color}

@@ -1,5 +1,5 @@
 -- The plain reading of whole data: rows, and how it ends.
-use Rattle.std.specs.Prelude.{ℕ, suc, ◌+◌, ◌-◌, ◌/◌, ◌%◌, Bool, true, false, not, ◌&&◌, ◌||◌, List, [], ◌∷◌, ◌++◌, length, drop, replicate, nat_le, nat_lt, ◌==◌, Option, Some, None, Result, Ok, Err, if◌then◌else◌}
+use Rattle.std.specs.Prelude.{ℕ, suc, ◌+◌, ◌-◌, ◌/◌, ◌%◌, Bool, true, false, not, ◌&&◌, ◌||◌, List, [], ◌∷◌, ◌++◌, length, drop, nat_le, nat_lt, ◌==◌, Option, Some, None, Result, Ok, Err, if◌then◌else◌}
 use Rattle.hayro_ccitt.specs.declared.error.DecodeError.{DecodeError}
 use Rattle.hayro_ccitt.specs.declared.error.DecodeError.TheVariants.{UnexpectedEof, InvalidCode}
 use Rattle.hayro_ccitt.specs.declared.settings.EncodingMode.{EncodingMode}
@@ -72,12 +72,14 @@ abbrev pub eols_group3 : DecodeSettings → Bits → ℕ × Bits
 eols_group3 settings here = eols_by settings.encoding here
 
 -- EOLs were counted behind so many rows of Group 3: six of them with `end_of_block`, which are RTC, end the reading, and
--- so do the limit and the end of the data; else a line stands behind them (T.4, 4.1.4)
+-- so do the limit and the end of the data (T.4, 4.1.4)
+abbrev pub is_over_group3 : DecodeSettings → ℕ → ℕ × Bits → Bool
+is_over_group3 settings taken (count, rest) = (settings.end_of_block && nat_le 6 count) || limit_met settings taken || at_end rest
+
+-- behind these EOLs of Group 3 a line stands, unless the reading is over (T.4, 4.1.4)
 abbrev pub behind_eols_group3 : DecodeSettings → ℕ → Bool → ℕ × Bits → Gap
 behind_eols_group3 settings taken has_eols (count, rest) =
-    if (settings.end_of_block && nat_le 6 count) || limit_met settings taken || at_end rest
-    then Gap.over (Ok rest)
-    else Gap.line_at has_eols rest
+    if is_over_group3 settings taken (count, rest) then Gap.over (Ok rest) else Gap.line_at has_eols rest
 
 -- The next EOL was looked for. The EOLs that stand there are counted; where there is none, a line stands here, and EOLs
 -- are given up (T.4, 4.1.2).
