@@ -147,7 +147,7 @@ impl<'a> BitReader<'a> {
 
     /// The same bits at the same place.
     pub(crate) fn copy(&self) -> BitReader<'a>
-        ensures same { result ≡ self.now }
+        ensures value { result ≡ self.now }
         ensures fit { length self.now.bits + 64 < 2 ^ 64 }
     {
         BitReader {

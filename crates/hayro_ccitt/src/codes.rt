@@ -314,7 +314,7 @@ impl<'a> BitReader<'a> {
     /// many there were. It never fails. Each bit that is looked at is a tick.
     pub fn read_eols(&mut self, max: usize, ticks: &mut Ticks) -> usize
         ensures eols { eols max (here self.old) ≡ (result, here self.new) }
-        ensures same { self.new.bits ≡ self.old.bits }
+        ensures same_bits { self.new.bits ≡ self.old.bits }
         ensures ticks { ticks.new + length (here self.new)
             ≡ ticks.old + length (here self.old) + (if result == max then 0 else looked (here self.new)) }
     {
