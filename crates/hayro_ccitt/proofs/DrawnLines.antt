@@ -334,5 +334,5 @@ first_run_fails held rest left e draws =
 pub record IsDrawnSoFar (step : Pen → Step) (before now : Context) (begun at : BitsAt) : Type 0 where
   pub line : drawn_by step (pen_of now.held (here at)) ≡ drawn_by step (start (here begun))
   pub held : now.held ≡ redrawn before.held now.held.front now.held.color
-  pub same : at.bits ≡ begun.bits
+  pub same_bits : at.bits ≡ begun.bits
   pub counts : before.ticks ≤ now.ticks

@@ -28,7 +28,7 @@ runs-preserved c =
     record {
       line = sym (line ∙ ap (after_turn (drawn_by (step_1d before.settings.strict before.settings.columns))) drawing.step);
       held = drawing.held ∙ ap (λ (h : Held). redrawn h new.front new.color) so_far.held;
-      same = drawing.same ∙ so_far.same;
+      same_bits = drawing.same_bits ∙ so_far.same_bits;
       counts = omega (arith, drawing.counts, so_far.counts);
     }
 

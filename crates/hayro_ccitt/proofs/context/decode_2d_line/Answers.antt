@@ -38,7 +38,7 @@ modes-preserved c =
     record {
       line = sym (line ∙ ap (after_turn (drawn_by (step_2d before.settings.strict before.settings.columns before.reference))) draws);
       held = kept ∙ ap (λ (h : Held). redrawn h new.front new.color) so_far.held;
-      same = drawing.same ∙ c.in_ok-mode.ensures.same ∙ so_far.same;
+      same_bits = drawing.same_bits ∙ c.in_ok-mode.ensures.same_bits ∙ so_far.same_bits;
       counts = omega (arith, drawing.counts, c.in_ok-mode.ensures.ticks, so_far.counts, ticks);
     }
 
