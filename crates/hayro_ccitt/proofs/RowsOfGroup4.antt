@@ -53,50 +53,53 @@ abbrev pub TakesRowGroup4 : {M : Type 0} → (M → List ℕ → M) → SinkStat
 TakesRowGroup4 step now after held rest new answer left_over =
     TakesOneRow (line_from_2d held rest) (row_group4 held.settings (line_from_2d held rest)) step now after held new answer left_over
 
-module _ {M : Type 0} (settings : DecodeSettings) (wide : 0 < settings.columns) (bits : Bits) (step : M → List ℕ → M) (before now : SinkState M) (held : Held) (here : Bits)
-    (between : Between (move_group4 settings) (lines_of_move_group4 settings) left (start_group4 bits) settings step before now held here) where
+module _ {M : Type 0} (settings : DecodeSettings) (wide : 0 < settings.columns) (bits : Bits) (step_of : ℕ → M → List ℕ → M) (width : ℕ) (before now : SinkState M) (held : Held) (here : Bits)
+    (between : Between (move_group4 settings) (lines_of_move_group4 settings) left (start_group4 bits) settings (step_of width) before now held here)
+    (over : Bool) (rest : Bits) (said : gap_group4 held.settings held.taken held.has_eols here ≡ gap_said (Ok over) held.has_eols rest) where
   abbrev so_far : Progress
   so_far = between.so_far
 
+  abbrev step : M → List ℕ → M
+  step = step_of width
+
   -- what was said of the gap is what the definition says there
-  gap_is : (over : Bool) (rest : Bits) → gap_group4 held.settings held.taken held.has_eols here ≡ gap_said (Ok over) held.has_eols rest
-      → gap_group4 settings (length so_far.rows) so_far.has_eols so_far.rest ≡ gap_said (Ok over) so_far.has_eols rest
-  gap_is over rest said =
+  gap_is : gap_group4 settings (length so_far.rows) so_far.has_eols so_far.rest ≡ gap_said (Ok over) so_far.has_eols rest
+  gap_is =
       ap (gap_group4 settings (length so_far.rows) so_far.has_eols) (sym between.here)
       ∙ ap (λ (h : Held). gap_group4 h.settings h.taken h.has_eols here) (sym between.held) ∙ said
       ∙ ap (λ (h : Held). gap_said (Ok over) h.has_eols rest) between.held
 
   -- where it is over, all rows were taken
-  pub ends_group4 : (over : Bool) (rest : Bits) → gap_group4 held.settings held.taken held.has_eols here ≡ gap_said (Ok over) held.has_eols rest → over ≡ true
-      → Leaves (plain_group4 settings bits) (lines_by Group4 settings bits) step before now held (Ok rest)
-  ends_group4 over rest said is =
+  pub ends_group4 : over ≡ true → Leaves (plain_group4 settings bits) (lines_by Group4 settings bits) step before now held (Ok rest)
+  ends_group4 is =
       let gap : gap_group4 settings (length so_far.rows) so_far.has_eols so_far.rest ≡ Gap.over (Ok rest)
-      = gap_is over rest said ∙ ap (λ (b : Bool). gap_said (Ok b) so_far.has_eols rest) is in
+      = gap_is ∙ ap (λ (b : Bool). gap_said (Ok b) so_far.has_eols rest) is in
       let end : Ending = record { rows = so_far.rows; has_eols = so_far.has_eols; outcome = Ok rest } in
       between_ends (move_group4 settings) (lines_of_move_group4 settings) left (by_rows_group4 settings wide) (start_group4 bits) refl settings step before now held here between
       end held (over_group4 settings so_far (Ok rest) gap) refl refl (ap (λ (h : Held). h.has_eols) (sym between.held)) rest refl
 
-  module _ (over : Bool) (rest : Bits) (said : gap_group4 held.settings held.taken held.has_eols here ≡ gap_said (Ok over) held.has_eols rest) (on : over ≡ false)
-      (after : SinkState M) (new : Held) (left_over : Bits) where
+  module _ (on : over ≡ false) (now_held : Held) (same_held : now_held ≡ held) (now_width : ℕ) (same_width : now_width ≡ width) (after : SinkState M) (new : Held) (left_over : Bits) where
     gap : gap_group4 settings (length so_far.rows) so_far.has_eols so_far.rest ≡ Gap.line_at so_far.has_eols rest
-    gap = gap_is over rest said ∙ ap (λ (b : Bool). gap_said (Ok b) so_far.has_eols rest) on
+    gap = gap_is ∙ ap (λ (b : Bool). gap_said (Ok b) so_far.has_eols rest) on
 
     abbrev line : Line
     line = line_group4 settings so_far rest
 
-    takes_is : (answer : Result (Unit {0}) DecodeError) → TakesRowGroup4 step now after held rest new answer left_over
+    takes_is : (answer : Result (Unit {0}) DecodeError) → TakesRowGroup4 (step_of now_width) now after now_held rest new answer left_over
         → TakesOneRow line (row_group4 settings line) step now after held new answer left_over
     takes_is answer takes =
-        subst (λ (h : Held). TakesOneRow (line_from_2d h rest) (row_group4 h.settings (line_from_2d h rest)) step now after held new answer left_over) between.held takes
+        let wider : TakesRowGroup4 step now after held rest new answer left_over = subst (λ (h : Held). TakesRowGroup4 step now after h rest new answer left_over) same_held
+        (subst (λ (w : ℕ). TakesRowGroup4 (step_of w) now after now_held rest new answer left_over) same_width takes) in
+        subst (λ (h : Held). TakesOneRow (line_from_2d h rest) (row_group4 h.settings (line_from_2d h rest)) step now after held new answer left_over) between.held wider
 
     -- a row that isn't taken ends the run
-    pub fails_group4 : (e : DecodeError) → TakesRowGroup4 step now after held rest new (Err e) left_over
+    pub fails_group4 : (e : DecodeError) → TakesRowGroup4 (step_of now_width) now after now_held rest new (Err e) left_over
         → Leaves (plain_group4 settings bits) (lines_by Group4 settings bits) step before after new (Err e)
     fails_group4 e takes =
         row_fails (move_group4 settings) (lines_of_move_group4 settings) left (by_rows_group4 settings wide) (start_group4 bits) refl settings step before now held here between
         line (row_group4 settings line) (reads_row_group4 settings so_far so_far.has_eols rest gap) after new left_over e (takes_is (Err e) takes)
 
-    module _ (takes : TakesRowGroup4 step now after held rest new (Ok tt) left_over) where
+    module _ (takes : TakesRowGroup4 (step_of now_width) now after now_held rest new (Ok tt) left_over) where
       abbrev taken : RowIsTaken (row_group4 settings line) step now after held new left_over
       taken = (takes_is (Ok tt) takes).taken
 
@@ -118,6 +121,10 @@ module _ {M : Type 0} (settings : DecodeSettings) (wide : 0 < settings.columns) 
         refused = takes.no_flag (λ e. cc) ∙ between.refused;
       }
 
-      -- where less is left
+      -- no EOLs are sought there either
+      pub next_eols : new.has_eols ≡ held.has_eols
+      next_eols = ap (λ (h : Held). h.has_eols) taken.held
+
+      -- and less is left
       pub next_shorter : length left_over < length here
       next_shorter = let less = move_group4_shrinks settings wide so_far next goes_on in omega (arith, less, ap length between.here)
