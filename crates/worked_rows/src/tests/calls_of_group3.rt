@@ -45,22 +45,33 @@ fn reads_eols_with_tags(rt: HostRuntime) -> std::result::Result<(), Fail> {
     Ok(())
 }
 
+/// No EOLs, no memory, a refusal.
+#[test]
+fn leaves_errors_as_they_are(rt: HostRuntime) -> std::result::Result<(), Fail> {
+    let mut ctx = DecoderContext::new(rt.alloc(), group_3_1d(8, 0, ""))?;
+    let data = [0x8C];
+    assert!(rt; bits_fit(&data));
+    let mut reader = BitReader::new(&data);
+    assert_eq!(rt; reader.read_bit(), Ok(1));
+    for (has_eols, error) in [(false, UnexpectedEof), (true, OutOfMemory), (true, Refused)] {
+        ctx.set_has_eols(has_eols);
+        let start = BitReader::new(&data);
+        let recovered = recover(&mut ctx, &mut reader, start, error);
+        assert_eq!(rt; (recovered, reader.bit_pos()), (Err(error), 1));
+    }
+    Ok(())
+}
+
 /// White 3, black 2, and a front of a white run.
 #[test]
 fn repairs_lines(rt: HostRuntime) -> std::result::Result<(), Fail> {
-    let mut ctx = DecoderContext::new(rt.alloc(), group_3_1d(8, 0, ""))?;
+    let mut ctx = DecoderContext::new(rt.alloc(), group_3_1d(8, 0, "l"))?;
     let mut sink = sink_of(rt.alloc(), 8, 2);
     let data = [0x8C];
     assert!(rt; bits_fit(&data));
     let mut reader = BitReader::new(&data);
-    assert_eq!(rt; decode_1d_line(&mut ctx, &mut reader), Err(UnexpectedEof));
-    for error in [UnexpectedEof, OutOfMemory, Refused] {
-        let start = BitReader::new(&data);
-        ctx.set_has_eols(error != UnexpectedEof);
-        let recovered = recover(&mut ctx, &mut reader, start, error);
-        assert_eq!(rt; recovered, Err(error));
-    }
     ctx.set_has_eols(true);
+    assert_eq!(rt; decode_1d_line(&mut ctx, &mut reader), Err(UnexpectedEof));
     let start = BitReader::new(&data);
     let recovered = recover(&mut ctx, &mut reader, start, UnexpectedEof);
     assert_eq!(rt; (recovered, reader.bit_pos()), (Ok(()), 0));
