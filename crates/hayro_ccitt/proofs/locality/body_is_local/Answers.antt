@@ -1,9 +1,9 @@
-use Rattle.std.proofs.Common.{◌≡◌, ◌<◌, ◌≤◌, ◌*◌, Bool, length, drop, Some, IsTrue, sym, ap, ◌∙◌, arith}
-use Rattle.std.specs.Prelude.{◌↔◌, is_some, IfOk}
+use Rattle.std.proofs.Common.{◌≤◌, Bool, length, drop, IsTrue, sym, ap, ◌∙◌, arith}
+use Rattle.std.specs.Prelude.{◌↔◌, is_some}
 use Rattle.std.proofs.lemmas.Bool.{false≢true}
 use Rattle.std.proofs.lemmas.Result.{IfOk-weaker}
 use Rattle.hayro_ccitt.specs.declared.settings.DecodeSettings.{DecodeSettings}
-use Rattle.hayro_ccitt.specs.Bits.{Bits, bits_of}
+use Rattle.hayro_ccitt.specs.Bits.{bits_of}
 use Rattle.hayro_ccitt.specs.Locality.{IsLocal, EndsBefore}
 use Rattle.hayro_ccitt.proofs.BitLists.{length-bits_of}
 use Rattle.hayro_ccitt.proofs.BodyTests.{local_by_end, tests_of}

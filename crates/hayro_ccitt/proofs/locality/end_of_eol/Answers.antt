@@ -1,5 +1,5 @@
-use Rattle.std.proofs.Common.{◌≡◌, ◌*◌, ap, ◌∙◌, length, arith}
-use Rattle.hayro_ccitt.specs.Bits.{BitsAt, bits_of}
+use Rattle.std.proofs.Common.{ap, ◌∙◌, length, arith}
+use Rattle.hayro_ccitt.specs.Bits.{BitsAt}
 use Rattle.hayro_ccitt.proofs.BitLists.{length-bits_of}
 use Rattle.hayro_ccitt.proofs.locality.end_of_eol.Goals as goal
 

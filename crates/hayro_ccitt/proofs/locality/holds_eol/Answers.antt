@@ -1,4 +1,5 @@
-use Rattle.std.proofs.Common.{◌≡◌, ℕ, ◌+◌, ◌-◌, ◌*◌, ◌≤◌, Bool, leb, length, drop, Option, Some, None, sym, ap, ◌∙◌, arith}
+use Rattle.std.proofs.Common.{◌≡◌, ℕ, ◌-◌, length, drop, Option, Some, None, sym, ap, ◌∙◌, arith}
+use Rattle.std.proofs.lemmas.Option.{none-some}
 use Rattle.hayro_ccitt.specs.Bits.{Bits, BitsAt, bits_of, here}
 use Rattle.hayro_ccitt.specs.EndOfLine.{after_eol, next_eol}
 use Rattle.hayro_ccitt.proofs.BitLists.{length-bits_of}
@@ -40,4 +41,5 @@ returns-in-None c =
     ∙ ap (λ (n : ℕ). drop n bits) (sym c.bit_pos.ensures.place) in
     let stands = next_eol_found (here c.starting_at-reader.result) (here c.skip_to_eol.new.self) next in
     let none = rw c.in-None.is at c.end_of_eol.ensures.end in
-    absurd (let both : ◌≡◌ {A = Option Bits} None (Some stands.1.0) = sym none ∙ ap (after_eol 0) (sym found) ∙ stands.1.1 in cc)
+    let nothing : after_eol 0 (here c.skip_to_eol.new.self) ≡ None = ap (after_eol 0) found ∙ none in
+    absurd (none-some stands.1.0 (sym nothing ∙ stands.1.1))

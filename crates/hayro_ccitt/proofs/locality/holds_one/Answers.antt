@@ -1,4 +1,4 @@
-use Rattle.std.proofs.Common.{◌≡◌, ◌-◌, ◌≤◌, ap, ◌∙◌, length, drop, arith}
+use Rattle.std.proofs.Common.{◌-◌, ◌≤◌, ap, ◌∙◌, length, drop, arith}
 use Rattle.std.proofs.lemmas.List.{length-drop}
 use Rattle.hayro_ccitt.specs.Bits.{BitsAt, bits_of, here}
 use Rattle.hayro_ccitt.specs.CodeReading.{leading_zeros}

@@ -1,4 +1,4 @@
-use Rattle.std.proofs.Common.{◌≡◌, ◌-◌, ◌≤◌, length, drop, sym, ap, ◌∙◌, arith}
+use Rattle.std.proofs.Common.{◌≤◌, length, sym, ap, ◌∙◌, arith}
 use Rattle.hayro_ccitt.specs.Bits.{BitsAt, bits_of, here}
 use Rattle.hayro_ccitt.specs.EndOfLine.{after_eol}
 use Rattle.hayro_ccitt.proofs.BitLists.{length-bits_of}
