@@ -1,5 +1,5 @@
 -- The turns of the plain reading with the rows so far in hand: what stands between rows, over a state and not over numbers.
-use Rattle.std.proofs.Common.{◌≡◌, ℕ, ◌-◌, Bool, true, false, cond, not, ◌&&◌, ◌||◌, eqb, leb, List, [], ◌∷◌, ◌++◌, length, Option, Some, None, Result, Ok, Err, refl, sym, ap, ◌∙◌}
+use Rattle.std.proofs.Common.{◌≡◌, ℕ, Bool, true, false, cond, not, ◌&&◌, ◌||◌, eqb, leb, length, Option, Some, None, Ok, Err, refl, sym, ap, ◌∙◌}
 use Rattle.std.proofs.lemmas.Bool.{and_parts}
 use Rattle.hayro_ccitt.specs.declared.error.DecodeError.TheVariants.{InvalidCode}
 use Rattle.hayro_ccitt.specs.declared.settings.DecodeSettings.{DecodeSettings}
@@ -9,7 +9,7 @@ use Rattle.hayro_ccitt.specs.Rows.{Row, repaired}
 use Rattle.hayro_ccitt.specs.Lines.{Line}
 use Rattle.hayro_ccitt.specs.EndOfLine.{next_eol}
 use Rattle.hayro_ccitt.specs.Repetition.{Turn}
-use Rattle.hayro_ccitt.specs.PlainReading.{Progress, Gap, with_row, behind_row, add_row_group3, after_line_group3, Move, at_end, limit_met, is_over_group4, eols_group4, eols_group3, gap_group3, gap_group4, behind_eols_group3, behind_eols_group4, from_next_eol, missing_eol, ends_with, line_group4, after_line_group4, at_gap_group4, at_gap_group3, move_behind_row, move_group4}
+use Rattle.hayro_ccitt.specs.PlainReading.{Progress, Gap, with_row, behind_row, add_row_group3, after_line_group3, Move, at_end, limit_met, is_over_group4, eols_group4, eols_group3, behind_eols_group3, behind_eols_group4, from_next_eol, missing_eol, ends_with, line_group4, after_line_group4, at_gap_group4, at_gap_group3, move_behind_row, move_group4}
 
 -- EOLs were counted behind the rows so far
 abbrev pub unless_over : DecodeSettings → Progress → ℕ × Bits → Move

@@ -55,7 +55,7 @@ impl<'a> BitReader<'a> {
         ensures bit { IfOk result (λ bit. (bit ≤ 1) × (slice_get self.old.bits self.old.place ≡ Some (bit == 1))) }
         ensures next { OnOk result (self.new ≡ record self.old { place = self.old.place + 1 }) }
         ensures end { IsErr result ↔ (length self.old.bits ≤ self.old.place) }
-        ensures stays { OnErr result (self.new ≡ self.old) }
+        ensures unchanged { OnErr result (self.new ≡ self.old) }
         ensures only_end { IsOkUnless result DecodeError.UnexpectedEof }
     {
         match bit_at(self.data, self.place) {
@@ -149,14 +149,14 @@ impl<'a> BitReader<'a> {
     pub(crate) fn pass(&mut self, width: u8)
         requires { width ≤ length (here self.old) }
         ensures rest { here self.new ≡ drop width (here self.old) }
-        ensures same { self.new.bits ≡ self.old.bits }
+        ensures same_bits { self.new.bits ≡ self.old.bits }
     {
         self.place += usize::from(width);
     }
 
     /// The same bits at the same place.
     pub(crate) fn copy(&self) -> BitReader<'a>
-        ensures same { result ≡ self.now }
+        ensures value { result ≡ self.now }
         ensures fit { length self.now.bits + 64 < 2 ^ 64 }
     {
         BitReader {
