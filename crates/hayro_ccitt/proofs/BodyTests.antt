@@ -139,7 +139,7 @@ no_eol_in_front m here none = found_ends (take m here) ∙ by (past 0 (take m he
         cc)
 
 -- the next EOL stands in the first bits if it ends there
-pub eol_in_front : (m : ℕ) (here found after : Bits) → next_eol here ≡ Some found → after_eol 0 found ≡ Some after
+eol_in_front : (m : ℕ) (here found after : Bits) → next_eol here ≡ Some found → after_eol 0 found ≡ Some after
     → is_some (next_eol (take m here)) ≡ leb (length (drop m here)) (length after)
 eol_in_front m here found after next eol = found_ends (take m here) ∙ by (past 0 (take m here)) refl
   where
