@@ -3,6 +3,7 @@ use Rattle.std.proofs.Common.{◌≡◌, ◌≢◌, ℕ, zero, suc, ◌+◌, ◌
 use Rattle.std.proofs.Common.{replicate, Option, Some, None, Err, IsTrue, refl, sym, ap, subst, ◌∙◌, arith, inl, inr}
 use Rattle.std.specs.Prelude.{◌↔◌, is_some}
 use Rattle.std.proofs.lemmas.Bool.{cases_lt, lt-ltb, le-leb, lt-leb, ltb-true, leb-true, eqb-true, eq-eqb, false≢true}
+use Rattle.std.proofs.lemmas.Option.{none-some}
 use Rattle.std.proofs.lemmas.List.{length-append, length-replicate, length-drop, take-append-drop, drop-drop}
 use Rattle.hayro_ccitt.specs.declared.error.DecodeError.{DecodeError}
 use Rattle.hayro_ccitt.specs.declared.error.DecodeError.TheVariants.{UnexpectedEof, InvalidCode, Overflow, OutOfMemory, Refused}
@@ -138,7 +139,7 @@ no_eol_in_front m here none = found_ends (take m here) ∙ by (past 0 (take m he
         cc)
 
 -- the next EOL stands in the first bits if it ends there
-pub eol_in_front : (m : ℕ) (here found after : Bits) → next_eol here ≡ Some found → after_eol 0 found ≡ Some after
+eol_in_front : (m : ℕ) (here found after : Bits) → next_eol here ≡ Some found → after_eol 0 found ≡ Some after
     → is_some (next_eol (take m here)) ≡ leb (length (drop m here)) (length after)
 eol_in_front m here found after next eol = found_ends (take m here) ∙ by (past 0 (take m here)) refl
   where
@@ -168,6 +169,10 @@ eol_by_ends bits from to end found order within le next eol =
           let nearer : length (drop to bits) ≤ length (drop end bits) = omega (arith, length-drop end bits, length-drop to bits, ge) in
           rw (le-leb (length (drop to bits)) (length (drop end bits)) nearer, le-leb end to ge) refl
     ]
+
+-- the next EOL, where one is found, stands there
+pub eol_found_stands : (here found : Bits) → next_eol here ≡ Some found → after_eol 0 found ≡ None → ⊥
+eol_found_stands here found next none = let stands = next_eol_found here found next in none-some stands.1.0 (sym none ∙ stands.1.1)
 
 -- ---- The end of a line.
 -- the line that a lenient context reads

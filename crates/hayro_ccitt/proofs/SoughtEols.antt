@@ -1,14 +1,9 @@
 -- The next EOL, sought a count of zeros at a time.
-use Rattle.std.proofs.Common.{◌≡◌, ℕ, zero, suc, ◌+◌, ◌<◌, Bool, true, false, [], ◌∷◌, ◌++◌, length, replicate, Some, None, refl, ap, arith}
+use Rattle.std.proofs.Common.{◌≡◌, ℕ, zero, suc, ◌+◌, ◌<◌, Bool, true, false, ◌∷◌, ◌++◌, length, replicate, None, refl, ap, arith}
 use Rattle.std.proofs.lemmas.Bool.{lt-leb}
 use Rattle.hayro_ccitt.specs.Bits.{Bits}
 use Rattle.hayro_ccitt.specs.EndOfLine.{after_eol, next_eol}
 use Rattle.hayro_ccitt.specs.Ticks.{looked}
-
--- an EOL that stands here is the next
-pub next_eol-here : (here after : Bits) → after_eol 0 here ≡ Some after → next_eol here ≡ Some here
-next_eol-here [] after e = absurd cc
-next_eol-here (bit ∷ here) after e = rw (e, next_eol) refl
 
 -- too few zeros and a one are no EOL
 few_zeros : (seen k : ℕ) (rest : Bits) → seen + k < 11 → after_eol seen (replicate k false ++ true ∷ rest) ≡ None

@@ -81,42 +81,6 @@ tagged_looks here after rest ticks ticks1 ticks2 most eol is first second =
     looked_some (false ∷ here) after e = omega arith
     looked_some (true ∷ here) after e = omega arith
 
--- where no EOL stands, a tag may have been looked at
-pub looked_before-none : (here : Bits) → after_eol 0 here ≡ None → looked_before here ≡ looked_at_tag here
-looked_before-none here e = rw (e, looked_before) refl
-
-same_rest : {count : ℕ} {here rest : Bits} → ◌≡◌ {A = ℕ × Bits} (count, here) (count, rest) → here ≡ rest
-same_rest e = ap (λ (x : ℕ × Bits). x.1) e
-
--- no more is looked at from here than this bit, and those from the next on
-looked_drop : (here : Bits) → looked here ≤ 1 + looked (drop 1 here)
-looked_drop [] = omega arith
-looked_drop (false ∷ here) = omega arith
-looked_drop (true ∷ here) = omega arith
-
--- the last tag is passed, or not
-pub last_tag_looks : (count : ℕ) (here rest : Bits) → pass_last_tag (count, here) ≡ (count, rest)
-    → (length here ≤ length rest + cond (leb 6 count) (min 1 (length here)) 0)
-    × (looked_at_tag here + looked here + cond (leb 6 count) (min 1 (length here)) 0 + 2 * length rest ≤ 2 * length here + 3 + looked (drop 1 rest))
-last_tag_looks count [] rest e = rw (sym (same_rest e)) (by (leb 6 count))
-  where
-    by : (b : Bool) → (0 ≤ 0 + cond b 0 0) × (0 + cond b 0 0 + 0 ≤ 3)
-    by true = (omega arith, omega arith)
-    by false = (omega arith, omega arith)
-last_tag_looks count (false ∷ here) rest e = rw (sym (same_rest e)) (by (leb 6 count))
-  where
-    by : (b : Bool) → (suc (length here) ≤ suc (length here) + cond b (min 1 (suc (length here))) 0)
-        × (1 + suc (looked here) + cond b (min 1 (suc (length here))) 0 + 2 * suc (length here) ≤ 2 * suc (length here) + 3 + looked here)
-    by true = (omega arith, omega arith)
-    by false = (omega arith, omega arith)
-last_tag_looks count (true ∷ here) rest e = by (leb 6 count) e
-  where
-    by : (b : Bool) → cond {A = ℕ × Bits} b (count, here) (count, true ∷ here) ≡ (count, rest)
-        → (suc (length here) ≤ length rest + cond b (min 1 (suc (length here))) 0)
-        × (suc (looked here) + 1 + cond b (min 1 (suc (length here))) 0 + 2 * length rest ≤ 2 * suc (length here) + 3 + looked (drop 1 rest))
-    by true f = rw (sym (same_rest f)) (omega arith, omega (arith, looked_drop here))
-    by false f = rw (sym (same_rest f)) (omega arith, omega arith)
-
 -- a one before an EOL is passed as a tag, and no other
 pub past_tag-eol : (here : Bits) → is_some (after_eol 0 here) ≡ true → past_tag (true ∷ here) ≡ here
 past_tag-eol here e = by (after_eol 0 here) e
