@@ -6,10 +6,10 @@ use Rattle.hayro_ccitt.specs.Context.{Held}
 use Rattle.hayro_ccitt.specs.Decoding.{TakesRows, StopsShort}
 use Rattle.hayro_ccitt.specs.PlainReading.{plain, end_of, lines_of, lines_by}
 use Rattle.hayro_ccitt.specs.Settings.{AreSettings}
-use Rattle.hayro_ccitt.proofs.BitLists.{length-bits_of}
-use Rattle.hayro_ccitt.proofs.Damage.{damage_stays_taken}
-use Rattle.hayro_ccitt.proofs.PicturesOfEachKind.{closed_picture_taken, limited_picture_taken}
-use Rattle.hayro_ccitt.proofs.PlainAnswers.{driver_left, decodes_well, decodes_badly}
+use Rattle.hayro_ccitt.proofs.BitReading.BitLists.{length-bits_of}
+use Rattle.hayro_ccitt.proofs.DamagedLines.Damage.{damage_stays_taken}
+use Rattle.hayro_ccitt.proofs.EncodedPictures.PicturesOfEachKind.{closed_picture_taken, limited_picture_taken}
+use Rattle.hayro_ccitt.proofs.Readings.PlainAnswers.{driver_left, decodes_well, decodes_badly}
 use Rattle.hayro_ccitt.proofs.decode.Goals as goal
 
 pub returns-in_err-decode_rows-clause-reading : goal.returns-in_err-decode_rows-clause-reading
