@@ -1,5 +1,5 @@
 -- EOLs with tags between them, read one after another, and what is looked at.
-use Rattle.std.proofs.Common.{◌≡◌, ℕ, suc, ◌+◌, ◌-◌, ◌*◌, ◌<◌, ◌≤◌, Bool, true, false, cond, leb, [], ◌∷◌, length, min, drop, Option}
+use Rattle.std.proofs.Common.{◌≡◌, ℕ, suc, ◌+◌, ◌-◌, ◌*◌, ◌<◌, ◌≤◌, true, false, [], ◌∷◌, length, Option}
 use Rattle.std.proofs.Common.{Some, None, refl, sym, ap, ◌∙◌, arith}
 use Rattle.std.specs.Prelude.{is_some}
 use Rattle.std.proofs.lemmas.Bool.{false≢true, le-leb}

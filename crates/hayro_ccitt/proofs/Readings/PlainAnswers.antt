@@ -125,3 +125,29 @@ driver_left given settings read bits step before after held answer same same_bit
     × StopsShort (end_of settings b).rows (lines_by settings.encoding settings b) before after held answer) same_bits
     (subst (λ (s : DecodeSettings). TakesRows (end_of s read).rows (end_of s read).outcome (end_of s read).has_eols step before after held answer
     × StopsShort (end_of s read).rows (lines_by s.encoding s read) before after held answer) same (takes, short))
+
+-- ---- What a driver left, as what `decode` leaves
+
+module _ {M : Type 0} (given settings : DecodeSettings) (read : Bits) (bytes : List ℕ) (same : given ≡ settings) (same_bits : read ≡ bits_of bytes) (some : given.columns ≢ 0)
+    (step : M → List ℕ → M) (before after : SinkState M) (held : Held) where
+  abbrev columns : settings.columns ≢ 0
+  columns = subst (λ (s : DecodeSettings). s.columns ≢ 0) same some
+
+  -- where the driver failed
+  pub left_badly : (error : DecodeError) → TakesRows (end_of given read).rows (end_of given read).outcome (end_of given read).has_eols step before after held (Err error)
+      → StopsShort {A = Bits} (end_of given read).rows (lines_by given.encoding given read) before after held (Err error) → Decodes settings bytes step before after held (Err error)
+  left_badly error takes short =
+      let left = driver_left given settings read (bits_of bytes) step before after held (Err error) same same_bits takes short in
+      decodes_badly settings bytes step before after held columns error left.0 left.1
+
+  -- where it ended well at a place, and so many bytes lie before that
+  pub left_well : (place : ℕ) (bits : Bits) (count : ℕ) → bits ≡ read → place ≤ length bits → (place + 7) / 8 ≡ count
+      → TakesRows (end_of given read).rows (end_of given read).outcome (end_of given read).has_eols step before after held (Ok (drop place bits))
+      → StopsShort {A = Bits} (end_of given read).rows (lines_by given.encoding given read) before after held (Ok (drop place bits))
+      → Decodes settings bytes step before after held (Ok count)
+  left_well place bits count are within counted takes short =
+      let left = driver_left given settings read (bits_of bytes) step before after held (Ok (drop place bits)) same same_bits takes short in
+      let moved = subst (λ (x : Bits). TakesRows (end_of settings (bits_of bytes)).rows (end_of settings (bits_of bytes)).outcome (end_of settings (bits_of bytes)).has_eols step before after held (Ok (drop place x))
+      × StopsShort {A = Bits} (end_of settings (bits_of bytes)).rows (lines_by settings.encoding settings (bits_of bytes)) before after held (Ok (drop place x))) (are ∙ same_bits) left in
+      subst (λ (n : ℕ). Decodes settings bytes step before after held (Ok n)) counted
+      (decodes_well settings bytes step before after held columns place (omega (arith, within, ap length (are ∙ same_bits))) moved.0 moved.1)
