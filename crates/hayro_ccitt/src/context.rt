@@ -116,6 +116,7 @@ impl DecoderContext {
         ensures frame { self.new ≡ record self.old { held = fresh self.old.held.settings } }
     {
         self.begin_line();
+        self.passed = 0;
         self.ref_changes.clear();
         self.decoded_rows = 0;
         self.has_eols = false;
