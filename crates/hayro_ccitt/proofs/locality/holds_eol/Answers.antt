@@ -1,8 +1,8 @@
 use Rattle.std.proofs.Common.{◌≡◌, ℕ, ◌-◌, length, drop, None, sym, ap, ◌∙◌, arith}
 use Rattle.hayro_ccitt.specs.Bits.{Bits, BitsAt, bits_of, here}
 use Rattle.hayro_ccitt.specs.EndOfLine.{after_eol, next_eol}
-use Rattle.hayro_ccitt.proofs.BitLists.{length-bits_of}
-use Rattle.hayro_ccitt.proofs.BodyTests.{no_eol_in_front, eol_by_ends, eol_found_stands}
+use Rattle.hayro_ccitt.proofs.BitReading.BitLists.{length-bits_of}
+use Rattle.hayro_ccitt.proofs.DamagedLines.BodyTests.{no_eol_in_front, eol_by_ends, eol_found_stands}
 use Rattle.hayro_ccitt.proofs.locality.holds_eol.Goals as goal
 
 pub returns-then-not-skip_to_eol : goal.returns-then-not-skip_to_eol
