@@ -5,7 +5,6 @@ import subprocess
 import tempfile
 
 PROGRAM = os.path.abspath("crates/faxrows/out/faxrows")
-DECODED = ("g4",)  # the modes that the program decodes today
 
 
 def run(words, data, **more):
@@ -27,8 +26,6 @@ def real_strips():
     with open("corpus/manifest.tsv", encoding="utf-8") as file:
         lines = [line.rstrip("\n").split("\t") for line in file if not line.startswith("#")]
     for name, strip, mode, columns, rows, runs, picture, first, end, *_ in lines:
-        if mode not in DECODED:
-            continue
         with open(f"corpus/{strip}", "rb") as file:
             data = file.read()
         with open(f"corpus/{picture}", "rb") as file:
@@ -67,8 +64,6 @@ def known_cases():
             if line.startswith("#"):
                 continue
             settings, data, answer = line.rstrip("\n").split("\t")
-            if settings.split()[0] not in DECODED:
-                continue
             done = run(settings.split(), bytes_of(data))
             text = done.stdout.decode()
             assert text == answer.replace("/", "\n") + "\n", f"{settings} {data}: {text!r}, not {answer}"
@@ -79,16 +74,30 @@ def known_cases():
     print(f"  {seen} cases")
 
 
+# Words and data, and what the program writes and answers: 0 for ok, 1 for a fault of the data, 2 for other words.
+RUNS = [
+    ("g4 8 1 -", "31C0", b"r 3 5\nok 2\n", 0),
+    ("g4 0000000008 1 -", "31C0", b"r 3 5\nok 2\n", 0),
+    ("g4 0 0 -", "31C0", b"ok 0\n", 0),
+    ("g4 8 0 -", "80", b"r\nerror: invalid CCITT code sequence\n", 1),
+    ("1d 8 0 l", "0019800C700033", b"r\nr 3 5\nr\nok 7\n", 0),
+    ("1d 8 0 s", "001980", b"r\nerror: invalid CCITT code sequence\n", 1),
+    ("2d 8 1 sal", "CC", b"r\nok 1\n", 0),
+    ("", "31C0", b"", 2),
+    ("g4 8 1", "31C0", b"", 2),
+    ("g4 8 1 - -", "31C0", b"", 2),
+    ("g4 8 1 bb", "31C0", b"", 2),
+    ("3d 8 1 -", "31C0", b"", 2),
+    ("g4 00000000008 1 -", "31C0", b"", 2),
+    ("g4 4294967296 1 -", "31C0", b"", 2),
+]
+
+
 def statuses():
-    """0 for rows and ok, 1 for a fault of the data, 2 for words, 3 for a device that fails."""
-    row = bytes.fromhex("31C0")
-    good = run(["g4", "8", "1", "-"], row)
-    assert (good.returncode, good.stdout, good.stderr) == (0, b"r 3 5\nok 2\n", b""), good
-    faulty = run(["g4", "8", "0", "-"], b"\x80")
-    assert (faulty.returncode, faulty.stdout, faulty.stderr) == (1, b"r\nerror: invalid CCITT code sequence\n", b""), faulty
-    for words in [[], ["g4", "8", "1"], ["g4", "8", "1", "bb"], ["1d", "8", "1", "-"], ["g4", "4294967296", "1", "-"]]:
-        bad = run(words, row)
-        assert (bad.returncode, bad.stdout, bad.stderr) == (2, b"", b"faxrows: bad arguments\n"), (words, bad)
+    for words, data, text, status in RUNS:
+        done = run(words.split(), bytes.fromhex(data))
+        error = b"faxrows: bad arguments\n" if status == 2 else b""
+        assert (done.returncode, done.stdout, done.stderr) == (status, text, error), (words, done)
 
 
 def devices_that_fail():
