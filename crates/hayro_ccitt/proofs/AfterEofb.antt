@@ -8,13 +8,11 @@ use Rattle.hayro_ccitt.specs.declared.error.DecodeError.{DecodeError}
 use Rattle.hayro_ccitt.specs.declared.settings.EncodingMode.TheVariants.{Group4}
 use Rattle.hayro_ccitt.specs.declared.settings.DecodeSettings.{DecodeSettings}
 use Rattle.hayro_ccitt.specs.Bits.{Bits, bits_of_byte, bits_of}
-use Rattle.hayro_ccitt.specs.Repetition.{Turn}
-use Rattle.hayro_ccitt.specs.Rows.{Row}
+use Rattle.hayro_ccitt.specs.Repetition.{Turn, Reaches}
 use Rattle.hayro_ccitt.specs.Lines.{Line, line_2d}
 use Rattle.hayro_ccitt.specs.EndOfLine.{after_eol, one_more, eols, all_eols}
-use Rattle.hayro_ccitt.specs.PlainReading.{eols_group4, Progress, Ending, row_before, aligned, at_end, limit_met, ends_with, after_line_group4, Reading, nothing_read, whole_reading}
-use Rattle.hayro_ccitt.specs.PlainReading.{move_group4, end_of, bytes_before, plain}
-use Rattle.hayro_ccitt.specs.Laws.{Reaches, AfterEofb}
+use Rattle.hayro_ccitt.specs.PlainReading.{eols_group4, Progress, Ending, row_before, aligned, at_end, limit_met, ends_with, after_line_group4, Reading, nothing_read, whole_reading, move_group4, end_of, plain}
+use Rattle.hayro_ccitt.specs.Laws.{AfterEofb, Reaches}
 use Rattle.hayro_ccitt.proofs.Moves.{eols-none, next_is, not_next}
 use Rattle.hayro_ccitt.proofs.Repeated.{after_turn}
 use Rattle.hayro_ccitt.proofs.ReadRuns.{chosen}
@@ -147,7 +145,7 @@ module _ (settings : DecodeSettings) (block : settings.end_of_block ≡ true) (w
   ended_at last rest = record { rows = last.rows; has_eols = last.has_eols; outcome = Ok rest }
 
   -- what was read up to two EOLs gives the same rows again, whatever follows
-  pub closed_found : (late : Ending) (run last : Progress) (rest : Bits) → Reaches settings run last → eols 2 last.rest ≡ (2, rest)
+  pub closed_found : (late : Ending) (run last : Progress) (rest : Bits) → Reaches (move_group4 settings) run last → eols 2 last.rest ≡ (2, rest)
       → (w : Bits) × (run.rest ≡ w ++ rest) × ((more : Bits) → length more % 8 ≡ length rest % 8
       → goes settings late (record run { rest = w ++ more }) ≡ ended_at last more)
   closed_found late run last rest (Reaches.stays same) two =

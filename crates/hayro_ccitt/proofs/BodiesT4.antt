@@ -1,25 +1,24 @@
 -- A T.4 body without EOLs is read as its rows, by the limit.
 use Rattle.std.proofs.Common.{◌≡◌, ℕ, zero, suc, ◌%◌, ◌<◌, ◌≤◌, Bool, true, false, cond, not, ◌&&◌, ◌||◌, eqb, ltb, leb, List, [], ◌∷◌, ◌++◌, length}
-use Rattle.std.proofs.Common.{replicate, None, Result, Ok, Err, refl, sym, ap, subst, ◌∙◌, append_assoc, arith, inr}
+use Rattle.std.proofs.Common.{replicate, None, Ok, Err, refl, sym, ap, subst, ◌∙◌, append_assoc, arith, inr}
 use Rattle.std.specs.Prelude.{All}
 use Rattle.std.proofs.lemmas.Bool.{and_right, and_left, and_from, not_from_false, or_from, or_left, or_right, cond-true, cond-false, eq-eqb, ne_eqb, false≢true}
 use Rattle.std.proofs.lemmas.List.{length-append, length-replicate}
 use Rattle.std.proofs.lemmas.List.Elements.{All-head, All-tail}
-use Rattle.hayro_ccitt.specs.declared.error.DecodeError.{DecodeError}
 use Rattle.hayro_ccitt.specs.declared.error.DecodeError.TheVariants.{UnexpectedEof}
 use Rattle.hayro_ccitt.specs.declared.settings.DecodeSettings.{DecodeSettings}
 use Rattle.hayro_ccitt.specs.Bits.{Bits}
 use Rattle.hayro_ccitt.specs.Repetition.{Turn, repeated}
 use Rattle.hayro_ccitt.specs.Rows.{Row}
 use Rattle.hayro_ccitt.specs.Lines.{Line}
-use Rattle.hayro_ccitt.specs.EndOfLine.{after_eol, all_eols, tagged_eols_from, pass_last_tag}
+use Rattle.hayro_ccitt.specs.EndOfLine.{after_eol, all_eols, pass_last_tag}
 use Rattle.hayro_ccitt.specs.PlainReading.{Progress, Ending, row_before, aligned, at_end, limit_met, ends_with, line_at_group3, eols_group3, Reading}
 use Rattle.hayro_ccitt.specs.PlainReading.{after_line_group3, move_group3, ending_from, plain_group3, end_of}
 use Rattle.hayro_ccitt.specs.Encodings.{IsPicture, EncodesRows}
-use Rattle.hayro_ccitt.specs.Laws.{Matches, ReadsLimitedRowsT4}
-use Rattle.hayro_ccitt.proofs.Moves.{eols-none}
+use Rattle.hayro_ccitt.specs.Laws.{ReadsLimitedRowsT4}
+use Rattle.hayro_ccitt.proofs.Moves.{eols-none, eols_with_tags-none}
 use Rattle.hayro_ccitt.proofs.BitLists.{length-bits_of}
-use Rattle.hayro_ccitt.proofs.PicturesT4.{eols_group3_one, eols_group3_two, line_t4_again, line_t4_starts, end_of_three}
+use Rattle.hayro_ccitt.proofs.PicturesT4.{Matches, matches_itself, eols_group3_one, eols_group3_two, line_t4_again, line_t4_starts, end_of_three}
 use Rattle.hayro_ccitt.proofs.Repeated.{after_turn}
 use Rattle.hayro_ccitt.proofs.PicturesT6.{IsLineStart, not_met, row_before_push, plain_ends, fill, aligned_again, aligned_on}
 use Rattle.hayro_ccitt.specs.declared.settings.EncodingMode.TheVariants.{Group4, Group3_1D, Group3_2D}
@@ -36,8 +35,7 @@ no_eols : (settings : DecodeSettings) (encoding : EncodingMode) (here : Bits) �
 no_eols settings Group4 here matches none = absurd matches
 no_eols settings Group3_1D here matches none = eols_group3_one settings here matches ∙ eols-none (length here) here none
 no_eols settings Group3_2D here matches none =
-    let all : all_eols here ≡ (0, here) = eols-none (length here) here none in
-    eols_group3_two settings here matches ∙ ap (λ (f : ℕ × Bits). pass_last_tag (cond (ltb 0 f.0) (tagged_eols_from (length here) f) f)) all ∙ pass_zero here
+    eols_group3_two settings here matches ∙ ap pass_last_tag (eols_with_tags-none (length here) here none) ∙ pass_zero here
 
 some_bits : (here : Bits) → at_end here ≡ false → 0 < length here
 some_bits [] e = absurd (false≢true (sym e))
@@ -188,11 +186,12 @@ module _ (settings : DecodeSettings) (wide : 0 < settings.columns) (small : sett
 
 -- the law
 pub limited_rows_t4 : ReadsLimitedRowsT4
-limited_rows_t4 settings encoding rows body more bytes are matches line limit some is_picture lines is =
-    let small : settings.columns ≤ 4294967295 = omega (arith, are.columns) in
-    let eight = length-bits_of bytes in
-    let whole : length (body ++ more) % 8 ≡ 0 = omega (arith, eight, ap length is) in
-    let e = plain_ends settings bytes (record { rows = rows; has_eols = false; outcome = Ok (eols_group3 settings more).1 })
-    (eols_group3 settings more).1 is_picture.0
-    (ap (end_of settings) is ∙ rows_t4_end settings is_picture.0 small encoding rows body more matches line limit some is_picture (λ e. whole) lines) refl in
+limited_rows_t4 settings rows bits bytes are begins =
+    let wide : 0 < settings.columns = begins.picture.0 in
+    let more : Bits = begins.begins.0 in
+    let found : Bits = (eols_group3 settings more).1 in
+    let whole : length (bits ++ more) % 8 ≡ 0 = omega (arith, length-bits_of bytes, ap length begins.begins.1) in
+    let ends = rows_t4_end settings wide (omega (arith, are.columns)) settings.encoding rows bits more (matches_itself settings begins.encoding)
+    begins.end_of_line begins.limit begins.some begins.picture (λ e. whole) begins.lines in
+    let e = plain_ends settings bytes (ends_without rows found) found wide (ap (end_of settings) begins.begins.1 ∙ ends) refl in
     (ap (λ (a : Reading). a.rows) e, rw e refl)

@@ -11,12 +11,12 @@ use Rattle.hayro_ccitt.specs.declared.settings.EncodingMode.{EncodingMode}
 use Rattle.hayro_ccitt.specs.declared.settings.EncodingMode.TheVariants.{Group3_1D}
 use Rattle.hayro_ccitt.specs.declared.settings.DecodeSettings.{DecodeSettings}
 use Rattle.hayro_ccitt.specs.Bits.{Bits, bits_of}
-use Rattle.hayro_ccitt.specs.Repetition.{repeated}
+use Rattle.hayro_ccitt.specs.Repetition.{repeated, Reaches}
 use Rattle.hayro_ccitt.specs.Rows.{Row}
 use Rattle.hayro_ccitt.specs.EndOfLine.{after_eol, all_eols}
-use Rattle.hayro_ccitt.specs.PlainReading.{Progress, Ending, move_group3, plain_group3, end_by, end_of, bytes_before, plain, Reading, nothing_read, whole_reading}
-use Rattle.hayro_ccitt.specs.Locality.{IsEol, EndAlike, OneRowDiffers, Locality}
-use Rattle.hayro_ccitt.proofs.Repeated.{repeated_follows}
+use Rattle.hayro_ccitt.specs.PlainReading.{Progress, Ending, start_group3, move_group3, plain_group3, end_by, end_of, bytes_before, plain, Reading, nothing_read, whole_reading}
+use Rattle.hayro_ccitt.specs.Locality.{IsEol, ComesToLine, OneRowDiffers, EndsAt, EndAlike, Locality}
+use Rattle.hayro_ccitt.proofs.Repeated.{reached_follows}
 use Rattle.hayro_ccitt.proofs.BitLists.{length-bits_of}
 use Rattle.hayro_ccitt.proofs.Moves.{left_group3, left_group3_below, move_group3_shrinks}
 use Rattle.hayro_ccitt.proofs.Past.{all_eols-none}
@@ -28,19 +28,13 @@ use Rattle.hayro_ccitt.proofs.Tails.{after_eol_is, is_tail}
 
 -- ---- From the ends of two runs to their answers
 
--- rows that are alike differ in at most one
-abbrev pub rows_differ : (xs ys : List Row) → RowsAlike xs ys → (index : ℕ) × OneRowDiffers xs ys index
-rows_differ xs ys (inl e) = (length xs, ([], sym e ∙ sym (set_past xs (length xs) [] (omega arith))))
-rows_differ xs ys (inr (before, a, b, more, e, f)) =
-    (length before, (b, f ∙ sym (ap (λ (l : List Row). set l (length before) b) e ∙ set_at before a more b (length before) refl)))
-
 -- the count at a place
 count_at : (bits : Bits) (rest : Bits) (place : ℕ) → place + length rest ≡ length bits → bytes_before bits (Ok rest) ≡ Ok ((place + 7) / 8)
 count_at bits rest place e = let sum : length bits - length rest ≡ place = omega (arith, e) in ap (λ (n : ℕ). Ok ((n + 7) / 8)) sum
 
 module _ (settings : DecodeSettings) (wide : 0 < settings.columns) (one two : List ℕ) (from : ℕ) (x y after : Bits)
     (length_one : length (bits_of one) ≡ from + length x) (length_two : length (bits_of two) ≡ from + length y)
-    (tail_x : IsTail settings.columns after x) (tail_y : IsTail settings.columns after y) where
+    (x_is : x ≡ drop from (bits_of one)) (y_is : y ≡ drop from (bits_of two)) (tail_x : IsTail settings.columns after x) (tail_y : IsTail settings.columns after y) where
   -- the ends of both readings
   abbrev end_one : Ending
   end_one = end_of settings (bits_of one)
@@ -59,18 +53,35 @@ module _ (settings : DecodeSettings) (wide : 0 < settings.columns) (one two : Li
       → (plain settings bytes).outcome ≡ bytes_before (bits_of bytes) r
   outcome_of bytes r e = ap (λ (a : Reading). a.outcome) (plain_is bytes) ∙ ap (bytes_before (bits_of bytes)) e
 
-  counted : (bytes : List ℕ) (rest : Bits) (place : ℕ) → (end_of settings (bits_of bytes)).outcome ≡ Ok rest
-      → place + length rest ≡ length (bits_of bytes) → (plain settings bytes).outcome ≡ Ok ((place + 7) / 8)
-  counted bytes rest place e f = outcome_of bytes (Ok rest) e ∙ count_at (bits_of bytes) rest place f
+  -- in both readings the line is read when these rows stand
+  abbrev Begins : List Row → Type 0
+  Begins rows = Reaches (move_group3 settings) (start_group3 settings (bits_of one)) (sought rows x)
+      × Reaches (move_group3 settings) (start_group3 settings (bits_of two)) (sought rows y)
+
+  comes_one : (rows : List Row) → Begins rows → ComesToLine settings (bits_of one) from (length rows)
+  comes_one rows begins = (sought rows x, begins.0, x_is, refl)
+
+  comes_two : (rows : List Row) → Begins rows → ComesToLine settings (bits_of two) from (length rows)
+  comes_two rows begins = (sought rows y, begins.1, y_is, refl)
 
   -- what the law says of both answers
   abbrev Differ : Type 0
-  Differ = (index : ℕ) × OneRowDiffers (plain settings one).rows (plain settings two).rows index × EndAlike settings one two from index
+  Differ = OneRowDiffers settings one two from × EndAlike settings one two from
 
-  differ : (r : RowsAlike end_one.rows end_two.rows) → EndAlike settings one two from (rows_differ end_one.rows end_two.rows r).0 → Differ
-  differ r alike =
-      let d = rows_differ end_one.rows end_two.rows r in
-      (d.0, (d.1.0, rows_of two ∙ d.1.1 ∙ ap (λ (l : List Row). set l d.0 d.1.0) (sym (rows_of one))), alike)
+  rows_differ : RowsAlike Begins end_one.rows end_two.rows → OneRowDiffers settings one two from
+  rows_differ (inl e) = inl (rows_of two ∙ sym e ∙ sym (rows_of one))
+  rows_differ (inr (before, a, b, more, e, f, begins)) =
+      inr (
+        length before,
+        b,
+        comes_one before begins,
+        comes_two before begins,
+        rows_of two ∙ f ∙ sym (ap (λ (l : List Row). set l (length before) b) (rows_of one ∙ e) ∙ set_at before a more b (length before) refl),
+      )
+
+  ends_at : (bytes : List ℕ) (rest : Bits) (place : ℕ) → (end_of settings (bits_of bytes)).outcome ≡ Ok rest
+      → place + length rest ≡ length (bits_of bytes) → EndsAt settings bytes place ((place + 7) / 8)
+  ends_at bytes rest place e at = record { rest = rest; ends = e; place_is = at; count_is = outcome_of bytes (Ok rest) e ∙ count_at (bits_of bytes) rest place at }
 
   shorter_x : length after < length x
   shorter_x = past_shorter 0 x after tail_x.next
@@ -79,38 +90,41 @@ module _ (settings : DecodeSettings) (wide : 0 < settings.columns) (one two : Li
   shorter_y = past_shorter 0 y after tail_y.next
 
   -- readings that end alike give answers of which the law holds
-  pub answers_alike : EndsAlike settings from x y after end_one end_two → Differ
-  answers_alike (EndsAlike.faults fault e f rows) = differ rows (EndAlike.faults fault (outcome_of one (Err fault) e) (outcome_of two (Err fault) f))
+  pub answers_alike : EndsAlike settings Begins from x y after end_one end_two → Differ
+  answers_alike (EndsAlike.faults fault e f rows) =
+      (rows_differ rows, EndAlike.faults fault (outcome_of one (Err fault) e) (outcome_of two (Err fault) f))
   answers_alike (EndsAlike.early bits short e f rows) =
       let place : ℕ = from - (length bits + 1) in
       let at_one : place + length (bits ++ true ∷ x) ≡ length (bits_of one) = omega (arith, short, length-append bits (true ∷ x), length_one) in
-      let at_two : place + length (bits ++ true ∷ y) ≡ length (bits_of two) = omega (arith, short, length-append bits (true ∷ y), length_two) in
-      differ (inl rows) (EndAlike.before place ((place + 7) / 8) (omega arith) (bits ++ true ∷ x, e, at_one) (bits ++ true ∷ y, f, at_two)
-      (counted one (bits ++ true ∷ x) place e at_one) (counted two (bits ++ true ∷ y) place f at_two))
-  answers_alike (EndsAlike.there e f rows) =
-      differ (inl rows) (EndAlike.before from ((from + 7) / 8) (omega arith) (x, e, sym length_one) (y, f, sym length_two)
-      (counted one x from e (sym length_one)) (counted two y from f (sym length_two)))
+      let at_two : place + length (bits ++ true ∷ y) ≡ length (bits_of two) = omega (arith, short, length-append bits (true ∷ y), length_two) in (
+        rows_differ (inl rows),
+        EndAlike.before place ((place + 7) / 8) (omega arith) (ends_at one (bits ++ true ∷ x) place e at_one)
+            (ends_at two (bits ++ true ∷ y) place f at_two),
+      )
+  answers_alike (EndsAlike.there e f rows) = (
+    rows_differ (inl rows),
+    EndAlike.before from ((from + 7) / 8) (omega arith) (ends_at one x from e (sym length_one)) (ends_at two y from f (sym length_two)),
+  )
   answers_alike (EndsAlike.later rest short e f rows) =
       let place : ℕ = length (bits_of one) - length rest in
       let place2 : ℕ = length (bits_of two) - length rest in
       let at_one : place + length rest ≡ length (bits_of one) = omega (arith, short, shorter_x, length_one) in
       let at_two : place2 + length rest ≡ length (bits_of two) = omega (arith, short, shorter_y, length_two) in
-      let counts : (place + 7) / 8 + length two ≡ (place2 + 7) / 8 + length one = omega (arith, at_one, at_two, length-bits_of one, length-bits_of two) in
-      differ rows (EndAlike.past place place2 ((place + 7) / 8) ((place2 + 7) / 8) (omega (arith, short, shorter_x, length_one))
-      (omega (arith, short, shorter_y, length_two)) (rest, e, at_one) (rest, f, at_two)
-      (counted one rest place e at_one) (counted two rest place2 f at_two) counts)
-  answers_alike (EndsAlike.limit before a b u v is r q e f le le2) =
+      let counts : (place + 7) / 8 + length two ≡ (place2 + 7) / 8 + length one = omega (arith, at_one, at_two, length-bits_of one, length-bits_of two) in (
+        rows_differ rows,
+        EndAlike.past place place2 ((place + 7) / 8) ((place2 + 7) / 8) (omega (arith, short, shorter_x, length_one))
+            (omega (arith, short, shorter_y, length_two)) (ends_at one rest place e at_one) (ends_at two rest place2 f at_two) counts,
+      )
+  answers_alike (EndsAlike.limit before a b u v begins is r q e f le le2) =
       let place : ℕ = length (bits_of one) - length u in
       let place2 : ℕ = length (bits_of two) - length v in
       let at_one : place + length u ≡ length (bits_of one) = omega (arith, le, length_one) in
-      let at_two : place2 + length v ≡ length (bits_of two) = omega (arith, le2, length_two) in
-      differ (inr (before, a, b, [], r, q)) (EndAlike.at_limit place place2 is
-      (ap length (rows_of one ∙ r) ∙ length-append before (a ∷ []) ∙ omega arith) (omega (arith, le, length_one)) (omega (arith, le2, length_two))
-      (u, e, at_one) (v, f, at_two)
-      (ok (counted one u place e at_one)) (ok (counted two v place2 f at_two)))
-    where
-      ok : {r : Result ℕ DecodeError} {n : ℕ} → r ≡ Ok n → IsOk r
-      ok e = rw e refl
+      let at_two : place2 + length v ≡ length (bits_of two) = omega (arith, le2, length_two) in (
+        rows_differ (inr (before, a, b, [], r, q, begins)),
+        EndAlike.at_limit (length before) place place2 ((place + 7) / 8) ((place2 + 7) / 8) (comes_one before begins) (comes_two before begins) is
+            (ap length (rows_of one ∙ r) ∙ length-append before (a ∷ []) ∙ omega arith) (omega (arith, le, length_one)) (omega (arith, le2, length_two))
+            (ends_at one u place e at_one) (ends_at two v place2 f at_two),
+      )
 
 -- ---- How the two runs begin
 
@@ -136,12 +150,17 @@ module _ (settings : DecodeSettings) (one two : Bits) (from : ℕ) (after : Bits
     (tail_one : IsTail settings.columns after (drop from one)) (tail_two : IsTail settings.columns after (drop from two)) where
   -- the state in which a reading starts
   abbrev first : Bits → Progress
-  first bits = record { rows = []; has_eols = ltb 0 (all_eols bits).0 || settings.end_of_line; rest = (all_eols bits).1 }
+  first bits = start_group3 settings bits
+
+  -- in both readings the line is read when these rows stand
+  abbrev Begun : List Row → Type 0
+  Begun rows = Reaches (move_group3 settings) (first one) (sought rows (drop from one))
+      × Reaches (move_group3 settings) (first two) (sought rows (drop from two))
 
   first_is : (bits rest : Bits) → (ltb 0 (all_eols bits).0 || settings.end_of_line) ≡ true → (all_eols bits).1 ≡ rest → first bits ≡ sought [] rest
   first_is bits rest h e = ap (λ (b : Bool). record { rows = []; has_eols = b; rest = (all_eols bits).1 }) h ∙ ap (sought []) e
 
-  begin_there : from ≡ 0 → settings.end_of_line ≡ true → RunsAlike from (drop from one) (drop from two) after (first one) (first two)
+  begin_there : from ≡ 0 → settings.end_of_line ≡ true → RunsAlike Begun from (drop from one) (drop from two) after (first one) (first two)
   begin_there zero_from eol = RunsAlike.there [] (at one tail_one.none) (at two tail_two.none)
     where
       at : (bits : Bits) → after_eol 0 (drop from bits) ≡ None → first bits ≡ sought [] (drop from bits)
@@ -151,7 +170,7 @@ module _ (settings : DecodeSettings) (one two : Bits) (from : ℕ) (after : Bits
           first_is bits (drop from bits) (or_right (ltb 0 (all_eols bits).0) settings.end_of_line eol) (ap (λ (f : ℕ × Bits). f.1) counted ∙ sym all)
 
   begin_ahead : (front : Bits) → Closes front → one ≡ front ++ true ∷ drop from one → (ltb 0 (all_eols one).0 || settings.end_of_line) ≡ true
-      → RunsAlike from (drop from one) (drop from two) after (first one) (first two)
+      → RunsAlike Begun from (drop from one) (drop from two) after (first one) (first two)
   begin_ahead front closes is seeks_one =
       by (all_eols_alike (drop from one) (drop from two) tail_one.none tail_two.none front)
     where
@@ -167,7 +186,7 @@ module _ (settings : DecodeSettings) (one two : Bits) (from : ℕ) (after : Bits
 
       by : ((all_eols (front ++ true ∷ drop from one)).0 ≡ (all_eols (front ++ true ∷ drop from two)).0)
           × RestAlike (drop from one) (drop from two) front (all_eols (front ++ true ∷ drop from one)).1 (all_eols (front ++ true ∷ drop from two)).1
-          → RunsAlike from (drop from one) (drop from two) after (first one) (first two)
+          → RunsAlike Begun from (drop from one) (drop from two) after (first one) (first two)
       by (counts, rests) = elim rests [
         | inl a ↦ RunsAlike.ahead [] a.0 (a.2 closes) (omega (arith, a.1, short))
             (first_is one (a.0 ++ true ∷ drop from one) seeks_one (place_one ∙ a.3)) (first_is two (a.0 ++ true ∷ drop from two) seeks_two (place_two ∙ a.4))
@@ -187,7 +206,7 @@ module _ (settings : DecodeSettings) (one two : Bits) (from : ℕ) (after : Bits
           place_two = ap (λ (b : Bits). (all_eols b).1) is_two
 
   begin : ((from ≡ 0) ⊎ ((place : ℕ) × IsEol one place from)) → ((settings.end_of_line ≡ true) ⊎ ((end : ℕ) × (end ≤ from) × IsEol one 0 end))
-      → RunsAlike from (drop from one) (drop from two) after (first one) (first two)
+      → RunsAlike Begun from (drop from one) (drop from two) after (first one) (first two)
   begin (inl zero_from) (inl eol) = begin_there zero_from eol
   begin (inl zero_from) (inr e) = absurd (omega (arith, zero_from, e.1, e.2.0))
   begin (inr (place, eol)) sought_by =
@@ -196,18 +215,20 @@ module _ (settings : DecodeSettings) (one two : Bits) (from : ℕ) (after : Bits
 
   module _ (encoding : settings.encoding ≡ Group3_1D) (lenient : settings.strict ≡ false) (wide : 0 < settings.columns) where
     -- readings that start alike end alike
-    pub ends_alike : RunsAlike from (drop from one) (drop from two) after (first one) (first two)
-        → EndsAlike settings from (drop from one) (drop from two) after (end_of settings one) (end_of settings two)
+    pub ends_alike : RunsAlike Begun from (drop from one) (drop from two) after (first one) (first two)
+        → EndsAlike settings Begun from (drop from one) (drop from two) after (end_of settings one) (end_of settings two)
     ends_alike alike =
         let late : Progress → Ending = λ run. record { rows = run.rows; has_eols = run.has_eols; outcome = Err UnexpectedEof } in
         let whole : (bits : Bits) → end_of settings bits ≡ plain_group3 settings bits = λ bits. ap (λ (e : EncodingMode). end_by e settings bits) encoding in
         rw (whole one, whole two)
-        (repeated_follows (move_group3 settings) (late (first one)) left_group3 (move_group3_shrinks settings wide) (move_group3 settings)
+        (reached_follows (move_group3 settings) (late (first one)) left_group3 (move_group3_shrinks settings wide) (move_group3 settings)
         (late (first two)) left_group3 (move_group3_shrinks settings wide)
-        (RunsAlike from (drop from one) (drop from two) after) (EndsAlike settings from (drop from one) (drop from two) after)
-        (moves_alike settings encoding lenient from (drop from one) (drop from two) after tail_one tail_two
-        (λ t. repeated (move_group3 settings) (late (first two)) (suc (left_group3 t)) t))
-        (suc (suc (length (first one).rest))) (suc (suc (length (first two).rest))) (first one) (first two) (left_group3_below (first one))
+        (RunsAlike Begun from (drop from one) (drop from two) after) (EndsAlike settings Begun from (drop from one) (drop from two) after)
+        (first one) (first two)
+        (λ s t reached other_reached. moves_alike settings encoding lenient Begun from (drop from one) (drop from two) after tail_one tail_two
+        (λ t. repeated (move_group3 settings) (late (first two)) (suc (left_group3 t)) t) s t
+        (λ rows e f. (subst (Reaches (move_group3 settings) (first one)) e reached, subst (Reaches (move_group3 settings) (first two)) f other_reached)))
+        (suc (suc (length (first one).rest))) (suc (suc (length (first two).rest))) (left_group3_below (first one))
         (left_group3_below (first two)) alike)
 
 -- the law
@@ -229,17 +250,10 @@ locality settings one two from to to2 are same_front same_rest local_one local_t
     tail_two : IsTail settings.columns local_one.closes.0 (drop from (bits_of two))
     tail_two = subst (λ (a : Bits). IsTail settings.columns a (drop from (bits_of two))) same_after (is_tail settings (bits_of two) from to2 local_two)
 
-    by : (settings.columns ≡ 0) ⊎ (settings.columns ≡ 0 → ⊥) → (index : ℕ) × OneRowDiffers (plain settings one).rows (plain settings two).rows index
-        × EndAlike settings one two from index
+    by : (settings.columns ≡ 0) ⊎ (settings.columns ≡ 0 → ⊥) → OneRowDiffers settings one two from × EndAlike settings one two from
     by (inl e) = (
-      0,
-      (
-        [],
-        ap (λ (a : Reading). a.rows) (no_columns e two)
-            ∙ sym (ap (λ (a : Reading). set a.rows 0 []) (no_columns e one)),
-      ),
-      EndAlike.no_columns 0 e (ap (λ (a : Reading). a.outcome) (no_columns e one))
-          (ap (λ (a : Reading). a.outcome) (no_columns e two)),
+      inl (ap (λ (a : Reading). a.rows) (no_columns e two ∙ sym (no_columns e one))),
+      EndAlike.no_columns e (no_columns e one) (no_columns e two),
     )
     by (inr e) =
         let wide : 0 < settings.columns = elim (cases_lt 0 settings.columns) [ inl lt ↦ lt | inr ge ↦ absurd (e (omega arith)) ] in
@@ -249,4 +263,4 @@ locality settings one two from to to2 are same_front same_rest local_one local_t
         let ends = ends_alike settings (bits_of one)
         (bits_of two) from local_one.closes.0 fits_one same_front tail_one tail_two local_one.encoding local_one.lenient wide firsts in
         answers_alike settings wide one two from (drop from (bits_of one)) (drop from (bits_of two)) local_one.closes.0
-        (omega (arith, fits_one, length-drop from (bits_of one))) (omega (arith, fits_two, length-drop from (bits_of two))) tail_one tail_two ends
+        (omega (arith, fits_one, length-drop from (bits_of one))) (omega (arith, fits_two, length-drop from (bits_of two))) refl refl tail_one tail_two ends

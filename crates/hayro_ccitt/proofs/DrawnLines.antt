@@ -1,5 +1,5 @@
 -- What a step of a line paints, and what that says of the finished line.
-use Rattle.std.proofs.Common.{◌≡◌, ◌≢◌, ℕ, zero, suc, ◌-◌, ◌<◌, ◌≤◌, Bool, true, false, cond, ◌&&◌, ltb, leb, [], ◌∷◌, ◌++◌, length, replicate, w32, Option, Some, None, Result, Ok, Err, refl, sym, subst, ap, ◌∙◌, arith, ◌⊎◌, inl, inr}
+use Rattle.std.proofs.Common.{◌≡◌, ◌≢◌, ℕ, zero, suc, ◌-◌, ◌<◌, ◌≤◌, Bool, true, false, cond, ◌&&◌, ltb, leb, [], ◌∷◌, ◌++◌, length, replicate, append_assoc, w32, Option, Some, None, Result, Ok, Err, refl, sym, subst, ap, ◌∙◌, arith, ◌⊎◌, inl, inr}
 use Rattle.std.specs.Prelude.{◌↔◌, IsTrue, IfErr, OnOk, OnErr, SomeIff, min, ℤ, pos, negsuc, ◌+ℤ◌}
 use Rattle.std.proofs.lemmas.Bool.{false≢true, cases_lt, le-leb, lt-leb}
 use Rattle.std.proofs.Math.IntN.{nat_abs}
@@ -8,13 +8,12 @@ use Rattle.std.proofs.lemmas.Int.{ints}
 use Rattle.std.proofs.lemmas.List.{length-append}
 use Rattle.std.proofs.lemmas.List.Elements.{Contains-append_left, Contains-append_right}
 use Rattle.hayro_ccitt.specs.declared.codes.Color.{Color}
-use Rattle.hayro_ccitt.specs.declared.codes.Color.TheVariants.{White, Black}
 use Rattle.hayro_ccitt.specs.declared.codes.Mode.{Mode}
 use Rattle.hayro_ccitt.specs.declared.codes.Mode.TheVariants.{Pass, Horizontal, Vertical}
 use Rattle.hayro_ccitt.specs.declared.error.DecodeError.{DecodeError}
 use Rattle.hayro_ccitt.specs.declared.settings.DecodeSettings.{DecodeSettings}
 use Rattle.hayro_ccitt.specs.declared.error.DecodeError.TheVariants.{UnexpectedEof, InvalidCode, Overflow, OutOfMemory, Refused}
-use Rattle.hayro_ccitt.specs.Answers.{IsFault, front_of, HasBlack, DrawsLine, pen_of, StepHasBlack, DrawsStep, StoresChange}
+use Rattle.hayro_ccitt.specs.Answers.{IsFault, front_of, HasBlack, StopsAtChange, DrawsLine, pen_of, front_after, DrawsStep, StoresChange}
 use Rattle.hayro_ccitt.specs.Bits.{Bits, BitsAt, here}
 use Rattle.hayro_ccitt.specs.CodeLists.{mode_codes}
 use Rattle.hayro_ccitt.specs.CodeReading.{read_code}
@@ -36,11 +35,29 @@ paint_ok strict columns front color n row e = elim (chosen (strict && ltb (colum
   | inr a ↦ (min n (columns - length front), let f : ◌≡◌ {A = Result Row DecodeError} (Ok (front ++ replicate (min n (columns - length front)) (is_black color))) (Ok row) = a.1 in cc)
 ]
 
--- painting keeps the black pixels
-paint_keeps_black : (strict : Bool) (columns : ℕ) (front : Row) (color : Color) (n : ℕ) (row : Row) → paint strict columns front color n ≡ Ok row → HasBlack front → HasBlack row
-paint_keeps_black strict columns front color n row e has =
+-- ---- A front that ends at a change.
+
+-- a row that goes on further has the same change
+later_change : (row front more : Row) → StopsAtChange row front → StopsAtChange (row ++ more) front
+later_change row front more stops =
+    (stops.0, stops.1 ++ more, ap (λ (r : Row). r ++ more) stops.2 ∙ append_assoc front (stops.0 ∷ stops.1) more, stops.3)
+
+-- painting keeps what was painted
+paint_keeps : (stood : Row) (strict : Bool) (columns : ℕ) (front : Row) (color : Color) (n : ℕ) (row : Row) → paint strict columns front color n ≡ Ok row → StopsAtChange front stood → StopsAtChange row stood
+paint_keeps stood strict columns front color n row e stops =
     let p = paint_ok strict columns front color n row e in
-    subst HasBlack p.1 (Contains-append_left front (replicate p.0 (is_black color)) true has)
+    subst (λ (r : Row). StopsAtChange r stood) p.1 (later_change front stood (replicate p.0 (is_black color)) stops)
+
+-- pixels of another colour than the last make a change
+other_pixels : (front : Row) (color : Color) (k : ℕ) → length front < length (front ++ replicate k (is_black color)) → last_pixel false front ≢ is_black color → StopsAtChange (front ++ replicate k (is_black color)) front
+other_pixels front color zero more other = absurd (omega (arith, length-append front (replicate zero (is_black color))))
+other_pixels front color (suc k) more other = (is_black color, replicate k (is_black color), refl, λ e. other (sym e))
+
+-- where a change is stored, the front that stands ends at a change of the new row
+pub stores_change : (held : Held) (count : ℕ) → (stored : StoresChange held count) → StopsAtChange stored.0 held.front
+stores_change held count stored =
+    let p = paint_ok held.settings.strict held.settings.columns held.front held.color count stored.0 stored.1 in
+    subst (λ (r : Row). StopsAtChange r held.front) p.1 (other_pixels held.front held.color p.0 (rw p.1 stored.2) stored.3)
 
 first_black : (row : Row) → HasBlack (true ∷ row)
 first_black row = (0, omega arith, refl)
@@ -51,16 +68,17 @@ last_black before [] e other = absurd (other e)
 last_black before (true ∷ row) e other = first_black row
 last_black before (false ∷ row) e other = Contains-append_right (false ∷ []) row true (last_black false row refl other)
 
-painted_black : (front : Row) (color : Color) (k : ℕ) → length front < length (front ++ replicate k (is_black color)) → last_pixel false front ≢ is_black color → HasBlack (front ++ replicate k (is_black color))
-painted_black front White k more other = Contains-append_left front (replicate k false) true (last_black false front refl other)
-painted_black front Black zero more other = absurd (omega (arith, length-append front (replicate zero true)))
-painted_black front Black (suc k) more other = Contains-append_right front (replicate (suc k) true) true (first_black (replicate k true))
+-- a row with a change has a black pixel: one side of the change
+pub change_has_black : (row front : Row) → StopsAtChange row front → HasBlack row
+change_has_black row front stops = subst HasBlack (sym stops.2) (by stops.0 stops.3)
+  where
+    by : (pixel : Bool) → pixel ≢ last_pixel false front → HasBlack (front ++ pixel ∷ stops.1)
+    by true other = Contains-append_right front (true ∷ stops.1) true (first_black stops.1)
+    by false other = Contains-append_left front (false ∷ stops.1) true (last_black false front refl (λ e. other (sym e)))
 
--- where a change is stored, the new row has a black pixel: the colour that is painted, or the one before it
-pub stores_black : (held : Held) (count : ℕ) → (stored : StoresChange held count) → HasBlack stored.0
-stores_black held count stored =
-    let p = paint_ok held.settings.strict held.settings.columns held.front held.color count stored.0 stored.1 in
-    subst HasBlack p.1 (painted_black held.front held.color p.0 (rw p.1 stored.2) stored.3)
+-- a line that is cut off for want of memory has a black pixel
+pub memory_has_black : (line : Line) (front : Row) (rest : Bits) → DrawsLine line (Err OutOfMemory) front rest → HasBlack (front_of line)
+memory_has_black line front rest draws = change_has_black (front_of line) front draws
 
 -- ---- What a step answers.
 
@@ -89,11 +107,11 @@ unpainted held count r e is too_many memory only = record {
 }
 
 -- an error of painting is that of the step that paints and goes on
-pub paint_fails : (held : Held) (count : ℕ) (go_on : Row → Step) (e : DecodeError) (pen : Pen) → pen.front ≡ held.front → IsUnpainted held count e → ((row : Row) → HasBlack row → StepHasBlack (go_on row))
+pub paint_fails : (held : Held) (count : ℕ) (go_on : Row → Step) (e : DecodeError) (pen : Pen) → pen.front ≡ held.front → IsUnpainted held count e → ((row : Row) → StopsAtChange row held.front → StopsAtChange (front_after (go_on row)) held.front)
     → DrawsStep (try held.front (paint held.settings.strict held.settings.columns held.front held.color count) go_on) (Err e) pen
-paint_fails held count go_on e pen same unpainted black = elim unpainted.only [
+paint_fails held count go_on e pen same unpainted keeps = elim unpainted.only [
   | inl is ↦ rw (is, unpainted.too_many (rw is refl), same) refl
-  | inr is ↦ let stored = unpainted.memory (rw is refl) in rw (is, stored.1) (black stored.0 (stores_black held count stored))
+  | inr is ↦ let stored = unpainted.memory (rw is refl) in rw (is, stored.1, same) (keeps stored.0 (stores_change held count stored))
 ]
 
 -- a step that paints and keeps the colour, where the painting answers this
@@ -102,7 +120,7 @@ pub paint_draws : (held new : Held) (count : ℕ) (rest : Bits) (r : Result (Uni
     → DrawsStep (try held.front (paint held.settings.strict held.settings.columns held.front held.color count) (λ front. Turn.next (record (pen_of held rest) { front = front }))) r (pen_of new rest)
 paint_draws held new count rest (Ok x) painted kept same unpainted = let color : new.color ≡ held.color = ap (λ (h : Held). h.color) kept in rw (painted, color) refl
 paint_draws held new count rest (Err e) painted kept same unpainted =
-    paint_fails held count (λ front. Turn.next (record (pen_of held rest) { front = front })) e (pen_of new rest) (ap (λ (h : Held). h.front) same) (unpainted e refl) (λ row has. has)
+    paint_fails held count (λ front. Turn.next (record (pen_of held rest) { front = front })) e (pen_of new rest) (ap (λ (h : Held). h.front) same) (unpainted e refl) (λ row stops. stops)
 
 -- what pass draws is what its painting draws
 pub pass_draws : (old held new : Held) (count : ℕ) (rest : Bits) (r : Result (Unit {0}) DecodeError) → held ≡ old → count ≡ b2 old.reference (right_of old.front) old.color - length old.front
@@ -133,7 +151,7 @@ vertical_unpainted held new k p rest e is fits above same unpainted =
     let go_on : Row → Step = λ front. Turn.next (record { front = front; color = opposite held.color; rest = rest }) in
     let place = place_ok (length held.front) p (pos (b1 held.reference (right_of held.front) held.color) +ℤ k) is fits above in
     let whole : draw_mode held.settings.strict held.settings.columns held.reference (pen_of held rest) (Vertical k) ≡ try held.front (paint held.settings.strict held.settings.columns held.front held.color (p - length held.front)) go_on = rw place refl in
-    subst (λ (s : Step). DrawsStep s (Err e) (pen_of new rest)) (sym whole) (paint_fails held (p - length held.front) go_on e (pen_of new rest) (ap (λ (h : Held). h.front) same) unpainted (λ row has. has))
+    subst (λ (s : Step). DrawsStep s (Err e) (pen_of new rest)) (sym whole) (paint_fails held (p - length held.front) go_on e (pen_of new rest) (ap (λ (h : Held). h.front) same) unpainted (λ row stops. stops))
 
 -- a run that isn't read ends the line
 pub run_unread : (held : Held) (rest after : Bits) (e : DecodeError) → IsFault e → run_from held.color (0, rest) ≡ Err e
@@ -146,68 +164,68 @@ pub run_unpainted : (held new : Held) (n : ℕ) (rest after : Bits) (e : DecodeE
 run_unpainted held new n rest after e reads same unpainted =
     let go_on : Row → Step = λ front. Turn.next (record { front = front; color = opposite held.color; rest = after }) in
     let whole : draw_run held.settings.strict held.settings.columns (pen_of held rest) Turn.next ≡ try held.front (paint held.settings.strict held.settings.columns held.front held.color n) go_on = rw reads refl in
-    subst (λ (s : Step). DrawsStep s (Err e) (pen_of new after)) (sym whole) (paint_fails held n go_on e (pen_of new after) (ap (λ (h : Held). h.front) same) unpainted (λ row has. has))
+    subst (λ (s : Step). DrawsStep s (Err e) (pen_of new after)) (sym whole) (paint_fails held n go_on e (pen_of new after) (ap (λ (h : Held). h.front) same) unpainted (λ row stops. stops))
 
--- ---- A step keeps the black pixels of its front.
+-- ---- A step keeps what is painted: a change behind a front that stood is there in the finished row.
 
--- where a front has a black pixel, a step from it has one too
-abbrev KeepsBlack : (Pen → Step) → Type 0
-KeepsBlack go_on = (pen : Pen) → HasBlack pen.front → StepHasBlack (go_on pen)
+-- where a front has a change behind the front that stood, a step from it has it too
+abbrev Keeps : Row → (Pen → Step) → Type 0
+Keeps stood go_on = (pen : Pen) → StopsAtChange pen.front stood → StopsAtChange (front_after (go_on pen)) stood
 
-pub try_keeps_black : {A : Type 0} (front : Row) (r : Result A DecodeError) (go_on : A → Step) → HasBlack front → ((x : A) → r ≡ Ok x → StepHasBlack (go_on x)) → StepHasBlack (try front r go_on)
-try_keeps_black front (Ok x) go_on has keeps = keeps x refl
-try_keeps_black front (Err fault) go_on has keeps = has
+pub try_keeps : {A : Type 0} (stood : Row) (front : Row) (r : Result A DecodeError) (go_on : A → Step) → StopsAtChange front stood → ((x : A) → r ≡ Ok x → StopsAtChange (front_after (go_on x)) stood) → StopsAtChange (front_after (try front r go_on)) stood
+try_keeps stood front (Ok x) go_on stops keeps = keeps x refl
+try_keeps stood front (Err fault) go_on stops keeps = stops
 
-pub draw_run_keeps_black : (strict : Bool) (columns : ℕ) (pen : Pen) (go_on : Pen → Step) → ((p : Pen) → HasBlack p.front → StepHasBlack (go_on p)) → HasBlack pen.front → StepHasBlack (draw_run strict columns pen go_on)
-draw_run_keeps_black strict columns pen go_on keeps has =
-    try_keeps_black pen.front (run_from pen.color (0, pen.rest)) _ has (λ run e.
-    try_keeps_black pen.front (paint strict columns pen.front pen.color run.0) _ has (λ front f.
-    keeps (record { front = front; color = opposite pen.color; rest = run.1 }) (paint_keeps_black strict columns pen.front pen.color run.0 front f has)))
+pub draw_run_keeps : (stood : Row) (strict : Bool) (columns : ℕ) (pen : Pen) (go_on : Pen → Step) → ((p : Pen) → StopsAtChange p.front stood → StopsAtChange (front_after (go_on p)) stood) → StopsAtChange pen.front stood → StopsAtChange (front_after (draw_run strict columns pen go_on)) stood
+draw_run_keeps stood strict columns pen go_on keeps stops =
+    try_keeps stood pen.front (run_from pen.color (0, pen.rest)) _ stops (λ run e.
+    try_keeps stood pen.front (paint strict columns pen.front pen.color run.0) _ stops (λ front f.
+    keeps (record { front = front; color = opposite pen.color; rest = run.1 }) (paint_keeps stood strict columns pen.front pen.color run.0 front f stops)))
 
-draw_mode_keeps_black : (strict : Bool) (columns : ℕ) (reference : Row) (pen : Pen) (mode : Mode) → HasBlack pen.front → StepHasBlack (draw_mode strict columns reference pen mode)
-draw_mode_keeps_black strict columns reference pen Pass has =
+draw_mode_keeps : (stood : Row) (strict : Bool) (columns : ℕ) (reference : Row) (pen : Pen) (mode : Mode) → StopsAtChange pen.front stood → StopsAtChange (front_after (draw_mode strict columns reference pen mode)) stood
+draw_mode_keeps stood strict columns reference pen Pass stops =
     let n : ℕ = b2 reference (right_of pen.front) pen.color - length pen.front in
-    try_keeps_black pen.front (paint strict columns pen.front pen.color n) (λ front. Turn.next (record pen { front = front })) has
-    (λ front f. paint_keeps_black strict columns pen.front pen.color n front f has)
-draw_mode_keeps_black strict columns reference pen Horizontal has =
-    draw_run_keeps_black strict columns pen (λ pen. draw_run strict columns pen Turn.next) (λ p h. draw_run_keeps_black strict columns p Turn.next (λ q g. g) h) has
-draw_mode_keeps_black strict columns reference pen (Vertical k) has =
+    try_keeps stood pen.front (paint strict columns pen.front pen.color n) (λ front. Turn.next (record pen { front = front })) stops
+    (λ front f. paint_keeps stood strict columns pen.front pen.color n front f stops)
+draw_mode_keeps stood strict columns reference pen Horizontal stops =
+    draw_run_keeps stood strict columns pen (λ pen. draw_run strict columns pen Turn.next) (λ p h. draw_run_keeps stood strict columns p Turn.next (λ q g. g) h) stops
+draw_mode_keeps stood strict columns reference pen (Vertical k) stops =
     let paints : ℕ → Step = λ place. try pen.front (paint strict columns pen.front pen.color (place - length pen.front)) (λ front. Turn.next (record { front = front; color = opposite pen.color; rest = pen.rest })) in
-    try_keeps_black pen.front (place_from (length pen.front) (pos (b1 reference (right_of pen.front) pen.color) +ℤ k)) paints has (λ place e.
-    try_keeps_black pen.front (paint strict columns pen.front pen.color (place - length pen.front)) (λ front. Turn.next (record { front = front; color = opposite pen.color; rest = pen.rest })) has
-    (λ front f. paint_keeps_black strict columns pen.front pen.color (place - length pen.front) front f has))
+    try_keeps stood pen.front (place_from (length pen.front) (pos (b1 reference (right_of pen.front) pen.color) +ℤ k)) paints stops (λ place e.
+    try_keeps stood pen.front (paint strict columns pen.front pen.color (place - length pen.front)) (λ front. Turn.next (record { front = front; color = opposite pen.color; rest = pen.rest })) stops
+    (λ front f. paint_keeps stood strict columns pen.front pen.color (place - length pen.front) front f stops))
 
-either_black : (b : Bool) (x y : Step) → StepHasBlack x → StepHasBlack y → StepHasBlack (cond b x y)
-either_black true x y one other = one
-either_black false x y one other = other
+keeps_either : (stood : Row) (b : Bool) (x y : Step) → StopsAtChange (front_after x) stood → StopsAtChange (front_after y) stood → StopsAtChange (front_after (cond b x y)) stood
+keeps_either stood true x y one other = one
+keeps_either stood false x y one other = other
 
-step_2d_keeps_black : (strict : Bool) (columns : ℕ) (reference : Row) → KeepsBlack (step_2d strict columns reference)
-step_2d_keeps_black strict columns reference pen has =
+step_2d_keeps : (stood : Row) (strict : Bool) (columns : ℕ) (reference : Row) → Keeps stood (step_2d strict columns reference)
+step_2d_keeps stood strict columns reference pen stops =
     let modes : Step = try pen.front (read_code mode_codes pen.rest) (λ mode. draw_mode strict columns reference (record pen { rest = mode.1 }) mode.0) in
-    either_black (leb columns (length pen.front)) (Turn.done (Line.whole pen.front pen.rest)) modes has
-    (try_keeps_black pen.front (read_code mode_codes pen.rest) (λ mode. draw_mode strict columns reference (record pen { rest = mode.1 }) mode.0) has
-    (λ mode e. draw_mode_keeps_black strict columns reference (record pen { rest = mode.1 }) mode.0 has))
+    keeps_either stood (leb columns (length pen.front)) (Turn.done (Line.whole pen.front pen.rest)) modes stops
+    (try_keeps stood pen.front (read_code mode_codes pen.rest) (λ mode. draw_mode strict columns reference (record pen { rest = mode.1 }) mode.0) stops
+    (λ mode e. draw_mode_keeps stood strict columns reference (record pen { rest = mode.1 }) mode.0 stops))
 
-step_1d_keeps_black : (strict : Bool) (columns : ℕ) → KeepsBlack (step_1d strict columns)
-step_1d_keeps_black strict columns pen has =
-    either_black (leb columns (length pen.front)) (Turn.done (Line.whole pen.front pen.rest)) (draw_run strict columns pen Turn.next) has
-    (draw_run_keeps_black strict columns pen Turn.next (λ q h. h) has)
+step_1d_keeps : (stood : Row) (strict : Bool) (columns : ℕ) → Keeps stood (step_1d strict columns)
+step_1d_keeps stood strict columns pen stops =
+    keeps_either stood (leb columns (length pen.front)) (Turn.done (Line.whole pen.front pen.rest)) (draw_run strict columns pen Turn.next) stops
+    (draw_run_keeps stood strict columns pen Turn.next (λ q h. h) stops)
 
--- a line that goes on from a front with a black pixel has one
-from_black : (step : Pen → Step) → Shrinks step left → KeepsBlack step → (n : ℕ) (pen : Pen) → left pen < n → HasBlack pen.front → HasBlack (front_of (repeated step (Line.broken [] UnexpectedEof) n pen))
-from_black step shrinks keeps zero pen lt has = absurd (omega arith)
-from_black step shrinks keeps (suc n) pen lt has = by (λ p small h. from_black step shrinks keeps n p small h) (step pen) refl (keeps pen has)
+-- a line keeps the change that it goes on from
+keeps_on : (stood : Row) (step : Pen → Step) → Shrinks step left → Keeps stood step → (n : ℕ) (pen : Pen) → left pen < n → StopsAtChange pen.front stood → StopsAtChange (front_of (repeated step (Line.broken [] UnexpectedEof) n pen)) stood
+keeps_on stood step shrinks keeps zero pen lt stops = absurd (omega arith)
+keeps_on stood step shrinks keeps (suc n) pen lt stops = by (λ p small h. keeps_on stood step shrinks keeps n p small h) (step pen) refl (keeps pen stops)
   where
-    by : ((p : Pen) → left p < n → HasBlack p.front → HasBlack (front_of (repeated step (Line.broken [] UnexpectedEof) n p))) → (turn : Step) → step pen ≡ turn → StepHasBlack turn
-        → HasBlack (front_of (after_turn (repeated step (Line.broken [] UnexpectedEof) n) turn))
+    by : ((p : Pen) → left p < n → StopsAtChange p.front stood → StopsAtChange (front_of (repeated step (Line.broken [] UnexpectedEof) n p)) stood) → (turn : Step) → step pen ≡ turn → StopsAtChange (front_after turn) stood
+        → StopsAtChange (front_of (after_turn (repeated step (Line.broken [] UnexpectedEof) n) turn)) stood
     by on (Turn.next p) e h = on p (omega (arith, shrinks pen p e)) h
     by on (Turn.done line) e h = h
 
 -- ---- The rule of one step of a line.
 
-after_black : (step : Pen → Step) → Shrinks step left → KeepsBlack step → (turn : Step) → StepHasBlack turn → HasBlack (front_of (after_turn (drawn step) turn))
-after_black step shrinks keeps (Turn.next pen) has = from_black step shrinks keeps (suc (length pen.rest)) pen (omega arith) has
-after_black step shrinks keeps (Turn.done line) has = has
+keeps_after : (stood : Row) (step : Pen → Step) → Shrinks step left → Keeps stood step → (turn : Step) → StopsAtChange (front_after turn) stood → StopsAtChange (front_of (after_turn (drawn step) turn)) stood
+keeps_after stood step shrinks keeps (Turn.next pen) stops = keeps_on stood step shrinks keeps (suc (length pen.rest)) pen (omega arith) stops
+keeps_after stood step shrinks keeps (Turn.done line) stops = stops
 
 -- a line that isn't full goes on with a run, or with a mode
 run_open : (strict : Bool) (columns : ℕ) (pen : Pen) → length pen.front < columns
@@ -226,21 +244,21 @@ line_mode strict columns reference pen mode rest open_row reads = line_open stri
 -- ---- What a line answers.
 
 -- an error of a step is that of the line
-fails_by : (step : Pen → Step) → Shrinks step left → KeepsBlack step → (line : Line) (turn : Step) (e : DecodeError) (pen : Pen) → line ≡ after_turn (drawn step) turn
+fails_by : (step : Pen → Step) → Shrinks step left → ((stood : Row) → Keeps stood step) → (line : Line) (turn : Step) (e : DecodeError) (pen : Pen) → line ≡ after_turn (drawn step) turn
     → DrawsStep turn (Err e) pen → DrawsLine line (Err e) pen.front pen.rest
 fails_by step shrinks keeps line turn UnexpectedEof pen is draws = is ∙ rw draws refl
 fails_by step shrinks keeps line turn InvalidCode pen is draws = is ∙ rw draws refl
 fails_by step shrinks keeps line turn Overflow pen is draws = is ∙ rw draws refl
-fails_by step shrinks keeps line turn OutOfMemory pen is draws = subst (λ (l : Line). HasBlack (front_of l)) (sym is) (after_black step shrinks keeps turn draws)
+fails_by step shrinks keeps line turn OutOfMemory pen is draws = subst (λ (l : Line). StopsAtChange (front_of l) pen.front) (sym is) (keeps_after pen.front step shrinks (keeps pen.front) turn draws)
 fails_by step shrinks keeps line turn Refused pen is draws = absurd draws
 
 pub line_1d_fails : (strict : Bool) (columns : ℕ) (line : Line) (step : Step) (e : DecodeError) (pen : Pen) → line ≡ after_turn (drawn (step_1d strict columns)) step
     → DrawsStep step (Err e) pen → DrawsLine line (Err e) pen.front pen.rest
-line_1d_fails strict columns = fails_by (step_1d strict columns) (step_1d_shrinks strict columns) (step_1d_keeps_black strict columns)
+line_1d_fails strict columns = fails_by (step_1d strict columns) (step_1d_shrinks strict columns) (λ stood. step_1d_keeps stood strict columns)
 
 pub line_2d_fails : (strict : Bool) (columns : ℕ) (reference : Row) (line : Line) (step : Step) (e : DecodeError) (pen : Pen) → line ≡ after_turn (drawn (step_2d strict columns reference)) step
     → DrawsStep step (Err e) pen → DrawsLine line (Err e) pen.front pen.rest
-line_2d_fails strict columns reference = fails_by (step_2d strict columns reference) (step_2d_shrinks strict columns reference) (step_2d_keeps_black strict columns reference)
+line_2d_fails strict columns reference = fails_by (step_2d strict columns reference) (step_2d_shrinks strict columns reference) (λ stood. step_2d_keeps stood strict columns reference)
 
 -- the line of a context whose row isn't full is what comes of the run that is drawn
 pub line_by_run : (before now : Held) (line : Line) (at : Bits) → now ≡ redrawn before now.front now.color
@@ -297,8 +315,8 @@ draw_run_and_then strict columns pen go_on = by (run_from pen.color (0, pen.rest
     by (Ok run) = try_and_then pen.front (paint strict columns pen.front pen.color run.0) (λ front. Turn.next (record { front = front; color = opposite pen.color; rest = run.1 })) go_on
     by (Err fault) = refl
 
--- an error of the first step is that of both, if what follows keeps black pixels
-pub and_then_fails : (go_on : Pen → Step) (step : Step) (e : DecodeError) (pen : Pen) → ((p : Pen) → HasBlack p.front → StepHasBlack (go_on p)) → DrawsStep step (Err e) pen → DrawsStep (and_then go_on step) (Err e) pen
+-- an error of the first step is that of both, if what follows keeps what is painted
+pub and_then_fails : (go_on : Pen → Step) (step : Step) (e : DecodeError) (pen : Pen) → Keeps pen.front go_on → DrawsStep step (Err e) pen → DrawsStep (and_then go_on step) (Err e) pen
 and_then_fails go_on step UnexpectedEof pen keeps draws = rw draws refl
 and_then_fails go_on step InvalidCode pen keeps draws = rw draws refl
 and_then_fails go_on step Overflow pen keeps draws = rw draws refl
@@ -322,7 +340,7 @@ pub first_run_fails : (strict : Bool) (columns : ℕ) (pen left : Pen) (e : Deco
 first_run_fails strict columns pen left e draws =
     let go_on : Pen → Step = λ pen. draw_run strict columns pen Turn.next in
     subst (λ (s : Step). DrawsStep s (Err e) left) (sym (draw_run_and_then strict columns pen go_on))
-    (and_then_fails go_on (draw_run strict columns pen Turn.next) e left (λ p has. draw_run_keeps_black strict columns p Turn.next (λ q g. g) has) draws)
+    (and_then_fails go_on (draw_run strict columns pen Turn.next) e left (λ p stops. draw_run_keeps left.front strict columns p Turn.next (λ q g. g) stops) draws)
 
 -- Between two steps of a line: the line from the pen on is the whole line; all but the front and the colour of the
 -- context stands.

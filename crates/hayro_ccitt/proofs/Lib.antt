@@ -22,6 +22,7 @@ pub mod Local
 pub mod Moves
 pub mod Painting
 pub mod Past
+pub mod PicturesOfEachKind
 pub mod PicturesOfLines
 pub mod PicturesT4
 pub mod PicturesT6
@@ -36,15 +37,18 @@ pub mod Repeated
 pub mod RowChanges
 pub mod RowsAndGaps
 pub mod RowsOfGroup4
+pub mod RunsOverRows
 pub mod ScanWords
+pub mod SoughtEols
 pub mod Starts
 pub mod Strictness
 pub mod TablesAgree
+pub mod TaggedEols
 pub mod Tails
-pub mod TakenRows
 pub mod Tests
 pub mod TickTurns
 pub mod Turns
+pub mod UnreadRows
 pub mod WordsFound
 pub mod ZeroRuns
 pub mod ZerosInWords

@@ -26,16 +26,19 @@ use Rattle.hayro_ccitt.proofs.Alike.{Closes, closes_inside, inside_after, after_
 use Rattle.hayro_ccitt.proofs.RowsAndGaps.{unless_over, seek_from, seek_eol, after_row, add_row, after_whole-is, after_damage-is}
 
 -- ---- Rows of which one may differ
-abbrev pub RowsAlike : List Row → List Row → Type 0
-RowsAlike xs ys = (xs ≡ ys) ⊎ ((before : List Row) × (a b : Row) × (more : List Row) × (xs ≡ before ++ a ∷ more) × (ys ≡ before ++ b ∷ more))
 
-rows_length : (xs ys : List Row) → RowsAlike xs ys → length xs ≡ length ys
+-- the rows are equal, or all but one, of which something is said by the rows before it
+abbrev pub RowsAlike : (List Row → Type 0) → List Row → List Row → Type 0
+RowsAlike Begins xs ys = (xs ≡ ys)
+    ⊎ ((before : List Row) × (a b : Row) × (more : List Row) × (xs ≡ before ++ a ∷ more) × (ys ≡ before ++ b ∷ more) × Begins before)
+
+rows_length : {Begins : List Row → Type 0} (xs ys : List Row) → RowsAlike Begins xs ys → length xs ≡ length ys
 rows_length xs ys (inl e) = ap length e
-rows_length xs ys (inr (before, a, b, more, e, f)) = ap length e ∙ length-append before (a ∷ more) ∙ sym (length-append before (b ∷ more)) ∙ sym (ap length f)
+rows_length xs ys (inr (before, a, b, more, e, f, begins)) = ap length e ∙ length-append before (a ∷ more) ∙ sym (length-append before (b ∷ more)) ∙ sym (ap length f)
 
-rows_more : (xs ys : List Row) (row : Row) → RowsAlike xs ys → RowsAlike (xs ++ row ∷ []) (ys ++ row ∷ [])
+rows_more : {Begins : List Row → Type 0} (xs ys : List Row) (row : Row) → RowsAlike Begins xs ys → RowsAlike Begins (xs ++ row ∷ []) (ys ++ row ∷ [])
 rows_more xs ys row (inl e) = inl (ap (λ (x : List Row). x ++ row ∷ []) e)
-rows_more xs ys row (inr (before, a, b, more, e, f)) =
+rows_more xs ys row (inr (before, a, b, more, e, f, begins)) =
     inr (
       before,
       a,
@@ -44,6 +47,7 @@ rows_more xs ys row (inr (before, a, b, more, e, f)) =
       ap (λ (x : List Row). x ++ row ∷ []) e
           ∙ append_assoc before (a ∷ more) (row ∷ []),
       ap (λ (x : List Row). x ++ row ∷ []) f ∙ append_assoc before (b ∷ more) (row ∷ []),
+      begins,
     )
 
 -- a state between lines
@@ -51,24 +55,24 @@ abbrev pub run_at : List Row → Bool → Bits → Progress
 run_at rows has_eols rest = record { rows = rows; has_eols = has_eols; rest = rest }
 
 -- how two runs end: with one fault; at one place among the equal bits; past the EOL after the line; or at the limit
-pub data EndsAlike (settings : DecodeSettings) (from : ℕ) (x y after : Bits) (r q : Ending) : Type 0 where
-  faults : (fault : DecodeError) → r.outcome ≡ Err fault → q.outcome ≡ Err fault → RowsAlike r.rows q.rows → EndsAlike settings from x y after r q
+pub data EndsAlike (settings : DecodeSettings) (Begins : List Row → Type 0) (from : ℕ) (x y after : Bits) (r q : Ending) : Type 0 where
+  faults : (fault : DecodeError) → r.outcome ≡ Err fault → q.outcome ≡ Err fault → RowsAlike Begins r.rows q.rows → EndsAlike settings Begins from x y after r q
   early : (bits : Bits) → length bits < from → r.outcome ≡ Ok (bits ++ true ∷ x) → q.outcome ≡ Ok (bits ++ true ∷ y) → r.rows ≡ q.rows
-      → EndsAlike settings from x y after r q
-  there : r.outcome ≡ Ok x → q.outcome ≡ Ok y → r.rows ≡ q.rows → EndsAlike settings from x y after r q
-  later : (rest : Bits) → length rest ≤ length after → r.outcome ≡ Ok rest → q.outcome ≡ Ok rest → RowsAlike r.rows q.rows
-      → EndsAlike settings from x y after r q
-  limit : (before : List Row) (a b : Row) (u v : Bits) → settings.rows ≡ suc (length before) → r.rows ≡ before ++ a ∷ [] → q.rows ≡ before ++ b ∷ []
+      → EndsAlike settings Begins from x y after r q
+  there : r.outcome ≡ Ok x → q.outcome ≡ Ok y → r.rows ≡ q.rows → EndsAlike settings Begins from x y after r q
+  later : (rest : Bits) → length rest ≤ length after → r.outcome ≡ Ok rest → q.outcome ≡ Ok rest → RowsAlike Begins r.rows q.rows
+      → EndsAlike settings Begins from x y after r q
+  limit : (before : List Row) (a b : Row) (u v : Bits) → Begins before → settings.rows ≡ suc (length before) → r.rows ≡ before ++ a ∷ [] → q.rows ≡ before ++ b ∷ []
       → r.outcome ≡ Ok u → q.outcome ≡ Ok v → length u ≤ length x → length v ≤ length y
-      → EndsAlike settings from x y after r q
+      → EndsAlike settings Begins from x y after r q
 
 -- where two runs stand between lines: at one place among the equal bits; just past them; or past the EOL after the line
-pub data RunsAlike (from : ℕ) (x y after : Bits) (s t : Progress) : Type 0 where
+pub data RunsAlike (Begins : List Row → Type 0) (from : ℕ) (x y after : Bits) (s t : Progress) : Type 0 where
   ahead : (rows : List Row) (bits : Bits) → Closes bits → length bits < from → s ≡ sought rows (bits ++ true ∷ x) → t ≡ sought rows (bits ++ true ∷ y)
-      → RunsAlike from x y after s t
-  there : (rows : List Row) → s ≡ sought rows x → t ≡ sought rows y → RunsAlike from x y after s t
-  beyond : (xs ys : List Row) (has_eols : Bool) (rest : Bits) → RowsAlike xs ys → length rest ≤ length after → s ≡ run_at xs has_eols rest
-      → t ≡ run_at ys has_eols rest → RunsAlike from x y after s t
+      → RunsAlike Begins from x y after s t
+  there : (rows : List Row) → s ≡ sought rows x → t ≡ sought rows y → RunsAlike Begins from x y after s t
+  beyond : (xs ys : List Row) (has_eols : Bool) (rest : Bits) → RowsAlike Begins xs ys → length rest ≤ length after → s ≡ run_at xs has_eols rest
+      → t ≡ run_at ys has_eols rest → RunsAlike Begins from x y after s t
 
 -- the bits from the line on: no EOL stands there, the next is followed by some bits, and the line stays before it
 pub record IsTail (columns : ℕ) (after x : Bits) : Type 0 where
@@ -76,14 +80,14 @@ pub record IsTail (columns : ℕ) (after x : Bits) : Type 0 where
   pub next : past 0 x ≡ Some after
   pub stays : StaysBefore columns x
 
-module _ (settings : DecodeSettings) (encoding : settings.encoding ≡ Group3_1D) (lenient : settings.strict ≡ false) (from : ℕ) (x y after : Bits)
+module _ (settings : DecodeSettings) (encoding : settings.encoding ≡ Group3_1D) (lenient : settings.strict ≡ false) (Begins : List Row → Type 0) (from : ℕ) (x y after : Bits)
     (tail_x : IsTail settings.columns after x) (tail_y : IsTail settings.columns after y) (rest : Progress → Ending) where
   -- two turns that are alike
   abbrev Both : Move → Move → Type 0
-  Both m n = Follows (RunsAlike from x y after) (EndsAlike settings from x y after) rest m n
+  Both m n = Follows (RunsAlike Begins from x y after) (EndsAlike settings Begins from x y after) rest m n
 
   -- ---- Past the EOL after the line all is alike but one row
-  unless_beyond : (xs ys : List Row) (has_eols : Bool) (a b : Bits) (found : ℕ × Bits) → RowsAlike xs ys → length found.1 ≤ length after
+  unless_beyond : (xs ys : List Row) (has_eols : Bool) (a b : Bits) (found : ℕ × Bits) → RowsAlike Begins xs ys → length found.1 ≤ length after
       → Both (unless_over settings (run_at xs has_eols a) found) (unless_over settings (run_at ys has_eols b) found)
   unless_beyond xs ys has_eols a b (count, here) alike short =
       subst (λ (n : ℕ). Both (unless_over settings (run_at xs has_eols a) (count, here))
@@ -97,7 +101,7 @@ module _ (settings : DecodeSettings) (encoding : settings.encoding ≡ Group3_1D
       by true = EndsAlike.later here short refl refl alike
       by false = RunsAlike.beyond xs ys has_eols here alike short refl refl
 
-  row_beyond : (xs ys : List Row) (has_eols : Bool) (here : Bits) → RowsAlike xs ys → length here ≤ length after
+  row_beyond : (xs ys : List Row) (has_eols : Bool) (here : Bits) → RowsAlike Begins xs ys → length here ≤ length after
       → Both (after_row settings (run_at xs has_eols here)) (after_row settings (run_at ys has_eols here))
   row_beyond xs ys has_eols here alike short =
       subst (λ (n : ℕ). Both (after_row settings (run_at xs has_eols here))
@@ -124,7 +128,7 @@ module _ (settings : DecodeSettings) (encoding : settings.encoding ≡ Group3_1D
       by true = strictly settings.strict
       by false = unless_beyond xs ys has_eols here here (eols_group3 settings here) alike (omega (arith, (eols_group3_counted settings here).0, short))
 
-  line_beyond : (xs ys : List Row) (has_eols : Bool) (here : Bits) (line : Line) → RowsAlike xs ys → length here ≤ length after → LineLeaves here line
+  line_beyond : (xs ys : List Row) (has_eols : Bool) (here : Bits) (line : Line) → RowsAlike Begins xs ys → length here ≤ length after → LineLeaves here line
       → Both (after_line_group3 settings (run_at xs has_eols here) line) (after_line_group3 settings (run_at ys has_eols here) line)
   line_beyond xs ys has_eols here (Line.whole row left) alike short leaves =
       let al : Bool = settings.rows_are_byte_aligned && not has_eols in
@@ -151,7 +155,7 @@ module _ (settings : DecodeSettings) (encoding : settings.encoding ≡ Group3_1D
       by true = EndsAlike.faults fault refl refl alike
       by false = row_beyond (xs ++ row ∷ []) (ys ++ row ∷ []) has_eols (cond al (aligned here) here) (rows_more xs ys row alike) (omega (arith, shorter, short))
 
-  move_beyond : (xs ys : List Row) (has_eols : Bool) (here : Bits) → RowsAlike xs ys → length here ≤ length after
+  move_beyond : (xs ys : List Row) (has_eols : Bool) (here : Bits) → RowsAlike Begins xs ys → length here ≤ length after
       → Both (move_group3 settings (run_at xs has_eols here)) (move_group3 settings (run_at ys has_eols here))
   move_beyond xs ys has_eols here alike short =
       rw (
@@ -270,12 +274,12 @@ module _ (settings : DecodeSettings) (encoding : settings.encoding ≡ Group3_1D
       (and_parts (not (eqb settings.rows 0)) (eqb settings.rows (length (rows ++ row ∷ []))) met).1 in
       omega (arith, same, length-append rows (row ∷ []))
 
-  row_there : (rows : List Row) (a b : Row) (u v : Bits) → past 0 u ≡ Some after → past 0 v ≡ Some after → length u ≤ length x → length v ≤ length y
+  row_there : (rows : List Row) (a b : Row) (u v : Bits) → Begins rows → past 0 u ≡ Some after → past 0 v ≡ Some after → length u ≤ length x → length v ≤ length y
       → Both (after_row settings (sought (rows ++ a ∷ []) u)) (after_row settings (sought (rows ++ b ∷ []) v))
-  row_there rows a b u v e f le le2 = by (cases_Bool (limit_met settings (length (rows ++ a ∷ []))))
+  row_there rows a b u v begins e f le le2 = by (cases_Bool (limit_met settings (length (rows ++ a ∷ []))))
     where
-      alike : RowsAlike (rows ++ a ∷ []) (rows ++ b ∷ [])
-      alike = inr (rows, a, b, [], refl, refl)
+      alike : RowsAlike Begins (rows ++ a ∷ []) (rows ++ b ∷ [])
+      alike = inr (rows, a, b, [], refl, refl, begins)
 
       as_many : limit_met settings (length (rows ++ a ∷ [])) ≡ limit_met settings (length (rows ++ b ∷ []))
       as_many = ap (limit_met settings) (rows_length (rows ++ a ∷ []) (rows ++ b ∷ []) alike)
@@ -284,7 +288,7 @@ module _ (settings : DecodeSettings) (encoding : settings.encoding ≡ Group3_1D
           → Both (after_row settings (sought (rows ++ a ∷ []) u)) (after_row settings (sought (rows ++ b ∷ []) v))
       by (inl met) =
           rw (limit_done settings encoding lenient (rows ++ a ∷ []) u met, limit_done settings encoding lenient (rows ++ b ∷ []) v (sym as_many ∙ met))
-          (EndsAlike.limit rows a b (all_eols u).1 (all_eols v).1 (limit_is rows a met) refl refl refl refl
+          (EndsAlike.limit rows a b (all_eols u).1 (all_eols v).1 begins (limit_is rows a met) refl refl refl refl
           (omega (arith, eols_shorter (length u) u, le)) (omega (arith, eols_shorter (length v) v, le2)))
       by (inr open_limit) =
           rw (
@@ -298,17 +302,17 @@ module _ (settings : DecodeSettings) (encoding : settings.encoding ≡ Group3_1D
   rest_shorter (Line.whole row left) here leaves = omega (arith, ap length leaves.1, length-append leaves.0 left)
   rest_shorter (Line.broken front fault) here leaves = omega arith
 
-  line_there : (rows : List Row) → Both (move_group3 settings (sought rows x)) (move_group3 settings (sought rows y))
-  line_there rows =
+  line_there : (rows : List Row) → Begins rows → Both (move_group3 settings (sought rows x)) (move_group3 settings (sought rows y))
+  line_there rows begins =
       rw (move_line settings encoding lenient rows x, move_line settings encoding lenient rows y)
       (row_there rows (row_at settings.columns x) (row_at settings.columns y) (rest_of (line_1d false settings.columns x) x)
-      (rest_of (line_1d false settings.columns y) y)
+      (rest_of (line_1d false settings.columns y) y) begins
       (line_past settings.columns x after tail_x.stays tail_x.next) (line_past settings.columns y after tail_y.stays tail_y.next)
       (rest_shorter (line_1d false settings.columns x) x (line_1d_leaves false settings.columns x))
       (rest_shorter (line_1d false settings.columns y) y (line_1d_leaves false settings.columns y)))
 
   -- a turn of two such runs
-  pub moves_alike : (s t : Progress) → RunsAlike from x y after s t → Both (move_group3 settings s) (move_group3 settings t)
-  moves_alike s t (RunsAlike.ahead rows bits closes short e f) = rw (e, f) (line_ahead rows bits closes short)
-  moves_alike s t (RunsAlike.there rows e f) = rw (e, f) (line_there rows)
-  moves_alike s t (RunsAlike.beyond xs ys has_eols here alike short e f) = rw (e, f) (move_beyond xs ys has_eols here alike short)
+  pub moves_alike : (s t : Progress) → ((rows : List Row) → s ≡ sought rows x → t ≡ sought rows y → Begins rows) → RunsAlike Begins from x y after s t → Both (move_group3 settings s) (move_group3 settings t)
+  moves_alike s t begins (RunsAlike.ahead rows bits closes short e f) = rw (e, f) (line_ahead rows bits closes short)
+  moves_alike s t begins (RunsAlike.there rows e f) = rw (e, f) (line_there rows (begins rows e f))
+  moves_alike s t begins (RunsAlike.beyond xs ys has_eols here alike short e f) = rw (e, f) (move_beyond xs ys has_eols here alike short)

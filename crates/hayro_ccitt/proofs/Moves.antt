@@ -1,8 +1,8 @@
 -- Each line of a run moves the place on.
-use Rattle.std.proofs.Common.{◌≡◌, ℕ, zero, suc, ◌+◌, ◌-◌, ◌%◌, ◌<◌, ◌≤◌, Bool, true, false, cond, not, ◌&&◌, ◌||◌, eqb, ltb, leb, [], ◌∷◌, ◌++◌}
+use Rattle.std.proofs.Common.{◌≡◌, ℕ, zero, suc, ◌+◌, ◌-◌, ◌%◌, ◌<◌, ◌≤◌, Bool, true, false, cond, not, ◌&&◌, ◌||◌, eqb, leb, [], ◌∷◌, ◌++◌}
 use Rattle.std.proofs.Common.{length, replicate, Option, Some, None, Result, Ok, Err, refl, sym, ap, subst, ◌∙◌, arith, ◌⊎◌, inl, inr}
 use Rattle.std.proofs.lemmas.List.{length-drop}
-use Rattle.std.proofs.lemmas.Bool.{cases_lt, not-false, and_parts, and_cases, or_parts, false≢true, lt-ltb, le-leb, ltb-true, ltb-false, eqb-false}
+use Rattle.std.proofs.lemmas.Bool.{cases_lt, not-false, and_parts, and_cases, or_parts, false≢true, le-leb, eqb-false}
 use Rattle.hayro_ccitt.specs.declared.error.DecodeError.{DecodeError}
 use Rattle.hayro_ccitt.specs.declared.settings.DecodeSettings.{DecodeSettings}
 use Rattle.hayro_ccitt.specs.Bits.{Bits}
@@ -12,10 +12,8 @@ use Rattle.hayro_ccitt.specs.declared.settings.EncodingMode.{EncodingMode}
 use Rattle.hayro_ccitt.specs.declared.settings.EncodingMode.TheVariants.{Group4, Group3_1D, Group3_2D}
 use Rattle.hayro_ccitt.specs.declared.error.DecodeError.TheVariants.{InvalidCode}
 use Rattle.hayro_ccitt.specs.Lines.{Line, line_1d, line_2d}
-use Rattle.hayro_ccitt.specs.EndOfLine.{after_eol, one_more, eols, all_eols, next_eol, after_tag, tagged_eols_from, pass_last_tag, tagged_eols}
-use Rattle.hayro_ccitt.specs.PlainReading.{Progress, Ending, Move, row_before, aligned, ends_with, after_line_group4, move_group4}
-use Rattle.hayro_ccitt.specs.PlainReading.{limit_met, at_end, line_by, eols_by, eols_group3, line_at_group3}
-use Rattle.hayro_ccitt.specs.PlainReading.{after_line_group3, move_group3}
+use Rattle.hayro_ccitt.specs.EndOfLine.{after_eol, one_more, eols, all_eols, next_eol, past_tag, eols_with_tags, pass_last_tag, tagged_eols}
+use Rattle.hayro_ccitt.specs.PlainReading.{Progress, Ending, Move, row_before, aligned, ends_with, after_line_group4, move_group4, limit_met, at_end, line_by, eols_by, eols_group3, line_at_group3, after_line_group3, move_group3}
 use Rattle.hayro_ccitt.proofs.Repeated.{Shrinks}
 use Rattle.hayro_ccitt.proofs.ReadRuns.{chosen}
 use Rattle.hayro_ccitt.proofs.ReadLines.{TookBits, line_1d_took_bits, line_2d_took_bits}
@@ -143,29 +141,53 @@ pub eols_some_counts : (here rest : Bits) → after_eol 0 here ≡ Some rest →
 eols_some_counts [] rest e = absurd cc
 eols_some_counts (bit ∷ here) rest e = rw (eols-some (length here) (bit ∷ here) rest e) (omega (arith, one_more-count (eols (length here) rest)))
 
-after_tag_shorter : (here rest : Bits) → after_tag here ≡ Some rest → length rest < length here
-after_tag_shorter [] rest e = absurd cc
-after_tag_shorter (false ∷ here) rest e = absurd cc
-after_tag_shorter (true ∷ here) rest e = by (after_eol 0 here) refl
+-- a tag is passed, or nothing
+past_tag_shorter : (here : Bits) → length (past_tag here) ≤ length here
+past_tag_shorter [] = omega arith
+past_tag_shorter (false ∷ here) = omega arith
+past_tag_shorter (true ∷ here) = by (after_eol 0 here) refl
   where
-    by : (o : Option Bits) → after_eol 0 here ≡ o → length rest < length (true ∷ here)
-    by None f = absurd (let g : ◌≡◌ {A = Option Bits} None (Some rest) = rw (f, after_tag) at e in cc)
-    by (Some more) f =
-        let g : ◌≡◌ {A = Option Bits} (Some here) (Some rest) = rw (f, after_tag) at e in
-        let same : here ≡ rest = cc in
-        subst (λ (x : Bits). length x < length (true ∷ here)) same (omega arith)
+    by : (o : Option Bits) → after_eol 0 here ≡ o → length (past_tag (true ∷ here)) ≤ length (true ∷ here)
+    by None e = rw (e, past_tag) (omega arith)
+    by (Some rest) e = rw (e, past_tag) (omega arith)
 
-tagged_eols_from_shorter : (turns count : ℕ) (here : Bits) → length (tagged_eols_from turns (count, here)).1 ≤ length here
-tagged_eols_from_shorter zero count here = omega arith
-tagged_eols_from_shorter (suc turns) count here = by (tagged_eols_from_shorter turns) (after_tag here) refl
+-- where an EOL stands, the count of EOLs with their tags is that of those after it and its tag, and one more
+pub eols_with_tags-some : (most : ℕ) (here rest : Bits) → after_eol 0 here ≡ Some rest
+    → eols_with_tags (suc most) here ≡ one_more (eols_with_tags most (past_tag rest))
+eols_with_tags-some most here rest e = rw (e, eols_with_tags) refl
+
+-- where no EOL stands, none is counted
+pub eols_with_tags-none : (most : ℕ) (here : Bits) → after_eol 0 here ≡ None → eols_with_tags most here ≡ (0, here)
+eols_with_tags-none zero here e = refl
+eols_with_tags-none (suc most) here e = rw (e, eols_with_tags) refl
+
+eols_with_tags_shorter : (most : ℕ) (here : Bits) → length (eols_with_tags most here).1 ≤ length here
+eols_with_tags_shorter zero here = omega arith
+eols_with_tags_shorter (suc most) here = by (λ rest. eols_with_tags_shorter most rest) (after_eol 0 here) refl
   where
-    by : ((count : ℕ) (here : Bits) → length (tagged_eols_from turns (count, here)).1 ≤ length here) → (o : Option Bits) → after_tag here ≡ o
-        → length (tagged_eols_from (suc turns) (count, here)).1 ≤ length here
-    by on None e = rw (e, tagged_eols_from) (omega arith)
-    by on (Some rest) e = rw (e, tagged_eols_from)
-        (omega (arith, on (count + (all_eols rest).0) (all_eols rest).1, eols_shorter (length rest) rest, after_tag_shorter here rest e))
+    by : ((rest : Bits) → length (eols_with_tags most rest).1 ≤ length rest) → (o : Option Bits) → after_eol 0 here ≡ o
+        → length (eols_with_tags (suc most) here).1 ≤ length here
+    by on None e = rw (eols_with_tags-none (suc most) here e) (omega arith)
+    by on (Some rest) e = rw (eols_with_tags-some most here rest e)
+        (omega (arith, length-one_more (eols_with_tags most (past_tag rest)), on (past_tag rest), past_tag_shorter rest, after_eol_shorter 0 here rest e))
 
-last_tag_count : (found : ℕ × Bits) → (pass_last_tag found).0 ≡ found.0
+-- the place is moved on by each of them
+eols_with_tags_moves : (most : ℕ) (here : Bits) → 0 < (eols_with_tags most here).0 → length (eols_with_tags most here).1 < length here
+eols_with_tags_moves zero here some = absurd (omega arith)
+eols_with_tags_moves (suc most) here some = by (after_eol 0 here) refl
+  where
+    by : (o : Option Bits) → after_eol 0 here ≡ o → length (eols_with_tags (suc most) here).1 < length here
+    by None e = absurd (let f = eols_with_tags-none (suc most) here e in omega (arith, ap (λ (x : ℕ × Bits). x.0) f, some))
+    by (Some rest) e =
+        rw (eols_with_tags-some most here rest e) (omega (
+          arith,
+          length-one_more (eols_with_tags most (past_tag rest)),
+          eols_with_tags_shorter most (past_tag rest),
+          past_tag_shorter rest,
+          after_eol_shorter 0 here rest e,
+        ))
+
+pub last_tag_count : (found : ℕ × Bits) → (pass_last_tag found).0 ≡ found.0
 last_tag_count (count, []) = refl
 last_tag_count (count, false ∷ here) = refl
 last_tag_count (count, true ∷ here) = by (leb 6 count)
@@ -191,20 +213,12 @@ all_counted : (here : Bits) → Counted here (all_eols here)
 all_counted here = (eols_shorter (length here) here, eols_moves (length here) here)
 
 tagged_eols_counted : (here : Bits) → Counted here (tagged_eols here)
-tagged_eols_counted here = by (ltb 0 (all_eols here).0) refl
-  where
-    by : (b : Bool) → ltb 0 (all_eols here).0 ≡ b
-        → Counted here (pass_last_tag (cond {A = ℕ × Bits} b (tagged_eols_from (length here) (all_eols here)) (all_eols here)))
-    by true e =
-        let found : ℕ × Bits = tagged_eols_from (length here) (all_eols here) in
-        let fewer : length (all_eols here).1 < length here = eols_moves (length here) here (ltb-true 0 (all_eols here).0 e) in
-        let left : length (pass_last_tag found).1 < length here
-        = omega (arith, last_tag_shorter found, tagged_eols_from_shorter (length here) (all_eols here).0 (all_eols here).1, fewer) in
-        (omega arith, λ some. left)
-    by false e =
-        let none : 0 ≡ (all_eols here).0 = omega (arith, ltb-false 0 (all_eols here).0 e) in
-        let left : length (pass_last_tag (all_eols here)).1 ≤ length here = omega (arith, last_tag_shorter (all_eols here), eols_shorter (length here) here) in
-        (left, λ some. absurd (omega (arith, last_tag_count (all_eols here), none, some)))
+tagged_eols_counted here =
+    let found : ℕ × Bits = eols_with_tags (length here) here in (
+      omega (arith, last_tag_shorter found, eols_with_tags_shorter (length here) here),
+      λ some. let counts : 0 < found.0 = omega (arith, last_tag_count found, some) in
+          omega (arith, last_tag_shorter found, eols_with_tags_moves (length here) here counts),
+    )
 
 -- so many EOLs took bits
 pub eols_group3_counted : (settings : DecodeSettings) (here : Bits) → Counted here (eols_group3 settings here)
@@ -215,20 +229,11 @@ eols_group3_counted settings here = by settings.encoding
     by Group3_2D = tagged_eols_counted here
     by Group4 = all_counted here
 
-tagged_eols_from_count : (turns count : ℕ) (here : Bits) → count ≤ (tagged_eols_from turns (count, here)).0
-tagged_eols_from_count zero count here = omega arith
-tagged_eols_from_count (suc turns) count here = by (tagged_eols_from_count turns) (after_tag here) refl
-  where
-    by : ((count : ℕ) (here : Bits) → count ≤ (tagged_eols_from turns (count, here)).0) → (o : Option Bits) → after_tag here ≡ o
-        → count ≤ (tagged_eols_from (suc turns) (count, here)).0
-    by on None e = rw (e, tagged_eols_from) (omega arith)
-    by on (Some rest) e = rw (e, tagged_eols_from) (omega (arith, on (count + (all_eols rest).0) (all_eols rest).1))
-
 tagged_eols_some_counts : (here rest : Bits) → after_eol 0 here ≡ Some rest → 0 < (tagged_eols here).0
-tagged_eols_some_counts here rest e =
-    let some : 0 < (all_eols here).0 = eols_some_counts here rest e in
-    let found : ℕ × Bits = tagged_eols_from (length here) (all_eols here) in
-    rw (lt-ltb 0 (all_eols here).0 some) (omega (arith, last_tag_count found, tagged_eols_from_count (length here) (all_eols here).0 (all_eols here).1, some))
+tagged_eols_some_counts [] rest e = absurd cc
+tagged_eols_some_counts (bit ∷ here) rest e =
+    let found : ℕ × Bits = eols_with_tags (length here) (past_tag rest) in
+    rw (eols_with_tags-some (length here) (bit ∷ here) rest e) (omega (arith, last_tag_count (one_more found), one_more-count found))
 
 -- where an EOL stands, one is counted
 pub eols_group3_some : (settings : DecodeSettings) (here rest : Bits) → after_eol 0 here ≡ Some rest → 0 < (eols_group3 settings here).0

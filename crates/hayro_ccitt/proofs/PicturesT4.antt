@@ -1,6 +1,5 @@
 -- A T.4 picture is read again.
-use Rattle.std.proofs.Common.{◌≡◌, ℕ, zero, suc, ◌+◌, ◌<◌, ◌≤◌, Bool, true, false, cond, not, ◌&&◌, ◌||◌, eqb, ltb, leb, List, [], ◌∷◌, ◌++◌, length}
-use Rattle.std.proofs.Common.{replicate, Option, Some, None, Result, Ok, Err, refl, sym, ap, subst, ◌∙◌, append_assoc, arith, inl, inr}
+use Rattle.std.proofs.Common.{◌≡◌, ◌≢◌, ℕ, zero, suc, ◌+◌, ◌<◌, ◌≤◌, Bool, true, false, cond, not, ◌&&◌, ◌||◌, eqb, ltb, leb, List, [], ◌∷◌, ◌++◌, length, replicate, Option, Some, None, Ok, Err, refl, sym, ap, subst, ◌∙◌, append_assoc, arith, inl, inr}
 use Rattle.std.specs.Prelude.{All}
 use Rattle.std.proofs.lemmas.Bool.{and_right, and_left, and_from, not_from_false, not_from_true, or_from, or_left, or_right, cond-true, cond-false}
 use Rattle.std.proofs.lemmas.Bool.{eq-eqb, ne_eqb, le-leb}
@@ -8,25 +7,25 @@ use Rattle.std.proofs.lemmas.List.{length-append, length-replicate, append-nil}
 use Rattle.std.proofs.lemmas.List.Elements.{All-head, All-tail}
 use Rattle.hayro_ccitt.specs.declared.codes.Color.{Color}
 use Rattle.hayro_ccitt.specs.declared.codes.Color.TheVariants.{White, Black}
-use Rattle.hayro_ccitt.specs.declared.error.DecodeError.{DecodeError}
 use Rattle.hayro_ccitt.specs.declared.error.DecodeError.TheVariants.{UnexpectedEof}
 use Rattle.hayro_ccitt.specs.declared.settings.EncodingMode.{EncodingMode}
 use Rattle.hayro_ccitt.specs.declared.settings.EncodingMode.TheVariants.{Group3_1D, Group3_2D, Group4}
 use Rattle.hayro_ccitt.specs.declared.settings.DecodeSettings.{DecodeSettings}
-use Rattle.hayro_ccitt.specs.Bits.{Bits}
+use Rattle.hayro_ccitt.specs.Bits.{Bits, bits_of}
 use Rattle.hayro_ccitt.specs.CodeLists.{mode_codes}
 use Rattle.hayro_ccitt.specs.Repetition.{Turn, repeated}
 use Rattle.hayro_ccitt.specs.Rows.{Row}
 use Rattle.hayro_ccitt.specs.Runs.{codes_of}
 use Rattle.hayro_ccitt.specs.Lines.{Line, line_1d, line_2d}
-use Rattle.hayro_ccitt.specs.EndOfLine.{after_eol, one_more, eols, all_eols, after_tag, tagged_eols_from, pass_last_tag, tagged_eols}
+use Rattle.hayro_ccitt.specs.EndOfLine.{after_eol, one_more, eols, all_eols, past_tag, eols_with_tags, pass_last_tag, tagged_eols}
 use Rattle.hayro_ccitt.specs.PlainReading.{end_by, Progress, Ending, row_before, aligned, at_end, limit_met, ends_with, line_at_group3, eols_group3, Reading}
 use Rattle.hayro_ccitt.specs.PlainReading.{after_line_group3, move_group3, ending_from, plain_group3}
 use Rattle.hayro_ccitt.specs.PlainReading.{end_of}
 use Rattle.hayro_ccitt.specs.Encodings.{Spells, EncodesLine1D, EncodesLine2D, EncodesLine, eol, tag_of, IsPicture, EncodesRowsWithEols}
 use Rattle.hayro_ccitt.specs.Encodings.{ClosesWithEols, PictureT4}
-use Rattle.hayro_ccitt.specs.Laws.{each_word, Allows, Matches, ReadsPictureT4, ReadsLimitedPictureT4, OnePictureT4}
-use Rattle.hayro_ccitt.proofs.Moves.{eols-none, one_more-count, eol_of}
+use Rattle.hayro_ccitt.specs.Laws.{each_word, ReadsPictureT4, ReadsLimitedPictureT4, OnePictureT4}
+use Rattle.hayro_ccitt.proofs.Moves.{eols-none, one_more-count, eol_of, eols_with_tags-some, eols_with_tags-none, last_tag_count}
+use Rattle.hayro_ccitt.specs.Pictures.{Allows}
 use Rattle.hayro_ccitt.proofs.Repeated.{after_turn}
 use Rattle.hayro_ccitt.proofs.ZerosInWords.{each_word_at}
 use Rattle.hayro_ccitt.proofs.PlainLines.{line_1d_again}
@@ -71,7 +70,7 @@ line_2d_after_tag reference row from color bits more
 -- where a line of T.4 begins: no EOL stands there, nor behind a tag
 record IsTagStart (here : Bits) : Type 0 where
   start : IsLineStart here
-  no_tag : after_tag here ≡ None
+  no_tag : past_tag here ≡ here
 
 -- ---- EOLs that stand.
 eol_stands : (fill : ℕ) (more : Bits) → after_eol 0 (eol fill ++ more) ≡ Some more
@@ -94,24 +93,21 @@ all_eols_more fill more = ap (λ (n : ℕ). eols n (eol fill ++ more)) (length-e
 one_eol : (fill : ℕ) (here : Bits) → after_eol 0 here ≡ None → all_eols (eol fill ++ here) ≡ (1, here)
 one_eol fill here none = all_eols_more fill here ∙ ap one_more (eols-none (11 + fill + length here) here none)
 
-tagged_eols_stays : (turns count : ℕ) (here : Bits) → after_tag here ≡ None → tagged_eols_from turns (count, here) ≡ (count, here)
-tagged_eols_stays zero count here e = refl
-tagged_eols_stays (suc turns) count here e = rw (e, tagged_eols_from) refl
-
 pass_none : (here : Bits) → pass_last_tag (1, here) ≡ (1, here)
 pass_none [] = refl
 pass_none (true ∷ here) = refl
 pass_none (false ∷ here) = refl
 
-tagged_eols_is : (here : Bits) (found : ℕ × Bits) → all_eols here ≡ found → ltb 0 found.0 ≡ true
-    → tagged_eols here ≡ pass_last_tag (tagged_eols_from (length here) found)
-tagged_eols_is here found e some = ap (λ (f : ℕ × Bits). pass_last_tag (cond (ltb 0 f.0) (tagged_eols_from (length here) f) f)) e
-    ∙ ap pass_last_tag (cond-true (ltb 0 found.0) (tagged_eols_from (length here) found) found some)
+tagged_eols_more : (most fill : ℕ) (more : Bits) → eols_with_tags (suc most) (eol fill ++ more) ≡ one_more (eols_with_tags most (past_tag more))
+tagged_eols_more most fill more = eols_with_tags-some most (eol fill ++ more) more (eol_stands fill more)
 
 one_tagged : (fill : ℕ) (here : Bits) → IsTagStart here → tagged_eols (eol fill ++ here) ≡ (1, here)
 one_tagged fill here at =
-    tagged_eols_is (eol fill ++ here) (1, here) (one_eol fill here at.start.no_eol) refl
-    ∙ ap pass_last_tag (tagged_eols_stays (length (eol fill ++ here)) 1 here at.no_tag) ∙ pass_none here
+    let most : ℕ = 11 + fill + length here in
+    let one : eols_with_tags (length (eol fill ++ here)) (eol fill ++ here) ≡ (1, here)
+    = ap (λ (n : ℕ). eols_with_tags n (eol fill ++ here)) (length-eol fill here) ∙ tagged_eols_more most fill here
+    ∙ ap (λ (rest : Bits). one_more (eols_with_tags most rest)) at.no_tag ∙ ap one_more (eols_with_tags-none most here at.start.no_eol) in
+    ap pass_last_tag one ∙ pass_none here
 
 -- ---- Kinds.
 pub eols_group3_one : (settings : DecodeSettings) (here : Bits) → settings.encoding ≡ Group3_1D → eols_group3 settings here ≡ all_eols here
@@ -147,56 +143,60 @@ length-closing encoding (suc n) closing more (fill, next, then, is) =
     ∙ append_assoc (eol fill ++ tag_of encoding) next more ∙ append_assoc (eol fill) (tag_of encoding) (next ++ more) in
     omega (arith, on, ap length here, length-eol fill (tag_of encoding ++ (next ++ more)), length-append (tag_of encoding) (next ++ more))
 
--- counting goes on from what was counted
-tagged_eols_rises : (turns count : ℕ) (here : Bits) → count ≤ (tagged_eols_from turns (count, here)).0
-tagged_eols_rises zero count here = omega arith
-tagged_eols_rises (suc turns) count here =
-    let by : (o : Option Bits) → after_tag here ≡ o → count ≤ (tagged_eols_from (suc turns) (count, here)).0
-    = λ o. elim o as (λ (o : Option Bits). after_tag here ≡ o → count ≤ (tagged_eols_from (suc turns) (count, here)).0) [
-      | None ↦ λ e. rw (e, tagged_eols_from) (omega arith)
-      | Some rest ↦ λ e. rw (e, tagged_eols_from) (omega (arith, tagged_eols_rises turns (count + (all_eols rest).0) (all_eols rest).1))
-    ] in
-    by (after_tag here) refl
+-- the first of them, and its tag
+tag_after : (fill : ℕ) (closing next more : Bits) → closing ≡ eol fill ++ tag_of Group3_2D ++ next → closing ++ more ≡ eol fill ++ (true ∷ (next ++ more))
+tag_after fill closing next more is = ap (λ (x : Bits). x ++ more) is ∙ append_assoc (eol fill ++ (true ∷ [])) next more
+    ∙ append_assoc (eol fill) (true ∷ []) (next ++ more)
 
-tag_one : (fill : ℕ) (more : Bits) → after_tag (true ∷ (eol fill ++ more)) ≡ Some (eol fill ++ more)
-tag_one fill more = rw (eol_stands fill more, after_tag) refl
+tag_one : (fill : ℕ) (more : Bits) → past_tag (true ∷ (eol fill ++ more)) ≡ eol fill ++ more
+tag_one fill more = rw (eol_stands fill more, past_tag) refl
 
-tagged_eols_closing : (n turns count : ℕ) (closing more : Bits) → ClosesWithEols Group3_2D n closing → n ≤ turns
-    → count + n ≤ (tagged_eols_from turns (count, true ∷ (closing ++ more))).0
-tagged_eols_closing zero turns count closing more is le = omega (arith, tagged_eols_rises turns count (true ∷ (closing ++ more)))
-tagged_eols_closing (suc n) zero count closing more is le = absurd (omega arith)
-tagged_eols_closing (suc n) (suc turns) count closing more (fill, next, then, is) le =
-    let tail : Bits = true ∷ (next ++ more) in
-    let here : closing ++ more ≡ eol fill ++ tail = ap (λ (x : Bits). x ++ more) is ∙ append_assoc (eol fill ++ (true ∷ [])) next more
-    ∙ append_assoc (eol fill) (true ∷ []) (next ++ more) in
-    let one : all_eols (eol fill ++ tail) ≡ (1, tail) = one_eol fill tail refl in
-    let turned : tagged_eols_from (suc turns) (count, true ∷ (eol fill ++ tail)) ≡ tagged_eols_from turns (count + 1, tail)
-    = rw (tag_one fill tail, tagged_eols_from) (ap (λ (f : ℕ × Bits). tagged_eols_from turns (count + f.0, f.1)) one) in
-    let on = tagged_eols_closing n turns (count + 1) next more then (omega arith) in
-    let found : (tagged_eols_from (suc turns) (count, true ∷ (closing ++ more))).0 ≡ (tagged_eols_from turns (count + 1, tail)).0
-    = ap (λ (x : Bits). (tagged_eols_from (suc turns) (count, true ∷ x)).0) here ∙ ap (λ (f : ℕ × Bits). f.0) turned in
+-- a tag before EOLs is passed
+tagged_eols_behind : (n most : ℕ) (closing more : Bits) → ClosesWithEols Group3_2D n closing → n ≤ (eols_with_tags most (closing ++ more)).0
+    → n ≤ (eols_with_tags most (past_tag (true ∷ (closing ++ more)))).0
+tagged_eols_behind zero most closing more is le = omega arith
+tagged_eols_behind (suc n) most closing more (fill, next, then, is) le =
+    let here : closing ++ more ≡ eol fill ++ (true ∷ (next ++ more)) = tag_after fill closing next more is in
+    let passed : past_tag (true ∷ (closing ++ more)) ≡ closing ++ more = ap (λ (x : Bits). past_tag (true ∷ x)) here ∙ tag_one fill (true ∷ (next ++ more)) ∙ sym here in
+    rw passed le
+
+tagged_eols_closing : (n most : ℕ) (closing more : Bits) → ClosesWithEols Group3_2D n closing → n ≤ most
+    → n ≤ (eols_with_tags most (closing ++ more)).0
+tagged_eols_closing zero most closing more is le = omega arith
+tagged_eols_closing (suc n) zero closing more is le = absurd (omega arith)
+tagged_eols_closing (suc n) (suc most) closing more (fill, next, then, is) le =
+    let tail : Bits = next ++ more in
+    let here : closing ++ more ≡ eol fill ++ true ∷ tail = tag_after fill closing next more is in
+    let on : n ≤ (eols_with_tags most (past_tag (true ∷ tail))).0
+    = tagged_eols_behind n most next more then (tagged_eols_closing n most next more then (omega arith)) in
+    let found : (eols_with_tags (suc most) (closing ++ more)).0 ≡ suc (eols_with_tags most (past_tag (true ∷ tail))).0
+    = ap (λ (x : Bits). (eols_with_tags (suc most) x).0) here ∙ ap (λ (f : ℕ × Bits). f.0) (tagged_eols_more most fill (true ∷ tail))
+    ∙ one_more-count (eols_with_tags most (past_tag (true ∷ tail))) in
     omega (arith, found, on)
 
-pass_count : (found : ℕ × Bits) → (pass_last_tag found).0 ≡ found.0
-pass_count (count, []) = refl
-pass_count (count, false ∷ here) = refl
-pass_count (count, true ∷ here) = by (leb 6 count)
-  where
-    by : (b : Bool) → (cond {A = ℕ × Bits} b (count, here) (count, true ∷ here)).0 ≡ count
-    by true = refl
-    by false = refl
-
 six_tagged : (closing more : Bits) → ClosesWithEols Group3_2D 6 closing → 6 ≤ (tagged_eols (closing ++ more)).0
-six_tagged closing more (fill, next, then, is) =
-    let tail : Bits = true ∷ (next ++ more) in
-    let here : closing ++ more ≡ eol fill ++ tail = ap (λ (x : Bits). x ++ more) is ∙ append_assoc (eol fill ++ (true ∷ [])) next more
-    ∙ append_assoc (eol fill) (true ∷ []) (next ++ more) in
-    let turns : ℕ = length (eol fill ++ tail) in
-    let on = tagged_eols_closing 5 turns 1 next more then (omega (arith, length-eol fill tail, length-closing Group3_2D 5 next more then)) in
-    let found = tagged_eols_is (eol fill ++ tail) (1, tail) (one_eol fill tail refl) refl in
-    let count : (tagged_eols (closing ++ more)).0 ≡ (tagged_eols_from turns (1, tail)).0 = ap (λ (x : Bits). (tagged_eols x).0) here
-    ∙ ap (λ (f : ℕ × Bits). f.0) found ∙ pass_count (tagged_eols_from turns (1, tail)) in
-    omega (arith, on, count)
+six_tagged closing more is =
+    let on = tagged_eols_closing 6 (length (closing ++ more)) closing more is (length-closing Group3_2D 6 closing more is) in
+    omega (arith, on, last_tag_count (eols_with_tags (length (closing ++ more)) (closing ++ more)))
+
+-- the settings are for this encoding, which is one of T.4
+abbrev pub Matches : EncodingMode → DecodeSettings → Type 0
+Matches Group4 settings = ⊥
+Matches Group3_1D settings = settings.encoding ≡ Group3_1D
+Matches Group3_2D settings = settings.encoding ≡ Group3_2D
+
+-- settings for T.4 are for their own encoding
+pub matches_itself : (settings : DecodeSettings) → settings.encoding ≢ Group4 → Matches settings.encoding settings
+matches_itself settings three = by settings.encoding refl
+  where
+    by : (encoding : EncodingMode) → settings.encoding ≡ encoding → Matches encoding settings
+    by Group4 e = absurd (three e)
+    by Group3_1D e = e
+    by Group3_2D e = e
+
+-- the end of lines that were read with EOLs
+abbrev ends_well : List Row → Bits → Ending
+ends_well rows rest = record { rows = rows; has_eols = true; outcome = Ok rest }
 
 six_close : (settings : DecodeSettings) (encoding : EncodingMode) (closing more : Bits) → Matches encoding settings → ClosesWithEols encoding 6 closing
     → 6 ≤ (eols_group3 settings (closing ++ more)).0
@@ -232,10 +232,10 @@ module _ (settings : DecodeSettings) (wide : 0 < settings.columns) (small : sett
       rw is.0 (record { no_eol = line_2d_after_tag reference row 0 White rest more is.1 (omega arith); open_end = refl })
 
   tag_starts : (reference row : Row) (line more : Bits) → EncodesLine Group3_2D reference row line → length row ≡ settings.columns
-      → after_tag (line ++ more) ≡ None
+      → past_tag (line ++ more) ≡ line ++ more
   tag_starts reference row line more (rest, inl is) row_len =
       let none : after_eol 0 (rest ++ more) ≡ None = (line_1d_starts White row rest more is.1 (omega arith)).no_eol in
-      rw (is.0, none, after_tag) refl
+      rw (is.0, none, past_tag) refl
   tag_starts reference row line more (rest, inr is) row_len = rw is.0 refl
 
   -- one EOL is counted before a line
@@ -272,10 +272,6 @@ module _ (settings : DecodeSettings) (wide : 0 < settings.columns) (small : sett
       ap (after_line_group3 settings (with_eols before here)) read ∙ after_whole-is settings (with_eols before here) row tail
       ∙ ap (λ (x : Bits). after_row settings (with_eols (before ++ row ∷ []) x))
       (cond-false (settings.rows_are_byte_aligned && false) (aligned tail) tail (and_right settings.rows_are_byte_aligned false refl))
-
-  -- the end of a reading that sought EOLs
-  abbrev ends_well : List Row → Bits → Ending
-  ends_well rows rest = record { rows = rows; has_eols = true; outcome = Ok rest }
 
   module _ (encoding : EncodingMode) (matches : Matches encoding settings) (late : Ending) (tail last : Bits) (whole : List Row)
       (allows : Allows settings (length whole)) (stops : after_row settings (with_eols whole tail) ≡ Turn.done (ends_well whole last)) where
@@ -401,19 +397,27 @@ module _ (settings : DecodeSettings) (wide : 0 < settings.columns) (small : sett
 
 -- ---- Over bytes.
 pub closed_picture_t4 : ReadsPictureT4
-closed_picture_t4 settings encoding rows lines closing more bytes are matches block allows some is_picture lines3 closed is =
-    let small : settings.columns ≤ 4294967295 = omega (arith, are.columns) in
-    plain_ends settings bytes (record { rows = rows; has_eols = true; outcome = Ok (eols_group3 settings (closing ++ more)).1 })
-    (eols_group3 settings (closing ++ more)).1 is_picture.0
-    (ap (end_of settings) is ∙ closed_t4_end settings is_picture.0 small encoding rows lines closing more matches block some is_picture lines3 closed allows) refl
+closed_picture_t4 settings rows bits behind bytes are begins =
+    let wide : 0 < settings.columns = begins.picture.0 in
+    let closing : Bits = begins.closing.0 in
+    let more : Bits = begins.closing.2.0 in
+    let found : Bits = (eols_group3 settings behind).1 in
+    let is : bits_of bytes ≡ bits ++ (closing ++ more) = begins.begins ∙ ap (λ (x : Bits). bits ++ x) begins.closing.2.1 in
+    let matches : Matches settings.encoding settings = matches_itself settings begins.encoding in
+    let ends : end_of settings (bits ++ (closing ++ more)) ≡ ends_well rows found
+    = closed_t4_end settings wide (omega (arith, are.columns)) settings.encoding rows bits closing more matches begins.end_of_block begins.some begins.picture
+    begins.lines begins.closing.1 begins.limit ∙ ap (λ (x : Bits). ends_well rows (eols_group3 settings x).1) (sym begins.closing.2.1) in
+    plain_ends settings bytes (ends_well rows found) found wide (ap (end_of settings) is ∙ ends) refl
 
 -- the law
 pub limited_picture_t4 : ReadsLimitedPictureT4
-limited_picture_t4 settings encoding rows lines more bytes are matches limit some is_picture lines3 is =
-    let small : settings.columns ≤ 4294967295 = omega (arith, are.columns) in
-    let e = plain_ends settings bytes (record { rows = rows; has_eols = true; outcome = Ok (eols_group3 settings more).1 })
-    (eols_group3 settings more).1 is_picture.0
-    (ap (end_of settings) is ∙ limited_t4_end settings is_picture.0 small encoding rows lines more matches limit some is_picture lines3) refl in
+limited_picture_t4 settings rows bits bytes are begins =
+    let wide : 0 < settings.columns = begins.picture.0 in
+    let more : Bits = begins.begins.0 in
+    let found : Bits = (eols_group3 settings more).1 in
+    let ends = limited_t4_end settings wide (omega (arith, are.columns)) settings.encoding rows bits more (matches_itself settings begins.encoding)
+    begins.limit begins.some begins.picture begins.lines in
+    let e = plain_ends settings bytes (ends_well rows found) found wide (ap (end_of settings) begins.begins.1 ∙ ends) refl in
     (ap (λ (a : Reading). a.rows) e, rw e refl)
 
 -- ---- One beginning, one picture.

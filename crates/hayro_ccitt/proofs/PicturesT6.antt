@@ -17,13 +17,14 @@ use Rattle.hayro_ccitt.specs.declared.settings.DecodeSettings.{DecodeSettings}
 use Rattle.hayro_ccitt.specs.Bits.{Bits, bits_of}
 use Rattle.hayro_ccitt.specs.CodeLists.{mode_codes}
 use Rattle.hayro_ccitt.specs.CodeReading.{Has}
-use Rattle.hayro_ccitt.specs.Repetition.{Turn, repeated}
+use Rattle.hayro_ccitt.specs.Repetition.{Turn, repeated, Reaches}
 use Rattle.hayro_ccitt.specs.Rows.{Row}
 use Rattle.hayro_ccitt.specs.Lines.{Line, line_2d}
 use Rattle.hayro_ccitt.specs.EndOfLine.{after_eol, eols, all_eols}
 use Rattle.hayro_ccitt.specs.PlainReading.{eols_group4, Progress, Ending, Move, row_before, aligned, at_end, limit_met, ends_with, after_line_group4, Reading, nothing_read, whole_reading}
-use Rattle.hayro_ccitt.specs.PlainReading.{move_group4, plain_group4, end_of, plain, bytes_before}
-use Rattle.hayro_ccitt.specs.Laws.{each_word, Allows, Reaches, ComesToEofb, PicturesComeToEofb, ReadsPictureT6, ReadsLimitedRowsT6, OnePictureT6}
+use Rattle.hayro_ccitt.specs.PlainReading.{move_group4, plain_group4, end_of, plain}
+use Rattle.hayro_ccitt.specs.Pictures.{Allows}
+use Rattle.hayro_ccitt.specs.Laws.{each_word, ComesToEofb, PicturesComeToEofb, ReadsPictureT6, ReadsLimitedRowsT6, OnePictureT6, Allows, Reaches}
 use Rattle.hayro_ccitt.specs.Encodings.{EncodesLine2D, padding, EncodesRows, eol, IsPicture, PictureT6}
 use Rattle.hayro_ccitt.proofs.Repeated.{after_turn, repeated_turn, repeated_same}
 use Rattle.hayro_ccitt.proofs.ZerosInWords.{each_word_at}
@@ -155,7 +156,7 @@ abbrev pub between : List Row → Bits → Progress
 between rows rest = record { rows = rows; has_eols = false; rest = rest }
 
 -- a run that comes to a state goes on as from there
-pub goes_reaches : (settings : DecodeSettings) (late : Ending) (run last : Progress) → 0 < settings.columns → Reaches settings run last
+pub goes_reaches : (settings : DecodeSettings) (late : Ending) (run last : Progress) → 0 < settings.columns → Reaches (move_group4 settings) run last
     → goes settings late run ≡ goes settings late last
 goes_reaches settings late run last wide (Reaches.stays same) = refl
 goes_reaches settings late run last wide (Reaches.moves run2 after last2 moved on) =
@@ -167,7 +168,7 @@ module _ (settings : DecodeSettings) (wide : 0 < settings.columns) (small : sett
       → length (row_before settings.columns before) ≡ settings.columns → All (λ row. length row ≡ settings.columns) rows
       → (settings.rows_are_byte_aligned ≡ true → length (body ++ more) % 8 ≡ 0)
       → EncodesRows Group4 settings.rows_are_byte_aligned (row_before settings.columns before) rows body
-      → Reaches settings (between before (body ++ more)) (between (before ++ rows) more)
+      → Reaches (move_group4 settings) (between before (body ++ more)) (between (before ++ rows) more)
   body_again before [] body more limit ref_len widths whole lines =
       let here : body ++ more ≡ more = ap (λ (x : Bits). x ++ more) lines in
       rw (here, append-nil before) (Reaches.stays (between before more))
@@ -197,7 +198,7 @@ module _ (settings : DecodeSettings) (wide : 0 < settings.columns) (small : sett
       (All-tail (λ row. length row ≡ settings.columns) row rows widths)
       (aligned_on b line (next ++ more) whole2) (subst (λ (r : Row). EncodesRows Group4 b r rows next) (sym pushed) lines.3) in
       Reaches.moves (between before (body ++ more)) (between (before ++ row ∷ []) (next ++ more)) (between (before ++ row ∷ rows) more) moved
-      (subst (λ (rs : List Row). Reaches settings (between (before ++ row ∷ []) (next ++ more)) (between rs more)) (append_assoc before (row ∷ []) rows) on)
+      (subst (λ (rs : List Row). Reaches (move_group4 settings) (between (before ++ row ∷ []) (next ++ more)) (between rs more)) (append_assoc before (row ∷ []) rows) on)
 
 -- ---- How a run ends.
 pub move_group4_eofb : (settings : DecodeSettings) (run : Progress) (rest : Bits) → settings.end_of_block ≡ true → eols 2 run.rest ≡ (2, rest)
@@ -245,14 +246,14 @@ ended rows rest = record { rows = rows; has_eols = false; outcome = Ok rest }
 -- A T.6 picture, closed by EOFB: the run comes to its end with its rows.
 pub picture_t6_reaches : (settings : DecodeSettings) (rows : List Row) (bits more : Bits) → settings.columns ≤ 4294967295 → Allows settings (length rows)
     → (settings.rows_are_byte_aligned ≡ true → length (bits ++ more) % 8 ≡ 0) → PictureT6 settings.columns settings.rows_are_byte_aligned rows bits
-    → Reaches settings (between [] (bits ++ more)) (between rows (eol 0 ++ (eol 0 ++ more)))
+    → Reaches (move_group4 settings) (between [] (bits ++ more)) (between rows (eol 0 ++ (eol 0 ++ more)))
 picture_t6_reaches settings rows bits more small limit whole pic =
     let body : Bits = pic.0 in
     let here : bits ++ more ≡ body ++ (eol 0 ++ (eol 0 ++ more)) = ap (λ (x : Bits). x ++ more) pic.3 ∙ append_assoc (body ++ eol 0) (eol 0) more
     ∙ append_assoc body (eol 0) (eol 0 ++ more) in
     let read = body_again settings pic.1.0 small [] rows body (eol 0 ++ (eol 0 ++ more)) (allows_sum settings (length rows) limit)
     (length-replicate settings.columns false) pic.1.1 (λ e. ap (λ (x : Bits). length x % 8) (sym here) ∙ whole e) pic.2 in
-    subst (λ (x : Bits). Reaches settings (between [] x) (between rows (eol 0 ++ (eol 0 ++ more)))) (sym here) read
+    subst (λ (x : Bits). Reaches (move_group4 settings) (between [] x) (between rows (eol 0 ++ (eol 0 ++ more)))) (sym here) read
 
 -- and so it is read as its rows, whatever follows
 pub picture_t6_end : (settings : DecodeSettings) (rows : List Row) (bits more : Bits) → settings.encoding ≡ Group4 → settings.end_of_block ≡ true
@@ -332,13 +333,15 @@ rows_t6_plain settings rows body more bytes four small some limit is_picture lin
 
 -- the law
 pub closed_picture_t6 : ReadsPictureT6
-closed_picture_t6 settings rows bits more bytes are four block limit pic is =
-    picture_t6_plain settings rows bits more bytes four block (omega (arith, are.columns)) limit pic is
+closed_picture_t6 settings rows bits bytes are begins =
+    picture_t6_plain settings rows bits begins.begins.0 bytes begins.encoding begins.end_of_block (omega (arith, are.columns)) begins.limit begins.picture
+    begins.begins.1
 
 -- the law
 pub limited_rows_t6 : ReadsLimitedRowsT6
-limited_rows_t6 settings rows body more bytes are four limit some is_picture lines is =
-    let e = rows_t6_plain settings rows body more bytes four (omega (arith, are.columns)) some limit is_picture lines is in
+limited_rows_t6 settings rows bits bytes are begins =
+    let e = rows_t6_plain settings rows bits begins.begins.0 bytes begins.encoding (omega (arith, are.columns)) begins.some begins.limit begins.picture
+    begins.lines begins.begins.1 in
     (ap (λ (a : Reading). a.rows) e, rw e refl)
 
 -- over bytes: a picture comes to its EOFB

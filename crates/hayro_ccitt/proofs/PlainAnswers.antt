@@ -74,11 +74,9 @@ not_fault (Err f) e ok is = false≢true ok
 -- a T.6 encoding closed by EOFB is its picture
 pub picture_is : (settings : DecodeSettings) (rows : List Row) (bits : Bits) (bytes : List ℕ) → AreSettings settings → BeginsWithPictureT6 settings rows bits (bits_of bytes)
     → plain settings bytes ≡ record { rows = rows; outcome = Ok ((length bits + 7) / 8); has_eols = false }
-picture_is settings rows bits bytes small begins =
-    closed_picture_t6 settings rows bits begins.begins.0 bytes small begins.encoding begins.end_of_block begins.limit begins.picture begins.begins.1
+picture_is = closed_picture_t6
 
 -- and so are as many lines as the limit
 pub rows_are : (settings : DecodeSettings) (rows : List Row) (bits : Bits) (bytes : List ℕ) → AreSettings settings → BeginsWithRowsT6 settings rows bits (bits_of bytes)
     → Gives settings bytes rows
-rows_are settings rows bits bytes small begins =
-    limited_rows_t6 settings rows bits begins.begins.0 bytes small begins.encoding begins.limit begins.some begins.picture begins.lines begins.begins.1
+rows_are = limited_rows_t6

@@ -1,6 +1,6 @@
 -- A repeated step whose states get smaller comes to its end, however many turns more it is allowed.
 use Rattle.std.proofs.Common.{◌≡◌, ℕ, zero, suc, ◌<◌, refl, sym, subst, arith}
-use Rattle.hayro_ccitt.specs.Repetition.{Turn, repeated}
+use Rattle.hayro_ccitt.specs.Repetition.{Turn, repeated, Reaches}
 
 -- a step that goes on to smaller states alone
 abbrev pub Shrinks : {S R : Type 0} → (S → Turn S R) → (S → ℕ) → Type 0
@@ -84,6 +84,37 @@ module _ {S R T U : Type 0} (step : S → Turn S R) (late : R) (size : S → ℕ
   repeated_follows follows n m s t lt other_lt p =
       subst (λ (q : U). Q (repeated step late n s) q)
       (repeated_same other other_late other_size other_shrinks (suc (other_size t)) m t (omega arith) other_lt) (follows_for follows n s t lt p)
+
+-- a state that is led to leads on to what its turn leads to
+reaches_on : {S R : Type 0} (step : S → Turn S R) (first last after : S) → Reaches step first last → step last ≡ Turn.next after
+    → Reaches step first after
+reaches_on step first last after (Reaches.stays same) e = Reaches.moves same after after e (Reaches.stays after)
+reaches_on step first last after (Reaches.moves same middle end e reaches) f =
+    Reaches.moves same middle after e (reaches_on step middle end after reaches f)
+
+-- the same of two repetitions whose turns agree wherever their beginnings lead
+pub reached_follows : {S R T U : Type 0} (step : S → Turn S R) (late : R) (size : S → ℕ) → Shrinks step size → (other : T → Turn T U) (other_late : U)
+    (other_size : T → ℕ) → Shrinks other other_size → (P : S → T → Type 0) (Q : R → U → Type 0) (first : S) (other_first : T)
+    → ((s : S) (t : T) → Reaches step first s → Reaches other other_first t → P s t
+    → Follows P Q (λ t. repeated other other_late (suc (other_size t)) t) (step s) (other t))
+    → (n m : ℕ) → size first < n → other_size other_first < m → P first other_first
+    → Q (repeated step late n first) (repeated other other_late m other_first)
+reached_follows {S} {R} {T} {U} step late size shrinks other other_late other_size other_shrinks P Q first other_first follows n m lt other_lt p =
+    repeated_follows step late size shrinks other other_late other_size other_shrinks Reached Q
+    (λ s t both. reached s t both.0 both.1 (step s) (other t) refl refl (follows s t both.0 both.1 both.2)) n m first other_first lt other_lt
+    (Reaches.stays first, Reaches.stays other_first, p)
+  where
+    Reached : S → T → Type 0
+    Reached s t = Reaches step first s × Reaches other other_first t × P s t
+
+    rest : T → U
+    rest t = repeated other other_late (suc (other_size t)) t
+
+    reached : (s : S) (t : T) → Reaches step first s → Reaches other other_first t → (turn : Turn S R) (other_turn : Turn T U) → step s ≡ turn
+        → other t ≡ other_turn → Follows P Q rest turn other_turn → Follows Reached Q rest turn other_turn
+    reached s t from other_from (Turn.next a) (Turn.next b) e f g = (reaches_on step first s a from e, reaches_on other other_first t b other_from f, g)
+    reached s t from other_from (Turn.next a) (Turn.done q) e f g = absurd g
+    reached s t from other_from (Turn.done r) other_turn e f g = g
 
 -- what holds of each last turn, and goes back over each other turn, holds of the answer
 pub repeated_induct : {S R : Type 0} (step : S → Turn S R) (late : R) (size : S → ℕ) → Shrinks step size → (P : S → R → Type 0)

@@ -9,7 +9,7 @@ use Rattle.hayro_ccitt.specs.Rows.{Row, repaired}
 use Rattle.hayro_ccitt.specs.Lines.{Line}
 use Rattle.hayro_ccitt.specs.EndOfLine.{next_eol}
 use Rattle.hayro_ccitt.specs.Repetition.{Turn}
-use Rattle.hayro_ccitt.specs.PlainReading.{Progress, Gap, with_row, behind_row_group3, add_row_group3, after_line_group3, Move, at_end, limit_met, is_over_group4, eols_group4, eols_group3, gap_group3, gap_group4, behind_eols_group3, behind_eols_group4, from_next_eol, missing_eol, ends_with, line_group4, after_line_group4, at_gap_group4, at_gap_group3, behind_row, move_group4}
+use Rattle.hayro_ccitt.specs.PlainReading.{Progress, Gap, with_row, behind_row, add_row_group3, after_line_group3, Move, at_end, limit_met, is_over_group4, eols_group4, eols_group3, gap_group3, gap_group4, behind_eols_group3, behind_eols_group4, from_next_eol, missing_eol, ends_with, line_group4, after_line_group4, at_gap_group4, at_gap_group3, move_behind_row, move_group4}
 
 -- EOLs were counted behind the rows so far
 abbrev pub unless_over : DecodeSettings → Progress → ℕ × Bits → Move
@@ -35,7 +35,7 @@ after_row settings so_far =
 
 -- a row of Group 3 is added, in front of these bits
 abbrev pub add_row : DecodeSettings → Progress → Row → Bits → Move
-add_row settings so_far row rest = after_row settings (with_row so_far row (behind_row_group3 settings so_far.has_eols rest))
+add_row settings so_far row rest = after_row settings (with_row so_far row (behind_row settings so_far.has_eols rest))
 
 -- a line of Group 4 is read, unless the reading is over
 abbrev pub line_at_group4 : DecodeSettings → Progress → ℕ × Bits → Move
@@ -70,8 +70,8 @@ from_eol settings so_far (Some found) is = behind_eols settings so_far true (eol
 from_eol settings so_far None is = refl
 
 -- what stands behind the rows of Group 3
-pub behind_row-is : (settings : DecodeSettings) (so_far : Progress) → behind_row settings so_far ≡ after_row settings so_far
-behind_row-is settings so_far =
+pub move_behind_row-is : (settings : DecodeSettings) (so_far : Progress) → move_behind_row settings so_far ≡ after_row settings so_far
+move_behind_row-is settings so_far =
     let test : Bool = (eqb (eols_group3 settings so_far.rest).0 0) && so_far.has_eols && not (limit_met settings (length so_far.rows)) && not (at_end so_far.rest) in
     at_gap-cond so_far test (missing_eol settings (length so_far.rows) so_far.rest) (behind_eols_group3 settings (length so_far.rows) so_far.has_eols (eols_group3 settings so_far.rest))
     ∙ cond-same test _ _ _ _
@@ -84,7 +84,7 @@ behind_row-is settings so_far =
 -- a whole line of Group 3 adds its row
 pub after_whole-is : (settings : DecodeSettings) (so_far : Progress) (row : Row) (rest : Bits)
     → after_line_group3 settings so_far (Line.whole row rest) ≡ add_row settings so_far row rest
-after_whole-is settings so_far row rest = behind_row-is settings (with_row so_far row (behind_row_group3 settings so_far.has_eols rest))
+after_whole-is settings so_far row rest = move_behind_row-is settings (with_row so_far row (behind_row settings so_far.has_eols rest))
 
 -- a damaged line of Group 3 ends the reading, or adds its repaired row
 pub after_damage-is : (settings : DecodeSettings) (so_far : Progress) (front : Row) (fault : DecodeError)
@@ -94,10 +94,10 @@ after_damage-is settings so_far front fault = by (settings.strict || not so_far.
   where
     row : Row
     row = repaired settings.columns front
-    by : (b : Bool) → add_row_group3 settings so_far (cond b (Err fault) (Ok (row, behind_row_group3 settings so_far.has_eols so_far.rest)))
+    by : (b : Bool) → add_row_group3 settings so_far (cond b (Err fault) (Ok (row, behind_row settings so_far.has_eols so_far.rest)))
         ≡ cond b (ends_with so_far (Err fault)) (add_row settings so_far row so_far.rest)
     by true = refl
-    by false = behind_row-is settings (with_row so_far row (behind_row_group3 settings so_far.has_eols so_far.rest))
+    by false = move_behind_row-is settings (with_row so_far row (behind_row settings so_far.has_eols so_far.rest))
 
 -- a turn of Group 4, by the EOLs before its line
 pub move_group4-is : (settings : DecodeSettings) (so_far : Progress) → move_group4 settings so_far ≡ line_at_group4 settings so_far (eols_group4 settings so_far.rest)

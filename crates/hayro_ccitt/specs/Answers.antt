@@ -1,5 +1,5 @@
 -- What a call answers of a definition.
-use Rattle.std.specs.Prelude.{◌≡◌, ◌≢◌, ◌<◌, ℕ, true, false, length, map, slice_get, Some, Result, Ok, Err, Contains, List}
+use Rattle.std.specs.Prelude.{◌≡◌, ◌≢◌, ◌<◌, ℕ, Bool, true, false, ◌∷◌, ◌++◌, length, map, slice_get, Some, Result, Ok, Err, Contains, List}
 use Rattle.std.specs.List.{fold}
 use Rattle.hayro_ccitt.specs.declared.error.DecodeError.{DecodeError}
 use Rattle.hayro_ccitt.specs.declared.error.DecodeError.TheVariants.{UnexpectedEof, InvalidCode, Overflow, OutOfMemory, Refused}
@@ -27,14 +27,19 @@ front_of (Line.broken front fault) = front
 abbrev pub HasBlack : Row → Type 0
 HasBlack row = Contains row true
 
+-- A front ends where a changing element of the row is next: the front is a prefix of the row and not all of it, and
+-- the next pixel differs from the front's last one, or from white left of the row.
+abbrev pub StopsAtChange : Row → Row → Type 0
+StopsAtChange row front = (pixel : Bool) × (after : Row) × (row ≡ front ++ pixel ∷ after) × (pixel ≢ last_pixel false front)
+
 -- What a call that draws a line answers, where the definition's line is known, and leaves in the front and of the
--- bits: the whole line; or the broken one and its fault; or want of memory, if a black pixel is painted.
+-- bits: the whole line; or the broken one and its fault; or want of memory, where a changing element is to be stored.
 abbrev pub DrawsLine : Line → Result (Unit {0}) DecodeError → Row → Bits → Type 0
 DrawsLine line (Ok x) front rest = line ≡ Line.whole front rest
 DrawsLine line (Err UnexpectedEof) front rest = line ≡ Line.broken front UnexpectedEof
 DrawsLine line (Err InvalidCode) front rest = line ≡ Line.broken front InvalidCode
 DrawsLine line (Err Overflow) front rest = line ≡ Line.broken front Overflow
-DrawsLine line (Err OutOfMemory) front rest = HasBlack (front_of line)
+DrawsLine line (Err OutOfMemory) front rest = StopsAtChange (front_of line) front
 DrawsLine line (Err Refused) front rest = ⊥
 
 -- the pen of a context, where these bits are left
@@ -57,10 +62,10 @@ line_from_1d held rest = line_1d held.settings.strict held.settings.columns rest
 abbrev pub line_from_2d : Held → Bits → Line
 line_from_2d held rest = line_2d held.settings.strict held.settings.columns held.reference rest
 
--- a step after which a black pixel is painted
-abbrev pub StepHasBlack : Step → Type 0
-StepHasBlack (Turn.next pen) = HasBlack pen.front
-StepHasBlack (Turn.done line) = HasBlack (front_of line)
+-- the front that a step comes to
+abbrev pub front_after : Step → Row
+front_after (Turn.next pen) = pen.front
+front_after (Turn.done line) = front_of line
 
 -- the same of a step of a line, and the pen that is left
 abbrev pub DrawsStep : Step → Result (Unit {0}) DecodeError → Pen → Type 0
@@ -68,7 +73,7 @@ DrawsStep step (Ok x) pen = step ≡ Turn.next pen
 DrawsStep step (Err UnexpectedEof) pen = step ≡ Turn.done (Line.broken pen.front UnexpectedEof)
 DrawsStep step (Err InvalidCode) pen = step ≡ Turn.done (Line.broken pen.front InvalidCode)
 DrawsStep step (Err Overflow) pen = step ≡ Turn.done (Line.broken pen.front Overflow)
-DrawsStep step (Err OutOfMemory) pen = StepHasBlack step
+DrawsStep step (Err OutOfMemory) pen = StopsAtChange (front_after step) pen.front
 DrawsStep step (Err Refused) pen = ⊥
 
 -- Painting so many pixels makes a changing element at the end of the front.
@@ -77,6 +82,17 @@ StoresChange held count = (row : Row)
     × (painted_front held count ≡ Ok row)
     × (length held.front < length row)
     × (last_pixel false held.front ≢ is_black held.color)
+
+-- To continue the front in white makes a changing element: the row isn't full, and its last pixel is black.
+abbrev pub RepairStoresChange : Held → Type 0
+RepairStoresChange held = (length held.front < held.settings.columns) × (last_pixel false held.front ≡ true)
+
+-- A line that failed with this error is repaired: the reading is lenient, the data have EOLs, and they are at fault (T.4,
+-- 4.1.2).
+pub record IsRepairable (held : Held) (error : DecodeError) : Type 0 where
+  pub lenient : held.settings.strict ≡ false
+  pub has_eols : held.has_eols ≡ true
+  pub fault : IsFault error
 
 -- the line of an index is among these lines, and paints a black pixel
 abbrev pub PaintsBlack : List Line → ℕ → Type 0

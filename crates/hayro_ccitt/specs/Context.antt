@@ -4,7 +4,7 @@ use Rattle.hayro_ccitt.specs.declared.codes.Color.{Color}
 use Rattle.hayro_ccitt.specs.declared.codes.Color.TheVariants.{White}
 use Rattle.hayro_ccitt.specs.declared.settings.DecodeSettings.{DecodeSettings}
 use Rattle.hayro_ccitt.specs.declared.error.DecodeError.{DecodeError}
-use Rattle.hayro_ccitt.specs.Rows.{Row, white_row, paint, last_pixel}
+use Rattle.hayro_ccitt.specs.Rows.{Row, white_row, repaired, paint, last_pixel}
 
 -- the reference row, the front of the coding row, the present colour, the number of rows that were taken, whether
 -- EOLs are sought, and the settings
@@ -47,6 +47,10 @@ after_taking h =
 abbrev pub redrawn : Held → Row → Color → Held
 redrawn h front color =
     record { reference = h.reference; front = front; color = color; taken = h.taken; has_eols = h.has_eols; settings = h.settings }
+
+-- a damaged line is repaired: its front is continued in white, and the colour is white
+abbrev pub after_repair : Held → Held
+after_repair h = redrawn h (repaired h.settings.columns h.front) White
 
 -- the first place right of a0, where so many pixels are painted
 abbrev pub right_of_painted : ℕ → ℕ

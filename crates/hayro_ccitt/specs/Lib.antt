@@ -4,6 +4,7 @@ pub mod CodeLists
 pub mod CodeReading
 pub mod Context
 pub mod ContextView
+pub mod Decoding
 pub mod Encodings
 pub mod EndOfLine
 pub mod Examples

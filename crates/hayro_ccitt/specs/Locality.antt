@@ -1,15 +1,16 @@
 -- One-dimensional lenient data with EOLs: lines by EOLs, and how far damage reaches.
-use Rattle.std.specs.Prelude.{◌≡◌, ◌≢◌, ℕ, suc, ◌+◌, ◌-◌, ◌<◌, ◌≤◌, nat_le, ◌⊎◌, ◌↔◌, Some, None, is_some, Ok, Err, IsOk}
+use Rattle.std.specs.Prelude.{◌≡◌, ◌≢◌, ℕ, suc, ◌+◌, ◌-◌, ◌<◌, ◌≤◌, nat_le, ◌⊎◌, ◌↔◌, Some, None, is_some, Ok, Err}
 use Rattle.std.specs.Prelude.{Bool, true, false, not, ◌&&◌, if◌then◌else◌}
 use Rattle.std.specs.Prelude.{List, [], ◌∷◌, ◌++◌, length, take, drop, replicate, map, set, All, Contains}
 use Rattle.hayro_ccitt.specs.declared.error.DecodeError.{DecodeError}
 use Rattle.hayro_ccitt.specs.declared.settings.EncodingMode.TheVariants.{Group3_1D}
 use Rattle.hayro_ccitt.specs.declared.settings.DecodeSettings.{DecodeSettings}
 use Rattle.hayro_ccitt.specs.Bits.{Bits, bits_of, IsPrefix}
+use Rattle.hayro_ccitt.specs.Repetition.{Reaches}
 use Rattle.hayro_ccitt.specs.Rows.{Row, repaired}
 use Rattle.hayro_ccitt.specs.Lines.{Line, line_1d}
 use Rattle.hayro_ccitt.specs.EndOfLine.{after_eol, all_eols, next_eol}
-use Rattle.hayro_ccitt.specs.PlainReading.{at_end, end_of, plain}
+use Rattle.hayro_ccitt.specs.PlainReading.{Progress, at_end, start_group3, move_group3, end_of, plain, nothing_read}
 use Rattle.hayro_ccitt.specs.Settings.{AreSettings}
 
 -- ---- lines by EOLs
@@ -113,43 +114,53 @@ abbrev pub LocalByTests : Type 0
 LocalByTests = (settings : DecodeSettings) (bits : Bits) (from to : ℕ)
     → IsLocal settings bits from to ↔ IsLocalByTests settings bits from to
 
--- the last place of a run that ends without a fault
-abbrev pub LastPlace : DecodeSettings → List ℕ → ℕ → Type 0
-LastPlace settings bytes place = (rest : Bits)
-    × ((end_of settings (bits_of bytes)).outcome ≡ Ok rest) × (place + length rest ≡ length (bits_of bytes))
+-- the reading of Group 3 comes to a place where a line begins, so many rows standing before it
+abbrev pub ComesToLine : DecodeSettings → Bits → ℕ → ℕ → Type 0
+ComesToLine settings bits place index = (so_far : Progress)
+    × Reaches (move_group3 settings) (start_group3 settings bits) so_far
+    × (so_far.rest ≡ drop place bits) × (length so_far.rows ≡ index)
 
--- some data are read with this count
-abbrev pub Counts : DecodeSettings → List ℕ → ℕ → Type 0
-Counts settings bytes count = (plain settings bytes).outcome ≡ Ok count
+-- the rows are equal, but for at most the one whose line begins at a place in both data
+abbrev pub OneRowDiffers : DecodeSettings → List ℕ → List ℕ → ℕ → Type 0
+OneRowDiffers settings one two from = ((plain settings two).rows ≡ (plain settings one).rows)
+    ⊎ ((index : ℕ) × (row : Row)
+    × ComesToLine settings (bits_of one) from index × ComesToLine settings (bits_of two) from index
+    × ((plain settings two).rows ≡ set (plain settings one).rows index row))
 
--- How the readings of two data end that differ in the line of one index, from a place on.
-pub data EndAlike (settings : DecodeSettings) (one two : List ℕ) (from index : ℕ) : Type 0 where
+-- The reading of some data ends without a fault at this place among their bits, and answers this count of bytes.
+pub record EndsAt (settings : DecodeSettings) (bytes : List ℕ) (place count : ℕ) : Type 0 where
+  pub rest : Bits
+  pub ends : (end_of settings (bits_of bytes)).outcome ≡ Ok rest
+  pub place_is : place + length rest ≡ length (bits_of bytes)
+  pub count_is : (plain settings bytes).outcome ≡ Ok count
+
+-- How the readings of two data end that differ in the line at a place alone.
+pub data EndAlike (settings : DecodeSettings) (one two : List ℕ) (from : ℕ) : Type 0 where
   -- both with the same fault
   faults : (fault : DecodeError) → (plain settings one).outcome ≡ Err fault → (plain settings two).outcome ≡ Err fault
-      → EndAlike settings one two from index
-  -- without columns
-  no_columns : (count : ℕ) → settings.columns ≡ 0 → Counts settings one count → Counts settings two count
-      → EndAlike settings one two from index
-  -- at the same place, at or before `from`, with the same count
-  before : (place count : ℕ) → place ≤ from → LastPlace settings one place → LastPlace settings two place
-      → Counts settings one count → Counts settings two count → EndAlike settings one two from index
-  -- after `from`, with counts that differ by as much as the lengths
-  past : (place place2 count count2 : ℕ) → from < place → from < place2 → LastPlace settings one place → LastPlace settings two place2
-      → Counts settings one count → Counts settings two count2 → count + length two ≡ count2 + length one
-      → EndAlike settings one two from index
-  -- at the limit, which is met by this very row
-  at_limit : (place place2 : ℕ) → settings.rows ≡ suc index → length (plain settings one).rows ≡ suc index
-      → from ≤ place → from ≤ place2 → LastPlace settings one place → LastPlace settings two place2
-      → IsOk (plain settings one).outcome → IsOk (plain settings two).outcome → EndAlike settings one two from index
+      → EndAlike settings one two from
+  -- both at once, without columns
+  no_columns : settings.columns ≡ 0 → plain settings one ≡ nothing_read → plain settings two ≡ nothing_read
+      → EndAlike settings one two from
+  -- both at one place that isn't behind the line's beginning, with one count
+  before : (place count : ℕ) → place ≤ from → EndsAt settings one place count → EndsAt settings two place count
+      → EndAlike settings one two from
+  -- both behind the line's beginning, as many bytes before the end of their data
+  past : (place place2 count count2 : ℕ) → from < place → from < place2
+      → EndsAt settings one place count → EndsAt settings two place2 count2 → count + length two ≡ count2 + length one
+      → EndAlike settings one two from
+  -- both at the limit, which the row of this very line meets, wherever the line ends
+  at_limit : (index place place2 count count2 : ℕ)
+      → ComesToLine settings (bits_of one) from index → ComesToLine settings (bits_of two) from index
+      → settings.rows ≡ suc index → length (plain settings one).rows ≡ suc index → from ≤ place → from ≤ place2
+      → EndsAt settings one place count → EndsAt settings two place2 count2
+      → EndAlike settings one two from
 
--- equally many rows, all but at most one of them equal
-abbrev pub OneRowDiffers : List Row → List Row → ℕ → Type 0
-OneRowDiffers rows others index = (row : Row) × (others ≡ set rows index row)
-
--- Where two data differ within a local body alone, all their rows but the one of this body are equal, and they end alike.
+-- Where two data differ within a local body alone, all their rows but at most the one of this body are equal, and they end
+-- alike.
 abbrev pub Locality : Type 0
 Locality = (settings : DecodeSettings) (one two : List ℕ) (from to to2 : ℕ) → AreSettings settings
     → take from (bits_of one) ≡ take from (bits_of two) → drop to (bits_of one) ≡ drop to2 (bits_of two)
     → IsLocal settings (bits_of one) from to → IsLocal settings (bits_of two) from to2
     → (settings.end_of_line ≡ true) ⊎ ((end : ℕ) × (end ≤ from) × IsEol (bits_of one) 0 end)
-    → (index : ℕ) × OneRowDiffers (plain settings one).rows (plain settings two).rows index × EndAlike settings one two from index
+    → OneRowDiffers settings one two from × EndAlike settings one two from

@@ -1,5 +1,5 @@
 -- The plain reading of whole data: rows, and how it ends.
-use Rattle.std.specs.Prelude.{ℕ, suc, ◌+◌, ◌-◌, ◌/◌, ◌%◌, Bool, true, false, not, ◌&&◌, ◌||◌, List, [], ◌∷◌, ◌++◌, length, drop, replicate, nat_le, nat_lt, ◌==◌, Option, Some, None, Result, Ok, Err, if◌then◌else◌}
+use Rattle.std.specs.Prelude.{ℕ, suc, ◌+◌, ◌-◌, ◌/◌, ◌%◌, Bool, true, false, not, ◌&&◌, ◌||◌, List, [], ◌∷◌, ◌++◌, length, drop, nat_le, nat_lt, ◌==◌, Option, Some, None, Result, Ok, Err, if◌then◌else◌}
 use Rattle.hayro_ccitt.specs.declared.error.DecodeError.{DecodeError}
 use Rattle.hayro_ccitt.specs.declared.error.DecodeError.TheVariants.{UnexpectedEof, InvalidCode}
 use Rattle.hayro_ccitt.specs.declared.settings.EncodingMode.{EncodingMode}
@@ -72,12 +72,14 @@ abbrev pub eols_group3 : DecodeSettings → Bits → ℕ × Bits
 eols_group3 settings here = eols_by settings.encoding here
 
 -- EOLs were counted behind so many rows of Group 3: six of them with `end_of_block`, which are RTC, end the reading, and
--- so do the limit and the end of the data; else a line stands behind them (T.4, 4.1.4)
+-- so do the limit and the end of the data (T.4, 4.1.4)
+abbrev pub is_over_group3 : DecodeSettings → ℕ → ℕ × Bits → Bool
+is_over_group3 settings taken (count, rest) = (settings.end_of_block && nat_le 6 count) || limit_met settings taken || at_end rest
+
+-- behind these EOLs of Group 3 a line stands, unless the reading is over (T.4, 4.1.4)
 abbrev pub behind_eols_group3 : DecodeSettings → ℕ → Bool → ℕ × Bits → Gap
 behind_eols_group3 settings taken has_eols (count, rest) =
-    if (settings.end_of_block && nat_le 6 count) || limit_met settings taken || at_end rest
-    then Gap.over (Ok rest)
-    else Gap.line_at has_eols rest
+    if is_over_group3 settings taken (count, rest) then Gap.over (Ok rest) else Gap.line_at has_eols rest
 
 -- The next EOL was looked for. The EOLs that stand there are counted; where there is none, a line stands here, and EOLs
 -- are given up (T.4, 4.1.2).
@@ -133,17 +135,17 @@ abbrev pub row_group4 : DecodeSettings → Line → Result (Row × Bits) DecodeE
 row_group4 settings (Line.whole row rest) = Ok (row, if settings.rows_are_byte_aligned then aligned rest else rest)
 row_group4 settings (Line.broken front fault) = Err fault
 
--- the bits behind a row of Group 3: without EOLs they begin at a whole byte where rows are aligned (T.4, 4.1.3)
-abbrev pub behind_row_group3 : DecodeSettings → Bool → Bits → Bits
-behind_row_group3 settings has_eols rest = if settings.rows_are_byte_aligned && not has_eols then aligned rest else rest
+-- the bits behind a row: where rows are aligned and the data have no EOLs, they begin at a whole byte (T.4, 4.1.3)
+abbrev pub behind_row : DecodeSettings → Bool → Bits → Bits
+behind_row settings has_eols rest = if settings.rows_are_byte_aligned && not has_eols then aligned rest else rest
 
 -- What a line of Group 3 comes to. In lenient data with EOLs a broken row is repaired: its front is continued in white,
 -- and the place goes back to the line's start (T.4, 4.1.2).
 abbrev pub row_group3 : DecodeSettings → Bool → Bits → Line → Result (Row × Bits) DecodeError
-row_group3 settings has_eols start (Line.whole row rest) = Ok (row, behind_row_group3 settings has_eols rest)
+row_group3 settings has_eols start (Line.whole row rest) = Ok (row, behind_row settings has_eols rest)
 row_group3 settings has_eols start (Line.broken front fault) =
     if settings.strict || not has_eols then Err fault
-    else Ok (repaired settings.columns front, behind_row_group3 settings has_eols start)
+    else Ok (repaired settings.columns front, behind_row settings has_eols start)
 
 -- ---- One turn: in Group 4 what stands between two rows and then a row, in Group 3 a row and then what stands behind it
 
@@ -179,12 +181,12 @@ at_gap_group3 so_far (Gap.over outcome) = ends_with so_far outcome
 at_gap_group3 so_far (Gap.line_at has_eols here) = Turn.next (record so_far { has_eols = has_eols; rest = here })
 
 -- glue: what stands behind the rows so far
-abbrev pub behind_row : DecodeSettings → Progress → Move
-behind_row settings so_far = at_gap_group3 so_far (gap_group3 settings (length so_far.rows) so_far.has_eols so_far.rest)
+abbrev pub move_behind_row : DecodeSettings → Progress → Move
+move_behind_row settings so_far = at_gap_group3 so_far (gap_group3 settings (length so_far.rows) so_far.has_eols so_far.rest)
 
 -- glue: a row of Group 3 is added, or its fault ends the reading
 abbrev pub add_row_group3 : DecodeSettings → Progress → Result (Row × Bits) DecodeError → Move
-add_row_group3 settings so_far (Ok (row, rest)) = behind_row settings (with_row so_far row rest)
+add_row_group3 settings so_far (Ok (row, rest)) = move_behind_row settings (with_row so_far row rest)
 add_row_group3 settings so_far (Err fault) = ends_with so_far (Err fault)
 
 -- glue: after a line of Group 3

@@ -21,6 +21,13 @@ looked [] = 0
 looked (false ∷ here) = suc (looked here)
 looked (true ∷ here) = 1
 
+-- the bits that are looked at where a tag between two EOLs may stand: the tag, and behind a one what a count of zeros
+-- looks at
+abbrev pub looked_at_tag : Bits → ℕ
+looked_at_tag [] = 0
+looked_at_tag (false ∷ here) = 1
+looked_at_tag (true ∷ here) = suc (looked here)
+
 -- the word that a reading finds, if it finds one
 abbrev pub word_found : {V : Type 0} → List (Code V) → Bits → List Bits
 word_found list here = elim (read_code list here) [

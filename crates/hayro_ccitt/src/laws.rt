@@ -7,6 +7,7 @@ ghost use Rattle.hayro_ccitt.specs.Runs.{codes_of};
 ghost use Rattle.hayro_ccitt.specs.declared.codes.Color.{Color};
 ghost use Rattle.hayro_ccitt.specs.Examples.{EncodesTwoLines, EncodesTaggedRows, HaveLocalBodies, ReadsDamage};
 ghost use Rattle.hayro_ccitt.specs.Laws.{each_word, has_few_zeros, Synchronised, StrictThenLenient, RowLimit};
+ghost use Rattle.hayro_ccitt.specs.Laws.{ReadsClosedPictures, ReadsLimitedPictures};
 ghost use Rattle.hayro_ccitt.specs.Laws.{ReadsPictureT6, ReadsLimitedRowsT6, ReadsPictureT4, ReadsLimitedPictureT4, ReadsLimitedRowsT4};
 ghost use Rattle.hayro_ccitt.specs.Laws.{AfterEofb, PicturesComeToEofb, OnePictureT6, OnePictureT4};
 ghost use Rattle.hayro_ccitt.specs.Laws.{EveryPictureHasAnEncoding, BytesBeginWithAnyBits, RowsOfChanges, ChangesOfRows};
@@ -60,6 +61,13 @@ pub fn t4_pictures()
     ensures closed { ReadsPictureT4 }
     ensures limited { ReadsLimitedPictureT4 }
     ensures body { ReadsLimitedRowsT4 }
+{}
+
+/// A picture of any kind is read as its rows, whatever follows: closed, with the exact count of bytes; or ended by a
+/// limit of as many rows.
+pub fn pictures()
+    ensures closed { ReadsClosedPictures }
+    ensures limited { ReadsLimitedPictures }
 {}
 
 /// Where one stream begins another, both closed and of one width, their pictures are the same.

@@ -12,11 +12,14 @@ ghost use Rattle.hayro_ccitt.specs.PlainReading.{plain, lines_of};
 ghost use Rattle.hayro_ccitt.specs.Answers.{IsFault, PaintsBlack, OnAnswer, meaning_after};
 
 pub mod bit_reader;
+pub mod changes;
 pub mod codes;
 pub mod context;
 mod error;
+pub mod group3;
 pub mod group4;
 pub mod laws;
+mod rows;
 mod settings;
 pub mod tables;
 

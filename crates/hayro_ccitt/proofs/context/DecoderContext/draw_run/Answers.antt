@@ -1,4 +1,4 @@
-use Rattle.std.proofs.Common.{Err, subst}
+use Rattle.std.proofs.Common.{Err, subst, ap}
 use Rattle.std.proofs.lemmas.Result.{err_from_is_err_and}
 use Rattle.hayro_ccitt.specs.Answers.{DrawsStep, pen_of}
 use Rattle.hayro_ccitt.specs.Bits.{here}
@@ -24,5 +24,5 @@ returns-in_err-push_pixels-clause-step c =
     let left : Context = context_of c.self.inside in
     rw (p.1, p.2)
     (subst (λ (x : Context). DrawsStep (draw_run x.held.settings.strict x.held.settings.columns (pen_of x.held (here c.args.reader.now)) Turn.next) (Err c.in_err-push_pixels.field-0.0) (pen_of c.push_pixels.new.self.held (here c.decode_run.new.self)))
-    c.self.view_is (run_unpainted left.held c.push_pixels.new.self.held c.in_ok-run.run' (here c.args.reader.now) (here c.decode_run.new.self) c.in_err-push_pixels.field-0.0 c.in_ok-run.ensures.run e.same
+    c.self.view_is (run_unpainted left.held c.push_pixels.new.self.held c.in_ok-run.run' (here c.args.reader.now) (here c.decode_run.new.self) c.in_err-push_pixels.field-0.0 c.in_ok-run.ensures.run (ap (λ (x : Context). x.held) e.unchanged)
     (record { too_many = e.too_many.0; memory = e.memory; only = e.only })))

@@ -1,5 +1,5 @@
 use Rattle.std.proofs.Common.{ℕ, ◌-◌, ◌≤◌, ◌<◌, length, get_or}
-use Rattle.hayro_ccitt.proofs.context.b1_index.Given as goal
+use Rattle.hayro_ccitt.proofs.changes.b1_index.Given as goal
 
 -- the changes so far are at most at a0
 abbrev pub invariant-loop-index : goal.invariant-loop-index

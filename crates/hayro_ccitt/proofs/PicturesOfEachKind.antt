@@ -1,0 +1,23 @@
+-- Pictures of every kind: closed, and ended by the limit of rows.
+use Rattle.std.proofs.Common.{ℕ, Ok, sym, ap, ◌∙◌}
+use Rattle.hayro_ccitt.specs.PlainReading.{Reading}
+use Rattle.hayro_ccitt.specs.Pictures.{IsClosedPicture, IsLimitedPicture}
+use Rattle.hayro_ccitt.specs.Laws.{ReadsClosedPictures, ReadsLimitedPictures}
+use Rattle.hayro_ccitt.proofs.PicturesT6.{closed_picture_t6, limited_rows_t6}
+use Rattle.hayro_ccitt.proofs.PicturesT4.{closed_picture_t4, limited_picture_t4}
+use Rattle.hayro_ccitt.proofs.BodiesT4.{limited_rows_t4}
+
+-- the law
+pub closed_pictures : ReadsClosedPictures
+closed_pictures settings rows count bytes are (IsClosedPicture.by_eofb bits begins counted) =
+    let e = closed_picture_t6 settings rows bits bytes are begins in
+    (ap (λ (a : Reading). a.rows) e, ap (λ (a : Reading). a.outcome) e ∙ ap (λ (n : ℕ). Ok n) (sym counted))
+closed_pictures settings rows count bytes are (IsClosedPicture.by_rtc bits behind begins counted) =
+    let e = closed_picture_t4 settings rows bits behind bytes are begins in
+    (ap (λ (a : Reading). a.rows) e, ap (λ (a : Reading). a.outcome) e ∙ ap (λ (n : ℕ). Ok n) (sym counted))
+
+-- the law
+pub limited_pictures : ReadsLimitedPictures
+limited_pictures settings rows bytes are (IsLimitedPicture.of_t6 bits begins) = limited_rows_t6 settings rows bits bytes are begins
+limited_pictures settings rows bytes are (IsLimitedPicture.of_t4 bits begins) = limited_rows_t4 settings rows bits bytes are begins
+limited_pictures settings rows bytes are (IsLimitedPicture.of_t4_with_eols bits begins) = limited_picture_t4 settings rows bits bytes are begins
