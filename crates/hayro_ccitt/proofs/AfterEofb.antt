@@ -12,7 +12,7 @@ use Rattle.hayro_ccitt.specs.Repetition.{Turn, Reaches}
 use Rattle.hayro_ccitt.specs.Lines.{Line, line_2d}
 use Rattle.hayro_ccitt.specs.EndOfLine.{after_eol, one_more, eols, all_eols}
 use Rattle.hayro_ccitt.specs.PlainReading.{eols_group4, Progress, Ending, row_before, aligned, at_end, limit_met, ends_with, after_line_group4, Reading, nothing_read, whole_reading, move_group4, end_of, plain}
-use Rattle.hayro_ccitt.specs.Laws.{AfterEofb, Reaches}
+use Rattle.hayro_ccitt.specs.Laws.{AfterEofb}
 use Rattle.hayro_ccitt.proofs.Moves.{eols-none, next_is, not_next}
 use Rattle.hayro_ccitt.proofs.Repeated.{after_turn}
 use Rattle.hayro_ccitt.proofs.ReadRuns.{chosen}

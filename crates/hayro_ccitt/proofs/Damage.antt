@@ -1,21 +1,25 @@
 -- Damage to one line changes its row alone.
 use Rattle.std.proofs.Common.{◌≡◌, ℕ, suc, ◌+◌, ◌-◌, ◌/◌, ◌<◌, ◌≤◌, Bool, true, false, ◌||◌, eqb, ltb, List, [], ◌∷◌, ◌++◌, length, take, drop}
 use Rattle.std.proofs.Common.{replicate, set, Option, Some, None, Result, Ok, Err, refl, sym, ap, subst, ◌∙◌, append_assoc, arith, ◌⊎◌, inl, inr}
-use Rattle.std.specs.Prelude.{IsOk}
 use Rattle.std.proofs.lemmas.Bool.{cases_lt, cases_eq, eq-eqb, ne_eqb, or_right, cond-true, cond-false}
 use Rattle.std.proofs.lemmas.List.{length-append, length-take-le, length-drop, take-append-drop, append_cancel_right, replicate-append-replicate}
-use Rattle.std.proofs.lemmas.List.{set_at, set_past}
+use Rattle.std.proofs.lemmas.List.{set_at}
 use Rattle.hayro_ccitt.specs.declared.error.DecodeError.{DecodeError}
 use Rattle.hayro_ccitt.specs.declared.error.DecodeError.TheVariants.{UnexpectedEof}
 use Rattle.hayro_ccitt.specs.declared.settings.EncodingMode.{EncodingMode}
 use Rattle.hayro_ccitt.specs.declared.settings.EncodingMode.TheVariants.{Group3_1D}
 use Rattle.hayro_ccitt.specs.declared.settings.DecodeSettings.{DecodeSettings}
+use Rattle.hayro_ccitt.specs.Answers.{OnAnswer, meaning_after}
+use Rattle.hayro_ccitt.specs.Context.{Held}
+use Rattle.hayro_ccitt.specs.Decoding.{SinkState, TakesRows}
+use Rattle.hayro_ccitt.proofs.PicturesOfEachKind.{handed}
 use Rattle.hayro_ccitt.specs.Bits.{Bits, bits_of}
+use Rattle.hayro_ccitt.specs.Settings.{AreSettings}
 use Rattle.hayro_ccitt.specs.Repetition.{repeated, Reaches}
 use Rattle.hayro_ccitt.specs.Rows.{Row}
 use Rattle.hayro_ccitt.specs.EndOfLine.{after_eol, all_eols}
 use Rattle.hayro_ccitt.specs.PlainReading.{Progress, Ending, start_group3, move_group3, plain_group3, end_by, end_of, bytes_before, plain, Reading, nothing_read, whole_reading}
-use Rattle.hayro_ccitt.specs.Locality.{IsEol, ComesToLine, OneRowDiffers, EndsAt, EndAlike, Locality}
+use Rattle.hayro_ccitt.specs.Locality.{IsEol, IsLocal, ComesToLine, OneRowDiffers, EndsAt, EndAlike, DamageStaysInRow, Locality}
 use Rattle.hayro_ccitt.proofs.Repeated.{reached_follows}
 use Rattle.hayro_ccitt.proofs.BitLists.{length-bits_of}
 use Rattle.hayro_ccitt.proofs.Moves.{left_group3, left_group3_below, move_group3_shrinks}
@@ -66,9 +70,11 @@ module _ (settings : DecodeSettings) (wide : 0 < settings.columns) (one two : Li
 
   -- what the law says of both answers
   abbrev Differ : Type 0
-  Differ = OneRowDiffers settings one two from × EndAlike settings one two from
+  Differ = OneRowDiffers settings one two from (plain settings one).rows (plain settings two).rows
+      × EndAlike settings one two from (plain settings one).rows (plain settings one).outcome (plain settings two).outcome
 
-  rows_differ : RowsAlike Begins end_one.rows end_two.rows → OneRowDiffers settings one two from
+  rows_differ : RowsAlike Begins end_one.rows end_two.rows
+      → OneRowDiffers settings one two from (plain settings one).rows (plain settings two).rows
   rows_differ (inl e) = inl (rows_of two ∙ sym e ∙ sym (rows_of one))
   rows_differ (inr (before, a, b, more, e, f, begins)) =
       inr (
@@ -80,7 +86,7 @@ module _ (settings : DecodeSettings) (wide : 0 < settings.columns) (one two : Li
       )
 
   ends_at : (bytes : List ℕ) (rest : Bits) (place : ℕ) → (end_of settings (bits_of bytes)).outcome ≡ Ok rest
-      → place + length rest ≡ length (bits_of bytes) → EndsAt settings bytes place ((place + 7) / 8)
+      → place + length rest ≡ length (bits_of bytes) → EndsAt settings bytes (plain settings bytes).outcome place ((place + 7) / 8)
   ends_at bytes rest place e at = record { rest = rest; ends = e; place_is = at; count_is = outcome_of bytes (Ok rest) e ∙ count_at (bits_of bytes) rest place at }
 
   shorter_x : length after < length x
@@ -233,14 +239,20 @@ module _ (settings : DecodeSettings) (one two : Bits) (from : ℕ) (after : Bits
 
 -- the law
 pub locality : Locality
-locality settings one two from to to2 are same_front same_rest local_one local_two sought_by = by (cases_eq settings.columns 0)
+locality settings one are two from to to2 differ = by (cases_eq settings.columns 0)
   where
+    local_one : IsLocal settings (bits_of one) from to
+    local_one = differ.body
+
+    local_two : IsLocal settings (bits_of two) from to2
+    local_two = differ.other
+
     no_columns : settings.columns ≡ 0 → (bytes : List ℕ) → plain settings bytes ≡ nothing_read
     no_columns e bytes = cond-true (eqb settings.columns 0) _ _ (eq-eqb settings.columns 0 e)
 
     same_after : local_two.closes.0 ≡ local_one.closes.0
     same_after =
-        let e : ◌≡◌ {A = Option Bits} (Some local_two.closes.0) (Some local_one.closes.0) = sym local_two.closes.1 ∙ ap (after_eol 0) (sym same_rest)
+        let e : ◌≡◌ {A = Option Bits} (Some local_two.closes.0) (Some local_one.closes.0) = sym local_two.closes.1 ∙ ap (after_eol 0) (sym differ.behind)
         ∙ local_one.closes.1 in
         cc
 
@@ -250,17 +262,40 @@ locality settings one two from to to2 are same_front same_rest local_one local_t
     tail_two : IsTail settings.columns local_one.closes.0 (drop from (bits_of two))
     tail_two = subst (λ (a : Bits). IsTail settings.columns a (drop from (bits_of two))) same_after (is_tail settings (bits_of two) from to2 local_two)
 
-    by : (settings.columns ≡ 0) ⊎ (settings.columns ≡ 0 → ⊥) → OneRowDiffers settings one two from × EndAlike settings one two from
+    by : (settings.columns ≡ 0) ⊎ (settings.columns ≡ 0 → ⊥)
+        → OneRowDiffers settings one two from (plain settings one).rows (plain settings two).rows
+        × EndAlike settings one two from (plain settings one).rows (plain settings one).outcome (plain settings two).outcome
     by (inl e) = (
       inl (ap (λ (a : Reading). a.rows) (no_columns e two ∙ sym (no_columns e one))),
-      EndAlike.no_columns e (no_columns e one) (no_columns e two),
+      EndAlike.no_columns e (ap (λ (a : Reading). a.outcome) (no_columns e one)) (ap (λ (a : Reading). a.outcome) (no_columns e two)),
     )
     by (inr e) =
         let wide : 0 < settings.columns = elim (cases_lt 0 settings.columns) [ inl lt ↦ lt | inr ge ↦ absurd (e (omega arith)) ] in
         let fits_one : from ≤ length (bits_of one) = omega (arith, local_one.order, local_one.within) in
         let fits_two : from ≤ length (bits_of two) = omega (arith, local_two.order, local_two.within) in
-        let firsts = begin settings (bits_of one) (bits_of two) from local_one.closes.0 fits_one same_front tail_one tail_two local_one.starts sought_by in
+        let firsts = begin settings (bits_of one) (bits_of two) from local_one.closes.0 fits_one differ.before tail_one tail_two local_one.starts differ.sought in
         let ends = ends_alike settings (bits_of one)
-        (bits_of two) from local_one.closes.0 fits_one same_front tail_one tail_two local_one.encoding local_one.lenient wide firsts in
+        (bits_of two) from local_one.closes.0 fits_one differ.before tail_one tail_two local_one.encoding local_one.lenient wide firsts in
         answers_alike settings wide one two from (drop from (bits_of one)) (drop from (bits_of two)) local_one.closes.0
         (omega (arith, fits_one, length-drop from (bits_of one))) (omega (arith, fits_two, length-drop from (bits_of two))) refl refl tail_one tail_two ends
+
+-- a run that gave the rows and the outcome of the plain reading has what the law says
+pub damage_stays : (settings : DecodeSettings) (bytes : List ℕ) (rows : List Row) (outcome : Result ℕ DecodeError) → AreSettings settings
+    → rows ≡ (plain settings bytes).rows → outcome ≡ (plain settings bytes).outcome → DamageStaysInRow settings bytes rows outcome
+damage_stays settings bytes rows outcome are rows_are outcome_is = rw (rows_are, outcome_is) (locality settings bytes are)
+
+-- a run that takes the rows of the plain reading and ends as it does has it of the rows that it took
+pub damage_stays_taken : {M : Type 0} (settings : DecodeSettings) (bytes : List ℕ) (sought : Bool) (step : M → List ℕ → M) (before after : SinkState M)
+    (held : Held) (answer : Result ℕ DecodeError) → AreSettings settings
+    → TakesRows (plain settings bytes).rows (plain settings bytes).outcome sought step before after held answer
+    → OnAnswer answer ((rows : List Row) × (after.meaning ≡ meaning_after step before.meaning rows) × DamageStaysInRow settings bytes rows answer)
+damage_stays_taken settings bytes sought step before after held answer are takes = by answer takes
+  where
+    rows : List Row
+    rows = (plain settings bytes).rows
+
+    by : (r : Result ℕ DecodeError) → TakesRows rows (plain settings bytes).outcome sought step before after held r
+        → OnAnswer r ((rows : List Row) × (after.meaning ≡ meaning_after step before.meaning rows) × DamageStaysInRow settings bytes rows r)
+    by (Ok n) takes = (rows, handed step before after held _ takes.all takes.meaning, damage_stays settings bytes rows (Ok n) are refl (sym takes.ok))
+    by (Err e) takes = λ fault.
+        (rows, handed step before after held _ (takes.all fault) takes.meaning, damage_stays settings bytes rows (Err e) are refl (sym (takes.fault fault)))

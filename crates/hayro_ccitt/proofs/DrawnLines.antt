@@ -13,12 +13,13 @@ use Rattle.hayro_ccitt.specs.declared.codes.Mode.TheVariants.{Pass, Horizontal, 
 use Rattle.hayro_ccitt.specs.declared.error.DecodeError.{DecodeError}
 use Rattle.hayro_ccitt.specs.declared.settings.DecodeSettings.{DecodeSettings}
 use Rattle.hayro_ccitt.specs.declared.error.DecodeError.TheVariants.{UnexpectedEof, InvalidCode, Overflow, OutOfMemory, Refused}
-use Rattle.hayro_ccitt.specs.Answers.{IsFault, front_of, HasBlack, StopsAtChange, DrawsLine, pen_of, front_after, DrawsStep, StoresChange}
+use Rattle.hayro_ccitt.specs.Answers.{IsFault, front_of, HasBlack, StopsAtChange, DrawsLine, pen_of, front_after, DrawsStep, StoresChange, Step, step_of_run, step_of_mode}
 use Rattle.hayro_ccitt.specs.Bits.{Bits, BitsAt, here}
 use Rattle.hayro_ccitt.specs.CodeLists.{mode_codes}
 use Rattle.hayro_ccitt.specs.CodeReading.{read_code}
 use Rattle.hayro_ccitt.specs.Context.{Context, Held, redrawn}
-use Rattle.hayro_ccitt.specs.Lines.{Line, Pen, Step, try, draw_run, start, drawn, place_from, draw_mode, step_1d, step_2d}
+use Rattle.hayro_ccitt.specs.Lines.{Line, Pen, start, place_from, turn_behind}
+use Rattle.hayro_ccitt.proofs.Drawings.{try, run_then, mode_step, step_unless_full, drawn_by, step_1d, step_2d, step_1d_is, step_2d_is, horizontal_is}
 use Rattle.hayro_ccitt.specs.Repetition.{Turn, repeated}
 use Rattle.hayro_ccitt.specs.Rows.{Row, is_black, opposite, right_of, b1, b2, paint, last_pixel}
 use Rattle.hayro_ccitt.specs.Runs.{run_from}
@@ -63,7 +64,7 @@ first_black : (row : Row) → HasBlack (true ∷ row)
 first_black row = (0, omega arith, refl)
 
 -- a row whose last pixel is black has a black pixel
-last_black : (before : Bool) (row : Row) → before ≡ false → last_pixel before row ≢ false → HasBlack row
+pub last_black : (before : Bool) (row : Row) → before ≡ false → last_pixel before row ≢ false → HasBlack row
 last_black before [] e other = absurd (other e)
 last_black before (true ∷ row) e other = first_black row
 last_black before (false ∷ row) e other = Contains-append_right (false ∷ []) row true (last_black false row refl other)
@@ -125,7 +126,7 @@ paint_draws held new count rest (Err e) painted kept same unpainted =
 -- what pass draws is what its painting draws
 pub pass_draws : (old held new : Held) (count : ℕ) (rest : Bits) (r : Result (Unit {0}) DecodeError) → held ≡ old → count ≡ b2 old.reference (right_of old.front) old.color - length old.front
     → DrawsStep (try held.front (paint held.settings.strict held.settings.columns held.front held.color count) (λ front. Turn.next (record (pen_of held rest) { front = front }))) r (pen_of new rest)
-    → DrawsStep (draw_mode old.settings.strict old.settings.columns old.reference (pen_of old rest) Pass) r (pen_of new rest)
+    → DrawsStep (step_of_mode old rest Pass) r (pen_of new rest)
 pass_draws old held new count rest r same counts draws =
     let at_old = subst (λ (h : Held). DrawsStep (try h.front (paint h.settings.strict h.settings.columns h.front h.color count) (λ front. Turn.next (record (pen_of h rest) { front = front }))) r (pen_of new rest)) same draws in
     subst (λ (n : ℕ). DrawsStep (try old.front (paint old.settings.strict old.settings.columns old.front old.color n) (λ front. Turn.next (record (pen_of old rest) { front = front }))) r (pen_of new rest)) counts at_old
@@ -146,24 +147,24 @@ place_of (negsuc n) o p iff is = absurd (let a = some_where o p iff is in omega 
 
 -- a vertical mode whose pixels are not painted ends the line
 pub vertical_unpainted : (held new : Held) (k : ℤ) (p : ℕ) (rest : Bits) (e : DecodeError) → pos (b1 held.reference (right_of held.front) held.color) +ℤ k ≡ pos p → p ≤ 4294967295 → length held.front ≤ p → new ≡ held
-    → IsUnpainted held (p - length held.front) e → DrawsStep (draw_mode held.settings.strict held.settings.columns held.reference (pen_of held rest) (Vertical k)) (Err e) (pen_of new rest)
+    → IsUnpainted held (p - length held.front) e → DrawsStep (step_of_mode held rest (Vertical k)) (Err e) (pen_of new rest)
 vertical_unpainted held new k p rest e is fits above same unpainted =
     let go_on : Row → Step = λ front. Turn.next (record { front = front; color = opposite held.color; rest = rest }) in
     let place = place_ok (length held.front) p (pos (b1 held.reference (right_of held.front) held.color) +ℤ k) is fits above in
-    let whole : draw_mode held.settings.strict held.settings.columns held.reference (pen_of held rest) (Vertical k) ≡ try held.front (paint held.settings.strict held.settings.columns held.front held.color (p - length held.front)) go_on = rw place refl in
+    let whole : step_of_mode held rest (Vertical k) ≡ try held.front (paint held.settings.strict held.settings.columns held.front held.color (p - length held.front)) go_on = rw place refl in
     subst (λ (s : Step). DrawsStep s (Err e) (pen_of new rest)) (sym whole) (paint_fails held (p - length held.front) go_on e (pen_of new rest) (ap (λ (h : Held). h.front) same) unpainted (λ row stops. stops))
 
 -- a run that isn't read ends the line
 pub run_unread : (held : Held) (rest after : Bits) (e : DecodeError) → IsFault e → run_from held.color (0, rest) ≡ Err e
-    → DrawsStep (draw_run held.settings.strict held.settings.columns (pen_of held rest) Turn.next) (Err e) (pen_of held after)
+    → DrawsStep (step_of_run held rest) (Err e) (pen_of held after)
 run_unread held rest after e fault unread = fault_ends _ e (pen_of held after) fault (rw unread refl)
 
 -- a run that is read and not painted ends the line
 pub run_unpainted : (held new : Held) (n : ℕ) (rest after : Bits) (e : DecodeError) → run_from held.color (0, rest) ≡ Ok (n, after) → new ≡ held → IsUnpainted held n e
-    → DrawsStep (draw_run held.settings.strict held.settings.columns (pen_of held rest) Turn.next) (Err e) (pen_of new after)
+    → DrawsStep (step_of_run held rest) (Err e) (pen_of new after)
 run_unpainted held new n rest after e reads same unpainted =
     let go_on : Row → Step = λ front. Turn.next (record { front = front; color = opposite held.color; rest = after }) in
-    let whole : draw_run held.settings.strict held.settings.columns (pen_of held rest) Turn.next ≡ try held.front (paint held.settings.strict held.settings.columns held.front held.color n) go_on = rw reads refl in
+    let whole : step_of_run held rest ≡ try held.front (paint held.settings.strict held.settings.columns held.front held.color n) go_on = rw reads refl in
     subst (λ (s : Step). DrawsStep s (Err e) (pen_of new after)) (sym whole) (paint_fails held n go_on e (pen_of new after) (ap (λ (h : Held). h.front) same) unpainted (λ row stops. stops))
 
 -- ---- A step keeps what is painted: a change behind a front that stood is there in the finished row.
@@ -176,19 +177,20 @@ pub try_keeps : {A : Type 0} (stood : Row) (front : Row) (r : Result A DecodeErr
 try_keeps stood front (Ok x) go_on stops keeps = keeps x refl
 try_keeps stood front (Err fault) go_on stops keeps = stops
 
-pub draw_run_keeps : (stood : Row) (strict : Bool) (columns : ℕ) (pen : Pen) (go_on : Pen → Step) → ((p : Pen) → StopsAtChange p.front stood → StopsAtChange (front_after (go_on p)) stood) → StopsAtChange pen.front stood → StopsAtChange (front_after (draw_run strict columns pen go_on)) stood
+pub draw_run_keeps : (stood : Row) (strict : Bool) (columns : ℕ) (pen : Pen) (go_on : Pen → Step) → ((p : Pen) → StopsAtChange p.front stood → StopsAtChange (front_after (go_on p)) stood) → StopsAtChange pen.front stood → StopsAtChange (front_after (run_then strict columns pen go_on)) stood
 draw_run_keeps stood strict columns pen go_on keeps stops =
     try_keeps stood pen.front (run_from pen.color (0, pen.rest)) _ stops (λ run e.
     try_keeps stood pen.front (paint strict columns pen.front pen.color run.0) _ stops (λ front f.
     keeps (record { front = front; color = opposite pen.color; rest = run.1 }) (paint_keeps stood strict columns pen.front pen.color run.0 front f stops)))
 
-draw_mode_keeps : (stood : Row) (strict : Bool) (columns : ℕ) (reference : Row) (pen : Pen) (mode : Mode) → StopsAtChange pen.front stood → StopsAtChange (front_after (draw_mode strict columns reference pen mode)) stood
+draw_mode_keeps : (stood : Row) (strict : Bool) (columns : ℕ) (reference : Row) (pen : Pen) (mode : Mode) → StopsAtChange pen.front stood → StopsAtChange (front_after (mode_step strict columns reference pen mode)) stood
 draw_mode_keeps stood strict columns reference pen Pass stops =
     let n : ℕ = b2 reference (right_of pen.front) pen.color - length pen.front in
     try_keeps stood pen.front (paint strict columns pen.front pen.color n) (λ front. Turn.next (record pen { front = front })) stops
     (λ front f. paint_keeps stood strict columns pen.front pen.color n front f stops)
 draw_mode_keeps stood strict columns reference pen Horizontal stops =
-    draw_run_keeps stood strict columns pen (λ pen. draw_run strict columns pen Turn.next) (λ p h. draw_run_keeps stood strict columns p Turn.next (λ q g. g) h) stops
+    subst (λ (step : Step). StopsAtChange (front_after step) stood) (horizontal_is strict columns reference pen)
+    (draw_run_keeps stood strict columns pen (λ pen. run_then strict columns pen Turn.next) (λ p h. draw_run_keeps stood strict columns p Turn.next (λ q g. g) h) stops)
 draw_mode_keeps stood strict columns reference pen (Vertical k) stops =
     let paints : ℕ → Step = λ place. try pen.front (paint strict columns pen.front pen.color (place - length pen.front)) (λ front. Turn.next (record { front = front; color = opposite pen.color; rest = pen.rest })) in
     try_keeps stood pen.front (place_from (length pen.front) (pos (b1 reference (right_of pen.front) pen.color) +ℤ k)) paints stops (λ place e.
@@ -201,15 +203,17 @@ keeps_either stood false x y one other = other
 
 step_2d_keeps : (stood : Row) (strict : Bool) (columns : ℕ) (reference : Row) → Keeps stood (step_2d strict columns reference)
 step_2d_keeps stood strict columns reference pen stops =
-    let modes : Step = try pen.front (read_code mode_codes pen.rest) (λ mode. draw_mode strict columns reference (record pen { rest = mode.1 }) mode.0) in
-    keeps_either stood (leb columns (length pen.front)) (Turn.done (Line.whole pen.front pen.rest)) modes stops
-    (try_keeps stood pen.front (read_code mode_codes pen.rest) (λ mode. draw_mode strict columns reference (record pen { rest = mode.1 }) mode.0) stops
-    (λ mode e. draw_mode_keeps stood strict columns reference (record pen { rest = mode.1 }) mode.0 stops))
+    let modes : Step = try pen.front (read_code mode_codes pen.rest) (λ mode. mode_step strict columns reference (record pen { rest = mode.1 }) mode.0) in
+    subst (λ (step : Step). StopsAtChange (front_after step) stood) (sym (step_2d_is strict columns reference pen))
+    (keeps_either stood (leb columns (length pen.front)) (Turn.done (Line.whole pen.front pen.rest)) modes stops
+    (try_keeps stood pen.front (read_code mode_codes pen.rest) (λ mode. mode_step strict columns reference (record pen { rest = mode.1 }) mode.0) stops
+    (λ mode e. draw_mode_keeps stood strict columns reference (record pen { rest = mode.1 }) mode.0 stops)))
 
 step_1d_keeps : (stood : Row) (strict : Bool) (columns : ℕ) → Keeps stood (step_1d strict columns)
 step_1d_keeps stood strict columns pen stops =
-    keeps_either stood (leb columns (length pen.front)) (Turn.done (Line.whole pen.front pen.rest)) (draw_run strict columns pen Turn.next) stops
-    (draw_run_keeps stood strict columns pen Turn.next (λ q h. h) stops)
+    subst (λ (step : Step). StopsAtChange (front_after step) stood) (sym (step_1d_is strict columns pen))
+    (keeps_either stood (leb columns (length pen.front)) (Turn.done (Line.whole pen.front pen.rest)) (run_then strict columns pen Turn.next) stops
+    (draw_run_keeps stood strict columns pen Turn.next (λ q h. h) stops))
 
 -- a line keeps the change that it goes on from
 keeps_on : (stood : Row) (step : Pen → Step) → Shrinks step left → Keeps stood step → (n : ℕ) (pen : Pen) → left pen < n → StopsAtChange pen.front stood → StopsAtChange (front_of (repeated step (Line.broken [] UnexpectedEof) n pen)) stood
@@ -223,28 +227,33 @@ keeps_on stood step shrinks keeps (suc n) pen lt stops = by (λ p small h. keeps
 
 -- ---- The rule of one step of a line.
 
-keeps_after : (stood : Row) (step : Pen → Step) → Shrinks step left → Keeps stood step → (turn : Step) → StopsAtChange (front_after turn) stood → StopsAtChange (front_of (after_turn (drawn step) turn)) stood
+keeps_after : (stood : Row) (step : Pen → Step) → Shrinks step left → Keeps stood step → (turn : Step) → StopsAtChange (front_after turn) stood → StopsAtChange (front_of (after_turn (drawn_by step) turn)) stood
 keeps_after stood step shrinks keeps (Turn.next pen) stops = keeps_on stood step shrinks keeps (suc (length pen.rest)) pen (omega arith) stops
 keeps_after stood step shrinks keeps (Turn.done line) stops = stops
 
 -- a line that isn't full goes on with a run, or with a mode
 run_open : (strict : Bool) (columns : ℕ) (pen : Pen) → length pen.front < columns
-    → drawn (step_1d strict columns) pen ≡ after_turn (drawn (step_1d strict columns)) (draw_run strict columns pen Turn.next)
-run_open strict columns pen open_row = drawn1 strict columns pen ∙ rw (lt-leb columns (length pen.front) open_row) refl
+    → drawn_by (step_1d strict columns) pen ≡ after_turn (drawn_by (step_1d strict columns)) (run_then strict columns pen Turn.next)
+run_open strict columns pen open_row =
+    let on : step_unless_full columns pen (run_then strict columns pen Turn.next) ≡ run_then strict columns pen Turn.next = rw (lt-leb columns (length pen.front) open_row) refl in
+    drawn1 strict columns pen ∙ ap (after_turn (drawn_by (step_1d strict columns))) (step_1d_is strict columns pen ∙ on)
 
 line_open : (strict : Bool) (columns : ℕ) (reference : Row) (pen : Pen) → length pen.front < columns
-    → drawn (step_2d strict columns reference) pen ≡ after_turn (drawn (step_2d strict columns reference)) (try pen.front (read_code mode_codes pen.rest) (λ mode. draw_mode strict columns reference (record pen { rest = mode.1 }) mode.0))
-line_open strict columns reference pen open_row = drawn2 strict columns reference pen ∙ rw (lt-leb columns (length pen.front) open_row) refl
+    → drawn_by (step_2d strict columns reference) pen ≡ after_turn (drawn_by (step_2d strict columns reference)) (try pen.front (read_code mode_codes pen.rest) (λ mode. mode_step strict columns reference (record pen { rest = mode.1 }) mode.0))
+line_open strict columns reference pen open_row =
+    let step : Step = try pen.front (read_code mode_codes pen.rest) (λ mode. mode_step strict columns reference (record pen { rest = mode.1 }) mode.0) in
+    let on : step_unless_full columns pen step ≡ step = rw (lt-leb columns (length pen.front) open_row) refl in
+    drawn2 strict columns reference pen ∙ ap (after_turn (drawn_by (step_2d strict columns reference))) (step_2d_is strict columns reference pen ∙ on)
 
 -- after a mode is read, the line is what comes of the step that draws it
 pub line_mode : (strict : Bool) (columns : ℕ) (reference : Row) (pen : Pen) (mode : Mode) (rest : Bits) → length pen.front < columns → read_code mode_codes pen.rest ≡ Ok (mode, rest)
-    → drawn (step_2d strict columns reference) pen ≡ after_turn (drawn (step_2d strict columns reference)) (draw_mode strict columns reference (record pen { rest = rest }) mode)
+    → drawn_by (step_2d strict columns reference) pen ≡ after_turn (drawn_by (step_2d strict columns reference)) (mode_step strict columns reference (record pen { rest = rest }) mode)
 line_mode strict columns reference pen mode rest open_row reads = line_open strict columns reference pen open_row ∙ rw reads refl
 
 -- ---- What a line answers.
 
 -- an error of a step is that of the line
-fails_by : (step : Pen → Step) → Shrinks step left → ((stood : Row) → Keeps stood step) → (line : Line) (turn : Step) (e : DecodeError) (pen : Pen) → line ≡ after_turn (drawn step) turn
+fails_by : (step : Pen → Step) → Shrinks step left → ((stood : Row) → Keeps stood step) → (line : Line) (turn : Step) (e : DecodeError) (pen : Pen) → line ≡ after_turn (drawn_by step) turn
     → DrawsStep turn (Err e) pen → DrawsLine line (Err e) pen.front pen.rest
 fails_by step shrinks keeps line turn UnexpectedEof pen is draws = is ∙ rw draws refl
 fails_by step shrinks keeps line turn InvalidCode pen is draws = is ∙ rw draws refl
@@ -252,37 +261,37 @@ fails_by step shrinks keeps line turn Overflow pen is draws = is ∙ rw draws re
 fails_by step shrinks keeps line turn OutOfMemory pen is draws = subst (λ (l : Line). StopsAtChange (front_of l) pen.front) (sym is) (keeps_after pen.front step shrinks (keeps pen.front) turn draws)
 fails_by step shrinks keeps line turn Refused pen is draws = absurd draws
 
-pub line_1d_fails : (strict : Bool) (columns : ℕ) (line : Line) (step : Step) (e : DecodeError) (pen : Pen) → line ≡ after_turn (drawn (step_1d strict columns)) step
+pub line_1d_fails : (strict : Bool) (columns : ℕ) (line : Line) (step : Step) (e : DecodeError) (pen : Pen) → line ≡ after_turn (drawn_by (step_1d strict columns)) step
     → DrawsStep step (Err e) pen → DrawsLine line (Err e) pen.front pen.rest
 line_1d_fails strict columns = fails_by (step_1d strict columns) (step_1d_shrinks strict columns) (λ stood. step_1d_keeps stood strict columns)
 
-pub line_2d_fails : (strict : Bool) (columns : ℕ) (reference : Row) (line : Line) (step : Step) (e : DecodeError) (pen : Pen) → line ≡ after_turn (drawn (step_2d strict columns reference)) step
+pub line_2d_fails : (strict : Bool) (columns : ℕ) (reference : Row) (line : Line) (step : Step) (e : DecodeError) (pen : Pen) → line ≡ after_turn (drawn_by (step_2d strict columns reference)) step
     → DrawsStep step (Err e) pen → DrawsLine line (Err e) pen.front pen.rest
 line_2d_fails strict columns reference = fails_by (step_2d strict columns reference) (step_2d_shrinks strict columns reference) (λ stood. step_2d_keeps stood strict columns reference)
 
 -- the line of a context whose row isn't full is what comes of the run that is drawn
 pub line_by_run : (before now : Held) (line : Line) (at : Bits) → now ≡ redrawn before now.front now.color
-    → drawn (step_1d before.settings.strict before.settings.columns) (pen_of now at) ≡ line → length now.front < now.settings.columns
-    → line ≡ after_turn (drawn (step_1d before.settings.strict before.settings.columns)) (draw_run now.settings.strict now.settings.columns (pen_of now at) Turn.next)
+    → drawn_by (step_1d before.settings.strict before.settings.columns) (pen_of now at) ≡ line → length now.front < now.settings.columns
+    → line ≡ after_turn (drawn_by (step_1d before.settings.strict before.settings.columns)) (step_of_run now at)
 line_by_run before now line at kept so_far open_row =
     let settings : now.settings ≡ before.settings = ap (λ (h : Held). h.settings) kept in
     let columns : length now.front < before.settings.columns = subst (λ (s : DecodeSettings). length now.front < s.columns) settings open_row in
-    let after : Step → Line = after_turn (drawn (step_1d before.settings.strict before.settings.columns)) in
+    let after : Step → Line = after_turn (drawn_by (step_1d before.settings.strict before.settings.columns)) in
     sym so_far ∙ run_open before.settings.strict before.settings.columns (pen_of now at) columns
-    ∙ ap (λ (s : DecodeSettings). after (draw_run s.strict s.columns (pen_of now at) Turn.next)) (sym settings)
+    ∙ ap (λ (s : DecodeSettings). after (run_then s.strict s.columns (pen_of now at) Turn.next)) (sym settings)
 
 -- the line of a context whose row isn't full is what comes of the mode that is read
 pub line_by_mode : (before now : Held) (line : Line) (at rest : Bits) (mode : Mode) → now ≡ redrawn before now.front now.color
-    → drawn (step_2d before.settings.strict before.settings.columns before.reference) (pen_of now at) ≡ line → length now.front < now.settings.columns → read_code mode_codes at ≡ Ok (mode, rest)
-    → line ≡ after_turn (drawn (step_2d before.settings.strict before.settings.columns before.reference)) (draw_mode now.settings.strict now.settings.columns now.reference (pen_of now rest) mode)
+    → drawn_by (step_2d before.settings.strict before.settings.columns before.reference) (pen_of now at) ≡ line → length now.front < now.settings.columns → read_code mode_codes at ≡ Ok (mode, rest)
+    → line ≡ after_turn (drawn_by (step_2d before.settings.strict before.settings.columns before.reference)) (step_of_mode now rest mode)
 line_by_mode before now line at rest mode kept so_far open_row reads =
     let settings : now.settings ≡ before.settings = ap (λ (h : Held). h.settings) kept in
     let reference : now.reference ≡ before.reference = ap (λ (h : Held). h.reference) kept in
     let columns : length now.front < before.settings.columns = subst (λ (s : DecodeSettings). length now.front < s.columns) settings open_row in
-    let after : Step → Line = after_turn (drawn (step_2d before.settings.strict before.settings.columns before.reference)) in
+    let after : Step → Line = after_turn (drawn_by (step_2d before.settings.strict before.settings.columns before.reference)) in
     sym so_far ∙ line_mode before.settings.strict before.settings.columns before.reference (pen_of now at) mode rest columns reads
-    ∙ ap (λ (s : DecodeSettings). after (draw_mode s.strict s.columns before.reference (pen_of now rest) mode)) (sym settings)
-    ∙ ap (λ (r : Row). after (draw_mode now.settings.strict now.settings.columns r (pen_of now rest) mode)) (sym reference)
+    ∙ ap (λ (s : DecodeSettings). after (mode_step s.strict s.columns before.reference (pen_of now rest) mode)) (sym settings)
+    ∙ ap (λ (r : Row). after (mode_step now.settings.strict now.settings.columns r (pen_of now rest) mode)) (sym reference)
 
 -- a row that isn't said to be full has room
 pub open_by : (full : Bool) (n columns : ℕ) → full ≡ false → (columns ≤ n → IsTrue full) → n < columns
@@ -290,62 +299,40 @@ open_by true n columns e said = absurd (false≢true (sym e))
 open_by false n columns e said = elim (cases_lt n columns) [ inl lt ↦ lt | inr ge ↦ absurd (false≢true (said ge)) ]
 
 -- a mode that is read and drawn takes bits
-pub mode_shorter : (strict : Bool) (columns : ℕ) (reference : Row) (pen t : Pen) (at : Bits) (mode : Mode) → read_code mode_codes at ≡ Ok (mode, pen.rest) → draw_mode strict columns reference pen mode ≡ Turn.next t → length t.rest < length at
+pub mode_shorter : (strict : Bool) (columns : ℕ) (reference : Row) (pen t : Pen) (at : Bits) (mode : Mode) → read_code mode_codes at ≡ Ok (mode, pen.rest) → mode_step strict columns reference pen mode ≡ Turn.next t → length t.rest < length at
 mode_shorter strict columns reference pen t at mode reads draws =
     omega (arith, draw_mode_next strict columns reference pen mode t draws, read_code_shorter mode_codes at mode pen.rest modes_not_empty reads)
 
 -- ---- Two runs.
 
--- what comes after a step of a pen
-abbrev pub and_then : (Pen → Step) → Step → Step
-and_then go_on (Turn.next pen) = go_on pen
-and_then go_on (Turn.done line) = Turn.done line
-
-try_and_then : {A : Type 0} (front : Row) (r : Result A DecodeError) (f : A → Step) (go_on : Pen → Step) → try front r (λ x. and_then go_on (f x)) ≡ and_then go_on (try front r f)
-try_and_then front (Ok x) f go_on = refl
-try_and_then front (Err fault) f go_on = refl
-
--- a run that goes on is the run alone, and then what it goes on with
-pub draw_run_and_then : (strict : Bool) (columns : ℕ) (pen : Pen) (go_on : Pen → Step) → draw_run strict columns pen go_on ≡ and_then go_on (draw_run strict columns pen Turn.next)
-draw_run_and_then strict columns pen go_on = by (run_from pen.color (0, pen.rest))
-  where
-    by : (r : Result (ℕ × Bits) DecodeError)
-        → try pen.front r (λ run. try pen.front (paint strict columns pen.front pen.color run.0) (λ front. go_on (record { front = front; color = opposite pen.color; rest = run.1 })))
-        ≡ and_then go_on (try pen.front r (λ run. try pen.front (paint strict columns pen.front pen.color run.0) (λ front. Turn.next (record { front = front; color = opposite pen.color; rest = run.1 }))))
-    by (Ok run) = try_and_then pen.front (paint strict columns pen.front pen.color run.0) (λ front. Turn.next (record { front = front; color = opposite pen.color; rest = run.1 })) go_on
-    by (Err fault) = refl
-
 -- an error of the first step is that of both, if what follows keeps what is painted
-pub and_then_fails : (go_on : Pen → Step) (step : Step) (e : DecodeError) (pen : Pen) → Keeps pen.front go_on → DrawsStep step (Err e) pen → DrawsStep (and_then go_on step) (Err e) pen
-and_then_fails go_on step UnexpectedEof pen keeps draws = rw draws refl
-and_then_fails go_on step InvalidCode pen keeps draws = rw draws refl
-and_then_fails go_on step Overflow pen keeps draws = rw draws refl
-and_then_fails go_on (Turn.next p) OutOfMemory pen keeps draws = keeps p draws
-and_then_fails go_on (Turn.done line) OutOfMemory pen keeps draws = draws
-and_then_fails go_on step Refused pen keeps draws = absurd draws
+pub behind_fails : (behind : Pen → Step) (step : Step) (e : DecodeError) (pen : Pen) → Keeps pen.front behind → DrawsStep step (Err e) pen → DrawsStep (turn_behind step behind) (Err e) pen
+behind_fails behind step UnexpectedEof pen keeps draws = rw draws refl
+behind_fails behind step InvalidCode pen keeps draws = rw draws refl
+behind_fails behind step Overflow pen keeps draws = rw draws refl
+behind_fails behind (Turn.next p) OutOfMemory pen keeps draws = keeps p draws
+behind_fails behind (Turn.done line) OutOfMemory pen keeps draws = draws
+behind_fails behind step Refused pen keeps draws = absurd draws
 
 -- a second run, where the first was drawn
-pub second_run : (held new : Held) (rest after : Bits) (r : Result (Unit {0}) DecodeError) (pen : Pen) → draw_run held.settings.strict held.settings.columns (pen_of held rest) Turn.next ≡ Turn.next (pen_of new after)
-    → new ≡ redrawn held new.front new.color → DrawsStep (draw_run new.settings.strict new.settings.columns (pen_of new after) Turn.next) r pen
-    → DrawsStep (draw_run held.settings.strict held.settings.columns (pen_of held rest) (λ pen. draw_run held.settings.strict held.settings.columns pen Turn.next)) r pen
+pub second_run : (held new : Held) (rest after : Bits) (r : Result (Unit {0}) DecodeError) (pen : Pen) → step_of_run held rest ≡ Turn.next (pen_of new after)
+    → new ≡ redrawn held new.front new.color → DrawsStep (step_of_run new after) r pen → DrawsStep (step_of_mode held rest Horizontal) r pen
 second_run held new rest after r pen first kept second =
     let settings : new.settings ≡ held.settings = ap (λ (h : Held). h.settings) kept in
-    let go_on : Pen → Step = λ pen. draw_run held.settings.strict held.settings.columns pen Turn.next in
-    let whole : draw_run held.settings.strict held.settings.columns (pen_of held rest) go_on ≡ go_on (pen_of new after) = draw_run_and_then held.settings.strict held.settings.columns (pen_of held rest) go_on ∙ ap (and_then go_on) first in
-    subst (λ (s : Step). DrawsStep s r pen) (sym whole) (subst (λ (s : DecodeSettings). DrawsStep (draw_run s.strict s.columns (pen_of new after) Turn.next) r pen) settings second)
+    let behind : Pen → Step = λ pen. run_then held.settings.strict held.settings.columns pen Turn.next in
+    let whole : step_of_mode held rest Horizontal ≡ behind (pen_of new after) = ap (λ (step : Step). turn_behind step behind) first in
+    subst (λ (s : Step). DrawsStep s r pen) (sym whole) (subst (λ (s : DecodeSettings). DrawsStep (run_then s.strict s.columns (pen_of new after) Turn.next) r pen) settings second)
 
 -- two runs, where the first is refused
-pub first_run_fails : (strict : Bool) (columns : ℕ) (pen left : Pen) (e : DecodeError) → DrawsStep (draw_run strict columns pen Turn.next) (Err e) left
-    → DrawsStep (draw_run strict columns pen (λ pen. draw_run strict columns pen Turn.next)) (Err e) left
-first_run_fails strict columns pen left e draws =
-    let go_on : Pen → Step = λ pen. draw_run strict columns pen Turn.next in
-    subst (λ (s : Step). DrawsStep s (Err e) left) (sym (draw_run_and_then strict columns pen go_on))
-    (and_then_fails go_on (draw_run strict columns pen Turn.next) e left (λ p stops. draw_run_keeps left.front strict columns p Turn.next (λ q g. g) stops) draws)
+pub first_run_fails : (held : Held) (rest : Bits) (left : Pen) (e : DecodeError) → DrawsStep (step_of_run held rest) (Err e) left → DrawsStep (step_of_mode held rest Horizontal) (Err e) left
+first_run_fails held rest left e draws =
+    behind_fails (λ pen. run_then held.settings.strict held.settings.columns pen Turn.next) (step_of_run held rest) e left
+    (λ p stops. draw_run_keeps left.front held.settings.strict held.settings.columns p Turn.next (λ q g. g) stops) draws
 
 -- Between two steps of a line: the line from the pen on is the whole line; all but the front and the colour of the
 -- context stands.
 pub record IsDrawnSoFar (step : Pen → Step) (before now : Context) (begun at : BitsAt) : Type 0 where
-  pub line : drawn step (pen_of now.held (here at)) ≡ drawn step (start (here begun))
+  pub line : drawn_by step (pen_of now.held (here at)) ≡ drawn_by step (start (here begun))
   pub held : now.held ≡ redrawn before.held now.held.front now.held.color
-  pub same : at.bits ≡ begun.bits
+  pub same_bits : at.bits ≡ begun.bits
   pub counts : before.ticks ≤ now.ticks

@@ -13,7 +13,9 @@ use Rattle.hayro_ccitt.specs.CodeReading.{Has, read_code}
 use Rattle.hayro_ccitt.specs.Repetition.{Turn}
 use Rattle.hayro_ccitt.specs.Rows.{Row, opposite, right_of, b1, b2, paint}
 use Rattle.hayro_ccitt.specs.Runs.{codes_of, run_from}
-use Rattle.hayro_ccitt.specs.Lines.{Line, Pen, Step, try, draw_run, start, drawn, place_from, draw_mode, step_2d, line_2d}
+use Rattle.hayro_ccitt.specs.Lines.{Line, Pen, start, line_2d, place_from}
+use Rattle.hayro_ccitt.proofs.Drawings.{try, run_then, mode_step, drawn_by, step_2d, step_2d_is, horizontal_is}
+use Rattle.hayro_ccitt.specs.Answers.{Step}
 use Rattle.hayro_ccitt.proofs.Repeated.{after_turn}
 use Rattle.hayro_ccitt.proofs.ReadCodes.{read_code_found, read_code_again}
 use Rattle.hayro_ccitt.proofs.ReadRuns.{chosen, read_code_shorter, words_not_empty, run_fails, run_passes, run_ends, run_goes_on}
@@ -78,7 +80,7 @@ keeps_carries : (f : Pen → Step) → ((pen t : Pen) → f pen ≡ Turn.next t 
     × ((more : Bits) → f (record pen { rest = more }) ≡ Turn.next (record t { rest = more }))) → Carries f
 keeps_carries f keeps pen t e = let k = keeps pen t e in ([], k.0, k.1)
 
-draw_run_carries : (strict : Bool) (columns : ℕ) (g : Pen → Step) → Carries g → Carries (λ pen. draw_run strict columns pen g)
+draw_run_carries : (strict : Bool) (columns : ℕ) (g : Pen → Step) → Carries g → Carries (λ pen. run_then strict columns pen g)
 draw_run_carries strict columns g carries pen t e =
     let a = try_next pen.front (run_from pen.color (0, pen.rest))
     (λ run. try pen.front (paint strict columns pen.front pen.color run.0)
@@ -93,8 +95,8 @@ draw_run_carries strict columns g carries pen t e =
           (ap (λ (x : Bits). run_from pen.color (0, x)) (append_assoc d.0 c.0 more) ∙ d.2 (c.0 ++ more)) b.1 ∙ c.2 more,
     )
 
-mode_carries : (strict : Bool) (columns : ℕ) (reference : Row) (mode : Mode) → Carries (λ pen. draw_mode strict columns reference pen mode)
-mode_carries strict columns reference Pass = keeps_carries (λ pen. draw_mode strict columns reference pen Pass) (λ pen t e.
+mode_carries : (strict : Bool) (columns : ℕ) (reference : Row) (mode : Mode) → Carries (λ pen. mode_step strict columns reference pen mode)
+mode_carries strict columns reference Pass = keeps_carries (λ pen. mode_step strict columns reference pen Pass) (λ pen t e.
     let painted = paint strict columns pen.front pen.color (b2 reference (right_of pen.front) pen.color - length pen.front) in
     let a = try_next pen.front painted (λ front. Turn.next (record pen { front = front })) t e in
     let same : record pen { front = a.0 } ≡ t = next_is _ t a.2 in (
@@ -102,9 +104,11 @@ mode_carries strict columns reference Pass = keeps_carries (λ pen. draw_mode st
       λ more. ap (λ (r : Result Row DecodeError). try pen.front r (λ front. Turn.next (record { front = front; color = pen.color; rest = more }))) a.1
           ∙ ap (λ (p : Pen). Turn.next (record p { rest = more })) same,
     ))
-mode_carries strict columns reference Horizontal =
-    draw_run_carries strict columns (λ pen. draw_run strict columns pen Turn.next) (draw_run_carries strict columns Turn.next next_carries)
-mode_carries strict columns reference (Vertical k) = keeps_carries (λ pen. draw_mode strict columns reference pen (Vertical k)) (λ pen t e.
+mode_carries strict columns reference Horizontal = λ pen t e.
+    let two = draw_run_carries strict columns (λ pen. run_then strict columns pen Turn.next) (draw_run_carries strict columns Turn.next next_carries)
+    pen t (horizontal_is strict columns reference pen ∙ e) in
+    (two.0, two.1, λ more. sym (horizontal_is strict columns reference (record pen { rest = two.0 ++ more })) ∙ two.2 more)
+mode_carries strict columns reference (Vertical k) = keeps_carries (λ pen. mode_step strict columns reference pen (Vertical k)) (λ pen t e.
     let place = place_from (length pen.front) (pos (b1 reference (right_of pen.front) pen.color) +ℤ k) in
     let paints : Bits → ℕ → Step = λ rest place. try pen.front (paint strict columns pen.front pen.color (place - length pen.front))
     (λ front. Turn.next (record { front = front; color = opposite pen.color; rest = rest })) in
@@ -129,10 +133,10 @@ record StepFound (strict : Bool) (columns : ℕ) (reference : Row) (pen t : Pen)
 
 step_2d_found : (strict : Bool) (columns : ℕ) (reference : Row) (pen t : Pen) → step_2d strict columns reference pen ≡ Turn.next t
     → StepFound strict columns reference pen t
-step_2d_found strict columns reference pen t e = elim (chosen (leb columns (length pen.front)) _ _ _ e) [
+step_2d_found strict columns reference pen t e = elim (chosen (leb columns (length pen.front)) _ _ _ (sym (step_2d_is strict columns reference pen) ∙ e)) [
   | inl x ↦ absurd (not_next _ t x.1)
   | inr x ↦
-      let a = try_next pen.front (read_code mode_codes pen.rest) (λ mode. draw_mode strict columns reference (record pen { rest = mode.1 }) mode.0) t x.1 in
+      let a = try_next pen.front (read_code mode_codes pen.rest) (λ mode. mode_step strict columns reference (record pen { rest = mode.1 }) mode.0) t x.1 in
       let word = read_code_found mode_codes pen.rest a.0.0 a.0.1 a.1 in
       let c = mode_carries strict columns reference a.0.0 (record pen { rest = a.0.1 }) t a.2 in
       record {
@@ -145,7 +149,7 @@ step_2d_found strict columns reference pen t e = elim (chosen (leb columns (leng
             let read : read_code mode_codes ((word.0 ++ c.0) ++ more) ≡ Ok (a.0.0, c.0 ++ more)
             = ap (read_code mode_codes) (append_assoc word.0 c.0 more) ∙ read_code_again mode_codes a.0.0 word.0 (c.0 ++ more) modes_free word.1 in
             rw x.0 (ap (λ (r : Result (Mode × Bits) DecodeError). try pen.front r
-            (λ mode. draw_mode strict columns reference (record pen { rest = mode.1 }) mode.0)) read ∙ c.2 more);
+            (λ mode. mode_step strict columns reference (record pen { rest = mode.1 }) mode.0)) read ∙ c.2 more);
       }
 ]
 
@@ -153,37 +157,38 @@ step_2d_found strict columns reference pen t e = elim (chosen (leb columns (leng
 pub record LineFound (strict : Bool) (columns : ℕ) (reference : Row) (pen : Pen) (row : Row) (rest : Bits) : Type 0 where
   pub bits : Bits
   pub is : pen.rest ≡ bits ++ rest
-  pub again : (more : Bits) → drawn (step_2d strict columns reference) (record pen { rest = bits ++ more }) ≡ Line.whole row more
+  pub again : (more : Bits) → drawn_by (step_2d strict columns reference) (record pen { rest = bits ++ more }) ≡ Line.whole row more
   pub begins : length pen.front < columns → (mode : Mode) × (word others : Bits) × Has mode_codes mode word × (bits ≡ word ++ others)
 
 line_found_by : (fuel : ℕ) (strict : Bool) (columns : ℕ) (reference : Row) (pen : Pen) (row : Row) (rest : Bits) → left pen < fuel
-    → drawn (step_2d strict columns reference) pen ≡ Line.whole row rest → LineFound strict columns reference pen row rest
+    → drawn_by (step_2d strict columns reference) pen ≡ Line.whole row rest → LineFound strict columns reference pen row rest
 line_found_by zero strict columns reference pen row rest lt e = absurd (omega arith)
 line_found_by (suc fuel) strict columns reference pen row rest lt e =
     let step : Pen → Step = step_2d strict columns reference in
-    let rule : (p : Pen) → drawn step p ≡ after_turn (drawn step) (step p) = drawn2 strict columns reference in
+    let rule : (p : Pen) → drawn_by step p ≡ after_turn (drawn_by step) (step p) = drawn2 strict columns reference in
     let by : (turn : Step) → step pen ≡ turn → LineFound strict columns reference pen row rest
     = λ turn. elim turn as (λ (turn : Step). step pen ≡ turn → LineFound strict columns reference pen row rest) [
       | Turn.next t ↦ λ a.
           let one = step_2d_found strict columns reference pen t a in
           let on = line_found_by fuel strict columns reference t row rest (omega (arith, step_2d_shrinks strict columns reference pen t a))
-          (sym (ap (after_turn (drawn step)) a) ∙ sym (rule pen) ∙ e) in
+          (sym (ap (after_turn (drawn_by step)) a) ∙ sym (rule pen) ∙ e) in
           let w : Bits = one.word ++ one.others in
           record {
             bits = w ++ on.bits;
             is = one.is ∙ ap (λ (x : Bits). w ++ x) on.is ∙ sym (append_assoc w on.bits rest);
             again = λ more.
-                ap (λ (x : Bits). drawn step (record pen { rest = x })) (append_assoc w on.bits more)
-                ∙ rule (record pen { rest = w ++ (on.bits ++ more) }) ∙ ap (after_turn (drawn step)) (one.again (on.bits ++ more)) ∙ on.again more;
+                ap (λ (x : Bits). drawn_by step (record pen { rest = x })) (append_assoc w on.bits more)
+                ∙ rule (record pen { rest = w ++ (on.bits ++ more) }) ∙ ap (after_turn (drawn_by step)) (one.again (on.bits ++ more)) ∙ on.again more;
             begins = λ open_end. (one.mode, one.word, one.others ++ on.bits, one.has, append_assoc one.word one.others on.bits);
           }
       | Turn.done l ↦ λ a.
-          let whole : l ≡ Line.whole row rest = sym (ap (after_turn (drawn step)) a) ∙ sym (rule pen) ∙ e in
+          let whole : l ≡ Line.whole row rest = sym (ap (after_turn (drawn_by step)) a) ∙ sym (rule pen) ∙ e in
           let goes = try_goes_on pen.front (read_code mode_codes pen.rest)
-          (λ mode. draw_mode strict columns reference (record pen { rest = mode.1 }) mode.0)
+          (λ mode. mode_step strict columns reference (record pen { rest = mode.1 }) mode.0)
           (λ mode. draw_mode_goes_on strict columns reference (record pen { rest = mode.1 }) mode.0) in
           let f = full_by columns pen (try pen.front (read_code mode_codes pen.rest)
-          (λ mode. draw_mode strict columns reference (record pen { rest = mode.1 }) mode.0)) row rest goes (a ∙ ap Turn.done whole) in
+          (λ mode. mode_step strict columns reference (record pen { rest = mode.1 }) mode.0)) row rest goes
+          (sym (step_2d_is strict columns reference pen) ∙ a ∙ ap Turn.done whole) in
           let front_is : pen.front ≡ row = let w = f.1 in cc in
           let rest_is : pen.rest ≡ rest = let w = f.1 in cc in
           record {

@@ -11,7 +11,9 @@ use Rattle.hayro_ccitt.specs.CodeReading.{read_code}
 use Rattle.hayro_ccitt.specs.Repetition.{Turn}
 use Rattle.hayro_ccitt.specs.Rows.{Row, is_black, opposite, paint}
 use Rattle.hayro_ccitt.specs.Runs.{codes_of, run_of_word, run_turn, run_from}
-use Rattle.hayro_ccitt.specs.Lines.{Line, Pen, Step, try, start, step_1d, line_1d}
+use Rattle.hayro_ccitt.specs.Lines.{Line, Pen, start, line_1d}
+use Rattle.hayro_ccitt.proofs.Drawings.{try, step_1d, step_1d_is}
+use Rattle.hayro_ccitt.specs.Answers.{Step}
 use Rattle.hayro_ccitt.proofs.Repeated.{Follows, repeated_follows}
 use Rattle.hayro_ccitt.proofs.ReadCodes.{read_code_found, read_code_again}
 use Rattle.hayro_ccitt.proofs.ReadRuns.{run_shrinks, size}
@@ -164,7 +166,9 @@ module _ (x y : Bits) where
     drew_alike : (front : Row) (color : Color) (here there : Bits) → InFront x y here there
         → Follows Pens LineAlike rest (step_1d false columns (record { front = front; color = color; rest = here }))
         (step_1d false columns (record { front = front; color = color; rest = there }))
-    drew_alike front color here there infront = full (leb columns (length front))
+    drew_alike front color here there infront =
+        rw (step_1d_is false columns (record { front = front; color = color; rest = here }), step_1d_is false columns (record { front = front; color = color; rest = there }))
+        (full (leb columns (length front)))
       where
         painted : ℕ → Row
         painted n = front ++ replicate (min n (columns - length front)) (is_black color)

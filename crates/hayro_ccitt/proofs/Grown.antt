@@ -53,7 +53,7 @@ adds_cond : (rows : List Row) (b : Bool) (x y : Move) → Adds rows x → Adds r
 adds_cond rows true x y p q = p
 adds_cond rows false x y p q = q
 
-keeps_adds : (rows more : List Row) (m : Move) → Keeps (rows ++ more) m → Adds rows m
+pub keeps_adds : (rows more : List Row) (m : Move) → Keeps (rows ++ more) m → Adds rows m
 keeps_adds rows more (Turn.next t) k = (more, k)
 keeps_adds rows more (Turn.done e) k = (more, k)
 

@@ -8,7 +8,9 @@ use Rattle.hayro_ccitt.specs.CodeReading.{read_code}
 use Rattle.hayro_ccitt.specs.Repetition.{Turn}
 use Rattle.hayro_ccitt.specs.Rows.{Row, opposite, paint}
 use Rattle.hayro_ccitt.specs.Runs.{codes_of, run_of_word, run_turn, run_from}
-use Rattle.hayro_ccitt.specs.Lines.{Line, Pen, Step, try, draw_run, start, step_1d, line_1d}
+use Rattle.hayro_ccitt.specs.Lines.{Line, Pen, start, line_1d}
+use Rattle.hayro_ccitt.proofs.Drawings.{try, run_then, step_1d, step_1d_is}
+use Rattle.hayro_ccitt.specs.Answers.{Step}
 use Rattle.hayro_ccitt.proofs.Repeated.{repeated_keeps}
 use Rattle.hayro_ccitt.proofs.ReadCodes.{read_code_found}
 
@@ -66,7 +68,7 @@ StepLeaves here (Turn.next pen) = Leaves here pen.rest
 StepLeaves here (Turn.done line) = LineLeaves here line
 
 step_1d_leaves : (strict : Bool) (columns : ℕ) (pen : Pen) → StepLeaves pen.rest (step_1d strict columns pen)
-step_1d_leaves strict columns pen = full (leb columns (length pen.front))
+step_1d_leaves strict columns pen = subst (StepLeaves pen.rest) (sym (step_1d_is strict columns pen)) (full (leb columns (length pen.front)))
   where
     painted : (n : ℕ) (rest : Bits) (r : Result Row DecodeError) → Leaves pen.rest rest
         → StepLeaves pen.rest (try pen.front r (λ front. Turn.next (record { front = front; color = opposite pen.color; rest = rest })))
@@ -79,7 +81,7 @@ step_1d_leaves strict columns pen = full (leb columns (length pen.front))
     drew (Ok (n, rest)) l = painted n rest (paint strict columns pen.front pen.color n) l
     drew (Err fault) l = tt
 
-    full : (b : Bool) → StepLeaves pen.rest (cond b (Turn.done (Line.whole pen.front pen.rest)) (draw_run strict columns pen Turn.next))
+    full : (b : Bool) → StepLeaves pen.rest (cond b (Turn.done (Line.whole pen.front pen.rest)) (run_then strict columns pen Turn.next))
     full true = ([], refl)
     full false = drew (run_from pen.color (0, pen.rest)) (run_leaves pen.color 0 pen.rest)
 

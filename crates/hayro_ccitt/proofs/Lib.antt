@@ -3,14 +3,15 @@ pub mod Alike
 pub mod BitLists
 pub mod BitPlaces
 pub mod BodiesT4
+pub mod BodyTests
 pub mod ByEols
 pub mod ChangesAndPixels
 pub mod CodeReadings
 pub mod Damage
+pub mod Drawings
 pub mod DrawnLines
 pub mod EncodingsExist
 pub mod EolCounts
-pub mod Examples
 pub mod Follows
 pub mod Fronts
 pub mod FullRows
@@ -36,6 +37,7 @@ pub mod ReferencePlaces
 pub mod Repeated
 pub mod RowChanges
 pub mod RowsAndGaps
+pub mod RowsOfGroup3
 pub mod RowsOfGroup4
 pub mod RunsOverRows
 pub mod ScanWords

@@ -212,7 +212,7 @@ Counted here found = (length found.1 ≤ length here) × (0 < found.0 → length
 all_counted : (here : Bits) → Counted here (all_eols here)
 all_counted here = (eols_shorter (length here) here, eols_moves (length here) here)
 
-tagged_eols_counted : (here : Bits) → Counted here (tagged_eols here)
+pub tagged_eols_counted : (here : Bits) → Counted here (tagged_eols here)
 tagged_eols_counted here =
     let found : ℕ × Bits = eols_with_tags (length here) here in (
       omega (arith, last_tag_shorter found, eols_with_tags_shorter (length here) here),

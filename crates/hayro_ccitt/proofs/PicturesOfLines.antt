@@ -15,7 +15,9 @@ use Rattle.hayro_ccitt.specs.CodeReading.{Has, read_code}
 use Rattle.hayro_ccitt.specs.Repetition.{Turn}
 use Rattle.hayro_ccitt.specs.Rows.{Row, is_black, opposite, pixel, pixel_before, is_change, right_of, b1, b2, a1, a2, paint}
 use Rattle.hayro_ccitt.specs.Runs.{run_from}
-use Rattle.hayro_ccitt.specs.Lines.{Line, Pen, Step, try, draw_run, drawn, place_from, draw_mode, step_2d, line_2d}
+use Rattle.hayro_ccitt.specs.Lines.{Line, Pen, line_2d, place_from}
+use Rattle.hayro_ccitt.proofs.Drawings.{try, run_then, mode_step, drawn_by, step_2d, horizontal_is}
+use Rattle.hayro_ccitt.specs.Answers.{Step}
 use Rattle.hayro_ccitt.specs.Encodings.{Spells, EncodesLine2D}
 use Rattle.hayro_ccitt.proofs.Repeated.{after_turn}
 use Rattle.hayro_ccitt.proofs.ReadCodes.{read_code_again}
@@ -27,13 +29,13 @@ use Rattle.hayro_ccitt.proofs.Places.{a1_next, a2_next, a2_least, b2_above, b1_r
 -- a mode that is read is drawn
 pub mode_drawn : (strict : Bool) (columns : ℕ) (reference front : Row) (color : Color) (mode : Mode) (word rest here : Bits) → length front < columns
     → Has mode_codes mode word → here ≡ word ++ rest
-    → step_2d strict columns reference (record { front = front; color = color; rest = here }) ≡ draw_mode strict columns reference
+    → step_2d strict columns reference (record { front = front; color = color; rest = here }) ≡ mode_step strict columns reference
     (record { front = front; color = color; rest = rest }) mode
 mode_drawn strict columns reference front color mode word rest here open_end has is =
     let read : read_code mode_codes here ≡ Ok (mode, rest) = ap (read_code mode_codes) is ∙ read_code_again mode_codes mode word rest modes_free has in
     let pen : Pen = record { front = front; color = color; rest = here } in
     rw (lt-leb columns (length front) open_end)
-    (ap (λ (r : Result (Mode × Bits) DecodeError). try front r (λ mode. draw_mode strict columns reference (record pen { rest = mode.1 }) mode.0)) read)
+    (ap (λ (r : Result (Mode × Bits) DecodeError). try front r (λ mode. mode_step strict columns reference (record pen { rest = mode.1 }) mode.0)) read)
 
 place_fits : (painted p : ℕ) → painted ≤ p → p ≤ 4294967295 → place_from painted (pos p) ≡ Ok p
 place_fits painted p le small = rw (le-leb painted p le, le-leb p 4294967295 small) refl
@@ -41,7 +43,7 @@ place_fits painted p le small = rw (le-leb painted p le, le-leb p 4294967295 sma
 -- a pass paints up to b2
 pub pass_drawn : (strict : Bool) (columns : ℕ) (reference front : Row) (color : Color) (rest : Bits) (to : ℕ)
     → b2 reference (right_of front) color ≡ to → length front ≤ to → to ≤ columns
-    → draw_mode strict columns reference (record { front = front; color = color; rest = rest }) Pass ≡ Turn.next
+    → mode_step strict columns reference (record { front = front; color = color; rest = rest }) Pass ≡ Turn.next
     (record { front = front ++ replicate (to - length front) (is_black color); color = color; rest = rest })
 pass_drawn strict columns reference front color rest to is le fits =
     ap (λ (n : ℕ). try front (paint strict columns front color (n - length front))
@@ -52,7 +54,7 @@ pass_drawn strict columns reference front color rest to is le fits =
 -- a vertical mode paints up to a1 and turns the colour
 pub vertical_drawn : (strict : Bool) (columns : ℕ) (reference front : Row) (color : Color) (rest : Bits) (k : ℤ) (to : ℕ)
     → pos (b1 reference (right_of front) color) +ℤ k ≡ pos to → length front ≤ to → to ≤ columns → columns ≤ 4294967295
-    → draw_mode strict columns reference (record { front = front; color = color; rest = rest }) (Vertical k) ≡ Turn.next
+    → mode_step strict columns reference (record { front = front; color = color; rest = rest }) (Vertical k) ≡ Turn.next
     (record { front = front ++ replicate (to - length front) (is_black color); color = opposite color; rest = rest })
 vertical_drawn strict columns reference front color rest k to is le fits small =
     let paints : ℕ → Step = λ place. try front (paint strict columns front color (place - length front))
@@ -121,7 +123,7 @@ second_painted row front p r color at len p_within above within none = elim (cas
 pub line_2d_from : (strict : Bool) (columns : ℕ) (reference row front : Row) (from : ℕ) (color : Color) (bits more : Bits)
     → EncodesLine2D reference row from color bits → 0 < columns → columns ≤ 4294967295 → length reference ≡ columns → length row ≡ columns
     → IsAt row front from color
-    → drawn (step_2d strict columns reference) (record { front = front; color = color; rest = bits ++ more }) ≡ Line.whole row more
+    → drawn_by (step_2d strict columns reference) (record { front = front; color = color; rest = bits ++ more }) ≡ Line.whole row more
 line_2d_from strict columns reference row front from color bits more EncodesLine2D.over wide small ref_len row_len at =
     let whole : front ≡ row = at.painted ∙ ap (λ (n : ℕ). take n row) (let e : suc (length row) - 1 ≡ length row = omega arith in e)
     ∙ take_all (length row) row (omega arith) in
@@ -146,7 +148,7 @@ line_2d_from strict columns reference row front from color bits more
     let on = line_2d_from strict columns reference row (front ++ replicate (p - length front) (is_black color))
     (suc p) color next more steps wide small ref_len row_len
     (record { painted = painted_at row _ p painted; inside = λ le. same; first = λ e. absurd (omega (arith, above.0, above.1)) }) in
-    drawn2 strict columns reference _ ∙ ap (after_turn (drawn (step_2d strict columns reference))) stepped ∙ on
+    drawn2 strict columns reference _ ∙ ap (after_turn (drawn_by (step_2d strict columns reference))) stepped ∙ on
 line_2d_from strict columns reference row front from color bits more
     (EncodesLine2D.vertical from2 word k {bits = next} inside has exact steps) wide small ref_len row_len at =
     let len = length_at row front from color (omega arith) at in
@@ -171,7 +173,7 @@ line_2d_from strict columns reference row front from color bits more
       first =
           λ e. white_first color (let z : p ≡ 0 = omega arith in rw z at before);
     }) in
-    drawn2 strict columns reference _ ∙ ap (after_turn (drawn (step_2d strict columns reference))) stepped ∙ on
+    drawn2 strict columns reference _ ∙ ap (after_turn (drawn_by (step_2d strict columns reference))) stepped ∙ on
 line_2d_from strict columns reference row front from color bits more
     (EncodesLine2D.horizontal from2 word {first = run1} {second = run2} {bits = next} inside has spells1 spells2 steps) wide small ref_len row_len at =
     let len = length_at row front from color (omega arith) at in
@@ -210,8 +212,9 @@ line_2d_from strict columns reference row front from color bits more
     (record { front = front2; color = color; rest = next ++ more })
     = mode_drawn strict columns reference front color Horizontal word (run1 ++ (run2 ++ (next ++ more))) ((word ++ (run1 ++ (run2 ++ next))) ++ more)
     (omega (arith, len)) has here
+    ∙ sym (horizontal_is strict columns reference (record { front = front; color = color; rest = run1 ++ (run2 ++ (next ++ more)) }))
     ∙ draws strict columns front color (run1 ++ (run2 ++ (next ++ more))) (p - length front) (run2 ++ (next ++ more)) front1
-    (λ pen. draw_run strict columns pen Turn.next) read1 paint1
+    (λ pen. run_then strict columns pen Turn.next) read1 paint1
     ∙ draws strict columns front1 (opposite color) (run2 ++ (next ++ more)) (r - p) (next ++ more) front2 Turn.next read2 paint2
     ∙ ap (λ (c : Color). Turn.next (record { front = front2; color = c; rest = next ++ more })) (twice color) in
     let on = line_2d_from strict columns reference row front2 (suc r) color next more steps wide small ref_len row_len
@@ -225,7 +228,7 @@ line_2d_from strict columns reference row front from color bits more
           at_change row r (opposite color) (two.change (omega arith)) before ∙ ap is_black (twice color);
       first = λ e. absurd (let r_over : suc p ≤ r = two.above (omega arith) in omega arith);
     }) in
-    drawn2 strict columns reference _ ∙ ap (after_turn (drawn (step_2d strict columns reference))) stepped ∙ on
+    drawn2 strict columns reference _ ∙ ap (after_turn (drawn_by (step_2d strict columns reference))) stepped ∙ on
 
 -- Strict or lenient, whatever follows: a lawful encoding of a row is read as that row.
 pub line_2d_again : (strict : Bool) (columns : ℕ) (reference row : Row) (bits more : Bits) → EncodesLine2D reference row 0 White bits → 0 < columns

@@ -9,7 +9,9 @@ use Rattle.hayro_ccitt.specs.CodeReading.{read_code}
 use Rattle.hayro_ccitt.specs.Repetition.{Turn}
 use Rattle.hayro_ccitt.specs.Rows.{Row, is_black, opposite, paint}
 use Rattle.hayro_ccitt.specs.Runs.{codes_of, run_from}
-use Rattle.hayro_ccitt.specs.Lines.{Line, Pen, Step, try, draw_run, drawn, step_1d}
+use Rattle.hayro_ccitt.specs.Lines.{Line, Pen}
+use Rattle.hayro_ccitt.proofs.Drawings.{try, run_then, drawn_by, step_1d}
+use Rattle.hayro_ccitt.specs.Answers.{Step}
 use Rattle.hayro_ccitt.specs.Encodings.{Spells, EncodesLine1D}
 use Rattle.hayro_ccitt.proofs.Repeated.{after_turn}
 use Rattle.hayro_ccitt.proofs.ReadCodes.{read_code_again}
@@ -44,7 +46,7 @@ paint_fits strict columns front color n le =
 -- a run that is read and fits is drawn
 pub draws : (strict : Bool) (columns : ℕ) (front : Row) (color : Color) (here : Bits) (n : ℕ) (rest : Bits) (painted : Row) (f : Pen → Step)
     → run_from color (0, here) ≡ Ok (n, rest) → paint strict columns front color n ≡ Ok painted
-    → draw_run strict columns (record { front = front; color = color; rest = here }) f ≡ f (record { front = painted; color = opposite color; rest = rest })
+    → run_then strict columns (record { front = front; color = color; rest = here }) f ≡ f (record { front = painted; color = opposite color; rest = rest })
 draws strict columns front color here n rest painted f read paints =
     ap (λ (r : Result (ℕ × Bits) DecodeError). try front r
     (λ run. try front (paint strict columns front color run.0) (λ drawn. f (record { front = drawn; color = opposite color; rest = run.1 })))) read
@@ -53,7 +55,7 @@ draws strict columns front color here n rest painted f read paints =
 -- a one-dimensional line is read as its row
 pub line_1d_again : (strict : Bool) (columns : ℕ) (front row : Row) (color : Color) (bits more : Bits) → EncodesLine1D color row bits
     → columns ≤ 4294967295 → length front + length row ≡ columns
-    → drawn (step_1d strict columns) (record { front = front; color = color; rest = bits ++ more }) ≡ Line.whole (front ++ row) more
+    → drawn_by (step_1d strict columns) (record { front = front; color = color; rest = bits ++ more }) ≡ Line.whole (front ++ row) more
 line_1d_again strict columns front row color bits more EncodesLine1D.over le full =
     let is_full : columns ≤ length front = omega arith in
     drawn1 strict columns _ ∙ rw (le-leb columns (length front) is_full, append-nil front) refl
@@ -72,5 +74,5 @@ line_1d_again strict columns front row color bits more (EncodesLine1D.run n word
     (draws strict columns front color ((word ++ next) ++ more) n (next ++ more) (front ++ replicate n (is_black color)) Turn.next read painted) in
     let on = line_1d_again strict columns (front ++ replicate n (is_black color)) others (opposite color) next more rest le
     (omega (arith, len, length-append front (replicate n (is_black color)), length-replicate n (is_black color))) in
-    drawn1 strict columns _ ∙ ap (after_turn (drawn (step_1d strict columns))) stepped ∙ on
+    drawn1 strict columns _ ∙ ap (after_turn (drawn_by (step_1d strict columns))) stepped ∙ on
     ∙ ap (λ (r : Row). Line.whole r more) (append_assoc front (replicate n (is_black color)) others)

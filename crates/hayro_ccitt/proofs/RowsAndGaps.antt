@@ -1,5 +1,5 @@
 -- The turns of the plain reading with the rows so far in hand: what stands between rows, over a state and not over numbers.
-use Rattle.std.proofs.Common.{◌≡◌, ℕ, ◌-◌, Bool, true, false, cond, not, ◌&&◌, ◌||◌, eqb, leb, List, [], ◌∷◌, ◌++◌, length, Option, Some, None, Result, Ok, Err, refl, sym, ap, ◌∙◌}
+use Rattle.std.proofs.Common.{◌≡◌, ℕ, Bool, true, false, cond, not, ◌&&◌, ◌||◌, eqb, leb, length, Option, Some, None, Ok, Err, refl, sym, ap, ◌∙◌}
 use Rattle.std.proofs.lemmas.Bool.{and_parts}
 use Rattle.hayro_ccitt.specs.declared.error.DecodeError.TheVariants.{InvalidCode}
 use Rattle.hayro_ccitt.specs.declared.settings.DecodeSettings.{DecodeSettings}
@@ -9,7 +9,7 @@ use Rattle.hayro_ccitt.specs.Rows.{Row, repaired}
 use Rattle.hayro_ccitt.specs.Lines.{Line}
 use Rattle.hayro_ccitt.specs.EndOfLine.{next_eol}
 use Rattle.hayro_ccitt.specs.Repetition.{Turn}
-use Rattle.hayro_ccitt.specs.PlainReading.{Progress, Gap, with_row, behind_row, add_row_group3, after_line_group3, Move, at_end, limit_met, is_over_group4, eols_group4, eols_group3, gap_group3, gap_group4, behind_eols_group3, behind_eols_group4, from_next_eol, missing_eol, ends_with, line_group4, after_line_group4, at_gap_group4, at_gap_group3, move_behind_row, move_group4}
+use Rattle.hayro_ccitt.specs.PlainReading.{Progress, Gap, with_row, behind_row, add_row_group3, after_line_group3, Move, at_end, limit_met, is_over_group4, eols_group4, eols_group3, behind_eols_group3, behind_eols_group4, from_next_eol, missing_eol, ends_with, line_group4, after_line_group4, at_gap_group4, at_gap_group3, move_behind_row, move_group4}
 
 -- EOLs were counted behind the rows so far
 abbrev pub unless_over : DecodeSettings → Progress → ℕ × Bits → Move
@@ -61,7 +61,7 @@ behind_eols : (settings : DecodeSettings) (so_far : Progress) (has_eols : Bool) 
 behind_eols settings so_far has_eols (count, rest) is =
     at_gap-cond so_far ((settings.end_of_block && leb 6 count) || limit_met settings (length so_far.rows) || at_end rest) (Gap.over (Ok rest)) (Gap.line_at has_eols rest)
     ∙ cond-same ((settings.end_of_block && leb 6 count) || limit_met settings (length so_far.rows) || at_end rest) _ _ _ _ (λ e. refl)
-        (λ e. ap {B = Move} (λ (h : Bool). Turn.next (record so_far { has_eols = h; rest = rest })) (sym is))
+    (λ e. ap {B = Move} (λ (h : Bool). Turn.next (record so_far { has_eols = h; rest = rest })) (sym is))
 
 -- from the next EOL on
 from_eol : (settings : DecodeSettings) (so_far : Progress) (next : Option Bits) → so_far.has_eols ≡ true
@@ -75,11 +75,11 @@ move_behind_row-is settings so_far =
     let test : Bool = (eqb (eols_group3 settings so_far.rest).0 0) && so_far.has_eols && not (limit_met settings (length so_far.rows)) && not (at_end so_far.rest) in
     at_gap-cond so_far test (missing_eol settings (length so_far.rows) so_far.rest) (behind_eols_group3 settings (length so_far.rows) so_far.has_eols (eols_group3 settings so_far.rest))
     ∙ cond-same test _ _ _ _
-        (λ e.
-            let sought : so_far.has_eols ≡ true = (and_parts (eqb (eols_group3 settings so_far.rest).0 0) so_far.has_eols (and_parts _ _ (and_parts _ _ e).0).0).1 in
-            at_gap-cond so_far settings.strict (Gap.over (Err InvalidCode)) (from_next_eol settings (length so_far.rows) so_far.rest (next_eol so_far.rest))
-            ∙ cond-same settings.strict _ _ _ _ (λ f. refl) (λ f. from_eol settings so_far (next_eol so_far.rest) sought))
-        (λ e. behind_eols settings so_far so_far.has_eols (eols_group3 settings so_far.rest) refl)
+    (λ e.
+    let sought : so_far.has_eols ≡ true = (and_parts (eqb (eols_group3 settings so_far.rest).0 0) so_far.has_eols (and_parts _ _ (and_parts _ _ e).0).0).1 in
+    at_gap-cond so_far settings.strict (Gap.over (Err InvalidCode)) (from_next_eol settings (length so_far.rows) so_far.rest (next_eol so_far.rest))
+    ∙ cond-same settings.strict _ _ _ _ (λ f. refl) (λ f. from_eol settings so_far (next_eol so_far.rest) sought))
+    (λ e. behind_eols settings so_far so_far.has_eols (eols_group3 settings so_far.rest) refl)
 
 -- a whole line of Group 3 adds its row
 pub after_whole-is : (settings : DecodeSettings) (so_far : Progress) (row : Row) (rest : Bits)
@@ -89,11 +89,12 @@ after_whole-is settings so_far row rest = move_behind_row-is settings (with_row 
 -- a damaged line of Group 3 ends the reading, or adds its repaired row
 pub after_damage-is : (settings : DecodeSettings) (so_far : Progress) (front : Row) (fault : DecodeError)
     → after_line_group3 settings so_far (Line.broken front fault) ≡ cond (settings.strict || not so_far.has_eols) (ends_with so_far (Err fault))
-        (add_row settings so_far (repaired settings.columns front) so_far.rest)
+    (add_row settings so_far (repaired settings.columns front) so_far.rest)
 after_damage-is settings so_far front fault = by (settings.strict || not so_far.has_eols)
   where
     row : Row
     row = repaired settings.columns front
+
     by : (b : Bool) → add_row_group3 settings so_far (cond b (Err fault) (Ok (row, behind_row settings so_far.has_eols so_far.rest)))
         ≡ cond b (ends_with so_far (Err fault)) (add_row settings so_far row so_far.rest)
     by true = refl

@@ -1,5 +1,5 @@
 -- A run over rows, whatever the move of its turns: what is known between two rows, and what the run leaves at its end.
-use Rattle.std.proofs.Common.{◌≡◌, ◌≢◌, ℕ, zero, suc, ◌+◌, ◌<◌, ◌≤◌, Bool, true, false, List, [], ◌∷◌, ◌++◌, length, take, drop, map, Some, Result, Ok, Err, IsOk, refl, sym, ap, ◌∙◌, subst, append-nil, arith}
+use Rattle.std.proofs.Common.{◌≡◌, ◌≢◌, ℕ, zero, suc, ◌+◌, ◌<◌, ◌≤◌, true, List, [], ◌∷◌, ◌++◌, length, take, drop, map, Some, Result, Ok, Err, IsOk, refl, sym, ap, ◌∙◌, subst, append-nil, arith}
 use Rattle.std.specs.Prelude.{slice_get}
 use Rattle.std.specs.List.{fold}
 use Rattle.std.proofs.Math.Seq.{take-append_seam}
@@ -10,10 +10,10 @@ use Rattle.hayro_ccitt.specs.declared.codes.Color.TheVariants.{White}
 use Rattle.hayro_ccitt.specs.declared.error.DecodeError.{DecodeError}
 use Rattle.hayro_ccitt.specs.declared.error.DecodeError.TheVariants.{UnexpectedEof, InvalidCode, Overflow, OutOfMemory, Refused}
 use Rattle.hayro_ccitt.specs.declared.settings.DecodeSettings.{DecodeSettings}
-use Rattle.hayro_ccitt.specs.Answers.{IsFault, OnAnswer, PaintsBlack, meaning_after, front_of, HasBlack}
+use Rattle.hayro_ccitt.specs.Answers.{IsFault, PaintsBlack, meaning_after}
 use Rattle.hayro_ccitt.specs.Bits.{Bits, IsPrefix}
-use Rattle.hayro_ccitt.specs.Context.{Held, redrawn}
-use Rattle.hayro_ccitt.specs.Decoding.{SinkState, TakesRows, StopsShort, TakesOneRow, RowIsTaken, with_row_taken, leaving}
+use Rattle.hayro_ccitt.specs.Context.{Held}
+use Rattle.hayro_ccitt.specs.Decoding.{SinkState, TakesRows, StopsShort, TakesOneRow, with_row_taken}
 use Rattle.hayro_ccitt.specs.Lines.{Line}
 use Rattle.hayro_ccitt.specs.PlainReading.{Progress, Ending, Move, row_before, ends_with, with_row, ending_from, lines_from}
 use Rattle.hayro_ccitt.specs.Repetition.{Turn, repeated, gathered}
@@ -207,6 +207,7 @@ module _ {M : Type 0} (step : M → List ℕ → M) (before after : SinkState M)
         no_memory InvalidCode f e = cc
         no_memory Overflow f e = cc
         no_memory Refused f e = f
+
         no_refusal : (fault : DecodeError) → IsFault fault → ◌≡◌ {A = Result Bits DecodeError} (Err fault) (Err Refused) → ⊥
         no_refusal OutOfMemory f e = f
         no_refusal UnexpectedEof f e = cc

@@ -18,7 +18,9 @@ use Rattle.hayro_ccitt.specs.CodeReading.{read_code}
 use Rattle.hayro_ccitt.specs.Repetition.{Turn, repeated}
 use Rattle.hayro_ccitt.specs.Rows.{Row, is_black, opposite, b1, b2, right_of, paint}
 use Rattle.hayro_ccitt.specs.Runs.{run_from}
-use Rattle.hayro_ccitt.specs.Lines.{Line, Pen, Step, try, draw_run, unless_full, start, step_1d, line_1d, place_from, draw_mode, step_2d, line_2d}
+use Rattle.hayro_ccitt.specs.Lines.{Line, Pen, start, line_1d, line_2d, place_from}
+use Rattle.hayro_ccitt.proofs.Drawings.{try, run_then, mode_step, step_unless_full, step_1d, step_2d, step_1d_is, step_2d_is, horizontal_is}
+use Rattle.hayro_ccitt.specs.Answers.{Step}
 use Rattle.hayro_ccitt.specs.EndOfLine.{eols, all_eols, next_eol}
 use Rattle.hayro_ccitt.specs.PlainReading.{Progress, Ending, Move, row_before, aligned, ends_with, after_line_group4, move_group4, whole_reading}
 use Rattle.hayro_ccitt.specs.PlainReading.{limit_met, at_end, plain_group3, plain_group4, end_by, bytes_before, eols_group3, line_by}
@@ -28,7 +30,7 @@ use Rattle.hayro_ccitt.proofs.Repeated.{Follows, after_turn, repeated_follows}
 use Rattle.hayro_ccitt.proofs.ReadLines.{left as pen_left, step_1d_shrinks, step_2d_shrinks}
 use Rattle.hayro_ccitt.proofs.Moves.{left, move_group4_shrinks, left_group3, left_group3_below, move_group3_shrinks}
 use Rattle.hayro_ccitt.proofs.Grown.{Keeps, Adds, seek_from_keeps, after_line_group4_adds, move_group3_adds, move_group4_adds, repeated_adds, prefix_trans}
-use Rattle.hayro_ccitt.proofs.RowsAndGaps.{line_at_group4, unless_over, seek_from, after_row, move_group4-is, after_whole-is, after_damage-is}
+use Rattle.hayro_ccitt.proofs.RowsAndGaps.{line_at_group4, unless_over, seek_from, after_row, move_group4-is, after_whole-is}
 
 -- ---- Lines
 
@@ -62,7 +64,7 @@ module _ (rest : Pen → Line) where
       by false e = e
 
   draw_run_follows : (columns : ℕ) (pen : Pen) (f g : Pen → Step) → ((p : Pen) → StepFollows (f p) (g p))
-      → StepFollows (draw_run true columns pen f) (draw_run false columns pen g)
+      → StepFollows (run_then true columns pen f) (run_then false columns pen g)
   draw_run_follows columns pen f g on =
       try_follows pen.front (run_from pen.color (0, pen.rest)) (run_from pen.color (0, pen.rest))
       (λ run. try pen.front (paint true columns pen.front pen.color run.0)
@@ -74,27 +76,33 @@ module _ (rest : Pen → Line) where
       (λ front. g (record { front = front; color = opposite pen.color; rest = run.1 })) (paint_lenient columns pen.front pen.color run.0)
       (λ front. on (record { front = front; color = opposite pen.color; rest = run.1 })))
 
-  unless_full_follows : (columns : ℕ) (pen : Pen) (a b : Step) → StepFollows a b → StepFollows (unless_full columns pen a) (unless_full columns pen b)
+  unless_full_follows : (columns : ℕ) (pen : Pen) (a b : Step) → StepFollows a b → StepFollows (step_unless_full columns pen a) (step_unless_full columns pen b)
   unless_full_follows columns pen a b on = by (leb columns (length pen.front))
     where
       by : (full : Bool) → StepFollows (cond full (Turn.done (Line.whole pen.front pen.rest)) a) (cond full (Turn.done (Line.whole pen.front pen.rest)) b)
       by true = refl
       by false = on
 
+  -- two steps that are others, of which the second follows
+  follows_as : (a b : Step) {x y : Step} → x ≡ a → y ≡ b → StepFollows a b → StepFollows x y
+  follows_as a b is other on = rw (is, other) on
+
   step_1d_follows : (columns : ℕ) (s t : Pen) → SamePen s t → StepFollows (step_1d true columns s) (step_1d false columns t)
   step_1d_follows columns s t same = subst (λ (p : Pen). StepFollows (step_1d true columns s) (step_1d false columns p)) same
-      (unless_full_follows columns s _ _ (draw_run_follows columns s Turn.next Turn.next (λ p. refl)))
+      (follows_as _ _ (step_1d_is true columns s) (step_1d_is false columns s)
+      (unless_full_follows columns s _ _ (draw_run_follows columns s Turn.next Turn.next (λ p. refl))))
 
   draw_mode_follows : (columns : ℕ) (reference : Row) (pen : Pen) (mode : Mode)
-      → StepFollows (draw_mode true columns reference pen mode) (draw_mode false columns reference pen mode)
+      → StepFollows (mode_step true columns reference pen mode) (mode_step false columns reference pen mode)
   draw_mode_follows columns reference pen Pass =
       let n : ℕ = b2 reference (right_of pen.front) pen.color - length pen.front in
       try_follows pen.front (paint true columns pen.front pen.color n) (paint false columns pen.front pen.color n)
       (λ front. Turn.next (record pen { front = front })) (λ front. Turn.next (record pen { front = front }))
       (paint_lenient columns pen.front pen.color n) (λ front. refl)
   draw_mode_follows columns reference pen Horizontal =
-      draw_run_follows columns pen (λ pen. draw_run true columns pen Turn.next) (λ pen. draw_run false columns pen Turn.next)
-      (λ p. draw_run_follows columns p Turn.next Turn.next (λ q. refl))
+      follows_as _ _ (sym (horizontal_is true columns reference pen)) (sym (horizontal_is false columns reference pen))
+      (draw_run_follows columns pen (λ pen. run_then true columns pen Turn.next) (λ pen. run_then false columns pen Turn.next)
+      (λ p. draw_run_follows columns p Turn.next Turn.next (λ q. refl)))
   draw_mode_follows columns reference pen (Vertical k) =
       let place : Result ℕ DecodeError = place_from (length pen.front) (pos (b1 reference (right_of pen.front) pen.color) +ℤ k) in
       let paints : Bool → ℕ → Step = λ strict place. try pen.front (paint strict columns pen.front pen.color (place - length pen.front))
@@ -109,10 +117,11 @@ module _ (rest : Pen → Line) where
   step_2d_follows : (columns : ℕ) (reference : Row) (s t : Pen) → SamePen s t
       → StepFollows (step_2d true columns reference s) (step_2d false columns reference t)
   step_2d_follows columns reference s t same = subst (λ (p : Pen). StepFollows (step_2d true columns reference s) (step_2d false columns reference p)) same
+      (follows_as _ _ (step_2d_is true columns reference s) (step_2d_is false columns reference s)
       (unless_full_follows columns s _ _ (try_follows s.front (read_code mode_codes s.rest) (read_code mode_codes s.rest)
-      (λ mode. draw_mode true columns reference (record s { rest = mode.1 }) mode.0)
-      (λ mode. draw_mode false columns reference (record s { rest = mode.1 }) mode.0) (λ x e. e)
-      (λ mode. draw_mode_follows columns reference (record s { rest = mode.1 }) mode.0)))
+      (λ mode. mode_step true columns reference (record s { rest = mode.1 }) mode.0)
+      (λ mode. mode_step false columns reference (record s { rest = mode.1 }) mode.0) (λ x e. e)
+      (λ mode. draw_mode_follows columns reference (record s { rest = mode.1 }) mode.0))))
 
 line_1d_agrees : (columns : ℕ) (here : Bits) → Agrees (line_1d true columns here) (line_1d false columns here)
 line_1d_agrees columns here =

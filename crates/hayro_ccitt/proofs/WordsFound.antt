@@ -1,7 +1,6 @@
 -- The words that a line finds stand in a row from where it begins, and end before each EOL's one.
 use Rattle.std.proofs.Common.{ltb, leb, cond, ◌≡◌, take, ◌-◌, Result, Ok, Err, subst, append_assoc, ℕ, zero, suc, ◌+◌, ◌<◌, Bool, true, false}
 use Rattle.std.proofs.Common.{List, [], ◌∷◌, ◌++◌, length, replicate, refl, sym, ap, ◌∙◌, arith, inl, inr}
-use Rattle.std.specs.Prelude.{pos, ◌+ℤ◌}
 use Rattle.std.proofs.lemmas.Bool.{false≢true, cases_lt}
 use Rattle.std.proofs.lemmas.List.{length-append, length-replicate, append-nil}
 use Rattle.hayro_ccitt.specs.declared.error.DecodeError.{DecodeError}
@@ -15,11 +14,10 @@ use Rattle.hayro_ccitt.specs.Bits.{Bits}
 use Rattle.hayro_ccitt.specs.CodeLists.{Code, mode_codes}
 use Rattle.hayro_ccitt.specs.CodeReading.{read_code, Has}
 use Rattle.hayro_ccitt.specs.Repetition.{Turn, repeated, gathered}
-use Rattle.hayro_ccitt.specs.Rows.{Row, opposite, b1, b2, right_of, paint}
+use Rattle.hayro_ccitt.specs.Rows.{Row, opposite, b2, right_of}
 use Rattle.hayro_ccitt.specs.Runs.{codes_of, run_of_word, run_turn, run_from}
-use Rattle.hayro_ccitt.specs.Lines.{Line, Pen, Step, try, draw_run, unless_full, start, step_1d, line_1d, place_from, draw_mode, step_2d, line_2d}
-use Rattle.hayro_ccitt.specs.Ticks.{word_found, run_gives, run_found, draw_run_found, no_words, unless_full_found, gives_1d, found_1d, mode_found}
-use Rattle.hayro_ccitt.specs.Ticks.{gives_2d, found_2d, tag_at, line_found}
+use Rattle.hayro_ccitt.specs.Lines.{Line, Pen, Drawing, ◌>>=◌, turn_behind, words_behind, go_on, unless_fault, finds, run_here, mode_here, painted, painted_to, place_by, unless_full, draw_run, draw_mode, draw_1d, draw_2d, start, line_1d, line_2d, found_1d, found_2d, tag_at, line_found}
+use Rattle.hayro_ccitt.specs.Ticks.{word_found, run_gives, run_found}
 use Rattle.hayro_ccitt.specs.PlainReading.{line_by}
 use Rattle.hayro_ccitt.specs.Laws.{IsWord, AreWords, joined, HoldsZeros, EndBeforeEol, Synchronised}
 use Rattle.hayro_ccitt.proofs.Repeated.{after_turn}
@@ -151,122 +149,135 @@ abbrev pub LineEnds : Line → Bits → Type 0
 LineEnds (Line.whole row after) rest = after ≡ rest
 LineEnds (Line.broken front fault) rest = Unit {0}
 
--- what a step finds stands in a row, up to where it ends
-abbrev pub StepStands : Bits → Step → List Bits → Type 0
-StepStands here (Turn.next t) found = Stands here found t.rest
-StepStands here (Turn.done line) found = (rest : Bits) × Stands here found rest × LineEnds line rest
+-- what a turn finds stands in a row, up to where it goes on or ends
+abbrev pub TurnStands : {A : Type 0} → Bits → (A → Bits) → Turn A Line → List Bits → Type 0
+TurnStands here rest_of (Turn.next x) found = Stands here found (rest_of x)
+TurnStands here rest_of (Turn.done line) found = (rest : Bits) × Stands here found rest × LineEnds line rest
 
--- a step behind words
-pub step_after : (here middle : Bits) (a b : List Bits) (step : Step) → Stands here a middle → StepStands middle step b → StepStands here step (a ++ b)
-step_after here middle a b (Turn.next t) p q = stands_append here middle t.rest a b p q
-step_after here middle a b (Turn.done line) p q = (q.0, stands_append here middle q.0 a b p q.1, q.2)
+-- what drawing finds stands in a row
+abbrev pub DrawingStands : {A : Type 0} → Bits → (A → Bits) → Drawing A → Type 0
+DrawingStands here rest_of drawing = TurnStands here rest_of drawing.turn drawing.words
 
--- a run that is drawn, and what is drawn after it
-pub draw_run_stands : (strict : Bool) (columns : ℕ) (pen : Pen) (f : Pen → Step) (more : Pen → List Bits)
-    → ((p : Pen) → StepStands p.rest (f p) (more p)) → StepStands pen.rest (draw_run strict columns pen f) (draw_run_found strict columns pen more)
-draw_run_stands strict columns pen f more each = by_run (run_from pen.color (0, pen.rest)) refl
+-- the bits behind a pen
+abbrev pub rest_of_pen : Pen → Bits
+rest_of_pen pen = pen.rest
+
+-- a turn behind words
+pub turn_after : {A : Type 0} (here middle : Bits) (rest_of : A → Bits) (a b : List Bits) (turn : Turn A Line) → Stands here a middle
+    → TurnStands middle rest_of turn b → TurnStands here rest_of turn (a ++ b)
+turn_after here middle rest_of a b (Turn.next x) p q = stands_append here middle (rest_of x) a b p q
+turn_after here middle rest_of a b (Turn.done line) p q = (q.0, stands_append here middle q.0 a b p q.1, q.2)
+
+-- drawing, and what is drawn behind it
+pub behind_stands : {A B : Type 0} (here : Bits) (rest_of : A → Bits) (last_of : B → Bits) (drawing : Drawing A) (behind : A → Drawing B)
+    → DrawingStands here rest_of drawing → ((x : A) → DrawingStands (rest_of x) last_of (behind x)) → DrawingStands here last_of (drawing >>= behind)
+behind_stands {A} {B} here rest_of last_of drawing behind stands each = by drawing.turn drawing.words stands
+  where
+    by : (turn : Turn A Line) (words : List Bits) → TurnStands here rest_of turn words
+        → TurnStands here last_of (turn_behind turn (λ x. (behind x).turn)) (words ++ words_behind turn (λ x. (behind x).words))
+    by (Turn.next x) words p = turn_after here (rest_of x) last_of words (behind x).words (behind x).turn p (each x)
+    by (Turn.done line) words p = (p.0, stands_append here p.0 p.0 words [] p.1 (stands_none p.0), p.2)
+
+-- what finds no words
+wordless_stands : {A : Type 0} (here : Bits) (pen : Pen) (result : Result A DecodeError) → DrawingStands here (λ (x : A). here) (finds pen [] result)
+wordless_stands here pen (Ok x) = stands_none here
+wordless_stands here pen (Err fault) = (here, stands_none here, tt)
+
+-- a run that is read
+run_read_stands : (pen : Pen)
+    → DrawingStands pen.rest (λ (run : ℕ × Bits). run.1) (run_here pen)
+run_read_stands pen = by (run_from pen.color (0, pen.rest)) stands.2
   where
     stands : (rest : Bits) × Stands pen.rest (run_found pen.color (0, pen.rest)) rest × RunEnds (run_from pen.color (0, pen.rest)) rest
     stands = run_stands pen.color 0 pen.rest
 
-    by_run : (r : Result (ℕ × Bits) DecodeError) → run_from pen.color (0, pen.rest) ≡ r
-        → StepStands pen.rest (draw_run strict columns pen f) (draw_run_found strict columns pen more)
-    by_run (Err fault) e = rw (e, draw_run, draw_run_found)
-        (stands.0, stands_append pen.rest stands.0 stands.0 (run_found pen.color (0, pen.rest)) [] stands.1 (stands_none stands.0), tt)
-    by_run (Ok run) e = by_paint (paint strict columns pen.front pen.color run.0) refl
-      where
-        at : Stands pen.rest (run_found pen.color (0, pen.rest)) run.1
-        at = let ends : RunEnds (Ok run) stands.0
-            = rw e at stands.2 in subst (λ (x : Bits). Stands pen.rest (run_found pen.color (0, pen.rest)) x) (sym ends) stands.1
-
-        by_paint : (q : Result Row DecodeError) → paint strict columns pen.front pen.color run.0 ≡ q
-            → StepStands pen.rest (draw_run strict columns pen f) (draw_run_found strict columns pen more)
-        by_paint (Err fault) h = rw (e, h, draw_run, draw_run_found)
-            (run.1, stands_append pen.rest run.1 run.1 (run_found pen.color (0, pen.rest)) [] at (stands_none run.1), tt)
-        by_paint (Ok front) h = rw (e, h, draw_run, draw_run_found)
-            (step_after pen.rest run.1 (run_found pen.color (0, pen.rest)) _ _ at (each (record { front = front; color = opposite pen.color; rest = run.1 })))
-
--- a full line finds nothing more
-pub unless_full_stands : (columns : ℕ) (pen : Pen) (step : Step) (found : List Bits) → StepStands pen.rest step found
-    → StepStands pen.rest (unless_full columns pen step) (unless_full_found columns pen found)
-unless_full_stands columns pen step found p = by_full (leb columns (length pen.front))
-  where
-    by_full : (b : Bool) → StepStands pen.rest (cond b (Turn.done (Line.whole pen.front pen.rest)) step) (cond b [] found)
-    by_full true = (pen.rest, stands_none pen.rest, refl)
-    by_full false = p
-
-last_stands : (pen : Pen) → StepStands pen.rest (Turn.next pen) (no_words pen)
-last_stands pen = stands_none pen.rest
-
--- a step of a one-dimensional line
-pub step_1d_stands : (strict : Bool) (columns : ℕ) (pen : Pen) → StepStands pen.rest (step_1d strict columns pen) (gives_1d strict columns pen)
-step_1d_stands strict columns pen = unless_full_stands columns pen (draw_run strict columns pen Turn.next)
-    (draw_run_found strict columns pen no_words) (draw_run_stands strict columns pen Turn.next no_words last_stands)
-
--- a step that reads nothing
-try_stands : {A : Type 0} (here : Bits) (front : Row) (r : Result A DecodeError) (f : A → Step) → ((x : A) → StepStands here (f x) [])
-    → StepStands here (try front r f) []
-try_stands here front (Ok x) f g = g x
-try_stands here front (Err fault) f g = (here, stands_none here, tt)
-
-mode_stands : (strict : Bool) (columns : ℕ) (reference : Row) (pen : Pen) (mode : Mode)
-    → StepStands pen.rest (draw_mode strict columns reference pen mode) (mode_found strict columns pen mode)
-mode_stands strict columns reference pen Pass =
-    try_stands pen.rest pen.front (paint strict columns pen.front pen.color (b2 reference (right_of pen.front) pen.color - length pen.front))
-    (λ front. Turn.next (record pen { front = front })) (λ front. stands_none pen.rest)
-mode_stands strict columns reference pen Horizontal =
-    draw_run_stands strict columns pen (λ pen. draw_run strict columns pen Turn.next) (λ pen. draw_run_found strict columns pen no_words)
-    (λ p. draw_run_stands strict columns p Turn.next no_words last_stands)
-mode_stands strict columns reference pen (Vertical k) =
-    let paints : ℕ → Step = λ place. try pen.front (paint strict columns pen.front pen.color (place - length pen.front))
-    (λ front. Turn.next (record { front = front; color = opposite pen.color; rest = pen.rest })) in
-    try_stands pen.rest pen.front (place_from (length pen.front) (pos (b1 reference (right_of pen.front) pen.color) +ℤ k)) paints
-    (λ place. try_stands pen.rest pen.front (paint strict columns pen.front pen.color (place - length pen.front))
-    (λ front. Turn.next (record { front = front; color = opposite pen.color; rest = pen.rest })) (λ front. stands_none pen.rest))
+    by : (r : Result (ℕ × Bits) DecodeError) → RunEnds r stands.0
+        → TurnStands pen.rest (λ (run : ℕ × Bits). run.1) (unless_fault pen.front r) (run_found pen.color (0, pen.rest))
+    by (Ok run) ends = subst (λ (x : Bits). Stands pen.rest (run_found pen.color (0, pen.rest)) x) (sym ends) stands.1
+    by (Err fault) ends = (stands.0, stands.1, tt)
 
 mode_word : (v : Mode) (w : Bits) → Has mode_codes v w → IsWord w
 mode_word v w i = inr (v, i)
 
--- a step of a two-dimensional line
-pub step_2d_stands : (strict : Bool) (columns : ℕ) (reference : Row) (pen : Pen)
-    → StepStands pen.rest (step_2d strict columns reference pen) (gives_2d strict columns pen)
-step_2d_stands strict columns reference pen = unless_full_stands columns pen _ _ (by_mode (read_code mode_codes pen.rest) (word_found mode_codes pen.rest)
-    (λ fault e. no_word_stands mode_codes pen.rest fault e) (λ mode e. word_stands mode_codes pen.rest mode.0 mode.1 (mode_word mode.0) e))
+-- a mode that is read
+mode_read_stands : (pen : Pen)
+    → DrawingStands pen.rest (λ (mode : Mode × Bits). mode.1) (mode_here pen)
+mode_read_stands pen = by (read_code mode_codes pen.rest) refl
   where
-    on : Mode × Bits → Step
-    on mode = draw_mode strict columns reference (record pen { rest = mode.1 }) mode.0
+    by : (r : Result (Mode × Bits) DecodeError) → read_code mode_codes pen.rest ≡ r
+        → TurnStands pen.rest (λ (mode : Mode × Bits). mode.1) (unless_fault pen.front r) (word_found mode_codes pen.rest)
+    by (Ok mode) e = word_stands mode_codes pen.rest mode.0 mode.1 (mode_word mode.0) e
+    by (Err fault) e = (pen.rest, no_word_stands mode_codes pen.rest fault e, tt)
 
-    more : Result (Mode × Bits) DecodeError → List Bits
-    more r = elim r [ Ok mode ↦ mode_found strict columns (record pen { rest = mode.1 }) mode.0 | Err fault ↦ [] ]
+-- a run that is drawn
+pub draw_run_stands : (strict : Bool) (columns : ℕ) (pen : Pen) → DrawingStands pen.rest rest_of_pen (draw_run strict columns pen)
+draw_run_stands strict columns pen =
+    behind_stands pen.rest (λ (run : ℕ × Bits). run.1) rest_of_pen (run_here pen)
+    (λ run. painted strict columns pen run.0 >>= (λ front. go_on (record { front = front; color = opposite pen.color; rest = run.1 })))
+    (run_read_stands pen)
+    (λ run. behind_stands run.1 (λ (front : Row). run.1) rest_of_pen (painted strict columns pen run.0)
+    (λ front. go_on (record { front = front; color = opposite pen.color; rest = run.1 })) (wordless_stands run.1 pen _) (λ front. stands_none run.1))
 
-    by_mode : (r : Result (Mode × Bits) DecodeError) (words : List Bits) → ((fault : DecodeError) → r ≡ Err fault → Stands pen.rest words pen.rest)
-        → ((mode : Mode × Bits) → r ≡ Ok mode → Stands pen.rest words mode.1) → StepStands pen.rest (try pen.front r on) (words ++ more r)
-    by_mode (Err fault) words p q = (pen.rest, stands_append pen.rest pen.rest pen.rest words [] (p fault refl) (stands_none pen.rest), tt)
-    by_mode (Ok mode) words p q = step_after pen.rest mode.1 words (mode_found strict columns (record pen { rest = mode.1 }) mode.0) (on mode)
-        (q mode refl) (mode_stands strict columns reference (record pen { rest = mode.1 }) mode.0)
+-- a full line finds nothing more
+pub unless_full_stands : (columns : ℕ) (pen : Pen) → DrawingStands pen.rest rest_of_pen (unless_full columns pen)
+unless_full_stands columns pen = by (leb columns (length pen.front))
+  where
+    by : (full : Bool) → TurnStands pen.rest rest_of_pen (cond full (Turn.done (Line.whole pen.front pen.rest)) (Turn.next pen)) []
+    by true = (pen.rest, stands_none pen.rest, refl)
+    by false = stands_none pen.rest
+
+-- what a mode draws
+mode_stands : (strict : Bool) (columns : ℕ) (reference : Row) (pen : Pen) (mode : Mode) → DrawingStands pen.rest rest_of_pen (draw_mode strict columns reference pen mode)
+mode_stands strict columns reference pen Pass =
+    behind_stands pen.rest (λ (front : Row). pen.rest) rest_of_pen
+    (painted_to strict columns pen (b2 reference (right_of pen.front) pen.color))
+    (λ front. go_on (record pen { front = front })) (wordless_stands pen.rest pen _) (λ front. stands_none pen.rest)
+mode_stands strict columns reference pen Horizontal =
+    behind_stands pen.rest rest_of_pen rest_of_pen (draw_run strict columns pen) (draw_run strict columns) (draw_run_stands strict columns pen)
+    (draw_run_stands strict columns)
+mode_stands strict columns reference pen (Vertical k) =
+    let paints : ℕ → Drawing Row = painted_to strict columns pen in
+    let turns : Row → Drawing Pen = λ front. go_on (record { front = front; color = opposite pen.color; rest = pen.rest }) in
+    behind_stands pen.rest (λ (place : ℕ). pen.rest) rest_of_pen
+    (place_by reference pen k) (λ place. paints place >>= turns)
+    (wordless_stands pen.rest pen _)
+    (λ place. behind_stands pen.rest (λ (front : Row). pen.rest) rest_of_pen (paints place) turns (wordless_stands pen.rest pen _)
+    (λ front. stands_none pen.rest))
+
+-- a step of a one-dimensional line
+pub draw_1d_stands : (strict : Bool) (columns : ℕ) (pen : Pen) → DrawingStands pen.rest rest_of_pen (draw_1d strict columns pen)
+draw_1d_stands strict columns pen =
+    behind_stands pen.rest rest_of_pen rest_of_pen (unless_full columns pen) (draw_run strict columns) (unless_full_stands columns pen)
+    (draw_run_stands strict columns)
+
+-- a step of a two-dimensional line
+pub draw_2d_stands : (strict : Bool) (columns : ℕ) (reference : Row) (pen : Pen) → DrawingStands pen.rest rest_of_pen (draw_2d strict columns reference pen)
+draw_2d_stands strict columns reference pen =
+    let draws : Pen → Mode × Bits → Drawing Pen = λ p mode. draw_mode strict columns reference (record p { rest = mode.1 }) mode.0 in
+    behind_stands pen.rest rest_of_pen rest_of_pen (unless_full columns pen) (λ p. mode_here p >>= draws p) (unless_full_stands columns pen)
+    (λ p. behind_stands p.rest (λ (mode : Mode × Bits). mode.1) rest_of_pen (mode_here p) (draws p) (mode_read_stands p)
+    (λ mode. mode_stands strict columns reference (record p { rest = mode.1 }) mode.0))
 
 -- what a repeated step finds
-pub pen_stands : (step : Pen → Step) (gives : Pen → List Bits) (late : Line) → ((b : Bits) → LineEnds late b)
-    → ((pen : Pen) → StepStands pen.rest (step pen) (gives pen)) → (n : ℕ) (pen : Pen)
-    → (rest : Bits) × Stands pen.rest (gathered step gives n pen) rest × LineEnds (repeated step late n pen) rest
-pen_stands step gives late l each n pen =
-    gathered_stands step late gives (λ pen. pen.rest) LineEnds l
-    (λ s t e. subst (λ (x : Step). StepStands s.rest x (gives s)) e (each s))
-    (λ s r e. subst (λ (x : Step). StepStands s.rest x (gives s)) e (each s))
+pub pen_stands : (draw : Pen → Drawing Pen) → ((pen : Pen) → DrawingStands pen.rest rest_of_pen (draw pen)) → (n : ℕ) (pen : Pen)
+    → (rest : Bits) × Stands pen.rest (gathered (λ pen. (draw pen).turn) (λ pen. (draw pen).words) n pen) rest
+    × LineEnds (repeated (λ pen. (draw pen).turn) (Line.broken [] UnexpectedEof) n pen) rest
+pen_stands draw each n pen =
+    gathered_stands (λ (p : Pen). (draw p).turn) (Line.broken [] UnexpectedEof) (λ p. (draw p).words) rest_of_pen LineEnds (λ b. tt)
+    (λ s t e. subst (λ (x : Turn Pen Line). TurnStands s.rest rest_of_pen x (draw s).words) e (each s))
+    (λ s r e. subst (λ (x : Turn Pen Line). TurnStands s.rest rest_of_pen x (draw s).words) e (each s))
     n pen
 
 -- the words of a one-dimensional line stand in a row
-pub line_1d_stands : (strict : Bool) (columns : ℕ) (here : Bits) → (rest : Bits) × Stands here (found_1d strict columns (start here)) rest
+pub line_1d_stands : (strict : Bool) (columns : ℕ) (here : Bits) → (rest : Bits) × Stands here (found_1d strict columns here) rest
     × LineEnds (line_1d strict columns here) rest
-line_1d_stands strict columns here = pen_stands (step_1d strict columns) (gives_1d strict columns) (Line.broken [] UnexpectedEof) (λ b. tt)
-    (step_1d_stands strict columns) (suc (length here)) (start here)
+line_1d_stands strict columns here = pen_stands (draw_1d strict columns) (draw_1d_stands strict columns) (suc (length here)) (start here)
 
 -- the words of a two-dimensional line stand in a row
 pub line_2d_stands : (strict : Bool) (columns : ℕ) (reference : Row) (here : Bits) → (rest : Bits)
-    × Stands here (found_2d strict columns reference (start here)) rest × LineEnds (line_2d strict columns reference here) rest
+    × Stands here (found_2d strict columns reference here) rest × LineEnds (line_2d strict columns reference here) rest
 line_2d_stands strict columns reference here =
-    pen_stands (step_2d strict columns reference) (gives_2d strict columns) (Line.broken [] UnexpectedEof) (λ b. tt)
-    (step_2d_stands strict columns reference) (suc (length here)) (start here)
+    pen_stands (draw_2d strict columns reference) (draw_2d_stands strict columns reference) (suc (length here)) (start here)
 
 -- ---- No EOL's one stands before their end.
 ends_before : (tag : Bits) (words : List Bits) (here rest : Bits) → (HoldsZeros 11 (tag ++ joined words) → ⊥) → here ≡ (tag ++ joined words) ++ rest
@@ -298,13 +309,13 @@ found_end : (encoding : EncodingMode) (strict : Bool) (columns : ℕ) (reference
     → EndBeforeEol (tag_at encoding here) (line_found encoding strict columns reference here) here
 found_end Group3_2D strict columns reference [] = untagged_end [] [] [] (stands_none [])
 found_end Group3_2D strict columns reference (true ∷ here) = let found
-    = line_1d_stands strict columns here in tagged_end true here found.0 (found_1d strict columns (start here)) found.1
+    = line_1d_stands strict columns here in tagged_end true here found.0 (found_1d strict columns here) found.1
 found_end Group3_2D strict columns reference (false ∷ here) = let found
-    = line_2d_stands strict columns reference here in tagged_end false here found.0 (found_2d strict columns reference (start here)) found.1
+    = line_2d_stands strict columns reference here in tagged_end false here found.0 (found_2d strict columns reference here) found.1
 found_end Group3_1D strict columns reference here = let found
-    = line_1d_stands strict columns here in untagged_end here found.0 (found_1d strict columns (start here)) found.1
+    = line_1d_stands strict columns here in untagged_end here found.0 (found_1d strict columns here) found.1
 found_end Group4 strict columns reference here = let found
-    = line_2d_stands strict columns reference here in untagged_end here found.0 (found_2d strict columns reference (start here)) found.1
+    = line_2d_stands strict columns reference here in untagged_end here found.0 (found_2d strict columns reference here) found.1
 
 -- ---- A whole line ends with the last of its words.
 whole_rest : (line : Line) (row : Row) (end rest here words : Bits) → line ≡ Line.whole row rest → LineEnds line end → here ≡ words ++ end
@@ -319,18 +330,18 @@ found_to_the_end Group3_2D strict columns reference row [] rest whole = absurd c
 found_to_the_end Group3_2D strict columns reference row (true ∷ here) rest whole =
     let found = line_1d_stands strict columns here in
     ap (λ (b : Bits). true ∷ b) (whole_rest (line_1d strict columns here) row found.0 rest here
-    (joined (found_1d strict columns (start here))) whole found.2 found.1.place)
+    (joined (found_1d strict columns here)) whole found.2 found.1.place)
 found_to_the_end Group3_2D strict columns reference row (false ∷ here) rest whole =
     let found = line_2d_stands strict columns reference here in
     ap (λ (b : Bits). false ∷ b) (whole_rest (line_2d strict columns reference here) row found.0 rest here
-    (joined (found_2d strict columns reference (start here))) whole found.2 found.1.place)
+    (joined (found_2d strict columns reference here)) whole found.2 found.1.place)
 found_to_the_end Group3_1D strict columns reference row here rest whole =
     let found = line_1d_stands strict columns here in
-    whole_rest (line_1d strict columns here) row found.0 rest here (joined (found_1d strict columns (start here))) whole found.2 found.1.place
+    whole_rest (line_1d strict columns here) row found.0 rest here (joined (found_1d strict columns here)) whole found.2 found.1.place
 found_to_the_end Group4 strict columns reference row here rest whole =
     let found = line_2d_stands strict columns reference here in
     whole_rest (line_2d strict columns reference here) row found.0 rest here
-    (joined (found_2d strict columns reference (start here))) whole found.2 found.1.place
+    (joined (found_2d strict columns reference here)) whole found.2 found.1.place
 
 -- the law
 pub words_synchronised : Synchronised

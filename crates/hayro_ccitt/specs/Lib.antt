@@ -7,7 +7,6 @@ pub mod ContextView
 pub mod Decoding
 pub mod Encodings
 pub mod EndOfLine
-pub mod Examples
 pub mod Laws
 pub mod Lending
 pub mod Lines

@@ -34,7 +34,8 @@ pub record BeginsWithPictureT4 (settings : DecodeSettings) (rows : List Row) (bi
   pub closing : (closing : Bits) × ClosesWithEols settings.encoding 6 closing × IsPrefix closing behind
   pub begins : whole ≡ bits ++ behind
 
--- The data begins with a closed picture of these rows, which ends with so many bytes, the last one rounded up.
+-- The data begins with a closed picture of these rows, which ends with so many bytes, the last one rounded up (T.4, 4.1.4
+-- and 4.2.3; T.6, 2.4.1.1).
 pub data IsClosedPicture (settings : DecodeSettings) (rows : List Row) (count : ℕ) (whole : Bits) : Type 0 where
   -- in T.6 at the end of EOFB (T.6, 2.4.1.1)
   by_eofb : (bits : Bits) → BeginsWithPictureT6 settings rows bits whole → count ≡ (length bits + 7) / 8
@@ -75,7 +76,8 @@ pub record BeginsWithRowsAndEolsT4 (settings : DecodeSettings) (rows : List Row)
   pub lines : EncodesRowsWithEols settings.encoding (white_row settings.columns) rows bits
   pub begins : IsPrefix bits whole
 
--- The data begins with the lines of these rows, of any kind, and the limit is as many rows.
+-- The data begins with the lines of these rows, of any kind, and the limit is as many rows (T.4, 4.1.1, 4.1.2 and 4.2.1;
+-- T.6, 2.2).
 pub data IsLimitedPicture (settings : DecodeSettings) (rows : List Row) (whole : Bits) : Type 0 where
   -- T.6 (T.6, 2.2)
   of_t6 : (bits : Bits) → BeginsWithRowsT6 settings rows bits whole → IsLimitedPicture settings rows whole

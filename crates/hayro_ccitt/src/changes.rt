@@ -56,7 +56,7 @@ pub fn append_pixels(changes: &mut Vec<u32>, painted: u32, color: Color, count: 
     ensures memory { result ≡ Err DecodeError.OutOfMemory
         → (0 < count) × (last_pixel false (pixels painted changes.old.items) ≢ is_black color) }
     ensures only_memory { IsOkUnless result DecodeError.OutOfMemory }
-    ensures same { OnErr result (changes.new.items ≡ changes.old.items) }
+    ensures unchanged { OnErr result (changes.new.items ≡ changes.old.items) }
 {
     // The colours of a row alternate, so after an odd number of changes its last pixel is black.
     let last_is_white = changes.len().is_multiple_of(2);

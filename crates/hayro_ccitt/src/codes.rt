@@ -198,7 +198,7 @@ impl<'a> BitReader<'a> {
             ≡ Ok (n, here self.new))
             (λ e. read_code (numbered (terminating.now ++ makeup.now ++ COMMON_MAKEUP)) (here self.old) ≡ Err e) }
         ensures fault { IfErr result IsFault }
-        ensures same { self.new.bits ≡ self.old.bits }
+        ensures same_bits { self.new.bits ≡ self.old.bits }
     {
         match find_run_word(self, terminating, makeup) {
             Some((run, width)) => {
@@ -221,8 +221,8 @@ impl<'a> BitReader<'a> {
             (λ n. read_code (codes_of color) (here self.old) ≡ Ok (n, here self.new))
             (λ e. read_code (codes_of color) (here self.old) ≡ Err e) }
         ensures fault { IfErr result IsFault }
-        ensures same { self.new.bits ≡ self.old.bits }
-        ensures count { ticks.new ≡ ticks.old + 1 }
+        ensures same_bits { self.new.bits ≡ self.old.bits }
+        ensures ticks { ticks.new ≡ ticks.old + 1 }
     {
         // A word that doesn't stand here was looked for too.
         ticks.tick();
@@ -240,7 +240,7 @@ impl<'a> BitReader<'a> {
             (λ n. read_run color (here self.old) ≡ Ok (n, here self.new))
             (λ e. read_run color (here self.old) ≡ Err e) }
         ensures fault { IfErr result IsFault }
-        ensures same { self.new.bits ≡ self.old.bits }
+        ensures same_bits { self.new.bits ≡ self.old.bits }
         ensures ticks { ticks.new ≡ ticks.old + length (run_found color (0, here self.old)) + missed result }
     {
         let mut total: u32 = 0;
@@ -262,7 +262,7 @@ impl<'a> BitReader<'a> {
             (λ m. read_code mode_codes (here self.old) ≡ Ok (m, here self.new))
             (λ e. read_code mode_codes (here self.old) ≡ Err e) }
         ensures fault { IfErr result IsFault }
-        ensures same { self.new.bits ≡ self.old.bits }
+        ensures same_bits { self.new.bits ≡ self.old.bits }
         ensures ticks { ticks.new ≡ ticks.old + 1 }
     {
         ticks.tick();
@@ -314,7 +314,7 @@ impl<'a> BitReader<'a> {
     /// many there were. It never fails. Each bit that is looked at is a tick.
     pub fn read_eols(&mut self, max: usize, ticks: &mut Ticks) -> usize
         ensures eols { eols max (here self.old) ≡ (result, here self.new) }
-        ensures same { self.new.bits ≡ self.old.bits }
+        ensures same_bits { self.new.bits ≡ self.old.bits }
         ensures ticks { ticks.new + length (here self.new)
             ≡ ticks.old + length (here self.old) + (if result == max then 0 else looked (here self.new)) }
     {
@@ -334,7 +334,7 @@ impl<'a> BitReader<'a> {
     /// a tick.
     pub fn read_eol_if_available(&mut self, ticks: &mut Ticks) -> usize
         ensures eols { all_eols (here self.old) ≡ (result, here self.new) }
-        ensures same { self.new.bits ≡ self.old.bits }
+        ensures same_bits { self.new.bits ≡ self.old.bits }
         ensures ticks { ticks.new + length (here self.new)
             ≡ ticks.old + length (here self.old) + looked (here self.new) }
     {
@@ -347,7 +347,7 @@ impl<'a> BitReader<'a> {
     /// looked at is a tick.
     pub fn skip_to_eol(&mut self, ticks: &mut Ticks) -> bool
         ensures next { next_eol (here self.old) ≡ (if result then Some (here self.new) else None) }
-        ensures stays { result ≡ false → self.new ≡ self.old }
+        ensures unchanged { result ≡ false → self.new ≡ self.old }
         ensures same_bits { self.new.bits ≡ self.old.bits }
         ensures ticks { ticks.new + length (here self.new)
             ≡ ticks.old + length (here self.old) + (if result then looked (here self.new) else length (here self.new)) }

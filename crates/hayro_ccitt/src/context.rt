@@ -51,8 +51,7 @@ impl DecoderContext {
     /// A context for images with these settings: a white reference row, nothing painted, no row taken. Its only
     /// refusal is `OutOfMemory`, and nothing is made then.
     pub fn new(alloc: Global, settings: DecodeSettings) -> Result<DecoderContext>
-        ensures made { IfOk result (λ ctx. ctx.held ≡ fresh settings) }
-        ensures count { IfOk result (λ ctx. ctx.ticks ≡ 0) }
+        ensures made { IfOk result (λ ctx. ctx ≡ record { held = fresh settings; ticks = 0 }) }
         ensures only_memory { IsOkUnless result DecodeError.OutOfMemory }
     {
         Ok(DecoderContext {
@@ -264,6 +263,7 @@ impl DecoderContext {
     }
 
     /// Hands the row over to the sink, continued in its last colour where it isn't full.
+    #[tactic(auto, using(crate::proofs::ChangesAndPixels::front_fits))]
     fn hand_over<D: Decoder>(&self, decoder: &mut D) -> Result<()>
         requires { self.now.held.settings.columns ≤ D.width decoder.old }
         ensures width { D.width decoder.new ≡ D.width decoder.old }
@@ -280,19 +280,19 @@ impl DecoderContext {
     /// Hands the row over, continued in its last colour where it isn't full. On Ok it is the reference row, the
     /// front is empty, the colour is white and one more row was taken. Where the sink refuses, the context and
     /// the sink's meaning are as before. It takes no memory.
+    #[tactic(auto, using(crate::proofs::ChangesAndPixels::front_fits))]
     pub fn next_line<D: Decoder>(&mut self, decoder: &mut D) -> Result<()>
         requires width { self.old.held.settings.columns ≤ D.width decoder.old }
         requires rows { self.old.held.taken + 1 < 2 ^ 64 }
         ensures width { D.width decoder.new ≡ D.width decoder.old }
         ensures taken { OnOk result (D.meaning decoder.new
             ≡ D.step (D.width decoder.old) (D.meaning decoder.old) (changes (taken_row self.old.held))) }
-        ensures moved { OnOk result (self.new.held ≡ after_taking self.old.held) }
+        ensures frame { OnOk result (self.new ≡ record self.old { held = after_taking self.old.held }) }
         ensures flag { OnOk result (D.has_refused decoder.new ≡ D.has_refused decoder.old) }
         ensures kept { OnErr result (D.meaning decoder.new ≡ D.meaning decoder.old) }
-        ensures same { OnErr result (self.new.held ≡ self.old.held) }
+        ensures unchanged { OnErr result (self.new ≡ self.old) }
         ensures refused { OnErr result (D.has_refused decoder.new ≡ true) }
         ensures only_refused { IsOkUnless result DecodeError.Refused }
-        ensures count { self.new.ticks ≡ self.old.ticks }
     {
         self.hand_over(decoder)?;
         // The row that was handed over is whole.
@@ -308,7 +308,7 @@ impl DecoderContext {
         ensures step { DrawsStep (step_of_run self.old.held (here reader.old))
             result (pen_of self.new.held (here reader.new)) }
         ensures held { self.new.held ≡ redrawn self.old.held self.new.held.front self.new.held.color }
-        ensures same { reader.new.bits ≡ reader.old.bits }
+        ensures same_bits { reader.new.bits ≡ reader.old.bits }
         ensures counts { self.old.ticks ≤ self.new.ticks }
     {
         let run = reader.decode_run(self.color, &self.tables, &mut self.ticks)?;
@@ -322,7 +322,7 @@ impl DecoderContext {
         ensures step { DrawsStep (step_of_mode self.old.held (here reader.old) mode)
             result (pen_of self.new.held (here reader.new)) }
         ensures held { self.new.held ≡ redrawn self.old.held self.new.held.front self.new.held.color }
-        ensures same { reader.new.bits ≡ reader.old.bits }
+        ensures same_bits { reader.new.bits ≡ reader.old.bits }
         ensures counts { self.old.ticks ≤ self.new.ticks }
     {
         match mode {
@@ -357,7 +357,7 @@ pub fn decode_1d_line(ctx: &mut DecoderContext, reader: &mut BitReader<'_>) -> R
     ensures line { DrawsLine (line_from_1d ctx.old.held (here reader.old))
         result ctx.new.held.front (here reader.new) }
     ensures held { ctx.new.held ≡ redrawn ctx.old.held ctx.new.held.front ctx.new.held.color }
-    ensures same { reader.new.bits ≡ reader.old.bits }
+    ensures same_bits { reader.new.bits ≡ reader.old.bits }
     ensures counts { ctx.old.ticks ≤ ctx.new.ticks }
 {
     ctx.begin_line(); // The first run is white.
@@ -375,7 +375,7 @@ pub fn decode_2d_line(ctx: &mut DecoderContext, reader: &mut BitReader<'_>) -> R
     ensures line { DrawsLine (line_from_2d ctx.old.held (here reader.old))
         result ctx.new.held.front (here reader.new) }
     ensures held { ctx.new.held ≡ redrawn ctx.old.held ctx.new.held.front ctx.new.held.color }
-    ensures same { reader.new.bits ≡ reader.old.bits }
+    ensures same_bits { reader.new.bits ≡ reader.old.bits }
     ensures counts { ctx.old.ticks ≤ ctx.new.ticks }
 {
     ctx.begin_line(); // The place a0 is left of the row.

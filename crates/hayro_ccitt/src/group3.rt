@@ -1,9 +1,10 @@
 //! Group 3: EOLs stand between the lines, and a damaged line stays in its row (T.4).
 
-ghost use Rattle.std.specs.Prelude.{◌≡◌, ◌≢◌, ◌↔◌, ◌<◌, ◌≤◌, ◌+◌, Err, OnOk, OnErr, IfOk, IsErr, IsOkUnless, IsTrue, true, [], length};
+ghost use Rattle.std.specs.Prelude.{◌≡◌, ◌≢◌, ◌↔◌, ◌<◌, ◌≤◌, ◌+◌, Err, OnOk, OnErr, IfOk, IsErr, IsOkUnless, IsTrue, true, nat_lt, ◌||◌, [], length};
 ghost use Rattle.hayro_ccitt.specs.Answers.{DrawsLine, IsFault, IsRepairable, RepairStoresChange};
 ghost use Rattle.hayro_ccitt.specs.Bits.{here};
 ghost use Rattle.hayro_ccitt.specs.Context.{after_repair, fresh, redrawn};
+ghost use Rattle.hayro_ccitt.specs.EndOfLine.{all_eols};
 ghost use Rattle.hayro_ccitt.specs.Decoding.{TakesRows, StopsShort, TakesOneRow, leaving, gap_said};
 ghost use Rattle.hayro_ccitt.specs.PlainReading.{plain_group3, lines_by, eols_group3, is_over_group3, gap_group3, row_group3, line_by, line_at_group3};
 
@@ -152,7 +153,7 @@ fn read_row<D: Decoder>(
     ensures width { D.width decoder.new ≡ D.width decoder.old }
     ensures row { TakesOneRow (line_at_group3 ctx.old.held.settings ctx.old.held.reference (here reader.old))
         (row_group3 ctx.old.held.settings ctx.old.held.has_eols (here reader.old)
-            (line_at_group3 ctx.old.held.settings ctx.old.held.reference (here reader.old)))
+        (line_at_group3 ctx.old.held.settings ctx.old.held.reference (here reader.old)))
         (D.step (D.width decoder.old))
         (record { meaning = D.meaning decoder.old; refused = D.has_refused decoder.old })
         (record { meaning = D.meaning decoder.new; refused = D.has_refused decoder.new })
@@ -165,6 +166,21 @@ fn read_row<D: Decoder>(
         recover(ctx, reader, line_start, error)?;
     }
     take_row(ctx, reader, decoder)
+}
+
+/// Reads the EOLs at the front of the data, which have no tags. Any of them, or the settings, say that the data has
+/// EOLs.
+fn read_leading_eols(ctx: &mut DecoderContext, reader: &mut BitReader<'_>)
+    ensures rest { here reader.new ≡ (all_eols (here reader.old)).1 }
+    ensures has_eols { ctx.new.held ≡ record ctx.old.held {
+      has_eols = nat_lt 0 (all_eols (here reader.old)).0 || ctx.old.held.settings.end_of_line;
+    } }
+    ensures same_bits { reader.new.bits ≡ reader.old.bits }
+    ensures counts { ctx.old.ticks ≤ ctx.new.ticks }
+{
+    let count = reader.read_eol_if_available(ctx.ticks());
+    let end_of_line = ctx.settings().end_of_line;
+    ctx.set_has_eols(count > 0 || end_of_line);
 }
 
 /// Decodes the rows of Group 3 data until RTC (with `end_of_block`), the row limit or the end of the data.
@@ -194,9 +210,7 @@ fn decode_rows<D: Decoder>(
     ensures same_bits { reader.new.bits ≡ reader.old.bits }
     ensures counts { ctx.old.ticks ≤ ctx.new.ticks }
 {
-    let count = reader.read_eol_if_available(ctx.ticks());
-    let end_of_line = ctx.settings().end_of_line;
-    ctx.set_has_eols(count > 0 || end_of_line);
+    read_leading_eols(ctx, reader);
     'rows: loop {
         read_row(ctx, reader, decoder)?;
         if check_eob(ctx, reader)? {

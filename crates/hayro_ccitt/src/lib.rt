@@ -19,6 +19,7 @@ mod error;
 pub mod group3;
 pub mod group4;
 pub mod laws;
+mod locality;
 mod rows;
 mod settings;
 pub mod tables;
@@ -26,6 +27,7 @@ pub mod tables;
 use bit_reader::BitReader;
 pub use context::DecoderContext;
 pub use error::{DecodeError, Result};
+pub use locality::body_is_local;
 pub use settings::{DecodeSettings, EncodingMode};
 
 /// A sink for the rows of an image.

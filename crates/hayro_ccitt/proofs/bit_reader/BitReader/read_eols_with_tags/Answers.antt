@@ -16,7 +16,7 @@ eols-preserved c =
     let rest = here c.pass_tag.new.self in
     let looks = tagged_looks now after rest c.eols.ticks c.read_eols.new.ticks c.pass_tag.new.ticks most one.0 c.pass_tag.ensures.rest ticks
     c.pass_tag.ensures.ticks in (
-      c.pass_tag.ensures.same_bits ∙ c.read_eols.ensures.same ∙ c.eols.invariant.0,
+      c.pass_tag.ensures.same_bits ∙ c.read_eols.ensures.same_bits ∙ c.eols.invariant.0,
       omega (arith, looks.1, c.eols.invariant.1),
       tagged_stepped c.bits_left-most.result c.eols.count (here c.args.self.now) now after rest c.eols.invariant.2 one.0 c.pass_tag.ensures.rest
           c.eols-test.true,

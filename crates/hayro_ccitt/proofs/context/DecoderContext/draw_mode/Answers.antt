@@ -5,7 +5,7 @@ use Rattle.hayro_ccitt.specs.declared.error.DecodeError.{DecodeError}
 use Rattle.hayro_ccitt.specs.Answers.{DrawsStep, pen_of}
 use Rattle.hayro_ccitt.specs.Bits.{Bits, here}
 use Rattle.hayro_ccitt.specs.Context.{Context, Held}
-use Rattle.hayro_ccitt.specs.Lines.{try}
+use Rattle.hayro_ccitt.proofs.Drawings.{try}
 use Rattle.hayro_ccitt.specs.Repetition.{Turn}
 use Rattle.hayro_ccitt.specs.Rows.{right_of, b1, b2, paint}
 use Rattle.hayro_ccitt.proofs.DrawnLines.{IsUnpainted, place_of, some_where, unpainted, pass_draws, vertical_unpainted, first_run_fails, second_run, paint_draws}
@@ -37,7 +37,7 @@ returns-in_err-draw_run-in-Horizontal-clause-step c =
     let p = err_from_is_err_and c.from_residual-in_err-draw_run-in-Horizontal.result c.from_residual-in_err-draw_run-in-Horizontal.ensures.1 in
     let held : Held = c.args.self.now.held in
     rw (c.in-Horizontal.is, p.1, p.2)
-    (first_run_fails held.settings.strict held.settings.columns (pen_of held (here c.args.reader.now)) (pen_of c.draw_run.new.self.held (here c.draw_run.new.reader)) c.in_err-draw_run-in-Horizontal.field-0.0 c.in_err-draw_run-in-Horizontal.ensures.step)
+    (first_run_fails held (here c.args.reader.now) (pen_of c.draw_run.new.self.held (here c.draw_run.new.reader)) c.in_err-draw_run-in-Horizontal.field-0.0 c.in_err-draw_run-in-Horizontal.ensures.step)
 
 pub returns-in-Pass-clause-step : goal.returns-in-Pass-clause-step
 returns-in-Pass-clause-step c =

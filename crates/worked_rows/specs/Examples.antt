@@ -7,9 +7,9 @@ use Rattle.hayro_ccitt.specs.declared.settings.EncodingMode.{EncodingMode}
 use Rattle.hayro_ccitt.specs.declared.settings.EncodingMode.TheVariants.{Group4, Group3_1D, Group3_2D}
 use Rattle.hayro_ccitt.specs.declared.settings.DecodeSettings.{DecodeSettings}
 use Rattle.hayro_ccitt.specs.Bits.{bits_of}
-use Rattle.hayro_ccitt.specs.Rows.{changes, pixels, white_row}
+use Rattle.hayro_ccitt.specs.Rows.{Row, changes, pixels, white_row}
 use Rattle.hayro_ccitt.specs.Encodings.{EncodesRows, PictureT4}
-use Rattle.hayro_ccitt.specs.Locality.{IsLocal}
+use Rattle.hayro_ccitt.specs.Locality.{IsLocal, EndAlike}
 use Rattle.hayro_ccitt.specs.PlainReading.{plain}
 
 -- the value of a hexadecimal digit, a capital letter or a figure
@@ -97,14 +97,24 @@ bits_changed = "0019800C400033"
 abbrev pub bits_added : String
 bits_added = "0019800C06F80033"
 
+-- with more words of the same row in their place, up to 111
+abbrev pub words_added : String
+words_added = "0019800C06E6A1B9A86E6A1B9AF00033"
+
 -- each body is local, so that `Locality` is about each two of these
 abbrev pub HaveLocalBodies : Type 0
 HaveLocalBodies = IsLocal with_eols (bits_of (hex three_rows)) 29 39
     × IsLocal with_eols (bits_of (hex bits_changed)) 29 39
     × IsLocal with_eols (bits_of (hex bits_added)) 29 47
+    × IsLocal with_eols (bits_of (hex words_added)) 29 111
 
 -- the second row alone is another
 abbrev pub ReadsDamage : Type 0
 ReadsDamage = (reading_of with_eols three_rows ≡ ([] ∷ (3 ∷ 5 ∷ []) ∷ [] ∷ [], Ok 7))
     × (reading_of with_eols bits_changed ≡ ([] ∷ (3 ∷ 6 ∷ []) ∷ [] ∷ [], Ok 7))
     × (reading_of with_eols bits_added ≡ ([] ∷ [] ∷ [] ∷ [], Ok 8))
+
+-- where a later row than the body's meets the limit, `EndAlike` fixes the counts: they differ by as much as the lengths
+abbrev pub LimitBehindTheBody : Type 0
+LimitBehindTheBody = (rows : List Row) (count count2 : ℕ)
+    → EndAlike (group3_1d 8 3 "l") (hex three_rows) (hex words_added) 29 rows (Ok count) (Ok count2) → count + 16 ≡ count2 + 7
