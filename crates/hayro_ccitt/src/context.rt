@@ -119,8 +119,7 @@ impl DecoderContext {
 
     /// Makes all but the settings what a new context has.
     pub(crate) fn restart(&mut self)
-        ensures held { self.new.held ≡ fresh self.old.held.settings }
-        ensures count { self.new.ticks ≡ 0 }
+        ensures frame { self.new ≡ record { held = fresh self.old.held.settings; ticks = 0 } }
     {
         self.reset();
         self.ticks = Ticks::new();
@@ -263,7 +262,7 @@ impl DecoderContext {
     }
 
     /// Hands the row over to the sink, continued in its last colour where it isn't full.
-    #[tactic(auto, using(crate::proofs::ChangesAndPixels::front_fits))]
+    #[tactic(auto, using(crate::proofs::PixelRows::ChangesAndPixels::front_fits))]
     fn hand_over<D: Decoder>(&self, decoder: &mut D) -> Result<()>
         requires { self.now.held.settings.columns ≤ D.width decoder.old }
         ensures width { D.width decoder.new ≡ D.width decoder.old }
@@ -280,7 +279,7 @@ impl DecoderContext {
     /// Hands the row over, continued in its last colour where it isn't full. On Ok it is the reference row, the
     /// front is empty, the colour is white and one more row was taken. Where the sink refuses, the context and
     /// the sink's meaning are as before. It takes no memory.
-    #[tactic(auto, using(crate::proofs::ChangesAndPixels::front_fits))]
+    #[tactic(auto, using(crate::proofs::PixelRows::ChangesAndPixels::front_fits))]
     pub fn next_line<D: Decoder>(&mut self, decoder: &mut D) -> Result<()>
         requires width { self.old.held.settings.columns ≤ D.width decoder.old }
         requires rows { self.old.held.taken + 1 < 2 ^ 64 }

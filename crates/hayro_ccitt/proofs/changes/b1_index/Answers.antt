@@ -1,6 +1,6 @@
 use Rattle.std.proofs.Common.{◌+◌, arith}
 use Rattle.hayro_ccitt.specs.Context.{right_of_painted}
-use Rattle.hayro_ccitt.proofs.ReferencePlaces.{IsSplit, IsSplit-painted, IsSplit-none, b1_first, b1_second, b2_after_b1}
+use Rattle.hayro_ccitt.proofs.PixelRows.ReferencePlaces.{IsSplit, IsSplit-painted, IsSplit-none, b1_first, b1_second, b2_after_b1}
 use Rattle.hayro_ccitt.proofs.changes.b1_index.Goals.{After-is_white, then-painted-gt0+then-loop-index-test+else-changes-index, then-painted-gt0+else-loop-index-test, else-painted-gt0}
 use Rattle.hayro_ccitt.proofs.changes.b1_index.Goals as goal
 

@@ -1,24 +1,24 @@
-use Rattle.std.proofs.Common.{◌≡◌, ◌≢◌, ℕ, ◌*◌, ◌≤◌, false, length, drop, Err, refl, sym, ap, subst, ◌∙◌, arith}
+use Rattle.std.proofs.Common.{◌≡◌, ◌≢◌, ℕ, ◌≤◌, false, length, drop, Err, refl, sym, ap, subst, ◌∙◌, arith}
 use Rattle.hayro_ccitt.specs.declared.error.DecodeError.TheVariants.{OutOfMemory}
 use Rattle.std.proofs.lemmas.Bool.{false≢true}
 use Rattle.hayro_ccitt.specs.Answers.{DrawsLine}
 use Rattle.hayro_ccitt.specs.Bits.{Bits, BitsAt, bits_of, here}
 use Rattle.hayro_ccitt.specs.Context.{Context}
 use Rattle.hayro_ccitt.specs.Lines.{Line, line_1d}
-use Rattle.hayro_ccitt.proofs.BitLists.{length-bits_of}
-use Rattle.hayro_ccitt.proofs.BodyTests.{lenient_line, whole_ends, broken_ends}
-use Rattle.hayro_ccitt.proofs.DrawnLines.{memory_has_black}
+use Rattle.hayro_ccitt.proofs.BitReading.BitLists.{length-bits_of}
+use Rattle.hayro_ccitt.proofs.DamagedLines.BodyTests.{lenient_line, whole_ends, broken_ends}
+use Rattle.hayro_ccitt.proofs.DrawingLines.DrawnLines.{memory_has_black}
 use Rattle.hayro_ccitt.proofs.locality.line_ends_before.Goals as goal
 
 pub overflow_add-result : goal.overflow_add-result
 overflow_add-result c =
-    let same = c.decode_1d_line.ensures.same ∙ ap (λ (at : BitsAt). at.bits) c.starting_at-reader.ensures in
+    let same = c.decode_1d_line.ensures.same_bits ∙ ap (λ (at : BitsAt). at.bits) c.starting_at-reader.ensures in
     omega (arith, c.bit_pos.ensures.place, c.bit_pos.ensures.within, ap length same, length-bits_of c.args.data.now, c.requires.fit)
 
 pub returns-in-Ok-clause-before : goal.returns-in-Ok-clause-before
 returns-in-Ok-clause-before c =
     let bits = bits_of c.args.data.now in
-    let same = c.decode_1d_line.ensures.same ∙ ap (λ (at : BitsAt). at.bits) c.starting_at-reader.ensures in
+    let same = c.decode_1d_line.ensures.same_bits ∙ ap (λ (at : BitsAt). at.bits) c.starting_at-reader.ensures in
     let line = lenient_line c.reset.new.self.held c.args.ctx.now.held.settings c.starting_at-reader.result (drop c.args.from bits)
     (ap (λ (ctx : Context). ctx.held) c.reset.ensures.frame) c.requires.lenient (ap (λ (at : BitsAt). here at) c.starting_at-reader.ensures) in
     let drawn = rw c.in-Ok.is at c.decode_1d_line.ensures.line in
