@@ -131,16 +131,38 @@ def long_data():
     assert done.stdout == b"r 4294967294\nok 1\n", done
 
 
-# What a run over two equal rows may answer where one allocation is refused: status, text, standard error.
-REFUSED = {
-    "words that can't be fetched": (2, b"", b"faxrows: bad arguments\n"),
-    "no memory to begin": (3, b"", b"faxrows: out of memory\n"),
-    "no memory in the first row": (3, b"error: out of memory\n", b""),
-    "the first row refused": (3, b"error: row refused\n", b""),
-    "no memory in the second row": (3, b"r 3 5\nerror: out of memory\n", b""),
-    "the second row refused": (3, b"r 3 5\nerror: row refused\n", b""),
-    "a buffer of the C library, which does without": (0, b"r 3 5\nr 3 5\nok 2\n", b""),
-}
+# What a run answers where one allocation is refused: before decoding, with status and standard error ..
+BEFORE_DECODING = [
+    (2, b"", b"faxrows: bad arguments\n"),  # words that can't be fetched
+    (3, b"", b"faxrows: out of memory\n"),  # no memory to begin
+]
+# .. and while decoding: the whole text, and each text that ends in a want of memory or a refusal. The second row of the
+# second run is damaged: a want of memory there isn't repaired.
+WHILE_DECODING = [
+    (
+        "g4 8 2 -",
+        "31F8",
+        b"r 3 5\nr 3 5\nok 2\n",
+        [b"error: out of memory\n", b"error: row refused\n", b"r 3 5\nerror: out of memory\n", b"r 3 5\nerror: row refused\n"],
+    ),
+    (
+        "1d 8 0 l",
+        "0019800C400033",
+        b"r\nr 3 6\nr\nok 7\n",
+        [b"error: row refused\n", b"r\nerror: out of memory\n", b"r\nr 3 6\nerror: row refused\n"],
+    ),
+]
+
+
+def refused_in_turn(words, data, shim):
+    """The answers of a run whose first allocation is refused, whose second one is, and so on, and of one without."""
+    answers = []
+    for number in range(1, 1000):
+        done = run(words.split(), bytes.fromhex(data), env={**os.environ, "LD_PRELOAD": shim, "REFUSE": str(number)})
+        answers.append((done.returncode, done.stdout, done.stderr.replace(b"refused\n", b"", 1)))
+        if b"refused\n" not in done.stderr:
+            return answers
+    raise AssertionError("it never ran without a refusal")
 
 
 def refused_memory():
@@ -148,21 +170,15 @@ def refused_memory():
     with tempfile.TemporaryDirectory() as folder:
         shim = os.path.join(folder, "refuse.so")
         subprocess.run(["cc", "-shared", "-fPIC", "-o", shim, "checks/refuse.c", "-ldl"], check=True)
-        seen = []
-        for number in range(1, 1000):
-            done = run(["g4", "8", "2", "-"], bytes.fromhex("31F8"), env={**os.environ, "LD_PRELOAD": shim, "REFUSE": str(number)})
-            answer = (done.returncode, done.stdout, done.stderr.replace(b"refused\n", b"", 1))
-            if b"refused\n" not in done.stderr:
-                assert answer == REFUSED["a buffer of the C library, which does without"], answer
-                break
-            assert answer in REFUSED.values(), f"allocation {number}: {answer}"
-            seen.append(answer)
-        else:
-            raise AssertionError("it never ran without a refusal")
-    missing = [name for name, answer in REFUSED.items() if answer not in seen]
-    assert not missing, f"never seen: {missing}"
-    assert seen.count(REFUSED["a buffer of the C library, which does without"]) == 1, "more than one refusal did no harm"
-    print(f"  {len(seen)} allocations refused in turn, {len(REFUSED)} answers")
+        for words, data, text, ended in WHILE_DECODING:
+            whole = (0, text, b"")
+            expected = [whole, *BEFORE_DECODING, *[(3, text, b"") for text in ended]]
+            *answers, last = refused_in_turn(words, data, shim)
+            assert last == whole, (words, last)
+            assert all(answer in expected for answer in answers), (words, [a for a in answers if a not in expected])
+            assert all(answer in answers for answer in expected), (words, [e for e in expected if e not in answers])
+            assert answers.count(whole) == 1, f"{words}: only one refusal, of a buffer of the C library, does no harm"
+            print(f"  {words}: {len(answers)} allocations refused in turn, {len(expected)} answers")
 
 
 CHECKS = [real_strips, known_cases, statuses, devices_that_fail, a_file_and_a_pipe, long_data, refused_memory]
