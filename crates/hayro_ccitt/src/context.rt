@@ -119,8 +119,7 @@ impl DecoderContext {
 
     /// Makes all but the settings what a new context has.
     pub(crate) fn restart(&mut self)
-        ensures held { self.new.held ≡ fresh self.old.held.settings }
-        ensures count { self.new.ticks ≡ 0 }
+        ensures frame { self.new ≡ record { held = fresh self.old.held.settings; ticks = 0 } }
     {
         self.reset();
         self.ticks = Ticks::new();

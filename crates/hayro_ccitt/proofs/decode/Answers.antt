@@ -3,7 +3,7 @@ use Rattle.std.proofs.lemmas.Result.{err_from_is_err_and}
 use Rattle.std.proofs.Common.{Ok}
 use Rattle.hayro_ccitt.specs.declared.settings.DecodeSettings.{DecodeSettings}
 use Rattle.hayro_ccitt.specs.Bits.{BitsAt}
-use Rattle.hayro_ccitt.specs.Context.{Held}
+use Rattle.hayro_ccitt.specs.Context.{Context}
 use Rattle.hayro_ccitt.specs.PlainReading.{plain}
 use Rattle.hayro_ccitt.specs.Settings.{AreSettings}
 use Rattle.hayro_ccitt.proofs.BitReading.BitLists.{length-bits_of}
@@ -16,7 +16,7 @@ pub returns-in_err-decode_rows-clause-reading : goal.returns-in_err-decode_rows-
 returns-in_err-decode_rows-clause-reading g c =
     let answer = err_from_is_err_and c.from_residual.result c.from_residual.ensures.1 in
     rw (answer.1, answer.2) (left_badly c.restart.new.self.held.settings c.args.ctx.now.held.settings c.new-reader.result.bits c.args.«data».now
-    (ap (λ (h : Held). h.settings) c.restart.ensures.held) (ap (λ (at : BitsAt). at.bits) c.new-reader.ensures)
+    (ap (λ (x : Context). x.held.settings) c.restart.ensures.frame) (ap (λ (at : BitsAt). at.bits) c.new-reader.ensures)
     (λ none. c.if-settings-eq0.false (ap (λ (s : DecodeSettings). s.columns) c.settings.ensures.value ∙ none)) (g.D.Decoder.step (g.D.Decoder.width c.args.decoder.now))
     (record { meaning = g.D.Decoder.meaning c.args.decoder.now; refused = g.D.Decoder.has_refused c.args.decoder.now })
     (record { meaning = g.D.Decoder.meaning c.decode_rows.new.decoder; refused = g.D.Decoder.has_refused c.decode_rows.new.decoder }) c.decode_rows.new.ctx.held c.in_err-decode_rows.field-0.0 c.in_err-decode_rows.ensures.reading c.in_err-decode_rows.ensures.short).0
@@ -25,7 +25,7 @@ pub returns-in_err-decode_rows-clause-short : goal.returns-in_err-decode_rows-cl
 returns-in_err-decode_rows-clause-short g c =
     let answer = err_from_is_err_and c.from_residual.result c.from_residual.ensures.1 in
     rw (answer.1, answer.2) (left_badly c.restart.new.self.held.settings c.args.ctx.now.held.settings c.new-reader.result.bits c.args.«data».now
-    (ap (λ (h : Held). h.settings) c.restart.ensures.held) (ap (λ (at : BitsAt). at.bits) c.new-reader.ensures)
+    (ap (λ (x : Context). x.held.settings) c.restart.ensures.frame) (ap (λ (at : BitsAt). at.bits) c.new-reader.ensures)
     (λ none. c.if-settings-eq0.false (ap (λ (s : DecodeSettings). s.columns) c.settings.ensures.value ∙ none)) (g.D.Decoder.step (g.D.Decoder.width c.args.decoder.now))
     (record { meaning = g.D.Decoder.meaning c.args.decoder.now; refused = g.D.Decoder.has_refused c.args.decoder.now })
     (record { meaning = g.D.Decoder.meaning c.decode_rows.new.decoder; refused = g.D.Decoder.has_refused c.decode_rows.new.decoder }) c.decode_rows.new.ctx.held c.in_err-decode_rows.field-0.0 c.in_err-decode_rows.ensures.reading c.in_err-decode_rows.ensures.short).1
@@ -35,7 +35,7 @@ returns-clause-reading g c =
     let at = ap (λ (at : BitsAt). at.place) c.align.ensures.moved in
     let bits = ap (λ (at : BitsAt). at.bits) c.align.ensures.moved in
     (left_well c.restart.new.self.held.settings c.args.ctx.now.held.settings c.new-reader.result.bits c.args.«data».now
-    (ap (λ (h : Held). h.settings) c.restart.ensures.held) (ap (λ (at : BitsAt). at.bits) c.new-reader.ensures)
+    (ap (λ (x : Context). x.held.settings) c.restart.ensures.frame) (ap (λ (at : BitsAt). at.bits) c.new-reader.ensures)
     (λ none. c.if-settings-eq0.false (ap (λ (s : DecodeSettings). s.columns) c.settings.ensures.value ∙ none)) (g.D.Decoder.step (g.D.Decoder.width c.args.decoder.now))
     (record { meaning = g.D.Decoder.meaning c.args.decoder.now; refused = g.D.Decoder.has_refused c.args.decoder.now })
     (record { meaning = g.D.Decoder.meaning c.decode_rows.new.decoder; refused = g.D.Decoder.has_refused c.decode_rows.new.decoder }) c.decode_rows.new.ctx.held c.decode_rows.new.reader.place c.decode_rows.new.reader.bits c.byte_pos.result c.decode_rows.ensures.same_bits
@@ -46,7 +46,7 @@ returns-clause-short g c =
     let at = ap (λ (at : BitsAt). at.place) c.align.ensures.moved in
     let bits = ap (λ (at : BitsAt). at.bits) c.align.ensures.moved in
     (left_well c.restart.new.self.held.settings c.args.ctx.now.held.settings c.new-reader.result.bits c.args.«data».now
-    (ap (λ (h : Held). h.settings) c.restart.ensures.held) (ap (λ (at : BitsAt). at.bits) c.new-reader.ensures)
+    (ap (λ (x : Context). x.held.settings) c.restart.ensures.frame) (ap (λ (at : BitsAt). at.bits) c.new-reader.ensures)
     (λ none. c.if-settings-eq0.false (ap (λ (s : DecodeSettings). s.columns) c.settings.ensures.value ∙ none)) (g.D.Decoder.step (g.D.Decoder.width c.args.decoder.now))
     (record { meaning = g.D.Decoder.meaning c.args.decoder.now; refused = g.D.Decoder.has_refused c.args.decoder.now })
     (record { meaning = g.D.Decoder.meaning c.decode_rows.new.decoder; refused = g.D.Decoder.has_refused c.decode_rows.new.decoder }) c.decode_rows.new.ctx.held c.decode_rows.new.reader.place c.decode_rows.new.reader.bits c.byte_pos.result c.decode_rows.ensures.same_bits
@@ -60,7 +60,7 @@ returns-clause-within g c =
 pub returns-in_err-decode_rows-clause-closed : goal.returns-in_err-decode_rows-clause-closed
 returns-in_err-decode_rows-clause-closed g c =
     let settings = c.args.ctx.now.held.settings in
-    let are = subst AreSettings (c.settings.ensures.value ∙ ap (λ (h : Held). h.settings) c.restart.ensures.held) c.settings.ensures.fit in
+    let are = subst AreSettings (c.settings.ensures.value ∙ ap (λ (x : Context). x.held.settings) c.restart.ensures.frame) c.settings.ensures.fit in
     λ rows count picture. closed_picture_taken settings c.args.«data».now (plain settings c.args.«data».now).has_eols (g.D.Decoder.step (g.D.Decoder.width c.args.decoder.now))
     (record { meaning = g.D.Decoder.meaning c.args.decoder.now; refused = g.D.Decoder.has_refused c.args.decoder.now })
     (record { meaning = g.D.Decoder.meaning c.decode_rows.new.decoder; refused = g.D.Decoder.has_refused c.decode_rows.new.decoder }) c.decode_rows.new.ctx.held c.from_residual.result rows count are (returns-in_err-decode_rows-clause-reading g c) picture
@@ -68,7 +68,7 @@ returns-in_err-decode_rows-clause-closed g c =
 pub returns-in_err-decode_rows-clause-limited : goal.returns-in_err-decode_rows-clause-limited
 returns-in_err-decode_rows-clause-limited g c =
     let settings = c.args.ctx.now.held.settings in
-    let are = subst AreSettings (c.settings.ensures.value ∙ ap (λ (h : Held). h.settings) c.restart.ensures.held) c.settings.ensures.fit in
+    let are = subst AreSettings (c.settings.ensures.value ∙ ap (λ (x : Context). x.held.settings) c.restart.ensures.frame) c.settings.ensures.fit in
     λ rows picture. limited_picture_taken settings c.args.«data».now (plain settings c.args.«data».now).has_eols (g.D.Decoder.step (g.D.Decoder.width c.args.decoder.now))
     (record { meaning = g.D.Decoder.meaning c.args.decoder.now; refused = g.D.Decoder.has_refused c.args.decoder.now })
     (record { meaning = g.D.Decoder.meaning c.decode_rows.new.decoder; refused = g.D.Decoder.has_refused c.decode_rows.new.decoder }) c.decode_rows.new.ctx.held c.from_residual.result rows are (returns-in_err-decode_rows-clause-reading g c) picture
@@ -76,7 +76,7 @@ returns-in_err-decode_rows-clause-limited g c =
 pub returns-in_err-decode_rows-clause-damage : goal.returns-in_err-decode_rows-clause-damage
 returns-in_err-decode_rows-clause-damage g c =
     let settings = c.args.ctx.now.held.settings in
-    let are = subst AreSettings (c.settings.ensures.value ∙ ap (λ (h : Held). h.settings) c.restart.ensures.held) c.settings.ensures.fit in
+    let are = subst AreSettings (c.settings.ensures.value ∙ ap (λ (x : Context). x.held.settings) c.restart.ensures.frame) c.settings.ensures.fit in
     damage_stays_taken settings c.args.«data».now (plain settings c.args.«data».now).has_eols (g.D.Decoder.step (g.D.Decoder.width c.args.decoder.now))
     (record { meaning = g.D.Decoder.meaning c.args.decoder.now; refused = g.D.Decoder.has_refused c.args.decoder.now })
     (record { meaning = g.D.Decoder.meaning c.decode_rows.new.decoder; refused = g.D.Decoder.has_refused c.decode_rows.new.decoder }) c.decode_rows.new.ctx.held c.from_residual.result are (returns-in_err-decode_rows-clause-reading g c)
@@ -84,7 +84,7 @@ returns-in_err-decode_rows-clause-damage g c =
 pub returns-clause-closed : goal.returns-clause-closed
 returns-clause-closed g c =
     let settings = c.args.ctx.now.held.settings in
-    let are = subst AreSettings (c.settings.ensures.value ∙ ap (λ (h : Held). h.settings) c.restart.ensures.held) c.settings.ensures.fit in
+    let are = subst AreSettings (c.settings.ensures.value ∙ ap (λ (x : Context). x.held.settings) c.restart.ensures.frame) c.settings.ensures.fit in
     λ rows count picture. closed_picture_taken settings c.args.«data».now (plain settings c.args.«data».now).has_eols (g.D.Decoder.step (g.D.Decoder.width c.args.decoder.now))
     (record { meaning = g.D.Decoder.meaning c.args.decoder.now; refused = g.D.Decoder.has_refused c.args.decoder.now })
     (record { meaning = g.D.Decoder.meaning c.decode_rows.new.decoder; refused = g.D.Decoder.has_refused c.decode_rows.new.decoder }) c.decode_rows.new.ctx.held (Ok c.byte_pos.result) rows count are (returns-clause-reading g c) picture
@@ -92,7 +92,7 @@ returns-clause-closed g c =
 pub returns-clause-limited : goal.returns-clause-limited
 returns-clause-limited g c =
     let settings = c.args.ctx.now.held.settings in
-    let are = subst AreSettings (c.settings.ensures.value ∙ ap (λ (h : Held). h.settings) c.restart.ensures.held) c.settings.ensures.fit in
+    let are = subst AreSettings (c.settings.ensures.value ∙ ap (λ (x : Context). x.held.settings) c.restart.ensures.frame) c.settings.ensures.fit in
     λ rows picture. limited_picture_taken settings c.args.«data».now (plain settings c.args.«data».now).has_eols (g.D.Decoder.step (g.D.Decoder.width c.args.decoder.now))
     (record { meaning = g.D.Decoder.meaning c.args.decoder.now; refused = g.D.Decoder.has_refused c.args.decoder.now })
     (record { meaning = g.D.Decoder.meaning c.decode_rows.new.decoder; refused = g.D.Decoder.has_refused c.decode_rows.new.decoder }) c.decode_rows.new.ctx.held (Ok c.byte_pos.result) rows are (returns-clause-reading g c) picture
@@ -100,7 +100,7 @@ returns-clause-limited g c =
 pub returns-clause-damage : goal.returns-clause-damage
 returns-clause-damage g c =
     let settings = c.args.ctx.now.held.settings in
-    let are = subst AreSettings (c.settings.ensures.value ∙ ap (λ (h : Held). h.settings) c.restart.ensures.held) c.settings.ensures.fit in
+    let are = subst AreSettings (c.settings.ensures.value ∙ ap (λ (x : Context). x.held.settings) c.restart.ensures.frame) c.settings.ensures.fit in
     damage_stays_taken settings c.args.«data».now (plain settings c.args.«data».now).has_eols (g.D.Decoder.step (g.D.Decoder.width c.args.decoder.now))
     (record { meaning = g.D.Decoder.meaning c.args.decoder.now; refused = g.D.Decoder.has_refused c.args.decoder.now })
     (record { meaning = g.D.Decoder.meaning c.decode_rows.new.decoder; refused = g.D.Decoder.has_refused c.decode_rows.new.decoder }) c.decode_rows.new.ctx.held (Ok c.byte_pos.result) are (returns-clause-reading g c)
