@@ -1,0 +1,1 @@
+-- The words that are chosen stand in the lists.

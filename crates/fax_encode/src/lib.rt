@@ -1,0 +1,6 @@
+//! An encoder for CCITT fax images, and a sink that packs decoded rows into a bitmap.
+#![tactic(auto)]
+
+mod error;
+
+pub use error::EncodeError;
