@@ -7,7 +7,7 @@ use Rattle.hayro_ccitt.specs.declared.error.DecodeError.{DecodeError}
 use Rattle.hayro_ccitt.specs.declared.error.DecodeError.TheVariants.{UnexpectedEof, InvalidCode, Overflow, OutOfMemory, Refused}
 use Rattle.hayro_ccitt.specs.declared.settings.DecodeSettings.{DecodeSettings}
 use Rattle.hayro_ccitt.specs.Answers.{OnAnswer, IsFault, meaning_after}
-use Rattle.hayro_ccitt.specs.PlainReading.{Answer}
+use Rattle.hayro_ccitt.specs.PlainReading.{Reading}
 use Rattle.hayro_ccitt.specs.Rows.{Row, changes}
 use Rattle.faxrows.specs.declared.program.Done.TheVariants.{Good, Faulty, Memory}
 use Rattle.faxrows.specs.Runs.{OnKnown, IsFrontText, EndedByMemory, done_of}
@@ -19,12 +19,12 @@ fold_lines text [] = sym (append-nil text)
 fold_lines text (row ∷ rows) = fold_lines (text ++ line_of_row row) rows ∙ append_assoc text (line_of_row row) (lines_of_rows rows)
 
 -- What decoding says of its answer, of the rows that it took and of the sink's text, where this is the plain reading.
-pub record Decoded (answer : Answer) (outcome : Result ℕ DecodeError) (taken : ℕ) (text : List ℕ) : Type 0 where
-  pub meaning : text ≡ meaning_after (λ t row. t ++ line_of_row row) [] (take taken answer.0)
-  pub within : taken ≤ length answer.0
-  pub ok : IfOk outcome (λ n. answer.1 ≡ Ok n)
-  pub fault : IfErr outcome (λ e. IsFault e → answer.1 ≡ Err e)
-  pub all : OnAnswer outcome (taken ≡ length answer.0)
+pub record Decoded (answer : Reading) (outcome : Result ℕ DecodeError) (taken : ℕ) (text : List ℕ) : Type 0 where
+  pub meaning : text ≡ meaning_after (λ t row. t ++ line_of_row row) [] (take taken answer.rows)
+  pub within : taken ≤ length answer.rows
+  pub ok : IfOk outcome (λ n. answer.outcome ≡ Ok n)
+  pub fault : IfErr outcome (λ e. IsFault e → answer.outcome ≡ Err e)
+  pub all : OnAnswer outcome (taken ≡ length answer.rows)
 
 -- the sink's text is the lines of the rows that were taken
 sink_text : (rows : List Row) (taken : ℕ) (text : List ℕ)
@@ -32,18 +32,18 @@ sink_text : (rows : List Row) (taken : ℕ) (text : List ℕ)
 sink_text rows taken text e = e ∙ fold_lines [] (map changes (take taken rows))
 
 -- the whole text, where all rows were taken and the outcome is the plain reading's
-all_text : (answer : Answer) (outcome : Result ℕ DecodeError) (taken : ℕ) (text : List ℕ)
-    → text ≡ meaning_after (λ t row. t ++ line_of_row row) [] (take taken answer.0) → taken ≡ length answer.0 → answer.1 ≡ outcome
-    → text ++ line_of_outcome outcome ≡ text_of (map changes answer.0) answer.1
+all_text : (answer : Reading) (outcome : Result ℕ DecodeError) (taken : ℕ) (text : List ℕ)
+    → text ≡ meaning_after (λ t row. t ++ line_of_row row) [] (take taken answer.rows) → taken ≡ length answer.rows → answer.outcome ≡ outcome
+    → text ++ line_of_outcome outcome ≡ text_of (map changes answer.rows) answer.outcome
 all_text answer outcome taken text meaning all same =
-    let lines : text ≡ lines_of_rows (map changes answer.0) =
-    sink_text answer.0 taken text meaning ∙ ap (λ rows. lines_of_rows (map changes rows)) (take_all taken answer.0 (omega arith)) in
+    let lines : text ≡ lines_of_rows (map changes answer.rows) =
+    sink_text answer.rows taken text meaning ∙ ap (λ rows. lines_of_rows (map changes rows)) (take_all taken answer.rows (omega arith)) in
     rw (lines, same) refl
 
 -- a good run writes the whole text
-pub text_of_good : (answer : Answer) (outcome : Result ℕ DecodeError) (taken : ℕ) (text : List ℕ)
+pub text_of_good : (answer : Reading) (outcome : Result ℕ DecodeError) (taken : ℕ) (text : List ℕ)
     → Decoded answer outcome taken text → done_of outcome ≡ Good
-    → (text ++ line_of_outcome outcome ≡ text_of (map changes answer.0) answer.1) × IsOk answer.1
+    → (text ++ line_of_outcome outcome ≡ text_of (map changes answer.rows) answer.outcome) × IsOk answer.outcome
 text_of_good answer (Ok n) taken text d e = (all_text answer (Ok n) taken text d.meaning d.all d.ok, rw (d.ok) refl)
 text_of_good answer (Err UnexpectedEof) taken text d e = cc
 text_of_good answer (Err InvalidCode) taken text d e = cc
@@ -52,9 +52,9 @@ text_of_good answer (Err OutOfMemory) taken text d e = cc
 text_of_good answer (Err Refused) taken text d e = cc
 
 -- a faulty run writes the whole text
-pub text_of_faulty : (answer : Answer) (outcome : Result ℕ DecodeError) (taken : ℕ) (text : List ℕ)
+pub text_of_faulty : (answer : Reading) (outcome : Result ℕ DecodeError) (taken : ℕ) (text : List ℕ)
     → Decoded answer outcome taken text → done_of outcome ≡ Faulty
-    → (text ++ line_of_outcome outcome ≡ text_of (map changes answer.0) answer.1) × IsErr answer.1
+    → (text ++ line_of_outcome outcome ≡ text_of (map changes answer.rows) answer.outcome) × IsErr answer.outcome
 text_of_faulty answer (Ok n) taken text d e = cc
 text_of_faulty answer (Err UnexpectedEof) taken text d e =
     (all_text answer (Err UnexpectedEof) taken text d.meaning (d.all tt) (d.fault tt), rw (d.fault tt) refl)
@@ -66,17 +66,17 @@ text_of_faulty answer (Err OutOfMemory) taken text d e = cc
 text_of_faulty answer (Err Refused) taken text d e = cc
 
 -- the text of the first rows, and of a want of memory
-front_text : (answer : Answer) (fault : DecodeError) (taken : ℕ) (text : List ℕ) → Decoded answer (Err fault) taken text → EndedByMemory fault
-    → IsFrontText (map changes answer.0) (text ++ line_of_outcome (Err fault))
+front_text : (answer : Reading) (fault : DecodeError) (taken : ℕ) (text : List ℕ) → Decoded answer (Err fault) taken text → EndedByMemory fault
+    → IsFrontText (map changes answer.rows) (text ++ line_of_outcome (Err fault))
 front_text answer fault taken text d want =
-    let lines : text ≡ lines_of_rows (take taken (map changes answer.0)) =
-    sink_text answer.0 taken text d.meaning ∙ ap lines_of_rows (sym (take-map changes taken answer.0)) in
-    (taken, rw (length-map answer.0 changes) d.within, (fault, want, ap (λ t. t ++ line_of_outcome (Err fault)) lines))
+    let lines : text ≡ lines_of_rows (take taken (map changes answer.rows)) =
+    sink_text answer.rows taken text d.meaning ∙ ap lines_of_rows (sym (take-map changes taken answer.rows)) in
+    (taken, rw (length-map answer.rows changes) d.within, (fault, want, ap (λ t. t ++ line_of_outcome (Err fault)) lines))
 
 -- a run that memory ended writes the text of the first rows
-pub text_of_memory : (answer : Answer) (outcome : Result ℕ DecodeError) (taken : ℕ) (text : List ℕ)
+pub text_of_memory : (answer : Reading) (outcome : Result ℕ DecodeError) (taken : ℕ) (text : List ℕ)
     → Decoded answer outcome taken text → done_of outcome ≡ Memory
-    → IsFrontText (map changes answer.0) (text ++ line_of_outcome outcome)
+    → IsFrontText (map changes answer.rows) (text ++ line_of_outcome outcome)
 text_of_memory answer (Ok n) taken text d e = cc
 text_of_memory answer (Err UnexpectedEof) taken text d e = cc
 text_of_memory answer (Err InvalidCode) taken text d e = cc

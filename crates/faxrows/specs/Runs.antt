@@ -11,11 +11,11 @@ use Rattle.faxrows.specs.Text.{text_of}
 
 -- the rows of some data, as their changes
 abbrev pub rows_of : DecodeSettings → List ℕ → List (List ℕ)
-rows_of settings input = map changes (plain settings input).0
+rows_of settings input = map changes (plain settings input).rows
 
 -- how the reading of some data ends
 abbrev pub outcome_of : DecodeSettings → List ℕ → Result ℕ DecodeError
-outcome_of settings input = (plain settings input).1
+outcome_of settings input = (plain settings input).outcome
 
 -- all that is written of some data
 abbrev pub whole_text : DecodeSettings → List ℕ → List ℕ

@@ -12,14 +12,14 @@ use Rattle.hayro_ccitt.specs.Repetition.{Turn}
 use Rattle.hayro_ccitt.specs.Rows.{Row}
 use Rattle.hayro_ccitt.specs.Lines.{Line, line_2d}
 use Rattle.hayro_ccitt.specs.EndOfLine.{after_eol, one_more, eols, all_eols}
-use Rattle.hayro_ccitt.specs.PlainReading.{eols_group4, Progress, Ending, row_before, aligned, at_end, limit_met, ends_with, after_line_group4}
+use Rattle.hayro_ccitt.specs.PlainReading.{eols_group4, Progress, Ending, row_before, aligned, at_end, limit_met, ends_with, after_line_group4, Reading, nothing_read, whole_reading}
 use Rattle.hayro_ccitt.specs.PlainReading.{line_at_group4, move_group4, end_of, bytes_before, plain}
 use Rattle.hayro_ccitt.specs.Laws.{Reaches, AfterEofb}
 use Rattle.hayro_ccitt.proofs.Moves.{eols-none, next_is, not_next}
 use Rattle.hayro_ccitt.proofs.Repeated.{after_turn}
 use Rattle.hayro_ccitt.proofs.ReadRuns.{chosen}
 use Rattle.hayro_ccitt.proofs.BitLists.{length-bits_of}
-use Rattle.hayro_ccitt.proofs.ZerosInWords.{front_of_front}
+use Rattle.hayro_ccitt.proofs.ZerosInWords.{prefix_of_prefix}
 use Rattle.hayro_ccitt.proofs.Follows.{line_2d_found}
 use Rattle.hayro_ccitt.proofs.PicturesT6.{IsLineStart, mode_starts, goes, goes_is, between, move_group4_eofb, late_group4, end_of_goes, plain_ends}
 
@@ -173,12 +173,12 @@ closed_plain : (settings : DecodeSettings) (last : Progress) (w rest : Bits) →
     → ((more : Bits) → length more % 8 ≡ length rest % 8
     → goes settings late_group4 (between [] (w ++ more)) ≡ record { rows = last.rows; has_eols = last.has_eols; outcome = Ok more })
     → (bytes : List ℕ) (more : Bits) → bits_of bytes ≡ w ++ more → length more % 8 ≡ length rest % 8
-    → plain settings bytes ≡ (last.rows, Ok ((length w + 7) / 8))
+    → plain settings bytes ≡ record { rows = last.rows; outcome = Ok ((length w + 7) / 8); has_eols = last.has_eols }
 closed_plain settings last w rest four wide ends bytes more is whole =
     let end : Ending = record { rows = last.rows; has_eols = last.has_eols; outcome = Ok more } in
     let here : end_of settings (bits_of bytes) ≡ end = ap (end_of settings) is ∙ end_of_goes settings (w ++ more) four wide ∙ ends more whole in
     let n : (length (bits_of bytes) - length more + 7) / 8 ≡ (length w + 7) / 8 = omega (arith, ap length is, length-append w more) in
-    plain_ends settings bytes end more wide here refl ∙ ap (λ (k : ℕ). (last.rows, Ok k)) n
+    plain_ends settings bytes end more wide here refl ∙ ap {B = Reading} (λ (k : ℕ). record { rows = last.rows; outcome = Ok k; has_eols = last.has_eols }) n
 
 bits_cut : (bytes : List ℕ) (n : ℕ) → bits_of bytes ≡ bits_of (take n bytes) ++ bits_of (drop n bytes)
 bits_cut bytes n = ap bits_of (sym (take-append-drop n bytes)) ∙ flat_map-append bits_of_byte (take n bytes) (drop n bytes)
@@ -191,7 +191,7 @@ same_front one two count w rest is count_is same =
     let head : Bits = bits_of (take count one) in
     let within : count ≤ length one = omega (arith, count_is, len1) in
     let head_len : length head ≡ 8 * count = length-bits_of (take count one) ∙ ap (λ (k : ℕ). 8 * k) (length-take-le count one within) in
-    let front = front_of_front w rest head (bits_of (drop count one)) (sym (bits_cut one count) ∙ is) (omega (arith, head_len, count_is)) in
+    let front = prefix_of_prefix w rest head (bits_of (drop count one)) (sym (bits_cut one count) ∙ is) (omega (arith, head_len, count_is)) in
     let more : Bits = front.0 ++ bits_of (drop count two) in
     let two_is : bits_of two ≡ w ++ more
     = bits_cut two count ∙ ap (λ (x : List ℕ). bits_of x ++ bits_of (drop count two)) same ∙ ap (λ (x : Bits). x ++ bits_of (drop count two)) front.1
@@ -200,9 +200,9 @@ same_front one two count w rest is count_is same =
     (more, two_is, omega (arith, len1, len2))
 
 -- without columns nothing is read
-plain_no_columns : (settings : DecodeSettings) (bytes : List ℕ) → settings.columns ≡ 0 → plain settings bytes ≡ ([], Ok 0)
-plain_no_columns settings bytes none = cond-true (eqb settings.columns 0) ([], Ok 0)
-    ((end_of settings (bits_of bytes)).rows, bytes_before (bits_of bytes) (end_of settings (bits_of bytes)).outcome) (eq-eqb settings.columns 0 none)
+plain_no_columns : (settings : DecodeSettings) (bytes : List ℕ) → settings.columns ≡ 0 → plain settings bytes ≡ nothing_read
+plain_no_columns settings bytes none = cond-true (eqb settings.columns 0) nothing_read
+    (whole_reading (bits_of bytes) (end_of settings (bits_of bytes))) (eq-eqb settings.columns 0 none)
 
 -- the law
 pub after_eofb : AfterEofb
@@ -212,10 +212,10 @@ after_eofb settings one two count are four block comes counted same = elim (case
       let rest : Bits = (eols 2 comes.0.rest).1 in
       let closes : eols 2 comes.0.rest ≡ (2, rest) = ap (λ (n : ℕ). (n, rest)) comes.2 in
       let found = closed_found settings block wide late_group4 (between [] (bits_of one)) comes.0 rest comes.1 closes in
-      let first : plain settings one ≡ (comes.0.rows, Ok ((length found.0 + 7) / 8))
+      let first : plain settings one ≡ record { rows = comes.0.rows; outcome = Ok ((length found.0 + 7) / 8); has_eols = comes.0.has_eols }
       = closed_plain settings comes.0 found.0 rest four wide found.2 one rest found.1 refl in
       let count_is : (length found.0 + 7) / 8 ≡ count = let f : ◌≡◌ {A = Result ℕ DecodeError} (Ok ((length found.0 + 7) / 8)) (Ok count)
-      = sym (ap (λ (a : List Row × Result ℕ DecodeError). a.1) first) ∙ counted in cc in
+      = sym (ap (λ (a : Reading). a.outcome) first) ∙ counted in cc in
       let front = same_front one two count found.0 rest found.1 count_is same in
       closed_plain settings comes.0 found.0 rest four wide found.2 two front.0 front.1 front.2 ∙ sym first
 ]

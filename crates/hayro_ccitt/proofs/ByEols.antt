@@ -9,13 +9,12 @@ use Rattle.hayro_ccitt.specs.declared.error.DecodeError.TheVariants.{UnexpectedE
 use Rattle.hayro_ccitt.specs.declared.settings.EncodingMode.{EncodingMode}
 use Rattle.hayro_ccitt.specs.declared.settings.EncodingMode.TheVariants.{Group3_1D}
 use Rattle.hayro_ccitt.specs.declared.settings.DecodeSettings.{DecodeSettings}
-use Rattle.hayro_ccitt.specs.Bits.{Bits, bits_of}
+use Rattle.hayro_ccitt.specs.Bits.{Bits, bits_of, IsPrefix}
 use Rattle.hayro_ccitt.specs.Repetition.{Turn, repeated}
 use Rattle.hayro_ccitt.specs.Rows.{Row}
 use Rattle.hayro_ccitt.specs.Lines.{Line, line_1d}
 use Rattle.hayro_ccitt.specs.EndOfLine.{after_eol, one_more, all_eols}
 use Rattle.hayro_ccitt.specs.PlainReading.{Progress, Ending, Move, limit_met, at_end, ends_with, unless_over, after_row, move_group3, plain_group3, end_by}
-use Rattle.hayro_ccitt.specs.Laws.{IsFront}
 use Rattle.hayro_ccitt.specs.Locality.{begins_line, later_starts, starts, row_at, StaysBefore, IsEolAt, LinesByEols}
 use Rattle.hayro_ccitt.proofs.Repeated.{after_turn, repeated_turn, repeated_same}
 use Rattle.hayro_ccitt.proofs.Moves.{after_eol_shorter, eols_shorter, eols_some_counts, left_group3, left_group3_below, move_group3_shrinks}
@@ -109,12 +108,12 @@ module _ (settings : DecodeSettings) (encoding : settings.encoding ≡ Group3_1D
   abbrev rest_end : Progress → Ending
   rest_end run = repeated (move_group3 settings) late (suc (left_group3 run)) run
 
-  extends : (run : Progress) → IsFront run.rows (rest_end run).rows
+  extends : (run : Progress) → IsPrefix run.rows (rest_end run).rows
   extends run = repeated_adds (move_group3 settings) late left_group3 (move_group3_shrinks settings wide) (move_group3_adds settings)
       (suc (left_group3 run)) run (omega arith)
 
-  turn_extends : (rows : List Row) (m : Move) → Keeps rows m → IsFront rows (after_turn rest_end m).rows
-  turn_extends rows (Turn.next t) k = subst (λ (x : List Row). IsFront x (rest_end t).rows) k (extends t)
+  turn_extends : (rows : List Row) (m : Move) → Keeps rows m → IsPrefix rows (after_turn rest_end m).rows
+  turn_extends rows (Turn.next t) k = subst (λ (x : List Row). IsPrefix x (rest_end t).rows) k (extends t)
   turn_extends rows (Turn.done e) k = ([], k ∙ sym (append-nil rows))
 
   not_met : (n : ℕ) → limit_met settings n ≡ false
@@ -127,10 +126,10 @@ module _ (settings : DecodeSettings) (encoding : settings.encoding ≡ Group3_1D
 
   -- the rows so far, and those of the lines that begin from here on
   by_starts : (n : ℕ) (rows : List Row) (here : Bits) → length here < n → All (StaysBefore settings.columns) (here ∷ later_starts 0 here)
-      → IsFront (rows ++ map (row_at settings.columns) (here ∷ later_starts 0 here)) (rest_end (sought rows here)).rows
+      → IsPrefix (rows ++ map (row_at settings.columns) (here ∷ later_starts 0 here)) (rest_end (sought rows here)).rows
   by_starts zero rows here lt stay = absurd (omega arith)
   by_starts (suc n) rows here lt stay =
-      subst (λ (e : Ending). IsFront (rows ++ map (row_at settings.columns) (here ∷ later_starts 0 here)) e.rows)
+      subst (λ (e : Ending). IsPrefix (rows ++ map (row_at settings.columns) (here ∷ later_starts 0 here)) e.rows)
       (sym (repeated_turn (move_group3 settings) late left_group3 (move_group3_shrinks settings wide) (sought rows here)))
       (rw (move_line settings encoding lenient rows here) (by (λ rows here small stay. by_starts n rows here small stay) (past 0 here) refl))
     where
@@ -141,8 +140,8 @@ module _ (settings : DecodeSettings) (encoding : settings.encoding ≡ Group3_1D
       rest = rest_of (line_1d false settings.columns here) here
 
       by : ((rows : List Row) (here : Bits) → length here < n → All (StaysBefore settings.columns) (here ∷ later_starts 0 here)
-          → IsFront (rows ++ map (row_at settings.columns) (here ∷ later_starts 0 here)) (rest_end (sought rows here)).rows)
-          → (o : Option Bits) → past 0 here ≡ o → IsFront (rows ++ map (row_at settings.columns) (here ∷ later_starts 0 here))
+          → IsPrefix (rows ++ map (row_at settings.columns) (here ∷ later_starts 0 here)) (rest_end (sought rows here)).rows)
+          → (o : Option Bits) → past 0 here ≡ o → IsPrefix (rows ++ map (row_at settings.columns) (here ∷ later_starts 0 here))
           (after_turn rest_end (after_row settings (sought (rows ++ first ∷ []) rest))).rows
       by on None e = rw (starts-none 0 here e)
           (turn_extends (rows ++ first ∷ []) (after_row settings (sought (rows ++ first ∷ []) rest))
@@ -161,11 +160,11 @@ module _ (settings : DecodeSettings) (encoding : settings.encoding ≡ Group3_1D
               ∙ ap (λ (x : Bits). cond (at_end x) (ends_with (sought others rest) (Ok x)) (Turn.next (sought others x))) is
 
           go : (there : Bits) → (all_eols after).1 ≡ there
-              → IsFront (rows ++ map (row_at settings.columns) (here ∷ later_starts 0 here))
+              → IsPrefix (rows ++ map (row_at settings.columns) (here ∷ later_starts 0 here))
               (after_turn rest_end (after_row settings (sought others rest))).rows
           go [] is =
               let none : later_starts 0 here ≡ [] = starts-next here after e ∙ ap from_here is in
-              subst (λ (m : Move). IsFront (rows ++ map (row_at settings.columns) (here ∷ later_starts 0 here)) (after_turn rest_end m).rows) (sym (turn [] is))
+              subst (λ (m : Move). IsPrefix (rows ++ map (row_at settings.columns) (here ∷ later_starts 0 here)) (after_turn rest_end m).rows) (sym (turn [] is))
               (rw none ([], sym (append-nil others)))
           go (b ∷ there) is =
               let some : later_starts 0 here ≡ (b ∷ there) ∷ later_starts 0 (b ∷ there) = starts-next here after e ∙ ap from_here is in
@@ -177,18 +176,18 @@ module _ (settings : DecodeSettings) (encoding : settings.encoding ≡ Group3_1D
               ((b ∷ there) ∷ later_starts 0 (b ∷ there))
               = ap (λ (x : List Bits). rows ++ map (row_at settings.columns) (here ∷ x)) some
               ∙ sym (append_assoc rows (first ∷ []) (map (row_at settings.columns) ((b ∷ there) ∷ later_starts 0 (b ∷ there)))) in
-              subst (λ (m : Move). IsFront (rows ++ map (row_at settings.columns) (here ∷ later_starts 0 here)) (after_turn rest_end m).rows)
+              subst (λ (m : Move). IsPrefix (rows ++ map (row_at settings.columns) (here ∷ later_starts 0 here)) (after_turn rest_end m).rows)
               (sym (turn (b ∷ there) is))
-              (subst (λ (x : List Row). IsFront x (rest_end (sought others (b ∷ there))).rows) (sym all) further)
+              (subst (λ (x : List Row). IsPrefix x (rest_end (sought others (b ∷ there))).rows) (sym all) further)
 
   -- the whole run begins at the first of them
   by_run : (run : Progress) (here : Bits) → run ≡ sought [] here → All (StaysBefore settings.columns) (here ∷ later_starts 0 here)
-      → IsFront (map (row_at settings.columns) (here ∷ later_starts 0 here)) (repeated (move_group3 settings) late (suc (suc (length run.rest))) run).rows
+      → IsPrefix (map (row_at settings.columns) (here ∷ later_starts 0 here)) (repeated (move_group3 settings) late (suc (suc (length run.rest))) run).rows
   by_run run here is stay =
-      subst (λ (e : Ending). IsFront (map (row_at settings.columns) (here ∷ later_starts 0 here)) e.rows)
+      subst (λ (e : Ending). IsPrefix (map (row_at settings.columns) (here ∷ later_starts 0 here)) e.rows)
       (repeated_same (move_group3 settings) late left_group3 (move_group3_shrinks settings wide) (suc (left_group3 run))
       (suc (suc (length run.rest))) run (omega arith) (left_group3_below run))
-      (subst (λ (r : Progress). IsFront (map (row_at settings.columns) (here ∷ later_starts 0 here)) (rest_end r).rows) (sym is)
+      (subst (λ (r : Progress). IsPrefix (map (row_at settings.columns) (here ∷ later_starts 0 here)) (rest_end r).rows) (sym is)
       (by_starts (suc (length here)) [] here (omega arith) stay))
 
 -- EOLs are sought from the start
@@ -204,8 +203,8 @@ lines_by_eols settings bytes are encoding lenient no_block unlimited wide sought
     let first : Progress = record { rows = []; has_eols = ltb 0 (all_eols bits).0 || settings.end_of_line; rest = (all_eols bits).1 } in
     let first_is : first ≡ sought [] (all_eols bits).1
     = ap (λ (b : Bool). record { rows = []; has_eols = b; rest = (all_eols bits).1 }) (seeks bits settings.end_of_line sought_by) in
-    let ends : IsFront (map (row_at settings.columns) (starts bits)) (plain_group3 settings bits).rows
+    let ends : IsPrefix (map (row_at settings.columns) (starts bits)) (plain_group3 settings bits).rows
     = by_run settings encoding lenient no_block unlimited wide
     (record { rows = []; has_eols = ltb 0 (all_eols bits).0 || settings.end_of_line; outcome = Err UnexpectedEof }) first (all_eols bits).1 first_is stay in
     let whole : end_by settings.encoding settings bits ≡ plain_group3 settings bits = ap (λ (e : EncodingMode). end_by e settings bits) encoding in
-    rw columns (subst (λ (e : Ending). IsFront (map (row_at settings.columns) (starts bits)) e.rows) (sym whole) ends)
+    rw columns (subst (λ (e : Ending). IsPrefix (map (row_at settings.columns) (starts bits)) e.rows) (sym whole) ends)

@@ -4,8 +4,7 @@ use Rattle.std.proofs.lemmas.Bool.{or_parts, or_cases, false≢true}
 use Rattle.hayro_ccitt.specs.declared.error.DecodeError.TheVariants.{UnexpectedEof, InvalidCode}
 use Rattle.hayro_ccitt.specs.Bits.{Bits}
 use Rattle.hayro_ccitt.specs.CodeLists.{Code}
-use Rattle.hayro_ccitt.specs.CodeReading.{after, is_front, word_at, is_cut, Has, read_code, is_prefix_free}
-use Rattle.hayro_ccitt.specs.Laws.{Stands, NoneStands, IsCut, ReadsCodes}
+use Rattle.hayro_ccitt.specs.CodeReading.{after, is_prefix, word_at, is_cut, Has, read_code, is_prefix_free, Stands, NoneStands, IsCut, ReadsCodes}
 use Rattle.hayro_ccitt.proofs.ReadCodes.{after_is, after_at, word_at_again, read_code_again, cases_reading, read_code_found}
 
 -- where no word is found, none stands
@@ -15,7 +14,7 @@ none_stands list here free e v rest (w, has, h) =
 
 cut_is : {V : Type 0} (list : List (Code V)) (here : Bits) → is_cut list here ≡ true → IsCut list here
 cut_is [] here e = absurd (false≢true e)
-cut_is {V} (c ∷ list) here e = elim (or_cases (is_front here c.word) (is_cut list here) e) [
+cut_is {V} (c ∷ list) here e = elim (or_cases (is_prefix here c.word) (is_cut list here) e) [
   | inl f ↦ let by : (o : Option Bits) → after here c.word ≡ o → IsCut (c ∷ list) here
       = λ o. elim o as (λ (o : Option Bits). after here c.word ≡ o → IsCut (c ∷ list) here) [
         | None ↦ λ a. absurd (false≢true (rw a at f))
@@ -28,11 +27,11 @@ cut_is {V} (c ∷ list) here e = elim (or_cases (is_front here c.word) (is_cut l
 is_not_cut : {V : Type 0} (list : List (Code V)) (here : Bits) → is_cut list here ≡ false → (v : V) (w more : Bits) → Has list v w → w ≡ here ++ more → ⊥
 is_not_cut [] here e v w more i h = elim i [ ]
 is_not_cut (c ∷ list) here e v w more (inl i) h =
-    let f = (or_parts (is_front here c.word) (is_cut list here) e).0 in
+    let f = (or_parts (is_prefix here c.word) (is_cut list here) e).0 in
     let w_is : c.word ≡ here ++ more = i.1 ∙ h in
-    false≢true (sym f ∙ rw (w_is, after_at here more, is_front) refl)
+    false≢true (sym f ∙ rw (w_is, after_at here more, is_prefix) refl)
 is_not_cut (c ∷ list) here e v w more (inr i) h =
-    is_not_cut list here (or_parts (is_front here c.word) (is_cut list here) e).1 v w more i h
+    is_not_cut list here (or_parts (is_prefix here c.word) (is_cut list here) e).1 v w more i h
 
 -- what a word that stands here gives
 found_again : {V : Type 0} (list : List (Code V)) (here : Bits) (v : V) (rest : Bits) → is_prefix_free list ≡ true → Stands list here v rest → read_code list here ≡ Ok (v, rest)

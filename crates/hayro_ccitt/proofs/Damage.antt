@@ -14,7 +14,7 @@ use Rattle.hayro_ccitt.specs.Bits.{Bits, bits_of}
 use Rattle.hayro_ccitt.specs.Repetition.{repeated}
 use Rattle.hayro_ccitt.specs.Rows.{Row}
 use Rattle.hayro_ccitt.specs.EndOfLine.{after_eol, all_eols}
-use Rattle.hayro_ccitt.specs.PlainReading.{Progress, Ending, move_group3, plain_group3, end_by, end_of, bytes_before, plain, Answer}
+use Rattle.hayro_ccitt.specs.PlainReading.{Progress, Ending, move_group3, plain_group3, end_by, end_of, bytes_before, plain, Reading, nothing_read, whole_reading}
 use Rattle.hayro_ccitt.specs.Locality.{IsEol, EndAlike, OneRowDiffers, Locality}
 use Rattle.hayro_ccitt.proofs.Repeated.{repeated_follows}
 use Rattle.hayro_ccitt.proofs.BitLists.{length-bits_of}
@@ -49,27 +49,23 @@ module _ (settings : DecodeSettings) (wide : 0 < settings.columns) (one two : Li
   abbrev end_two : Ending
   end_two = end_of settings (bits_of two)
 
-  plain_is : (bytes : List ℕ) → plain settings bytes ≡ (
-    (end_of settings (bits_of bytes)).rows,
-    bytes_before (bits_of bytes)
-        (end_of settings (bits_of bytes)).outcome,
-  )
+  plain_is : (bytes : List ℕ) → plain settings bytes ≡ whole_reading (bits_of bytes) (end_of settings (bits_of bytes))
   plain_is bytes = cond-false (eqb settings.columns 0) _ _ (ne_eqb settings.columns 0 (λ e. absurd (omega (arith, e, wide))))
 
-  rows_of : (bytes : List ℕ) → (plain settings bytes).0 ≡ (end_of settings (bits_of bytes)).rows
-  rows_of bytes = ap (λ (a : Answer). a.0) (plain_is bytes)
+  rows_of : (bytes : List ℕ) → (plain settings bytes).rows ≡ (end_of settings (bits_of bytes)).rows
+  rows_of bytes = ap (λ (a : Reading). a.rows) (plain_is bytes)
 
   outcome_of : (bytes : List ℕ) (r : Result Bits DecodeError) → (end_of settings (bits_of bytes)).outcome ≡ r
-      → (plain settings bytes).1 ≡ bytes_before (bits_of bytes) r
-  outcome_of bytes r e = ap (λ (a : Answer). a.1) (plain_is bytes) ∙ ap (bytes_before (bits_of bytes)) e
+      → (plain settings bytes).outcome ≡ bytes_before (bits_of bytes) r
+  outcome_of bytes r e = ap (λ (a : Reading). a.outcome) (plain_is bytes) ∙ ap (bytes_before (bits_of bytes)) e
 
   counted : (bytes : List ℕ) (rest : Bits) (place : ℕ) → (end_of settings (bits_of bytes)).outcome ≡ Ok rest
-      → place + length rest ≡ length (bits_of bytes) → (plain settings bytes).1 ≡ Ok ((place + 7) / 8)
+      → place + length rest ≡ length (bits_of bytes) → (plain settings bytes).outcome ≡ Ok ((place + 7) / 8)
   counted bytes rest place e f = outcome_of bytes (Ok rest) e ∙ count_at (bits_of bytes) rest place f
 
   -- what the law says of both answers
   abbrev Differ : Type 0
-  Differ = (index : ℕ) × OneRowDiffers (plain settings one).0 (plain settings two).0 index × EndAlike settings one two from index
+  Differ = (index : ℕ) × OneRowDiffers (plain settings one).rows (plain settings two).rows index × EndAlike settings one two from index
 
   differ : (r : RowsAlike end_one.rows end_two.rows) → EndAlike settings one two from (rows_differ end_one.rows end_two.rows r).0 → Differ
   differ r alike =
@@ -218,7 +214,7 @@ module _ (settings : DecodeSettings) (one two : Bits) (from : ℕ) (after : Bits
 pub locality : Locality
 locality settings one two from to to2 are same_front same_rest local_one local_two sought_by = by (cases_eq settings.columns 0)
   where
-    no_columns : settings.columns ≡ 0 → (bytes : List ℕ) → plain settings bytes ≡ ([], Ok 0)
+    no_columns : settings.columns ≡ 0 → (bytes : List ℕ) → plain settings bytes ≡ nothing_read
     no_columns e bytes = cond-true (eqb settings.columns 0) _ _ (eq-eqb settings.columns 0 e)
 
     same_after : local_two.closes.0 ≡ local_one.closes.0
@@ -233,17 +229,17 @@ locality settings one two from to to2 are same_front same_rest local_one local_t
     tail_two : IsTail settings.columns local_one.closes.0 (drop from (bits_of two))
     tail_two = subst (λ (a : Bits). IsTail settings.columns a (drop from (bits_of two))) same_after (is_tail settings (bits_of two) from to2 local_two)
 
-    by : (settings.columns ≡ 0) ⊎ (settings.columns ≡ 0 → ⊥) → (index : ℕ) × OneRowDiffers (plain settings one).0 (plain settings two).0 index
+    by : (settings.columns ≡ 0) ⊎ (settings.columns ≡ 0 → ⊥) → (index : ℕ) × OneRowDiffers (plain settings one).rows (plain settings two).rows index
         × EndAlike settings one two from index
     by (inl e) = (
       0,
       (
         [],
-        ap (λ (a : Answer). a.0) (no_columns e two)
-            ∙ sym (ap (λ (a : Answer). set a.0 0 []) (no_columns e one)),
+        ap (λ (a : Reading). a.rows) (no_columns e two)
+            ∙ sym (ap (λ (a : Reading). set a.rows 0 []) (no_columns e one)),
       ),
-      EndAlike.no_columns 0 e (ap (λ (a : Answer). a.1) (no_columns e one))
-          (ap (λ (a : Answer). a.1) (no_columns e two)),
+      EndAlike.no_columns 0 e (ap (λ (a : Reading). a.outcome) (no_columns e one))
+          (ap (λ (a : Reading). a.outcome) (no_columns e two)),
     )
     by (inr e) =
         let wide : 0 < settings.columns = elim (cases_lt 0 settings.columns) [ inl lt ↦ lt | inr ge ↦ absurd (e (omega arith)) ] in

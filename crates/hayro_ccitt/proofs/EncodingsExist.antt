@@ -14,11 +14,13 @@ use Rattle.hayro_ccitt.specs.CodeLists.{Code}
 use Rattle.hayro_ccitt.specs.CodeReading.{Has}
 use Rattle.hayro_ccitt.specs.Rows.{Row, is_black, opposite, a1, a2}
 use Rattle.hayro_ccitt.specs.Runs.{codes_of}
-use Rattle.hayro_ccitt.specs.Encodings.{Spells, EncodesLine1D, EncodesLine2D, Kind, EncodesLine, padding, EncodesRows, eol}
+use Rattle.hayro_ccitt.specs.Encodings.{Spells, EncodesLine1D, EncodesLine2D, EncodesLine, padding, EncodesRows, eol}
 use Rattle.hayro_ccitt.specs.Encodings.{EncodesRowsWithEols, tag_of, ClosesWithEols}
 use Rattle.hayro_ccitt.specs.Laws.{EveryPictureHasAnEncoding, BytesBeginWithAnyBits}
 use Rattle.hayro_ccitt.proofs.ReadRuns.{chosen}
 use Rattle.hayro_ccitt.proofs.Places.{a1_next, a2_next, a2_least}
+use Rattle.hayro_ccitt.specs.declared.settings.EncodingMode.TheVariants.{Group4, Group3_1D, Group3_2D}
+use Rattle.hayro_ccitt.specs.declared.settings.EncodingMode.{EncodingMode}
 
 -- ---- Runs.
 -- the word of a list for a length
@@ -125,45 +127,45 @@ line_2d_exists (suc turns) reference row from color le enough = elim (cases_lt (
 white_line_exists : (row : Row) → 0 < length row → (bits : Bits) × EncodesLine1D White row bits
 white_line_exists row some = line_1d_exists White 0 row (omega arith)
 
-line_exists : (kind : Kind) (reference row : Row) → 0 < length row → (bits : Bits) × EncodesLine kind reference row bits
-line_exists Kind.group4 reference row some = line_2d_exists (suc (length row)) reference row 0 White (omega arith) (omega arith)
-line_exists Kind.group3_1d reference row some = white_line_exists row some
-line_exists Kind.group3_2d reference row some = let line = white_line_exists row some in (true ∷ line.0, (line.0, inl (refl, line.1)))
+line_exists : (encoding : EncodingMode) (reference row : Row) → 0 < length row → (bits : Bits) × EncodesLine encoding reference row bits
+line_exists Group4 reference row some = line_2d_exists (suc (length row)) reference row 0 White (omega arith) (omega arith)
+line_exists Group3_1D reference row some = white_line_exists row some
+line_exists Group3_2D reference row some = let line = white_line_exists row some in (true ∷ line.0, (line.0, inl (refl, line.1)))
 
 -- ---- Pictures.
 module _ (columns : ℕ) (wide : 0 < columns) where
-  rows_exist : (kind : Kind) (aligned : Bool) (reference : Row) (rows : List Row) → All (λ row. length row ≡ columns) rows → (bits : Bits)
-      × EncodesRows kind aligned reference rows bits
-  rows_exist kind aligned reference [] widths = ([], refl)
-  rows_exist kind aligned reference (row ∷ rows) widths =
+  rows_exist : (encoding : EncodingMode) (aligned : Bool) (reference : Row) (rows : List Row) → All (λ row. length row ≡ columns) rows → (bits : Bits)
+      × EncodesRows encoding aligned reference rows bits
+  rows_exist encoding aligned reference [] widths = ([], refl)
+  rows_exist encoding aligned reference (row ∷ rows) widths =
       let width : length row ≡ columns = All-head (λ row. length row ≡ columns) row rows widths in
-      let line = line_exists kind reference row (omega arith) in
-      let next = rows_exist kind aligned row rows (All-tail (λ row. length row ≡ columns) row rows widths) in
+      let line = line_exists encoding reference row (omega arith) in
+      let next = rows_exist encoding aligned row rows (All-tail (λ row. length row ≡ columns) row rows widths) in
       (line.0 ++ (cond aligned (padding (length line.0)) []) ++ next.0, (line.0, next.0, line.1, next.1, refl))
 
-  lines_exist : (kind : Kind) (reference : Row) (rows : List Row) → All (λ row. length row ≡ columns) rows → (bits : Bits)
-      × EncodesRowsWithEols kind reference rows bits
-  lines_exist kind reference [] widths = ([], refl)
-  lines_exist kind reference (row ∷ rows) widths =
+  lines_exist : (encoding : EncodingMode) (reference : Row) (rows : List Row) → All (λ row. length row ≡ columns) rows → (bits : Bits)
+      × EncodesRowsWithEols encoding reference rows bits
+  lines_exist encoding reference [] widths = ([], refl)
+  lines_exist encoding reference (row ∷ rows) widths =
       let width : length row ≡ columns = All-head (λ row. length row ≡ columns) row rows widths in
-      let line = line_exists kind reference row (omega arith) in
-      let next = lines_exist kind row rows (All-tail (λ row. length row ≡ columns) row rows widths) in
+      let line = line_exists encoding reference row (omega arith) in
+      let next = lines_exist encoding row rows (All-tail (λ row. length row ≡ columns) row rows widths) in
       (eol 0 ++ line.0 ++ next.0, (0, line.0, next.0, line.1, next.1, refl))
 
-closing_exists : (kind : Kind) (n : ℕ) → (bits : Bits) × ClosesWithEols kind n bits
-closing_exists kind zero = ([], refl)
-closing_exists kind (suc n) = let next = closing_exists kind n in (eol 0 ++ tag_of kind ++ next.0, (0, next.0, next.1, refl))
+closing_exists : (encoding : EncodingMode) (n : ℕ) → (bits : Bits) × ClosesWithEols encoding n bits
+closing_exists encoding zero = ([], refl)
+closing_exists encoding (suc n) = let next = closing_exists encoding n in (eol 0 ++ tag_of encoding ++ next.0, (0, next.0, next.1, refl))
 
 -- the law
 pub every_picture_has_an_encoding : EveryPictureHasAnEncoding
 every_picture_has_an_encoding columns rows is = (
-  λ aligned. let body = rows_exist columns is.0 Kind.group4 aligned (replicate columns false) rows is.1 in
+  λ aligned. let body = rows_exist columns is.0 Group4 aligned (replicate columns false) rows is.1 in
       (body.0 ++ eol 0 ++ eol 0, (body.0, is, body.1, refl)),
-  λ kind some.
-      let lines = lines_exist columns is.0 kind (replicate columns false) rows is.1 in
-      let closing = closing_exists kind 6 in
+  λ encoding some.
+      let lines = lines_exist columns is.0 encoding (replicate columns false) rows is.1 in
+      let closing = closing_exists encoding 6 in
       (lines.0 ++ closing.0, (lines.0, closing.0, some, is, lines.1, closing.1, refl)),
-  λ kind aligned. rows_exist columns is.0 kind aligned (replicate columns false) rows is.1,
+  λ encoding aligned. rows_exist columns is.0 encoding aligned (replicate columns false) rows is.1,
 )
 
 -- ---- Bytes.

@@ -15,7 +15,7 @@ use Rattle.hayro_ccitt.specs.Lines.{Line, Pen, Step, try, start, step_1d, line_1
 use Rattle.hayro_ccitt.proofs.Repeated.{Follows, repeated_follows}
 use Rattle.hayro_ccitt.proofs.ReadCodes.{read_code_found, read_code_again}
 use Rattle.hayro_ccitt.proofs.ReadRuns.{run_shrinks, size}
-use Rattle.hayro_ccitt.proofs.ZerosInWords.{scan, is_quiet, scan_below, scan-append, quiet_is, word_quiet, front_of_front, codes_free}
+use Rattle.hayro_ccitt.proofs.ZerosInWords.{scan, is_quiet, scan_below, scan-append, quiet_is, word_quiet, prefix_of_prefix, codes_free}
 use Rattle.hayro_ccitt.proofs.ReadLines.{left, step_1d_shrinks}
 
 scan_stays : (n : ℕ) (a b : Bits) → scan n a ≡ None → scan n (a ++ b) ≡ None
@@ -50,11 +50,11 @@ word_inside bits x word rest inside quiet e =
     let q = quiet_is (scan 3 word) quiet in
     elim (cases_lt (length bits) (length word)) [
       | inl lt ↦ absurd (
-          let f = front_of_front bits x word rest (sym e) (omega arith) in
+          let f = prefix_of_prefix bits x word rest (sym e) (omega arith) in
           let none : scan 3 word ≡ None = ap (scan 3) f.1 ∙ scan_stays 3 bits f.0 inside.holds in
           let g = q.1 in cc)
       | inr ge ↦
-          let f = front_of_front word rest bits x e ge in
+          let f = prefix_of_prefix word rest bits x e ge in
           let none : scan q.0 f.0 ≡ None = sym (scan-append 3 q.0 word f.0 q.1) ∙ ap (scan 3) (sym f.1) ∙ inside.holds in
           let after : word ++ (f.0 ++ x) ≡ word ++ rest = sym (append_assoc word f.0 x) ∙ ap (λ (b : Bits). b ++ x) (sym f.1) ∙ e in (
             f.0,

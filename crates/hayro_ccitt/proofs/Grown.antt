@@ -4,7 +4,7 @@ use Rattle.std.proofs.Common.{Some, None, Ok, Err, refl, sym, ap, subst, ◌∙�
 use Rattle.std.proofs.lemmas.List.{append-nil}
 use Rattle.hayro_ccitt.specs.declared.error.DecodeError.TheVariants.{InvalidCode}
 use Rattle.hayro_ccitt.specs.declared.settings.DecodeSettings.{DecodeSettings}
-use Rattle.hayro_ccitt.specs.Bits.{Bits}
+use Rattle.hayro_ccitt.specs.Bits.{Bits, IsPrefix}
 use Rattle.hayro_ccitt.specs.Repetition.{Turn, repeated}
 use Rattle.hayro_ccitt.specs.Rows.{Row}
 use Rattle.hayro_ccitt.specs.Lines.{Line, line_2d}
@@ -12,7 +12,6 @@ use Rattle.hayro_ccitt.specs.EndOfLine.{eols, all_eols, next_eol}
 use Rattle.hayro_ccitt.specs.PlainReading.{Progress, Ending, Move, row_before, aligned, ends_with, after_line_group4, line_at_group4, move_group4}
 use Rattle.hayro_ccitt.specs.PlainReading.{limit_met, at_end, eols_group3, line_at_group3, unless_over, seek_from, seek_eol, after_row, add_row}
 use Rattle.hayro_ccitt.specs.PlainReading.{after_line_group3, move_group3}
-use Rattle.hayro_ccitt.specs.Laws.{IsFront}
 use Rattle.hayro_ccitt.proofs.Repeated.{Shrinks, repeated_induct}
 
 -- a turn that leaves the rows as they are
@@ -46,8 +45,8 @@ after_row_keeps settings run =
 
 -- a turn that adds rows, or none
 abbrev pub Adds : List Row → Move → Type 0
-Adds rows (Turn.next t) = IsFront rows t.rows
-Adds rows (Turn.done e) = IsFront rows e.rows
+Adds rows (Turn.next t) = IsPrefix rows t.rows
+Adds rows (Turn.done e) = IsPrefix rows e.rows
 
 adds_cond : (rows : List Row) (b : Bool) (x y : Move) → Adds rows x → Adds rows y → Adds rows (cond b x y)
 adds_cond rows true x y p q = p
@@ -87,12 +86,12 @@ pub move_group4_adds : (settings : DecodeSettings) (run : Progress) → Adds run
 move_group4_adds settings run = line_at_group4_adds settings run (cond settings.end_of_block (eols 2 run.rest) (all_eols run.rest))
 
 -- a front of a front is a front
-pub front_trans : {A : Type 0} (a b c : List A) → IsFront a b → IsFront b c → IsFront a c
-front_trans a b c f g = (f.0 ++ g.0, g.1 ∙ ap (λ (x : List _). x ++ g.0) f.1 ∙ append_assoc a f.0 g.0)
+pub prefix_trans : {A : Type 0} (a b c : List A) → IsPrefix a b → IsPrefix b c → IsPrefix a c
+prefix_trans a b c f g = (f.0 ++ g.0, g.1 ∙ ap (λ (x : List _). x ++ g.0) f.1 ∙ append_assoc a f.0 g.0)
 
 -- the rows of a state are a front of the answer's
 pub repeated_adds : (move : Progress → Move) (late : Ending) (size : Progress → ℕ) → Shrinks move size → ((run : Progress) → Adds run.rows (move run))
-    → (n : ℕ) (run : Progress) → size run < n → IsFront run.rows (repeated move late n run).rows
+    → (n : ℕ) (run : Progress) → size run < n → IsPrefix run.rows (repeated move late n run).rows
 repeated_adds move late size shrinks adds n run lt =
-    repeated_induct move late size shrinks (λ run end. IsFront run.rows end.rows) (λ run end e. subst (Adds run.rows) e (adds run))
-    (λ run t end e more. front_trans run.rows t.rows end.rows (subst (Adds run.rows) e (adds run)) more) n run lt
+    repeated_induct move late size shrinks (λ run end. IsPrefix run.rows end.rows) (λ run end e. subst (Adds run.rows) e (adds run))
+    (λ run t end e more. prefix_trans run.rows t.rows end.rows (subst (Adds run.rows) e (adds run)) more) n run lt

@@ -10,7 +10,7 @@ use Rattle.hayro_ccitt.specs.declared.error.DecodeError.TheVariants.{UnexpectedE
 use Rattle.hayro_ccitt.specs.declared.settings.DecodeSettings.{DecodeSettings}
 use Rattle.hayro_ccitt.specs.declared.settings.EncodingMode.{EncodingMode}
 use Rattle.hayro_ccitt.specs.declared.settings.EncodingMode.TheVariants.{Group4, Group3_1D, Group3_2D}
-use Rattle.hayro_ccitt.specs.Bits.{Bits, bits_of}
+use Rattle.hayro_ccitt.specs.Bits.{Bits, bits_of, IsPrefix}
 use Rattle.hayro_ccitt.specs.Repetition.{Turn, repeated}
 use Rattle.hayro_ccitt.specs.Rows.{Row}
 use Rattle.hayro_ccitt.specs.Lines.{Line, line_2d}
@@ -18,10 +18,10 @@ use Rattle.hayro_ccitt.specs.EndOfLine.{eols, all_eols, next_eol}
 use Rattle.hayro_ccitt.specs.PlainReading.{Progress, Ending, Move, row_before, aligned, ends_with, after_line_group4, line_at_group4, move_group4}
 use Rattle.hayro_ccitt.specs.PlainReading.{limit_met, at_end, plain_group3, plain_group4, end_by, bytes_before, eols_group3, line_at_group3}
 use Rattle.hayro_ccitt.specs.PlainReading.{unless_over, seek_from, after_row, after_line_group3, move_group3}
-use Rattle.hayro_ccitt.specs.Laws.{IsFront, RowLimit}
+use Rattle.hayro_ccitt.specs.Laws.{RowLimit}
 use Rattle.hayro_ccitt.proofs.Repeated.{Follows, after_turn, repeated_follows}
 use Rattle.hayro_ccitt.proofs.Moves.{left, move_group4_shrinks, left_group3, left_group3_below, move_group3_shrinks}
-use Rattle.hayro_ccitt.proofs.Grown.{Adds, move_group4_adds, Keeps, after_row_keeps, move_group3_adds, repeated_adds, front_trans}
+use Rattle.hayro_ccitt.proofs.Grown.{Adds, move_group4_adds, Keeps, after_row_keeps, move_group3_adds, repeated_adds, prefix_trans}
 
 module _ (settings : DecodeSettings) (limit : ℕ) (some : 0 < limit) (wide : 0 < settings.columns) where
   -- the settings with the limit, and without one
@@ -44,7 +44,7 @@ module _ (settings : DecodeSettings) (limit : ℕ) (some : 0 < limit) (wide : 0 
   abbrev SameGroup4 : Progress → Progress → Type 0
   SameGroup4 s t = (s ≡ t) × (length s.rows ≤ limit)
 
-  cut_rows : (rows more : List Row) → length rows ≡ limit → IsFront rows more → rows ≡ take limit more
+  cut_rows : (rows more : List Row) → length rows ≡ limit → IsPrefix rows more → rows ≡ take limit more
   cut_rows rows more full front = sym (ap (take limit) front.1 ∙ ap (λ (n : ℕ). take n (rows ++ front.0)) (sym full)
       ∙ take-append-le (length rows) rows front.0 (omega arith) ∙ take_all (length rows) rows (omega arith))
 
@@ -55,9 +55,9 @@ module _ (settings : DecodeSettings) (limit : ℕ) (some : 0 < limit) (wide : 0 
   is_open : (n : ℕ) → n < limit → limit_met limited n ≡ false
   is_open n lt = and_right (not (eqb limit 0)) (eqb limit n) (ne_eqb limit n (λ e. absurd (omega (arith, e, lt))))
 
-  module _ (rest : Progress → Ending) (extends : (t : Progress) → IsFront t.rows (rest t).rows) where
-    turn_extends : (rows : List Row) (m : Move) → Keeps rows m → IsFront rows (after_turn rest m).rows
-    turn_extends rows (Turn.next t) k = subst (λ (x : List Row). IsFront x (rest t).rows) k (extends t)
+  module _ (rest : Progress → Ending) (extends : (t : Progress) → IsPrefix t.rows (rest t).rows) where
+    turn_extends : (rows : List Row) (m : Move) → Keeps rows m → IsPrefix rows (after_turn rest m).rows
+    turn_extends rows (Turn.next t) k = subst (λ (x : List Row). IsPrefix x (rest t).rows) k (extends t)
     turn_extends rows (Turn.done e) k = ([], k ∙ sym (append-nil rows))
 
     short : (e : Ending) → length e.rows < limit → Cut e e
@@ -140,8 +140,8 @@ module _ (settings : DecodeSettings) (limit : ℕ) (some : 0 < limit) (wide : 0 
     after_line_group4_follows run (Line.whole row here) lt = (refl, one_longer run.rows row lt)
     after_line_group4_follows run (Line.broken front fault) lt = short (record { rows = run.rows; has_eols = run.has_eols; outcome = Err fault }) lt
 
-    turn_group4_extends : (rows : List Row) (m : Move) → Adds rows m → IsFront rows (after_turn rest m).rows
-    turn_group4_extends rows (Turn.next t) k = front_trans rows t.rows (rest t).rows k (extends t)
+    turn_group4_extends : (rows : List Row) (m : Move) → Adds rows m → IsPrefix rows (after_turn rest m).rows
+    turn_group4_extends rows (Turn.next t) k = prefix_trans rows t.rows (rest t).rows k (extends t)
     turn_group4_extends rows (Turn.done e) k = k
 
     line_at_group4_follows : (run : Progress) (found : ℕ × Bits) → length run.rows ≤ limit → Adds run.rows (line_at_group4 unlimited run found)

@@ -11,7 +11,7 @@ use Rattle.hayro_ccitt.specs.declared.codes.Color.TheVariants.{White, Black}
 use Rattle.hayro_ccitt.specs.declared.error.DecodeError.{DecodeError}
 use Rattle.hayro_ccitt.specs.declared.error.DecodeError.TheVariants.{UnexpectedEof}
 use Rattle.hayro_ccitt.specs.declared.settings.EncodingMode.{EncodingMode}
-use Rattle.hayro_ccitt.specs.declared.settings.EncodingMode.TheVariants.{Group3_1D, Group3_2D}
+use Rattle.hayro_ccitt.specs.declared.settings.EncodingMode.TheVariants.{Group3_1D, Group3_2D, Group4}
 use Rattle.hayro_ccitt.specs.declared.settings.DecodeSettings.{DecodeSettings}
 use Rattle.hayro_ccitt.specs.Bits.{Bits}
 use Rattle.hayro_ccitt.specs.CodeLists.{mode_codes}
@@ -20,10 +20,10 @@ use Rattle.hayro_ccitt.specs.Rows.{Row}
 use Rattle.hayro_ccitt.specs.Runs.{codes_of}
 use Rattle.hayro_ccitt.specs.Lines.{Line, line_1d, line_2d}
 use Rattle.hayro_ccitt.specs.EndOfLine.{after_eol, one_more, eols, all_eols, after_tag, tagged_eols_from, pass_last_tag, tagged_eols}
-use Rattle.hayro_ccitt.specs.PlainReading.{end_by, Progress, Ending, row_before, aligned, at_end, limit_met, ends_with, line_at_group3, eols_group3}
+use Rattle.hayro_ccitt.specs.PlainReading.{end_by, Progress, Ending, row_before, aligned, at_end, limit_met, ends_with, line_at_group3, eols_group3, Reading}
 use Rattle.hayro_ccitt.specs.PlainReading.{unless_over, after_row, seek_eol, after_line_group3, move_group3, ending_from, plain_group3}
 use Rattle.hayro_ccitt.specs.PlainReading.{end_of}
-use Rattle.hayro_ccitt.specs.Encodings.{Spells, EncodesLine1D, EncodesLine2D, Kind, EncodesLine, eol, tag_of, IsPicture, EncodesRowsWithEols}
+use Rattle.hayro_ccitt.specs.Encodings.{Spells, EncodesLine1D, EncodesLine2D, EncodesLine, eol, tag_of, IsPicture, EncodesRowsWithEols}
 use Rattle.hayro_ccitt.specs.Encodings.{ClosesWithEols, PictureT4}
 use Rattle.hayro_ccitt.specs.Laws.{each_word, Allows, Matches, ReadsPictureT4, ReadsLimitedPictureT4, OnePictureT4}
 use Rattle.hayro_ccitt.proofs.Moves.{eols-none, one_more-count, eol_of}
@@ -127,7 +127,7 @@ tagged_line settings reference true here e = rw (e, line_at_group3) refl
 tagged_line settings reference false here e = rw (e, line_at_group3) refl
 
 -- ---- The EOLs that close a picture.
-eols_closing : (n most : ℕ) (closing more : Bits) → ClosesWithEols Kind.group3_1d n closing → n ≤ most → n ≤ (eols most (closing ++ more)).0
+eols_closing : (n most : ℕ) (closing more : Bits) → ClosesWithEols Group3_1D n closing → n ≤ most → n ≤ (eols most (closing ++ more)).0
 eols_closing zero most closing more is le = omega arith
 eols_closing (suc n) zero closing more is le = absurd (omega arith)
 eols_closing (suc n) (suc most) closing more (fill, next, then, is) le =
@@ -138,13 +138,13 @@ eols_closing (suc n) (suc most) closing more (fill, next, then, is) le =
     ∙ ap (λ (f : ℕ × Bits). f.0) (eols_more most fill (next ++ more)) ∙ one_more-count (eols most (next ++ more)) in
     omega (arith, found, on)
 
-length-closing : (kind : Kind) (n : ℕ) (closing more : Bits) → ClosesWithEols kind n closing → n ≤ length (closing ++ more)
-length-closing kind zero closing more is = omega arith
-length-closing kind (suc n) closing more (fill, next, then, is) =
-    let on = length-closing kind n next more then in
-    let here : closing ++ more ≡ eol fill ++ (tag_of kind ++ (next ++ more)) = ap (λ (x : Bits). x ++ more) is
-    ∙ append_assoc (eol fill ++ tag_of kind) next more ∙ append_assoc (eol fill) (tag_of kind) (next ++ more) in
-    omega (arith, on, ap length here, length-eol fill (tag_of kind ++ (next ++ more)), length-append (tag_of kind) (next ++ more))
+length-closing : (encoding : EncodingMode) (n : ℕ) (closing more : Bits) → ClosesWithEols encoding n closing → n ≤ length (closing ++ more)
+length-closing encoding zero closing more is = omega arith
+length-closing encoding (suc n) closing more (fill, next, then, is) =
+    let on = length-closing encoding n next more then in
+    let here : closing ++ more ≡ eol fill ++ (tag_of encoding ++ (next ++ more)) = ap (λ (x : Bits). x ++ more) is
+    ∙ append_assoc (eol fill ++ tag_of encoding) next more ∙ append_assoc (eol fill) (tag_of encoding) (next ++ more) in
+    omega (arith, on, ap length here, length-eol fill (tag_of encoding ++ (next ++ more)), length-append (tag_of encoding) (next ++ more))
 
 -- counting goes on from what was counted
 tagged_eols_rises : (turns count : ℕ) (here : Bits) → count ≤ (tagged_eols_from turns (count, here)).0
@@ -160,7 +160,7 @@ tagged_eols_rises (suc turns) count here =
 tag_one : (fill : ℕ) (more : Bits) → after_tag (true ∷ (eol fill ++ more)) ≡ Some (eol fill ++ more)
 tag_one fill more = rw (eol_stands fill more, after_tag) refl
 
-tagged_eols_closing : (n turns count : ℕ) (closing more : Bits) → ClosesWithEols Kind.group3_2d n closing → n ≤ turns
+tagged_eols_closing : (n turns count : ℕ) (closing more : Bits) → ClosesWithEols Group3_2D n closing → n ≤ turns
     → count + n ≤ (tagged_eols_from turns (count, true ∷ (closing ++ more))).0
 tagged_eols_closing zero turns count closing more is le = omega (arith, tagged_eols_rises turns count (true ∷ (closing ++ more)))
 tagged_eols_closing (suc n) zero count closing more is le = absurd (omega arith)
@@ -185,52 +185,52 @@ pass_count (count, true ∷ here) = by (leb 6 count)
     by true = refl
     by false = refl
 
-six_tagged : (closing more : Bits) → ClosesWithEols Kind.group3_2d 6 closing → 6 ≤ (tagged_eols (closing ++ more)).0
+six_tagged : (closing more : Bits) → ClosesWithEols Group3_2D 6 closing → 6 ≤ (tagged_eols (closing ++ more)).0
 six_tagged closing more (fill, next, then, is) =
     let tail : Bits = true ∷ (next ++ more) in
     let here : closing ++ more ≡ eol fill ++ tail = ap (λ (x : Bits). x ++ more) is ∙ append_assoc (eol fill ++ (true ∷ [])) next more
     ∙ append_assoc (eol fill) (true ∷ []) (next ++ more) in
     let turns : ℕ = length (eol fill ++ tail) in
-    let on = tagged_eols_closing 5 turns 1 next more then (omega (arith, length-eol fill tail, length-closing Kind.group3_2d 5 next more then)) in
+    let on = tagged_eols_closing 5 turns 1 next more then (omega (arith, length-eol fill tail, length-closing Group3_2D 5 next more then)) in
     let found = tagged_eols_is (eol fill ++ tail) (1, tail) (one_eol fill tail refl) refl in
     let count : (tagged_eols (closing ++ more)).0 ≡ (tagged_eols_from turns (1, tail)).0 = ap (λ (x : Bits). (tagged_eols x).0) here
     ∙ ap (λ (f : ℕ × Bits). f.0) found ∙ pass_count (tagged_eols_from turns (1, tail)) in
     omega (arith, on, count)
 
-six_close : (settings : DecodeSettings) (kind : Kind) (closing more : Bits) → Matches kind settings → ClosesWithEols kind 6 closing
+six_close : (settings : DecodeSettings) (encoding : EncodingMode) (closing more : Bits) → Matches encoding settings → ClosesWithEols encoding 6 closing
     → 6 ≤ (eols_group3 settings (closing ++ more)).0
-six_close settings Kind.group4 closing more matches is = absurd matches
-six_close settings Kind.group3_1d closing more matches is =
+six_close settings Group4 closing more matches is = absurd matches
+six_close settings Group3_1D closing more matches is =
     rw (eols_group3_one settings (closing ++ more) matches)
-    (eols_closing 6 (length (closing ++ more)) closing more is (length-closing Kind.group3_1d 6 closing more is))
-six_close settings Kind.group3_2d closing more matches is = rw (eols_group3_two settings (closing ++ more) matches) (six_tagged closing more is)
+    (eols_closing 6 (length (closing ++ more)) closing more is (length-closing Group3_1D 6 closing more is))
+six_close settings Group3_2D closing more matches is = rw (eols_group3_two settings (closing ++ more) matches) (six_tagged closing more is)
 
 module _ (settings : DecodeSettings) (wide : 0 < settings.columns) (small : settings.columns ≤ 4294967295) where
   -- a line is read
-  pub line_t4_again : (kind : Kind) (reference row : Row) (line more : Bits) → Matches kind settings → EncodesLine kind reference row line
+  pub line_t4_again : (encoding : EncodingMode) (reference row : Row) (line more : Bits) → Matches encoding settings → EncodesLine encoding reference row line
       → length reference ≡ settings.columns → length row ≡ settings.columns → line_at_group3 settings reference (line ++ more) ≡ Line.whole row more
-  line_t4_again Kind.group4 reference row line more matches is ref_len row_len = absurd matches
-  line_t4_again Kind.group3_1d reference row line more matches is ref_len row_len =
+  line_t4_again Group4 reference row line more matches is ref_len row_len = absurd matches
+  line_t4_again Group3_1D reference row line more matches is ref_len row_len =
       let len : length {A = Bool} [] + length row ≡ settings.columns = omega arith in
       rw (matches, line_at_group3) (line_1d_again settings.strict settings.columns [] row White line more is small len)
-  line_t4_again Kind.group3_2d reference row line more matches (rest, inl is) ref_len row_len =
+  line_t4_again Group3_2D reference row line more matches (rest, inl is) ref_len row_len =
       let len : length {A = Bool} [] + length row ≡ settings.columns = omega arith in
       ap (λ (x : Bits). line_at_group3 settings reference (x ++ more)) is.0 ∙ tagged_line settings reference true (rest ++ more) matches
       ∙ line_1d_again settings.strict settings.columns [] row White rest more is.1 small len
-  line_t4_again Kind.group3_2d reference row line more matches (rest, inr is) ref_len row_len =
+  line_t4_again Group3_2D reference row line more matches (rest, inr is) ref_len row_len =
       ap (λ (x : Bits). line_at_group3 settings reference (x ++ more)) is.0 ∙ tagged_line settings reference false (rest ++ more) matches
       ∙ line_2d_again settings.strict settings.columns reference row rest more is.1 wide small ref_len row_len
 
   -- where it begins no EOL stands
-  pub line_t4_starts : (kind : Kind) (reference row : Row) (line more : Bits) → Matches kind settings → EncodesLine kind reference row line
+  pub line_t4_starts : (encoding : EncodingMode) (reference row : Row) (line more : Bits) → Matches encoding settings → EncodesLine encoding reference row line
       → length row ≡ settings.columns → IsLineStart (line ++ more)
-  line_t4_starts Kind.group4 reference row line more matches is row_len = absurd matches
-  line_t4_starts Kind.group3_1d reference row line more matches is row_len = line_1d_starts White row line more is (omega arith)
-  line_t4_starts Kind.group3_2d reference row line more matches (rest, inl is) row_len = rw is.0 (record { no_eol = refl; open_end = refl })
-  line_t4_starts Kind.group3_2d reference row line more matches (rest, inr is) row_len =
+  line_t4_starts Group4 reference row line more matches is row_len = absurd matches
+  line_t4_starts Group3_1D reference row line more matches is row_len = line_1d_starts White row line more is (omega arith)
+  line_t4_starts Group3_2D reference row line more matches (rest, inl is) row_len = rw is.0 (record { no_eol = refl; open_end = refl })
+  line_t4_starts Group3_2D reference row line more matches (rest, inr is) row_len =
       rw is.0 (record { no_eol = line_2d_after_tag reference row 0 White rest more is.1 (omega arith); open_end = refl })
 
-  tag_starts : (reference row : Row) (line more : Bits) → EncodesLine Kind.group3_2d reference row line → length row ≡ settings.columns
+  tag_starts : (reference row : Row) (line more : Bits) → EncodesLine Group3_2D reference row line → length row ≡ settings.columns
       → after_tag (line ++ more) ≡ None
   tag_starts reference row line more (rest, inl is) row_len =
       let none : after_eol 0 (rest ++ more) ≡ None = (line_1d_starts White row rest more is.1 (omega arith)).no_eol in
@@ -238,15 +238,15 @@ module _ (settings : DecodeSettings) (wide : 0 < settings.columns) (small : sett
   tag_starts reference row line more (rest, inr is) row_len = rw is.0 refl
 
   -- one EOL is counted before a line
-  eol_before : (kind : Kind) (reference row : Row) (fill : ℕ) (line more : Bits) → Matches kind settings → EncodesLine kind reference row line
+  eol_before : (encoding : EncodingMode) (reference row : Row) (fill : ℕ) (line more : Bits) → Matches encoding settings → EncodesLine encoding reference row line
       → length row ≡ settings.columns → eols_group3 settings (eol fill ++ (line ++ more)) ≡ (1, line ++ more)
-  eol_before Kind.group4 reference row fill line more matches is row_len = absurd matches
-  eol_before Kind.group3_1d reference row fill line more matches is row_len = eols_group3_one settings (eol fill ++ (line ++ more)) matches
-      ∙ one_eol fill (line ++ more) (line_t4_starts Kind.group3_1d reference row line more matches is row_len).no_eol
-  eol_before Kind.group3_2d reference row fill line more matches is row_len =
+  eol_before Group4 reference row fill line more matches is row_len = absurd matches
+  eol_before Group3_1D reference row fill line more matches is row_len = eols_group3_one settings (eol fill ++ (line ++ more)) matches
+      ∙ one_eol fill (line ++ more) (line_t4_starts Group3_1D reference row line more matches is row_len).no_eol
+  eol_before Group3_2D reference row fill line more matches is row_len =
       eols_group3_two settings (eol fill ++ (line ++ more)) matches
       ∙ one_tagged fill (line ++ more) (record
-      { start = line_t4_starts Kind.group3_2d reference row line more matches is row_len; no_tag = tag_starts reference row line more is row_len })
+      { start = line_t4_starts Group3_2D reference row line more matches is row_len; no_tag = tag_starts reference row line more is row_len })
 
   -- ---- The lines of a picture.
   abbrev with_eols : List Row → Bits → Progress
@@ -276,11 +276,11 @@ module _ (settings : DecodeSettings) (wide : 0 < settings.columns) (small : sett
   abbrev ends_well : List Row → Bits → Ending
   ends_well rows rest = record { rows = rows; has_eols = true; outcome = Ok rest }
 
-  module _ (kind : Kind) (matches : Matches kind settings) (late : Ending) (tail last : Bits) (whole : List Row)
+  module _ (encoding : EncodingMode) (matches : Matches encoding settings) (late : Ending) (tail last : Bits) (whole : List Row)
       (allows : Allows settings (length whole)) (stops : after_row settings (with_eols whole tail) ≡ Turn.done (ends_well whole last)) where
     lines_t4_again : (before : List Row) (row : Row) (rows : List Row) (line next : Bits) (fuel : ℕ) → before ++ row ∷ rows ≡ whole
         → length (row_before settings.columns before) ≡ settings.columns → All (λ row. length row ≡ settings.columns) (row ∷ rows)
-        → EncodesLine kind (row_before settings.columns before) row line → EncodesRowsWithEols kind row rows next → length rows < fuel
+        → EncodesLine encoding (row_before settings.columns before) row line → EncodesRowsWithEols encoding row rows next → length rows < fuel
         → repeated (move_group3 settings) late fuel (with_eols before (line ++ (next ++ tail))) ≡ ends_well whole last
     lines_t4_again before row rows line next zero all ref_len widths is lines lt = absurd (omega arith)
     lines_t4_again before row [] line next (suc fuel) all ref_len widths is lines lt =
@@ -288,7 +288,7 @@ module _ (settings : DecodeSettings) (wide : 0 < settings.columns) (small : sett
         let here : line ++ (next ++ tail) ≡ line ++ tail = ap (λ (x : Bits). line ++ (x ++ tail)) lines in
         let read : line_at_group3 settings (row_before settings.columns before) (line ++ (next ++ tail)) ≡ Line.whole row tail
         = ap (line_at_group3 settings (row_before settings.columns before)) here
-        ∙ line_t4_again kind (row_before settings.columns before) row line tail matches is ref_len row_len in
+        ∙ line_t4_again encoding (row_before settings.columns before) row line tail matches is ref_len row_len in
         let moved : move_group3 settings (with_eols before (line ++ (next ++ tail))) ≡ Turn.done (ends_well whole last)
         = row_added before row (line ++ (next ++ tail)) tail read ∙ ap (λ (rs : List Row). after_row settings (with_eols rs tail)) all ∙ stops in
         ap (after_turn (repeated (move_group3 settings) late fuel)) moved
@@ -303,12 +303,12 @@ module _ (settings : DecodeSettings) (wide : 0 < settings.columns) (small : sett
         ∙ append_assoc (eol fill) line_2d (next2 ++ tail)) in
         let read : line_at_group3 settings (row_before settings.columns before) (line ++ (next ++ tail)) ≡ Line.whole row after
         = ap (line_at_group3 settings (row_before settings.columns before)) here
-        ∙ line_t4_again kind (row_before settings.columns before) row line after matches is ref_len row_len in
+        ∙ line_t4_again encoding (row_before settings.columns before) row line after matches is ref_len row_len in
         let rows1 : List Row = before ++ row ∷ [] in
-        let one : eols_group3 settings after ≡ (1, rest) = eol_before kind row row2 fill line_2d (next2 ++ tail) matches is2 row2_len in
+        let one : eols_group3 settings after ≡ (1, rest) = eol_before encoding row row2 fill line_2d (next2 ++ tail) matches is2 row2_len in
         let all2 : rows1 ++ row2 ∷ rows ≡ whole = append_assoc before (row ∷ []) (row2 ∷ rows) ∙ all in
         let count : length rows1 < length whole = omega (arith, ap length all2, length-append rows1 (row2 ∷ rows)) in
-        let open_end : at_end rest ≡ false = (line_t4_starts kind row row2 line_2d (next2 ++ tail) matches is2 row2_len).open_end in
+        let open_end : at_end rest ≡ false = (line_t4_starts encoding row row2 line_2d (next2 ++ tail) matches is2 row2_len).open_end in
         let over : ((settings.end_of_block && (leb 6 1)) || limit_met settings (length rows1) || at_end rest) ≡ false
         = or_from _ _ (or_from _ _ (and_right settings.end_of_block (leb 6 1) refl) (not_met settings (length whole) (length rows1) allows count)) open_end in
         let moved : move_group3 settings (with_eols before (line ++ (next ++ tail))) ≡ Turn.next (with_eols rows1 rest)
@@ -318,7 +318,7 @@ module _ (settings : DecodeSettings) (wide : 0 < settings.columns) (small : sett
         let pushed : row_before settings.columns rows1 ≡ row = row_before_push settings.columns before row in
         ap (after_turn (repeated (move_group3 settings) late fuel)) moved
         ∙ lines_t4_again rows1 row2 rows line_2d next2 fuel all2 (ap length pushed ∙ row_len) widths2
-        (subst (λ (r : Row). EncodesLine kind r row2 line_2d) (sym pushed) is2) lines2 (omega arith)
+        (subst (λ (r : Row). EncodesLine encoding r row2 line_2d) (sym pushed) is2) lines2 (omega arith)
 
   -- ---- How a run ends.
   -- six EOLs end it
@@ -346,90 +346,90 @@ module _ (settings : DecodeSettings) (wide : 0 < settings.columns) (small : sett
       (ends_with (with_eols rows here) (Ok found.1)) (Turn.next (with_eols rows found.1)) over
 
   -- data of Group 3 are read as such
-  pub end_of_three : (kind : Kind) (bits : Bits) → Matches kind settings → end_of settings bits ≡ plain_group3 settings bits
-  end_of_three Kind.group4 bits matches = absurd matches
-  end_of_three Kind.group3_1d bits matches = ap (λ (m : EncodingMode). end_by m settings bits) matches
-  end_of_three Kind.group3_2d bits matches = ap (λ (m : EncodingMode). end_by m settings bits) matches
+  pub end_of_three : (encoding : EncodingMode) (bits : Bits) → Matches encoding settings → end_of settings bits ≡ plain_group3 settings bits
+  end_of_three Group4 bits matches = absurd matches
+  end_of_three Group3_1D bits matches = ap (λ (m : EncodingMode). end_by m settings bits) matches
+  end_of_three Group3_2D bits matches = ap (λ (m : EncodingMode). end_by m settings bits) matches
 
-  length-lines : (kind : Kind) (reference : Row) (rows : List Row) (bits : Bits) → EncodesRowsWithEols kind reference rows bits → length rows ≤ length bits
-  length-lines kind reference [] bits lines = omega arith
-  length-lines kind reference (row ∷ rows) bits (fill, line, next, is, lines, split) =
-      let on = length-lines kind row rows next lines in
+  length-lines : (encoding : EncodingMode) (reference : Row) (rows : List Row) (bits : Bits) → EncodesRowsWithEols encoding reference rows bits → length rows ≤ length bits
+  length-lines encoding reference [] bits lines = omega arith
+  length-lines encoding reference (row ∷ rows) bits (fill, line, next, is, lines, split) =
+      let on = length-lines encoding row rows next lines in
       let here : bits ≡ eol fill ++ (line ++ next) = split ∙ append_assoc (eol fill) line next in
       omega (arith, on, ap length here, length-eol fill (line ++ next), length-append line next)
 
   -- lines with their EOLs are read, and the run ends where it does after the last
-  pub lines_t4_end : (kind : Kind) (rows : List Row) (lines tail last : Bits) → Matches kind settings → 0 < length rows
-      → IsPicture settings.columns rows → EncodesRowsWithEols kind (replicate settings.columns false) rows lines → Allows settings (length rows)
+  pub lines_t4_end : (encoding : EncodingMode) (rows : List Row) (lines tail last : Bits) → Matches encoding settings → 0 < length rows
+      → IsPicture settings.columns rows → EncodesRowsWithEols encoding (replicate settings.columns false) rows lines → Allows settings (length rows)
       → after_row settings (with_eols rows tail) ≡ Turn.done (ends_well rows last) → end_of settings (lines ++ tail) ≡ ends_well rows last
-  lines_t4_end kind [] lines tail last matches some is_picture are allows stops = absurd (omega arith)
-  lines_t4_end kind (row ∷ rows) lines tail last matches some is_picture (fill, line, next, is, more, split) allows stops =
+  lines_t4_end encoding [] lines tail last matches some is_picture are allows stops = absurd (omega arith)
+  lines_t4_end encoding (row ∷ rows) lines tail last matches some is_picture (fill, line, next, is, more, split) allows stops =
       let row_len : length row ≡ settings.columns = All-head (λ row. length row ≡ settings.columns) row rows is_picture.1 in
       let rest : Bits = line ++ (next ++ tail) in
       let here : lines ++ tail ≡ eol fill ++ rest = ap (λ (x : Bits). x ++ tail) split ∙ append_assoc (eol fill ++ line) next tail
       ∙ append_assoc (eol fill) line (next ++ tail) in
       let one : all_eols (eol fill ++ rest) ≡ (1, rest)
-      = one_eol fill rest (line_t4_starts kind (replicate settings.columns false) row line (next ++ tail) matches is row_len).no_eol in
+      = one_eol fill rest (line_t4_starts encoding (replicate settings.columns false) row line (next ++ tail) matches is row_len).no_eol in
       let late : Ending = record { rows = []; has_eols = true; outcome = Err UnexpectedEof } in
       let started : plain_group3 settings (eol fill ++ rest) ≡ repeated (move_group3 settings) late (suc (suc (length rest))) (with_eols [] rest)
       = ap (λ (f : ℕ × Bits). ending_from (move_group3 settings) (record { rows = []; has_eols = ltb 0 f.0 || settings.end_of_line; rest = f.1 })) one in
       let short : length rows < suc (suc (length rest))
-      = omega (arith, length-lines kind row rows next more, length-append line (next ++ tail), length-append next tail) in
-      end_of_three kind (lines ++ tail) matches ∙ ap (plain_group3 settings) here ∙ started
-      ∙ lines_t4_again kind matches late tail last (row ∷ rows) allows stops [] row rows line next (suc (suc (length rest))) refl
+      = omega (arith, length-lines encoding row rows next more, length-append line (next ++ tail), length-append next tail) in
+      end_of_three encoding (lines ++ tail) matches ∙ ap (plain_group3 settings) here ∙ started
+      ∙ lines_t4_again encoding matches late tail last (row ∷ rows) allows stops [] row rows line next (suc (suc (length rest))) refl
       (length-replicate settings.columns false) is_picture.1 is more short
 
   -- a T.4 picture, closed by RTC, is read as its rows, whatever follows
-  pub closed_t4_end : (kind : Kind) (rows : List Row) (lines closing more : Bits) → Matches kind settings → settings.end_of_block ≡ true
-      → 0 < length rows → IsPicture settings.columns rows → EncodesRowsWithEols kind (replicate settings.columns false) rows lines
-      → ClosesWithEols kind 6 closing
+  pub closed_t4_end : (encoding : EncodingMode) (rows : List Row) (lines closing more : Bits) → Matches encoding settings → settings.end_of_block ≡ true
+      → 0 < length rows → IsPicture settings.columns rows → EncodesRowsWithEols encoding (replicate settings.columns false) rows lines
+      → ClosesWithEols encoding 6 closing
       → Allows settings (length rows) → end_of settings (lines ++ (closing ++ more)) ≡ ends_well rows (eols_group3 settings (closing ++ more)).1
-  closed_t4_end kind rows lines closing more matches block some is_picture are closed allows =
-      lines_t4_end kind rows lines (closing ++ more) (eols_group3 settings (closing ++ more)).1 matches some is_picture are allows
-      (six_stop rows (closing ++ more) block (six_close settings kind closing more matches closed))
+  closed_t4_end encoding rows lines closing more matches block some is_picture are closed allows =
+      lines_t4_end encoding rows lines (closing ++ more) (eols_group3 settings (closing ++ more)).1 matches some is_picture are allows
+      (six_stop rows (closing ++ more) block (six_close settings encoding closing more matches closed))
 
   -- lines with EOLs are read as their rows, up to the limit
-  pub limited_t4_end : (kind : Kind) (rows : List Row) (lines more : Bits) → Matches kind settings → settings.rows ≡ length rows → 0 < length rows
-      → IsPicture settings.columns rows → EncodesRowsWithEols kind (replicate settings.columns false) rows lines
+  pub limited_t4_end : (encoding : EncodingMode) (rows : List Row) (lines more : Bits) → Matches encoding settings → settings.rows ≡ length rows → 0 < length rows
+      → IsPicture settings.columns rows → EncodesRowsWithEols encoding (replicate settings.columns false) rows lines
       → end_of settings (lines ++ more) ≡ ends_well rows (eols_group3 settings more).1
-  limited_t4_end kind rows lines more matches limit some is_picture are =
+  limited_t4_end encoding rows lines more matches limit some is_picture are =
       let met : limit_met settings (length rows) ≡ true
       = and_from (not (eqb settings.rows 0)) (eqb settings.rows (length rows))
       (not_from_false (eqb settings.rows 0) (ne_eqb settings.rows 0 (λ e. absurd (omega arith)))) (eq-eqb settings.rows (length rows) limit) in
-      lines_t4_end kind rows lines more (eols_group3 settings more).1 matches some is_picture are (inr (omega arith)) (limit_stops rows more met)
+      lines_t4_end encoding rows lines more (eols_group3 settings more).1 matches some is_picture are (inr (omega arith)) (limit_stops rows more met)
 
 -- ---- Over bytes.
 pub closed_picture_t4 : ReadsPictureT4
-closed_picture_t4 settings kind rows lines closing more bytes are matches block allows some is_picture lines3 closed is =
+closed_picture_t4 settings encoding rows lines closing more bytes are matches block allows some is_picture lines3 closed is =
     let small : settings.columns ≤ 4294967295 = omega (arith, are.columns) in
     plain_ends settings bytes (record { rows = rows; has_eols = true; outcome = Ok (eols_group3 settings (closing ++ more)).1 })
     (eols_group3 settings (closing ++ more)).1 is_picture.0
-    (ap (end_of settings) is ∙ closed_t4_end settings is_picture.0 small kind rows lines closing more matches block some is_picture lines3 closed allows) refl
+    (ap (end_of settings) is ∙ closed_t4_end settings is_picture.0 small encoding rows lines closing more matches block some is_picture lines3 closed allows) refl
 
 -- the law
 pub limited_picture_t4 : ReadsLimitedPictureT4
-limited_picture_t4 settings kind rows lines more bytes are matches limit some is_picture lines3 is =
+limited_picture_t4 settings encoding rows lines more bytes are matches limit some is_picture lines3 is =
     let small : settings.columns ≤ 4294967295 = omega (arith, are.columns) in
     let e = plain_ends settings bytes (record { rows = rows; has_eols = true; outcome = Ok (eols_group3 settings more).1 })
     (eols_group3 settings more).1 is_picture.0
-    (ap (end_of settings) is ∙ limited_t4_end settings is_picture.0 small kind rows lines more matches limit some is_picture lines3) refl in
-    (ap (λ (a : List Row × Result ℕ DecodeError). a.0) e, rw e refl)
+    (ap (end_of settings) is ∙ limited_t4_end settings is_picture.0 small encoding rows lines more matches limit some is_picture lines3) refl in
+    (ap (λ (a : Reading). a.rows) e, rw e refl)
 
 -- ---- One beginning, one picture.
-one_picture_at : (settings : DecodeSettings) (kind : Kind) (rows others : List Row) (bits more : Bits) → settings.columns ≤ 4294967295
-    → Matches kind settings → settings.end_of_block ≡ true → settings.rows ≡ 0
-    → PictureT4 kind settings.columns rows bits → PictureT4 kind settings.columns others (bits ++ more) → rows ≡ others
-one_picture_at settings kind rows others bits more small matches block none one two =
-    let first = closed_t4_end settings one.3.0 small kind rows one.0 one.1 more matches block one.2 one.3 one.4 one.5 (inl none) in
-    let second = closed_t4_end settings two.3.0 small kind others two.0 two.1 [] matches block two.2 two.3 two.4 two.5 (inl none) in
+one_picture_at : (settings : DecodeSettings) (encoding : EncodingMode) (rows others : List Row) (bits more : Bits) → settings.columns ≤ 4294967295
+    → Matches encoding settings → settings.end_of_block ≡ true → settings.rows ≡ 0
+    → PictureT4 encoding settings.columns rows bits → PictureT4 encoding settings.columns others (bits ++ more) → rows ≡ others
+one_picture_at settings encoding rows others bits more small matches block none one two =
+    let first = closed_t4_end settings one.3.0 small encoding rows one.0 one.1 more matches block one.2 one.3 one.4 one.5 (inl none) in
+    let second = closed_t4_end settings two.3.0 small encoding others two.0 two.1 [] matches block two.2 two.3 two.4 two.5 (inl none) in
     let same : one.0 ++ (one.1 ++ more) ≡ two.0 ++ (two.1 ++ []) = sym (append_assoc one.0 one.1 more) ∙ ap (λ (x : Bits). x ++ more) (sym one.6)
     ∙ two.6 ∙ ap (λ (x : Bits). two.0 ++ x) (sym (append-nil two.1)) in
     ap (λ (e : Ending). e.rows) (sym first ∙ ap (end_of settings) same ∙ second)
 
 -- the law
 pub one_picture_t4 : OnePictureT4
-one_picture_t4 Kind.group4 columns rows others bits more three small one two = absurd (three refl)
-one_picture_t4 Kind.group3_1d columns rows others bits more three small one two =
-    one_picture_at (closed_settings Group3_1D columns false) Kind.group3_1d rows others bits more (omega arith) refl refl refl one two
-one_picture_t4 Kind.group3_2d columns rows others bits more three small one two =
-    one_picture_at (closed_settings Group3_2D columns false) Kind.group3_2d rows others bits more (omega arith) refl refl refl one two
+one_picture_t4 Group4 columns rows others bits more three small one two = absurd (three refl)
+one_picture_t4 Group3_1D columns rows others bits more three small one two =
+    one_picture_at (closed_settings Group3_1D columns false) Group3_1D rows others bits more (omega arith) refl refl refl one two
+one_picture_t4 Group3_2D columns rows others bits more three small one two =
+    one_picture_at (closed_settings Group3_2D columns false) Group3_2D rows others bits more (omega arith) refl refl refl one two

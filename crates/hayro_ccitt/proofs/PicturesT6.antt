@@ -21,10 +21,10 @@ use Rattle.hayro_ccitt.specs.Repetition.{Turn, repeated}
 use Rattle.hayro_ccitt.specs.Rows.{Row}
 use Rattle.hayro_ccitt.specs.Lines.{Line, line_2d}
 use Rattle.hayro_ccitt.specs.EndOfLine.{after_eol, eols, all_eols}
-use Rattle.hayro_ccitt.specs.PlainReading.{eols_group4, Progress, Ending, Move, row_before, aligned, at_end, limit_met, ends_with, after_line_group4}
+use Rattle.hayro_ccitt.specs.PlainReading.{eols_group4, Progress, Ending, Move, row_before, aligned, at_end, limit_met, ends_with, after_line_group4, Reading, nothing_read, whole_reading}
 use Rattle.hayro_ccitt.specs.PlainReading.{line_at_group4, move_group4, plain_group4, end_of, plain, bytes_before}
 use Rattle.hayro_ccitt.specs.Laws.{each_word, Allows, Reaches, ComesToEofb, PicturesComeToEofb, ReadsPictureT6, ReadsLimitedRowsT6, OnePictureT6}
-use Rattle.hayro_ccitt.specs.Encodings.{EncodesLine2D, Kind, padding, EncodesRows, eol, IsPicture, PictureT6}
+use Rattle.hayro_ccitt.specs.Encodings.{EncodesLine2D, padding, EncodesRows, eol, IsPicture, PictureT6}
 use Rattle.hayro_ccitt.proofs.Repeated.{after_turn, repeated_turn, repeated_same}
 use Rattle.hayro_ccitt.proofs.ZerosInWords.{each_word_at}
 use Rattle.hayro_ccitt.proofs.BitLists.{length-bits_of}
@@ -165,7 +165,7 @@ module _ (settings : DecodeSettings) (wide : 0 < settings.columns) (small : sett
   pub body_again : (before rows : List Row) (body more : Bits) → Allows settings (length before + length rows)
       → length (row_before settings.columns before) ≡ settings.columns → All (λ row. length row ≡ settings.columns) rows
       → (settings.rows_are_byte_aligned ≡ true → length (body ++ more) % 8 ≡ 0)
-      → EncodesRows Kind.group4 settings.rows_are_byte_aligned (row_before settings.columns before) rows body
+      → EncodesRows Group4 settings.rows_are_byte_aligned (row_before settings.columns before) rows body
       → Reaches settings (between before (body ++ more)) (between (before ++ rows) more)
   body_again before [] body more limit ref_len widths whole lines =
       let here : body ++ more ≡ more = ap (λ (x : Bits). x ++ more) lines in
@@ -194,7 +194,7 @@ module _ (settings : DecodeSettings) (wide : 0 < settings.columns) (small : sett
       let count : length (before ++ row ∷ []) + length rows ≡ length before + length (row ∷ rows) = omega (arith, length-append before (row ∷ [])) in
       let on = body_again (before ++ row ∷ []) rows next more (subst (Allows settings) (sym count) limit) (ap length pushed ∙ row_len)
       (All-tail (λ row. length row ≡ settings.columns) row rows widths)
-      (aligned_on b line (next ++ more) whole2) (subst (λ (r : Row). EncodesRows Kind.group4 b r rows next) (sym pushed) lines.3) in
+      (aligned_on b line (next ++ more) whole2) (subst (λ (r : Row). EncodesRows Group4 b r rows next) (sym pushed) lines.3) in
       Reaches.moves (between before (body ++ more)) (between (before ++ row ∷ []) (next ++ more)) (between (before ++ row ∷ rows) more) moved
       (subst (λ (rs : List Row). Reaches settings (between (before ++ row ∷ []) (next ++ more)) (between rs more)) (append_assoc before (row ∷ []) rows) on)
 
@@ -279,7 +279,7 @@ picture_t6_comes settings rows bits more small limit whole pic =
 pub rows_t6_end : (settings : DecodeSettings) (rows : List Row) (body more : Bits) → settings.encoding ≡ Group4 → settings.columns ≤ 4294967295
     → 0 < length rows → settings.rows ≡ length rows
     → (settings.rows_are_byte_aligned ≡ true → length (body ++ more) % 8 ≡ 0) → IsPicture settings.columns rows
-    → EncodesRows Kind.group4 settings.rows_are_byte_aligned (replicate settings.columns false) rows body
+    → EncodesRows Group4 settings.rows_are_byte_aligned (replicate settings.columns false) rows body
     → end_of settings (body ++ more) ≡ ended rows (eols_group4 settings more).1
 rows_t6_end settings rows body more four small some limit whole is lines =
     let wide : 0 < settings.columns = is.0 in
@@ -297,19 +297,18 @@ rows_t6_end settings rows body more four small some limit whole is lines =
 
 -- ---- Over bytes.
 pub plain_ends : (settings : DecodeSettings) (bytes : List ℕ) (end : Ending) (rest : Bits) → 0 < settings.columns
-    → end_of settings (bits_of bytes) ≡ end → end.outcome ≡ Ok rest → plain settings bytes ≡ (end.rows, Ok ((length (bits_of bytes) - length rest + 7) / 8))
+    → end_of settings (bits_of bytes) ≡ end → end.outcome ≡ Ok rest → plain settings bytes ≡ record { rows = end.rows; outcome = Ok ((length (bits_of bytes) - length rest + 7) / 8); has_eols = end.has_eols }
 plain_ends settings bytes end rest wide e outcome =
-    cond-false (eqb settings.columns 0) ([], Ok 0)
-    ((end_of settings (bits_of bytes)).rows, bytes_before (bits_of bytes) (end_of settings (bits_of bytes)).outcome)
+    cond-false (eqb settings.columns 0) nothing_read (whole_reading (bits_of bytes) (end_of settings (bits_of bytes)))
     (ne_eqb settings.columns 0 (λ z. absurd (omega arith)))
-    ∙ ap (λ (x : Ending). (x.rows, bytes_before (bits_of bytes) x.outcome)) e
-    ∙ ap (λ (x : Result Bits DecodeError). (end.rows, bytes_before (bits_of bytes) x)) outcome
+    ∙ ap (whole_reading (bits_of bytes)) e
+    ∙ ap (λ (x : Result Bits DecodeError). whole_reading (bits_of bytes) (record end { outcome = x })) outcome
 
 -- over bytes: a picture closed by EOFB
 pub picture_t6_plain : (settings : DecodeSettings) (rows : List Row) (bits more : Bits) (bytes : List ℕ) → settings.encoding ≡ Group4
     → settings.end_of_block ≡ true → settings.columns ≤ 4294967295 → Allows settings (length rows)
     → PictureT6 settings.columns settings.rows_are_byte_aligned rows bits → bits_of bytes ≡ bits ++ more
-    → plain settings bytes ≡ (rows, Ok ((length bits + 7) / 8))
+    → plain settings bytes ≡ record { rows = rows; outcome = Ok ((length bits + 7) / 8); has_eols = false }
 picture_t6_plain settings rows bits more bytes four block small limit pic is =
     let n : length (bits_of bytes) ≡ length bits + length more = ap length is ∙ length-append bits more in
     let eight = length-bits_of bytes in
@@ -317,13 +316,13 @@ picture_t6_plain settings rows bits more bytes four block small limit pic is =
     let count : (length (bits_of bytes) - length more + 7) / 8 ≡ (length bits + 7) / 8 = omega (arith, n) in
     plain_ends settings bytes (ended rows more) more pic.1.0
     (ap (end_of settings) is ∙ picture_t6_end settings rows bits more four block small limit (λ e. whole) pic) refl
-    ∙ ap (λ (k : ℕ). (rows, Ok k)) count
+    ∙ ap {B = Reading} (λ (k : ℕ). record { rows = rows; outcome = Ok k; has_eols = false }) count
 
 -- over bytes: lines up to the limit
 pub rows_t6_plain : (settings : DecodeSettings) (rows : List Row) (body more : Bits) (bytes : List ℕ) → settings.encoding ≡ Group4
     → settings.columns ≤ 4294967295 → 0 < length rows → settings.rows ≡ length rows → IsPicture settings.columns rows
-    → EncodesRows Kind.group4 settings.rows_are_byte_aligned (replicate settings.columns false) rows body → bits_of bytes ≡ body ++ more
-    → plain settings bytes ≡ (rows, Ok ((length (bits_of bytes) - length (eols_group4 settings more).1 + 7) / 8))
+    → EncodesRows Group4 settings.rows_are_byte_aligned (replicate settings.columns false) rows body → bits_of bytes ≡ body ++ more
+    → plain settings bytes ≡ record { rows = rows; outcome = Ok ((length (bits_of bytes) - length (eols_group4 settings more).1 + 7) / 8); has_eols = false }
 rows_t6_plain settings rows body more bytes four small some limit is_picture lines is =
     let eight = length-bits_of bytes in
     let whole : length (body ++ more) % 8 ≡ 0 = omega (arith, eight, ap length is) in
@@ -339,7 +338,7 @@ closed_picture_t6 settings rows bits more bytes are four block limit pic is =
 pub limited_rows_t6 : ReadsLimitedRowsT6
 limited_rows_t6 settings rows body more bytes are four limit some is_picture lines is =
     let e = rows_t6_plain settings rows body more bytes four (omega (arith, are.columns)) some limit is_picture lines is in
-    (ap (λ (a : List Row × Result ℕ DecodeError). a.0) e, rw e refl)
+    (ap (λ (a : Reading). a.rows) e, rw e refl)
 
 -- over bytes: a picture comes to its EOFB
 pub pictures_come_to_eofb : PicturesComeToEofb

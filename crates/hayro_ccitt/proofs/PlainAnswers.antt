@@ -10,10 +10,11 @@ use Rattle.hayro_ccitt.specs.declared.settings.DecodeSettings.{DecodeSettings}
 use Rattle.hayro_ccitt.specs.Bits.{Bits, bits_of}
 use Rattle.std.proofs.Math.Seq.{take-length}
 use Rattle.hayro_ccitt.specs.Rows.{Row}
-use Rattle.hayro_ccitt.specs.Laws.{AreSettings, Gives}
+use Rattle.hayro_ccitt.specs.Laws.{Gives}
 use Rattle.hayro_ccitt.specs.Pictures.{BeginsWithPictureT6, BeginsWithRowsT6}
-use Rattle.hayro_ccitt.specs.PlainReading.{Answer, plain, plain_group4, end_by, lines_of, lines_by, bytes_before}
+use Rattle.hayro_ccitt.specs.PlainReading.{Reading, plain, plain_group4, end_by, lines_of, lines_by, bytes_before, whole_reading}
 use Rattle.hayro_ccitt.proofs.PicturesT6.{closed_picture_t6, limited_rows_t6}
+use Rattle.hayro_ccitt.specs.Settings.{AreSettings}
 
 -- some columns are not none
 some_columns : (n : ℕ) → n ≢ 0 → eqb n 0 ≡ false
@@ -25,10 +26,10 @@ some_columns n some = by (eqb n 0) refl
 
 module _ (settings : DecodeSettings) (bytes : List ℕ) (some : settings.columns ≢ 0) (four : settings.encoding ≡ Group4) where
   -- the answer of Group 4 data
-  pub plain_is : plain settings bytes ≡ ((plain_group4 settings (bits_of bytes)).rows, bytes_before (bits_of bytes) (plain_group4 settings (bits_of bytes)).outcome)
+  pub plain_is : plain settings bytes ≡ whole_reading (bits_of bytes) (plain_group4 settings (bits_of bytes))
   plain_is =
       cond-false (eqb settings.columns 0) _ _ (some_columns settings.columns some)
-      ∙ ap {B = Answer} (λ (e : EncodingMode). ((end_by e settings (bits_of bytes)).rows, bytes_before (bits_of bytes) (end_by e settings (bits_of bytes)).outcome)) four
+      ∙ ap {B = Reading} (λ (e : EncodingMode). whole_reading (bits_of bytes) (end_by e settings (bits_of bytes))) four
 
   -- its lines
   pub lines_are : lines_of settings bytes ≡ lines_by Group4 settings (bits_of bytes)
@@ -59,11 +60,11 @@ failed-is e f is = let same : e ≡ f = cc in ap driver_failed same
 -- ---- Pictures
 
 -- what is known of an answer and of what a sink means, where the whole reading is known
-module _ {M : Type 0} (step : M → List ℕ → M) (old new : M) (answer : Answer) (rows : List Row) (taken : ℕ)
-    (same : answer.0 ≡ rows) (all : taken ≡ length answer.0) (meaning : new ≡ meaning_after step old (take taken answer.0)) where
+module _ {M : Type 0} (step : M → List ℕ → M) (old new : M) (answer : Reading) (rows : List Row) (taken : ℕ)
+    (same : answer.rows ≡ rows) (all : taken ≡ length answer.rows) (meaning : new ≡ meaning_after step old (take taken answer.rows)) where
   -- the sink means its rows
   pub picture_meaning : new ≡ meaning_after step old rows
-  picture_meaning = meaning ∙ ap (meaning_after step old) (ap (λ (n : ℕ). take n answer.0) all ∙ take-length answer.0 ∙ same)
+  picture_meaning = meaning ∙ ap (meaning_after step old) (ap (λ (n : ℕ). take n answer.rows) all ∙ take-length answer.rows ∙ same)
 
 -- an answer is no fault
 pub not_fault : (answer : Result ℕ DecodeError) (e : DecodeError) → IsOk answer → answer ≡ failed e → ⊥
@@ -72,7 +73,7 @@ not_fault (Err f) e ok is = false≢true ok
 
 -- a T.6 encoding closed by EOFB is its picture
 pub picture_is : (settings : DecodeSettings) (rows : List Row) (bits : Bits) (bytes : List ℕ) → AreSettings settings → BeginsWithPictureT6 settings rows bits (bits_of bytes)
-    → plain settings bytes ≡ (rows, Ok ((length bits + 7) / 8))
+    → plain settings bytes ≡ record { rows = rows; outcome = Ok ((length bits + 7) / 8); has_eols = false }
 picture_is settings rows bits bytes small begins =
     closed_picture_t6 settings rows bits begins.begins.0 bytes small begins.encoding begins.end_of_block begins.limit begins.picture begins.begins.1
 

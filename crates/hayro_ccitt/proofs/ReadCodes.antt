@@ -7,7 +7,7 @@ use Rattle.hayro_ccitt.specs.declared.error.DecodeError.TheVariants.{UnexpectedE
 use Rattle.hayro_ccitt.specs.Bits.{Bits}
 use Rattle.hayro_ccitt.specs.CodeLists.{Code}
 use Rattle.hayro_ccitt.specs.Ticks.{missed}
-use Rattle.hayro_ccitt.specs.CodeReading.{agreement, after, is_front, word_at, is_cut, Has, read_code, apart, is_prefix_free}
+use Rattle.hayro_ccitt.specs.CodeReading.{agreement, after, is_prefix, word_at, is_cut, Has, read_code, apart, is_prefix_free}
 
 pub after_is : (word here rest : Bits) → after word here ≡ Some rest → here ≡ word ++ rest
 after_is [] here rest e = cc
@@ -22,25 +22,25 @@ after_at [] rest = refl
 after_at (true ∷ word) rest = after_at word rest
 after_at (false ∷ word) rest = after_at word rest
 
--- of two words that stand at one place, one is a front of the other
-either_front : (u w here rest : Bits) → after u (w ++ here) ≡ Some rest → (is_front u w ≡ true) ⊎ (is_front w u ≡ true)
-either_front [] w here rest e = inl refl
-either_front (b ∷ u) [] here rest e = inr refl
-either_front (true ∷ u) (true ∷ w) here rest e = either_front u w here rest e
-either_front (false ∷ u) (false ∷ w) here rest e = either_front u w here rest e
-either_front (true ∷ u) (false ∷ w) here rest e = absurd cc
-either_front (false ∷ u) (true ∷ w) here rest e = absurd cc
+-- of two words that stand at one place, one is a prefix of the other
+either_prefix : (u w here rest : Bits) → after u (w ++ here) ≡ Some rest → (is_prefix u w ≡ true) ⊎ (is_prefix w u ≡ true)
+either_prefix [] w here rest e = inl refl
+either_prefix (b ∷ u) [] here rest e = inr refl
+either_prefix (true ∷ u) (true ∷ w) here rest e = either_prefix u w here rest e
+either_prefix (false ∷ u) (false ∷ w) here rest e = either_prefix u w here rest e
+either_prefix (true ∷ u) (false ∷ w) here rest e = absurd cc
+either_prefix (false ∷ u) (true ∷ w) here rest e = absurd cc
 
 -- where neither is, the first doesn't stand
 apart_misses : (u w here : Bits) → apart u w ≡ true → after u (w ++ here) ≡ None
 apart_misses u w here h =
-    let both = and_parts (not (is_front u w)) (not (is_front w u)) h in
+    let both = and_parts (not (is_prefix u w)) (not (is_prefix w u)) h in
     let by : (o : Option Bits) → after u (w ++ here) ≡ o → o ≡ None
     = λ o. elim o as (λ (x : Option Bits). after u (w ++ here) ≡ x → x ≡ None) [
       | None ↦ λ e. refl
-      | Some rest ↦ λ e. elim (either_front u w here rest e) [
-        | inl f ↦ absurd (false≢true (sym (not-true (is_front u w) both.0) ∙ f))
-        | inr f ↦ absurd (false≢true (sym (not-true (is_front w u) both.1) ∙ f))
+      | Some rest ↦ λ e. elim (either_prefix u w here rest e) [
+        | inl f ↦ absurd (false≢true (sym (not-true (is_prefix u w) both.0) ∙ f))
+        | inr f ↦ absurd (false≢true (sym (not-true (is_prefix w u) both.1) ∙ f))
       ]
     ] in
     by (after u (w ++ here)) refl
@@ -109,7 +109,7 @@ read_code_found {V} list here v rest e = elim (cases_reading list here (Ok (v, r
   | inr b ↦ elim b [ inl c ↦ absurd cc | inr c ↦ absurd cc ]
 ]
 
--- The agreement of a word with the bits here says whether it stands, and whether they are a front of it.
+-- The agreement of a word with the bits here says whether it stands, and whether they are a prefix of it.
 pub agreement_le : (word here : Bits) → (agreement word here ≤ length word) × (agreement word here ≤ length here)
 agreement_le [] here = (omega arith, omega arith)
 agreement_le (b ∷ word) [] = (omega arith, omega arith)
@@ -134,7 +134,7 @@ agreement_misses (false ∷ word) (false ∷ here) e = agreement_misses word her
 agreement_misses (true ∷ word) (false ∷ here) e = refl
 agreement_misses (false ∷ word) (true ∷ here) e = refl
 
-pub agreement_begins : (word here : Bits) → agreement word here ≡ length here → is_front here word ≡ true
+pub agreement_begins : (word here : Bits) → agreement word here ≡ length here → is_prefix here word ≡ true
 agreement_begins word [] e = refl
 agreement_begins [] (c ∷ here) e = absurd (omega arith)
 agreement_begins (true ∷ word) (true ∷ here) e = agreement_begins word here (omega arith)
@@ -142,7 +142,7 @@ agreement_begins (false ∷ word) (false ∷ here) e = agreement_begins word her
 agreement_begins (true ∷ word) (false ∷ here) e = absurd (omega arith)
 agreement_begins (false ∷ word) (true ∷ here) e = absurd (omega arith)
 
-pub agreement_ends : (word here : Bits) → agreement word here < length here → is_front here word ≡ false
+pub agreement_ends : (word here : Bits) → agreement word here < length here → is_prefix here word ≡ false
 agreement_ends word [] e = absurd (omega arith)
 agreement_ends [] (c ∷ here) e = refl
 agreement_ends (true ∷ word) (true ∷ here) e = agreement_ends word here (omega arith)

@@ -8,14 +8,13 @@ use Rattle.hayro_ccitt.specs.declared.error.DecodeError.{DecodeError}
 use Rattle.hayro_ccitt.specs.declared.error.DecodeError.TheVariants.{UnexpectedEof}
 use Rattle.hayro_ccitt.specs.declared.settings.EncodingMode.TheVariants.{Group4}
 use Rattle.hayro_ccitt.specs.declared.settings.DecodeSettings.{DecodeSettings}
-use Rattle.hayro_ccitt.specs.Bits.{Bits}
+use Rattle.hayro_ccitt.specs.Bits.{Bits, IsPrefix}
 use Rattle.hayro_ccitt.specs.Repetition.{repeated, gathered}
 use Rattle.hayro_ccitt.specs.Rows.{Row}
 use Rattle.hayro_ccitt.specs.Lines.{Line}
 use Rattle.hayro_ccitt.specs.PlainReading.{Progress, Ending, Move, aligned, eols_group4, is_over_group4, line_group4, line_at_group4, move_group4, plain_group4, after_line_group4, row_before, lines_at_group4, lines_of_move_group4, lines_by, start_group4}
 use Rattle.hayro_ccitt.specs.declared.codes.Color.TheVariants.{White}
 use Rattle.hayro_ccitt.specs.Context.{Held}
-use Rattle.hayro_ccitt.specs.Laws.{IsFront}
 use Rattle.hayro_ccitt.proofs.Repeated.{after_turn, repeated_turn, repeated_same}
 use Rattle.hayro_ccitt.proofs.Gathered.{gathered_after, gathered_turn, gathered_same}
 use Rattle.hayro_ccitt.proofs.Moves.{left, move_group4_shrinks, cond_le}
@@ -78,19 +77,19 @@ module _ (settings : DecodeSettings) (wide : 0 < settings.columns) (bits : Bits)
   }
 
   -- the rows so far are the first rows of the whole
-  rows_front : (rows : List Row) (rest : Bits) → Comes settings bits rows rest → IsFront rows (plain_group4 settings bits).rows
-  rows_front rows rest comes =
-      subst (λ (e : Ending). IsFront rows e.rows) (sym comes.ends)
+  rows_prefix : (rows : List Row) (rest : Bits) → Comes settings bits rows rest → IsPrefix rows (plain_group4 settings bits).rows
+  rows_prefix rows rest comes =
+      subst (λ (e : Ending). IsPrefix rows e.rows) (sym comes.ends)
       (repeated_adds (move_group4 settings) late left (move_group4_shrinks settings wide) (move_group4_adds settings) (suc (length rest)) (between rows rest) (omega arith))
 
   pub comes_taken : (rows : List Row) (rest : Bits) → Comes settings bits rows rest → rows ≡ take (length rows) (plain_group4 settings bits).rows
   comes_taken rows rest comes =
-      let front = rows_front rows rest comes in
+      let front = rows_prefix rows rest comes in
       sym (ap (take (length rows)) front.1 ∙ take-append_seam rows front.0)
 
   pub comes_within : (rows : List Row) (rest : Bits) → Comes settings bits rows rest → length rows ≤ length (plain_group4 settings bits).rows
   comes_within rows rest comes =
-      let front = rows_front rows rest comes in
+      let front = rows_prefix rows rest comes in
       omega (arith, ap length front.1, length-append rows front.0)
 
   module _ (rows : List Row) (rest : Bits) (comes : Comes settings bits rows rest) (count : ℕ) (here : Bits) (found : eols_group4 settings rest ≡ (count, here)) where
@@ -163,4 +162,4 @@ module _ (settings : DecodeSettings) (wide : 0 < settings.columns) (bits : Bits)
 -- what a context holds between two lines, where these rows were taken
 abbrev pub held_between : DecodeSettings → List Row → Held
 held_between settings rows =
-    record { reference = row_before settings.columns rows; front = []; color = White; rows = length rows; has_eols = false; settings = settings }
+    record { reference = row_before settings.columns rows; front = []; color = White; taken = length rows; has_eols = false; settings = settings }

@@ -9,7 +9,7 @@ use Rattle.std.proofs.lemmas.List.{map-append}
 use Rattle.hayro_ccitt.specs.declared.error.DecodeError.TheVariants.{UnexpectedEof, InvalidCode}
 use Rattle.hayro_ccitt.specs.Bits.{Bits, bit_of, low_bits}
 use Rattle.hayro_ccitt.specs.CodeLists.{Code, numbered}
-use Rattle.hayro_ccitt.specs.CodeReading.{after, agreement, word_at, is_front, is_cut, read_code}
+use Rattle.hayro_ccitt.specs.CodeReading.{after, agreement, word_at, is_prefix, is_cut, read_code}
 use Rattle.hayro_ccitt.proofs.ReadCodes.{agreement_le, agreement_stands, agreement_misses, agreement_begins, agreement_ends}
 use Rattle.hayro_ccitt.proofs.BitLists.{drop_some, drop_none, low_bits-suc, length-low_bits}
 
@@ -59,11 +59,11 @@ module _ {V : Type 0} (h : Bits) (list rest : List (V × ℕ × ℕ)) (e : V × 
       let a = agreement_misses (low_bits e.1 e.2) h (omega (arith, agreement_le (low_bits e.1 e.2) h, length-low_bits e.1 e.2)) in
       rw (goes_on, a, word_at) refl
 
-  -- the bits here are a front of the word of the entry
+  -- the bits here are a prefix of the word of the entry
   pub is_cut_here : agreement (low_bits e.1 e.2) h ≡ length h → is_cut (numbered list) h ≡ true
   is_cut_here k = rw (goes_on, agreement_begins (low_bits e.1 e.2) h k) refl
 
-  -- they are a front of another word, if of any
+  -- they are a prefix of another word, if of any
   pub is_cut_on : agreement (low_bits e.1 e.2) h ≢ length h → is_cut (numbered list) h ≡ is_cut (numbered rest) h
   is_cut_on k =
       let a = agreement_ends (low_bits e.1 e.2) h (omega (arith, agreement_le (low_bits e.1 e.2) h)) in
@@ -105,10 +105,10 @@ word_at-append {V} (c ∷ xs) ys h = by (word_at-append xs ys h) (after c.word h
     by on (Some rest) a = rw (a, word_at) refl
     by on None a = rw (a, word_at) on
 
--- the bits here are a front of a word of two lists if they are of a word of either
+-- the bits here are a prefix of a word of two lists if they are of a word of either
 pub is_cut-append : {V : Type 0} (xs ys : List (Code V)) (h : Bits) → is_cut (xs ++ ys) h ≡ (is_cut xs h || is_cut ys h)
 is_cut-append [] ys h = refl
-is_cut-append (c ∷ xs) ys h = rw (is_cut-append xs ys h) (or_assoc (is_front h c.word) (is_cut xs h) (is_cut ys h))
+is_cut-append (c ∷ xs) ys h = rw (is_cut-append xs ys h) (or_assoc (is_prefix h c.word) (is_cut xs h) (is_cut ys h))
 
 -- a word of three lists is of the first that has one here
 pub word_at_three : {V : Type 0} (a b c : List (V × ℕ × ℕ)) (h : Bits)

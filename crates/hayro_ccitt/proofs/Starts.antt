@@ -11,7 +11,7 @@ use Rattle.hayro_ccitt.specs.PlainReading.{at_end}
 use Rattle.hayro_ccitt.specs.Locality.{begins_line, later_starts, starts, IsStart, Descends, StartsAre}
 use Rattle.hayro_ccitt.proofs.Past.{all_eols-some, all_eols-none}
 use Rattle.hayro_ccitt.proofs.Moves.{after_eol_shorter, eol_of}
-use Rattle.hayro_ccitt.proofs.ZerosInWords.{front_of_front}
+use Rattle.hayro_ccitt.proofs.ZerosInWords.{prefix_of_prefix}
 use Rattle.hayro_ccitt.proofs.Leaves.{Leaves}
 use Rattle.hayro_ccitt.proofs.Tails.{after_eol_is, first_one, drop_at}
 
@@ -94,7 +94,7 @@ from_later seen (true ∷ here) end c =
 shorter_end : (xs ys us vs : Bits) → xs ++ ys ≡ us ++ vs → length vs ≤ length ys → Leaves ys vs
 shorter_end xs ys us vs e le =
     let lengths : length xs + length ys ≡ length us + length vs = sym (length-append xs ys) ∙ ap length e ∙ length-append us vs in
-    let f = front_of_front xs ys us vs (sym e) (omega (arith, lengths, le)) in
+    let f = prefix_of_prefix xs ys us vs (sym e) (omega (arith, lengths, le)) in
     (f.0, append_cancel_left xs ys (f.0 ++ vs) (e ∙ ap (λ (b : Bits). b ++ vs) f.1 ∙ append_assoc xs f.0 vs))
 
 same_end : (xs ys us vs : Bits) → xs ++ ys ≡ us ++ vs → length ys ≡ length vs → ys ≡ vs

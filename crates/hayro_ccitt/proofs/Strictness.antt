@@ -12,7 +12,7 @@ use Rattle.hayro_ccitt.specs.declared.error.DecodeError.TheVariants.{InvalidCode
 use Rattle.hayro_ccitt.specs.declared.settings.DecodeSettings.{DecodeSettings}
 use Rattle.hayro_ccitt.specs.declared.settings.EncodingMode.{EncodingMode}
 use Rattle.hayro_ccitt.specs.declared.settings.EncodingMode.TheVariants.{Group4, Group3_1D, Group3_2D}
-use Rattle.hayro_ccitt.specs.Bits.{Bits, bits_of}
+use Rattle.hayro_ccitt.specs.Bits.{Bits, bits_of, IsPrefix}
 use Rattle.hayro_ccitt.specs.CodeLists.{mode_codes}
 use Rattle.hayro_ccitt.specs.CodeReading.{read_code}
 use Rattle.hayro_ccitt.specs.Repetition.{Turn, repeated}
@@ -20,14 +20,14 @@ use Rattle.hayro_ccitt.specs.Rows.{Row, is_black, opposite, b1, b2, right_of, pa
 use Rattle.hayro_ccitt.specs.Runs.{run_from}
 use Rattle.hayro_ccitt.specs.Lines.{Line, Pen, Step, try, draw_run, unless_full, start, step_1d, line_1d, place_from, draw_mode, step_2d, line_2d}
 use Rattle.hayro_ccitt.specs.EndOfLine.{eols, all_eols, next_eol}
-use Rattle.hayro_ccitt.specs.PlainReading.{Progress, Ending, Move, row_before, aligned, ends_with, after_line_group4, line_at_group4, move_group4}
+use Rattle.hayro_ccitt.specs.PlainReading.{Progress, Ending, Move, row_before, aligned, ends_with, after_line_group4, line_at_group4, move_group4, whole_reading}
 use Rattle.hayro_ccitt.specs.PlainReading.{limit_met, at_end, plain_group3, plain_group4, end_by, bytes_before, eols_group3, line_by, unless_over}
 use Rattle.hayro_ccitt.specs.PlainReading.{seek_from, after_row, after_line_group3, move_group3}
-use Rattle.hayro_ccitt.specs.Laws.{IsFront, StrictThenLenient}
+use Rattle.hayro_ccitt.specs.Laws.{StrictThenLenient}
 use Rattle.hayro_ccitt.proofs.Repeated.{Follows, after_turn, repeated_follows}
 use Rattle.hayro_ccitt.proofs.ReadLines.{left as pen_left, step_1d_shrinks, step_2d_shrinks}
 use Rattle.hayro_ccitt.proofs.Moves.{left, move_group4_shrinks, left_group3, left_group3_below, move_group3_shrinks}
-use Rattle.hayro_ccitt.proofs.Grown.{Keeps, Adds, seek_from_keeps, after_line_group4_adds, move_group3_adds, move_group4_adds, repeated_adds, front_trans}
+use Rattle.hayro_ccitt.proofs.Grown.{Keeps, Adds, seek_from_keeps, after_line_group4_adds, move_group3_adds, move_group4_adds, repeated_adds, prefix_trans}
 
 -- ---- Lines
 
@@ -148,17 +148,17 @@ module _ (settings : DecodeSettings) (wide : 0 < settings.columns) where
   abbrev SameRun : Progress → Progress → Type 0
   SameRun s t = s ≡ t
 
-  -- the rows are a front of the other's, and all is the same where it ended without a fault
+  -- the rows are a prefix of the other's, and all is the same where it ended without a fault
   abbrev Precedes : Ending → Ending → Type 0
-  Precedes r q = IsFront r.rows q.rows × (IsOk r.outcome → r ≡ q)
+  Precedes r q = IsPrefix r.rows q.rows × (IsOk r.outcome → r ≡ q)
 
-  module _ (rest : Progress → Ending) (extends : (t : Progress) → IsFront t.rows (rest t).rows) where
-    turn_extends : (rows : List Row) (m : Move) → Adds rows m → IsFront rows (after_turn rest m).rows
-    turn_extends rows (Turn.next t) k = front_trans rows t.rows (rest t).rows k (extends t)
+  module _ (rest : Progress → Ending) (extends : (t : Progress) → IsPrefix t.rows (rest t).rows) where
+    turn_extends : (rows : List Row) (m : Move) → Adds rows m → IsPrefix rows (after_turn rest m).rows
+    turn_extends rows (Turn.next t) k = prefix_trans rows t.rows (rest t).rows k (extends t)
     turn_extends rows (Turn.done e) k = k
 
-    keeps_extends : (rows : List Row) (m : Move) → Keeps rows m → IsFront rows (after_turn rest m).rows
-    keeps_extends rows (Turn.next t) k = subst (λ (x : List Row). IsFront x (rest t).rows) k (extends t)
+    keeps_extends : (rows : List Row) (m : Move) → Keeps rows m → IsPrefix rows (after_turn rest m).rows
+    keeps_extends rows (Turn.next t) k = subst (λ (x : List Row). IsPrefix x (rest t).rows) k (extends t)
     keeps_extends rows (Turn.done e) k = ([], k ∙ sym (append-nil rows))
 
     same_turn : (m : Move) → Follows SameRun Precedes rest m m
@@ -258,7 +258,7 @@ strict_then_lenient settings bytes are = elim (cases_eq settings.columns 0) [
       let both = precedes settings wide settings.encoding (bits_of bytes) in
       rw columns (
         both.0,
-        λ ok. ap (λ (e : Ending). (e.rows, bytes_before (bits_of bytes) e.outcome))
+        λ ok. ap (whole_reading (bits_of bytes))
             (both.1 (ok_outcome (bits_of bytes) (end_by settings.encoding (record settings { strict = true }) (bits_of bytes)).outcome ok)),
       )
 ]

@@ -31,12 +31,12 @@ continued-full columns front full =
 
 module _ (settings : DecodeSettings) (wide : 0 < settings.columns) (bits : Bits) (rows : List Row) (rest : Bits) (comes : Comes settings bits rows rest)
     (count : ℕ) (here : Bits) (found : eols_group4 settings rest ≡ (count, here)) (h : Held) (is : h ≡ held_between settings rows)
-    (on : is_over_group4 h.settings h.rows (count, here) ≡ false) where
+    (on : is_over_group4 h.settings h.taken (count, here) ≡ false) where
   abbrev line : Line
   line = line_group4 settings (between rows rest) here
 
   not_over : is_over_group4 settings (length rows) (count, here) ≡ false
-  not_over = ap (λ (x : Held). is_over_group4 x.settings x.rows (count, here)) (sym is) ∙ on
+  not_over = ap (λ (x : Held). is_over_group4 x.settings x.taken (count, here)) (sym is) ∙ on
 
   draws : (answer : Result (Unit {0}) DecodeError) (front : Row) (after : Bits)
       → DrawsLine (line_2d h.settings.strict h.settings.columns h.reference here) answer front after → DrawsLine line answer front after
@@ -86,5 +86,5 @@ module _ (settings : DecodeSettings) (wide : 0 < settings.columns) (bits : Bits)
     row_held color =
         let more : length rows + 1 ≡ length (rows ++ front ∷ []) = omega (arith, length-append rows (front ∷ [])) in
         ap (λ (x : Held). after_taking (redrawn x front color)) is
-        ∙ ap (λ (r : Row). record (held_between settings (rows ++ front ∷ [])) { reference = r; rows = length rows + 1 }) (full ∙ sym (row_before_push settings.columns rows front))
-        ∙ ap (λ (n : ℕ). record (held_between settings (rows ++ front ∷ [])) { rows = n }) more
+        ∙ ap (λ (r : Row). record (held_between settings (rows ++ front ∷ [])) { reference = r; taken = length rows + 1 }) (full ∙ sym (row_before_push settings.columns rows front))
+        ∙ ap (λ (n : ℕ). record (held_between settings (rows ++ front ∷ [])) { taken = n }) more

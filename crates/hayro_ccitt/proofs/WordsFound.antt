@@ -25,7 +25,7 @@ use Rattle.hayro_ccitt.specs.Laws.{IsWord, AreWords, joined, HoldsZeros, EndBefo
 use Rattle.hayro_ccitt.proofs.Repeated.{after_turn}
 use Rattle.hayro_ccitt.proofs.ReadCodes.{read_code_found}
 use Rattle.hayro_ccitt.proofs.ReadRuns.{chosen, word_next, not_done, done_is}
-use Rattle.hayro_ccitt.proofs.ZerosInWords.{codes_free, modes_free, free_by, no_one, holds_a_one, word_one, no_eleven_in, front_of_front}
+use Rattle.hayro_ccitt.proofs.ZerosInWords.{codes_free, modes_free, free_by, no_one, holds_a_one, word_one, no_eleven_in, prefix_of_prefix}
 
 -- what the turns after this one give
 abbrev pub gathered_after : {S R A : Type 0} → (S → List A) → Turn S R → List A
@@ -276,7 +276,7 @@ ends_before tag words here rest free stand before after eol = elim (cases_lt (le
   | inr ge ↦
       let zeros : Bits = before ++ replicate 11 false in
       let cut : (tag ++ joined words) ++ rest ≡ zeros ++ (true ∷ after) = sym stand ∙ eol in
-      let f = front_of_front zeros (true ∷ after) (tag ++ joined words) rest cut
+      let f = prefix_of_prefix zeros (true ∷ after) (tag ++ joined words) rest cut
       (omega (arith, length-append before (replicate 11 false), length-replicate 11 false)) in
       absurd (free (before, f.0, f.1))
 ]

@@ -7,9 +7,9 @@ use Rattle.hayro_ccitt.specs.declared.codes.Color.{Color}
 use Rattle.hayro_ccitt.specs.declared.codes.Color.TheVariants.{White, Black}
 use Rattle.hayro_ccitt.specs.Bits.{Bits}
 use Rattle.hayro_ccitt.specs.CodeLists.{Code, mode_codes}
-use Rattle.hayro_ccitt.specs.CodeReading.{Has, word_at, is_prefix_free}
+use Rattle.hayro_ccitt.specs.CodeReading.{Has, word_at, is_prefix_free, PrefixFree}
 use Rattle.hayro_ccitt.specs.Runs.{codes_of}
-use Rattle.hayro_ccitt.specs.Laws.{each_word, PrefixFree, IsWord, AreWords, joined, HoldsZeros}
+use Rattle.hayro_ccitt.specs.Laws.{each_word, IsWord, AreWords, joined, HoldsZeros}
 use Rattle.hayro_ccitt.proofs.ReadCodes.{word_at_again}
 
 -- ---- A test of each word of a list.
@@ -18,7 +18,7 @@ each_word_at test [] v w e i = elim i [ ]
 each_word_at test (c ∷ list) v w e (inl i) = rw (← i.1) (and_parts (test c.word) (each_word test list) e).0
 each_word_at test (c ∷ list) v w e (inr i) = each_word_at test list v w (and_parts (test c.word) (each_word test list) e).1 i
 
--- no word of a run is a front of another
+-- no word of a run is a prefix of another
 pub codes_free : (color : Color) → is_prefix_free (codes_of color) ≡ true
 codes_free White = refl
 codes_free Black = refl
@@ -147,11 +147,11 @@ word_one word (inl w) = each_word_at holds_a_one (codes_of w.0) w.1 word (codes_
 word_one word (inr w) = each_word_at holds_a_one mode_codes w.0 word refl w.1
 
 -- ---- Two ways to cut one list.
-pub front_of_front : (us vs xs ys : Bits) → xs ++ ys ≡ us ++ vs → length us ≤ length xs → (more : Bits) × (xs ≡ us ++ more)
-front_of_front [] vs xs ys e le = (xs, refl)
-front_of_front (u ∷ us) vs [] ys e le = absurd (omega arith)
-front_of_front (u ∷ us) vs (x ∷ xs) ys e le =
+pub prefix_of_prefix : (us vs xs ys : Bits) → xs ++ ys ≡ us ++ vs → length us ≤ length xs → (more : Bits) × (xs ≡ us ++ more)
+prefix_of_prefix [] vs xs ys e le = (xs, refl)
+prefix_of_prefix (u ∷ us) vs [] ys e le = absurd (omega arith)
+prefix_of_prefix (u ∷ us) vs (x ∷ xs) ys e le =
     let heads : x ≡ u = cc in
     let tails : xs ++ ys ≡ us ++ vs = cc in
-    let f = front_of_front us vs xs ys tails (omega arith) in
+    let f = prefix_of_prefix us vs xs ys tails (omega arith) in
     (f.0, cc)

@@ -1,5 +1,5 @@
 -- The bits of the data.
-use Rattle.std.specs.Prelude.{◌+◌, ◌*◌, ◌<◌, length, ℕ, zero, suc, drop, Bool, List, [], ◌∷◌, ◌^◌, ◌/◌, ◌%◌, ◌==◌}
+use Rattle.std.specs.Prelude.{◌+◌, ◌*◌, ◌<◌, length, ℕ, zero, suc, drop, Bool, List, [], ◌∷◌, ◌^◌, ◌/◌, ◌%◌, ◌==◌, ◌≡◌, ◌++◌}
 use Rattle.std.specs.List.{flat_map}
 
 -- bits in the order in which they are read
@@ -35,3 +35,7 @@ pub record BitsAt : Type 0 where
 -- the bits from the place on
 abbrev pub here : BitsAt → Bits
 here at = drop at.place at.bits
+
+-- a list begins another
+abbrev pub IsPrefix : {A : Type 0} → List A → List A → Type 0
+IsPrefix {A} prefix whole = (rest : List A) × (whole ≡ prefix ++ rest)

@@ -1,10 +1,10 @@
 -- Reading a list of code words.
-use Rattle.std.specs.Prelude.{◌≡◌, ℕ, suc, Bool, true, false, not, ◌&&◌, ◌||◌, List, [], ◌∷◌, Option, Some, None, Result, Ok, Err, if◌then◌else◌, is_some, ◌⊎◌}
+use Rattle.std.specs.Prelude.{◌≡◌, ℕ, suc, Bool, true, false, not, ◌&&◌, ◌||◌, List, [], ◌∷◌, Option, Some, None, Result, Ok, Err, if◌then◌else◌, is_some, ◌⊎◌, ◌++◌, ◌↔◌}
 use mathlib.Core.Bool.{beq}
 use Rattle.std.specs.List.{list_all}
 use Rattle.hayro_ccitt.specs.declared.error.DecodeError.{DecodeError}
 use Rattle.hayro_ccitt.specs.declared.error.DecodeError.TheVariants.{UnexpectedEof, InvalidCode}
-use Rattle.hayro_ccitt.specs.Bits.{Bits}
+use Rattle.hayro_ccitt.specs.Bits.{Bits, IsPrefix}
 use Rattle.hayro_ccitt.specs.CodeLists.{Code}
 
 -- what follows the word, where it stands at the front
@@ -13,9 +13,9 @@ after [] here = Some here
 after (b ∷ word) [] = None
 after (b ∷ word) (c ∷ here) = if beq b c then after word here else None
 
--- whether the first list is a front of the second
-abbrev pub is_front : Bits → Bits → Bool
-is_front front whole = is_some (after front whole)
+-- whether the first list is a prefix of the second
+abbrev pub is_prefix : Bits → Bits → Bool
+is_prefix prefix whole = is_some (after prefix whole)
 
 -- the value of the word of the list that stands here, and what follows it
 abbrev pub word_at : {V : Type 0} → List (Code V) → Bits → Option (V × Bits)
@@ -30,12 +30,12 @@ abbrev pub Has : {V : Type 0} → List (Code V) → V → Bits → Type 0
 Has [] v w = ⊥
 Has (c ∷ list) v w = ((c.value ≡ v) × (c.word ≡ w)) ⊎ Has list v w
 
--- whether the bits from here to the end are a front of a word of the list
+-- whether the bits from here to the end are a prefix of a word of the list
 abbrev pub is_cut : {V : Type 0} → List (Code V) → Bits → Bool
 is_cut [] here = false
-is_cut (c ∷ list) here = is_front here c.word || is_cut list here
+is_cut (c ∷ list) here = is_prefix here c.word || is_cut list here
 
--- Reading a list: a word of it stands here; or the bits from here to the end, possibly none, are a front of a word, and
+-- Reading a list: a word of it stands here; or the bits from here to the end, possibly none, are a prefix of a word, and
 -- it is the end that is missing; or neither.
 abbrev pub read_code : {V : Type 0} → List (Code V) → Bits → Result (V × Bits) DecodeError
 read_code list here = elim (word_at list here) [
@@ -43,11 +43,11 @@ read_code list here = elim (word_at list here) [
   | None ↦ if is_cut list here then Err UnexpectedEof else Err InvalidCode
 ]
 
--- neither of two words is a front of the other
+-- neither of two words is a prefix of the other
 abbrev pub apart : Bits → Bits → Bool
-apart v w = not (is_front v w) && not (is_front w v)
+apart v w = not (is_prefix v w) && not (is_prefix w v)
 
--- no word of the list is a front of another
+-- no word of the list is a prefix of another
 abbrev pub is_prefix_free : {V : Type 0} → List (Code V) → Bool
 is_prefix_free [] = true
 is_prefix_free (c ∷ list) = list_all (λ d. apart c.word d.word) list && is_prefix_free list
@@ -62,3 +62,29 @@ abbrev pub agreement : Bits → Bits → ℕ
 agreement [] here = 0
 agreement (b ∷ word) [] = 0
 agreement (b ∷ word) (c ∷ here) = if beq b c then suc (agreement word here) else 0
+
+-- ---- What reading a list answers
+
+-- a word of the list stands here, for this value, and this follows it
+abbrev pub Stands : {V : Type 0} → List (Code V) → Bits → V → Bits → Type 0
+Stands list here v rest = (w : Bits) × Has list v w × (here ≡ w ++ rest)
+
+-- no word of the list stands here
+abbrev pub NoneStands : {V : Type 0} → List (Code V) → Bits → Type 0
+NoneStands {V} list here = (v : V) (rest : Bits) → Stands list here v rest → ⊥
+
+-- the bits from here to the end are a prefix of a word of the list
+abbrev pub IsCut : {V : Type 0} → List (Code V) → Bits → Type 0
+IsCut {V} list here = (v : V) × (w : Bits) × Has list v w × IsPrefix here w
+
+-- What reading a list answers (T.4, 4.1.1): the word that stands here, whatever follows it. Where none does, the end is
+-- missing if the bits up to it are a prefix of a word, and the code is wrong if they aren't.
+pub record ReadsCodes {V : Type 0} (list : List (Code V)) : Type 0 where
+  pub found : (here : Bits) (v : V) (rest : Bits) → (read_code list here ≡ Ok (v, rest)) ↔ Stands list here v rest
+  pub alone : (here : Bits) (v : V) (rest more : Bits) → read_code list here ≡ Ok (v, rest) → read_code list (here ++ more) ≡ Ok (v, rest ++ more)
+  pub cut : (here : Bits) → (read_code list here ≡ Err UnexpectedEof) ↔ (NoneStands list here × IsCut list here)
+  pub wrong : (here : Bits) → (read_code list here ≡ Err InvalidCode) ↔ (NoneStands list here × (IsCut list here → ⊥))
+
+-- no word of a list is a prefix of another one, and none stands for two values
+abbrev pub PrefixFree : {V : Type 0} → List (Code V) → Type 0
+PrefixFree {V} list = (v w : V) (a b rest : Bits) → Has list v a → Has list w b → b ≡ a ++ rest → (rest ≡ []) × (v ≡ w)

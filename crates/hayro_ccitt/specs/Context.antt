@@ -4,7 +4,7 @@ use Rattle.hayro_ccitt.specs.declared.codes.Color.{Color}
 use Rattle.hayro_ccitt.specs.declared.codes.Color.TheVariants.{White}
 use Rattle.hayro_ccitt.specs.declared.settings.DecodeSettings.{DecodeSettings}
 use Rattle.hayro_ccitt.specs.declared.error.DecodeError.{DecodeError}
-use Rattle.hayro_ccitt.specs.Rows.{Row, paint, last_pixel}
+use Rattle.hayro_ccitt.specs.Rows.{Row, white_row, paint, last_pixel}
 
 -- the reference row, the front of the coding row, the present colour, the number of rows that were taken, whether
 -- EOLs are sought, and the settings
@@ -12,7 +12,7 @@ pub record Held : Type 0 where
   pub reference : Row
   pub front : Row
   pub color : Color
-  pub rows : ℕ
+  pub taken : ℕ
   pub has_eols : Bool
   pub settings : DecodeSettings
 
@@ -24,7 +24,7 @@ pub record Context : Type 0 where
 -- what a new context holds: a white reference row, nothing painted, no row taken
 abbrev pub fresh : DecodeSettings → Held
 fresh settings =
-    record { reference = replicate settings.columns false; front = []; color = White; rows = 0; has_eols = false; settings = settings }
+    record { reference = white_row settings.columns; front = []; color = White; taken = 0; has_eols = false; settings = settings }
 
 -- a front that isn't full, continued in its last colour, white if it is empty
 abbrev pub continued : ℕ → Row → Row
@@ -41,12 +41,12 @@ painted_front h count = paint h.settings.strict h.settings.columns h.front h.col
 -- the row that was drawn becomes the reference row of an empty front
 abbrev pub after_taking : Held → Held
 after_taking h =
-    record { reference = taken_row h; front = []; color = White; rows = h.rows + 1; has_eols = h.has_eols; settings = h.settings }
+    record { reference = taken_row h; front = []; color = White; taken = h.taken + 1; has_eols = h.has_eols; settings = h.settings }
 
 -- another front and another colour, and all else the same
 abbrev pub redrawn : Held → Row → Color → Held
 redrawn h front color =
-    record { reference = h.reference; front = front; color = color; rows = h.rows; has_eols = h.has_eols; settings = h.settings }
+    record { reference = h.reference; front = front; color = color; taken = h.taken; has_eols = h.has_eols; settings = h.settings }
 
 -- the first place right of a0, where so many pixels are painted
 abbrev pub right_of_painted : ℕ → ℕ

@@ -12,7 +12,7 @@ context_of c =
         reference = pixels c.settings.columns c.ref_changes.items;
         front = pixels c.pixels_decoded c.coding_changes.items;
         color = c.color;
-        rows = c.decoded_rows;
+        taken = c.decoded_rows;
         has_eols = c.has_eols;
         settings = c.settings;
       };

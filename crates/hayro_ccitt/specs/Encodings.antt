@@ -8,7 +8,9 @@ use Rattle.hayro_ccitt.specs.Bits.{Bits}
 use Rattle.hayro_ccitt.specs.CodeLists.{mode_codes}
 use Rattle.hayro_ccitt.specs.CodeReading.{Has}
 use Rattle.hayro_ccitt.specs.Runs.{codes_of}
-use Rattle.hayro_ccitt.specs.Rows.{Row, is_black, opposite, b1, b2, a1, a2}
+use Rattle.hayro_ccitt.specs.Rows.{Row, is_black, opposite, b1, b2, a1, a2, white_row}
+use Rattle.hayro_ccitt.specs.declared.settings.EncodingMode.TheVariants.{Group4, Group3_1D, Group3_2D}
+use Rattle.hayro_ccitt.specs.declared.settings.EncodingMode.{EncodingMode}
 
 -- make-up words of a colour and one terminating word, which sum to n (T.4, 4.1.1)
 pub data Spells (color : Color) : ℕ → Bits → Type 0 where
@@ -39,17 +41,11 @@ pub data EncodesLine2D (reference row : Row) : ℕ → Color → Bits → Type 0
       → EncodesLine2D reference row (suc (a2 row from)) color bits
       → EncodesLine2D reference row from color (word ++ (first ++ (second ++ bits)))
 
--- the kinds of lines: of T.6; of one-dimensional T.4; of two-dimensional T.4, with a tag (T.4, 4.2.2)
-pub data Kind : Type 0 where
-  group4 : Kind
-  group3_1d : Kind
-  group3_2d : Kind
-
--- a line of a kind, behind its tag where the kind has one (T.4, 4.2.2)
-abbrev pub EncodesLine : Kind → Row → Row → Bits → Type 0
-EncodesLine Kind.group4 reference row bits = EncodesLine2D reference row 0 White bits
-EncodesLine Kind.group3_1d reference row bits = EncodesLine1D White row bits
-EncodesLine Kind.group3_2d reference row bits = (line : Bits)
+-- a line of an encoding: of T.6; of one-dimensional T.4; of two-dimensional T.4, behind its tag (T.4, 4.2.2)
+abbrev pub EncodesLine : EncodingMode → Row → Row → Bits → Type 0
+EncodesLine Group4 reference row bits = EncodesLine2D reference row 0 White bits
+EncodesLine Group3_1D reference row bits = EncodesLine1D White row bits
+EncodesLine Group3_2D reference row bits = (line : Bits)
     × (((bits ≡ true ∷ line) × EncodesLine1D White row line) ⊎ ((bits ≡ false ∷ line) × EncodesLine2D reference row 0 White line))
 
 -- zeros up to a whole byte
@@ -57,19 +53,15 @@ abbrev pub padding : ℕ → Bits
 padding n = replicate ((8 - n % 8) % 8) false
 
 -- lines in order, each filled up to a whole byte where they are aligned
-abbrev pub EncodesRows : Kind → Bool → Row → List Row → Bits → Type 0
-EncodesRows kind aligned reference [] bits = bits ≡ []
-EncodesRows kind aligned reference (row ∷ rows) bits = (line next : Bits)
-    × EncodesLine kind reference row line × EncodesRows kind aligned row rows next
+abbrev pub EncodesRows : EncodingMode → Bool → Row → List Row → Bits → Type 0
+EncodesRows encoding aligned reference [] bits = bits ≡ []
+EncodesRows encoding aligned reference (row ∷ rows) bits = (line next : Bits)
+    × EncodesLine encoding reference row line × EncodesRows encoding aligned row rows next
     × (bits ≡ line ++ (if aligned then padding (length line) else []) ++ next)
 
 -- eleven zeros, so many more, and a one (T.4, 4.1.2 and 4.1.3)
 abbrev pub eol : ℕ → Bits
 eol fill = replicate (11 + fill) false ++ true ∷ []
-
--- the row before the first (T.4, 4.2.1.1)
-abbrev pub white_row : ℕ → Row
-white_row columns = replicate columns false
 
 -- rows of one width
 abbrev pub IsPicture : ℕ → List Row → Type 0
@@ -78,26 +70,26 @@ IsPicture columns rows = (0 < columns) × All (λ row. length row ≡ columns) r
 -- a T.6 stream, closed by EOFB, which is two EOLs (T.6, 2.4.1.1)
 abbrev pub PictureT6 : ℕ → Bool → List Row → Bits → Type 0
 PictureT6 columns aligned rows bits = (body : Bits)
-    × IsPicture columns rows × EncodesRows Kind.group4 aligned (white_row columns) rows body × (bits ≡ body ++ eol 0 ++ eol 0)
+    × IsPicture columns rows × EncodesRows Group4 aligned (white_row columns) rows body × (bits ≡ body ++ eol 0 ++ eol 0)
 
 -- lines in order, an EOL before each
-abbrev pub EncodesRowsWithEols : Kind → Row → List Row → Bits → Type 0
-EncodesRowsWithEols kind reference [] bits = bits ≡ []
-EncodesRowsWithEols kind reference (row ∷ rows) bits = (fill : ℕ) × (line next : Bits)
-    × EncodesLine kind reference row line × EncodesRowsWithEols kind row rows next × (bits ≡ eol fill ++ line ++ next)
+abbrev pub EncodesRowsWithEols : EncodingMode → Row → List Row → Bits → Type 0
+EncodesRowsWithEols encoding reference [] bits = bits ≡ []
+EncodesRowsWithEols encoding reference (row ∷ rows) bits = (fill : ℕ) × (line next : Bits)
+    × EncodesLine encoding reference row line × EncodesRowsWithEols encoding row rows next × (bits ≡ eol fill ++ line ++ next)
 
 -- the tag behind an EOL of RTC (T.4, 4.1.4)
-abbrev pub tag_of : Kind → Bits
-tag_of Kind.group3_2d = true ∷ []
-tag_of Kind.group3_1d = []
-tag_of Kind.group4 = []
+abbrev pub tag_of : EncodingMode → Bits
+tag_of Group3_2D = true ∷ []
+tag_of Group3_1D = []
+tag_of Group4 = []
 
 -- so many EOLs, each with its tag
-abbrev pub ClosesWithEols : Kind → ℕ → Bits → Type 0
-ClosesWithEols kind zero bits = bits ≡ []
-ClosesWithEols kind (suc n) bits = (fill : ℕ) × (next : Bits) × ClosesWithEols kind n next × (bits ≡ eol fill ++ tag_of kind ++ next)
+abbrev pub ClosesWithEols : EncodingMode → ℕ → Bits → Type 0
+ClosesWithEols encoding zero bits = bits ≡ []
+ClosesWithEols encoding (suc n) bits = (fill : ℕ) × (next : Bits) × ClosesWithEols encoding n next × (bits ≡ eol fill ++ tag_of encoding ++ next)
 
 -- a T.4 stream, closed by RTC, which is six EOLs (T.4, 4.1.4)
-abbrev pub PictureT4 : Kind → ℕ → List Row → Bits → Type 0
-PictureT4 kind columns rows bits = (lines closing : Bits) × (0 < length rows) × IsPicture columns rows
-    × EncodesRowsWithEols kind (white_row columns) rows lines × ClosesWithEols kind 6 closing × (bits ≡ lines ++ closing)
+abbrev pub PictureT4 : EncodingMode → ℕ → List Row → Bits → Type 0
+PictureT4 encoding columns rows bits = (lines closing : Bits) × (0 < length rows) × IsPicture columns rows
+    × EncodesRowsWithEols encoding (white_row columns) rows lines × ClosesWithEols encoding 6 closing × (bits ≡ lines ++ closing)

@@ -7,8 +7,8 @@ use Rattle.hayro_ccitt.specs.declared.settings.EncodingMode.{EncodingMode}
 use Rattle.hayro_ccitt.specs.declared.settings.EncodingMode.TheVariants.{Group4, Group3_1D, Group3_2D}
 use Rattle.hayro_ccitt.specs.declared.settings.DecodeSettings.{DecodeSettings}
 use Rattle.hayro_ccitt.specs.Bits.{bits_of}
-use Rattle.hayro_ccitt.specs.Rows.{changes, pixels}
-use Rattle.hayro_ccitt.specs.Encodings.{Kind, white_row, EncodesRows, PictureT4}
+use Rattle.hayro_ccitt.specs.Rows.{changes, pixels, white_row}
+use Rattle.hayro_ccitt.specs.Encodings.{EncodesRows, PictureT4}
 use Rattle.hayro_ccitt.specs.Locality.{IsLocal}
 use Rattle.hayro_ccitt.specs.PlainReading.{plain}
 
@@ -58,7 +58,7 @@ group3_2d = settings_with Group3_2D
 
 -- the plain reading of a text of bytes, with its rows as changes
 abbrev pub reading_of : DecodeSettings → String → List (List ℕ) × Result ℕ DecodeError
-reading_of settings text = (map changes (plain settings (hex text)).0, (plain settings (hex text)).1)
+reading_of settings text = (map changes (plain settings (hex text)).rows, (plain settings (hex text)).outcome)
 
 -- ---- Encodings
 
@@ -72,12 +72,12 @@ tagged_rows = "001CC005001800C006003001800C"
 
 -- the lines of the rows with the changes 5, 6 and 2, 3, 5, 6, of eight columns
 abbrev pub EncodesTwoLines : Type 0
-EncodesTwoLines = EncodesRows Kind.group4 false (white_row 8) (pixels 8 (5 ∷ 6 ∷ []) ∷ pixels 8 (2 ∷ 3 ∷ 5 ∷ 6 ∷ []) ∷ [])
+EncodesTwoLines = EncodesRows Group4 false (white_row 8) (pixels 8 (5 ∷ 6 ∷ []) ∷ pixels 8 (2 ∷ 3 ∷ 5 ∷ 6 ∷ []) ∷ [])
     (take 28 (bits_of (hex two_lines)))
 
 -- a line with the tag 1, one with the tag 0, and RTC with its tags
 abbrev pub EncodesTaggedRows : Type 0
-EncodesTaggedRows = PictureT4 Kind.group3_2d 8 (pixels 8 [] ∷ pixels 8 [] ∷ []) (take 110 (bits_of (hex tagged_rows)))
+EncodesTaggedRows = PictureT4 Group3_2D 8 (pixels 8 [] ∷ pixels 8 [] ∷ []) (take 110 (bits_of (hex tagged_rows)))
 
 -- ---- Locality
 

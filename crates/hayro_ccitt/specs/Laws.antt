@@ -8,54 +8,20 @@ use Rattle.hayro_ccitt.specs.declared.error.DecodeError.TheVariants.{UnexpectedE
 use Rattle.hayro_ccitt.specs.declared.settings.EncodingMode.{EncodingMode}
 use Rattle.hayro_ccitt.specs.declared.settings.EncodingMode.TheVariants.{Group4, Group3_1D, Group3_2D}
 use Rattle.hayro_ccitt.specs.declared.settings.DecodeSettings.{DecodeSettings}
-use Rattle.hayro_ccitt.specs.Bits.{Bits, bits_of}
+use Rattle.hayro_ccitt.specs.Bits.{Bits, bits_of, IsPrefix}
 use Rattle.hayro_ccitt.specs.CodeLists.{Code, mode_codes}
-use Rattle.hayro_ccitt.specs.CodeReading.{Has, read_code, leading_zeros}
+use Rattle.hayro_ccitt.specs.CodeReading.{Has, read_code, leading_zeros, PrefixFree}
 use Rattle.hayro_ccitt.specs.Runs.{codes_of}
-use Rattle.hayro_ccitt.specs.Rows.{Row, AreChanges, pixels, changes}
+use Rattle.hayro_ccitt.specs.Rows.{Row, AreChanges, pixels, changes, white_row}
 use Rattle.hayro_ccitt.specs.Lines.{Line}
 use Rattle.hayro_ccitt.specs.EndOfLine.{eols}
-use Rattle.hayro_ccitt.specs.Encodings.{Kind, white_row, EncodesRows, IsPicture, EncodesRowsWithEols, ClosesWithEols, PictureT6, PictureT4}
+use Rattle.hayro_ccitt.specs.Encodings.{EncodesRows, IsPicture, EncodesRowsWithEols, ClosesWithEols, PictureT6, PictureT4}
 use Rattle.hayro_ccitt.specs.Repetition.{Turn}
 use Rattle.hayro_ccitt.specs.PlainReading.{line_by, Progress, start_group4, move_group4, eols_group3, plain}
 use Rattle.hayro_ccitt.specs.Ticks.{tag_at, line_found}
-
--- a list begins another
-abbrev pub IsFront : {A : Type 0} → List A → List A → Type 0
-IsFront {A} front whole = (rest : List A) × (whole ≡ front ++ rest)
-
--- the columns and the limit of rows have 32 bits
-pub record AreSettings (settings : DecodeSettings) : Type 0 where
-  pub columns : settings.columns < 2 ^ 32
-  pub rows : settings.rows < 2 ^ 32
-
--- ---- code reading
-
--- a word of the list stands here, for this value, and this follows it
-abbrev pub Stands : {V : Type 0} → List (Code V) → Bits → V → Bits → Type 0
-Stands list here v rest = (w : Bits) × Has list v w × (here ≡ w ++ rest)
-
--- no word of the list stands here
-abbrev pub NoneStands : {V : Type 0} → List (Code V) → Bits → Type 0
-NoneStands {V} list here = (v : V) (rest : Bits) → Stands list here v rest → ⊥
-
--- the bits from here to the end are a front of a word of the list
-abbrev pub IsCut : {V : Type 0} → List (Code V) → Bits → Type 0
-IsCut {V} list here = (v : V) × (w : Bits) × Has list v w × IsFront here w
-
--- What reading a list answers (T.4, 4.1.1): the word that stands here, whatever follows it. Where none does, the end is
--- missing if the bits up to it are a front of a word, and the code is wrong if they aren't.
-pub record ReadsCodes {V : Type 0} (list : List (Code V)) : Type 0 where
-  pub found : (here : Bits) (v : V) (rest : Bits) → (read_code list here ≡ Ok (v, rest)) ↔ Stands list here v rest
-  pub alone : (here : Bits) (v : V) (rest more : Bits) → read_code list here ≡ Ok (v, rest) → read_code list (here ++ more) ≡ Ok (v, rest ++ more)
-  pub cut : (here : Bits) → (read_code list here ≡ Err UnexpectedEof) ↔ (NoneStands list here × IsCut list here)
-  pub wrong : (here : Bits) → (read_code list here ≡ Err InvalidCode) ↔ (NoneStands list here × (IsCut list here → ⊥))
+use Rattle.hayro_ccitt.specs.Settings.{AreSettings}
 
 -- ---- synchronised
-
--- no word of a list is a front of another one, and none stands for two values
-abbrev pub PrefixFree : {V : Type 0} → List (Code V) → Type 0
-PrefixFree {V} list = (v w : V) (a b rest : Bits) → Has list v a → Has list w b → b ≡ a ++ rest → (rest ≡ []) × (v ≡ w)
 
 -- a word of a run or of a mode
 abbrev pub IsWord : Bits → Type 0
@@ -78,10 +44,10 @@ HoldsZeros n bits = (before after : Bits) × (bits ≡ before ++ replicate n fal
 -- Words stand in a row here, behind a tag or none; and where an EOL stands here or further on, they end before its one.
 pub record EndBeforeEol (tag : Bits) (words : List Bits) (here : Bits) : Type 0 where
   pub are : AreWords words
-  pub stand : IsFront (tag ++ joined words) here
+  pub stand : IsPrefix (tag ++ joined words) here
   pub end : (before after : Bits) → here ≡ before ++ replicate 11 false ++ true ∷ after → length (tag ++ joined words) < length before + 11
 
--- No code word is a front of another, and no words in a row, nor a tag before them, hold the eleven zeros of an EOL
+-- No code word is a prefix of another, and no words in a row, nor a tag before them, hold the eleven zeros of an EOL
 -- (T.4, 4.1.2). So each word that the reading of a line finds ends before the one of each EOL at or after its start;
 -- a whole line ends with the last of these words.
 pub record Synchronised : Type 0 where
@@ -132,14 +98,14 @@ limited limit settings = record settings { rows = limit }
 -- The strict reading's rows are the first of the lenient one's; where it ends without a fault, both answer the same.
 abbrev pub StrictThenLenient : Type 0
 StrictThenLenient = (settings : DecodeSettings) (bytes : List ℕ) → AreSettings settings
-    → IsFront (plain (strictly settings) bytes).0 (plain (leniently settings) bytes).0
-    × (IsOk (plain (strictly settings) bytes).1 → plain (strictly settings) bytes ≡ plain (leniently settings) bytes)
+    → IsPrefix (plain (strictly settings) bytes).rows (plain (leniently settings) bytes).rows
+    × (IsOk (plain (strictly settings) bytes).outcome → plain (strictly settings) bytes ≡ plain (leniently settings) bytes)
 
 -- With a limit the rows are as many of the first as it allows; with so many rows the reading ends without a fault.
 abbrev pub RowLimit : Type 0
 RowLimit = (settings : DecodeSettings) (limit : ℕ) (bytes : List ℕ) → AreSettings settings → 0 < limit → limit < 2 ^ 32
-    → ((plain (limited limit settings) bytes).0 ≡ take limit (plain (limited 0 settings) bytes).0)
-    × (length (plain (limited limit settings) bytes).0 ≡ limit → IsOk (plain (limited limit settings) bytes).1)
+    → ((plain (limited limit settings) bytes).rows ≡ take limit (plain (limited 0 settings) bytes).rows)
+    × (length (plain (limited limit settings) bytes).rows ≡ limit → IsOk (plain (limited limit settings) bytes).outcome)
 
 -- ---- pictures
 
@@ -149,7 +115,7 @@ Allows settings n = (settings.rows ≡ 0) ⊎ (n ≤ settings.rows)
 
 -- the reading of some bytes gives these rows, without a fault
 abbrev pub Gives : DecodeSettings → List ℕ → List Row → Type 0
-Gives settings bytes rows = ((plain settings bytes).0 ≡ rows) × IsOk (plain settings bytes).1
+Gives settings bytes rows = ((plain settings bytes).rows ≡ rows) × IsOk (plain settings bytes).outcome
 
 -- A T.6 picture closed by EOFB gives its rows, whatever follows. The count is the end of EOFB, rounded up to a byte
 -- (T.6, 2.4.1.1).
@@ -157,55 +123,59 @@ abbrev pub ReadsPictureT6 : Type 0
 ReadsPictureT6 = (settings : DecodeSettings) (rows : List Row) (bits more : Bits) (bytes : List ℕ) → AreSettings settings
     → settings.encoding ≡ Group4 → settings.end_of_block ≡ true → Allows settings (length rows)
     → PictureT6 settings.columns settings.rows_are_byte_aligned rows bits → bits_of bytes ≡ bits ++ more
-    → plain settings bytes ≡ (rows, Ok ((length bits + 7) / 8))
+    → plain settings bytes ≡ record { rows = rows; outcome = Ok ((length bits + 7) / 8); has_eols = false }
 
 -- Lines of T.6 without EOFB are a picture too, where the limit is as many rows.
 abbrev pub ReadsLimitedRowsT6 : Type 0
 ReadsLimitedRowsT6 = (settings : DecodeSettings) (rows : List Row) (body more : Bits) (bytes : List ℕ) → AreSettings settings
     → settings.encoding ≡ Group4 → settings.rows ≡ length rows → 0 < length rows → IsPicture settings.columns rows
-    → EncodesRows Kind.group4 settings.rows_are_byte_aligned (white_row settings.columns) rows body → bits_of bytes ≡ body ++ more
+    → EncodesRows Group4 settings.rows_are_byte_aligned (white_row settings.columns) rows body → bits_of bytes ≡ body ++ more
     → Gives settings bytes rows
 
 -- the settings are for lines of this kind of T.4
-abbrev pub Matches : Kind → DecodeSettings → Type 0
-Matches Kind.group4 settings = ⊥
-Matches Kind.group3_1d settings = settings.encoding ≡ Group3_1D
-Matches Kind.group3_2d settings = settings.encoding ≡ Group3_2D
+abbrev pub Matches : EncodingMode → DecodeSettings → Type 0
+Matches Group4 settings = ⊥
+Matches Group3_1D settings = settings.encoding ≡ Group3_1D
+Matches Group3_2D settings = settings.encoding ≡ Group3_2D
 
 -- A T.4 picture closed by RTC gives its rows, whatever follows. The count is the end of the EOLs that stand where the
 -- last line ends, rounded up to a byte (T.4, 4.1.4).
 abbrev pub ReadsPictureT4 : Type 0
-ReadsPictureT4 = (settings : DecodeSettings) (kind : Kind) (rows : List Row) (lines closing more : Bits) (bytes : List ℕ)
-    → AreSettings settings → Matches kind settings → settings.end_of_block ≡ true → Allows settings (length rows)
-    → 0 < length rows → IsPicture settings.columns rows → EncodesRowsWithEols kind (white_row settings.columns) rows lines
-    → ClosesWithEols kind 6 closing → bits_of bytes ≡ lines ++ (closing ++ more)
-    → plain settings bytes ≡ (rows, Ok ((length (bits_of bytes) - length (eols_group3 settings (closing ++ more)).1 + 7) / 8))
+ReadsPictureT4 = (settings : DecodeSettings) (encoding : EncodingMode) (rows : List Row) (lines closing more : Bits) (bytes : List ℕ)
+    → AreSettings settings → Matches encoding settings → settings.end_of_block ≡ true → Allows settings (length rows)
+    → 0 < length rows → IsPicture settings.columns rows → EncodesRowsWithEols encoding (white_row settings.columns) rows lines
+    → ClosesWithEols encoding 6 closing → bits_of bytes ≡ lines ++ (closing ++ more)
+    → plain settings bytes ≡ record {
+      rows = rows;
+      outcome = Ok ((length (bits_of bytes) - length (eols_group3 settings (closing ++ more)).1 + 7) / 8);
+      has_eols = true;
+    }
 
 -- Lines of T.4 with EOLs and without RTC are a picture too, where the limit is as many rows.
 abbrev pub ReadsLimitedPictureT4 : Type 0
-ReadsLimitedPictureT4 = (settings : DecodeSettings) (kind : Kind) (rows : List Row) (lines more : Bits) (bytes : List ℕ)
-    → AreSettings settings → Matches kind settings → settings.rows ≡ length rows → 0 < length rows → IsPicture settings.columns rows
-    → EncodesRowsWithEols kind (white_row settings.columns) rows lines → bits_of bytes ≡ lines ++ more
+ReadsLimitedPictureT4 = (settings : DecodeSettings) (encoding : EncodingMode) (rows : List Row) (lines more : Bits) (bytes : List ℕ)
+    → AreSettings settings → Matches encoding settings → settings.rows ≡ length rows → 0 < length rows → IsPicture settings.columns rows
+    → EncodesRowsWithEols encoding (white_row settings.columns) rows lines → bits_of bytes ≡ lines ++ more
     → Gives settings bytes rows
 
 -- So are lines of T.4 without EOLs, where none are looked for.
 abbrev pub ReadsLimitedRowsT4 : Type 0
-ReadsLimitedRowsT4 = (settings : DecodeSettings) (kind : Kind) (rows : List Row) (body more : Bits) (bytes : List ℕ)
-    → AreSettings settings → Matches kind settings → settings.end_of_line ≡ false → settings.rows ≡ length rows
+ReadsLimitedRowsT4 = (settings : DecodeSettings) (encoding : EncodingMode) (rows : List Row) (body more : Bits) (bytes : List ℕ)
+    → AreSettings settings → Matches encoding settings → settings.end_of_line ≡ false → settings.rows ≡ length rows
     → 0 < length rows → IsPicture settings.columns rows
-    → EncodesRows kind settings.rows_are_byte_aligned (white_row settings.columns) rows body → bits_of bytes ≡ body ++ more
+    → EncodesRows encoding settings.rows_are_byte_aligned (white_row settings.columns) rows body → bits_of bytes ≡ body ++ more
     → Gives settings bytes rows
 
 -- Every picture has encodings: as T.6, as T.4 with an EOL before each line, and as lines alone.
 abbrev pub EveryPictureHasAnEncoding : Type 0
 EveryPictureHasAnEncoding = (columns : ℕ) (rows : List Row) → IsPicture columns rows
     → ((aligned : Bool) → (bits : Bits) × PictureT6 columns aligned rows bits)
-    × ((kind : Kind) → 0 < length rows → (bits : Bits) × PictureT4 kind columns rows bits)
-    × ((kind : Kind) (aligned : Bool) → (bits : Bits) × EncodesRows kind aligned (white_row columns) rows bits)
+    × ((encoding : EncodingMode) → 0 < length rows → (bits : Bits) × PictureT4 encoding columns rows bits)
+    × ((encoding : EncodingMode) (aligned : Bool) → (bits : Bits) × EncodesRows encoding aligned (white_row columns) rows bits)
 
 -- Any bits are the first of some bytes.
 abbrev pub BytesBeginWithAnyBits : Type 0
-BytesBeginWithAnyBits = (bits : Bits) → (bytes : List ℕ) × All (λ byte. byte < 256) bytes × IsFront bits (bits_of bytes)
+BytesBeginWithAnyBits = (bits : Bits) → (bytes : List ℕ) × All (λ byte. byte < 256) bytes × IsPrefix bits (bits_of bytes)
 
 -- ---- one picture
 
@@ -216,8 +186,8 @@ OnePictureT6 = (columns : ℕ) (aligned : Bool) (rows others : List Row) (bits m
 
 -- Where one T.4 stream begins another of the same width and kind, their rows are equal.
 abbrev pub OnePictureT4 : Type 0
-OnePictureT4 = (kind : Kind) (columns : ℕ) (rows others : List Row) (bits more : Bits) → kind ≢ Kind.group4 → columns < 2 ^ 32
-    → PictureT4 kind columns rows bits → PictureT4 kind columns others (bits ++ more) → rows ≡ others
+OnePictureT4 = (encoding : EncodingMode) (columns : ℕ) (rows others : List Row) (bits more : Bits) → encoding ≢ Group4 → columns < 2 ^ 32
+    → PictureT4 encoding columns rows bits → PictureT4 encoding columns others (bits ++ more) → rows ≡ others
 
 -- ---- after EOFB
 
@@ -235,7 +205,7 @@ ComesToEofb settings bits = (last : Progress) × Reaches settings (start_group4 
 abbrev pub AfterEofb : Type 0
 AfterEofb = (settings : DecodeSettings) (one two : List ℕ) (count : ℕ) → AreSettings settings
     → settings.encoding ≡ Group4 → settings.end_of_block ≡ true → ComesToEofb settings (bits_of one)
-    → (plain settings one).1 ≡ Ok count → take count two ≡ take count one → plain settings two ≡ plain settings one
+    → (plain settings one).outcome ≡ Ok count → take count two ≡ take count one → plain settings two ≡ plain settings one
 
 -- A T.6 picture comes to its EOFB.
 abbrev pub PicturesComeToEofb : Type 0

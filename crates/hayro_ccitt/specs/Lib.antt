@@ -16,5 +16,6 @@ pub mod PlainReading
 pub mod Repetition
 pub mod Rows
 pub mod Runs
+pub mod Settings
 pub mod Texts
 pub mod Ticks

@@ -5,12 +5,12 @@ use Rattle.std.specs.Prelude.{List, [], ◌∷◌, ◌++◌, length, take, drop,
 use Rattle.hayro_ccitt.specs.declared.error.DecodeError.{DecodeError}
 use Rattle.hayro_ccitt.specs.declared.settings.EncodingMode.TheVariants.{Group3_1D}
 use Rattle.hayro_ccitt.specs.declared.settings.DecodeSettings.{DecodeSettings}
-use Rattle.hayro_ccitt.specs.Bits.{Bits, bits_of}
-use Rattle.hayro_ccitt.specs.Rows.{Row}
+use Rattle.hayro_ccitt.specs.Bits.{Bits, bits_of, IsPrefix}
+use Rattle.hayro_ccitt.specs.Rows.{Row, repaired}
 use Rattle.hayro_ccitt.specs.Lines.{Line, line_1d}
 use Rattle.hayro_ccitt.specs.EndOfLine.{after_eol, all_eols, next_eol}
 use Rattle.hayro_ccitt.specs.PlainReading.{at_end, end_of, plain}
-use Rattle.hayro_ccitt.specs.Laws.{IsFront, AreSettings}
+use Rattle.hayro_ccitt.specs.Settings.{AreSettings}
 
 -- ---- lines by EOLs
 
@@ -31,7 +31,7 @@ starts bits = (all_eols bits).1 ∷ later_starts 0 (all_eols bits).1
 -- the row of a line: a broken one's front is continued in white
 abbrev pub row_of : ℕ → Line → Row
 row_of columns (Line.whole row rest) = row
-row_of columns (Line.broken front fault) = front ++ replicate (columns - length front) false
+row_of columns (Line.broken front fault) = repaired columns front
 
 -- the row of the line that stands here
 abbrev pub row_at : ℕ → Bits → Row
@@ -76,7 +76,7 @@ LinesByEols = (settings : DecodeSettings) (bytes : List ℕ) → AreSettings set
     → settings.encoding ≡ Group3_1D → settings.strict ≡ false → settings.end_of_block ≡ false → settings.rows ≡ 0 → 0 < settings.columns
     → (settings.end_of_line ≡ true) ⊎ IsEolAt (bits_of bytes)
     → All (StaysBefore settings.columns) (starts (bits_of bytes))
-    → IsFront (map (row_at settings.columns) (starts (bits_of bytes))) (plain settings bytes).0
+    → IsPrefix (map (row_at settings.columns) (starts (bits_of bytes))) (plain settings bytes).rows
 
 -- The starts are these places, in order.
 abbrev pub StartsAre : Type 0
@@ -93,7 +93,7 @@ pub record IsLocal (settings : DecodeSettings) (bits : Bits) (from to : ℕ) : T
   pub order : from ≤ to
   pub within : to ≤ length bits
   pub starts : (from ≡ 0) ⊎ ((place : ℕ) × IsEol bits place from)
-  pub one : (place : ℕ) × (from ≤ place) × (place < to) × IsFront (true ∷ []) (drop place bits)
+  pub one : (place : ℕ) × (from ≤ place) × (place < to) × IsPrefix (true ∷ []) (drop place bits)
   pub no_eol : (place end : ℕ) → from ≤ place → end ≤ to → IsEol bits place end → ⊥
   pub closes : (after : Bits) × (after_eol 0 (drop to bits) ≡ Some after) × EndsBefore settings.columns after (drop from bits)
 
@@ -120,12 +120,12 @@ LastPlace settings bytes place = (rest : Bits)
 
 -- some data are read with this count
 abbrev pub Counts : DecodeSettings → List ℕ → ℕ → Type 0
-Counts settings bytes count = (plain settings bytes).1 ≡ Ok count
+Counts settings bytes count = (plain settings bytes).outcome ≡ Ok count
 
 -- How the readings of two data end that differ in the line of one index, from a place on.
 pub data EndAlike (settings : DecodeSettings) (one two : List ℕ) (from index : ℕ) : Type 0 where
   -- both with the same fault
-  faults : (fault : DecodeError) → (plain settings one).1 ≡ Err fault → (plain settings two).1 ≡ Err fault
+  faults : (fault : DecodeError) → (plain settings one).outcome ≡ Err fault → (plain settings two).outcome ≡ Err fault
       → EndAlike settings one two from index
   -- without columns
   no_columns : (count : ℕ) → settings.columns ≡ 0 → Counts settings one count → Counts settings two count
@@ -138,9 +138,9 @@ pub data EndAlike (settings : DecodeSettings) (one two : List ℕ) (from index :
       → Counts settings one count → Counts settings two count2 → count + length two ≡ count2 + length one
       → EndAlike settings one two from index
   -- at the limit, which is met by this very row
-  at_limit : (place place2 : ℕ) → settings.rows ≡ suc index → length (plain settings one).0 ≡ suc index
+  at_limit : (place place2 : ℕ) → settings.rows ≡ suc index → length (plain settings one).rows ≡ suc index
       → from ≤ place → from ≤ place2 → LastPlace settings one place → LastPlace settings two place2
-      → IsOk (plain settings one).1 → IsOk (plain settings two).1 → EndAlike settings one two from index
+      → IsOk (plain settings one).outcome → IsOk (plain settings two).outcome → EndAlike settings one two from index
 
 -- equally many rows, all but at most one of them equal
 abbrev pub OneRowDiffers : List Row → List Row → ℕ → Type 0
@@ -152,4 +152,4 @@ Locality = (settings : DecodeSettings) (one two : List ℕ) (from to to2 : ℕ) 
     → take from (bits_of one) ≡ take from (bits_of two) → drop to (bits_of one) ≡ drop to2 (bits_of two)
     → IsLocal settings (bits_of one) from to → IsLocal settings (bits_of two) from to2
     → (settings.end_of_line ≡ true) ⊎ ((end : ℕ) × (end ≤ from) × IsEol (bits_of one) 0 end)
-    → (index : ℕ) × OneRowDiffers (plain settings one).0 (plain settings two).0 index × EndAlike settings one two from index
+    → (index : ℕ) × OneRowDiffers (plain settings one).rows (plain settings two).rows index × EndAlike settings one two from index

@@ -7,7 +7,7 @@ use Rattle.hayro_ccitt.specs.declared.settings.EncodingMode.TheVariants.{Group4,
 use Rattle.hayro_ccitt.specs.declared.settings.DecodeSettings.{DecodeSettings}
 use Rattle.hayro_ccitt.specs.Bits.{Bits, bits_of}
 use Rattle.hayro_ccitt.specs.Repetition.{Turn, repeated, gathered}
-use Rattle.hayro_ccitt.specs.Rows.{Row}
+use Rattle.hayro_ccitt.specs.Rows.{Row, white_row, repaired}
 use Rattle.hayro_ccitt.specs.Lines.{Line, line_1d, line_2d}
 use Rattle.hayro_ccitt.specs.EndOfLine.{eols, all_eols, tagged_eols, next_eol}
 
@@ -29,7 +29,7 @@ Move = Turn Progress Ending
 
 -- the next line's reference row: the last row, and before the first a white one (T.4, 4.2.1.1)
 abbrev pub row_before : ℕ → List Row → Row
-row_before columns [] = replicate columns false
+row_before columns [] = white_row columns
 row_before columns (row ∷ []) = row
 row_before columns (row ∷ next ∷ rows) = row_before columns (next ∷ rows)
 
@@ -148,7 +148,7 @@ abbrev pub after_line_group3 : DecodeSettings → Progress → Line → Move
 after_line_group3 settings so_far (Line.whole row rest) = add_row settings so_far row rest
 after_line_group3 settings so_far (Line.broken front fault) =
     if settings.strict || not so_far.has_eols then ends_with so_far (Err fault)
-    else add_row settings so_far (front ++ replicate (settings.columns - length front) false) so_far.rest
+    else add_row settings so_far (repaired settings.columns front) so_far.rest
 
 -- one row's turn
 abbrev pub move_group3 : DecodeSettings → Progress → Move
@@ -190,20 +190,29 @@ end_by Group3_2D settings bits = plain_group3 settings bits
 abbrev pub end_of : DecodeSettings → Bits → Ending
 end_of settings bits = end_by settings.encoding settings bits
 
--- an answer: the rows, and the number of bytes read or the fault
-abbrev pub Answer : Type 0
-Answer = List Row × Result ℕ DecodeError
+-- a reading of whole data: the rows, the number of bytes read or the fault, and whether EOLs were sought to the end
+pub record Reading : Type 0 where
+  pub rows : List Row
+  pub outcome : Result ℕ DecodeError
+  pub has_eols : Bool
 
 -- the bits that were read, in bytes, the last one rounded up
 abbrev pub bytes_before : Bits → Result Bits DecodeError → Result ℕ DecodeError
 bytes_before bits (Ok rest) = Ok ((length bits - length rest + 7) / 8)
 bytes_before bits (Err fault) = Err fault
 
+-- the reading that ends so
+abbrev pub whole_reading : Bits → Ending → Reading
+whole_reading bits end = record { rows = end.rows; outcome = bytes_before bits end.outcome; has_eols = end.has_eols }
+
+-- without columns: no rows, no bytes
+abbrev pub nothing_read : Reading
+nothing_read = record { rows = []; outcome = Ok 0; has_eols = false }
+
 -- The plain reading of some bytes: without columns nothing is read.
-abbrev pub plain : DecodeSettings → List ℕ → Answer
+abbrev pub plain : DecodeSettings → List ℕ → Reading
 plain settings bytes =
-    if settings.columns == 0 then ([], Ok 0)
-    else ((end_of settings (bits_of bytes)).rows, bytes_before (bits_of bytes) (end_of settings (bits_of bytes)).outcome)
+    if settings.columns == 0 then nothing_read else whole_reading (bits_of bytes) (end_of settings (bits_of bytes))
 
 -- ---- The lines
 

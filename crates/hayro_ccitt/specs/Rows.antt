@@ -11,6 +11,14 @@ use Rattle.hayro_ccitt.specs.declared.error.DecodeError.TheVariants.{InvalidCode
 abbrev pub Row : Type 0
 Row = List Bool
 
+-- a white row, as the row before the first is (T.4, 4.2.1.1)
+abbrev pub white_row : ℕ → Row
+white_row columns = replicate columns false
+
+-- a damaged row of so many columns: its front, and the rest white
+abbrev pub repaired : ℕ → Row → Row
+repaired columns front = front ++ replicate (columns - length front) false
+
 -- the pixel of a colour
 abbrev pub is_black : Color → Bool
 is_black White = false

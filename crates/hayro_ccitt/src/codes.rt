@@ -148,7 +148,7 @@ fn find_word<V: Copy>(reader: &BitReader<'_>, list: &[(V, u8, u16)]) -> Option<(
     None
 }
 
-/// Whether the bits from here to the end are a front of a word of the list.
+/// Whether the bits from here to the end are a prefix of a word of the list.
 fn is_cut_word<V>(reader: &BitReader<'_>, list: &[(V, u8, u16)]) -> bool
     requires { IsTrue (list_all (λ e. nat_le e.1 16) list.now) }
     ensures { result ≡ is_cut (numbered list.now) (here reader.now) }
@@ -183,7 +183,7 @@ fn find_run_word(
     find_word(reader, &COMMON_MAKEUP)
 }
 
-/// Whether the bits from here to the end are a front of a word of these lists or of a common make-up word.
+/// Whether the bits from here to the end are a prefix of a word of these lists or of a common make-up word.
 fn is_cut_run_word(
     reader: &BitReader<'_>,
     terminating: &[(u16, u8, u16)],

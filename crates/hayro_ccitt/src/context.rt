@@ -98,7 +98,7 @@ impl DecoderContext {
     ghost use Rattle.std.specs.Borrow.{sem};
     ghost use Rattle.hayro_ccitt.specs.Context.{fresh, after_taking};
     ghost use Rattle.hayro_ccitt.specs.Lending.{LendsTicks};
-    ghost use Rattle.hayro_ccitt.specs.Laws.{AreSettings};
+    ghost use Rattle.hayro_ccitt.specs.Settings.{AreSettings};
 
     /// A context for images with these settings: a white reference row, nothing painted, no row taken. Its only
     /// refusal is `OutOfMemory`, and nothing is made then.
@@ -133,7 +133,7 @@ impl DecoderContext {
 
     /// The number of rows that were taken since the context was made or last reset.
     pub fn decoded_rows(&self) -> u64
-        ensures { result ≡ self.now.held.rows }
+        ensures { result ≡ self.now.held.taken }
     {
         self.decoded_rows
     }
@@ -305,7 +305,7 @@ impl DecoderContext {
     /// the sink's meaning are as before. It takes no memory.
     pub fn next_line<D: Decoder>(&mut self, decoder: &mut D) -> Result<()>
         requires width { self.old.held.settings.columns ≤ D.width decoder.old }
-        requires rows { self.old.held.rows + 1 < 2 ^ 64 }
+        requires rows { self.old.held.taken + 1 < 2 ^ 64 }
         ensures width { D.width decoder.new ≡ D.width decoder.old }
         ensures taken { OnOk result (D.meaning decoder.new
             ≡ D.step (D.width decoder.old) (D.meaning decoder.old) (changes (taken_row self.old.held))) }

@@ -27,7 +27,7 @@ fn read_eols_before_line(ctx: &mut DecoderContext, reader: &mut BitReader<'_>) -
 /// Whether the image ends before a line, where so many EOLs were read: at EOFB, at the row limit or at the end of
 /// the data.
 fn is_over(ctx: &DecoderContext, reader: &BitReader<'_>, count: usize) -> bool
-    ensures over { result ≡ is_over_group4 ctx.now.held.settings ctx.now.held.rows (count, here reader.now) }
+    ensures over { result ≡ is_over_group4 ctx.now.held.settings ctx.now.held.taken (count, here reader.now) }
     ensures fit { length reader.now.bits + 64 < 2 ^ 64 }
 {
     let settings = ctx.settings();
@@ -65,17 +65,17 @@ pub fn decode<D: Decoder>(
     ensures settings { ctx.new.held.settings ≡ ctx.old.held.settings }
     ensures has_eols { ctx.new.held.has_eols ≡ false }
     ensures meaning { D.meaning decoder.new ≡ meaning_after (D.step (D.width decoder.old)) (D.meaning decoder.old)
-        (take ctx.new.held.rows (plain_group4 ctx.old.held.settings reader.old.bits).rows) }
-    ensures taken { ctx.new.held.rows ≤ length (plain_group4 ctx.old.held.settings reader.old.bits).rows }
-    ensures all { OnAnswer result (ctx.new.held.rows
+        (take ctx.new.held.taken (plain_group4 ctx.old.held.settings reader.old.bits).rows) }
+    ensures taken { ctx.new.held.taken ≤ length (plain_group4 ctx.old.held.settings reader.old.bits).rows }
+    ensures all { OnAnswer result (ctx.new.held.taken
         ≡ length (plain_group4 ctx.old.held.settings reader.old.bits).rows) }
     ensures ok { OnOk result ((plain_group4 ctx.old.held.settings reader.old.bits).outcome ≡ Ok (here reader.new)) }
     ensures fault { IfErr result (λ e. IsFault e
         → (plain_group4 ctx.old.held.settings reader.old.bits).outcome ≡ Err e) }
     ensures memory { result ≡ Err DecodeError.OutOfMemory
-        → PaintsBlack (lines_by EncodingMode.Group4 ctx.old.held.settings reader.old.bits) ctx.new.held.rows }
+        → PaintsBlack (lines_by EncodingMode.Group4 ctx.old.held.settings reader.old.bits) ctx.new.held.taken }
     ensures refused { result ≡ Err DecodeError.Refused
-        → ctx.new.held.rows < length (plain_group4 ctx.old.held.settings reader.old.bits).rows }
+        → ctx.new.held.taken < length (plain_group4 ctx.old.held.settings reader.old.bits).rows }
     ensures flag { result ≡ Err DecodeError.Refused → D.has_refused decoder.new ≡ true }
     ensures no_flag { result ≢ Err DecodeError.Refused → D.has_refused decoder.new ≡ D.has_refused decoder.old }
     ensures same { reader.new.bits ≡ reader.old.bits }

@@ -2,11 +2,11 @@
 
 ghost use Rattle.std.specs.Prelude.{IsTrue};
 ghost use Rattle.hayro_ccitt.specs.CodeLists.{white_codes, black_codes, mode_codes};
-ghost use Rattle.hayro_ccitt.specs.CodeReading.{is_prefix_free};
+ghost use Rattle.hayro_ccitt.specs.CodeReading.{is_prefix_free, ReadsCodes};
 ghost use Rattle.hayro_ccitt.specs.Runs.{codes_of};
 ghost use Rattle.hayro_ccitt.specs.declared.codes.Color.{Color};
 ghost use Rattle.hayro_ccitt.specs.Examples.{EncodesTwoLines, EncodesTaggedRows, HaveLocalBodies, ReadsDamage};
-ghost use Rattle.hayro_ccitt.specs.Laws.{each_word, has_few_zeros, ReadsCodes, Synchronised, StrictThenLenient, RowLimit};
+ghost use Rattle.hayro_ccitt.specs.Laws.{each_word, has_few_zeros, Synchronised, StrictThenLenient, RowLimit};
 ghost use Rattle.hayro_ccitt.specs.Laws.{ReadsPictureT6, ReadsLimitedRowsT6, ReadsPictureT4, ReadsLimitedPictureT4, ReadsLimitedRowsT4};
 ghost use Rattle.hayro_ccitt.specs.Laws.{AfterEofb, PicturesComeToEofb, OnePictureT6, OnePictureT4};
 ghost use Rattle.hayro_ccitt.specs.Laws.{EveryPictureHasAnEncoding, BytesBeginWithAnyBits, RowsOfChanges, ChangesOfRows};
@@ -21,13 +21,13 @@ pub fn code_words()
 {}
 
 /// Reading a code list answers the word of it that stands here, whatever follows it. Where none does, the end of the
-/// data is missing exactly if the bits up to it are a front of a word; else the code is wrong.
+/// data is missing exactly if the bits up to it are a prefix of a word; else the code is wrong.
 pub fn code_reading()
     ensures runs { (color : Color) → ReadsCodes (codes_of color) }
     ensures modes { ReadsCodes mode_codes }
 {}
 
-/// The code words stay in step with EOLs. No word of a list is a front of another one. Words in a row, and a tag
+/// The code words stay in step with EOLs. No word of a list is a prefix of another one. Words in a row, and a tag
 /// before them, never hold the eleven zeros of an EOL; so every word that the reading of a line finds ends before the
 /// one of each EOL that stands at or after the line's start.
 pub fn synchronised()

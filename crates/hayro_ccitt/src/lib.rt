@@ -77,16 +77,16 @@ pub fn decode<D: Decoder>(data: &[u8], decoder: &mut D, ctx: &mut DecoderContext
     ensures width { D.width decoder.new ≡ D.width decoder.old }
     ensures settings { ctx.new.held.settings ≡ ctx.old.held.settings }
     ensures meaning { D.meaning decoder.new ≡ meaning_after (D.step (D.width decoder.old)) (D.meaning decoder.old)
-        (take ctx.new.held.rows (plain ctx.old.held.settings «data».now).0) }
-    ensures taken { ctx.new.held.rows ≤ length (plain ctx.old.held.settings «data».now).0 }
-    ensures ok { IfOk result (λ n. (plain ctx.old.held.settings «data».now).1 ≡ Ok n) }
-    ensures fault { IfErr result (λ e. IsFault e → (plain ctx.old.held.settings «data».now).1 ≡ Err e) }
-    ensures all { OnAnswer result (ctx.new.held.rows ≡ length (plain ctx.old.held.settings «data».now).0) }
+        (take ctx.new.held.taken (plain ctx.old.held.settings «data».now).rows) }
+    ensures taken { ctx.new.held.taken ≤ length (plain ctx.old.held.settings «data».now).rows }
+    ensures ok { IfOk result (λ n. (plain ctx.old.held.settings «data».now).outcome ≡ Ok n) }
+    ensures fault { IfErr result (λ e. IsFault e → (plain ctx.old.held.settings «data».now).outcome ≡ Err e) }
+    ensures all { OnAnswer result (ctx.new.held.taken ≡ length (plain ctx.old.held.settings «data».now).rows) }
     ensures within { IfOk result (λ n. n ≤ length «data».now) }
     ensures memory { result ≡ Err DecodeError.OutOfMemory
-        → PaintsBlack (lines_of ctx.old.held.settings «data».now) ctx.new.held.rows }
+        → PaintsBlack (lines_of ctx.old.held.settings «data».now) ctx.new.held.taken }
     ensures refused { result ≡ Err DecodeError.Refused
-        → ctx.new.held.rows < length (plain ctx.old.held.settings «data».now).0 }
+        → ctx.new.held.taken < length (plain ctx.old.held.settings «data».now).rows }
     ensures flag { result ≡ Err DecodeError.Refused → D.has_refused decoder.new ≡ true }
     ensures no_flag { result ≢ Err DecodeError.Refused → D.has_refused decoder.new ≡ D.has_refused decoder.old }
     ensures has_eols { ctx.new.held.has_eols ≡ false }

@@ -13,7 +13,7 @@ use Rattle.faxrows.proofs.program.run.Goals as goal
 
 module _ (g : Over) (c : goal.After-drop-input-2 g) where
   -- what decoding said of its answer
-  decoded : Decoded (plain c.in-Ok.ctx.held.settings c.as_slice.result.now) c.decode-outcome.result c.decode-outcome.new.ctx.held.rows c.text.result.now
+  decoded : Decoded (plain c.in-Ok.ctx.held.settings c.as_slice.result.now) c.decode-outcome.result c.decode-outcome.new.ctx.held.taken c.text.result.now
   decoded = record {
     meaning = search rules;
     within = c.decode-outcome.ensures.taken;

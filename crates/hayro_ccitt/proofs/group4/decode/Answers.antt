@@ -24,7 +24,7 @@ returns-in_err-decode_2d_line-clause-meaning g c =
     let settings = c.args.ctx.now.held.settings in
     let bits = c.args.reader.now.bits in
     let at = c.read_eols_before_line-count.ensures.held ∙ held in
-    let drawn : c.decode_2d_line.new.ctx.held.rows ≡ length rows = ap (λ (h : Held). h.rows) c.decode_2d_line.ensures.held ∙ ap (λ (h : Held). h.rows) at in
+    let drawn : c.decode_2d_line.new.ctx.held.taken ≡ length rows = ap (λ (h : Held). h.taken) c.decode_2d_line.ensures.held ∙ ap (λ (h : Held). h.taken) at in
     let taken = comes_taken settings c.requires.columns bits rows (here c.rows.reader) comes in
     meaning ∙ ap (λ (rs : List Row). meaning_after (g.D.Decoder.step (g.D.Decoder.width c.args.decoder.now)) (g.D.Decoder.meaning c.args.decoder.now) rs) (taken ∙ ap (λ (n : ℕ). take n (plain_group4 settings bits).rows) (sym drawn))
 
@@ -34,7 +34,7 @@ returns-in_err-decode_2d_line-clause-taken g c =
     let settings = c.args.ctx.now.held.settings in
     let bits = c.args.reader.now.bits in
     let at = c.read_eols_before_line-count.ensures.held ∙ held in
-    let drawn : c.decode_2d_line.new.ctx.held.rows ≡ length rows = ap (λ (h : Held). h.rows) c.decode_2d_line.ensures.held ∙ ap (λ (h : Held). h.rows) at in
+    let drawn : c.decode_2d_line.new.ctx.held.taken ≡ length rows = ap (λ (h : Held). h.taken) c.decode_2d_line.ensures.held ∙ ap (λ (h : Held). h.taken) at in
     omega (arith, drawn, comes_within settings c.requires.columns bits rows (here c.rows.reader) comes)
 
 pub returns-in_err-decode_2d_line-clause-all : goal.returns-in_err-decode_2d_line-clause-all
@@ -43,7 +43,7 @@ returns-in_err-decode_2d_line-clause-all g c =
     let settings = c.args.ctx.now.held.settings in
     let bits = c.args.reader.now.bits in
     let at = c.read_eols_before_line-count.ensures.held ∙ held in
-    let drawn : c.decode_2d_line.new.ctx.held.rows ≡ length rows = ap (λ (h : Held). h.rows) c.decode_2d_line.ensures.held ∙ ap (λ (h : Held). h.rows) at in
+    let drawn : c.decode_2d_line.new.ctx.held.taken ≡ length rows = ap (λ (h : Held). h.taken) c.decode_2d_line.ensures.held ∙ ap (λ (h : Held). h.taken) at in
     let found : eols_group4 settings (here c.rows.reader) ≡ (c.read_eols_before_line-count.result, here c.read_eols_before_line-count.new.reader)
     = ap (λ (h : Held). eols_group4 h.settings (here c.rows.reader)) (sym held) ∙ c.read_eols_before_line-count.ensures.eols in
     let on = sym c.is_over.ensures.over ∙ c.if-is_over.false in
@@ -74,7 +74,7 @@ returns-in_err-decode_2d_line-clause-memory g c =
     let settings = c.args.ctx.now.held.settings in
     let bits = c.args.reader.now.bits in
     let at = c.read_eols_before_line-count.ensures.held ∙ held in
-    let drawn : c.decode_2d_line.new.ctx.held.rows ≡ length rows = ap (λ (h : Held). h.rows) c.decode_2d_line.ensures.held ∙ ap (λ (h : Held). h.rows) at in
+    let drawn : c.decode_2d_line.new.ctx.held.taken ≡ length rows = ap (λ (h : Held). h.taken) c.decode_2d_line.ensures.held ∙ ap (λ (h : Held). h.taken) at in
     let found : eols_group4 settings (here c.rows.reader) ≡ (c.read_eols_before_line-count.result, here c.read_eols_before_line-count.new.reader)
     = ap (λ (h : Held). eols_group4 h.settings (here c.rows.reader)) (sym held) ∙ c.read_eols_before_line-count.ensures.eols in
     let on = sym c.is_over.ensures.over ∙ c.if-is_over.false in
@@ -93,7 +93,7 @@ next_line-requires-clause-rows g c =
     let settings = c.args.ctx.now.held.settings in
     let bits = c.args.reader.now.bits in
     let at = c.read_eols_before_line-count.ensures.held ∙ held in
-    let drawn : c.decode_2d_line.new.ctx.held.rows ≡ length rows = ap (λ (h : Held). h.rows) c.decode_2d_line.ensures.held ∙ ap (λ (h : Held). h.rows) at in
+    let drawn : c.decode_2d_line.new.ctx.held.taken ≡ length rows = ap (λ (h : Held). h.taken) c.decode_2d_line.ensures.held ∙ ap (λ (h : Held). h.taken) at in
     omega (arith, drawn, comes.room, c.is_over.ensures.fit, ap length c.read_eols_before_line-count.ensures.same, ap length same)
 
 pub returns-in_err-next_line-clause-meaning : goal.returns-in_err-next_line-clause-meaning
@@ -102,9 +102,9 @@ returns-in_err-next_line-clause-meaning g c =
     let settings = c.args.ctx.now.held.settings in
     let bits = c.args.reader.now.bits in
     let at = c.read_eols_before_line-count.ensures.held ∙ held in
-    let drawn : c.decode_2d_line.new.ctx.held.rows ≡ length rows = ap (λ (h : Held). h.rows) c.decode_2d_line.ensures.held ∙ ap (λ (h : Held). h.rows) at in
+    let drawn : c.decode_2d_line.new.ctx.held.taken ≡ length rows = ap (λ (h : Held). h.taken) c.decode_2d_line.ensures.held ∙ ap (λ (h : Held). h.taken) at in
     let taken = comes_taken settings c.requires.columns bits rows (here c.rows.reader) comes in
-    let still : c.next_line.new.self.held.rows ≡ length rows = ap (λ (h : Held). h.rows) c.in_err-next_line.ensures.same ∙ drawn in
+    let still : c.next_line.new.self.held.taken ≡ length rows = ap (λ (h : Held). h.taken) c.in_err-next_line.ensures.same ∙ drawn in
     c.in_err-next_line.ensures.kept ∙ meaning ∙ ap (λ (rs : List Row). meaning_after (g.D.Decoder.step (g.D.Decoder.width c.args.decoder.now)) (g.D.Decoder.meaning c.args.decoder.now) rs)
     (taken ∙ ap (λ (n : ℕ). take n (plain_group4 settings bits).rows) (sym still))
 
@@ -114,8 +114,8 @@ returns-in_err-next_line-clause-taken g c =
     let settings = c.args.ctx.now.held.settings in
     let bits = c.args.reader.now.bits in
     let at = c.read_eols_before_line-count.ensures.held ∙ held in
-    let drawn : c.decode_2d_line.new.ctx.held.rows ≡ length rows = ap (λ (h : Held). h.rows) c.decode_2d_line.ensures.held ∙ ap (λ (h : Held). h.rows) at in
-    let still : c.next_line.new.self.held.rows ≡ length rows = ap (λ (h : Held). h.rows) c.in_err-next_line.ensures.same ∙ drawn in
+    let drawn : c.decode_2d_line.new.ctx.held.taken ≡ length rows = ap (λ (h : Held). h.taken) c.decode_2d_line.ensures.held ∙ ap (λ (h : Held). h.taken) at in
+    let still : c.next_line.new.self.held.taken ≡ length rows = ap (λ (h : Held). h.taken) c.in_err-next_line.ensures.same ∙ drawn in
     omega (arith, still, comes_within settings c.requires.columns bits rows (here c.rows.reader) comes)
 
 pub returns-in_err-next_line-clause-refused : goal.returns-in_err-next_line-clause-refused
@@ -124,14 +124,14 @@ returns-in_err-next_line-clause-refused g c =
     let settings = c.args.ctx.now.held.settings in
     let bits = c.args.reader.now.bits in
     let at = c.read_eols_before_line-count.ensures.held ∙ held in
-    let drawn : c.decode_2d_line.new.ctx.held.rows ≡ length rows = ap (λ (h : Held). h.rows) c.decode_2d_line.ensures.held ∙ ap (λ (h : Held). h.rows) at in
+    let drawn : c.decode_2d_line.new.ctx.held.taken ≡ length rows = ap (λ (h : Held). h.taken) c.decode_2d_line.ensures.held ∙ ap (λ (h : Held). h.taken) at in
     let found : eols_group4 settings (here c.rows.reader) ≡ (c.read_eols_before_line-count.result, here c.read_eols_before_line-count.new.reader)
     = ap (λ (h : Held). eols_group4 h.settings (here c.rows.reader)) (sym held) ∙ c.read_eols_before_line-count.ensures.eols in
     let on = sym c.is_over.ensures.over ∙ c.if-is_over.false in
     let line = c.in_ok-decode_2d_line.ensures.line in
     let more = row_more settings c.requires.columns bits rows (here c.rows.reader) comes c.read_eols_before_line-count.result (here c.read_eols_before_line-count.new.reader) found
     c.read_eols_before_line-count.new.ctx.held at on c.decode_2d_line.new.ctx.held.front (here c.decode_2d_line.new.reader) line in
-    let still : c.next_line.new.self.held.rows ≡ length rows = ap (λ (h : Held). h.rows) c.in_err-next_line.ensures.same ∙ drawn in
+    let still : c.next_line.new.self.held.taken ≡ length rows = ap (λ (h : Held). h.taken) c.in_err-next_line.ensures.same ∙ drawn in
     λ is. omega (arith, still, more)
 
 pub rows-preserved : goal.rows-preserved

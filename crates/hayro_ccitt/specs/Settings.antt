@@ -1,0 +1,8 @@
+-- The settings of a reading.
+use Rattle.std.specs.Prelude.{◌^◌, ◌<◌}
+use Rattle.hayro_ccitt.specs.declared.settings.DecodeSettings.{DecodeSettings}
+
+-- the columns and the limit of rows have 32 bits
+pub record AreSettings (settings : DecodeSettings) : Type 0 where
+  pub columns : settings.columns < 2 ^ 32
+  pub rows : settings.rows < 2 ^ 32
