@@ -1,1 +1,2 @@
+pub mod ChosenLines
 pub mod ChosenWords

@@ -8,8 +8,8 @@ use Rattle.hayro_ccitt.specs.Bits.{Bits}
 use Rattle.hayro_ccitt.specs.CodeLists.{Code, mode_codes}
 use Rattle.hayro_ccitt.specs.Runs.{codes_of}
 use Rattle.hayro_ccitt.specs.Repetition.{Turn, gathered}
-use Rattle.hayro_ccitt.specs.Rows.{Row, opposite, changes, pixels, b1, b2, a1, a2}
-use Rattle.hayro_ccitt.specs.Encodings.{padding, eol, white_row}
+use Rattle.hayro_ccitt.specs.Rows.{Row, white_row, opposite, changes, pixels, b1, b2, a1, a2}
+use Rattle.hayro_ccitt.specs.Encodings.{padding, eol}
 
 -- ---- words
 
