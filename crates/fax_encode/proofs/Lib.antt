@@ -1,2 +1,3 @@
 pub mod ChosenLines
 pub mod ChosenWords
+pub mod RoundTrip

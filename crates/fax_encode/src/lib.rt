@@ -2,5 +2,6 @@
 #![tactic(auto)]
 
 mod error;
+pub mod laws;
 
 pub use error::EncodeError;
