@@ -2,3 +2,4 @@ pub mod Chosen
 pub mod Laws
 pub mod Packed
 pub mod Refusals
+pub mod Writing
