@@ -110,13 +110,13 @@ module _ (reference row : Row) (same : length reference ≡ length row) where
   ahead at = suc (length row) - at.from
 
   -- what a mode's choice comes to at a place in the row
-  data Chooses (at : Place) : Mode → Type 0 where
+  pub data Chooses (at : Place) : Mode → Type 0 where
     pass : b2 reference at.from at.color < a1 row at.from → at.from < b2 reference at.from at.color → Chooses at Pass
     vertical : (k : ℤ) → Has mode_codes (Vertical k) (word_of_mode (Vertical k)) → pos (a1 row at.from) ≡ pos (b1 reference at.from at.color) +ℤ k
         → Chooses at (Vertical k)
     horizontal : Chooses at Horizontal
 
-  chooses : (at : Place) → at.from ≤ length row → Chooses at (chosen_mode reference row at)
+  pub chooses : (at : Place) → at.from ≤ length row → Chooses at (chosen_mode reference row at)
   chooses at inside = by (ltb (b2 reference at.from at.color) (a1 row at.from)) refl (is_near (b1 reference at.from at.color) (a1 row at.from)) refl
     where
       by : (left : Bool) → ltb (b2 reference at.from at.color) (a1 row at.from) ≡ left → (near : Bool) → is_near (b1 reference at.from at.color) (a1 row at.from) ≡ near
@@ -132,7 +132,7 @@ module _ (reference row : Row) (same : length reference ≡ length row) where
       by false is false near-is = Chooses.horizontal
 
   -- a mode goes on to the right
-  goes_right : (at : Place) (mode : Mode) → at.from ≤ length row → Chooses at mode → (at.from < (place_after reference row at mode).from) × ((place_after reference row at mode).from ≤ suc (length row))
+  pub goes_right : (at : Place) (mode : Mode) → at.from ≤ length row → Chooses at mode → (at.from < (place_after reference row at mode).from) × ((place_after reference row at mode).from ≤ suc (length row))
   goes_right at mode inside (Chooses.pass left right) = let within = (a1_next row at.from).within in (omega arith, omega arith)
   goes_right at mode inside (Chooses.vertical k word names) =
       let next = a1_next row at.from in

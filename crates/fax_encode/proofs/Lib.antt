@@ -1,5 +1,7 @@
 pub mod ChosenLines
 pub mod ChosenWords
+pub mod Elements
+pub mod ModesWritten
 pub mod RoundTrip
 pub mod RowLists
 pub mod RunsWritten

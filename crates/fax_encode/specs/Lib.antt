@@ -1,4 +1,5 @@
 pub mod Chosen
+pub mod Coding
 pub mod Laws
 pub mod Packed
 pub mod Refusals

@@ -4,6 +4,7 @@
 mod bit_writer;
 mod error;
 mod group3;
+mod group4;
 pub mod laws;
 mod rows;
 mod runs;
@@ -11,3 +12,4 @@ mod words;
 
 pub use error::EncodeError;
 pub use group3::encode_1d;
+pub use group4::encode_g4;
