@@ -2,6 +2,7 @@ pub mod ChosenLines
 pub mod ChosenWords
 pub mod Elements
 pub mod ModesWritten
+pub mod PackedRows
 pub mod RoundTrip
 pub mod RowLists
 pub mod RunsWritten

@@ -73,6 +73,7 @@ pub fn encode_1d(
     ensures no_rows { (result ≡ Err EncodeError.NoRows) ↔ ((0 < columns) × (length rows.now ≡ 0)) }
     ensures not_a_row { (k : ℕ) → (result ≡ Err (EncodeError.NotARow k))
         ↔ ((0 < columns) × IsFirstUnlawful columns (map (λ row. row.items) rows.now) k) }
+    ensures rows { IfOk result (λ _. AreRows columns (map (λ row. row.items) rows.now)) }
     ensures encoded { IfOk result (λ bytes. bits_of bytes.items
         ≡ filled_up (chosen_t4 (rows_of columns (map (λ row. row.items) rows.now)))) }
 {

@@ -239,7 +239,8 @@ pub fn encode_g4(
     ensures no_columns { (result ≡ Err EncodeError.NoColumns) ↔ (columns ≡ 0) }
     ensures not_a_row { (k : ℕ) → (result ≡ Err (EncodeError.NotARow k))
         ↔ ((0 < columns) × IsFirstUnlawful columns (map (λ row. row.items) rows.now) k) }
-    ensures rows { result ≢ Err EncodeError.NoRows }
+    ensures no_rows { result ≢ Err EncodeError.NoRows }
+    ensures rows { IfOk result (λ _. AreRows columns (map (λ row. row.items) rows.now)) }
     ensures encoded { IfOk result (λ bytes. bits_of bytes.items
         ≡ filled_up (chosen_t6 columns aligned (rows_of columns (map (λ row. row.items) rows.now)))) }
 {
