@@ -23,7 +23,7 @@ use Rattle.fax_encode.specs.Laws.{RoundTripT6, RoundTripT4, ReadToTheEnd}
 use Rattle.fax_encode.proofs.ChosenLines.{chosen_is_an_encoding, lines_1d_encode, closes}
 
 -- lawful lists are rows of the width
-widths_of : (columns : ℕ) (lists : List (List ℕ)) → AreRows columns lists → All (λ row. length row ≡ columns) (rows_of columns lists)
+pub widths_of : (columns : ℕ) (lists : List (List ℕ)) → AreRows columns lists → All (λ row. length row ≡ columns) (rows_of columns lists)
 widths_of columns [] are = All-nil (λ row. length row ≡ columns)
 widths_of columns (list ∷ lists) are = All-cons (λ row. length row ≡ columns) (pixels columns list) (rows_of columns lists)
     (length-pixels columns list (All-head (AreChanges columns) list lists are)) (widths_of columns lists (All-tail (AreChanges columns) list lists are))
