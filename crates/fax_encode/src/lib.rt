@@ -17,3 +17,6 @@ pub use error::EncodeError;
 pub use group3::encode_1d;
 pub use group4::encode_g4;
 pub use round_trip::bitmap_by_group4;
+
+#[cfg(test)]
+mod tests;
