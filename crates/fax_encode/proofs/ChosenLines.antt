@@ -1,8 +1,8 @@
 -- What is chosen for a line, and for a picture, is an encoding of it.
-use Rattle.std.proofs.Common.{◌≡◌, ◌≢◌, ℕ, zero, suc, ◌+◌, ◌-◌, ◌<◌, ◌≤◌, Bool, true, false, cond, not, leb, ltb, ◌&&◌, List, [], ◌∷◌, ◌++◌, length, replicate, refl, sym, ap, subst, ◌∙◌, arith, ◌⊎◌, inl, inr, append_assoc}
+use Rattle.std.proofs.Common.{◌≡◌, ◌≢◌, ℕ, zero, suc, ◌+◌, ◌-◌, ◌<◌, ◌≤◌, Bool, true, false, cond, not, leb, ltb, List, [], ◌∷◌, ◌++◌, length, replicate, refl, sym, ap, subst, ◌∙◌, arith, inl, inr, append_assoc}
 use Rattle.std.specs.Prelude.{ℤ, pos, negsuc, ◌+ℤ◌, All}
 use Rattle.std.proofs.lemmas.Int.{ints}
-use Rattle.std.proofs.lemmas.Bool.{eqb-true, leb-true, ltb-true, lt-ltb, le-ltb, le-leb, and_parts, false≢true, cases_lt}
+use Rattle.std.proofs.lemmas.Bool.{leb-true, ltb-true, lt-ltb, le-ltb, le-leb, and_parts, false≢true, cases_lt}
 use Rattle.std.proofs.lemmas.List.Elements.{All-head, All-tail}
 use Rattle.std.proofs.lemmas.List.{append-nil, length-replicate}
 use Rattle.hayro_ccitt.specs.declared.codes.Color.{Color}
@@ -14,13 +14,13 @@ use Rattle.hayro_ccitt.specs.Bits.{Bits}
 use Rattle.hayro_ccitt.specs.CodeLists.{mode_codes}
 use Rattle.hayro_ccitt.specs.CodeReading.{Has}
 use Rattle.hayro_ccitt.specs.Repetition.{Turn}
-use Rattle.hayro_ccitt.specs.Rows.{Row, white_row, is_black, opposite, changes, pixels, pixels_from, AscendFrom, AreChanges, a1, a2, b1, b2}
-use Rattle.hayro_ccitt.specs.Encodings.{EncodesLine1D, EncodesLine2D, EncodesRows, EncodesRowsWithEols, ClosesWithEols, padding, eol, IsPicture, PictureT6, PictureT4}
+use Rattle.hayro_ccitt.specs.Rows.{Row, white_row, is_black, opposite, changes, pixels_from, AscendFrom, a1, a2, b1, b2}
+use Rattle.hayro_ccitt.specs.Encodings.{EncodesLine1D, EncodesLine2D, EncodesRows, EncodesRowsWithEols, ClosesWithEols, eol}
 use Rattle.hayro_ccitt.proofs.ChangesAndPixels.{AscendFrom-wider, pixels_from-first, pixels-changes, AreChanges-changes}
 use Rattle.hayro_ccitt.proofs.Places.{a1_next, a2_next, a2_least, b2_above}
 use Rattle.hayro_ccitt.proofs.Repeated.{Shrinks}
-use Rattle.hayro_ccitt.proofs.Gathered.{gathered_after, gathered_turn}
-use Rattle.fax_encode.specs.Chosen.{chosen_run, chosen_runs, chosen_line_1d, Place, vertical_mode, is_near, chosen_mode, runs_of_mode, place_after, is_coded, next_place, bits_at, chosen_from, chosen_line_2d, chosen_lines_2d, chosen_lines_1d, chosen_t6, chosen_t4, return_to_control, word_of_mode}
+use Rattle.hayro_ccitt.proofs.Gathered.{gathered_turn}
+use Rattle.fax_encode.specs.Chosen.{chosen_run, chosen_runs, chosen_line_1d, Place, vertical_mode, is_near, chosen_mode, runs_of_mode, place_after, is_coded, next_place, bits_at, chosen_from, chosen_line_2d, chosen_lines_2d, chosen_lines_1d, return_to_control, word_of_mode}
 use Rattle.fax_encode.specs.Laws.{ChosenIsAnEncoding}
 use Rattle.fax_encode.proofs.ChosenWords.{run_spelled}
 
@@ -44,8 +44,8 @@ runs_encode : (color : Color) (place width : ℕ) (places : List ℕ) → place 
 runs_encode color place width [] lt ascend =
     let n : ℕ = width - place in
     subst (λ (row : Row). EncodesLine1D color row (chosen_run color n)) (append-nil (replicate n (is_black color)))
-        (subst (λ (b : Bits). EncodesLine1D color (replicate n (is_black color) ++ []) b) (append-nil (chosen_run color n))
-        (EncodesLine1D.run n (chosen_run color n) (run_spelled color n) (omega arith) (λ rest e. absurd cc) EncodesLine1D.over))
+    (subst (λ (b : Bits). EncodesLine1D color (replicate n (is_black color) ++ []) b) (append-nil (chosen_run color n))
+    (EncodesLine1D.run n (chosen_run color n) (run_spelled color n) (omega arith) (λ rest e. absurd cc) EncodesLine1D.over))
 runs_encode color place width (change ∷ places) lt ascend =
     let from : place ≤ change = ascend.0 in
     let within : change < width = ascend.1 in
@@ -53,7 +53,7 @@ runs_encode color place width (change ∷ places) lt ascend =
     let rest = subst (λ (c : Bool). EncodesLine1D (opposite color) (pixels_from change c width places) (chosen_runs width (opposite color) change places)) (sym (not_black color)) on in
     let first = pixels_from-first change (not (is_black color)) width places within ascend.2 in
     EncodesLine1D.run (change - place) (chosen_run color (change - place)) (run_spelled color (change - place))
-        (omega (arith, ap length first)) (begins_other color change width places within ascend.2) rest
+    (omega (arith, ap length first)) (begins_other color change width places within ascend.2) rest
 
 -- what is chosen for a one-dimensional line encodes it
 pub line_1d_encodes : (row : Row) → 0 < length row → EncodesLine1D White row (chosen_line_1d row)
@@ -181,7 +181,7 @@ module _ (reference row : Row) (same : length reference ≡ length row) where
   one_mode at mode inside (Chooses.pass left right) on = EncodesLine2D.pass at.from (word_of_mode Pass) inside (inl (refl, refl)) left on
   one_mode at mode inside (Chooses.vertical k word names) on =
       subst (λ (b : Bits). EncodesLine2D reference row at.from at.color (b ++ chosen_from reference row (place_after reference row at (Vertical k)))) (sym (append-nil (word_of_mode (Vertical k))))
-          (EncodesLine2D.vertical at.from (word_of_mode (Vertical k)) k inside word names on)
+      (EncodesLine2D.vertical at.from (word_of_mode (Vertical k)) k inside word names on)
   one_mode at mode inside Chooses.horizontal on =
       let first : Bits = chosen_run at.color (a1 row at.from - (at.from - 1)) in
       let second : Bits = chosen_run (opposite at.color) (a2 row at.from - a1 row at.from) in
@@ -190,8 +190,8 @@ module _ (reference row : Row) (same : length reference ≡ length row) where
       let is : word ++ (first ++ (second ++ rest)) ≡ (word ++ (first ++ second)) ++ rest
       = ap (λ (b : Bits). word ++ b) (sym (append_assoc first second rest)) ∙ sym (append_assoc word (first ++ second) rest) in
       subst (λ (b : Bits). EncodesLine2D reference row at.from at.color b) is
-          (EncodesLine2D.horizontal at.from word inside (inr (inl (refl, refl))) (run_spelled at.color (a1 row at.from - (at.from - 1)))
-          (run_spelled (opposite at.color) (a2 row at.from - a1 row at.from)) on)
+      (EncodesLine2D.horizontal at.from word inside (inr (inl (refl, refl))) (run_spelled at.color (a1 row at.from - (at.from - 1)))
+      (run_spelled (opposite at.color) (a2 row at.from - a1 row at.from)) on)
 
   encodes_over : (at : Place) → at.from ≡ suc (length row) → EncodesLine2D reference row at.from at.color (chosen_from reference row at)
   encodes_over at e = subst (λ (b : Bits). EncodesLine2D reference row at.from at.color b) (sym (chosen_over at (omega arith)))
@@ -219,17 +219,26 @@ lines_2d_encode : (columns : ℕ) (aligned : Bool) (reference : Row) (rows : Lis
     → EncodesRows Group4 aligned reference rows (chosen_lines_2d aligned reference rows)
 lines_2d_encode columns aligned reference [] same widths = refl
 lines_2d_encode columns aligned reference (row ∷ rows) same widths =
-    let width : length row ≡ columns = All-head (λ row. length row ≡ columns) row rows widths in
-    (chosen_line_2d reference row, chosen_lines_2d aligned row rows, line_2d_encodes reference row (same ∙ sym width),
-        lines_2d_encode columns aligned row rows width (All-tail (λ row. length row ≡ columns) row rows widths), refl)
+    let width : length row ≡ columns = All-head (λ row. length row ≡ columns) row rows widths in (
+      chosen_line_2d reference row,
+      chosen_lines_2d aligned row rows,
+      line_2d_encodes reference row (same ∙ sym width),
+      lines_2d_encode columns aligned row rows width (All-tail (λ row. length row ≡ columns) row rows widths),
+      refl,
+    )
 
 pub lines_1d_encode : (columns : ℕ) (reference : Row) (rows : List Row) → 0 < columns → All (λ row. length row ≡ columns) rows
     → EncodesRowsWithEols Group3_1D reference rows (chosen_lines_1d rows)
 lines_1d_encode columns reference [] wide widths = refl
 lines_1d_encode columns reference (row ∷ rows) wide widths =
-    let width : length row ≡ columns = All-head (λ row. length row ≡ columns) row rows widths in
-    (0, chosen_line_1d row, chosen_lines_1d rows, line_1d_encodes row (omega arith),
-        lines_1d_encode columns row rows wide (All-tail (λ row. length row ≡ columns) row rows widths), append_assoc (eol 0) (chosen_line_1d row) (chosen_lines_1d rows))
+    let width : length row ≡ columns = All-head (λ row. length row ≡ columns) row rows widths in (
+      0,
+      chosen_line_1d row,
+      chosen_lines_1d rows,
+      line_1d_encodes row (omega arith),
+      lines_1d_encode columns row rows wide (All-tail (λ row. length row ≡ columns) row rows widths),
+      append_assoc (eol 0) (chosen_line_1d row) (chosen_lines_1d rows),
+    )
 
 pub closes : ClosesWithEols Group3_1D 6 return_to_control
 closes = (0, _, (0, _, (0, _, (0, _, (0, _, (0, [], refl, refl), refl), refl), refl), refl), refl)
@@ -237,7 +246,11 @@ closes = (0, _, (0, _, (0, _, (0, _, (0, _, (0, [], refl, refl), refl), refl), r
 -- the law
 pub chosen_is_an_encoding : ChosenIsAnEncoding
 chosen_is_an_encoding columns rows is = (
-  λ aligned. (chosen_lines_2d aligned (white_row columns) rows, is,
-    lines_2d_encode columns aligned (white_row columns) rows (length-replicate columns false) is.1, refl),
+  λ aligned. (
+    chosen_lines_2d aligned (white_row columns) rows,
+    is,
+    lines_2d_encode columns aligned (white_row columns) rows (length-replicate columns false) is.1,
+    refl,
+  ),
   λ some. (chosen_lines_1d rows, return_to_control, some, is, lines_1d_encode columns (white_row columns) rows is.0 is.1, closes, refl),
 )

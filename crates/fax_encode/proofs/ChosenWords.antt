@@ -1,5 +1,5 @@
 -- The words that are chosen stand in the lists, and spell runs.
-use Rattle.std.proofs.Common.{◌≡◌, ℕ, zero, suc, ◌+◌, ◌-◌, ◌*◌, ◌/◌, ◌%◌, ◌<◌, ◌≤◌, Bool, true, false, cond, eqb, ltb, ◌||◌, List, [], ◌∷◌, ◌++◌, length, replicate, refl, sym, ap, subst, ◌∙◌, arith, ◌⊎◌, inl, inr, append_assoc}
+use Rattle.std.proofs.Common.{◌≡◌, ℕ, zero, suc, ◌+◌, ◌-◌, ◌*◌, ◌/◌, ◌%◌, ◌<◌, ◌≤◌, Bool, true, false, cond, eqb, ltb, ◌||◌, List, [], ◌∷◌, ◌++◌, replicate, refl, sym, subst, ◌∙◌, arith, ◌⊎◌, inl, inr, append_assoc}
 use Rattle.std.specs.Prelude.{flat_map}
 use Rattle.std.proofs.lemmas.Bool.{agree_below_at, eqb-true, ltb-true, lt-ltb, false≢true, cases_lt}
 use Rattle.hayro_ccitt.specs.declared.codes.Color.{Color}
@@ -49,13 +49,13 @@ rest_by : (color : Color) (n : ℕ) (below : Bool) → ltb n 64 ≡ below → n 
 rest_by color n true is lt =
     let below : n < 64 = ltb-true n 64 is in
     subst (λ (m : ℕ). Spells color m (word_of_length color (n % 64))) (let e : n % 64 ≡ n = omega arith in e)
-        (Spells.terminating (n % 64) (word_of_length color (n % 64)) (terminating_word color (n % 64) (omega arith)) (omega arith))
+    (Spells.terminating (n % 64) (word_of_length color (n % 64)) (terminating_word color (n % 64) (omega arith)) (omega arith))
 rest_by color n false is lt = elim (cases_lt n 64) [
   | inl below ↦ absurd (false≢true (sym is ∙ lt-ltb n 64 below))
   | inr above ↦
       subst (λ (m : ℕ). Spells color m (word_of_length color (n - n % 64) ++ word_of_length color (n % 64))) (let e : (n - n % 64) + n % 64 ≡ n = omega arith in e)
-          (Spells.makeup (n - n % 64) (word_of_length color (n - n % 64)) (makeup_word color (n - n % 64) (omega arith) (omega arith) (omega arith)) (omega arith)
-          (Spells.terminating (n % 64) (word_of_length color (n % 64)) (terminating_word color (n % 64) (omega arith)) (omega arith)))
+      (Spells.makeup (n - n % 64) (word_of_length color (n - n % 64)) (makeup_word color (n - n % 64) (omega arith) (omega arith) (omega arith)) (omega arith)
+      (Spells.terminating (n % 64) (word_of_length color (n % 64)) (terminating_word color (n % 64) (omega arith)) (omega arith)))
 ]
 
 rest_spelled : (color : Color) (n : ℕ) → n < 2560 → Spells color n (chosen_rest color n)
@@ -71,8 +71,8 @@ more_spelled color (suc times) n bits spells =
     let is : word ++ (words ++ bits) ≡ (word ++ words) ++ bits = sym (append_assoc word words bits) in
     let one : 2560 + (2560 * times + n) ≡ 2560 * suc times + n = omega arith in
     subst (λ (b : Bits). Spells color (2560 * suc times + n) b) is
-        (subst (λ (m : ℕ). Spells color m (word ++ (words ++ bits))) one
-        (Spells.makeup 2560 word (makeup_word color 2560 (omega arith) (omega arith) refl) (omega arith) (more_spelled color times n bits spells)))
+    (subst (λ (m : ℕ). Spells color m (word ++ (words ++ bits))) one
+    (Spells.makeup 2560 word (makeup_word color 2560 (omega arith) (omega arith) refl) (omega arith) (more_spelled color times n bits spells)))
 
 -- what is chosen for a run spells it
 pub run_spelled : (color : Color) (n : ℕ) → Spells color n (chosen_run color n)

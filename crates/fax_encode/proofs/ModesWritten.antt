@@ -1,8 +1,7 @@
 -- The bits of one mode, by what an encoder finds.
-use Rattle.std.proofs.Common.{◌≡◌, ℕ, suc, ◌+◌, ◌-◌, ◌%◌, ◌<◌, ◌≤◌, Bool, true, false, cond, ltb, leb, List, [], ◌∷◌, ◌++◌, length, get_or, drop, map, replicate, refl, sym, ap, ◌∙◌, arith, append_assoc}
+use Rattle.std.proofs.Common.{◌≡◌, ℕ, ◌+◌, ◌-◌, ◌%◌, ◌<◌, ◌≤◌, Bool, true, false, cond, ltb, leb, List, [], ◌∷◌, ◌++◌, length, get_or, drop, map, replicate, refl, sym, ap, ◌∙◌, arith, append_assoc}
 use Rattle.std.proofs.lemmas.Bool.{lt-ltb, le-ltb, false≢true}
 use Rattle.std.proofs.lemmas.List.{append-nil, length-append, length-replicate}
-use Rattle.hayro_ccitt.specs.declared.codes.Color.{Color}
 use Rattle.hayro_ccitt.specs.declared.codes.Mode.{Mode}
 use Rattle.hayro_ccitt.specs.declared.codes.Mode.TheVariants.{Pass, Horizontal}
 use Rattle.hayro_ccitt.specs.Bits.{Bits}
@@ -87,8 +86,8 @@ module _ (columns : ℕ) (reference changes : List ℕ) (lawful : AreChanges col
     step_bits =
         chosen_more (pixels columns reference) (pixels columns changes) one_width at in_row
         ∙ ap (λ (b : Bits). b ++ chosen_from (pixels columns reference) (pixels columns changes)
-            (place_after (pixels columns reference) (pixels columns changes) at (chosen_mode (pixels columns reference) (pixels columns changes) at)))
-            (sym (open_bits (pixels columns reference) (pixels columns changes) at in_row (chosen_mode (pixels columns reference) (pixels columns changes) at) refl))
+        (place_after (pixels columns reference) (pixels columns changes) at (chosen_mode (pixels columns reference) (pixels columns changes) at)))
+        (sym (open_bits (pixels columns reference) (pixels columns changes) at in_row (chosen_mode (pixels columns reference) (pixels columns changes) at) refl))
         ∙ ap (λ (p : Place). bits_at (pixels columns reference) (pixels columns changes) at ++ chosen_from (pixels columns reference) (pixels columns changes) p) (sym moves)
 
   pub no_more : (at : Place) (now whole : Bits) → columns < at.from

@@ -1,17 +1,16 @@
 -- What was encoded is read again.
-use Rattle.std.proofs.Common.{◌≡◌, ℕ, zero, suc, ◌+◌, ◌-◌, ◌*◌, ◌/◌, ◌%◌, ◌^◌, ◌<◌, ◌≤◌, Bool, true, false, List, [], ◌∷◌, ◌++◌, length, replicate, refl, sym, ap, subst, ◌∙◌, arith, inl, append_assoc, Option, None, Some}
-use Rattle.std.specs.Prelude.{All, Ok, Result, map}
+use Rattle.std.proofs.Common.{◌≡◌, ℕ, zero, suc, ◌+◌, ◌-◌, ◌/◌, ◌%◌, ◌^◌, ◌<◌, true, false, List, [], ◌∷◌, ◌++◌, length, replicate, refl, sym, ap, subst, ◌∙◌, arith, inl, append_assoc, None}
+use Rattle.std.specs.Prelude.{All, Ok}
 use Rattle.std.proofs.lemmas.List.{length-append, length-replicate, length-map}
 use Rattle.std.proofs.lemmas.List.Elements.{All-head, All-tail, All-cons, All-nil}
-use Rattle.hayro_ccitt.specs.declared.error.DecodeError.{DecodeError}
 use Rattle.hayro_ccitt.specs.declared.settings.DecodeSettings.{DecodeSettings}
-use Rattle.hayro_ccitt.specs.declared.settings.EncodingMode.TheVariants.{Group4, Group3_1D}
+use Rattle.hayro_ccitt.specs.declared.settings.EncodingMode.TheVariants.{Group3_1D}
 use Rattle.hayro_ccitt.specs.Bits.{Bits, bits_of}
 use Rattle.hayro_ccitt.specs.Rows.{Row, AreChanges, pixels, white_row}
 use Rattle.hayro_ccitt.specs.EndOfLine.{after_eol, eols, all_eols}
-use Rattle.hayro_ccitt.specs.Encodings.{IsPicture, padding, eol, EncodesRowsWithEols, PictureT6}
+use Rattle.hayro_ccitt.specs.Encodings.{IsPicture, padding, EncodesRowsWithEols, PictureT6}
 use Rattle.hayro_ccitt.specs.Settings.{AreSettings}
-use Rattle.hayro_ccitt.specs.PlainReading.{plain, Reading, eols_group3}
+use Rattle.hayro_ccitt.specs.PlainReading.{eols_group3}
 use Rattle.hayro_ccitt.proofs.BitLists.{length-bits_of}
 use Rattle.hayro_ccitt.proofs.ChangesAndPixels.{length-pixels}
 use Rattle.hayro_ccitt.proofs.Moves.{eols-none}
@@ -83,5 +82,5 @@ round_trip_t4 settings columns lists bytes wide small some are to_end group3 e =
     = ap (λ (m : Bits). (length (bits_of bytes) - length m + 7) / 8) left
     ∙ (let k : (length (bits_of bytes) - length more + 7) / 8 ≡ length bytes = omega (arith, length-bits_of bytes, length-replicate n false) in k) in
     closed_picture_t4 settings Group3_1D rows lines return_to_control more bytes (settings_are settings columns small to_end) group3 to_end.end_of_block (inl to_end.no_limit)
-        some_rows picture encodes closes stand
+    some_rows picture encodes closes stand
     ∙ ap (λ (n : ℕ). record { rows = rows; outcome = Ok n; has_eols = true }) count

@@ -1,7 +1,7 @@
 -- The tables of code words have the words of each length at their places.
-use Rattle.std.proofs.Common.{◌≡◌, ℕ, zero, suc, ◌+◌, ◌-◌, ◌*◌, ◌^◌, ◌<◌, ◌≤◌, Bool, true, false, ◌&&◌, eqb, leb, ltb, List, [], ◌∷◌, get_or, refl, sym, ap, subst, ◌∙◌, arith}
+use Rattle.std.proofs.Common.{◌≡◌, ℕ, ◌+◌, ◌*◌, ◌^◌, ◌<◌, ◌≤◌, Bool, true, false, ◌&&◌, leb, ltb, [], ◌∷◌, get_or, refl, sym, subst}
 use mathlib.Core.Bool.{beq}
-use Rattle.std.proofs.lemmas.Bool.{agree_below_at, eqb-true, leb-true, ltb-true, and_parts, false≢true}
+use Rattle.std.proofs.lemmas.Bool.{agree_below_at, leb-true, ltb-true, and_parts, false≢true}
 use Rattle.hayro_ccitt.specs.declared.codes.Color.{Color}
 use Rattle.hayro_ccitt.specs.declared.codes.Color.TheVariants.{White, Black}
 use Rattle.hayro_ccitt.specs.declared.tables.TheConstants.{WHITE_TERMINATING, BLACK_TERMINATING, WHITE_MAKEUP, BLACK_MAKEUP, COMMON_MAKEUP}

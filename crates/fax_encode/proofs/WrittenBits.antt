@@ -1,6 +1,5 @@
 -- Bits of numbers one after another.
-use Rattle.std.proofs.Common.{◌≡◌, ℕ, zero, suc, ◌+◌, ◌-◌, ◌*◌, ◌/◌, ◌%◌, ◌^◌, ◌<◌, ◌≤◌, Bool, true, false, List, [], ◌∷◌, ◌++◌, length, take, replicate, eqb, refl, sym, ap, subst, ◌∙◌, arith, append_assoc}
-use Rattle.std.specs.Prelude.{flat_map}
+use Rattle.std.proofs.Common.{◌≡◌, ℕ, zero, suc, ◌+◌, ◌-◌, ◌*◌, ◌/◌, ◌%◌, ◌^◌, ◌<◌, ◌≤◌, Bool, true, false, List, [], ◌∷◌, ◌++◌, length, take, replicate, eqb, refl, sym, ap, ◌∙◌, arith, append_assoc}
 use Rattle.std.specs.Int.{bit_at}
 use Rattle.std.proofs.lemmas.Grind.{flat_map-append}
 use Rattle.std.proofs.lemmas.List.{append-nil, length-append, length-replicate, replicate-append-replicate, take_all}
@@ -211,8 +210,14 @@ missing bytes count waiting below = ap (λ (n : ℕ). replicate n false)
 pub none_waits : (old new : List ℕ) (count waiting later after : ℕ) → count < 8 → later < 8
     → bits_of new ++ low_bits later after ≡ (bits_of old ++ low_bits count waiting) ++ replicate ((8 - count) % 8) false → low_bits later after ≡ []
 none_waits old new count waiting later after below few e =
-    let none : later ≡ 0 = omega (arith, ap length e, length-written new later after, length-written old count waiting,
-      length-append (bits_of old ++ low_bits count waiting) (replicate ((8 - count) % 8) false), length-replicate ((8 - count) % 8) false) in
+    let none : later ≡ 0 = omega (
+      arith,
+      ap length e,
+      length-written new later after,
+      length-written old count waiting,
+      length-append (bits_of old ++ low_bits count waiting) (replicate ((8 - count) % 8) false),
+      length-replicate ((8 - count) % 8) false,
+    ) in
     ap (λ (n : ℕ). low_bits n after) none
 
 -- the same of a writer, seen from outside

@@ -1,5 +1,5 @@
 -- What an encoder refuses, and how it says so.
-use Rattle.std.specs.Prelude.{◌≡◌, ℕ, ◌<◌, List, ◌++◌, length, get_or, codes, decimal, [], All}
+use Rattle.std.specs.Prelude.{ℕ, ◌<◌, List, ◌++◌, length, get_or, codes, decimal, [], All}
 use Rattle.hayro_ccitt.specs.Rows.{AreChanges}
 use Rattle.fax_encode.specs.declared.error.EncodeError.{EncodeError}
 use Rattle.fax_encode.specs.declared.error.EncodeError.TheVariants.{NoColumns, NoRows, NotARow, OutOfMemory}

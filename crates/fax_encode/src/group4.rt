@@ -142,7 +142,11 @@ fn put_mode(
         });
     }
     put_word(writer, horizontal_word())?;
-    put_run(writer, at.color, row.first - at.from.saturating_sub(1) as u32)?;
+    put_run(
+        writer,
+        at.color,
+        row.first - at.from.saturating_sub(1) as u32,
+    )?;
     put_run(writer, at.color.opposite(), row.second - row.first)?;
     Ok(Coding {
         from: u64::from(row.second) + 1,

@@ -55,17 +55,45 @@ fn packs(
     let Ok(sink) = bitmap_by_group4(rt.alloc(), columns, lists, aligned) else {
         panic!(rt; "no bitmap of {columns} columns");
     };
-    assert_eq!(rt; sink.bytes(), bytes, "{columns} columns, aligned: {aligned}");
+    assert_eq!(rt;
+        sink.bytes(),
+        bytes,
+        "{columns} columns, aligned: {aligned}"
+    );
 }
 
 #[test]
 fn group_4_bytes(rt: HostRuntime) {
     encodes_g4(&rt, 8, &[], false, &[0x00, 0x10, 0x01]);
     encodes_g4(&rt, 8, &[&[3, 5]], false, &[0x31, 0xC0, 0x04, 0x00, 0x40]);
-    encodes_g4(&rt, 8, &[&[3, 5], &[3, 5]], false, &[0x31, 0xF8, 0x00, 0x80, 0x08]);
-    encodes_g4(&rt, 8, &[&[3, 5], &[3, 5]], true, &[0x31, 0xC0, 0xE0, 0x00, 0x10, 0x01]);
-    encodes_g4(&rt, 8, &[&[3, 5], &[]], false, &[0x31, 0xC6, 0x00, 0x20, 0x02]);
-    encodes_g4(&rt, 8, &[&[0]], false, &[0x26, 0xA2, 0x80, 0x08, 0x00, 0x80]);
+    encodes_g4(
+        &rt,
+        8,
+        &[&[3, 5], &[3, 5]],
+        false,
+        &[0x31, 0xF8, 0x00, 0x80, 0x08],
+    );
+    encodes_g4(
+        &rt,
+        8,
+        &[&[3, 5], &[3, 5]],
+        true,
+        &[0x31, 0xC0, 0xE0, 0x00, 0x10, 0x01],
+    );
+    encodes_g4(
+        &rt,
+        8,
+        &[&[3, 5], &[]],
+        false,
+        &[0x31, 0xC6, 0x00, 0x20, 0x02],
+    );
+    encodes_g4(
+        &rt,
+        8,
+        &[&[0]],
+        false,
+        &[0x26, 0xA2, 0x80, 0x08, 0x00, 0x80],
+    );
 }
 
 #[test]
@@ -74,19 +102,25 @@ fn one_dimensional_bytes(rt: HostRuntime) {
         &rt,
         8,
         &[&[]],
-        &[0x00, 0x19, 0x80, 0x08, 0x00, 0x80, 0x08, 0x00, 0x80, 0x08, 0x00, 0x80],
+        &[
+            0x00, 0x19, 0x80, 0x08, 0x00, 0x80, 0x08, 0x00, 0x80, 0x08, 0x00, 0x80,
+        ],
     );
     encodes_1d(
         &rt,
         8,
         &[&[3, 5]],
-        &[0x00, 0x18, 0xE0, 0x00, 0x40, 0x04, 0x00, 0x40, 0x04, 0x00, 0x40, 0x04],
+        &[
+            0x00, 0x18, 0xE0, 0x00, 0x40, 0x04, 0x00, 0x40, 0x04, 0x00, 0x40, 0x04,
+        ],
     );
     encodes_1d(
         &rt,
         2560,
         &[&[]],
-        &[0x00, 0x10, 0x1F, 0x35, 0x00, 0x10, 0x01, 0x00, 0x10, 0x01, 0x00, 0x10, 0x01],
+        &[
+            0x00, 0x10, 0x1F, 0x35, 0x00, 0x10, 0x01, 0x00, 0x10, 0x01, 0x00, 0x10, 0x01,
+        ],
     );
 }
 
@@ -96,7 +130,12 @@ fn refusals(rt: HostRuntime) -> Result<(), Fail> {
     let twice = lists_of(alloc, &[&[3, 3]])?;
     let none = lists_of(alloc, &[])?;
     let second_is_wide = lists_of(alloc, &[&[7], &[8]])?;
-    let g4 = |columns, rows: &Vec<Vec<u32>>| encode_g4(alloc, columns, rows.as_slice(), false).err();
+    let g4 = |columns, rows: &Vec<Vec<u32>>| encode_g4(
+        alloc,
+        columns,
+        rows.as_slice(),
+        false,
+    ).err();
     let one = |columns, rows: &Vec<Vec<u32>>| encode_1d(alloc, columns, rows.as_slice()).err();
     assert_eq!(&rt; g4(0, &twice), Some(EncodeError::NoColumns));
     assert_eq!(&rt; g4(8, &twice), Some(EncodeError::NotARow(0)));
@@ -112,8 +151,20 @@ fn refusals(rt: HostRuntime) -> Result<(), Fail> {
 #[test]
 fn bitmaps(rt: HostRuntime) -> Result<(), Fail> {
     let alloc = rt.alloc();
-    packs(&rt, 8, lists_of(alloc, &[&[3, 5]])?.as_slice(), false, &[0x18]);
-    packs(&rt, 8, lists_of(alloc, &[&[3, 5], &[]])?.as_slice(), true, &[0x18, 0x00]);
+    packs(
+        &rt,
+        8,
+        lists_of(alloc, &[&[3, 5]])?.as_slice(),
+        false,
+        &[0x18],
+    );
+    packs(
+        &rt,
+        8,
+        lists_of(alloc, &[&[3, 5], &[]])?.as_slice(),
+        true,
+        &[0x18, 0x00],
+    );
     packs(&rt, 8, lists_of(alloc, &[&[0]])?.as_slice(), false, &[0xFF]);
     packs(
         &rt,
@@ -158,7 +209,8 @@ fn every_small_picture(rt: HostRuntime) -> Result<(), Fail> {
                 lists.push(changes_of(alloc, left, columns)?)?;
             }
             for rows in 1..4usize {
-                let (Some(front), Some(packed)) = (lists.as_slice().get(..rows), bytes.get(..rows)) else {
+                let (Some(front), Some(packed)) = (lists.as_slice().get(..rows), bytes.get(..rows))
+                else {
                     panic!(&rt; "fewer than {rows} rows");
                 };
                 packs(&rt, columns, front, false, packed);

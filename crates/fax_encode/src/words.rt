@@ -7,7 +7,9 @@ ghost use Rattle.fax_encode.specs.Chosen.{word_of_length, word_of_mode, vertical
 ghost use Rattle.fax_encode.specs.Writing.{IsWord};
 
 use hayro_ccitt::codes::Color;
-use hayro_ccitt::tables::{BLACK_MAKEUP, BLACK_TERMINATING, COMMON_MAKEUP, WHITE_MAKEUP, WHITE_TERMINATING};
+use hayro_ccitt::tables::{
+    BLACK_MAKEUP, BLACK_TERMINATING, COMMON_MAKEUP, WHITE_MAKEUP, WHITE_TERMINATING,
+};
 
 /// A code word: the lowest bits of a number, so many.
 #[derive(Clone, Copy)]
@@ -56,14 +58,20 @@ pub fn makeup_word(color: Color, times: u32) -> Word
 pub fn pass_word() -> Word
     ensures { IsWord (word_of_mode Pass) result }
 {
-    Word { count: 4, bits: 0b0001 }
+    Word {
+        count: 4,
+        bits: 0b0001,
+    }
 }
 
 /// The word of horizontal mode.
 pub fn horizontal_word() -> Word
     ensures { IsWord (word_of_mode Horizontal) result }
 {
-    Word { count: 3, bits: 0b001 }
+    Word {
+        count: 3,
+        bits: 0b001,
+    }
 }
 
 /// The word of the vertical mode in which a1 is so many places right of b1, or just under it.
@@ -71,10 +79,22 @@ fn word_to_the_right(places: u32) -> Option<Word>
     ensures { MatchOption result (4 ≤ places) (λ word. (places < 4) × IsWord (word_of_mode (Vertical (pos places))) word) }
 {
     match places {
-        0 => Some(Word { count: 1, bits: 0b1 }),
-        1 => Some(Word { count: 3, bits: 0b011 }),
-        2 => Some(Word { count: 6, bits: 0b000011 }),
-        3 => Some(Word { count: 7, bits: 0b0000011 }),
+        0 => Some(Word {
+            count: 1,
+            bits: 0b1,
+        }),
+        1 => Some(Word {
+            count: 3,
+            bits: 0b011,
+        }),
+        2 => Some(Word {
+            count: 6,
+            bits: 0b000011,
+        }),
+        3 => Some(Word {
+            count: 7,
+            bits: 0b0000011,
+        }),
         _ => None,
     }
 }
@@ -84,9 +104,18 @@ fn word_to_the_left(places: u32) -> Option<Word>
     ensures { MatchOption result (3 ≤ places) (λ word. (places < 3) × IsWord (word_of_mode (Vertical (negsuc places))) word) }
 {
     match places {
-        0 => Some(Word { count: 3, bits: 0b010 }),
-        1 => Some(Word { count: 6, bits: 0b000010 }),
-        2 => Some(Word { count: 7, bits: 0b0000010 }),
+        0 => Some(Word {
+            count: 3,
+            bits: 0b010,
+        }),
+        1 => Some(Word {
+            count: 6,
+            bits: 0b000010,
+        }),
+        2 => Some(Word {
+            count: 7,
+            bits: 0b0000010,
+        }),
         _ => None,
     }
 }

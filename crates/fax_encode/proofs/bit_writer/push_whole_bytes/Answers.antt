@@ -7,5 +7,5 @@ pub loop-left-preserved : goal.loop-left-preserved
 loop-left-preserved c = record {
   within = omega arith;
   written = ap (λ (xs : List ℕ). bits_of xs ++ low_bits (c.loop-left.left - 8) c.args.bits) c.in_ok-push.ensures.items
-  ∙ push_byte c.loop-left.bytes.items c.loop-left.left (c.loop-left.left - 8) c.args.bits _ (omega arith) refl ∙ c.loop-left.invariant.written;
+      ∙ push_byte c.loop-left.bytes.items c.loop-left.left (c.loop-left.left - 8) c.args.bits _ (omega arith) refl ∙ c.loop-left.invariant.written;
 }

@@ -1,4 +1,4 @@
-use Rattle.std.proofs.Common.{◌≡◌, ◌+◌, ℕ, get_or, sym, ap, ◌∙◌}
+use Rattle.std.proofs.Common.{◌≡◌, get_or, sym, ◌∙◌}
 use Rattle.hayro_ccitt.specs.Rows.{pixels, b1}
 use Rattle.hayro_ccitt.proofs.ReferencePlaces.{b1_first, b1_second, b2_after_b1}
 use Rattle.fax_encode.proofs.Elements.{split_of}

@@ -11,7 +11,7 @@ invariant-modes l = record {
   passed : AreLeft l.reference l.at.from l.at.passed;
   next : AreLeft l.changes l.at.from l.at.next;
   written : all_bits l.writer ++ chosen_from (pixels l.columns l.reference) (pixels l.columns l.changes) (place_of l.at)
-  ≡ all_bits l.fn.writer ++ chosen_line_2d (pixels l.columns l.reference) (pixels l.columns l.changes);
+      ≡ all_bits l.fn.writer ++ chosen_line_2d (pixels l.columns l.reference) (pixels l.columns l.changes);
 }
 
 abbrev pub decreases-modes : goal.decreases-modes

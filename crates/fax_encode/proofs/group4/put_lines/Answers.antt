@@ -1,4 +1,4 @@
-use Rattle.std.proofs.Common.{◌≡◌, ◌+◌, ◌++◌, List, ℕ, cond, drop, map, length, [], sym, ap, subst, ◌∙◌, append_assoc}
+use Rattle.std.proofs.Common.{◌≡◌, ◌+◌, ◌++◌, List, ℕ, cond, drop, map, length, [], sym, ap, subst, ◌∙◌}
 use Rattle.hayro_ccitt.specs.Bits.{Bits}
 use Rattle.hayro_ccitt.specs.Rows.{Row, AreChanges, pixels}
 use Rattle.hayro_ccitt.specs.Encodings.{padding}
@@ -24,13 +24,13 @@ loop-row-preserved c =
       lawful = subst (AreChanges c.args.columns) (sym c.as_slice-reference.ensures.value) lawful;
       whole = padded_whole c.args.aligned (all_bits c.put_line.new.writer) (all_bits c.put_padding.new.writer) c.in_ok-put_padding.ensures;
       written = ap (λ (l : List ℕ). all_bits c.put_padding.new.writer ++ chosen_lines_2d c.args.aligned (pixels c.args.columns l)
-      (rows_of c.args.columns (drop (c.loop-row.row-index + 1) (map (λ row. row.items) c.args.rows.now)))) c.as_slice-reference.ensures.value
-      ∙ one_part (all_bits c.put_padding.new.writer) (all_bits c.loop-row.writer)
-      (chosen_lines_2d c.args.aligned reference (rows_of c.args.columns (drop c.loop-row.row-index (map (λ row. row.items) c.args.rows.now))))
-      (line ++ cond c.args.aligned (padding (length line)) [])
-      (chosen_lines_2d c.args.aligned (pixels c.args.columns c.row-item.result.items) (rows_of c.args.columns (drop (c.loop-row.row-index + 1) (map (λ row. row.items) c.args.rows.now))))
-      _ c.loop-row.invariant.written
-      (line_next c.args.columns c.args.aligned reference (λ row. row.items) c.args.rows.now c.loop-row.row-index c.row-item.result c.loop-row-test.true c.row-item.is)
-      (padded_line c.args.aligned (all_bits c.loop-row.writer) (all_bits c.put_line.new.writer) (all_bits c.put_padding.new.writer) line c.loop-row.invariant.whole drawn
-      c.in_ok-put_padding.ensures);
+          (rows_of c.args.columns (drop (c.loop-row.row-index + 1) (map (λ row. row.items) c.args.rows.now)))) c.as_slice-reference.ensures.value
+          ∙ one_part (all_bits c.put_padding.new.writer) (all_bits c.loop-row.writer)
+          (chosen_lines_2d c.args.aligned reference (rows_of c.args.columns (drop c.loop-row.row-index (map (λ row. row.items) c.args.rows.now))))
+          (line ++ cond c.args.aligned (padding (length line)) [])
+          (chosen_lines_2d c.args.aligned (pixels c.args.columns c.row-item.result.items) (rows_of c.args.columns (drop (c.loop-row.row-index + 1) (map (λ row. row.items) c.args.rows.now))))
+          _ c.loop-row.invariant.written
+          (line_next c.args.columns c.args.aligned reference (λ row. row.items) c.args.rows.now c.loop-row.row-index c.row-item.result c.loop-row-test.true c.row-item.is)
+          (padded_line c.args.aligned (all_bits c.loop-row.writer) (all_bits c.put_line.new.writer) (all_bits c.put_padding.new.writer) line c.loop-row.invariant.whole drawn
+          c.in_ok-put_padding.ensures);
     }

@@ -1,10 +1,10 @@
-use Rattle.std.proofs.Common.{◌≡◌, ◌+◌, ◌-◌, ◌<◌, ◌≤◌, ◌++◌, ℕ, true, false, length, sym, ap, subst, ◌∙◌, arith, append_assoc}
+use Rattle.std.proofs.Common.{◌≡◌, ◌-◌, ◌<◌, ◌≤◌, ◌++◌, ℕ, true, false, length, sym, ap, ◌∙◌, arith}
 use Rattle.hayro_ccitt.specs.declared.codes.Color.{Color}
 use Rattle.hayro_ccitt.specs.declared.codes.Mode.TheVariants.{Horizontal}
 use Rattle.hayro_ccitt.specs.Bits.{Bits, low_bits}
 use Rattle.hayro_ccitt.specs.Rows.{Row, pixels, opposite, a1, a2, b1, b2}
 use Rattle.hayro_ccitt.proofs.ChangesAndPixels.{length-pixels}
-use Rattle.fax_encode.specs.Chosen.{Place, bits_at, chosen_run, word_of_mode, vertical_mode}
+use Rattle.fax_encode.specs.Chosen.{chosen_run, word_of_mode, vertical_mode}
 use Rattle.fax_encode.specs.Coding.{place_of}
 use Rattle.fax_encode.specs.Writing.{all_bits}
 use Rattle.fax_encode.proofs.ModesWritten.{pass_bits, vertical_bits, horizontal_bits, first_run, second_run, near_same, three_written}
@@ -37,8 +37,12 @@ returns-in-Some-clause-written c =
     ∙ sym (vertical_bits reference row (place_of c.args.at) (inside (goal.at.returns-in-Some-clause-written c).After-elements_of_reference-above) right near))
 
 pub overflow_sub-row : goal.overflow_sub-row
-overflow_sub-row c = omega (arith, c.saturating_sub.ensures, c.elements_of_row-row.ensures.a1,
-  first_run (pixels c.args.columns c.args.changes.now) c.args.at.from (inside (goal.at.overflow_sub-row c).After-elements_of_reference-above))
+overflow_sub-row c = omega (
+  arith,
+  c.saturating_sub.ensures,
+  c.elements_of_row-row.ensures.a1,
+  first_run (pixels c.args.columns c.args.changes.now) c.args.at.from (inside (goal.at.overflow_sub-row c).After-elements_of_reference-above),
+)
 
 pub overflow_sub-row-2 : goal.overflow_sub-row-2
 overflow_sub-row-2 c = omega (arith, c.elements_of_row-row.ensures.a1, c.elements_of_row-row.ensures.a2, second_run (pixels c.args.columns c.args.changes.now) c.args.at.from)

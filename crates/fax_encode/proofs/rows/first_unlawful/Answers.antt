@@ -1,4 +1,4 @@
-use Rattle.std.proofs.Common.{below_more, get_or, [], List, map, length, arith, refl, sym, subst}
+use Rattle.std.proofs.Common.{below_more, [], arith, refl, sym, subst}
 use Rattle.std.proofs.lemmas.List.{get_or_default, length-map}
 use Rattle.hayro_ccitt.specs.Rows.{AreChanges}
 use Rattle.fax_encode.proofs.RowLists.{item_at}

@@ -11,5 +11,5 @@ invariant-loop-change l =
       within : l.place ≤ l.columns;
       ascend : AscendFrom l.place l.columns (drop l.change-index l.changes);
       written : all_bits l.writer ++ chosen_runs l.columns l.color l.place (drop l.change-index l.changes)
-      ≡ all_bits l.fn.writer ++ chosen_runs l.columns White 0 l.changes;
+          ≡ all_bits l.fn.writer ++ chosen_runs l.columns White 0 l.changes;
     }

@@ -1,6 +1,6 @@
 use Rattle.std.proofs.Common.{◌≡◌, ◌-◌, ◌++◌, OnOk, sym, ap, subst, ◌∙◌}
-use Rattle.hayro_ccitt.specs.Bits.{Bits, low_bits}
-use Rattle.fax_encode.specs.Chosen.{word_of_length, chosen_rest, chosen_run}
+use Rattle.hayro_ccitt.specs.Bits.{Bits}
+use Rattle.fax_encode.specs.Chosen.{word_of_length, chosen_run}
 use Rattle.fax_encode.specs.Writing.{all_bits}
 use Rattle.fax_encode.proofs.RunsWritten.{run_more, run_rest, one_part}
 use Rattle.fax_encode.proofs.runs.put_run.Goals as goal

@@ -1,7 +1,4 @@
-use Rattle.std.proofs.Common.{◌-◌, ◌*◌, arith}
-use Rattle.hayro_ccitt.specs.declared.codes.Color.{Color}
-use Rattle.fax_encode.specs.Chosen.{word_of_length}
-use Rattle.fax_encode.specs.Writing.{IsWord}
+use Rattle.std.proofs.Common.{◌-◌, arith}
 use Rattle.fax_encode.proofs.WordTables.{white_makeup, black_makeup, common_makeup}
 use Rattle.fax_encode.proofs.words.makeup_word.Goals as goal
 

@@ -1,4 +1,4 @@
-use Rattle.std.proofs.Common.{◌≡◌, ◌++◌, Bool, true, false, sym, ap, ◌∙◌, refl, arith, append_assoc}
+use Rattle.std.proofs.Common.{◌≡◌, ◌++◌, true, false, sym, ap, ◌∙◌, refl, arith, append_assoc}
 use Rattle.hayro_ccitt.specs.Bits.{Bits, bits_of}
 use Rattle.fax_encode.proofs.WrittenBits.{byte_full_of, full_by, filled_behind, filled_on}
 use Rattle.fax_encode.proofs.bit_writer.BitWriter.put_same.Goals as goal
