@@ -25,24 +25,34 @@ def two_proofs_by_hand():
 
 
 # A page of demands cited by a word and a number, or by a letter and a number. T.4 and T.6 are the standards.
-NUMBERED = re.compile(r"\b(?:document|paper|demand) \d+\b|\bthe papers?\b|\b(?:[DLRW]\d{1,2}|T[1-5]\.\d)\b")
-BYTES = re.compile(r"0x|\b[0-9A-F]{2} [0-9A-F]{2}\b|\"[0-9A-F]+\"|~ \d")
+NUMBERED = re.compile(
+    r"\b(?:[Dd]ocument|[Pp]aper|[Dd]emand)s? \d+\b|\bthe[ ]papers?\b|\b(?:[DLRW]\d{1,2}(?:\.\d+)?|T[1-5]\.\d)\b"
+)
+# Bytes in hexadecimal, which may look like a letter and a number.
+BYTES = re.compile(r"0x[0-9A-Fa-f_]+|\b[0-9A-F]{2}(?: [0-9A-F]{2})+\b|\"[0-9A-F]+\"")
 
 
 def nothing_is_cited_by_number():
     """The repository stands alone: it cites no page of demands by its number."""
     found = []
     for name in tracked():
-        if name == "HANDLES" or name.startswith(("corpus/", "checks/")):
+        if name == "HANDLES" or (name.startswith("corpus/") and not name.endswith(".md")):
             continue
         with open(name, encoding="utf-8", errors="ignore") as file:
             for number, line in enumerate(file, 1):
-                if NUMBERED.search(line) and not BYTES.search(line):
+                if NUMBERED.search(BYTES.sub("", line)):
                     found.append(f"{name}:{number}: {line.strip()}")
     assert not found, "\n".join(found[:10])
 
 
-LINK = re.compile(r"\]\(([^)#]+)(?:#[^)]*)?\)")
+LINK = re.compile(r"\]\(([^)#]*)(?:#([^)]*))?\)")
+
+
+def anchors(name):
+    """The anchors of a page's headings: small letters, without other signs, with dashes for spaces."""
+    with open(name, encoding="utf-8") as file:
+        headings = re.findall(r"^#+ +(.*)$", file.read(), re.MULTILINE)
+    return [re.sub(r"[^\w\- ]", "", heading.strip().lower()).replace(" ", "-") for heading in headings]
 
 
 def links_lead_somewhere():
@@ -51,9 +61,11 @@ def links_lead_somewhere():
         if not name.endswith(".md"):
             continue
         with open(name, encoding="utf-8") as file:
-            for target in LINK.findall(file.read()):
-                if "://" not in target and not os.path.exists(os.path.join(os.path.dirname(name), target)):
-                    broken.append(f"{name}: {target}")
+            links = LINK.findall(file.read())
+        for target, anchor in links:
+            page = os.path.join(os.path.dirname(name), target) if target else name
+            if "://" not in target and (not os.path.exists(page) or (anchor and anchor not in anchors(page))):
+                broken.append(f"{name}: {target}#{anchor}")
     assert not broken, "\n".join(broken)
 
 
@@ -63,13 +75,22 @@ def readme_names_the_kit():
         assert kit in file.read(), f"the README doesn't name {kit}"
 
 
-def no_proof_has_a_hole():
-    hole = re.compile(r"(^|[^?])= *\?( |$)")
-    found = []
+def lines_of_code(ending, comment):
+    """The lines of the files with this ending, without comments and texts."""
     for name in tracked():
-        if name.endswith(".antt"):
+        if name.endswith(ending):
             with open(name, encoding="utf-8") as file:
-                found += [f"{name}:{n}" for n, line in enumerate(file, 1) if hole.search(line)]
+                for number, line in enumerate(file, 1):
+                    yield f"{name}:{number}", re.sub(r'"[^"]*"', "", line).split(comment)[0]
+
+
+def no_proof_has_a_hole():
+    found = [place for place, line in lines_of_code(".antt", "--") if "?" in line]
+    assert not found, found
+
+
+def nothing_is_unsafe():
+    found = [place for place, line in lines_of_code(".rt", "//") if re.search(r"\bunsafe\b", line)]
     assert not found, found
 
 
@@ -80,4 +101,5 @@ CHECKS = [
     links_lead_somewhere,
     readme_names_the_kit,
     no_proof_has_a_hole,
+    nothing_is_unsafe,
 ]

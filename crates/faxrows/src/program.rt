@@ -1,17 +1,17 @@
 //! A run of the program: all that a reader has is decoded, and written as text.
 
-ghost use Rattle.std.specs.Prelude.{◌≡◌, ◌↔◌, ◌≢◌, IfOk, IfErr, OnOk, OnErr, IfSome, IsOk, IsErr, true, false, map, string_bytes, None, Ok, Err, List, ℕ};
+ghost use Rattle.std.specs.Prelude.{◌≡◌, ◌≤◌, ◌↔◌, ◌≢◌, IfOk, IfErr, OnOk, OnErr, IfSome, IsOk, IsErr, true, false, map, string_bytes, None, Ok, Err, List, ℕ};
 ghost use Rattle.std.specs.Io.KnownBytes.{Appends, IsAtEnd};
 ghost use Rattle.hayro_ccitt.specs.Bits.{BitsFit};
 ghost use Rattle.faxrows.specs.Arguments.{settings_of_words};
 ghost use Rattle.faxrows.specs.Text.{line_of_outcome};
-ghost use Rattle.faxrows.specs.Runs.{OnKnown, IsFrontText, whole_text, rows_of, outcome_of, done_of};
+ghost use Rattle.faxrows.specs.Runs.{Outcome, OnKnown, EndsAfter, IsTextOfWant, whole_text, text_after, outcome_of, done_of, WasRead};
 
 use crate::arguments::settings_of;
 use crate::device::Device;
 use crate::last_line::{ROOM, error_line, put_ok};
 use crate::text_sink::TextSink;
-use hayro_ccitt::{DecodeError, DecoderContext, decode};
+use hayro_ccitt::{DecodeError, DecoderContext, EncodingMode, decode};
 use std::alloc::Global;
 use std::fmt;
 use std::io::{Read, Write};
@@ -47,6 +47,8 @@ impl fmt::Display for RunFault {
     ghost use Rattle.faxrows.specs.Faults.{text_of_fault};
 
     ghost output = { λ fault. Some (text_of_fault fault) };
+
+    ghost styled_output = { λ fault _. Some (text_of_fault fault) };
 
     fn fmt<W: fmt::Write>(&self, f: &mut fmt::Formatter<W>) -> fmt::Result {
         f.write_str(match self {
@@ -85,11 +87,13 @@ pub fn run<R: Read, W: Write>(
         IsErr (outcome_of settings input)) }
     ensures memory { result ≡ Ok Done.Memory
         → OnKnown (settings_of_words (map string_bytes words.now)) (R.remaining reader.old.0) (λ settings input.
-        (text : List ℕ) × IsFrontText (rows_of settings input) text
+        (text : List ℕ) × IsTextOfWant settings input text
         × Appends (W.contents writer.old.0) (W.contents writer.new.0) text) }
     ensures drained { IfOk result (λ _. IsAtEnd (R.remaining reader.new.0)) }
     ensures fit { IfOk result (λ _. IfSome (R.remaining reader.old.0) BitsFit) }
     ensures fit_write { result ≡ Err RunFault.Write → IfSome (R.remaining reader.old.0) BitsFit }
+    ensures fit_so_far { result ≢ Err RunFault.TooLong
+        → WasRead (R.remaining reader.old.0) (R.remaining reader.new.0) BitsFit }
     ensures too_long { result ≡ Err RunFault.TooLong
         → IfSome (R.remaining reader.old.0) (λ input. ¬ (BitsFit input)) }
     ensures read { reader.old.1 ≡ false → ((result ≡ Err RunFault.Read) ↔ (reader.new.1 ≡ true)) }
@@ -99,12 +103,36 @@ pub fn run<R: Read, W: Write>(
         return Err(RunFault::BadArguments);
     };
     let input = read_all(alloc, reader)?;
-    let mut sink = TextSink::new(alloc);
     let Ok(mut ctx) = DecoderContext::new(alloc, settings) else {
         return Err(RunFault::Memory);
     };
-    let outcome = decode(input.as_slice(), &mut sink, &mut ctx);
-    write_all(writer, sink.text())?;
+    write_decoded(alloc, input.as_slice(), &mut ctx, writer)
+}
+
+/// Decodes bytes, and writes a line for each row that was taken, and then how the decoding ended. It fails only
+/// where the writer does.
+fn write_decoded<W: Write>(
+    alloc: Global,
+    input: &[u8],
+    ctx: &mut DecoderContext,
+    writer: &mut Device<W>,
+) -> std::result::Result<Done, RunFault>
+    requires fit { BitsFit input.now }
+    requires columns { ctx.old.held.settings.columns ≤ 4294967295 }
+    requires encoding { ctx.old.held.settings.encoding ≡ EncodingMode.Group4 }
+    ensures written { IfOk result (λ done. (outcome : Outcome)
+        × EndsAfter ctx.old.held.settings input.now ctx.new.held.taken outcome
+        × (done ≡ done_of outcome)
+        × Appends (W.contents writer.old.0) (W.contents writer.new.0)
+        (text_after ctx.old.held.settings input.now ctx.new.held.taken outcome)) }
+    ensures flag { OnOk result (writer.new.1 ≡ writer.old.1) }
+    ensures failed { OnErr result (writer.new.1 ≡ true) }
+    ensures only { IfErr result (λ fault. fault ≡ RunFault.Write) }
+{
+    let mut sink = TextSink::new(alloc);
+    let outcome = decode(input, &mut sink, ctx);
+    let lines = sink.text();
+    write_all(writer, lines)?;
     write_last_line(writer, &outcome)?;
     Ok(done_of(&outcome))
 }
@@ -119,6 +147,8 @@ fn read_all<R: Read>(
     ensures fit { IfOk result (λ input. BitsFit input.items) }
     ensures too_long { result ≡ Err RunFault.TooLong
         → IfSome (R.remaining reader.old.0) (λ known. ¬ (BitsFit known)) }
+    ensures fit_so_far { result ≢ Err RunFault.TooLong
+        → WasRead (R.remaining reader.old.0) (R.remaining reader.new.0) BitsFit }
     ensures read { reader.old.1 ≡ false → ((result ≡ Err RunFault.Read) ↔ (reader.new.1 ≡ true)) }
     ensures not_write { result ≢ Err RunFault.Write }
     ensures not_arguments { result ≢ Err RunFault.BadArguments }

@@ -84,6 +84,35 @@ impl Write for Choking {
     }
 }
 
+/// A writer that takes one byte a write, and nothing at one of its writes. It counts them.
+#[derive(Drop)]
+struct Stalling {
+    bytes: Vec<u8>,
+    stalls_after: usize,
+    writes: usize,
+}
+
+impl Write for Stalling {
+    fn write(&mut self, buf: &[u8]) -> io::Result<usize> {
+        let stalls = self.writes == self.stalls_after;
+        self.writes = self.writes.saturating_add(1);
+        let Some(byte) = buf.first() else {
+            return Ok(0);
+        };
+        if stalls {
+            return Ok(0);
+        }
+        if self.bytes.push(*byte).is_err() {
+            return Err(io::Error::from(io::ErrorKind::OutOfMemory));
+        }
+        Ok(1)
+    }
+
+    fn flush(&mut self) -> io::Result<()> {
+        Ok(())
+    }
+}
+
 /// The words of a line, parted by spaces.
 fn words_of(alloc: Global, line: &str) -> Result<Vec<String>, AllocError> {
     let mut words = Vec::new(alloc);
@@ -260,6 +289,30 @@ fn fails_at_each_write(rt: HostRuntime) -> Result<(), Fail> {
 }
 
 #[test]
+fn asks_a_stalled_writer_once(rt: HostRuntime) -> Result<(), Fail> {
+    let text = b"r 3 5\nok 2\n";
+    for stalls_after in 0..text.len() {
+        let words = words_of(rt.alloc(), "g4 8 1 -")?;
+        let mut reader = Device::new([0x31u8, 0xC0].as_slice());
+        let mut writer = Device::new(Stalling {
+            bytes: Vec::new(rt.alloc()),
+            stalls_after,
+            writes: 0,
+        });
+        let answer = run(rt.alloc(), words.as_slice(), &mut reader, &mut writer);
+        let writer: Stalling = writer.into_inner();
+        assert_eq!(rt; answer, Err(RunFault::Write), "at {stalls_after}");
+        assert_eq!(rt;
+            writer.bytes.as_slice(),
+            &text[..stalls_after],
+            "at {stalls_after}"
+        );
+        assert_eq!(rt; writer.writes, stalls_after + 1, "at {stalls_after}");
+    }
+    Ok(())
+}
+
+#[test]
 fn prints_faults(rt: HostRuntime) -> Result<(), Fail> {
     for (fault, text) in [
         (RunFault::BadArguments, "bad arguments"),
@@ -270,6 +323,10 @@ fn prints_faults(rt: HostRuntime) -> Result<(), Fail> {
     ] {
         assert_eq!(rt;
             String::format(rt.alloc(), format_args!("{fault}"))?.as_str(),
+            text
+        );
+        assert_eq!(rt;
+            String::format(rt.alloc(), format_args!("{fault:>20}"))?.as_str(),
             text
         );
     }

@@ -1,5 +1,5 @@
 -- What a call answers of a definition.
-use Rattle.std.specs.Prelude.{◌≡◌, ◌≢◌, ◌<◌, ℕ, true, false, length, map, slice_get, Some, Result, Ok, Err, Contains, List}
+use Rattle.std.specs.Prelude.{◌≡◌, ◌≢◌, ◌<◌, ℕ, Bool, true, false, ◌∷◌, ◌++◌, length, map, slice_get, Some, Result, Ok, Err, Contains, List}
 use Rattle.std.specs.List.{fold}
 use Rattle.hayro_ccitt.specs.declared.error.DecodeError.{DecodeError}
 use Rattle.hayro_ccitt.specs.declared.error.DecodeError.TheVariants.{UnexpectedEof, InvalidCode, Overflow, OutOfMemory, Refused}
@@ -7,8 +7,10 @@ use Rattle.hayro_ccitt.specs.declared.codes.Mode.{Mode}
 use Rattle.hayro_ccitt.specs.Bits.{Bits}
 use Rattle.hayro_ccitt.specs.Rows.{Row, is_black, changes, last_pixel}
 use Rattle.hayro_ccitt.specs.Context.{Held, painted_front}
-use Rattle.hayro_ccitt.specs.Lines.{Line, Pen, Step, draw_run, draw_mode, line_1d, line_2d}
+use Rattle.hayro_ccitt.specs.Lines.{Line, Pen, draw_run, draw_mode, line_1d, line_2d}
 use Rattle.hayro_ccitt.specs.Repetition.{Turn}
+
+-- ---- Errors, and what a row shows (glue).
 
 -- an error that the data is at fault for
 abbrev pub IsFault : DecodeError → Type 0
@@ -23,60 +25,88 @@ abbrev pub front_of : Line → Row
 front_of (Line.whole row rest) = row
 front_of (Line.broken front fault) = front
 
--- a pixel of the row is black
+-- a pixel of the row is black (T.4, 4.1.1)
 abbrev pub HasBlack : Row → Type 0
 HasBlack row = Contains row true
 
+-- A front ends where a changing element of the row is next: the front is a prefix of the row and not all of it, and
+-- the next pixel differs from the front's last one, or from white left of the row (T.4, 4.2.1.1).
+abbrev pub StopsAtChange : Row → Row → Type 0
+StopsAtChange row front = (pixel : Bool) × (after : Row) × (row ≡ front ++ pixel ∷ after) × (pixel ≢ last_pixel false front)
+
+-- ---- One line, and one step of it, as calls draw them: what no reader of `decode` has to believe.
+
 -- What a call that draws a line answers, where the definition's line is known, and leaves in the front and of the
--- bits: the whole line; or the broken one and its fault; or want of memory, if a black pixel is painted.
+-- bits: the whole line; or the broken one and its fault; or want of memory, where a changing element is to be stored
+-- (T.4, 4.1 and 4.2; T.6, 2.2).
 abbrev pub DrawsLine : Line → Result (Unit {0}) DecodeError → Row → Bits → Type 0
 DrawsLine line (Ok x) front rest = line ≡ Line.whole front rest
 DrawsLine line (Err UnexpectedEof) front rest = line ≡ Line.broken front UnexpectedEof
 DrawsLine line (Err InvalidCode) front rest = line ≡ Line.broken front InvalidCode
 DrawsLine line (Err Overflow) front rest = line ≡ Line.broken front Overflow
-DrawsLine line (Err OutOfMemory) front rest = HasBlack (front_of line)
+DrawsLine line (Err OutOfMemory) front rest = StopsAtChange (front_of line) front
 DrawsLine line (Err Refused) front rest = ⊥
 
--- the pen of a context, where these bits are left
+-- the pen of a context, where these bits are left (T.4, 4.1.1 and 4.2.1.3)
 abbrev pub pen_of : Held → Bits → Pen
 pen_of held rest = record { front = held.front; color = held.color; rest = rest }
 
--- a run of the present colour, read and painted
+-- what a step of a line comes to: the pen to go on with, or the line (T.4, 4.1.1 and 4.2.1.3; T.6, 2.2)
+abbrev pub Step : Type 0
+Step = Turn Pen Line
+
+-- a run of the present colour, read and painted (T.4, 4.1.1)
 abbrev pub step_of_run : Held → Bits → Step
-step_of_run held rest = draw_run held.settings.strict held.settings.columns (pen_of held rest) Turn.next
+step_of_run held rest = (draw_run held.settings.strict held.settings.columns (pen_of held rest)).turn
 
--- a mode, drawn against the reference row
+-- a mode, drawn against the reference row (T.4, 4.2.1.3; T.6, 2.2)
 abbrev pub step_of_mode : Held → Bits → Mode → Step
-step_of_mode held rest mode = draw_mode held.settings.strict held.settings.columns held.reference (pen_of held rest) mode
+step_of_mode held rest mode = (draw_mode held.settings.strict held.settings.columns held.reference (pen_of held rest) mode).turn
 
--- a one-dimensional line
+-- a one-dimensional line (T.4, 4.1.1)
 abbrev pub line_from_1d : Held → Bits → Line
 line_from_1d held rest = line_1d held.settings.strict held.settings.columns rest
 
--- a two-dimensional line against the reference row
+-- a two-dimensional line against the reference row (T.4, 4.2; T.6, 2.2)
 abbrev pub line_from_2d : Held → Bits → Line
 line_from_2d held rest = line_2d held.settings.strict held.settings.columns held.reference rest
 
--- a step after which a black pixel is painted
-abbrev pub StepHasBlack : Step → Type 0
-StepHasBlack (Turn.next pen) = HasBlack pen.front
-StepHasBlack (Turn.done line) = HasBlack (front_of line)
+-- the front that a step comes to (T.4, 4.1.1 and 4.2.1.3; T.6, 2.2)
+abbrev pub front_after : Step → Row
+front_after (Turn.next pen) = pen.front
+front_after (Turn.done line) = front_of line
 
--- the same of a step of a line, and the pen that is left
+-- what a call that draws a step of a line answers, and the pen that is left (T.4, 4.1.1 and 4.2.1.3; T.6, 2.2)
 abbrev pub DrawsStep : Step → Result (Unit {0}) DecodeError → Pen → Type 0
 DrawsStep step (Ok x) pen = step ≡ Turn.next pen
 DrawsStep step (Err UnexpectedEof) pen = step ≡ Turn.done (Line.broken pen.front UnexpectedEof)
 DrawsStep step (Err InvalidCode) pen = step ≡ Turn.done (Line.broken pen.front InvalidCode)
 DrawsStep step (Err Overflow) pen = step ≡ Turn.done (Line.broken pen.front Overflow)
-DrawsStep step (Err OutOfMemory) pen = StepHasBlack step
+DrawsStep step (Err OutOfMemory) pen = StopsAtChange (front_after step) pen.front
 DrawsStep step (Err Refused) pen = ⊥
 
--- Painting so many pixels makes a changing element at the end of the front.
+-- ---- Changes that are stored.
+
+-- Painting so many pixels makes a changing element at the end of the front (T.4, 4.2.1.1).
 abbrev pub StoresChange : Held → ℕ → Type 0
 StoresChange held count = (row : Row)
     × (painted_front held count ≡ Ok row)
     × (length held.front < length row)
     × (last_pixel false held.front ≢ is_black held.color)
+
+-- To continue the front in white makes a changing element: the row isn't full, and its last pixel is black (T.4,
+-- 4.2.1.1).
+abbrev pub RepairStoresChange : Held → Type 0
+RepairStoresChange held = (length held.front < held.settings.columns) × (last_pixel false held.front ≡ true)
+
+-- A line that failed with this error is repaired: the reading is lenient, the data have EOLs, and they are at fault (T.4,
+-- 4.1.2).
+pub record IsRepairable (held : Held) (error : DecodeError) : Type 0 where
+  pub lenient : held.settings.strict ≡ false
+  pub has_eols : held.has_eols ≡ true
+  pub fault : IsFault error
+
+-- ---- What a run over all lines answers (glue).
 
 -- the line of an index is among these lines, and paints a black pixel
 abbrev pub PaintsBlack : List Line → ℕ → Type 0

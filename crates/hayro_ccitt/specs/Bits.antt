@@ -2,6 +2,8 @@
 use Rattle.std.specs.Prelude.{◌+◌, ◌*◌, ◌<◌, length, ℕ, zero, suc, drop, Bool, List, [], ◌∷◌, ◌^◌, ◌/◌, ◌%◌, ◌==◌, ◌≡◌, ◌++◌}
 use Rattle.std.specs.List.{flat_map}
 
+-- ---- glue: bits in bytes, and places among bits
+
 -- bits in the order in which they are read
 abbrev pub Bits : Type 0
 Bits = List Bool

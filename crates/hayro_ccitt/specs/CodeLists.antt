@@ -5,16 +5,16 @@ use Rattle.hayro_ccitt.specs.declared.codes.Mode.{Mode}
 use Rattle.hayro_ccitt.specs.declared.codes.Mode.TheVariants.{Pass, Horizontal, Vertical}
 use Rattle.hayro_ccitt.specs.Bits.{Bits, low_bits}
 
--- a word and what it stands for
+-- a word and what it stands for (T.4, 4.1.1)
 pub record Code (V : Type 0) : Type 0 where
   pub value : V
   pub word : Bits
 
--- the word that a text of zeros and ones spells
+-- glue: the word that a text of zeros and ones spells
 abbrev pub spelled : {V : Type 0} → V → String → Code V
 spelled value text = record { value = value; word = map (λ c. c == 49) (codes text) }
 
--- the white runs 0 to 63 (T.4, table 2)
+-- the white runs 0 to 63 (T.4, 4.1.1, table 2)
 abbrev pub white_terminating : List (Code ℕ)
 white_terminating =
     spelled 0 "00110101" ∷
@@ -83,7 +83,7 @@ white_terminating =
     spelled 63 "00110100" ∷
     []
 
--- the white runs 64 to 1728 (T.4, table 3a)
+-- the white runs 64 to 1728 (T.4, 4.1.1, table 3a)
 abbrev pub white_makeup : List (Code ℕ)
 white_makeup =
     spelled 64 "11011" ∷
@@ -115,7 +115,7 @@ white_makeup =
     spelled 1728 "010011011" ∷
     []
 
--- the black runs 0 to 63 (T.4, table 2)
+-- the black runs 0 to 63 (T.4, 4.1.1, table 2)
 abbrev pub black_terminating : List (Code ℕ)
 black_terminating =
     spelled 0 "0000110111" ∷
@@ -184,7 +184,7 @@ black_terminating =
     spelled 63 "000001100111" ∷
     []
 
--- the black runs 64 to 1728 (T.4, table 3a)
+-- the black runs 64 to 1728 (T.4, 4.1.1, table 3a)
 abbrev pub black_makeup : List (Code ℕ)
 black_makeup =
     spelled 64 "0000001111" ∷
@@ -216,7 +216,7 @@ black_makeup =
     spelled 1728 "0000001100101" ∷
     []
 
--- the runs 1792 to 2560 of either colour (T.4, table 3b)
+-- the runs 1792 to 2560 of either colour (T.4, 4.1.1, table 3b)
 abbrev pub common_makeup : List (Code ℕ)
 common_makeup =
     spelled 1792 "00000001000" ∷
@@ -238,11 +238,11 @@ common_makeup =
 abbrev pub white_codes : List (Code ℕ)
 white_codes = white_terminating ++ white_makeup ++ common_makeup
 
--- the black list
+-- the black list (T.4, 4.1.1)
 abbrev pub black_codes : List (Code ℕ)
 black_codes = black_terminating ++ black_makeup ++ common_makeup
 
--- the modes of a two-dimensional line (T.4, table 4; T.6, table 1)
+-- the modes of a two-dimensional line (T.4, 4.2.1.2, table 4; T.6, 2.2, table 1)
 abbrev pub mode_codes : List (Code Mode)
 mode_codes =
     spelled Pass "0001" ∷
@@ -256,6 +256,6 @@ mode_codes =
     spelled (Vertical (negsuc 2)) "0000010" ∷
     []
 
--- a table of triples (value, number of bits, word as a number) as a code list
+-- glue: a table of triples (value, number of bits, word as a number) as a code list
 abbrev pub numbered : {V : Type 0} → List (V × ℕ × ℕ) → List (Code V)
 numbered table = map (λ e. record { value = e.0; word = low_bits e.1 e.2 }) table

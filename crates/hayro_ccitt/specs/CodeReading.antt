@@ -7,6 +7,8 @@ use Rattle.hayro_ccitt.specs.declared.error.DecodeError.TheVariants.{UnexpectedE
 use Rattle.hayro_ccitt.specs.Bits.{Bits, IsPrefix}
 use Rattle.hayro_ccitt.specs.CodeLists.{Code}
 
+-- ---- glue: what bits begin with
+
 -- what follows the word, where it stands at the front
 abbrev pub after : Bits → Bits → Option Bits
 after [] here = Some here
@@ -17,7 +19,9 @@ after (b ∷ word) (c ∷ here) = if beq b c then after word here else None
 abbrev pub is_prefix : Bits → Bits → Bool
 is_prefix prefix whole = is_some (after prefix whole)
 
--- the value of the word of the list that stands here, and what follows it
+-- ---- Reading a list
+
+-- the value of the word of the list that stands here, and what follows it (T.4, 4.1.1)
 abbrev pub word_at : {V : Type 0} → List (Code V) → Bits → Option (V × Bits)
 word_at [] here = None
 word_at (c ∷ list) here = elim (after c.word here) [
@@ -25,23 +29,25 @@ word_at (c ∷ list) here = elim (after c.word here) [
   | None ↦ word_at list here
 ]
 
--- the list has this word, for this value
+-- the list has this word, for this value (T.4, 4.1.1)
 abbrev pub Has : {V : Type 0} → List (Code V) → V → Bits → Type 0
 Has [] v w = ⊥
 Has (c ∷ list) v w = ((c.value ≡ v) × (c.word ≡ w)) ⊎ Has list v w
 
--- whether the bits from here to the end are a prefix of a word of the list
+-- whether the bits from here to the end are a prefix of a word of the list (T.4, 4.1.1)
 abbrev pub is_cut : {V : Type 0} → List (Code V) → Bits → Bool
 is_cut [] here = false
 is_cut (c ∷ list) here = is_prefix here c.word || is_cut list here
 
 -- Reading a list: a word of it stands here; or the bits from here to the end, possibly none, are a prefix of a word, and
--- it is the end that is missing; or neither.
+-- it is the end that is missing; or neither (T.4, 4.1.1).
 abbrev pub read_code : {V : Type 0} → List (Code V) → Bits → Result (V × Bits) DecodeError
 read_code list here = elim (word_at list here) [
   | Some found ↦ Ok found
   | None ↦ if is_cut list here then Err UnexpectedEof else Err InvalidCode
 ]
+
+-- ---- glue: how words lie to each other and to the bits here
 
 -- neither of two words is a prefix of the other
 abbrev pub apart : Bits → Bits → Bool
@@ -65,15 +71,15 @@ agreement (b ∷ word) (c ∷ here) = if beq b c then suc (agreement word here) 
 
 -- ---- What reading a list answers
 
--- a word of the list stands here, for this value, and this follows it
+-- a word of the list stands here, for this value, and this follows it (T.4, 4.1.1)
 abbrev pub Stands : {V : Type 0} → List (Code V) → Bits → V → Bits → Type 0
 Stands list here v rest = (w : Bits) × Has list v w × (here ≡ w ++ rest)
 
--- no word of the list stands here
+-- no word of the list stands here (T.4, 4.1.1)
 abbrev pub NoneStands : {V : Type 0} → List (Code V) → Bits → Type 0
 NoneStands {V} list here = (v : V) (rest : Bits) → Stands list here v rest → ⊥
 
--- the bits from here to the end are a prefix of a word of the list
+-- the bits from here to the end are a prefix of a word of the list (T.4, 4.1.1)
 abbrev pub IsCut : {V : Type 0} → List (Code V) → Bits → Type 0
 IsCut {V} list here = (v : V) × (w : Bits) × Has list v w × IsPrefix here w
 
@@ -85,6 +91,6 @@ pub record ReadsCodes {V : Type 0} (list : List (Code V)) : Type 0 where
   pub cut : (here : Bits) → (read_code list here ≡ Err UnexpectedEof) ↔ (NoneStands list here × IsCut list here)
   pub wrong : (here : Bits) → (read_code list here ≡ Err InvalidCode) ↔ (NoneStands list here × (IsCut list here → ⊥))
 
--- no word of a list is a prefix of another one, and none stands for two values
+-- no word of a list is a prefix of another one, and none stands for two values (T.4, 4.1.1)
 abbrev pub PrefixFree : {V : Type 0} → List (Code V) → Type 0
 PrefixFree {V} list = (v w : V) (a b rest : Bits) → Has list v a → Has list w b → b ≡ a ++ rest → (rest ≡ []) × (v ≡ w)

@@ -4,10 +4,10 @@ use Rattle.hayro_ccitt.specs.declared.codes.Color.{Color}
 use Rattle.hayro_ccitt.specs.declared.codes.Color.TheVariants.{White}
 use Rattle.hayro_ccitt.specs.declared.settings.DecodeSettings.{DecodeSettings}
 use Rattle.hayro_ccitt.specs.declared.error.DecodeError.{DecodeError}
-use Rattle.hayro_ccitt.specs.Rows.{Row, white_row, paint, last_pixel}
+use Rattle.hayro_ccitt.specs.Rows.{Row, white_row, repaired, paint, last_pixel}
 
 -- the reference row, the front of the coding row, the present colour, the number of rows that were taken, whether
--- EOLs are sought, and the settings
+-- EOLs are sought, and the settings (T.4, 4.1.2 and 4.2.1.1)
 pub record Held : Type 0 where
   pub reference : Row
   pub front : Row
@@ -16,39 +16,43 @@ pub record Held : Type 0 where
   pub has_eols : Bool
   pub settings : DecodeSettings
 
--- a context: what it holds, and beside it the count of its work
+-- a context: what it holds, and beside it the count of its work (glue)
 pub record Context : Type 0 where
   pub held : Held
   pub ticks : ℕ
 
--- what a new context holds: a white reference row, nothing painted, no row taken
+-- what a new context holds: a white reference row, nothing painted, no row taken (T.4, 4.2.1.1)
 abbrev pub fresh : DecodeSettings → Held
 fresh settings =
     record { reference = white_row settings.columns; front = []; color = White; taken = 0; has_eols = false; settings = settings }
 
--- a front that isn't full, continued in its last colour, white if it is empty
+-- a front that isn't full, continued in its last colour, white if it is empty: the row of a list of changes (T.4, 4.2.1.1)
 abbrev pub continued : ℕ → Row → Row
 continued columns front = front ++ replicate (columns - length front) (last_pixel false front)
 
--- the row that is handed over
+-- the row that is handed over (T.4, 4.2.1.1)
 abbrev pub taken_row : Held → Row
 taken_row h = continued h.settings.columns h.front
 
--- the front with so many more pixels of the present colour
+-- the front with so many more pixels of the present colour (T.4, 4.1.1)
 abbrev pub painted_front : Held → ℕ → Result Row DecodeError
 painted_front h count = paint h.settings.strict h.settings.columns h.front h.color count
 
--- the row that was drawn becomes the reference row of an empty front
+-- the row that was drawn becomes the reference row of an empty front (T.4, 4.2.1.1)
 abbrev pub after_taking : Held → Held
 after_taking h =
     record { reference = taken_row h; front = []; color = White; taken = h.taken + 1; has_eols = h.has_eols; settings = h.settings }
 
--- another front and another colour, and all else the same
+-- another front and another colour, and all else the same (glue)
 abbrev pub redrawn : Held → Row → Color → Held
 redrawn h front color =
     record { reference = h.reference; front = front; color = color; taken = h.taken; has_eols = h.has_eols; settings = h.settings }
 
--- the first place right of a0, where so many pixels are painted
+-- a damaged line is repaired: its front is continued in white, and the colour is white (T.4, 4.1.2)
+abbrev pub after_repair : Held → Held
+after_repair h = redrawn h (repaired h.settings.columns h.front) White
+
+-- the first place right of a0, where so many pixels are painted (T.4, 4.2.1.1)
 abbrev pub right_of_painted : ℕ → ℕ
 right_of_painted zero = 0
 right_of_painted (suc painted) = suc (suc painted)

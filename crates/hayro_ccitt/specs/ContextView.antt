@@ -1,4 +1,5 @@
--- A context as it is seen from outside.
+-- A context as it is seen from outside. No reader has to believe this: contracts speak of what is seen, and the code is
+-- proved to keep what is inside lawful.
 use Rattle.std.specs.Prelude.{◌≤◌}
 use Rattle.hayro_ccitt.specs.Rows.{AreChanges, pixels}
 use Rattle.hayro_ccitt.specs.Context.{Context}

@@ -18,7 +18,7 @@ pub data Spells (color : Color) : ℕ → Bits → Type 0 where
   makeup : (m : ℕ) (word : Bits) {n : ℕ} {bits : Bits} → Has (codes_of color) m word → 64 ≤ m → Spells color n bits
       → Spells color (m + n) (word ++ bits)
 
--- The runs of a row in order, from a colour on. A run goes as far as its colour; only the first may be empty.
+-- The runs of a row in order, from a colour on. A run goes as far as its colour; only the first may be empty (T.4, 4.1.1).
 pub data EncodesLine1D : Color → Row → Bits → Type 0 where
   over : {color : Color} → EncodesLine1D color [] []
   run : {color : Color} (n : ℕ) (word : Bits) {row : Row} {bits : Bits} → Spells color n word
@@ -41,18 +41,19 @@ pub data EncodesLine2D (reference row : Row) : ℕ → Color → Bits → Type 0
       → EncodesLine2D reference row (suc (a2 row from)) color bits
       → EncodesLine2D reference row from color (word ++ (first ++ (second ++ bits)))
 
--- a line of an encoding: of T.6; of one-dimensional T.4; of two-dimensional T.4, behind its tag (T.4, 4.2.2)
+-- a line of an encoding: of T.6; of one-dimensional T.4; of two-dimensional T.4, behind its tag (T.4, 4.1.1 and 4.2.2;
+-- T.6, 2.2)
 abbrev pub EncodesLine : EncodingMode → Row → Row → Bits → Type 0
 EncodesLine Group4 reference row bits = EncodesLine2D reference row 0 White bits
 EncodesLine Group3_1D reference row bits = EncodesLine1D White row bits
 EncodesLine Group3_2D reference row bits = (line : Bits)
     × (((bits ≡ true ∷ line) × EncodesLine1D White row line) ⊎ ((bits ≡ false ∷ line) × EncodesLine2D reference row 0 White line))
 
--- zeros up to a whole byte
+-- glue: zeros up to a whole byte
 abbrev pub padding : ℕ → Bits
 padding n = replicate ((8 - n % 8) % 8) false
 
--- lines in order, each filled up to a whole byte where they are aligned
+-- lines in order, each filled up to a whole byte where they are aligned (T.4, 4.1.1 and 4.2.1; T.6, 2.2)
 abbrev pub EncodesRows : EncodingMode → Bool → Row → List Row → Bits → Type 0
 EncodesRows encoding aligned reference [] bits = bits ≡ []
 EncodesRows encoding aligned reference (row ∷ rows) bits = (line next : Bits)
@@ -63,7 +64,7 @@ EncodesRows encoding aligned reference (row ∷ rows) bits = (line next : Bits)
 abbrev pub eol : ℕ → Bits
 eol fill = replicate (11 + fill) false ++ true ∷ []
 
--- rows of one width
+-- rows of one width (T.4, 4.1.1)
 abbrev pub IsPicture : ℕ → List Row → Type 0
 IsPicture columns rows = (0 < columns) × All (λ row. length row ≡ columns) rows
 
@@ -72,24 +73,24 @@ abbrev pub PictureT6 : ℕ → Bool → List Row → Bits → Type 0
 PictureT6 columns aligned rows bits = (body : Bits)
     × IsPicture columns rows × EncodesRows Group4 aligned (white_row columns) rows body × (bits ≡ body ++ eol 0 ++ eol 0)
 
--- lines in order, an EOL before each
+-- lines in order, an EOL before each (T.4, 4.1.2)
 abbrev pub EncodesRowsWithEols : EncodingMode → Row → List Row → Bits → Type 0
 EncodesRowsWithEols encoding reference [] bits = bits ≡ []
 EncodesRowsWithEols encoding reference (row ∷ rows) bits = (fill : ℕ) × (line next : Bits)
     × EncodesLine encoding reference row line × EncodesRowsWithEols encoding row rows next × (bits ≡ eol fill ++ line ++ next)
 
--- the tag behind an EOL of RTC (T.4, 4.1.4)
+-- the tag behind an EOL of RTC (T.4, 4.2.3)
 abbrev pub tag_of : EncodingMode → Bits
 tag_of Group3_2D = true ∷ []
 tag_of Group3_1D = []
 tag_of Group4 = []
 
--- so many EOLs, each with its tag
+-- so many EOLs, each with its tag (T.4, 4.1.4 and 4.2.3)
 abbrev pub ClosesWithEols : EncodingMode → ℕ → Bits → Type 0
 ClosesWithEols encoding zero bits = bits ≡ []
 ClosesWithEols encoding (suc n) bits = (fill : ℕ) × (next : Bits) × ClosesWithEols encoding n next × (bits ≡ eol fill ++ tag_of encoding ++ next)
 
--- a T.4 stream, closed by RTC, which is six EOLs (T.4, 4.1.4)
+-- a T.4 stream, closed by RTC, which is six EOLs (T.4, 4.1.4 and 4.2.3)
 abbrev pub PictureT4 : EncodingMode → ℕ → List Row → Bits → Type 0
 PictureT4 encoding columns rows bits = (lines closing : Bits) × (0 < length rows) × IsPicture columns rows
     × EncodesRowsWithEols encoding (white_row columns) rows lines × ClosesWithEols encoding 6 closing × (bits ≡ lines ++ closing)

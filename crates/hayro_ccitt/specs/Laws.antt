@@ -1,47 +1,48 @@
 -- The laws of the plain reading.
-use Rattle.std.specs.Prelude.{◌≡◌, ◌≢◌, ℕ, ◌+◌, ◌-◌, ◌/◌, ◌^◌, ◌<◌, ◌≤◌, Bool, true, false, not, ◌&&◌, ◌||◌, nat_le, ◌⊎◌, ◌↔◌, Ok, Err, IsOk}
+use Rattle.std.specs.Prelude.{◌≡◌, ◌≢◌, ℕ, ◌+◌, ◌-◌, ◌/◌, ◌^◌, ◌<◌, Bool, true, false, not, ◌&&◌, ◌||◌, nat_le, ◌⊎◌, Ok, IsOk}
 use Rattle.std.specs.Prelude.{List, [], ◌∷◌, ◌++◌, length, take, replicate, reverse, All}
 use Rattle.std.specs.List.{list_all, list_any}
 use Rattle.hayro_ccitt.specs.declared.codes.Color.{Color}
 use Rattle.hayro_ccitt.specs.declared.codes.Mode.{Mode}
-use Rattle.hayro_ccitt.specs.declared.error.DecodeError.TheVariants.{UnexpectedEof, InvalidCode}
 use Rattle.hayro_ccitt.specs.declared.settings.EncodingMode.{EncodingMode}
-use Rattle.hayro_ccitt.specs.declared.settings.EncodingMode.TheVariants.{Group4, Group3_1D, Group3_2D}
+use Rattle.hayro_ccitt.specs.declared.settings.EncodingMode.TheVariants.{Group4}
 use Rattle.hayro_ccitt.specs.declared.settings.DecodeSettings.{DecodeSettings}
 use Rattle.hayro_ccitt.specs.Bits.{Bits, bits_of, IsPrefix}
 use Rattle.hayro_ccitt.specs.CodeLists.{Code, mode_codes}
-use Rattle.hayro_ccitt.specs.CodeReading.{Has, read_code, leading_zeros, PrefixFree}
+use Rattle.hayro_ccitt.specs.CodeReading.{Has, leading_zeros, PrefixFree}
 use Rattle.hayro_ccitt.specs.Runs.{codes_of}
 use Rattle.hayro_ccitt.specs.Rows.{Row, AreChanges, pixels, changes, white_row}
-use Rattle.hayro_ccitt.specs.Lines.{Line}
 use Rattle.hayro_ccitt.specs.EndOfLine.{eols}
-use Rattle.hayro_ccitt.specs.Encodings.{EncodesRows, IsPicture, EncodesRowsWithEols, ClosesWithEols, PictureT6, PictureT4}
-use Rattle.hayro_ccitt.specs.Repetition.{Turn}
+use Rattle.hayro_ccitt.specs.Encodings.{EncodesRows, IsPicture, PictureT6, PictureT4}
+use Rattle.hayro_ccitt.specs.Pictures.{Allows, BeginsWithPictureT6, BeginsWithPictureT4, IsClosedPicture}
+use Rattle.hayro_ccitt.specs.Pictures.{BeginsWithRowsT6, BeginsWithRowsT4, BeginsWithRowsAndEolsT4, IsLimitedPicture}
+use Rattle.hayro_ccitt.specs.Repetition.{Reaches}
 use Rattle.hayro_ccitt.specs.PlainReading.{line_by, Progress, start_group4, move_group4, eols_group3, plain}
-use Rattle.hayro_ccitt.specs.Ticks.{tag_at, line_found}
+use Rattle.hayro_ccitt.specs.Lines.{Line, tag_at, line_found}
 use Rattle.hayro_ccitt.specs.Settings.{AreSettings}
 
 -- ---- synchronised
 
--- a word of a run or of a mode
+-- a word of a run or of a mode (T.4, 4.1.1 and 4.2.1.2)
 abbrev pub IsWord : Bits → Type 0
 IsWord word = ((color : Color) × (n : ℕ) × Has (codes_of color) n word) ⊎ ((mode : Mode) × Has mode_codes mode word)
 
--- a list of such words
+-- a list of such words (T.4, 4.1.1 and 4.2.1.2)
 abbrev pub AreWords : List Bits → Type 0
 AreWords [] = Unit {0}
 AreWords (word ∷ words) = IsWord word × AreWords words
 
--- words in a row
+-- glue: words in a row
 abbrev pub joined : List Bits → Bits
 joined [] = []
 joined (word ∷ words) = word ++ joined words
 
--- so many zeros stand in a row somewhere
+-- so many zeros stand in a row somewhere (T.4, 4.1.2)
 abbrev pub HoldsZeros : ℕ → Bits → Type 0
 HoldsZeros n bits = (before after : Bits) × (bits ≡ before ++ replicate n false ++ after)
 
--- Words stand in a row here, behind a tag or none; and where an EOL stands here or further on, they end before its one.
+-- Words stand in a row here, behind a tag or none; and where an EOL stands here or further on, they end before its one
+-- (T.4, 4.1.2).
 pub record EndBeforeEol (tag : Bits) (words : List Bits) (here : Bits) : Type 0 where
   pub are : AreWords words
   pub stand : IsPrefix (tag ++ joined words) here
@@ -61,7 +62,7 @@ pub record Synchronised : Type 0 where
       → line_by encoding strict columns reference here ≡ Line.whole row rest
       → here ≡ (tag_at encoding here ++ joined (line_found encoding strict columns reference here)) ++ rest
 
--- ---- code words
+-- ---- glue: the zeros of a code word
 
 -- each word of a list passes a test
 abbrev pub each_word : {V : Type 0} → (Bits → Bool) → List (Code V) → Bool
@@ -81,7 +82,7 @@ abbrev pub has_few_zeros : ℕ → ℕ → Bits → Bool
 has_few_zeros front end word =
     list_any (λ bit. bit) word && nat_le (leading_zeros word) front && nat_le (trailing_zeros word) end && not (holds_zeros 8 word)
 
--- ---- laws over settings
+-- ---- glue: settings with one field changed
 
 -- the same settings, but strict
 abbrev pub strictly : DecodeSettings → DecodeSettings
@@ -94,6 +95,8 @@ leniently settings = record settings { strict = false }
 -- the same settings, but with this limit of rows
 abbrev pub limited : ℕ → DecodeSettings → DecodeSettings
 limited limit settings = record settings { rows = limit }
+
+-- ---- laws over settings, of which no section of T.4 or T.6 speaks
 
 -- The strict reading's rows are the first of the lenient one's; where it ends without a fault, both answer the same.
 abbrev pub StrictThenLenient : Type 0
@@ -109,97 +112,83 @@ RowLimit = (settings : DecodeSettings) (limit : ℕ) (bytes : List ℕ) → AreS
 
 -- ---- pictures
 
--- the limit, if there is one, isn't below so many rows
-abbrev pub Allows : DecodeSettings → ℕ → Type 0
-Allows settings n = (settings.rows ≡ 0) ⊎ (n ≤ settings.rows)
-
--- the reading of some bytes gives these rows, without a fault
+-- glue: the reading of some bytes gives these rows, without a fault
 abbrev pub Gives : DecodeSettings → List ℕ → List Row → Type 0
 Gives settings bytes rows = ((plain settings bytes).rows ≡ rows) × IsOk (plain settings bytes).outcome
 
 -- A T.6 picture closed by EOFB gives its rows, whatever follows. The count is the end of EOFB, rounded up to a byte
 -- (T.6, 2.4.1.1).
 abbrev pub ReadsPictureT6 : Type 0
-ReadsPictureT6 = (settings : DecodeSettings) (rows : List Row) (bits more : Bits) (bytes : List ℕ) → AreSettings settings
-    → settings.encoding ≡ Group4 → settings.end_of_block ≡ true → Allows settings (length rows)
-    → PictureT6 settings.columns settings.rows_are_byte_aligned rows bits → bits_of bytes ≡ bits ++ more
+ReadsPictureT6 = (settings : DecodeSettings) (rows : List Row) (bits : Bits) (bytes : List ℕ) → AreSettings settings
+    → BeginsWithPictureT6 settings rows bits (bits_of bytes)
     → plain settings bytes ≡ record { rows = rows; outcome = Ok ((length bits + 7) / 8); has_eols = false }
 
--- Lines of T.6 without EOFB are a picture too, where the limit is as many rows.
-abbrev pub ReadsLimitedRowsT6 : Type 0
-ReadsLimitedRowsT6 = (settings : DecodeSettings) (rows : List Row) (body more : Bits) (bytes : List ℕ) → AreSettings settings
-    → settings.encoding ≡ Group4 → settings.rows ≡ length rows → 0 < length rows → IsPicture settings.columns rows
-    → EncodesRows Group4 settings.rows_are_byte_aligned (white_row settings.columns) rows body → bits_of bytes ≡ body ++ more
-    → Gives settings bytes rows
-
--- the settings are for lines of this kind of T.4
-abbrev pub Matches : EncodingMode → DecodeSettings → Type 0
-Matches Group4 settings = ⊥
-Matches Group3_1D settings = settings.encoding ≡ Group3_1D
-Matches Group3_2D settings = settings.encoding ≡ Group3_2D
-
 -- A T.4 picture closed by RTC gives its rows, whatever follows. The count is the end of the EOLs that stand where the
--- last line ends, rounded up to a byte (T.4, 4.1.4).
+-- last line ends, rounded up to a byte (T.4, 4.1.4 and 4.2.3).
 abbrev pub ReadsPictureT4 : Type 0
-ReadsPictureT4 = (settings : DecodeSettings) (encoding : EncodingMode) (rows : List Row) (lines closing more : Bits) (bytes : List ℕ)
-    → AreSettings settings → Matches encoding settings → settings.end_of_block ≡ true → Allows settings (length rows)
-    → 0 < length rows → IsPicture settings.columns rows → EncodesRowsWithEols encoding (white_row settings.columns) rows lines
-    → ClosesWithEols encoding 6 closing → bits_of bytes ≡ lines ++ (closing ++ more)
+ReadsPictureT4 = (settings : DecodeSettings) (rows : List Row) (bits behind : Bits) (bytes : List ℕ) → AreSettings settings
+    → BeginsWithPictureT4 settings rows bits behind (bits_of bytes)
     → plain settings bytes ≡ record {
       rows = rows;
-      outcome = Ok ((length (bits_of bytes) - length (eols_group3 settings (closing ++ more)).1 + 7) / 8);
+      outcome = Ok ((length (bits_of bytes) - length (eols_group3 settings behind).1 + 7) / 8);
       has_eols = true;
     }
 
--- Lines of T.4 with EOLs and without RTC are a picture too, where the limit is as many rows.
-abbrev pub ReadsLimitedPictureT4 : Type 0
-ReadsLimitedPictureT4 = (settings : DecodeSettings) (encoding : EncodingMode) (rows : List Row) (lines more : Bits) (bytes : List ℕ)
-    → AreSettings settings → Matches encoding settings → settings.rows ≡ length rows → 0 < length rows → IsPicture settings.columns rows
-    → EncodesRowsWithEols encoding (white_row settings.columns) rows lines → bits_of bytes ≡ lines ++ more
-    → Gives settings bytes rows
+-- A closed picture of any kind gives its rows and its count, whatever follows (T.4, 4.1.4 and 4.2.3; T.6, 2.4.1.1).
+abbrev pub ReadsClosedPictures : Type 0
+ReadsClosedPictures = (settings : DecodeSettings) (rows : List Row) (count : ℕ) (bytes : List ℕ) → AreSettings settings
+    → IsClosedPicture settings rows count (bits_of bytes)
+    → ((plain settings bytes).rows ≡ rows) × ((plain settings bytes).outcome ≡ Ok count)
 
--- So are lines of T.4 without EOLs, where none are looked for.
+-- Lines of T.6 without EOFB are a picture too, where the limit is as many rows (T.6, 2.2).
+abbrev pub ReadsLimitedRowsT6 : Type 0
+ReadsLimitedRowsT6 = (settings : DecodeSettings) (rows : List Row) (bits : Bits) (bytes : List ℕ) → AreSettings settings
+    → BeginsWithRowsT6 settings rows bits (bits_of bytes) → Gives settings bytes rows
+
+-- So are lines of T.4 without EOLs, where none are looked for (T.4, 4.1.1 and 4.2.1).
 abbrev pub ReadsLimitedRowsT4 : Type 0
-ReadsLimitedRowsT4 = (settings : DecodeSettings) (encoding : EncodingMode) (rows : List Row) (body more : Bits) (bytes : List ℕ)
-    → AreSettings settings → Matches encoding settings → settings.end_of_line ≡ false → settings.rows ≡ length rows
-    → 0 < length rows → IsPicture settings.columns rows
-    → EncodesRows encoding settings.rows_are_byte_aligned (white_row settings.columns) rows body → bits_of bytes ≡ body ++ more
-    → Gives settings bytes rows
+ReadsLimitedRowsT4 = (settings : DecodeSettings) (rows : List Row) (bits : Bits) (bytes : List ℕ) → AreSettings settings
+    → BeginsWithRowsT4 settings rows bits (bits_of bytes) → Gives settings bytes rows
 
--- Every picture has encodings: as T.6, as T.4 with an EOL before each line, and as lines alone.
+-- So are lines of T.4 with EOLs and without RTC (T.4, 4.1.2).
+abbrev pub ReadsLimitedPictureT4 : Type 0
+ReadsLimitedPictureT4 = (settings : DecodeSettings) (rows : List Row) (bits : Bits) (bytes : List ℕ) → AreSettings settings
+    → BeginsWithRowsAndEolsT4 settings rows bits (bits_of bytes) → Gives settings bytes rows
+
+-- Lines of any kind give their rows, where the limit is as many rows (T.4, 4.1.1, 4.1.2 and 4.2.1; T.6, 2.2).
+abbrev pub ReadsLimitedPictures : Type 0
+ReadsLimitedPictures = (settings : DecodeSettings) (rows : List Row) (bytes : List ℕ) → AreSettings settings
+    → IsLimitedPicture settings rows (bits_of bytes) → Gives settings bytes rows
+
+-- Every picture has encodings: as T.6, as T.4 with an EOL before each line, and as lines alone (T.4, 4.1.1, 4.1.4, 4.2.1
+-- and 4.2.3; T.6, 2.2 and 2.4.1.1).
 abbrev pub EveryPictureHasAnEncoding : Type 0
 EveryPictureHasAnEncoding = (columns : ℕ) (rows : List Row) → IsPicture columns rows
     → ((aligned : Bool) → (bits : Bits) × PictureT6 columns aligned rows bits)
     × ((encoding : EncodingMode) → 0 < length rows → (bits : Bits) × PictureT4 encoding columns rows bits)
     × ((encoding : EncodingMode) (aligned : Bool) → (bits : Bits) × EncodesRows encoding aligned (white_row columns) rows bits)
 
--- Any bits are the first of some bytes.
+-- glue: any bits are the first of some bytes
 abbrev pub BytesBeginWithAnyBits : Type 0
 BytesBeginWithAnyBits = (bits : Bits) → (bytes : List ℕ) × All (λ byte. byte < 256) bytes × IsPrefix bits (bits_of bytes)
 
 -- ---- one picture
 
--- Where one T.6 stream begins another of the same width and alignment, their rows are equal.
+-- Where one T.6 stream begins another of the same width and alignment, their rows are equal (T.6, 2.4.1.1).
 abbrev pub OnePictureT6 : Type 0
 OnePictureT6 = (columns : ℕ) (aligned : Bool) (rows others : List Row) (bits more : Bits) → columns < 2 ^ 32
     → PictureT6 columns aligned rows bits → PictureT6 columns aligned others (bits ++ more) → rows ≡ others
 
--- Where one T.4 stream begins another of the same width and kind, their rows are equal.
+-- Where one T.4 stream begins another of the same width and kind, their rows are equal (T.4, 4.1.4 and 4.2.3).
 abbrev pub OnePictureT4 : Type 0
 OnePictureT4 = (encoding : EncodingMode) (columns : ℕ) (rows others : List Row) (bits more : Bits) → encoding ≢ Group4 → columns < 2 ^ 32
     → PictureT4 encoding columns rows bits → PictureT4 encoding columns others (bits ++ more) → rows ≡ others
 
 -- ---- after EOFB
 
--- the reading of T.6 data comes from one state between lines to another
-pub data Reaches (settings : DecodeSettings) : Progress → Progress → Type 0 where
-  stays : (so_far : Progress) → Reaches settings so_far so_far
-  moves : (so_far after last : Progress) → move_group4 settings so_far ≡ Turn.next after → Reaches settings after last
-      → Reaches settings so_far last
-
--- the reading of T.6 data comes to a place between lines where two EOLs stand
+-- the reading of T.6 data comes to a place between lines where two EOLs stand (T.6, 2.4.1.1)
 abbrev pub ComesToEofb : DecodeSettings → Bits → Type 0
-ComesToEofb settings bits = (last : Progress) × Reaches settings (start_group4 bits) last × ((eols 2 last.rest).0 ≡ 2)
+ComesToEofb settings bits = (last : Progress) × Reaches (move_group4 settings) (start_group4 bits) last × ((eols 2 last.rest).0 ≡ 2)
 
 -- Where T.6 data were read up to their EOFB, data with the same bytes so far are read the same (T.6, 2.4.1.1).
 abbrev pub AfterEofb : Type 0
@@ -207,7 +196,7 @@ AfterEofb = (settings : DecodeSettings) (one two : List ℕ) (count : ℕ) → A
     → settings.encoding ≡ Group4 → settings.end_of_block ≡ true → ComesToEofb settings (bits_of one)
     → (plain settings one).outcome ≡ Ok count → take count two ≡ take count one → plain settings two ≡ plain settings one
 
--- A T.6 picture comes to its EOFB.
+-- A T.6 picture comes to its EOFB (T.6, 2.4.1.1).
 abbrev pub PicturesComeToEofb : Type 0
 PicturesComeToEofb = (settings : DecodeSettings) (rows : List Row) (bits more : Bits) (bytes : List ℕ) → AreSettings settings
     → Allows settings (length rows) → PictureT6 settings.columns settings.rows_are_byte_aligned rows bits
@@ -215,11 +204,11 @@ PicturesComeToEofb = (settings : DecodeSettings) (rows : List Row) (bits more : 
 
 -- ---- rows and their changes
 
--- a lawful list of changes is a row of the width, and that row's changes
+-- a lawful list of changes is a row of the width, and that row's changes (T.4, 4.2.1.1)
 abbrev pub RowsOfChanges : Type 0
 RowsOfChanges = (width : ℕ) (places : List ℕ) → AreChanges width places
     → (length (pixels width places) ≡ width) × (changes (pixels width places) ≡ places)
 
--- the changes of a row are lawful, and stand for the row
+-- the changes of a row are lawful, and stand for the row (T.4, 4.2.1.1)
 abbrev pub ChangesOfRows : Type 0
 ChangesOfRows = (row : Row) → AreChanges (length row) (changes row) × (pixels (length row) (changes row) ≡ row)

@@ -4,9 +4,9 @@ pub mod CodeLists
 pub mod CodeReading
 pub mod Context
 pub mod ContextView
+pub mod Decoding
 pub mod Encodings
 pub mod EndOfLine
-pub mod Examples
 pub mod Laws
 pub mod Lending
 pub mod Lines

@@ -1,11 +1,17 @@
--- Pictures at the front of the data, as a call that decodes them meets them.
-use Rattle.std.specs.Prelude.{◌≡◌, ◌<◌, true, List, length}
+-- Pictures at the front of the data, as a reading of them meets them.
+use Rattle.std.specs.Prelude.{◌≡◌, ◌≢◌, ℕ, ◌+◌, ◌-◌, ◌/◌, ◌<◌, ◌≤◌, ◌⊎◌, true, false, List, ◌++◌, length}
 use Rattle.hayro_ccitt.specs.declared.settings.EncodingMode.TheVariants.{Group4}
 use Rattle.hayro_ccitt.specs.declared.settings.DecodeSettings.{DecodeSettings}
 use Rattle.hayro_ccitt.specs.Bits.{Bits, IsPrefix}
 use Rattle.hayro_ccitt.specs.Rows.{Row, white_row}
-use Rattle.hayro_ccitt.specs.Encodings.{EncodesRows, IsPicture, PictureT6}
-use Rattle.hayro_ccitt.specs.Laws.{Allows}
+use Rattle.hayro_ccitt.specs.Encodings.{EncodesRows, EncodesRowsWithEols, ClosesWithEols, IsPicture, PictureT6}
+use Rattle.hayro_ccitt.specs.PlainReading.{eols_group3}
+
+-- glue: the limit, if there is one, isn't below so many rows
+abbrev pub Allows : DecodeSettings → ℕ → Type 0
+Allows settings n = (settings.rows ≡ 0) ⊎ (n ≤ settings.rows)
+
+-- ---- Closed pictures
 
 -- The data begins with a T.6 encoding of these rows, closed by EOFB, in these bits; and the settings look for EOFB and
 -- allow so many rows (T.6, 2.4.1.1).
@@ -16,7 +22,31 @@ pub record BeginsWithPictureT6 (settings : DecodeSettings) (rows : List Row) (bi
   pub picture : PictureT6 settings.columns settings.rows_are_byte_aligned rows bits
   pub begins : IsPrefix bits whole
 
--- The data begins with T.6 lines of these rows, in these bits, and the limit is as many rows.
+-- The data begins with T.4 lines of these rows, an EOL before each, and behind them with RTC; and the settings look for
+-- RTC and allow so many rows (T.4, 4.1.4 and 4.2.3).
+pub record BeginsWithPictureT4 (settings : DecodeSettings) (rows : List Row) (bits behind whole : Bits) : Type 0 where
+  pub encoding : settings.encoding ≢ Group4
+  pub end_of_block : settings.end_of_block ≡ true
+  pub limit : Allows settings (length rows)
+  pub some : 0 < length rows
+  pub picture : IsPicture settings.columns rows
+  pub lines : EncodesRowsWithEols settings.encoding (white_row settings.columns) rows bits
+  pub closing : (closing : Bits) × ClosesWithEols settings.encoding 6 closing × IsPrefix closing behind
+  pub begins : whole ≡ bits ++ behind
+
+-- The data begins with a closed picture of these rows, which ends with so many bytes, the last one rounded up (T.4, 4.1.4
+-- and 4.2.3; T.6, 2.4.1.1).
+pub data IsClosedPicture (settings : DecodeSettings) (rows : List Row) (count : ℕ) (whole : Bits) : Type 0 where
+  -- in T.6 at the end of EOFB (T.6, 2.4.1.1)
+  by_eofb : (bits : Bits) → BeginsWithPictureT6 settings rows bits whole → count ≡ (length bits + 7) / 8
+      → IsClosedPicture settings rows count whole
+  -- in T.4 at the end of all the EOLs that stand where the last line ends, RTC being the first six (T.4, 4.1.4 and 4.2.3)
+  by_rtc : (bits behind : Bits) → BeginsWithPictureT4 settings rows bits behind whole
+      → count ≡ (length whole - length (eols_group3 settings behind).1 + 7) / 8 → IsClosedPicture settings rows count whole
+
+-- ---- Pictures that the limit of rows ends
+
+-- The data begins with T.6 lines of these rows, in these bits, and the limit is as many rows (T.6, 2.2).
 pub record BeginsWithRowsT6 (settings : DecodeSettings) (rows : List Row) (bits whole : Bits) : Type 0 where
   pub encoding : settings.encoding ≡ Group4
   pub limit : settings.rows ≡ length rows
@@ -24,3 +54,34 @@ pub record BeginsWithRowsT6 (settings : DecodeSettings) (rows : List Row) (bits 
   pub picture : IsPicture settings.columns rows
   pub lines : EncodesRows Group4 settings.rows_are_byte_aligned (white_row settings.columns) rows bits
   pub begins : IsPrefix bits whole
+
+-- The data begins with T.4 lines of these rows, without EOLs, in these bits; the settings say of no EOLs, and the limit is
+-- as many rows (T.4, 4.1.1 and 4.2.1).
+pub record BeginsWithRowsT4 (settings : DecodeSettings) (rows : List Row) (bits whole : Bits) : Type 0 where
+  pub encoding : settings.encoding ≢ Group4
+  pub end_of_line : settings.end_of_line ≡ false
+  pub limit : settings.rows ≡ length rows
+  pub some : 0 < length rows
+  pub picture : IsPicture settings.columns rows
+  pub lines : EncodesRows settings.encoding settings.rows_are_byte_aligned (white_row settings.columns) rows bits
+  pub begins : IsPrefix bits whole
+
+-- The data begins with T.4 lines of these rows, an EOL before each, in these bits, and the limit is as many rows (T.4,
+-- 4.1.2).
+pub record BeginsWithRowsAndEolsT4 (settings : DecodeSettings) (rows : List Row) (bits whole : Bits) : Type 0 where
+  pub encoding : settings.encoding ≢ Group4
+  pub limit : settings.rows ≡ length rows
+  pub some : 0 < length rows
+  pub picture : IsPicture settings.columns rows
+  pub lines : EncodesRowsWithEols settings.encoding (white_row settings.columns) rows bits
+  pub begins : IsPrefix bits whole
+
+-- The data begins with the lines of these rows, of any kind, and the limit is as many rows (T.4, 4.1.1, 4.1.2 and 4.2.1;
+-- T.6, 2.2).
+pub data IsLimitedPicture (settings : DecodeSettings) (rows : List Row) (whole : Bits) : Type 0 where
+  -- T.6 (T.6, 2.2)
+  of_t6 : (bits : Bits) → BeginsWithRowsT6 settings rows bits whole → IsLimitedPicture settings rows whole
+  -- T.4 without EOLs (T.4, 4.1.1 and 4.2.1)
+  of_t4 : (bits : Bits) → BeginsWithRowsT4 settings rows bits whole → IsLimitedPicture settings rows whole
+  -- T.4 with an EOL before each line (T.4, 4.1.2)
+  of_t4_with_eols : (bits : Bits) → BeginsWithRowsAndEolsT4 settings rows bits whole → IsLimitedPicture settings rows whole

@@ -1,5 +1,5 @@
 -- The plain reading of whole data: rows, and how it ends.
-use Rattle.std.specs.Prelude.{ℕ, suc, ◌+◌, ◌-◌, ◌/◌, ◌%◌, Bool, true, false, not, ◌&&◌, ◌||◌, List, [], ◌∷◌, ◌++◌, length, drop, replicate, nat_le, nat_lt, ◌==◌, Option, Some, None, Result, Ok, Err, if◌then◌else◌}
+use Rattle.std.specs.Prelude.{ℕ, suc, ◌+◌, ◌-◌, ◌/◌, ◌%◌, Bool, true, false, not, ◌&&◌, ◌||◌, List, [], ◌∷◌, ◌++◌, length, drop, nat_le, nat_lt, ◌==◌, Option, Some, None, Result, Ok, Err, if◌then◌else◌}
 use Rattle.hayro_ccitt.specs.declared.error.DecodeError.{DecodeError}
 use Rattle.hayro_ccitt.specs.declared.error.DecodeError.TheVariants.{UnexpectedEof, InvalidCode}
 use Rattle.hayro_ccitt.specs.declared.settings.EncodingMode.{EncodingMode}
@@ -27,64 +27,90 @@ pub record Ending : Type 0 where
 abbrev pub Move : Type 0
 Move = Turn Progress Ending
 
+-- ---- Between two rows: what stands behind so many rows says whether a line follows (T.4, 4.1; T.6, 2.4.1)
+
+-- what stands between two rows: a line, and whether EOLs are sought from now on; or the end, well or with a fault
+pub data Gap : Type 0 where
+  line_at : Bool → Bits → Gap
+  over : Result Bits DecodeError → Gap
+
+-- glue: no bit is left
+abbrev pub at_end : Bits → Bool
+at_end [] = true
+at_end (bit ∷ rest) = false
+
+-- glue: the limit of rows is met; a limit of 0 is none
+abbrev pub limit_met : DecodeSettings → ℕ → Bool
+limit_met settings taken = not (settings.rows == 0) && (settings.rows == taken)
+
+-- the EOLs that are read before a line of Group 4: at most the two of EOFB with `end_of_block`, else all (T.6, 2.4.1.1)
+abbrev pub eols_group4 : DecodeSettings → Bits → ℕ × Bits
+eols_group4 settings here = if settings.end_of_block then eols 2 here else all_eols here
+
+-- EOLs were read behind so many rows of Group 4: two of them with `end_of_block`, which are EOFB, end the reading, and so
+-- do the limit and the end of the data (T.6, 2.4.1.1)
+abbrev pub is_over_group4 : DecodeSettings → ℕ → ℕ × Bits → Bool
+is_over_group4 settings taken (count, rest) = (settings.end_of_block && (count == 2)) || limit_met settings taken || at_end rest
+
+-- behind these EOLs of Group 4 a line stands, unless the reading is over (T.6, 2.4.1.1)
+abbrev pub behind_eols_group4 : DecodeSettings → ℕ → Bool → ℕ × Bits → Gap
+behind_eols_group4 settings taken has_eols (count, rest) =
+    if is_over_group4 settings taken (count, rest) then Gap.over (Ok rest) else Gap.line_at has_eols rest
+
+-- what stands behind so many rows of Group 4, and before the first (T.6, 2.4.1.1)
+abbrev pub gap_group4 : DecodeSettings → ℕ → Bool → Bits → Gap
+gap_group4 settings taken has_eols here = behind_eols_group4 settings taken has_eols (eols_group4 settings here)
+
+-- the EOLs that stand here, in two-dimensional data with their tags (T.4, 4.2.2)
+abbrev pub eols_by : EncodingMode → Bits → ℕ × Bits
+eols_by Group3_1D here = all_eols here
+eols_by Group3_2D here = tagged_eols here
+eols_by Group4 here = all_eols here
+
+-- the EOLs of Group 3 that stand here (T.4, 4.1.2)
+abbrev pub eols_group3 : DecodeSettings → Bits → ℕ × Bits
+eols_group3 settings here = eols_by settings.encoding here
+
+-- EOLs were counted behind so many rows of Group 3: six of them with `end_of_block`, which are RTC, end the reading, and
+-- so do the limit and the end of the data (T.4, 4.1.4)
+abbrev pub is_over_group3 : DecodeSettings → ℕ → ℕ × Bits → Bool
+is_over_group3 settings taken (count, rest) = (settings.end_of_block && nat_le 6 count) || limit_met settings taken || at_end rest
+
+-- behind these EOLs of Group 3 a line stands, unless the reading is over (T.4, 4.1.4)
+abbrev pub behind_eols_group3 : DecodeSettings → ℕ → Bool → ℕ × Bits → Gap
+behind_eols_group3 settings taken has_eols (count, rest) =
+    if is_over_group3 settings taken (count, rest) then Gap.over (Ok rest) else Gap.line_at has_eols rest
+
+-- The next EOL was looked for. The EOLs that stand there are counted; where there is none, a line stands here, and EOLs
+-- are given up (T.4, 4.1.2).
+abbrev pub from_next_eol : DecodeSettings → ℕ → Bits → Option Bits → Gap
+from_next_eol settings taken here (Some found) = behind_eols_group3 settings taken true (eols_group3 settings found)
+from_next_eol settings taken here None = Gap.line_at false here
+
+-- no EOL stands here, in data that have them: strict this is a fault, lenient the next EOL is looked for (T.4, 4.1.2)
+abbrev pub missing_eol : DecodeSettings → ℕ → Bits → Gap
+missing_eol settings taken here =
+    if settings.strict then Gap.over (Err InvalidCode) else from_next_eol settings taken here (next_eol here)
+
+-- What stands behind so many rows of Group 3: EOLs, which are counted, and sought where none came although the data have
+-- them, the limit isn't met and bits are left (T.4, 4.1.2).
+abbrev pub gap_group3 : DecodeSettings → ℕ → Bool → Bits → Gap
+gap_group3 settings taken has_eols here =
+    if ((eols_group3 settings here).0 == 0) && has_eols && not (limit_met settings taken) && not (at_end here)
+    then missing_eol settings taken here
+    else behind_eols_group3 settings taken has_eols (eols_group3 settings here)
+
+-- ---- One row (T.4, 4.1 and 4.2; T.6, 2.2)
+
 -- the next line's reference row: the last row, and before the first a white one (T.4, 4.2.1.1)
 abbrev pub row_before : ℕ → List Row → Row
 row_before columns [] = white_row columns
 row_before columns (row ∷ []) = row
 row_before columns (row ∷ next ∷ rows) = row_before columns (next ∷ rows)
 
--- the bits from the next whole byte on: whole bytes are left
+-- glue: the bits from the next whole byte on, where the data are whole bytes
 abbrev pub aligned : Bits → Bits
 aligned rest = drop (length rest % 8) rest
-
--- no bit is left
-abbrev pub at_end : Bits → Bool
-at_end [] = true
-at_end (bit ∷ rest) = false
-
--- the limit of rows is met; a limit of 0 is none
-abbrev pub limit_met : DecodeSettings → ℕ → Bool
-limit_met settings rows = not (settings.rows == 0) && (settings.rows == rows)
-
--- the reading ends here
-abbrev pub ends_with : Progress → Result Bits DecodeError → Move
-ends_with so_far outcome = Turn.done (record { rows = so_far.rows; has_eols = so_far.has_eols; outcome = outcome })
-
--- ---- Group 4 (T.6)
-
--- after a line: its row is added, and the next line begins behind it, at a whole byte where rows are aligned
-abbrev pub after_line_group4 : DecodeSettings → Progress → Line → Move
-after_line_group4 settings so_far (Line.broken front fault) = ends_with so_far (Err fault)
-after_line_group4 settings so_far (Line.whole row rest) =
-    Turn.next (record so_far {
-      rows = so_far.rows ++ row ∷ [];
-      rest = if settings.rows_are_byte_aligned then aligned rest else rest;
-    })
-
--- the EOLs that are read before a line: at most the two of EOFB with `end_of_block`, else all
-abbrev pub eols_group4 : DecodeSettings → Bits → ℕ × Bits
-eols_group4 settings here = if settings.end_of_block then eols 2 here else all_eols here
-
--- so many rows stand and EOLs were read: two of them with `end_of_block`, which are EOFB, end the reading, and so do
--- the limit and the end of the data
-abbrev pub is_over_group4 : DecodeSettings → ℕ → ℕ × Bits → Bool
-is_over_group4 settings rows (count, rest) = (settings.end_of_block && (count == 2)) || limit_met settings rows || at_end rest
-
--- the line that stands here
-abbrev pub line_group4 : DecodeSettings → Progress → Bits → Line
-line_group4 settings so_far here = line_2d settings.strict settings.columns (row_before settings.columns so_far.rows) here
-
--- a line is read, unless the reading is over
-abbrev pub line_at_group4 : DecodeSettings → Progress → ℕ × Bits → Move
-line_at_group4 settings so_far (count, rest) =
-    if is_over_group4 settings (length so_far.rows) (count, rest) then ends_with so_far (Ok rest)
-    else after_line_group4 settings so_far (line_group4 settings so_far rest)
-
--- one row's turn: EOLs, and a line
-abbrev pub move_group4 : DecodeSettings → Progress → Move
-move_group4 settings so_far = line_at_group4 settings so_far (eols_group4 settings so_far.rest)
-
--- ---- Group 3 (T.4)
 
 -- The line that stands here: one-dimensional, or of the kind that its tag says in two-dimensional data of Group 3 (T.4,
 -- 4.2.2), or two-dimensional in Group 4.
@@ -95,62 +121,79 @@ line_by Group3_2D strict columns reference (true ∷ rest) = line_1d strict colu
 line_by Group3_2D strict columns reference (false ∷ rest) = line_2d strict columns reference rest
 line_by Group4 strict columns reference here = line_2d strict columns reference here
 
--- the line of Group 3 that stands here, read by the settings
+-- the line of Group 3 that stands here, read by the settings (T.4, 4.2.2)
 abbrev pub line_at_group3 : DecodeSettings → Row → Bits → Line
 line_at_group3 settings reference here = line_by settings.encoding settings.strict settings.columns reference here
 
--- the EOLs that stand here, in two-dimensional data with their tags
-abbrev pub eols_by : EncodingMode → Bits → ℕ × Bits
-eols_by Group3_1D here = all_eols here
-eols_by Group3_2D here = tagged_eols here
-eols_by Group4 here = all_eols here
+-- glue: the line of Group 4 that stands here, behind the rows so far
+abbrev pub line_group4 : DecodeSettings → Progress → Bits → Line
+line_group4 settings so_far here = line_2d settings.strict settings.columns (row_before settings.columns so_far.rows) here
 
--- the EOLs of Group 3 that stand here
-abbrev pub eols_group3 : DecodeSettings → Bits → ℕ × Bits
-eols_group3 settings here = eols_by settings.encoding here
+-- what a line of Group 4 comes to: its row, and the bits behind it, from a whole byte on where rows are aligned; or its
+-- fault (T.6, 2.2)
+abbrev pub row_group4 : DecodeSettings → Line → Result (Row × Bits) DecodeError
+row_group4 settings (Line.whole row rest) = Ok (row, if settings.rows_are_byte_aligned then aligned rest else rest)
+row_group4 settings (Line.broken front fault) = Err fault
 
--- EOLs were counted after a row: six of them with `end_of_block`, which are RTC, end the reading, and so do the
--- limit and the end of the data; else the next line begins here
-abbrev pub unless_over : DecodeSettings → Progress → ℕ × Bits → Move
-unless_over settings so_far (count, rest) =
-    if (settings.end_of_block && nat_le 6 count) || limit_met settings (length so_far.rows) || at_end rest
-    then ends_with so_far (Ok rest)
-    else Turn.next (record so_far { rest = rest })
+-- the bits behind a row: where rows are aligned and the data have no EOLs, they begin at a whole byte (T.4, 4.1.3)
+abbrev pub behind_row : DecodeSettings → Bool → Bits → Bits
+behind_row settings has_eols rest = if settings.rows_are_byte_aligned && not has_eols then aligned rest else rest
 
--- The next EOL was looked for. The EOLs that stand there are counted; where there is none, EOLs are given up.
-abbrev pub seek_from : DecodeSettings → Progress → Option Bits → Move
-seek_from settings so_far (Some found) = unless_over settings so_far (eols_group3 settings found)
-seek_from settings so_far None = unless_over settings (record so_far { has_eols = false }) (0, so_far.rest)
+-- What a line of Group 3 comes to. In lenient data with EOLs a broken row is repaired: its front is continued in white,
+-- and the place goes back to the line's start (T.4, 4.1.2).
+abbrev pub row_group3 : DecodeSettings → Bool → Bits → Line → Result (Row × Bits) DecodeError
+row_group3 settings has_eols start (Line.whole row rest) = Ok (row, behind_row settings has_eols rest)
+row_group3 settings has_eols start (Line.broken front fault) =
+    if settings.strict || not has_eols then Err fault
+    else Ok (repaired settings.columns front, behind_row settings has_eols start)
 
--- no EOL follows a row in data that has them: strict this is a fault, lenient the next EOL is looked for
-abbrev pub seek_eol : DecodeSettings → Progress → Move
-seek_eol settings so_far =
-    if settings.strict then ends_with so_far (Err InvalidCode) else seek_from settings so_far (next_eol so_far.rest)
+-- ---- One turn: in Group 4 what stands between two rows and then a row, in Group 3 a row and then what stands behind it
 
--- what comes after a row: its EOLs are counted, and sought where none came although the data has them
-abbrev pub after_row : DecodeSettings → Progress → Move
-after_row settings so_far =
-    if ((eols_group3 settings so_far.rest).0 == 0) && so_far.has_eols && not (limit_met settings (length so_far.rows)) && not (at_end so_far.rest)
-    then seek_eol settings so_far
-    else unless_over settings so_far (eols_group3 settings so_far.rest)
+-- glue: the reading ends here
+abbrev pub ends_with : Progress → Result Bits DecodeError → Move
+ends_with so_far outcome = Turn.done (record { rows = so_far.rows; has_eols = so_far.has_eols; outcome = outcome })
 
--- a row is added; without EOLs the next line may begin at a whole byte
-abbrev pub add_row : DecodeSettings → Progress → Row → Bits → Move
-add_row settings so_far row rest =
-    after_row settings (record so_far {
-      rows = so_far.rows ++ row ∷ [];
-      rest = if settings.rows_are_byte_aligned && not so_far.has_eols then aligned rest else rest;
-    })
+-- glue: one row more, and the bits behind it
+abbrev pub with_row : Progress → Row → Bits → Progress
+with_row so_far row rest = record so_far { rows = so_far.rows ++ row ∷ []; rest = rest }
 
--- After a line. In lenient data with EOLs a broken row is repaired: its front is continued in white, and the place
--- goes back to the line's start.
+-- glue: a row of Group 4 is added, or its fault ends the reading
+abbrev pub add_row_group4 : Progress → Result (Row × Bits) DecodeError → Move
+add_row_group4 so_far (Ok (row, rest)) = Turn.next (with_row so_far row rest)
+add_row_group4 so_far (Err fault) = ends_with so_far (Err fault)
+
+-- glue: after a line of Group 4
+abbrev pub after_line_group4 : DecodeSettings → Progress → Line → Move
+after_line_group4 settings so_far line = add_row_group4 so_far (row_group4 settings line)
+
+-- glue: a line of Group 4 is read, unless the reading is over
+abbrev pub at_gap_group4 : DecodeSettings → Progress → Gap → Move
+at_gap_group4 settings so_far (Gap.over outcome) = ends_with so_far outcome
+at_gap_group4 settings so_far (Gap.line_at has_eols here) = after_line_group4 settings so_far (line_group4 settings so_far here)
+
+-- one row's turn in Group 4: what stands before the line, and the line (T.6, 2.2)
+abbrev pub move_group4 : DecodeSettings → Progress → Move
+move_group4 settings so_far = at_gap_group4 settings so_far (gap_group4 settings (length so_far.rows) so_far.has_eols so_far.rest)
+
+-- glue: the reading of Group 3 goes on behind its rows, or ends there
+abbrev pub at_gap_group3 : Progress → Gap → Move
+at_gap_group3 so_far (Gap.over outcome) = ends_with so_far outcome
+at_gap_group3 so_far (Gap.line_at has_eols here) = Turn.next (record so_far { has_eols = has_eols; rest = here })
+
+-- glue: what stands behind the rows so far
+abbrev pub move_behind_row : DecodeSettings → Progress → Move
+move_behind_row settings so_far = at_gap_group3 so_far (gap_group3 settings (length so_far.rows) so_far.has_eols so_far.rest)
+
+-- glue: a row of Group 3 is added, or its fault ends the reading
+abbrev pub add_row_group3 : DecodeSettings → Progress → Result (Row × Bits) DecodeError → Move
+add_row_group3 settings so_far (Ok (row, rest)) = move_behind_row settings (with_row so_far row rest)
+add_row_group3 settings so_far (Err fault) = ends_with so_far (Err fault)
+
+-- glue: after a line of Group 3
 abbrev pub after_line_group3 : DecodeSettings → Progress → Line → Move
-after_line_group3 settings so_far (Line.whole row rest) = add_row settings so_far row rest
-after_line_group3 settings so_far (Line.broken front fault) =
-    if settings.strict || not so_far.has_eols then ends_with so_far (Err fault)
-    else add_row settings so_far (repaired settings.columns front) so_far.rest
+after_line_group3 settings so_far line = add_row_group3 settings so_far (row_group3 settings so_far.has_eols so_far.rest line)
 
--- one row's turn
+-- one row's turn in Group 3: a line, and what stands behind its row (T.4, 4.1 and 4.2)
 abbrev pub move_group3 : DecodeSettings → Progress → Move
 move_group3 settings so_far =
     after_line_group3 settings so_far (line_at_group3 settings (row_before settings.columns so_far.rows) so_far.rest)
@@ -214,18 +257,19 @@ abbrev pub plain : DecodeSettings → List ℕ → Reading
 plain settings bytes =
     if settings.columns == 0 then nothing_read else whole_reading (bits_of bytes) (end_of settings (bits_of bytes))
 
--- ---- The lines
+-- ---- The lines that are read, one a turn
 
--- the line that a turn of Group 4 reads, if it reads one
-abbrev pub lines_at_group4 : DecodeSettings → Progress → ℕ × Bits → List Line
-lines_at_group4 settings so_far (count, rest) =
-    if is_over_group4 settings (length so_far.rows) (count, rest) then [] else line_group4 settings so_far rest ∷ []
+-- glue: the line of Group 4 behind a gap, if one stands there
+abbrev pub lines_at_gap_group4 : DecodeSettings → Progress → Gap → List Line
+lines_at_gap_group4 settings so_far (Gap.over outcome) = []
+lines_at_gap_group4 settings so_far (Gap.line_at has_eols here) = line_group4 settings so_far here ∷ []
 
--- the line of a turn of Group 4, if it reads one
+-- glue: the line of a turn of Group 4, if it reads one
 abbrev pub lines_of_move_group4 : DecodeSettings → Progress → List Line
-lines_of_move_group4 settings so_far = lines_at_group4 settings so_far (eols_group4 settings so_far.rest)
+lines_of_move_group4 settings so_far =
+    lines_at_gap_group4 settings so_far (gap_group4 settings (length so_far.rows) so_far.has_eols so_far.rest)
 
--- the line that a turn of Group 3 reads
+-- glue: the line that a turn of Group 3 reads
 abbrev pub lines_of_move_group3 : DecodeSettings → Progress → List Line
 lines_of_move_group3 settings so_far = line_at_group3 settings (row_before settings.columns so_far.rows) so_far.rest ∷ []
 

@@ -2,6 +2,8 @@
 use Rattle.std.specs.Prelude.{◌^◌, ◌<◌}
 use Rattle.hayro_ccitt.specs.declared.settings.DecodeSettings.{DecodeSettings}
 
+-- ---- glue: what numbers of the program hold
+
 -- the columns and the limit of rows have 32 bits
 pub record AreSettings (settings : DecodeSettings) : Type 0 where
   pub columns : settings.columns < 2 ^ 32

@@ -41,12 +41,21 @@ impl<'a> BitReader<'a> {
         BitReader { data, place: 0 }
     }
 
+    /// A reader at a place among the bits.
+    pub(crate) fn starting_at(data: &'a [u8], place: usize) -> BitReader<'a>
+        requires fit { BitsFit «data».now }
+        requires within { place ≤ 8 * length «data».now }
+        ensures { result ≡ record { bits = bits_of «data».now; place = place } }
+    {
+        BitReader { data, place }
+    }
+
     /// The next bit. At the end it is `UnexpectedEof`, and the place stays.
     pub fn read_bit(&mut self) -> Result<u32>
         ensures bit { IfOk result (λ bit. (bit ≤ 1) × (slice_get self.old.bits self.old.place ≡ Some (bit == 1))) }
         ensures next { OnOk result (self.new ≡ record self.old { place = self.old.place + 1 }) }
         ensures end { IsErr result ↔ (length self.old.bits ≤ self.old.place) }
-        ensures stays { OnErr result (self.new ≡ self.old) }
+        ensures unchanged { OnErr result (self.new ≡ self.old) }
         ensures only_end { IsOkUnless result DecodeError.UnexpectedEof }
     {
         match bit_at(self.data, self.place) {
@@ -140,14 +149,14 @@ impl<'a> BitReader<'a> {
     pub(crate) fn pass(&mut self, width: u8)
         requires { width ≤ length (here self.old) }
         ensures rest { here self.new ≡ drop width (here self.old) }
-        ensures same { self.new.bits ≡ self.old.bits }
+        ensures same_bits { self.new.bits ≡ self.old.bits }
     {
         self.place += usize::from(width);
     }
 
     /// The same bits at the same place.
     pub(crate) fn copy(&self) -> BitReader<'a>
-        ensures same { result ≡ self.now }
+        ensures value { result ≡ self.now }
         ensures fit { length self.now.bits + 64 < 2 ^ 64 }
     {
         BitReader {

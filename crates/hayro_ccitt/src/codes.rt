@@ -1,20 +1,20 @@
 //! Colours, modes, and the code words and EOLs of the data.
 
-ghost use Rattle.std.specs.Prelude.{◌≡◌, ℕ, ◌+◌, ◌≤◌, ◌==◌, ◌↔◌, ◌++◌, ◌∷◌, IsTrue, IfSome, IfNone, IfErr, MatchResult, Ok, Err, Some, None, true, false, length, replicate, nat_le, if◌then◌else◌, drop, option_map};
+ghost use Rattle.std.specs.Prelude.{◌≡◌, ℕ, ◌+◌, ◌*◌, ◌≤◌, ◌==◌, ◌↔◌, ◌++◌, ◌∷◌, IsTrue, IfSome, IfNone, IfErr, MatchResult, Ok, Err, Some, None, true, false, length, replicate, nat_le, if◌then◌else◌, drop, option_map, is_some, min};
 ghost use Rattle.std.specs.Borrow.{ftrue};
 ghost use Rattle.std.specs.List.{list_all};
 ghost use Rattle.hayro_ccitt.specs.Answers.{IsFault};
 ghost use Rattle.hayro_ccitt.specs.Bits.{here, low_bits};
 ghost use Rattle.hayro_ccitt.specs.CodeLists.{mode_codes, numbered};
 ghost use Rattle.hayro_ccitt.specs.CodeReading.{agreement, word_at, is_cut, read_code, leading_zeros};
-ghost use Rattle.hayro_ccitt.specs.EndOfLine.{after_eol, eols, all_eols};
+ghost use Rattle.hayro_ccitt.specs.EndOfLine.{after_eol, eols, all_eols, next_eol, past_tag, eols_with_tags, pass_last_tag, tagged_eols};
 ghost use Rattle.hayro_ccitt.specs.Rows.{opposite};
 ghost use Rattle.hayro_ccitt.specs.Runs.{codes_of, read_run};
-ghost use Rattle.hayro_ccitt.specs.Ticks.{run_found, missed, looked};
+ghost use Rattle.hayro_ccitt.specs.Ticks.{run_found, missed, looked, looked_at_tag};
 
 use crate::bit_reader::BitReader;
 use crate::tables::{
-    BLACK_MAKEUP, BLACK_TERMINATING, COMMON_MAKEUP, Tables, WHITE_MAKEUP, WHITE_TERMINATING,
+    BLACK_MAKEUP, BLACK_TERMINATING, COMMON_MAKEUP, MODES, Tables, WHITE_MAKEUP, WHITE_TERMINATING,
 };
 use crate::{DecodeError, Result};
 use std::marker::Model;
@@ -97,20 +97,6 @@ impl Ticks {
         *self = next;
     }
 }
-
-/// The modes (T.4 table 4, T.6 table 1): the mode, the number of bits, and the word.
-#[rattlefmt::skip]
-const MODES: [(Mode, u8, u16); 9] = [
-    (Mode::Pass, 4, 0b0001),
-    (Mode::Horizontal, 3, 0b001),
-    (Mode::Vertical(0), 1, 0b1),
-    (Mode::Vertical(1), 3, 0b011),
-    (Mode::Vertical(2), 6, 0b000011),
-    (Mode::Vertical(3), 7, 0b0000011),
-    (Mode::Vertical(-1), 3, 0b010),
-    (Mode::Vertical(-2), 6, 0b000010),
-    (Mode::Vertical(-3), 7, 0b0000010),
-];
 
 /// How many bits of a word of this width, from its front, stand here.
 fn agreement(reader: &BitReader<'_>, width: u8, word: u16) -> u8
@@ -212,7 +198,7 @@ impl<'a> BitReader<'a> {
             ≡ Ok (n, here self.new))
             (λ e. read_code (numbered (terminating.now ++ makeup.now ++ COMMON_MAKEUP)) (here self.old) ≡ Err e) }
         ensures fault { IfErr result IsFault }
-        ensures same { self.new.bits ≡ self.old.bits }
+        ensures same_bits { self.new.bits ≡ self.old.bits }
     {
         match find_run_word(self, terminating, makeup) {
             Some((run, width)) => {
@@ -235,8 +221,8 @@ impl<'a> BitReader<'a> {
             (λ n. read_code (codes_of color) (here self.old) ≡ Ok (n, here self.new))
             (λ e. read_code (codes_of color) (here self.old) ≡ Err e) }
         ensures fault { IfErr result IsFault }
-        ensures same { self.new.bits ≡ self.old.bits }
-        ensures count { ticks.new ≡ ticks.old + 1 }
+        ensures same_bits { self.new.bits ≡ self.old.bits }
+        ensures ticks { ticks.new ≡ ticks.old + 1 }
     {
         // A word that doesn't stand here was looked for too.
         ticks.tick();
@@ -254,7 +240,7 @@ impl<'a> BitReader<'a> {
             (λ n. read_run color (here self.old) ≡ Ok (n, here self.new))
             (λ e. read_run color (here self.old) ≡ Err e) }
         ensures fault { IfErr result IsFault }
-        ensures same { self.new.bits ≡ self.old.bits }
+        ensures same_bits { self.new.bits ≡ self.old.bits }
         ensures ticks { ticks.new ≡ ticks.old + length (run_found color (0, here self.old)) + missed result }
     {
         let mut total: u32 = 0;
@@ -276,7 +262,7 @@ impl<'a> BitReader<'a> {
             (λ m. read_code mode_codes (here self.old) ≡ Ok (m, here self.new))
             (λ e. read_code mode_codes (here self.old) ≡ Err e) }
         ensures fault { IfErr result IsFault }
-        ensures same { self.new.bits ≡ self.old.bits }
+        ensures same_bits { self.new.bits ≡ self.old.bits }
         ensures ticks { ticks.new ≡ ticks.old + 1 }
     {
         ticks.tick();
@@ -328,7 +314,7 @@ impl<'a> BitReader<'a> {
     /// many there were. It never fails. Each bit that is looked at is a tick.
     pub fn read_eols(&mut self, max: usize, ticks: &mut Ticks) -> usize
         ensures eols { eols max (here self.old) ≡ (result, here self.new) }
-        ensures same { self.new.bits ≡ self.old.bits }
+        ensures same_bits { self.new.bits ≡ self.old.bits }
         ensures ticks { ticks.new + length (here self.new)
             ≡ ticks.old + length (here self.old) + (if result == max then 0 else looked (here self.new)) }
     {
@@ -348,11 +334,126 @@ impl<'a> BitReader<'a> {
     /// a tick.
     pub fn read_eol_if_available(&mut self, ticks: &mut Ticks) -> usize
         ensures eols { all_eols (here self.old) ≡ (result, here self.new) }
-        ensures same { self.new.bits ≡ self.old.bits }
+        ensures same_bits { self.new.bits ≡ self.old.bits }
         ensures ticks { ticks.new + length (here self.new)
             ≡ ticks.old + length (here self.old) + looked (here self.new) }
     {
         // an EOL takes more than one bit
         self.read_eols(self.bits_left(), ticks)
+    }
+
+    /// Moves to the start of the zeros of the next EOL at or after here (T.4 sections 4.1.2 and 4.1.3), without
+    /// reading it. Where there is none it answers false, and the place stays. It never fails. Each bit that is
+    /// looked at is a tick.
+    pub fn skip_to_eol(&mut self, ticks: &mut Ticks) -> bool
+        ensures next { next_eol (here self.old) ≡ (if result then Some (here self.new) else None) }
+        ensures unchanged { result ≡ false → self.new ≡ self.old }
+        ensures same_bits { self.new.bits ≡ self.old.bits }
+        ensures ticks { ticks.new + length (here self.new)
+            ≡ ticks.old + length (here self.old) + (if result then looked (here self.new) else length (here self.new)) }
+    {
+        let mut reader = self.copy();
+        'eols: loop {
+            let (zeros, after) = reader.zero_run(ticks);
+            match after {
+                Some(_) if zeros >= 11 => {
+                    *self = reader;
+                    return true;
+                }
+                Some(after) => reader = after,
+                None => return false,
+            }
+        }
+    }
+
+    /// Whether an EOL stands here. Each bit that is looked at is a tick.
+    fn is_at_eol(&self, ticks: &mut Ticks) -> bool
+        ensures eol { result ≡ is_some (after_eol 0 (here self.now)) }
+        ensures ticks { ticks.new ≡ ticks.old + looked (here self.now) }
+    {
+        let (zeros, after) = self.zero_run(ticks);
+        match after {
+            Some(_) => zeros >= 11,
+            None => false,
+        }
+    }
+
+    /// Passes a tag of 1 that stands here before an EOL (T.4 section 4.2.2). Each bit that is looked at is a tick.
+    fn pass_tag(&mut self, ticks: &mut Ticks)
+        ensures rest { here self.new ≡ past_tag (here self.old) }
+        ensures same_bits { self.new.bits ≡ self.old.bits }
+        ensures ticks { ticks.new ≡ ticks.old + looked_at_tag (here self.old) }
+    {
+        let mut behind = self.copy();
+        match behind.read_bit() {
+            Ok(0) => ticks.tick(),
+            Ok(_) => {
+                ticks.tick();
+                if behind.is_at_eol(ticks) {
+                    *self = behind;
+                }
+            }
+            Err(_) => {}
+        }
+    }
+
+    /// Passes the tag of 1 after the last EOL, where so many EOLs are RTC: six or more (T.4 section 4.2.2). The bit
+    /// that is looked at is a tick.
+    fn pass_last_tag(&mut self, count: usize, ticks: &mut Ticks)
+        ensures rest { pass_last_tag (count, here self.old) ≡ (count, here self.new) }
+        ensures same_bits { self.new.bits ≡ self.old.bits }
+        ensures ticks { ticks.new ≡ ticks.old + (if nat_le 6 count then min 1 (length (here self.old)) else 0) }
+    {
+        if count < 6 {
+            return;
+        }
+        let mut behind = self.copy();
+        match behind.read_bit() {
+            Ok(0) => ticks.tick(),
+            Ok(_) => {
+                ticks.tick();
+                *self = behind;
+            }
+            Err(_) => {}
+        }
+    }
+
+    /// Reads the EOLs in a row with the tags between them, and answers how many EOLs there were. A tick is a bit that
+    /// is looked at: each that is passed, at most twice; at the end those of a tag, and of the zeros.
+    fn read_eols_with_tags(&mut self, ticks: &mut Ticks) -> usize
+        ensures eols { eols_with_tags (length (here self.old)) (here self.old) ≡ (result, here self.new) }
+        ensures same_bits { self.new.bits ≡ self.old.bits }
+        ensures at_least { ticks.old + length (here self.old) ≤ ticks.new + length (here self.new) }
+        ensures at_most { ticks.new + 2 * length (here self.new)
+            ≤ ticks.old + 2 * length (here self.old) + looked_at_tag (here self.new) + looked (here self.new) }
+        ensures none { result ≡ 0 → ticks.new ≡ ticks.old + looked (here self.old) }
+    {
+        // an EOL takes more than one bit
+        let most = self.bits_left();
+        let mut count = 0;
+        'eols: while count < most {
+            if self.read_eols(1, ticks) == 0 {
+                return count;
+            }
+            self.pass_tag(ticks);
+            count += 1;
+        }
+        count
+    }
+
+    /// Reads all EOLs in a row of two-dimensional data of Group 3, and answers how many there were (T.4 section
+    /// 4.2.2). A tag of 1 between two EOLs is passed; after the last EOL it is passed where there were six or more,
+    /// which are RTC. It never fails. Each bit that is looked at is a tick: one that is passed at most twice.
+    pub fn read_tagged_eols(&mut self, ticks: &mut Ticks) -> usize
+        ensures eols { tagged_eols (here self.old) ≡ (result, here self.new) }
+        ensures same_bits { self.new.bits ≡ self.old.bits }
+        ensures at_least { ticks.old + length (here self.old) ≤ ticks.new + length (here self.new) }
+        ensures at_most { ticks.new + 2 * length (here self.new)
+            ≤ ticks.old + 2 * length (here self.old) + 3 + looked (drop 1 (here self.new)) }
+        ensures none { result ≡ 0 → ticks.new ≡ ticks.old + looked (here self.old) }
+    {
+        let count = self.read_eols_with_tags(ticks);
+        self.pass_last_tag(count, ticks);
+        count
     }
 }

@@ -1,12 +1,13 @@
 //! What a decoder keeps from line to line, and the lines themselves.
 
-ghost use Rattle.std.specs.Prelude.{◌≡◌, ◌≢◌, ◌+◌, ◌-◌, ◌^◌, ◌<◌, ◌≤◌, ◌⊎◌, ◌↔◌, Ok, Err, OnOk, OnErr, IfOk, IfErr, true, IsOkUnless, IsTrue, false, length, get_or, [], ◌++◌, replicate};
-ghost use Rattle.hayro_ccitt.specs.Rows.{AreChanges, pixels, right_of, b1, b2, changes, is_black, opposite, last_pixel};
+ghost use Rattle.std.specs.Prelude.{◌≡◌, ◌+◌, ◌^◌, ◌<◌, ◌≤◌, ◌⊎◌, ◌↔◌, Ok, Err, OnOk, OnErr, IfOk, IfErr, true, IsOkUnless, IsTrue, length, get_or, []};
+ghost use Rattle.hayro_ccitt.specs.Rows.{right_of, b1, b2, changes, opposite};
 ghost use Rattle.hayro_ccitt.specs.Bits.{here};
-ghost use Rattle.hayro_ccitt.specs.Context.{redrawn, right_of_painted, painted_front, taken_row};
-ghost use Rattle.hayro_ccitt.specs.Answers.{DrawsLine, DrawsStep, StoresChange, pen_of, step_of_run, step_of_mode, line_from_1d, line_from_2d};
+ghost use Rattle.hayro_ccitt.specs.Context.{redrawn, painted_front, taken_row, after_repair};
+ghost use Rattle.hayro_ccitt.specs.Answers.{DrawsLine, DrawsStep, StoresChange, RepairStoresChange, pen_of, step_of_run, step_of_mode, line_from_1d, line_from_2d};
 
 use crate::bit_reader::BitReader;
+use crate::changes::{append_pixels, b1_index, change_or_end};
 use crate::codes::{Color, Mode, Ticks};
 use crate::settings::DecodeSettings;
 use crate::tables::Tables;
@@ -41,59 +42,6 @@ impl Model for DecoderContext {
     ghost invariant = { IsLawful };
 }
 
-/// The index of b1 among the changes of a reference row, where so many pixels are painted and the next ones have
-/// this colour; b2 is the next change. Each change that is looked at is a tick.
-fn b1_index(changes: &[u32], painted: u32, color: Color, columns: u32, ticks: &mut Ticks) -> usize
-    requires { AreChanges columns changes.now }
-    ensures b1 { b1 (pixels columns changes.now) (right_of_painted painted) color
-        ≡ get_or changes.now result columns }
-    ensures b2 { b2 (pixels columns changes.now) (right_of_painted painted) color
-        ≡ get_or changes.now (result + 1) columns }
-    ensures within { result ≤ length changes.now + 1 }
-    ensures counts { ticks.old ≤ ticks.new }
-{
-    let mut index = 0;
-    if painted > 0 {
-        while index < changes.len() && changes[index] <= painted {
-            ticks.tick();
-            index += 1;
-        }
-    }
-    ticks.tick();
-    // A change with an even index turns to black.
-    if index.is_multiple_of(2) != color.is_white() {
-        index += 1;
-    }
-    index
-}
-
-/// The change of an index, or the row's end where there is none.
-fn change_or_end(changes: &[u32], index: usize, columns: u32) -> u32
-    ensures { result ≡ get_or changes.now index columns }
-{
-    changes.get(index).copied().unwrap_or(columns)
-}
-
-/// Adds so many pixels of a colour to the changes of a front, of which so many are painted. A change is stored
-/// only where the last pixel has another colour. After a refusal nothing is changed.
-fn append_pixels(changes: &mut Vec<u32>, painted: u32, color: Color, count: u32) -> Result<()>
-    requires { AreChanges painted changes.old.items }
-    ensures lawful { OnOk result (AreChanges (painted + count) changes.new.items) }
-    ensures painted { OnOk result (pixels (painted + count) changes.new.items
-        ≡ pixels painted changes.old.items ++ replicate count (is_black color)) }
-    ensures memory { result ≡ Err DecodeError.OutOfMemory
-        → (0 < count) × (last_pixel false (pixels painted changes.old.items) ≢ is_black color) }
-    ensures only_memory { IsOkUnless result DecodeError.OutOfMemory }
-    ensures same { OnErr result (changes.new.items ≡ changes.old.items) }
-{
-    // The colours of a row alternate, so after an odd number of changes its last pixel is black.
-    let last_is_white = changes.len().is_multiple_of(2);
-    if count > 0 && last_is_white != color.is_white() {
-        changes.push(painted)?;
-    }
-    Ok(())
-}
-
 impl DecoderContext {
     ghost use Rattle.std.specs.Borrow.{sem};
     ghost use Rattle.hayro_ccitt.specs.Context.{fresh, after_taking};
@@ -103,8 +51,7 @@ impl DecoderContext {
     /// A context for images with these settings: a white reference row, nothing painted, no row taken. Its only
     /// refusal is `OutOfMemory`, and nothing is made then.
     pub fn new(alloc: Global, settings: DecodeSettings) -> Result<DecoderContext>
-        ensures made { IfOk result (λ ctx. ctx.held ≡ fresh settings) }
-        ensures count { IfOk result (λ ctx. ctx.ticks ≡ 0) }
+        ensures made { IfOk result (λ ctx. ctx ≡ record { held = fresh settings; ticks = 0 }) }
         ensures only_memory { IsOkUnless result DecodeError.OutOfMemory }
     {
         Ok(DecoderContext {
@@ -147,8 +94,7 @@ impl DecoderContext {
 
     /// Sets whether the data has EOLs between its lines. All else stands.
     pub fn set_has_eols(&mut self, has_eols: bool)
-        ensures held { self.new.held ≡ record self.old.held { has_eols = has_eols } }
-        ensures count { self.new.ticks ≡ self.old.ticks }
+        ensures frame { self.new ≡ record self.old { held = record self.old.held { has_eols = has_eols } } }
     {
         self.has_eols = has_eols;
     }
@@ -163,21 +109,17 @@ impl DecoderContext {
 
     /// Makes all but the settings and the count what a new context has. It takes no memory.
     pub fn reset(&mut self)
-        ensures held { self.new.held ≡ fresh self.old.held.settings }
-        ensures count { self.new.ticks ≡ self.old.ticks }
+        ensures frame { self.new ≡ record self.old { held = fresh self.old.held.settings } }
     {
+        self.begin_line();
         self.ref_changes.clear();
-        self.coding_changes.clear();
-        self.pixels_decoded = 0;
-        self.color = Color::White;
         self.decoded_rows = 0;
         self.has_eols = false;
     }
 
     /// Makes all but the settings what a new context has.
     pub(crate) fn restart(&mut self)
-        ensures held { self.new.held ≡ fresh self.old.held.settings }
-        ensures count { self.new.ticks ≡ 0 }
+        ensures frame { self.new ≡ record { held = fresh self.old.held.settings; ticks = 0 } }
     {
         self.reset();
         self.ticks = Ticks::new();
@@ -185,8 +127,7 @@ impl DecoderContext {
 
     /// Empties the front and sets the colour to white, as each line begins.
     fn begin_line(&mut self)
-        ensures held { self.new.held ≡ redrawn self.old.held [] Color.White }
-        ensures count { self.new.ticks ≡ self.old.ticks }
+        ensures frame { self.new ≡ record self.old { held = redrawn self.old.held [] Color.White } }
     {
         self.coding_changes.clear();
         self.pixels_decoded = 0;
@@ -195,8 +136,8 @@ impl DecoderContext {
 
     /// Turns the present colour.
     fn turn_color(&mut self)
-        ensures held { self.new.held ≡ redrawn self.old.held self.old.held.front (opposite self.old.held.color) }
-        ensures count { self.new.ticks ≡ self.old.ticks }
+        ensures frame { self.new ≡ record self.old
+            { held = redrawn self.old.held self.old.held.front (opposite self.old.held.color) } }
     {
         self.color = self.color.opposite();
     }
@@ -206,13 +147,13 @@ impl DecoderContext {
     /// stored, so where the colour of the last pixel differs. After a refusal nothing is changed.
     pub fn push_pixels(&mut self, count: u32) -> Result<()>
         ensures painted { OnOk result (painted_front self.old.held count ≡ Ok self.new.held.front) }
-        ensures rest { OnOk result (self.new.held ≡ redrawn self.old.held self.new.held.front self.old.held.color) }
+        ensures frame { OnOk result (self.new ≡ record self.old
+            { held = redrawn self.old.held self.new.held.front self.old.held.color }) }
         ensures too_many { (result ≡ Err DecodeError.InvalidCode)
             ↔ (painted_front self.old.held count ≡ Err DecodeError.InvalidCode) }
         ensures memory { result ≡ Err DecodeError.OutOfMemory → StoresChange self.old.held count }
         ensures only { IfErr result (λ e. (e ≡ DecodeError.InvalidCode) ⊎ (e ≡ DecodeError.OutOfMemory)) }
-        ensures same { OnErr result (self.new.held ≡ self.old.held) }
-        ensures count { self.new.ticks ≡ self.old.ticks }
+        ensures unchanged { OnErr result (self.new ≡ self.old) }
     {
         let room = self.settings.columns - self.pixels_decoded;
         if count > room && self.settings.strict {
@@ -226,6 +167,27 @@ impl DecoderContext {
             count,
         )?;
         self.pixels_decoded += count;
+        Ok(())
+    }
+
+    /// Paints the rest of the row white whatever the present colour, which then is white. `OutOfMemory` comes
+    /// only where a change is stored, so where the row isn't full and its last pixel is black; then nothing is
+    /// changed.
+    pub fn fill_white(&mut self) -> Result<()>
+        ensures frame { OnOk result (self.new ≡ record self.old { held = after_repair self.old.held }) }
+        ensures memory { result ≡ Err DecodeError.OutOfMemory → RepairStoresChange self.old.held }
+        ensures only_memory { IsOkUnless result DecodeError.OutOfMemory }
+        ensures unchanged { OnErr result (self.new ≡ self.old) }
+    {
+        let rest = self.settings.columns - self.pixels_decoded;
+        append_pixels(
+            &mut self.coding_changes,
+            self.pixels_decoded,
+            Color::White,
+            rest,
+        )?;
+        self.pixels_decoded = self.settings.columns;
+        self.color = Color::White;
         Ok(())
     }
 
@@ -243,23 +205,46 @@ impl DecoderContext {
         self.pixels_decoded == self.settings.columns
     }
 
+    /// The index of b1 among the changing elements of the reference row; that of b2 is the next (T.4 section
+    /// 4.2.1.1).
+    fn b1_place(&mut self) -> usize
+        ensures b1 { b1 self.old.held.reference (right_of self.old.held.front) self.old.held.color
+            ≡ get_or (changes self.old.held.reference) result self.old.held.settings.columns }
+        ensures b2 { b2 self.old.held.reference (right_of self.old.held.front) self.old.held.color
+            ≡ get_or (changes self.old.held.reference) (result + 1) self.old.held.settings.columns }
+        ensures fits { result + 1 < 2 ^ 64 }
+        ensures edge { length self.old.held.reference ≡ self.old.held.settings.columns }
+        ensures within { length self.old.held.front ≤ self.old.held.settings.columns }
+        ensures unchanged { self.new.held ≡ self.old.held }
+        ensures counts { self.old.ticks ≤ self.new.ticks }
+    {
+        b1_index(
+            self.ref_changes.as_slice(),
+            self.pixels_decoded,
+            self.color,
+            self.settings.columns,
+            &mut self.ticks,
+        )
+    }
+
+    /// The changing element of the reference row with this index, or the row's end where there is none.
+    fn reference_change(&self, index: usize) -> u32
+        ensures { result ≡ get_or (changes self.now.held.reference) index self.now.held.settings.columns }
+    {
+        change_or_end(self.ref_changes.as_slice(), index, self.settings.columns)
+    }
+
     /// b1, the first changing element of the reference row right of a0 that turns the present colour to the
     /// other one, or the row's end (T.4 section 4.2.1.1). It takes no memory.
     pub fn b1(&mut self) -> u32
         ensures value { result ≡ b1 self.old.held.reference (right_of self.old.held.front) self.old.held.color }
         ensures edge { length self.old.held.reference ≡ self.old.held.settings.columns }
         ensures within { length self.old.held.front ≤ self.old.held.settings.columns }
-        ensures held { self.new.held ≡ self.old.held }
+        ensures unchanged { self.new.held ≡ self.old.held }
         ensures counts { self.old.ticks ≤ self.new.ticks }
     {
-        let index = b1_index(
-            self.ref_changes.as_slice(),
-            self.pixels_decoded,
-            self.color,
-            self.settings.columns,
-            &mut self.ticks,
-        );
-        change_or_end(self.ref_changes.as_slice(), index, self.settings.columns)
+        let place = self.b1_place();
+        self.reference_change(place)
     }
 
     /// b2, the next changing element of the reference row after b1, or the row's end (T.4 section 4.2.1.1). It is
@@ -269,24 +254,15 @@ impl DecoderContext {
         ensures edge { length self.old.held.reference ≡ self.old.held.settings.columns }
         ensures within { length self.old.held.front ≤ self.old.held.settings.columns }
         ensures right { length self.old.held.front ≤ result }
-        ensures held { self.new.held ≡ self.old.held }
+        ensures unchanged { self.new.held ≡ self.old.held }
         ensures counts { self.old.ticks ≤ self.new.ticks }
     {
-        let index = b1_index(
-            self.ref_changes.as_slice(),
-            self.pixels_decoded,
-            self.color,
-            self.settings.columns,
-            &mut self.ticks,
-        );
-        change_or_end(
-            self.ref_changes.as_slice(),
-            index + 1,
-            self.settings.columns,
-        )
+        let place = self.b1_place();
+        self.reference_change(place + 1)
     }
 
     /// Hands the row over to the sink, continued in its last colour where it isn't full.
+    #[tactic(auto, using(crate::proofs::PixelRows::ChangesAndPixels::front_fits))]
     fn hand_over<D: Decoder>(&self, decoder: &mut D) -> Result<()>
         requires { self.now.held.settings.columns ≤ D.width decoder.old }
         ensures width { D.width decoder.new ≡ D.width decoder.old }
@@ -303,25 +279,25 @@ impl DecoderContext {
     /// Hands the row over, continued in its last colour where it isn't full. On Ok it is the reference row, the
     /// front is empty, the colour is white and one more row was taken. Where the sink refuses, the context and
     /// the sink's meaning are as before. It takes no memory.
+    #[tactic(auto, using(crate::proofs::PixelRows::ChangesAndPixels::front_fits))]
     pub fn next_line<D: Decoder>(&mut self, decoder: &mut D) -> Result<()>
         requires width { self.old.held.settings.columns ≤ D.width decoder.old }
         requires rows { self.old.held.taken + 1 < 2 ^ 64 }
         ensures width { D.width decoder.new ≡ D.width decoder.old }
         ensures taken { OnOk result (D.meaning decoder.new
             ≡ D.step (D.width decoder.old) (D.meaning decoder.old) (changes (taken_row self.old.held))) }
-        ensures moved { OnOk result (self.new.held ≡ after_taking self.old.held) }
+        ensures frame { OnOk result (self.new ≡ record self.old { held = after_taking self.old.held }) }
         ensures flag { OnOk result (D.has_refused decoder.new ≡ D.has_refused decoder.old) }
         ensures kept { OnErr result (D.meaning decoder.new ≡ D.meaning decoder.old) }
-        ensures same { OnErr result (self.new.held ≡ self.old.held) }
+        ensures unchanged { OnErr result (self.new ≡ self.old) }
         ensures refused { OnErr result (D.has_refused decoder.new ≡ true) }
         ensures only_refused { IsOkUnless result DecodeError.Refused }
-        ensures count { self.new.ticks ≡ self.old.ticks }
     {
         self.hand_over(decoder)?;
+        // The row that was handed over is whole.
+        self.pixels_decoded = self.settings.columns;
         mem::swap(&mut self.ref_changes, &mut self.coding_changes);
-        self.coding_changes.clear();
-        self.pixels_decoded = 0;
-        self.color = Color::White;
+        self.begin_line();
         self.decoded_rows += 1;
         Ok(())
     }
@@ -331,7 +307,7 @@ impl DecoderContext {
         ensures step { DrawsStep (step_of_run self.old.held (here reader.old))
             result (pen_of self.new.held (here reader.new)) }
         ensures held { self.new.held ≡ redrawn self.old.held self.new.held.front self.new.held.color }
-        ensures same { reader.new.bits ≡ reader.old.bits }
+        ensures same_bits { reader.new.bits ≡ reader.old.bits }
         ensures counts { self.old.ticks ≤ self.new.ticks }
     {
         let run = reader.decode_run(self.color, &self.tables, &mut self.ticks)?;
@@ -345,7 +321,7 @@ impl DecoderContext {
         ensures step { DrawsStep (step_of_mode self.old.held (here reader.old) mode)
             result (pen_of self.new.held (here reader.new)) }
         ensures held { self.new.held ≡ redrawn self.old.held self.new.held.front self.new.held.color }
-        ensures same { reader.new.bits ≡ reader.old.bits }
+        ensures same_bits { reader.new.bits ≡ reader.old.bits }
         ensures counts { self.old.ticks ≤ self.new.ticks }
     {
         match mode {
@@ -374,13 +350,13 @@ impl DecoderContext {
 }
 
 /// Decodes a one-dimensional line, whatever front stood (T.4 section 4.1.1). After an error of the data the front is
-/// what was painted until then. `OutOfMemory` comes only where the line paints a black pixel, while a change is
-/// stored. All else of the context stands.
+/// what was painted until then. `OutOfMemory` comes only while a change is stored: the front that stands then is a
+/// prefix of the line's row, where the next pixel differs from the last one. All else of the context stands.
 pub fn decode_1d_line(ctx: &mut DecoderContext, reader: &mut BitReader<'_>) -> Result<()>
     ensures line { DrawsLine (line_from_1d ctx.old.held (here reader.old))
         result ctx.new.held.front (here reader.new) }
     ensures held { ctx.new.held ≡ redrawn ctx.old.held ctx.new.held.front ctx.new.held.color }
-    ensures same { reader.new.bits ≡ reader.old.bits }
+    ensures same_bits { reader.new.bits ≡ reader.old.bits }
     ensures counts { ctx.old.ticks ≤ ctx.new.ticks }
 {
     ctx.begin_line(); // The first run is white.
@@ -392,12 +368,13 @@ pub fn decode_1d_line(ctx: &mut DecoderContext, reader: &mut BitReader<'_>) -> R
 
 /// Decodes a two-dimensional line against the reference row, whatever front stood (T.4 section 4.2, T.6
 /// section 2.2). After an error of the data the front is what was painted until then. `OutOfMemory` comes only
-/// where the line paints a black pixel, while a change is stored. All else of the context stands.
+/// while a change is stored: the front that stands then is a prefix of the line's row, where the next pixel differs
+/// from the last one. All else of the context stands.
 pub fn decode_2d_line(ctx: &mut DecoderContext, reader: &mut BitReader<'_>) -> Result<()>
     ensures line { DrawsLine (line_from_2d ctx.old.held (here reader.old))
         result ctx.new.held.front (here reader.new) }
     ensures held { ctx.new.held ≡ redrawn ctx.old.held ctx.new.held.front ctx.new.held.color }
-    ensures same { reader.new.bits ≡ reader.old.bits }
+    ensures same_bits { reader.new.bits ≡ reader.old.bits }
     ensures counts { ctx.old.ticks ≤ ctx.new.ticks }
 {
     ctx.begin_line(); // The place a0 is left of the row.

@@ -23,6 +23,8 @@ pub enum DecodeError {
 impl fmt::Display for DecodeError {
     ghost output = { λ e. Some (text_of e) };
 
+    ghost styled_output = { λ e _. Some (text_of e) };
+
     fn fmt<W: fmt::Write>(&self, f: &mut fmt::Formatter<W>) -> fmt::Result {
         f.write_str(match self {
             DecodeError::UnexpectedEof => "unexpected end of input",

@@ -5,8 +5,8 @@ ghost use Rattle.hayro_ccitt.specs.CodeLists.{white_codes, black_codes, mode_cod
 ghost use Rattle.hayro_ccitt.specs.CodeReading.{is_prefix_free, ReadsCodes};
 ghost use Rattle.hayro_ccitt.specs.Runs.{codes_of};
 ghost use Rattle.hayro_ccitt.specs.declared.codes.Color.{Color};
-ghost use Rattle.hayro_ccitt.specs.Examples.{EncodesTwoLines, EncodesTaggedRows, HaveLocalBodies, ReadsDamage};
 ghost use Rattle.hayro_ccitt.specs.Laws.{each_word, has_few_zeros, Synchronised, StrictThenLenient, RowLimit};
+ghost use Rattle.hayro_ccitt.specs.Laws.{ReadsClosedPictures, ReadsLimitedPictures};
 ghost use Rattle.hayro_ccitt.specs.Laws.{ReadsPictureT6, ReadsLimitedRowsT6, ReadsPictureT4, ReadsLimitedPictureT4, ReadsLimitedRowsT4};
 ghost use Rattle.hayro_ccitt.specs.Laws.{AfterEofb, PicturesComeToEofb, OnePictureT6, OnePictureT4};
 ghost use Rattle.hayro_ccitt.specs.Laws.{EveryPictureHasAnEncoding, BytesBeginWithAnyBits, RowsOfChanges, ChangesOfRows};
@@ -62,7 +62,15 @@ pub fn t4_pictures()
     ensures body { ReadsLimitedRowsT4 }
 {}
 
-/// Where one stream begins another, both closed and of one width, their pictures are the same.
+/// A picture of any kind is read as its rows, whatever follows: closed, with the exact count of bytes; or ended by a
+/// limit of as many rows.
+pub fn pictures()
+    ensures closed { ReadsClosedPictures }
+    ensures limited { ReadsLimitedPictures }
+{}
+
+/// Where one stream begins another, both closed, of one width, and of one alignment in T.6 or one kind in T.4, their
+/// pictures are the same.
 pub fn one_picture()
     ensures t6 { OnePictureT6 }
     ensures t4 { OnePictureT4 }
@@ -75,14 +83,17 @@ pub fn after_eofb()
     ensures pictures { PicturesComeToEofb }
 {}
 
-/// One-dimensional lenient data with EOLs have the lines that begin behind their EOLs, each read by itself, as long as
-/// the lines stay before the next EOL.
+/// One-dimensional lenient data with EOLs, read without a limit of rows and without looking for RTC. If each line, where
+/// it is whole, ends before the last twelve bits of the next EOL, the first rows are those of the lines that begin behind
+/// EOLs, each read by itself (T.4 section 4.1.2).
 pub fn lines_by_eols()
     ensures rows { LinesByEols }
     ensures starts { StartsAre }
 {}
 
-/// In one-dimensional lenient data with EOLs, a change between two EOLs changes the one row there and no other.
+/// One-dimensional lenient data with EOLs. A body stands between two EOLs, or at the front; it holds a one and no EOL, and
+/// its line, where it is whole, ends before the last twelve bits of the EOL behind it. Any other such body in its place
+/// changes at most the row that is read there, and the reading ends alike (T.4 section 4.1.2).
 pub fn locality()
     ensures one_row { Locality }
     ensures tests { LocalByTests }
@@ -99,12 +110,4 @@ pub fn changes_are_rows()
 pub fn every_picture_has_an_encoding()
     ensures bits { EveryPictureHasAnEncoding }
     ensures bytes { BytesBeginWithAnyBits }
-{}
-
-/// Examples: two lines of T.6, two of T.4 closed by RTC, and three bodies of which each may stand for the other.
-pub fn examples()
-    ensures t6 { EncodesTwoLines }
-    ensures t4 { EncodesTaggedRows }
-    ensures bodies { HaveLocalBodies }
-    ensures damage { ReadsDamage }
 {}

@@ -4,25 +4,33 @@
 //! a [`Decoder`].
 #![tactic(auto)]
 
-ghost use Rattle.std.specs.Prelude.{◌≡◌, ◌≢◌, ◌<◌, ◌≤◌, ◌↔◌, ℕ, List, Bool, true, false, OnOk, OnErr, IfOk, IfErr, Ok, Err, IsOk, IsOkUnless, IsTrue, length, take, ◌+◌, ◌/◌};
-ghost use Rattle.hayro_ccitt.specs.Bits.{Bits, BitsFit, bits_of};
+ghost use Rattle.std.specs.Prelude.{◌≡◌, ◌<◌, ◌≤◌, ◌↔◌, ◌⊎◌, ℕ, List, Bool, true, false, OnOk, OnErr, IfOk, Ok, IsOk, IsOkUnless, IsTrue, length};
+ghost use Rattle.hayro_ccitt.specs.Answers.{OnAnswer, meaning_after};
+ghost use Rattle.hayro_ccitt.specs.Bits.{BitsFit, bits_of, here};
+ghost use Rattle.hayro_ccitt.specs.Context.{fresh};
+ghost use Rattle.hayro_ccitt.specs.Decoding.{TakesRows, StopsShort, leaving};
+ghost use Rattle.hayro_ccitt.specs.Locality.{DamageStaysInRow};
+ghost use Rattle.hayro_ccitt.specs.Pictures.{IsClosedPicture, IsLimitedPicture};
+ghost use Rattle.hayro_ccitt.specs.PlainReading.{plain, end_of, lines_of, lines_by};
 ghost use Rattle.hayro_ccitt.specs.Rows.{Row, AreChanges};
-ghost use Rattle.hayro_ccitt.specs.Pictures.{BeginsWithPictureT6, BeginsWithRowsT6};
-ghost use Rattle.hayro_ccitt.specs.PlainReading.{plain, lines_of};
-ghost use Rattle.hayro_ccitt.specs.Answers.{IsFault, PaintsBlack, OnAnswer, meaning_after};
 
 pub mod bit_reader;
+pub mod changes;
 pub mod codes;
 pub mod context;
 mod error;
+pub mod group3;
 pub mod group4;
 pub mod laws;
+mod locality;
+mod rows;
 mod settings;
 pub mod tables;
 
 use bit_reader::BitReader;
 pub use context::DecoderContext;
 pub use error::{DecodeError, Result};
+pub use locality::body_is_local;
 pub use settings::{DecodeSettings, EncodingMode};
 
 /// A sink for the rows of an image.
@@ -63,6 +71,39 @@ pub fn bits_fit(data: &[u8]) -> bool
     data.len() <= (usize::MAX - 64) / 8
 }
 
+/// Decodes the rows of an image by its encoding.
+fn decode_rows<D: Decoder>(
+    ctx: &mut DecoderContext,
+    reader: &mut BitReader<'_>,
+    decoder: &mut D,
+) -> Result<()>
+    requires columns { 0 < ctx.old.held.settings.columns }
+    requires fresh { ctx.old.held ≡ fresh ctx.old.held.settings }
+    requires start { reader.old.place ≡ 0 }
+    requires width { ctx.old.held.settings.columns ≤ D.width decoder.old }
+    ensures width { D.width decoder.new ≡ D.width decoder.old }
+    ensures settings { ctx.new.held.settings ≡ ctx.old.held.settings }
+    ensures reading { TakesRows (end_of ctx.old.held.settings reader.old.bits).rows
+        (end_of ctx.old.held.settings reader.old.bits).outcome (end_of ctx.old.held.settings reader.old.bits).has_eols
+        (D.step (D.width decoder.old))
+        (record { meaning = D.meaning decoder.old; refused = D.has_refused decoder.old })
+        (record { meaning = D.meaning decoder.new; refused = D.has_refused decoder.new })
+        ctx.new.held (leaving result (here reader.new)) }
+    ensures short { StopsShort (end_of ctx.old.held.settings reader.old.bits).rows
+        (lines_by ctx.old.held.settings.encoding ctx.old.held.settings reader.old.bits)
+        (record { meaning = D.meaning decoder.old; refused = D.has_refused decoder.old })
+        (record { meaning = D.meaning decoder.new; refused = D.has_refused decoder.new })
+        ctx.new.held (leaving result (here reader.new)) }
+    ensures no_eols { ctx.old.held.settings.encoding ≡ EncodingMode.Group4 → ctx.new.held.has_eols ≡ false }
+    ensures same_bits { reader.new.bits ≡ reader.old.bits }
+{
+    match ctx.settings().encoding {
+        EncodingMode::Group4 => group4::decode(ctx, reader, decoder),
+        EncodingMode::Group3_1D => group3::decode_1d(ctx, reader, decoder),
+        EncodingMode::Group3_2D => group3::decode_2d(ctx, reader, decoder),
+    }
+}
+
 /// Decodes an image: hands its rows to the sink, and answers how many bytes were read. The context is reset
 /// first, so what it decoded before doesn't matter.
 ///
@@ -73,40 +114,46 @@ pub fn bits_fit(data: &[u8]) -> bool
 pub fn decode<D: Decoder>(data: &[u8], decoder: &mut D, ctx: &mut DecoderContext) -> Result<usize>
     requires fit { BitsFit «data».now }
     requires width { ctx.old.held.settings.columns ≤ D.width decoder.old }
-    requires encoding { ctx.old.held.settings.encoding ≡ EncodingMode.Group4 }
     ensures width { D.width decoder.new ≡ D.width decoder.old }
     ensures settings { ctx.new.held.settings ≡ ctx.old.held.settings }
-    ensures meaning { D.meaning decoder.new ≡ meaning_after (D.step (D.width decoder.old)) (D.meaning decoder.old)
-        (take ctx.new.held.taken (plain ctx.old.held.settings «data».now).rows) }
-    ensures taken { ctx.new.held.taken ≤ length (plain ctx.old.held.settings «data».now).rows }
-    ensures ok { IfOk result (λ n. (plain ctx.old.held.settings «data».now).outcome ≡ Ok n) }
-    ensures fault { IfErr result (λ e. IsFault e → (plain ctx.old.held.settings «data».now).outcome ≡ Err e) }
-    ensures all { OnAnswer result (ctx.new.held.taken ≡ length (plain ctx.old.held.settings «data».now).rows) }
-    ensures within { IfOk result (λ n. n ≤ length «data».now) }
-    ensures memory { result ≡ Err DecodeError.OutOfMemory
-        → PaintsBlack (lines_of ctx.old.held.settings «data».now) ctx.new.held.taken }
-    ensures refused { result ≡ Err DecodeError.Refused
-        → ctx.new.held.taken < length (plain ctx.old.held.settings «data».now).rows }
-    ensures flag { result ≡ Err DecodeError.Refused → D.has_refused decoder.new ≡ true }
-    ensures no_flag { result ≢ Err DecodeError.Refused → D.has_refused decoder.new ≡ D.has_refused decoder.old }
-    ensures has_eols { ctx.new.held.has_eols ≡ false }
 
-    // A T.6 encoding closed by EOFB gives its picture, whatever follows it, and so do as many lines as the limit.
-    ensures picture { (rows : List Row) (bits : Bits)
-        → BeginsWithPictureT6 ctx.old.held.settings rows bits (bits_of «data».now)
-        → OnAnswer result ((result ≡ Ok ((length bits + 7) / 8))
+    // The rows, the outcome and the count are those of the plain reading.
+    ensures reading { TakesRows (plain ctx.old.held.settings «data».now).rows
+        (plain ctx.old.held.settings «data».now).outcome (plain ctx.old.held.settings «data».now).has_eols
+        (D.step (D.width decoder.old))
+        (record { meaning = D.meaning decoder.old; refused = D.has_refused decoder.old })
+        (record { meaning = D.meaning decoder.new; refused = D.has_refused decoder.new }) ctx.new.held result }
+    ensures within { IfOk result (λ n. n ≤ length «data».now) }
+    ensures no_eols { (ctx.old.held.settings.encoding ≡ EncodingMode.Group4) ⊎ (ctx.old.held.settings.columns ≡ 0)
+        → ctx.new.held.has_eols ≡ false }
+
+    // Fewer rows are taken only where memory is wanted for a black pixel, or the sink refuses a row.
+    ensures short { StopsShort (plain ctx.old.held.settings «data».now).rows (lines_of ctx.old.held.settings «data».now)
+        (record { meaning = D.meaning decoder.old; refused = D.has_refused decoder.old })
+        (record { meaning = D.meaning decoder.new; refused = D.has_refused decoder.new }) ctx.new.held result }
+
+    // A T.6 encoding closed by EOFB, or a T.4 one closed by RTC, gives its picture, whatever follows it.
+    ensures closed { (rows : List Row) (count : ℕ)
+        → IsClosedPicture ctx.old.held.settings rows count (bits_of «data».now)
+        → OnAnswer result ((result ≡ Ok count)
         × (D.meaning decoder.new ≡ meaning_after (D.step (D.width decoder.old)) (D.meaning decoder.old) rows)) }
-    ensures limited { (rows : List Row) (bits : Bits)
-        → BeginsWithRowsT6 ctx.old.held.settings rows bits (bits_of «data».now)
+
+    // So do as many lines as the limit.
+    ensures limited { (rows : List Row) → IsLimitedPicture ctx.old.held.settings rows (bits_of «data».now)
         → OnAnswer result (IsOk result
         × (D.meaning decoder.new ≡ meaning_after (D.step (D.width decoder.old)) (D.meaning decoder.old) rows)) }
+
+    // In lenient one-dimensional data with EOLs a change inside one line's body changes that row alone.
+    ensures damage { OnAnswer result ((rows : List Row)
+        × (D.meaning decoder.new ≡ meaning_after (D.step (D.width decoder.old)) (D.meaning decoder.old) rows)
+        × DamageStaysInRow ctx.old.held.settings «data».now rows result) }
 {
     ctx.restart();
     if ctx.settings().columns == 0 {
         return Ok(0);
     }
     let mut reader = BitReader::new(data);
-    group4::decode(ctx, &mut reader, decoder)?;
+    decode_rows(ctx, &mut reader, decoder)?;
     reader.align();
     Ok(reader.byte_pos())
 }

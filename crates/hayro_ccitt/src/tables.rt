@@ -1,8 +1,10 @@
-//! The code words of T.4 as arrays of (run length, number of bits, word).
+//! The code words of T.4 and T.6 as arrays of (run length or mode, number of bits, word).
 
-ghost use Rattle.std.specs.Prelude.{◌≡◌, ◌++◌, IsOkUnless};
-ghost use Rattle.hayro_ccitt.specs.CodeLists.{numbered, white_codes, black_codes};
+ghost use Rattle.std.specs.Prelude.{◌≡◌, ◌++◌, ◌^◌, IsOkUnless, IsTrue, nat_lt};
+ghost use Rattle.std.specs.List.{list_all};
+ghost use Rattle.hayro_ccitt.specs.CodeLists.{numbered, white_codes, black_codes, mode_codes};
 
+use crate::codes::Mode;
 use crate::{DecodeError, Result};
 use std::alloc::Global;
 
@@ -226,10 +228,32 @@ pub const COMMON_MAKEUP: [(u16, u8, u16); 13] = [
     (2560, 12, 0b000000011111),
 ];
 
-/// The arrays are the code lists of T.4 (tables 2, 3a and 3b).
+/// The modes (T.4 table 4, T.6 table 1): the mode, the number of bits, and the word.
+#[rattlefmt::skip]
+pub const MODES: [(Mode, u8, u16); 9] = [
+    (Mode::Pass, 4, 0b0001),
+    (Mode::Horizontal, 3, 0b001),
+    (Mode::Vertical(0), 1, 0b1),
+    (Mode::Vertical(1), 3, 0b011),
+    (Mode::Vertical(2), 6, 0b000011),
+    (Mode::Vertical(3), 7, 0b0000011),
+    (Mode::Vertical(-1), 3, 0b010),
+    (Mode::Vertical(-2), 6, 0b000010),
+    (Mode::Vertical(-3), 7, 0b0000010),
+];
+
+/// The arrays are the code lists of T.4 (tables 2, 3a, 3b and 4), no word has bits above its width, and the numbers
+/// of the look-ups are these.
 pub fn arrays_are_the_lists()
     ensures white { numbered (WHITE_TERMINATING ++ WHITE_MAKEUP ++ COMMON_MAKEUP) ≡ white_codes }
     ensures black { numbered (BLACK_TERMINATING ++ BLACK_MAKEUP ++ COMMON_MAKEUP) ≡ black_codes }
+    ensures modes { numbered MODES ≡ mode_codes }
+    ensures white_words_fit { IsTrue (list_all (λ e. nat_lt e.2 (2 ^ e.1)) (WHITE_TERMINATING ++ WHITE_MAKEUP)) }
+    ensures black_words_fit { IsTrue (list_all (λ e. nat_lt e.2 (2 ^ e.1)) (BLACK_TERMINATING ++ BLACK_MAKEUP)) }
+    ensures common_words_fit { IsTrue (list_all (λ e. nat_lt e.2 (2 ^ e.1)) COMMON_MAKEUP) }
+    ensures mode_words_fit { IsTrue (list_all (λ e. nat_lt e.2 (2 ^ e.1)) MODES) }
+    ensures lookup_bits { LOOKUP_BITS ≡ 13 }
+    ensures lookup_invalid { LOOKUP_INVALID ≡ 4095 }
 {}
 
 /// The number of bits of the longest code word, by which whole words will be looked up.

@@ -5,7 +5,8 @@
 #![tactic(auto)]
 
 ghost use Rattle.std.specs.Prelude.{◌≡◌, [], ◌∷◌, Ok, Err};
-ghost use Rattle.hayro_ccitt.specs.Examples.{reading_of, group4, group3_1d, group3_2d};
+ghost use Rattle.worked_rows.specs.Examples.{reading_of, group4, group3_1d, group3_2d};
+ghost use Rattle.worked_rows.specs.Examples.{EncodesTwoLines, EncodesTaggedRows, HaveLocalBodies, ReadsDamage, LimitBehindTheBody};
 
 use hayro_ccitt::DecodeError;
 
@@ -69,6 +70,8 @@ pub fn group3_1d_examples()
     ensures skip_to_the_next_line_end { reading_of (group3_1d 8 2 "l") "0019F800CC" ≡ (([] ∷ [] ∷ []), Ok 5) }
     ensures no_line_end_at_once_strict { reading_of (group3_1d 8 2 "ls") "0019F800CC" ≡ (([] ∷ []), Err DecodeError.InvalidCode) }
     ensures a_longer_spelling_of_a_line { reading_of (group3_1d 8 0 "l") "0019800C06F80033" ≡ (([] ∷ [] ∷ [] ∷ []), Ok 8) }
+    ensures limit_behind_a_body_of_eight_bits { reading_of (group3_1d 8 3 "l") "0019800C700033" ≡ (([] ∷ (3 ∷ 5 ∷ []) ∷ [] ∷ []), Ok 7) }
+    ensures limit_behind_a_body_of_more_words { reading_of (group3_1d 8 3 "l") "0019800C06E6A1B9A86E6A1B9AF00033" ≡ (([] ∷ (3 ∷ 5 ∷ []) ∷ [] ∷ []), Ok 16) }
     ensures cut_to_0_bytes { reading_of (group3_1d 8 0 "b") "" ≡ ([], Err DecodeError.UnexpectedEof) }
     ensures cut_to_1_bytes { reading_of (group3_1d 8 0 "b") "00" ≡ ([], Err DecodeError.InvalidCode) }
     ensures cut_to_2_bytes { reading_of (group3_1d 8 0 "b") "0019" ≡ (([] ∷ []), Err DecodeError.UnexpectedEof) }
@@ -106,4 +109,18 @@ pub fn group3_2d_examples()
     ensures a_repaired_line_read_again_completes { reading_of (group3_2d 1 0 "l") "280005" ≡ (((0 ∷ []) ∷ [] ∷ [] ∷ []), Ok 3) }
     ensures a_repaired_line_read_again_completes_then_a_fault { reading_of (group3_2d 1 0 "l") "2800A0" ≡ (((0 ∷ []) ∷ [] ∷ [] ∷ []), Err DecodeError.UnexpectedEof) }
     ensures after_six_line_ends_a_one_is_passed_without_end_of_block { reading_of (group3_2d 8 0 "") "CC006003001800C0060034" ≡ (([] ∷ [] ∷ []), Err DecodeError.UnexpectedEof) }
+{}
+
+/// Encodings: two lines of T.6, and two of T.4 closed by RTC.
+pub fn encoding_examples()
+    ensures t6 { EncodesTwoLines }
+    ensures t4 { EncodesTaggedRows }
+{}
+
+/// Locality: four bodies of which each may stand for the others, and the rows of three; and a limit that a later row
+/// meets, where the counts still differ by as much as the lengths.
+pub fn locality_examples()
+    ensures bodies { HaveLocalBodies }
+    ensures damage { ReadsDamage }
+    ensures limit { LimitBehindTheBody }
 {}

@@ -1,61 +1,70 @@
-use Rattle.std.proofs.Common.{rules, ◌≡◌, ◌++◌, List, ℕ, subst}
-use Rattle.std.specs.Prelude.{Some, IfSome, map, string_bytes}
+use Rattle.std.proofs.Common.{rules, ◌≡◌, List, ℕ, subst, refl, sym, Ok}
+use Rattle.std.specs.Prelude.{IsOk, IsErr, map, string_bytes}
 use Rattle.std.specs.Io.KnownBytes.{Appends}
-use Rattle.std.proofs.KnownBytes.{Appends-trans}
+use Rattle.std.proofs.lemmas.Result.{IfOk-at_ok}
 use Rattle.hayro_ccitt.specs.declared.settings.DecodeSettings.{DecodeSettings}
-use Rattle.hayro_ccitt.specs.PlainReading.{plain}
+use Rattle.faxrows.specs.declared.program.Done.{Done}
+use Rattle.faxrows.specs.declared.program.Done.TheVariants.{Good, Faulty, Memory}
 use Rattle.faxrows.specs.Arguments.{settings_of_words}
-use Rattle.faxrows.specs.Runs.{OnKnown, whole_text, rows_of, IsFrontText}
-use Rattle.faxrows.specs.Text.{line_of_outcome}
-use Rattle.faxrows.proofs.Texts.{Decoded, text_of_good, text_of_faulty, text_of_memory, on_known}
+use Rattle.faxrows.specs.Runs.{Outcome, EndsAfter, OnKnown, IsTextOfWant, done_of, outcome_of, text_after, whole_text}
+use Rattle.faxrows.proofs.Texts.{text_of_good, text_of_faulty, on_known}
 use Rattle.faxrows.proofs.program.run.Given.{Over}
 use Rattle.faxrows.proofs.program.run.Goals as goal
 
 module _ (g : Over) (c : goal.After-drop-input-2 g) where
-  -- what decoding said of its answer
-  decoded : Decoded (plain c.in-Ok.ctx.held.settings c.as_slice.result.now) c.decode-outcome.result c.decode-outcome.new.ctx.held.taken c.text.result.now
-  decoded = record {
-    meaning = search rules;
-    within = c.decode-outcome.ensures.taken;
-    ok = c.decode-outcome.ensures.ok;
-    fault = c.decode-outcome.ensures.fault;
-    all = c.decode-outcome.ensures.all;
-  }
+  -- the settings that the words mean
+  abbrev settings : DecodeSettings
+  settings = c.in-Ok.ctx.held.settings
 
-  -- the settings of the context are those that the words mean
-  meant : settings_of_words (map string_bytes c.args.words.now) ≡ Some c.in-Ok.ctx.held.settings
-  meant = search rules
+  -- what was read
+  abbrev input : List ℕ
+  input = c.as_slice.result.now
 
-  -- what was decoded is what the reader told
-  told : IfSome (g.R.Read.remaining c.args.reader.now.0) (λ input. c.as_slice.result.now ≡ input)
-  told = search rules
+  -- how many rows were taken
+  abbrev taken : ℕ
+  taken = c.write_decoded.new.ctx.held.taken
 
   -- what the writer holds grew by a text
   abbrev Grew : List ℕ → Type 0
-  Grew text = Appends (g.W.Write.contents c.args.writer.now.0) (g.W.Write.contents c.write_last_line.new.writer.0) text
+  Grew text = Appends (g.W.Write.contents c.args.writer.now.0) (g.W.Write.contents c.write_decoded.new.writer.0) text
 
-  -- the text and then the last line were written
-  grew : Grew (c.text.result.now ++ line_of_outcome c.decode-outcome.result)
-  grew =
-      Appends-trans (g.W.Write.contents c.args.writer.now.0) (g.W.Write.contents c.write_all.new.writer.0) (g.W.Write.contents c.write_last_line.new.writer.0)
-      c.text.result.now (line_of_outcome c.decode-outcome.result) (search rules) (search rules)
+  -- what was written, where the run ended so
+  abbrev Written : Done → Type 0
+  Written done =
+      (outcome : Outcome)
+      × EndsAfter settings input taken outcome
+      × (done ≡ done_of outcome)
+      × Grew (text_after settings input taken outcome)
+
+  written : (done : Done) → c.write_decoded.result ≡ Ok done → Written done
+  written done e = IfOk-at_ok Written e c.write_decoded.ensures.written
 
   -- a fact of what was decoded is one of what is known
-  known : (P : DecodeSettings → List ℕ → Type 0) → P c.in-Ok.ctx.held.settings c.as_slice.result.now
+  known : (P : DecodeSettings → List ℕ → Type 0) → P settings input
       → OnKnown (settings_of_words (map string_bytes c.args.words.now)) (g.R.Read.remaining c.args.reader.now.0) P
-  known P holds = on_known _ _ _ _ P meant told holds
+  known P holds = on_known _ _ _ _ P (search rules) (search rules) holds
 
 pub returns-clause-good : goal.returns-clause-good
 returns-clause-good g c = λ e.
-    let good = text_of_good _ _ _ _ (decoded g c) (search rules) in
-    known g c (λ settings input. Grew g c (whole_text settings input)) (subst (Grew g c) good.0 (grew g c))
+    let (outcome, ends, same, grew) = written g c Good e in
+    known g c (λ s xs. Grew g c (whole_text s xs)) (subst (Grew g c) (text_of_good (settings g c) (input g c) (taken g c) outcome ends (sym same)).0 grew)
+
+pub returns-clause-good_outcome : goal.returns-clause-good_outcome
+returns-clause-good_outcome g c = λ e.
+    let (outcome, ends, same, grew) = written g c Good e in
+    known g c (λ s xs. IsOk (outcome_of s xs)) (text_of_good (settings g c) (input g c) (taken g c) outcome ends (sym same)).1
 
 pub returns-clause-faulty : goal.returns-clause-faulty
 returns-clause-faulty g c = λ e.
-    let faulty = text_of_faulty _ _ _ _ (decoded g c) (search rules) in
-    known g c (λ settings input. Grew g c (whole_text settings input)) (subst (Grew g c) faulty.0 (grew g c))
+    let (outcome, ends, same, grew) = written g c Faulty e in
+    known g c (λ s xs. Grew g c (whole_text s xs)) (subst (Grew g c) (text_of_faulty (settings g c) (input g c) (taken g c) outcome ends (sym same)).0 grew)
+
+pub returns-clause-faulty_outcome : goal.returns-clause-faulty_outcome
+returns-clause-faulty_outcome g c = λ e.
+    let (outcome, ends, same, grew) = written g c Faulty e in
+    known g c (λ s xs. IsErr (outcome_of s xs)) (text_of_faulty (settings g c) (input g c) (taken g c) outcome ends (sym same)).1
 
 pub returns-clause-memory : goal.returns-clause-memory
 returns-clause-memory g c = λ e.
-    let front = text_of_memory _ _ _ _ (decoded g c) (search rules) in
-    known g c (λ settings input. (text : List ℕ) × IsFrontText (rows_of settings input) text × Grew g c text) (_, front, grew g c)
+    let (outcome, ends, same, grew) = written g c Memory e in
+    known g c (λ s xs. (text : List ℕ) × IsTextOfWant s xs text × Grew g c text) (_, (_, outcome, ends, sym same, refl), grew)

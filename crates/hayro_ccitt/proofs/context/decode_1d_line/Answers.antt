@@ -1,14 +1,14 @@
 use Rattle.std.proofs.Common.{length, Result, Err, subst, ap, sym, arith, ◌∙◌}
 use Rattle.std.proofs.lemmas.Result.{err_from_is_err_and}
 use Rattle.hayro_ccitt.specs.declared.error.DecodeError.{DecodeError}
-use Rattle.hayro_ccitt.specs.Answers.{DrawsLine, pen_of}
+use Rattle.hayro_ccitt.specs.Answers.{DrawsLine, pen_of, step_of_run}
 use Rattle.hayro_ccitt.specs.Bits.{Bits, here}
 use Rattle.hayro_ccitt.specs.Context.{Held, redrawn}
-use Rattle.hayro_ccitt.specs.Lines.{Line, Pen, drawn, draw_run, step_1d, line_1d}
-use Rattle.hayro_ccitt.specs.Repetition.{Turn}
-use Rattle.hayro_ccitt.proofs.Repeated.{after_turn}
-use Rattle.hayro_ccitt.proofs.DrawnLines.{open_by, line_by_run, line_1d_fails}
-use Rattle.hayro_ccitt.proofs.ReadLines.{drawn_run_shorter}
+use Rattle.hayro_ccitt.specs.Lines.{Line, Pen, line_1d}
+use Rattle.hayro_ccitt.proofs.DrawingLines.Drawings.{drawn_by, step_1d}
+use Rattle.hayro_ccitt.proofs.Readings.Repeated.{after_turn}
+use Rattle.hayro_ccitt.proofs.DrawingLines.DrawnLines.{open_by, line_by_run, line_1d_fails}
+use Rattle.hayro_ccitt.proofs.DrawingLines.ReadLines.{drawn_run_shorter}
 use Rattle.hayro_ccitt.proofs.context.decode_1d_line.Goals as goal
 
 pub runs-smaller : goal.runs-smaller
@@ -26,9 +26,9 @@ runs-preserved c =
     let open_row = open_by c.is_full.result (length now.front) now.settings.columns c.runs-test.true c.is_full.ensures.1 in
     let line = line_by_run before now _ (here c.runs.reader) so_far.held so_far.line open_row in
     record {
-      line = sym (line ∙ ap (after_turn (drawn (step_1d before.settings.strict before.settings.columns))) drawing.step);
+      line = sym (line ∙ ap (after_turn (drawn_by (step_1d before.settings.strict before.settings.columns))) drawing.step);
       held = drawing.held ∙ ap (λ (h : Held). redrawn h new.front new.color) so_far.held;
-      same = drawing.same ∙ so_far.same;
+      same_bits = drawing.same_bits ∙ so_far.same_bits;
       counts = omega (arith, drawing.counts, so_far.counts);
     }
 
@@ -44,6 +44,6 @@ returns-in_err-draw_run-clause-line c =
     let open_row = open_by c.is_full.result (length now.front) now.settings.columns c.runs-test.true c.is_full.ensures.1 in
     let line : Line = line_1d before.settings.strict before.settings.columns (here c.args.reader.now) in
     let fails : DrawsLine line (Err fault) pen.front pen.rest
-    = line_1d_fails before.settings.strict before.settings.columns line (draw_run now.settings.strict now.settings.columns (pen_of now rest) Turn.next) fault pen
+    = line_1d_fails before.settings.strict before.settings.columns line (step_of_run now rest) fault pen
     (line_by_run before now line rest so_far.held so_far.line open_row) c.in_err-draw_run.ensures.step in
     subst (λ (r : Result (Unit {0}) DecodeError). DrawsLine line r pen.front pen.rest) (sym (p.1 ∙ ap (λ (e : DecodeError). Err e) p.2)) fails

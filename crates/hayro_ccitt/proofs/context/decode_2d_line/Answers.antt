@@ -2,14 +2,15 @@ use Rattle.std.proofs.Common.{◌≡◌, length, Result, Err, subst, ap, sym, ar
 use Rattle.std.proofs.lemmas.Result.{err_from_is_err_and}
 use Rattle.hayro_ccitt.specs.declared.codes.Mode.{Mode}
 use Rattle.hayro_ccitt.specs.declared.error.DecodeError.{DecodeError}
-use Rattle.hayro_ccitt.specs.Answers.{DrawsLine, DrawsStep, pen_of}
+use Rattle.hayro_ccitt.specs.Answers.{DrawsLine, DrawsStep, pen_of, step_of_mode}
 use Rattle.hayro_ccitt.specs.Bits.{Bits, here}
 use Rattle.hayro_ccitt.specs.Context.{Context, Held, redrawn}
 use Rattle.hayro_ccitt.specs.ContextView.{context_of}
-use Rattle.hayro_ccitt.specs.Lines.{Line, Pen, drawn, draw_mode, step_2d, line_2d}
+use Rattle.hayro_ccitt.specs.Lines.{Line, Pen, line_2d}
+use Rattle.hayro_ccitt.proofs.DrawingLines.Drawings.{drawn_by, step_2d}
 use Rattle.hayro_ccitt.specs.Repetition.{Turn}
-use Rattle.hayro_ccitt.proofs.Repeated.{after_turn}
-use Rattle.hayro_ccitt.proofs.DrawnLines.{open_by, line_by_mode, line_2d_fails, mode_shorter}
+use Rattle.hayro_ccitt.proofs.Readings.Repeated.{after_turn}
+use Rattle.hayro_ccitt.proofs.DrawingLines.DrawnLines.{open_by, line_by_mode, line_2d_fails, mode_shorter}
 use Rattle.hayro_ccitt.proofs.context.decode_2d_line.Goals as goal
 
 pub modes-smaller : goal.modes-smaller
@@ -29,15 +30,15 @@ modes-preserved c =
     let drawing = c.in_ok-draw_mode.ensures in
     let left : context_of c.ctx.inside ≡ c.modes.ctx = c.ctx.view_is in
     let open_row = open_by c.is_full.result (length now.front) now.settings.columns c.modes-test.true c.is_full.ensures.1 in
-    let draws : draw_mode now.settings.strict now.settings.columns now.reference (pen_of now rest) mode ≡ Turn.next (pen_of new (here c.draw_mode.new.reader))
-    = subst (λ (x : Context). draw_mode x.held.settings.strict x.held.settings.columns x.held.reference (pen_of x.held rest) mode ≡ Turn.next (pen_of new (here c.draw_mode.new.reader))) left drawing.step in
+    let draws : step_of_mode now rest mode ≡ Turn.next (pen_of new (here c.draw_mode.new.reader))
+    = subst (λ (x : Context). step_of_mode x.held rest mode ≡ Turn.next (pen_of new (here c.draw_mode.new.reader))) left drawing.step in
     let kept : new ≡ redrawn now new.front new.color = subst (λ (x : Context). new ≡ redrawn x.held new.front new.color) left drawing.held in
     let ticks : (context_of c.ctx.inside).ticks ≡ c.modes.ctx.ticks = ap (λ (x : Context). x.ticks) left in
     let line = line_by_mode before now _ (here c.modes.reader) rest mode so_far.held so_far.line open_row c.in_ok-mode.ensures.mode in
     record {
-      line = sym (line ∙ ap (after_turn (drawn (step_2d before.settings.strict before.settings.columns before.reference))) draws);
+      line = sym (line ∙ ap (after_turn (drawn_by (step_2d before.settings.strict before.settings.columns before.reference))) draws);
       held = kept ∙ ap (λ (h : Held). redrawn h new.front new.color) so_far.held;
-      same = drawing.same ∙ c.in_ok-mode.ensures.same ∙ so_far.same;
+      same_bits = drawing.same_bits ∙ c.in_ok-mode.ensures.same_bits ∙ so_far.same_bits;
       counts = omega (arith, drawing.counts, c.in_ok-mode.ensures.ticks, so_far.counts, ticks);
     }
 
@@ -53,10 +54,10 @@ returns-in_err-draw_mode-clause-line c =
     let so_far = c.modes.invariant in
     let left : context_of c.ctx.inside ≡ c.modes.ctx = c.ctx.view_is in
     let open_row = open_by c.is_full.result (length now.front) now.settings.columns c.modes-test.true c.is_full.ensures.1 in
-    let draws : DrawsStep (draw_mode now.settings.strict now.settings.columns now.reference (pen_of now rest) mode) (Err fault) pen
-    = subst (λ (x : Context). DrawsStep (draw_mode x.held.settings.strict x.held.settings.columns x.held.reference (pen_of x.held rest) mode) (Err fault) pen) left c.in_err-draw_mode.ensures.step in
+    let draws : DrawsStep (step_of_mode now rest mode) (Err fault) pen
+    = subst (λ (x : Context). DrawsStep (step_of_mode x.held rest mode) (Err fault) pen) left c.in_err-draw_mode.ensures.step in
     let line : Line = line_2d before.settings.strict before.settings.columns before.reference (here c.args.reader.now) in
     let fails : DrawsLine line (Err fault) pen.front pen.rest
-    = line_2d_fails before.settings.strict before.settings.columns before.reference line (draw_mode now.settings.strict now.settings.columns now.reference (pen_of now rest) mode) fault pen
+    = line_2d_fails before.settings.strict before.settings.columns before.reference line (step_of_mode now rest mode) fault pen
     (line_by_mode before now line (here c.modes.reader) rest mode so_far.held so_far.line open_row c.in_ok-mode.ensures.mode) draws in
     subst (λ (r : Result (Unit {0}) DecodeError). DrawsLine line r pen.front pen.rest) (sym (p.1 ∙ ap (λ (e : DecodeError). Err e) p.2)) fails

@@ -5,9 +5,9 @@ use Rattle.hayro_ccitt.specs.declared.error.DecodeError.{DecodeError}
 use Rattle.hayro_ccitt.specs.Bits.{here}
 use Rattle.hayro_ccitt.specs.Runs.{codes_of, run_from}
 use Rattle.hayro_ccitt.specs.Ticks.{run_found}
-use Rattle.hayro_ccitt.proofs.TickTurns.{run_found_on, run_found_missed}
-use Rattle.hayro_ccitt.proofs.ReadCodes.{read_code_missed}
-use Rattle.hayro_ccitt.proofs.ReadRuns.{read_code_shorter, words_not_empty, run_goes_on}
+use Rattle.hayro_ccitt.proofs.CodeWords.RunWords.{run_found_on, run_found_missed}
+use Rattle.hayro_ccitt.proofs.CodeWords.ReadCodes.{read_code_missed}
+use Rattle.hayro_ccitt.proofs.CodeWords.ReadRuns.{read_code_shorter, words_not_empty, run_goes_on}
 use Rattle.hayro_ccitt.proofs.bit_reader.BitReader.decode_run.Goals as goal
 
 -- a sum that was added with a test
@@ -30,8 +30,8 @@ words-preserved c =
     let on = run_goes_on color c.words.total run old new c.in_ok-run.ensures.word (omega (arith, sum.0)) c.if-run-lt64.false in
     let found_on = run_found_on color c.words.total run old new c.in_ok-run.ensures.word (omega (arith, sum.0)) c.if-run-lt64.false in (
       c.words.invariant.0 ∙ on ∙ ap (λ (n : ℕ). run_from color (n, new)) total,
-      c.decode_word.ensures.same ∙ c.words.invariant.1,
-      omega (arith, c.words.invariant.2, c.decode_word.ensures.count, found_on, ap (λ (n : ℕ). length (run_found color (n, new))) total),
+      c.decode_word.ensures.same_bits ∙ c.words.invariant.1,
+      omega (arith, c.words.invariant.2, c.decode_word.ensures.ticks, found_on, ap (λ (n : ℕ). length (run_found color (n, new))) total),
     )
 
 pub returns-in_err-run-clause-ticks : goal.returns-in_err-run-clause-ticks
@@ -42,4 +42,4 @@ returns-in_err-run-clause-ticks c =
     let is : c.from_residual.result ≡ Err e = rw (answer.1, answer.2) refl in
     let none = run_found_missed c.args.color c.words.total old e c.in_err-run.ensures.word in
     let one = read_code_missed (codes_of c.args.color) old e c.from_residual.result c.in_err-run.ensures.word is in
-    omega (arith, c.words.invariant.2, c.decode_word.ensures.count, none, one)
+    omega (arith, c.words.invariant.2, c.decode_word.ensures.ticks, none, one)

@@ -1,0 +1,32 @@
+use Rattle.std.proofs.Common.{◌≡◌, ◌+◌, ◌<◌, length, sym, ap, ◌∙◌, arith}
+use Rattle.hayro_ccitt.specs.Bits.{Bits, BitsAt, here}
+use Rattle.hayro_ccitt.specs.EndOfLine.{next_eol}
+use Rattle.hayro_ccitt.specs.Ticks.{looked}
+use Rattle.hayro_ccitt.proofs.BitReading.SoughtEols.{next_eol-behind, next_eol-zeros, looked-one, looked-zeros}
+use Rattle.hayro_ccitt.proofs.bit_reader.BitReader.skip_to_eol.Goals as goal
+
+pub eols-preserved : goal.eols-preserved
+eols-preserved c =
+    let zeros = c.zero_run-zeros.result.0 in
+    let now = here c.eols.reader in
+    let after = here c.in-Some.field-0 in
+    let one = rw c.in-Some.is at c.zero_run-zeros.ensures.one in
+    let few : zeros < 11 = omega (arith, c.if-zeros-ge11.false) in
+    let looks : looked now + length after ≡ length now = ap (λ (x : Bits). looked x + length after) one.1 ∙ looked-one zeros after ∙ sym (ap length one.1) in (
+      c.eols.invariant.0,
+      one.0 ∙ c.eols.invariant.1,
+      sym (ap next_eol one.1 ∙ next_eol-behind zeros after few) ∙ c.eols.invariant.2,
+      omega (arith, c.eols.invariant.3, c.zero_run-zeros.ensures.ticks, looks),
+    )
+
+pub returns-in-None-clause-next : goal.returns-in-None-clause-next
+returns-in-None-clause-next c =
+    let zeros = rw c.in-None.is at c.zero_run-zeros.ensures.end in
+    sym c.eols.invariant.2 ∙ ap next_eol zeros ∙ next_eol-zeros c.zero_run-zeros.result.0
+
+pub returns-in-None-clause-ticks : goal.returns-in-None-clause-ticks
+returns-in-None-clause-ticks c =
+    let zeros = rw c.in-None.is at c.zero_run-zeros.ensures.end in
+    let all : looked (here c.eols.reader) ≡ length (here c.eols.reader) = ap looked zeros ∙ looked-zeros c.zero_run-zeros.result.0 ∙ sym (ap length zeros) in
+    let same : length (here c.eols.self) ≡ length (here c.args.self.now) = ap (λ (at : BitsAt). length (here at)) c.eols.invariant.0 in
+    omega (arith, c.eols.invariant.3, c.zero_run-zeros.ensures.ticks, all, same)

@@ -1,0 +1,26 @@
+use Rattle.std.proofs.Common.{◌≡◌, ◌≢◌, ◌+◌, ◌-◌, Bool, true, false, Err, refl, sym, ap, ◌∙◌, arith}
+use Rattle.std.proofs.lemmas.Result.{err_from_is_err_and}
+use Rattle.hayro_ccitt.proofs.PixelRows.ChangesAndPixels.{length-pixels}
+use Rattle.hayro_ccitt.proofs.context.DecoderContext.fill_white.Goals as goal
+
+-- a pixel that isn't white is black
+black : (pixel : Bool) → pixel ≢ false → pixel ≡ true
+black true other = refl
+black false other = absurd (other refl)
+
+pub returns-in_err-append_pixels-clause-memory : goal.returns-in_err-append_pixels-clause-memory
+returns-in_err-append_pixels-clause-memory c =
+    let s = c.self.inside in
+    let painted = length-pixels s.pixels_decoded s.coding_changes.items c.self.invariant.front in
+    let p = err_from_is_err_and c.from_residual.result c.from_residual.ensures.1 in
+    rw (← c.self.view_is) (λ e.
+    let stored = c.append_pixels.ensures.memory (c.in_err-append_pixels.was ∙ ap Err (sym p.2) ∙ sym p.1 ∙ e) in
+    (omega (arith, stored.0, painted), black _ stored.1))
+
+pub returns-clause-frame : goal.returns-clause-frame
+returns-clause-frame c =
+    let s = c.self.inside in
+    let front = length-pixels s.pixels_decoded s.coding_changes.items c.self.invariant.front in
+    let whole : s.pixels_decoded + (s.settings.columns - s.pixels_decoded) ≡ s.settings.columns = omega (arith, c.self.invariant.within) in
+    let painted = rw whole at c.in_ok-append_pixels.ensures.painted in
+    rw (← c.self.view_is, front, painted) refl

@@ -1,0 +1,117 @@
+use Rattle.std.proofs.Common.{◌≡◌, ℕ, Bool, true, false, ltb, ◌||◌, drop, length, Ok, refl, sym, ap, ◌∙◌, subst, arith}
+use Rattle.std.proofs.lemmas.Result.{err_from_is_err_and}
+use Rattle.hayro_ccitt.specs.declared.error.DecodeError.TheVariants.{InvalidCode}
+use Rattle.hayro_ccitt.specs.Answers.{IsFault}
+use Rattle.hayro_ccitt.specs.Bits.{Bits, here}
+use Rattle.hayro_ccitt.specs.EndOfLine.{all_eols}
+use Rattle.hayro_ccitt.specs.Context.{Held}
+use Rattle.hayro_ccitt.specs.PlainReading.{move_group3, lines_of_move_group3, start_group3}
+use Rattle.hayro_ccitt.proofs.Readings.TurnsMoveOn.{left_group3}
+use Rattle.hayro_ccitt.proofs.Readings.RunsOverRows.{comes_first, held_between}
+use Rattle.hayro_ccitt.proofs.Readings.RowsOfGroup3.{by_rows_group3, left_start, fails_group3, misses_group3, ends_group3, next_between_group3, next_shorter_group3}
+use Rattle.hayro_ccitt.proofs.group3.decode_rows.Goals as goal
+
+pub rows-init : goal.rows-init
+rows-init g c =
+    let settings = c.args.ctx.now.held.settings in
+    let bits = c.args.reader.now.bits in
+    let at : here c.args.reader.now ≡ bits = ap (λ (n : ℕ). drop n bits) c.requires.start in
+    let fresh = ap (λ (h : Held). record h { has_eols = ltb 0 (all_eols (here c.args.reader.now)).0 || h.settings.end_of_line }) c.requires.fresh in (
+      record {
+        so_far = start_group3 settings bits;
+        comes = comes_first (move_group3 settings) (lines_of_move_group3 settings) left_group3 (by_rows_group3 settings c.requires.columns) (start_group3 settings bits) refl;
+        held = c.read_leading_eols.ensures.has_eols ∙ fresh
+            ∙ ap (λ (x : Bits). held_between settings (record (start_group3 settings bits) { has_eols = ltb 0 (all_eols x).0 || settings.end_of_line })) at;
+        here = c.read_leading_eols.ensures.rest ∙ ap (λ (x : Bits). (all_eols x).1) at;
+        meaning = refl;
+        refused = refl;
+      },
+      c.read_leading_eols.ensures.same_bits,
+      refl,
+      omega (arith, c.read_leading_eols.ensures.counts),
+    )
+
+pub read_row-requires-clause-rows : goal.read_row-requires-clause-rows
+read_row-requires-clause-rows g c =
+    let (between, same, width, ticks) = c.rows.invariant in
+    let settings = c.args.ctx.now.held.settings in
+    let bits = c.args.reader.now.bits in
+    let taken = ap (λ (h : Held). h.taken) between.held in
+    omega (arith, taken, between.comes.room, left_start settings bits, ap length same)
+
+pub returns-in_err-read_row-clause-reading : goal.returns-in_err-read_row-clause-reading
+returns-in_err-read_row-clause-reading g c =
+    let (between, same, width, ticks) = c.rows.invariant in
+    let settings = c.args.ctx.now.held.settings in
+    let bits = c.args.reader.now.bits in
+    let answer = err_from_is_err_and c.from_residual.result c.from_residual.ensures.1 in
+    let leaves = fails_group3 settings c.requires.columns bits g.D.Decoder.step (g.D.Decoder.width c.args.decoder.now)
+    (record { meaning = g.D.Decoder.meaning c.args.decoder.now; refused = g.D.Decoder.has_refused c.args.decoder.now }) (record { meaning = g.D.Decoder.meaning c.rows.decoder; refused = g.D.Decoder.has_refused c.rows.decoder })
+    c.rows.ctx.held (here c.rows.reader) between (g.D.Decoder.width c.rows.decoder) width
+    (record { meaning = g.D.Decoder.meaning c.read_row.new.decoder; refused = g.D.Decoder.has_refused c.read_row.new.decoder }) c.read_row.new.ctx.held (here c.read_row.new.reader)
+    c.in_err-read_row.field-0.0 c.in_err-read_row.ensures.row in
+    rw (answer.1, answer.2) leaves.0
+
+pub returns-in_err-read_row-clause-short : goal.returns-in_err-read_row-clause-short
+returns-in_err-read_row-clause-short g c =
+    let (between, same, width, ticks) = c.rows.invariant in
+    let settings = c.args.ctx.now.held.settings in
+    let bits = c.args.reader.now.bits in
+    let answer = err_from_is_err_and c.from_residual.result c.from_residual.ensures.1 in
+    let leaves = fails_group3 settings c.requires.columns bits g.D.Decoder.step (g.D.Decoder.width c.args.decoder.now)
+    (record { meaning = g.D.Decoder.meaning c.args.decoder.now; refused = g.D.Decoder.has_refused c.args.decoder.now }) (record { meaning = g.D.Decoder.meaning c.rows.decoder; refused = g.D.Decoder.has_refused c.rows.decoder })
+    c.rows.ctx.held (here c.rows.reader) between (g.D.Decoder.width c.rows.decoder) width
+    (record { meaning = g.D.Decoder.meaning c.read_row.new.decoder; refused = g.D.Decoder.has_refused c.read_row.new.decoder }) c.read_row.new.ctx.held (here c.read_row.new.reader)
+    c.in_err-read_row.field-0.0 c.in_err-read_row.ensures.row in
+    rw (answer.1, answer.2) leaves.1
+
+pub returns-in_err-check_eob-clause-reading : goal.returns-in_err-check_eob-clause-reading
+returns-in_err-check_eob-clause-reading g c =
+    let (between, same, width, ticks) = c.rows.invariant in
+    let settings = c.args.ctx.now.held.settings in
+    let bits = c.args.reader.now.bits in
+    let answer = err_from_is_err_and c.from_residual-in_err-check_eob.result c.from_residual-in_err-check_eob.ensures.1 in
+    let code : c.in_err-check_eob.field-0.0 ≡ InvalidCode = c.in_err-check_eob.ensures.only_code in
+    let leaves = misses_group3 settings c.requires.columns bits g.D.Decoder.step (g.D.Decoder.width c.args.decoder.now)
+    (record { meaning = g.D.Decoder.meaning c.args.decoder.now; refused = g.D.Decoder.has_refused c.args.decoder.now }) (record { meaning = g.D.Decoder.meaning c.rows.decoder; refused = g.D.Decoder.has_refused c.rows.decoder })
+    c.rows.ctx.held (here c.rows.reader) between (g.D.Decoder.width c.rows.decoder) width
+    (record { meaning = g.D.Decoder.meaning c.read_row.new.decoder; refused = g.D.Decoder.has_refused c.read_row.new.decoder }) c.read_row.new.ctx.held (here c.read_row.new.reader)
+    c.in_ok-read_row.ensures.row c.check_eob.new.ctx.held (here c.check_eob.new.reader) c.check_eob.result c.check_eob.ensures.gap c.check_eob.ensures.held c.in_err-check_eob.field-0.0 c.in_err-check_eob.was (subst IsFault (sym code) tt) c.in_err-check_eob.ensures.kept in
+    rw (answer.1, answer.2) leaves.0
+
+pub returns-then-branch-clause-reading : goal.returns-then-branch-clause-reading
+returns-then-branch-clause-reading g c =
+    let (between, same, width, ticks) = c.rows.invariant in
+    let settings = c.args.ctx.now.held.settings in
+    let bits = c.args.reader.now.bits in
+    let is : c.check_eob.result ≡ Ok true = c.in_ok-check_eob.was ∙ ap (λ (b : Bool). Ok b) c.if-branch.true in
+    (ends_group3 settings c.requires.columns bits g.D.Decoder.step (g.D.Decoder.width c.args.decoder.now)
+    (record { meaning = g.D.Decoder.meaning c.args.decoder.now; refused = g.D.Decoder.has_refused c.args.decoder.now }) (record { meaning = g.D.Decoder.meaning c.rows.decoder; refused = g.D.Decoder.has_refused c.rows.decoder })
+    c.rows.ctx.held (here c.rows.reader) between (g.D.Decoder.width c.rows.decoder) width
+    (record { meaning = g.D.Decoder.meaning c.read_row.new.decoder; refused = g.D.Decoder.has_refused c.read_row.new.decoder }) c.read_row.new.ctx.held (here c.read_row.new.reader)
+    c.in_ok-read_row.ensures.row c.check_eob.new.ctx.held (here c.check_eob.new.reader) c.check_eob.result c.check_eob.ensures.gap c.check_eob.ensures.held is (c.in_ok-check_eob.ensures.given_up c.if-branch.true)).0
+
+pub rows-smaller : goal.rows-smaller
+rows-smaller g c =
+    let (between, same, width, ticks) = c.rows.invariant in
+    let settings = c.args.ctx.now.held.settings in
+    let bits = c.args.reader.now.bits in
+    let is : c.check_eob.result ≡ Ok false = c.in_ok-check_eob.was ∙ ap (λ (b : Bool). Ok b) c.if-branch.false in
+    next_shorter_group3 settings c.requires.columns bits g.D.Decoder.step (g.D.Decoder.width c.args.decoder.now)
+    (record { meaning = g.D.Decoder.meaning c.args.decoder.now; refused = g.D.Decoder.has_refused c.args.decoder.now }) (record { meaning = g.D.Decoder.meaning c.rows.decoder; refused = g.D.Decoder.has_refused c.rows.decoder })
+    c.rows.ctx.held (here c.rows.reader) between (g.D.Decoder.width c.rows.decoder) width
+    (record { meaning = g.D.Decoder.meaning c.read_row.new.decoder; refused = g.D.Decoder.has_refused c.read_row.new.decoder }) c.read_row.new.ctx.held (here c.read_row.new.reader)
+    c.in_ok-read_row.ensures.row c.check_eob.new.ctx.held (here c.check_eob.new.reader) c.check_eob.result c.check_eob.ensures.gap c.check_eob.ensures.held is
+
+pub rows-preserved : goal.rows-preserved
+rows-preserved g c =
+    let (between, same, width, ticks) = c.rows.invariant in
+    let settings = c.args.ctx.now.held.settings in
+    let bits = c.args.reader.now.bits in
+    let is : c.check_eob.result ≡ Ok false = c.in_ok-check_eob.was ∙ ap (λ (b : Bool). Ok b) c.if-branch.false in
+    let next = next_between_group3 settings c.requires.columns bits g.D.Decoder.step (g.D.Decoder.width c.args.decoder.now)
+    (record { meaning = g.D.Decoder.meaning c.args.decoder.now; refused = g.D.Decoder.has_refused c.args.decoder.now }) (record { meaning = g.D.Decoder.meaning c.rows.decoder; refused = g.D.Decoder.has_refused c.rows.decoder })
+    c.rows.ctx.held (here c.rows.reader) between (g.D.Decoder.width c.rows.decoder) width
+    (record { meaning = g.D.Decoder.meaning c.read_row.new.decoder; refused = g.D.Decoder.has_refused c.read_row.new.decoder }) c.read_row.new.ctx.held (here c.read_row.new.reader)
+    c.in_ok-read_row.ensures.row c.check_eob.new.ctx.held (here c.check_eob.new.reader) c.check_eob.result c.check_eob.ensures.gap c.check_eob.ensures.held is in
+    (next, c.check_eob.ensures.same_bits ∙ c.read_row.ensures.same_bits ∙ same, c.read_row.ensures.width ∙ width, omega (arith, ticks, c.read_row.ensures.counts, c.check_eob.ensures.counts))

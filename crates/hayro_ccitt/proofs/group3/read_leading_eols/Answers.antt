@@ -1,0 +1,17 @@
+use Rattle.std.proofs.Common.{ℕ, length, ap, arith}
+use Rattle.hayro_ccitt.specs.Bits.{Bits, here}
+use Rattle.hayro_ccitt.specs.Context.{Context}
+use Rattle.hayro_ccitt.proofs.Readings.TurnsMoveOn.{eols_shorter}
+use Rattle.hayro_ccitt.proofs.group3.read_leading_eols.Goals as goal
+
+pub returns-clause-counts : goal.returns-clause-counts
+returns-clause-counts c =
+    let left = eols_shorter (length (here c.args.reader.now)) (here c.args.reader.now) in
+    omega (
+      arith,
+      left,
+      c.ticks.ensures.value,
+      c.read_eol_if_available-count.ensures.ticks,
+      ap (λ (f : ℕ × Bits). length f.1) c.read_eol_if_available-count.ensures.eols,
+      ap (λ (x : Context). x.ticks) c.set_has_eols.ensures.frame,
+    )

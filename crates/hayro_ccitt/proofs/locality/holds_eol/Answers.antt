@@ -1,0 +1,42 @@
+use Rattle.std.proofs.Common.{◌≡◌, ℕ, ◌-◌, length, drop, None, sym, ap, ◌∙◌, arith}
+use Rattle.hayro_ccitt.specs.Bits.{Bits, BitsAt, bits_of, here}
+use Rattle.hayro_ccitt.specs.EndOfLine.{after_eol, next_eol}
+use Rattle.hayro_ccitt.proofs.BitReading.BitLists.{length-bits_of}
+use Rattle.hayro_ccitt.proofs.DamagedLines.BodyTests.{no_eol_in_front, eol_by_ends, eol_found_stands}
+use Rattle.hayro_ccitt.proofs.locality.holds_eol.Goals as goal
+
+pub returns-then-not-skip_to_eol : goal.returns-then-not-skip_to_eol
+returns-then-not-skip_to_eol c =
+    let at = ap (λ (at : BitsAt). next_eol (here at)) c.starting_at-reader.ensures in
+    let next = rw c.if-not-skip_to_eol.true at c.skip_to_eol.ensures.next in
+    sym (no_eol_in_front (c.args.to - c.args.from) (drop c.args.from (bits_of c.args.data.now)) (sym at ∙ next))
+
+pub end_of_eol-requires-clause-within : goal.end_of_eol-requires-clause-within
+end_of_eol-requires-clause-within c =
+    let same = c.skip_to_eol.ensures.same_bits ∙ ap (λ (at : BitsAt). at.bits) c.starting_at-reader.ensures in
+    omega (arith, c.bit_pos.ensures.place, c.bit_pos.ensures.within, ap length same, length-bits_of c.args.data.now)
+
+pub returns-in-Some : goal.returns-in-Some
+returns-in-Some c =
+    let bits = bits_of c.args.data.now in
+    let at = ap (λ (at : BitsAt). next_eol (here at)) c.starting_at-reader.ensures in
+    let next = rw c.if-not-skip_to_eol.false at c.skip_to_eol.ensures.next in
+    let same = c.skip_to_eol.ensures.same_bits ∙ ap (λ (at : BitsAt). at.bits) c.starting_at-reader.ensures in
+    let found : here c.skip_to_eol.new.self ≡ drop c.bit_pos.result bits = ap (λ (b : Bits). drop c.skip_to_eol.new.self.place b) same
+    ∙ ap (λ (n : ℕ). drop n bits) (sym c.bit_pos.ensures.place) in
+    let eol = rw c.in-Some.is at c.end_of_eol.ensures.end in
+    let within = rw c.in-Some.is at c.end_of_eol.ensures.within in
+    sym (eol_by_ends bits c.args.from c.args.to c.in-Some.end (here c.skip_to_eol.new.self) c.requires.order
+    (omega (arith, c.requires.within, length-bits_of c.args.data.now)) (omega (arith, within, length-bits_of c.args.data.now)) (sym at ∙ next)
+    (ap (after_eol 0) found ∙ eol))
+
+pub returns-in-None : goal.returns-in-None
+returns-in-None c =
+    let bits = bits_of c.args.data.now in
+    let next = rw c.if-not-skip_to_eol.false at c.skip_to_eol.ensures.next in
+    let same = c.skip_to_eol.ensures.same_bits ∙ ap (λ (at : BitsAt). at.bits) c.starting_at-reader.ensures in
+    let found : here c.skip_to_eol.new.self ≡ drop c.bit_pos.result bits = ap (λ (b : Bits). drop c.skip_to_eol.new.self.place b) same
+    ∙ ap (λ (n : ℕ). drop n bits) (sym c.bit_pos.ensures.place) in
+    let none = rw c.in-None.is at c.end_of_eol.ensures.end in
+    let nothing : after_eol 0 (here c.skip_to_eol.new.self) ≡ None = ap (after_eol 0) found ∙ none in
+    absurd (eol_found_stands (here c.starting_at-reader.result) (here c.skip_to_eol.new.self) next nothing)

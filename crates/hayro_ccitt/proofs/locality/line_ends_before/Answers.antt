@@ -1,0 +1,55 @@
+use Rattle.std.proofs.Common.{◌≡◌, ◌≢◌, ℕ, ◌≤◌, false, length, drop, Err, refl, sym, ap, subst, ◌∙◌, arith}
+use Rattle.hayro_ccitt.specs.declared.error.DecodeError.TheVariants.{OutOfMemory}
+use Rattle.std.proofs.lemmas.Bool.{false≢true}
+use Rattle.hayro_ccitt.specs.Answers.{DrawsLine}
+use Rattle.hayro_ccitt.specs.Bits.{Bits, BitsAt, bits_of, here}
+use Rattle.hayro_ccitt.specs.Context.{Context}
+use Rattle.hayro_ccitt.specs.Lines.{Line, line_1d}
+use Rattle.hayro_ccitt.proofs.BitReading.BitLists.{length-bits_of}
+use Rattle.hayro_ccitt.proofs.DamagedLines.BodyTests.{lenient_line, whole_ends, broken_ends}
+use Rattle.hayro_ccitt.proofs.DrawingLines.DrawnLines.{memory_has_black}
+use Rattle.hayro_ccitt.proofs.locality.line_ends_before.Goals as goal
+
+pub overflow_add-result : goal.overflow_add-result
+overflow_add-result c =
+    let same = c.decode_1d_line.ensures.same_bits ∙ ap (λ (at : BitsAt). at.bits) c.starting_at-reader.ensures in
+    omega (arith, c.bit_pos.ensures.place, c.bit_pos.ensures.within, ap length same, length-bits_of c.args.data.now, c.requires.fit)
+
+pub returns-in-Ok-clause-before : goal.returns-in-Ok-clause-before
+returns-in-Ok-clause-before c =
+    let bits = bits_of c.args.data.now in
+    let same = c.decode_1d_line.ensures.same_bits ∙ ap (λ (at : BitsAt). at.bits) c.starting_at-reader.ensures in
+    let line = lenient_line c.reset.new.self.held c.args.ctx.now.held.settings c.starting_at-reader.result (drop c.args.from bits)
+    (ap (λ (ctx : Context). ctx.held) c.reset.ensures.frame) c.requires.lenient (ap (λ (at : BitsAt). here at) c.starting_at-reader.ensures) in
+    let drawn = rw c.in-Ok.is at c.decode_1d_line.ensures.line in
+    let rest : here c.decode_1d_line.new.reader ≡ drop c.bit_pos.result bits = ap (λ (b : Bits). drop c.decode_1d_line.new.reader.place b) same
+    ∙ ap (λ (n : ℕ). drop n bits) (sym c.bit_pos.ensures.place) in
+    let within : c.bit_pos.result ≤ length bits = omega (arith, c.bit_pos.ensures.within, ap length same) in
+    whole_ends c.args.ctx.now.held.settings.columns c.bit_pos.result c.args.end bits (drop c.args.from bits) (here c.decode_1d_line.new.reader)
+    c.decode_1d_line.new.ctx.held.front (sym line ∙ drawn) rest within (omega (arith, c.requires.within, length-bits_of c.args.data.now))
+
+pub returns-in-Err-clause-memory : goal.returns-in-Err-clause-memory
+returns-in-Err-clause-memory c =
+    let bits = bits_of c.args.data.now in
+    let line = lenient_line c.reset.new.self.held c.args.ctx.now.held.settings c.starting_at-reader.result (drop c.args.from bits)
+    (ap (λ (ctx : Context). ctx.held) c.reset.ensures.frame) c.requires.lenient (ap (λ (at : BitsAt). here at) c.starting_at-reader.ensures) in
+    let wants = c.wants_memory.ensures.0 c.if-wants_memory.true in
+    let draws = rw (c.in-Err.is, wants) at c.decode_1d_line.ensures.line in
+    let front = c.decode_1d_line.new.ctx.held.front in
+    let rest = here c.decode_1d_line.new.reader in
+    λ e. memory_has_black (line_1d false c.args.ctx.now.held.settings.columns (drop c.args.from bits)) front rest
+    (subst (λ (l : Line). DrawsLine l (Err OutOfMemory) front rest) line draws)
+
+pub returns-in-Err-2-clause-before : goal.returns-in-Err-2-clause-before
+returns-in-Err-2-clause-before c =
+    let bits = bits_of c.args.data.now in
+    let line = lenient_line c.reset.new.self.held c.args.ctx.now.held.settings c.starting_at-reader.result (drop c.args.from bits)
+    (ap (λ (ctx : Context). ctx.held) c.reset.ensures.frame) c.requires.lenient (ap (λ (at : BitsAt). here at) c.starting_at-reader.ensures) in
+    let draws = rw c.in-Err.is at c.decode_1d_line.ensures.line in
+    let front = c.decode_1d_line.new.ctx.held.front in
+    let rest = here c.decode_1d_line.new.reader in
+    let other : c.in-Err.error ≢ OutOfMemory = λ e. false≢true (sym c.if-wants_memory.false ∙ c.wants_memory.ensures.1 e) in (
+      λ test. broken_ends c.args.ctx.now.held.settings.columns (drop c.args.end bits) (drop c.args.from bits) rest front c.in-Err.error other
+          (subst (λ (l : Line). DrawsLine l (Err c.in-Err.error) front rest) line draws),
+      λ ends. refl,
+    )

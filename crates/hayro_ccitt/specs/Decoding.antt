@@ -1,0 +1,71 @@
+-- What decoding leaves: in the sink, in the context, and of the reading.
+use Rattle.std.specs.Prelude.{◌≡◌, ◌≢◌, ◌≤◌, ◌<◌, ℕ, ◌+◌, Bool, true, false, List, [], length, take, Result, Ok, Err, OnOk, OnErr, IfOk, IfErr, IsOk}
+use Rattle.hayro_ccitt.specs.declared.codes.Color.TheVariants.{White}
+use Rattle.hayro_ccitt.specs.declared.error.DecodeError.{DecodeError}
+use Rattle.hayro_ccitt.specs.declared.error.DecodeError.TheVariants.{OutOfMemory, Refused}
+use Rattle.hayro_ccitt.specs.Answers.{IsFault, OnAnswer, HasBlack, PaintsBlack, front_of, meaning_after}
+use Rattle.hayro_ccitt.specs.Bits.{Bits}
+use Rattle.hayro_ccitt.specs.Context.{Held, redrawn}
+use Rattle.hayro_ccitt.specs.Lines.{Line}
+use Rattle.hayro_ccitt.specs.PlainReading.{Gap}
+use Rattle.hayro_ccitt.specs.Rows.{Row, changes}
+
+-- what a sink means, and whether it has refused a row
+pub record SinkState (M : Type 0) : Type 0 where
+  pub meaning : M
+  pub refused : Bool
+
+-- ---- Whole data: the words of the contract of `decode`, and of the drivers' behind it
+
+-- What was taken and answered, where a reading has these rows, ends so and leaves this of its EOLs: the first of its rows
+-- were taken, each as its changes, and all of them unless memory was wanted or a row was refused.
+pub record TakesRows {M A : Type 0} (rows : List Row) (outcome : Result A DecodeError) (sought : Bool) (step : M → List ℕ → M) (before after : SinkState M) (held : Held) (answer : Result A DecodeError) : Type 0 where
+  pub taken : held.taken ≤ length rows
+  pub meaning : after.meaning ≡ meaning_after step before.meaning (take held.taken rows)
+  pub all : OnAnswer answer (held.taken ≡ length rows)
+  pub ok : IfOk answer (λ a. outcome ≡ Ok a)
+  pub fault : IfErr answer (λ e. IsFault e → outcome ≡ Err e)
+  pub has_eols : OnAnswer answer (held.has_eols ≡ sought)
+
+-- When less was taken: memory is wanted only in a line that paints a black pixel, a row is refused only where there is
+-- one, and then alone the sink says that it has refused.
+pub record StopsShort {M A : Type 0} (rows : List Row) (lines : List Line) (before after : SinkState M) (held : Held) (answer : Result A DecodeError) : Type 0 where
+  pub memory : answer ≡ Err OutOfMemory → PaintsBlack lines held.taken
+  pub refused : answer ≡ Err Refused → held.taken < length rows
+  pub flag : answer ≡ Err Refused → after.refused ≡ true
+  pub no_flag : answer ≢ Err Refused → after.refused ≡ before.refused
+
+-- ---- One turn: what no reader has to believe, the contracts of private calls
+
+-- a call that answers nothing but that it went well, with the bits that it left
+abbrev pub leaving : Result (Unit {0}) DecodeError → Bits → Result Bits DecodeError
+leaving (Ok x) rest = Ok rest
+leaving (Err e) rest = Err e
+
+-- what a call says of a gap: that it is over, or a line stands here, and whether EOLs are sought
+abbrev pub gap_said : Result Bool DecodeError → Bool → Bits → Gap
+gap_said (Ok over) has_eols rest = elim over [ true ↦ Gap.over (Ok rest) | false ↦ Gap.line_at has_eols rest ]
+gap_said (Err e) has_eols rest = Gap.over (Err e)
+
+-- the context where one more row was taken
+abbrev pub with_row_taken : Held → Row → Held
+with_row_taken h row =
+    record { reference = row; front = []; color = White; taken = h.taken + 1; has_eols = h.has_eols; settings = h.settings }
+
+-- a row was taken, and these bits stand behind it
+pub record RowIsTaken {M : Type 0} (row : Result (Row × Bits) DecodeError) (step : M → List ℕ → M) (before after : SinkState M) (old new : Held) (rest : Bits) : Type 0 where
+  pub taken : Row
+  pub is : row ≡ Ok (taken, rest)
+  pub held : new ≡ with_row_taken old taken
+  pub meaning : after.meaning ≡ step before.meaning (changes taken)
+
+-- What a call leaves that reads a line and hands over its row, where the line comes to this row.
+pub record TakesOneRow {M : Type 0} (line : Line) (row : Result (Row × Bits) DecodeError) (step : M → List ℕ → M) (before after : SinkState M) (old new : Held) (answer : Result (Unit {0}) DecodeError) (rest : Bits) : Type 0 where
+  pub taken : OnOk answer (RowIsTaken row step before after old new rest)
+  pub fault : IfErr answer (λ e. IsFault e → row ≡ Err e)
+  pub kept : OnErr answer (after.meaning ≡ before.meaning)
+  pub held : OnErr answer (new ≡ redrawn old new.front new.color)
+  pub memory : answer ≡ Err OutOfMemory → HasBlack (front_of line)
+  pub refused : answer ≡ Err Refused → IsOk row
+  pub flag : answer ≡ Err Refused → after.refused ≡ true
+  pub no_flag : answer ≢ Err Refused → after.refused ≡ before.refused

@@ -1,0 +1,67 @@
+//! Rows as lists of changes: the places at which a row's colour turns, white at first.
+
+ghost use Rattle.std.specs.Prelude.{◌≡◌, ◌≢◌, ◌+◌, ◌<◌, ◌≤◌, OnOk, OnErr, Err, IsOkUnless, false, length, get_or, ◌++◌, replicate};
+ghost use Rattle.hayro_ccitt.specs.Rows.{AreChanges, pixels, b1, b2, is_black, last_pixel};
+ghost use Rattle.hayro_ccitt.specs.Context.{right_of_painted};
+
+use crate::codes::{Color, Ticks};
+use crate::{DecodeError, Result};
+
+/// The index of b1 among the changes of a reference row, where so many pixels are painted and the next ones have
+/// this colour; b2 is the next change. Each change that is looked at is a tick.
+pub fn b1_index(
+    changes: &[u32],
+    painted: u32,
+    color: Color,
+    columns: u32,
+    ticks: &mut Ticks,
+) -> usize
+    requires { AreChanges columns changes.now }
+    ensures b1 { b1 (pixels columns changes.now) (right_of_painted painted) color
+        ≡ get_or changes.now result columns }
+    ensures b2 { b2 (pixels columns changes.now) (right_of_painted painted) color
+        ≡ get_or changes.now (result + 1) columns }
+    ensures within { result ≤ length changes.now + 1 }
+    ensures counts { ticks.old ≤ ticks.new }
+{
+    let mut index = 0;
+    if painted > 0 {
+        while index < changes.len() && changes[index] <= painted {
+            ticks.tick();
+            index += 1;
+        }
+    }
+    ticks.tick();
+    // A change with an even index turns to black.
+    if index.is_multiple_of(2) != color.is_white() {
+        index += 1;
+    }
+    index
+}
+
+/// The change of an index, or the row's end where there is none.
+pub fn change_or_end(changes: &[u32], index: usize, columns: u32) -> u32
+    ensures { result ≡ get_or changes.now index columns }
+{
+    changes.get(index).copied().unwrap_or(columns)
+}
+
+/// Adds so many pixels of a colour to the changes of a front, of which so many are painted. A change is stored
+/// only where the last pixel has another colour. After a refusal nothing is changed.
+pub fn append_pixels(changes: &mut Vec<u32>, painted: u32, color: Color, count: u32) -> Result<()>
+    requires { AreChanges painted changes.old.items }
+    ensures lawful { OnOk result (AreChanges (painted + count) changes.new.items) }
+    ensures painted { OnOk result (pixels (painted + count) changes.new.items
+        ≡ pixels painted changes.old.items ++ replicate count (is_black color)) }
+    ensures memory { result ≡ Err DecodeError.OutOfMemory
+        → (0 < count) × (last_pixel false (pixels painted changes.old.items) ≢ is_black color) }
+    ensures only_memory { IsOkUnless result DecodeError.OutOfMemory }
+    ensures unchanged { OnErr result (changes.new.items ≡ changes.old.items) }
+{
+    // The colours of a row alternate, so after an odd number of changes its last pixel is black.
+    let last_is_white = changes.len().is_multiple_of(2);
+    if count > 0 && last_is_white != color.is_white() {
+        changes.push(painted)?;
+    }
+    Ok(())
+}

@@ -1,0 +1,284 @@
+//! Group 3: EOLs stand between the lines, and a damaged line stays in its row (T.4).
+
+ghost use Rattle.std.specs.Prelude.{◌≡◌, ◌≢◌, ◌↔◌, ◌<◌, ◌≤◌, ◌+◌, Err, OnOk, OnErr, IfOk, IsErr, IsOkUnless, IsTrue, true, nat_lt, ◌||◌, [], length};
+ghost use Rattle.hayro_ccitt.specs.Answers.{DrawsLine, IsFault, IsRepairable, RepairStoresChange};
+ghost use Rattle.hayro_ccitt.specs.Bits.{here};
+ghost use Rattle.hayro_ccitt.specs.Context.{after_repair, fresh, redrawn};
+ghost use Rattle.hayro_ccitt.specs.EndOfLine.{all_eols};
+ghost use Rattle.hayro_ccitt.specs.Decoding.{TakesRows, StopsShort, TakesOneRow, leaving, gap_said};
+ghost use Rattle.hayro_ccitt.specs.PlainReading.{plain_group3, lines_by, eols_group3, is_over_group3, gap_group3, row_group3, line_by, line_at_group3};
+
+use crate::bit_reader::BitReader;
+use crate::context::{DecoderContext, decode_1d_line, decode_2d_line};
+use crate::rows::{limit_met, take_row};
+use crate::{DecodeError, Decoder, EncodingMode, Result};
+
+/// Whether an error is the data's, and no want of memory or refusal of the sink.
+fn is_fault(error: DecodeError) -> bool
+    ensures { IsTrue result ↔ IsFault error }
+{
+    matches!(
+        error,
+        DecodeError::UnexpectedEof | DecodeError::InvalidCode | DecodeError::Overflow
+    )
+}
+
+/// What becomes of a line that failed with this error and began at `line_start` (T.4 section 4.1.2). In lenient data
+/// with EOLs, a fault of the data is repaired: the rest of the row is white, and the reader goes back to the line's
+/// start, to look for the next EOL from there. `OutOfMemory` comes then only where a change is stored. Otherwise the
+/// answer is the error itself; want of memory and refusals are never repaired. After an error nothing is changed.
+pub fn recover<'a>(
+    ctx: &mut DecoderContext,
+    reader: &mut BitReader<'a>,
+    line_start: BitReader<'a>,
+    error: DecodeError,
+) -> Result<()>
+    ensures only_damage { OnOk result (IsRepairable ctx.old.held error) }
+    ensures frame { OnOk result (ctx.new ≡ record ctx.old { held = after_repair ctx.old.held }) }
+    ensures put_back { OnOk result (reader.new ≡ line_start.entry) }
+    ensures only_memory { IsRepairable ctx.old.held error → IsOkUnless result DecodeError.OutOfMemory }
+    ensures memory { IsRepairable ctx.old.held error → result ≡ Err DecodeError.OutOfMemory
+        → RepairStoresChange ctx.old.held }
+    ensures otherwise { (IsRepairable ctx.old.held error → ⊥) → result ≡ Err error }
+    ensures unchanged { OnErr result ((ctx.new ≡ ctx.old) × (reader.new ≡ reader.old)) }
+{
+    if ctx.settings().strict || !ctx.has_eols() || !is_fault(error) {
+        return Err(error);
+    }
+    ctx.fill_white()?;
+    *reader = line_start;
+    Ok(())
+}
+
+/// Reads the EOLs that stand here, in two-dimensional data with their tags, and answers how many there were.
+fn read_eols(ctx: &mut DecoderContext, reader: &mut BitReader<'_>) -> usize
+    ensures eols { eols_group3 ctx.old.held.settings (here reader.old) ≡ (result, here reader.new) }
+    ensures same_bits { reader.new.bits ≡ reader.old.bits }
+    ensures held { ctx.new.held ≡ ctx.old.held }
+    ensures counts { ctx.old.ticks ≤ ctx.new.ticks }
+{
+    match ctx.settings().encoding {
+        EncodingMode::Group3_2D => reader.read_tagged_eols(ctx.ticks()),
+        EncodingMode::Group3_1D | EncodingMode::Group4 => reader.read_eol_if_available(ctx.ticks()),
+    }
+}
+
+/// Whether the image ends behind a row, where so many EOLs were counted: at RTC, at the row limit or at the end of
+/// the data.
+fn is_over(ctx: &DecoderContext, reader: &BitReader<'_>, count: usize) -> bool
+    ensures over { result ≡ is_over_group3 ctx.now.held.settings ctx.now.held.taken (count, here reader.now) }
+{
+    let at_rtc = ctx.settings().end_of_block && count >= 6;
+    let at_limit = limit_met(ctx);
+    let at_end = reader.at_end();
+    at_rtc || at_limit || at_end
+}
+
+/// What stands behind a row (T.4 sections 4.1.2 and 4.1.4): counts the EOLs there, and answers whether the image
+/// ends. Where none came although the data has EOLs, the next one is looked for, and where none is left EOLs are
+/// given up; strict data is then at fault, which is `InvalidCode`. It takes no memory.
+pub fn check_eob(ctx: &mut DecoderContext, reader: &mut BitReader<'_>) -> Result<bool>
+    requires encoding { ctx.old.held.settings.encoding ≢ EncodingMode.Group4 }
+    requires some { 0 < ctx.old.held.taken }
+    ensures gap { gap_group3 ctx.old.held.settings ctx.old.held.taken ctx.old.held.has_eols (here reader.old)
+        ≡ gap_said result ctx.new.held.has_eols (here reader.new) }
+    ensures held { ctx.new.held ≡ record ctx.old.held { has_eols = ctx.new.held.has_eols } }
+    ensures given_up { IfOk result (λ over. over ≡ true → ctx.new.held.has_eols ≡ ctx.old.held.has_eols) }
+    ensures kept { OnErr result (ctx.new.held.has_eols ≡ ctx.old.held.has_eols) }
+    ensures only_code { IsOkUnless result DecodeError.InvalidCode }
+    ensures only_strict { OnErr result (ctx.old.held.settings.strict ≡ true) }
+    ensures same_bits { reader.new.bits ≡ reader.old.bits }
+    ensures counts { ctx.old.ticks ≤ ctx.new.ticks }
+{
+    let count = read_eols(ctx, reader);
+    if count > 0 || !ctx.has_eols() || limit_met(ctx) || reader.at_end() {
+        return Ok(is_over(ctx, reader, count));
+    }
+    if ctx.settings().strict {
+        return Err(DecodeError::InvalidCode);
+    }
+    if !reader.skip_to_eol(ctx.ticks()) {
+        ctx.set_has_eols(false);
+        return Ok(false);
+    }
+    let count = read_eols(ctx, reader);
+    Ok(is_over(ctx, reader, count))
+}
+
+/// Decodes a line of the kind that its tag says (T.4 section 4.2.2). A missing tag is `UnexpectedEof`, with nothing
+/// painted.
+fn decode_tagged_line(ctx: &mut DecoderContext, reader: &mut BitReader<'_>) -> Result<()>
+    requires begun { ctx.old.held.front ≡ [] }
+    ensures line { DrawsLine (line_by EncodingMode.Group3_2D ctx.old.held.settings.strict ctx.old.held.settings.columns
+        ctx.old.held.reference (here reader.old)) result ctx.new.held.front (here reader.new) }
+    ensures held { ctx.new.held ≡ redrawn ctx.old.held ctx.new.held.front ctx.new.held.color }
+    ensures same_bits { reader.new.bits ≡ reader.old.bits }
+    ensures counts { ctx.old.ticks ≤ ctx.new.ticks }
+{
+    let tag = reader.read_bit()?;
+    ctx.ticks().tick();
+    if tag == 1 {
+        decode_1d_line(ctx, reader)
+    } else {
+        decode_2d_line(ctx, reader)
+    }
+}
+
+/// Decodes the line that stands here.
+fn decode_line(ctx: &mut DecoderContext, reader: &mut BitReader<'_>) -> Result<()>
+    requires begun { ctx.old.held.front ≡ [] }
+    ensures line { DrawsLine (line_at_group3 ctx.old.held.settings ctx.old.held.reference (here reader.old))
+        result ctx.new.held.front (here reader.new) }
+    ensures held { ctx.new.held ≡ redrawn ctx.old.held ctx.new.held.front ctx.new.held.color }
+    ensures same_bits { reader.new.bits ≡ reader.old.bits }
+    ensures counts { ctx.old.ticks ≤ ctx.new.ticks }
+{
+    match ctx.settings().encoding {
+        EncodingMode::Group3_1D => decode_1d_line(ctx, reader),
+        EncodingMode::Group3_2D => decode_tagged_line(ctx, reader),
+        EncodingMode::Group4 => decode_2d_line(ctx, reader),
+    }
+}
+
+/// Reads a line, repairs it where it is damaged and may be, and hands its row over. The errors are those of the line
+/// that isn't repaired, `OutOfMemory` while a change is stored, and `Refused` where the sink refuses.
+fn read_row<D: Decoder>(
+    ctx: &mut DecoderContext,
+    reader: &mut BitReader<'_>,
+    decoder: &mut D,
+) -> Result<()>
+    requires width { ctx.old.held.settings.columns ≤ D.width decoder.old }
+    requires rows { ctx.old.held.taken ≤ length reader.old.bits + 1 }
+    requires begun { ctx.old.held.front ≡ [] }
+    ensures width { D.width decoder.new ≡ D.width decoder.old }
+    ensures row { TakesOneRow (line_at_group3 ctx.old.held.settings ctx.old.held.reference (here reader.old))
+        (row_group3 ctx.old.held.settings ctx.old.held.has_eols (here reader.old)
+        (line_at_group3 ctx.old.held.settings ctx.old.held.reference (here reader.old)))
+        (D.step (D.width decoder.old))
+        (record { meaning = D.meaning decoder.old; refused = D.has_refused decoder.old })
+        (record { meaning = D.meaning decoder.new; refused = D.has_refused decoder.new })
+        ctx.old.held ctx.new.held result (here reader.new) }
+    ensures same_bits { reader.new.bits ≡ reader.old.bits }
+    ensures counts { ctx.old.ticks ≤ ctx.new.ticks }
+{
+    let line_start = reader.copy();
+    if let Err(error) = decode_line(ctx, reader) {
+        recover(ctx, reader, line_start, error)?;
+    }
+    take_row(ctx, reader, decoder)
+}
+
+/// Reads the EOLs at the front of the data, which have no tags. Any of them, or the settings, say that the data has
+/// EOLs.
+fn read_leading_eols(ctx: &mut DecoderContext, reader: &mut BitReader<'_>)
+    ensures rest { here reader.new ≡ (all_eols (here reader.old)).1 }
+    ensures has_eols { ctx.new.held ≡ record ctx.old.held {
+      has_eols = nat_lt 0 (all_eols (here reader.old)).0 || ctx.old.held.settings.end_of_line;
+    } }
+    ensures same_bits { reader.new.bits ≡ reader.old.bits }
+    ensures counts { ctx.old.ticks ≤ ctx.new.ticks }
+{
+    let count = reader.read_eol_if_available(ctx.ticks());
+    let end_of_line = ctx.settings().end_of_line;
+    ctx.set_has_eols(count > 0 || end_of_line);
+}
+
+/// Decodes the rows of Group 3 data until RTC (with `end_of_block`), the row limit or the end of the data.
+fn decode_rows<D: Decoder>(
+    ctx: &mut DecoderContext,
+    reader: &mut BitReader<'_>,
+    decoder: &mut D,
+) -> Result<()>
+    requires encoding { ctx.old.held.settings.encoding ≢ EncodingMode.Group4 }
+    requires columns { 0 < ctx.old.held.settings.columns }
+    requires fresh { ctx.old.held ≡ fresh ctx.old.held.settings }
+    requires start { reader.old.place ≡ 0 }
+    requires width { ctx.old.held.settings.columns ≤ D.width decoder.old }
+    ensures width { D.width decoder.new ≡ D.width decoder.old }
+    ensures settings { ctx.new.held.settings ≡ ctx.old.held.settings }
+    ensures reading { TakesRows (plain_group3 ctx.old.held.settings reader.old.bits).rows
+        (plain_group3 ctx.old.held.settings reader.old.bits).outcome
+        (plain_group3 ctx.old.held.settings reader.old.bits).has_eols (D.step (D.width decoder.old))
+        (record { meaning = D.meaning decoder.old; refused = D.has_refused decoder.old })
+        (record { meaning = D.meaning decoder.new; refused = D.has_refused decoder.new })
+        ctx.new.held (leaving result (here reader.new)) }
+    ensures short { StopsShort (plain_group3 ctx.old.held.settings reader.old.bits).rows
+        (lines_by EncodingMode.Group3_1D ctx.old.held.settings reader.old.bits)
+        (record { meaning = D.meaning decoder.old; refused = D.has_refused decoder.old })
+        (record { meaning = D.meaning decoder.new; refused = D.has_refused decoder.new })
+        ctx.new.held (leaving result (here reader.new)) }
+    ensures same_bits { reader.new.bits ≡ reader.old.bits }
+    ensures counts { ctx.old.ticks ≤ ctx.new.ticks }
+{
+    read_leading_eols(ctx, reader);
+    'rows: loop {
+        read_row(ctx, reader, decoder)?;
+        if check_eob(ctx, reader)? {
+            return Ok(());
+        }
+    }
+}
+
+/// Decodes the rows of one-dimensional data of Group 3 (T.4 section 4.1) until RTC (with `end_of_block`), the row
+/// limit or the end of the data. The errors are those of a line that isn't repaired, `InvalidCode` where strict data
+/// misses an EOL, and `Refused` where the sink refuses a row.
+pub fn decode_1d<D: Decoder>(
+    ctx: &mut DecoderContext,
+    reader: &mut BitReader<'_>,
+    decoder: &mut D,
+) -> Result<()>
+    requires encoding { ctx.old.held.settings.encoding ≡ EncodingMode.Group3_1D }
+    requires columns { 0 < ctx.old.held.settings.columns }
+    requires fresh { ctx.old.held ≡ fresh ctx.old.held.settings }
+    requires start { reader.old.place ≡ 0 }
+    requires width { ctx.old.held.settings.columns ≤ D.width decoder.old }
+    ensures width { D.width decoder.new ≡ D.width decoder.old }
+    ensures settings { ctx.new.held.settings ≡ ctx.old.held.settings }
+    ensures reading { TakesRows (plain_group3 ctx.old.held.settings reader.old.bits).rows
+        (plain_group3 ctx.old.held.settings reader.old.bits).outcome
+        (plain_group3 ctx.old.held.settings reader.old.bits).has_eols (D.step (D.width decoder.old))
+        (record { meaning = D.meaning decoder.old; refused = D.has_refused decoder.old })
+        (record { meaning = D.meaning decoder.new; refused = D.has_refused decoder.new })
+        ctx.new.held (leaving result (here reader.new)) }
+    ensures short { StopsShort (plain_group3 ctx.old.held.settings reader.old.bits).rows
+        (lines_by EncodingMode.Group3_1D ctx.old.held.settings reader.old.bits)
+        (record { meaning = D.meaning decoder.old; refused = D.has_refused decoder.old })
+        (record { meaning = D.meaning decoder.new; refused = D.has_refused decoder.new })
+        ctx.new.held (leaving result (here reader.new)) }
+    ensures same_bits { reader.new.bits ≡ reader.old.bits }
+    ensures counts { ctx.old.ticks ≤ ctx.new.ticks }
+{
+    decode_rows(ctx, reader, decoder)
+}
+
+/// Decodes the rows of two-dimensional data of Group 3 (T.4 section 4.2), each behind its tag, until RTC (with
+/// `end_of_block`), the row limit or the end of the data. The errors are those of a line that isn't repaired,
+/// `InvalidCode` where strict data misses an EOL, and `Refused` where the sink refuses a row.
+pub fn decode_2d<D: Decoder>(
+    ctx: &mut DecoderContext,
+    reader: &mut BitReader<'_>,
+    decoder: &mut D,
+) -> Result<()>
+    requires encoding { ctx.old.held.settings.encoding ≡ EncodingMode.Group3_2D }
+    requires columns { 0 < ctx.old.held.settings.columns }
+    requires fresh { ctx.old.held ≡ fresh ctx.old.held.settings }
+    requires start { reader.old.place ≡ 0 }
+    requires width { ctx.old.held.settings.columns ≤ D.width decoder.old }
+    ensures width { D.width decoder.new ≡ D.width decoder.old }
+    ensures settings { ctx.new.held.settings ≡ ctx.old.held.settings }
+    ensures reading { TakesRows (plain_group3 ctx.old.held.settings reader.old.bits).rows
+        (plain_group3 ctx.old.held.settings reader.old.bits).outcome
+        (plain_group3 ctx.old.held.settings reader.old.bits).has_eols (D.step (D.width decoder.old))
+        (record { meaning = D.meaning decoder.old; refused = D.has_refused decoder.old })
+        (record { meaning = D.meaning decoder.new; refused = D.has_refused decoder.new })
+        ctx.new.held (leaving result (here reader.new)) }
+    ensures short { StopsShort (plain_group3 ctx.old.held.settings reader.old.bits).rows
+        (lines_by EncodingMode.Group3_2D ctx.old.held.settings reader.old.bits)
+        (record { meaning = D.meaning decoder.old; refused = D.has_refused decoder.old })
+        (record { meaning = D.meaning decoder.new; refused = D.has_refused decoder.new })
+        ctx.new.held (leaving result (here reader.new)) }
+    ensures same_bits { reader.new.bits ≡ reader.old.bits }
+    ensures counts { ctx.old.ticks ≤ ctx.new.ticks }
+{
+    decode_rows(ctx, reader, decoder)
+}

@@ -1,0 +1,140 @@
+//! Whether damage to a line stays in that line.
+
+ghost use Rattle.std.specs.Prelude.{◌≡◌, ◌≢◌, ◌-◌, ◌*◌, ◌≤◌, ◌⊎◌, ◌↔◌, Err, Some, IsTrue, IfOk, IfSome, IsOkUnless, is_some, option_map, false, length, take, drop, replicate};
+ghost use Rattle.hayro_ccitt.specs.Answers.{HasBlack, front_of};
+ghost use Rattle.hayro_ccitt.specs.Bits.{BitsFit, bits_of};
+ghost use Rattle.hayro_ccitt.specs.EndOfLine.{after_eol, next_eol};
+ghost use Rattle.hayro_ccitt.specs.Lines.{line_1d};
+ghost use Rattle.hayro_ccitt.specs.Locality.{IsLocal, EndsBefore};
+
+use crate::bit_reader::BitReader;
+use crate::codes::Ticks;
+use crate::context::{DecoderContext, decode_1d_line};
+use crate::{DecodeError, DecodeSettings, EncodingMode, Result};
+
+/// Whether these settings are those of lenient one-dimensional data of Group 3.
+fn is_lenient_1d(settings: DecodeSettings) -> bool
+    ensures { IsTrue result ↔ ((settings.encoding ≡ EncodingMode.Group3_1D) × (settings.strict ≡ false)) }
+{
+    matches!(settings.encoding, EncodingMode::Group3_1D) && !settings.strict
+}
+
+/// Whether an error is want of memory.
+fn wants_memory(error: DecodeError) -> bool
+    ensures { IsTrue result ↔ (error ≡ DecodeError.OutOfMemory) }
+{
+    matches!(error, DecodeError::OutOfMemory)
+}
+
+/// Whether an EOL ends at a place, or the data begin there.
+fn is_behind_eol(data: &[u8], place: usize) -> bool
+    requires fit { BitsFit «data».now }
+    requires within { place ≤ 8 * length «data».now }
+    ensures { IsTrue result ↔ ((place ≡ 0) ⊎ ((12 ≤ place)
+        × (after_eol 0 (drop (place - 12) (bits_of «data».now)) ≡ Some (drop place (bits_of «data».now))))) }
+{
+    if place < 12 {
+        return place == 0;
+    }
+    let before = BitReader::starting_at(data, place - 12);
+    let (zeros, after) = before.zero_run(&mut Ticks::new());
+    match after {
+        Some(_) => zeros == 11,
+        None => false,
+    }
+}
+
+/// Whether a one stands between two places.
+fn holds_one(data: &[u8], from: usize, to: usize) -> bool
+    requires fit { BitsFit «data».now }
+    requires order { from ≤ to }
+    requires within { to ≤ 8 * length «data».now }
+    ensures { IsTrue result
+        ↔ (take (to - from) (drop from (bits_of «data».now)) ≢ replicate (to - from) false) }
+{
+    let (zeros, _) = BitReader::starting_at(data, from).zero_run(&mut Ticks::new());
+    zeros < to - from
+}
+
+/// The place behind the EOL that stands at a place.
+fn end_of_eol(data: &[u8], place: usize) -> Option<usize>
+    requires fit { BitsFit «data».now }
+    requires within { place ≤ 8 * length «data».now }
+    ensures end { after_eol 0 (drop place (bits_of «data».now))
+        ≡ option_map (λ end. drop end (bits_of «data».now)) result }
+    ensures within { IfSome result (λ end. end ≤ 8 * length «data».now) }
+{
+    let mut reader = BitReader::starting_at(data, place);
+    if reader.read_eols(1, &mut Ticks::new()) == 0 {
+        return None;
+    }
+    Some(reader.bit_pos())
+}
+
+/// Whether an EOL stands between two places.
+fn holds_eol(data: &[u8], from: usize, to: usize) -> bool
+    requires fit { BitsFit «data».now }
+    requires order { from ≤ to }
+    requires within { to ≤ 8 * length «data».now }
+    ensures { result ≡ is_some (next_eol (take (to - from) (drop from (bits_of «data».now)))) }
+{
+    let mut reader = BitReader::starting_at(data, from);
+    if !reader.skip_to_eol(&mut Ticks::new()) {
+        return false;
+    }
+    match end_of_eol(data, reader.bit_pos()) {
+        Some(end) => end <= to,
+        None => false,
+    }
+}
+
+/// Whether the line at a place ends at least twelve bits before another place, where it is whole. `OutOfMemory`
+/// comes only where the line paints a black pixel.
+fn line_ends_before(data: &[u8], ctx: &mut DecoderContext, from: usize, end: usize) -> Result<bool>
+    requires fit { BitsFit «data».now }
+    requires from { from ≤ 8 * length «data».now }
+    requires within { end ≤ 8 * length «data».now }
+    requires lenient { ctx.old.held.settings.strict ≡ false }
+    ensures before { IfOk result (λ before. IsTrue before
+        ↔ EndsBefore ctx.old.held.settings.columns (drop end (bits_of «data».now)) (drop from (bits_of «data».now))) }
+    ensures memory { result ≡ Err DecodeError.OutOfMemory
+        → HasBlack (front_of (line_1d false ctx.old.held.settings.columns (drop from (bits_of «data».now)))) }
+    ensures only_memory { IsOkUnless result DecodeError.OutOfMemory }
+    ensures settings { ctx.new.held.settings ≡ ctx.old.held.settings }
+{
+    ctx.reset();
+    let mut reader = BitReader::starting_at(data, from);
+    match decode_1d_line(ctx, &mut reader) {
+        Ok(()) => Ok(reader.bit_pos() + 12 <= end),
+        Err(error) if wants_memory(error) => Err(error),
+        Err(_) => Ok(true), // A broken line has no end.
+    }
+}
+
+/// Whether damage to the bits from `from` to `to` stays in one line: in lenient one-dimensional data of Group 3 they
+/// are the body of a line (T.4 section 4.1). An EOL ends at `from`, or it is 0; the bits hold a one and no EOL; at
+/// `to` an EOL stands; and the line that is read at `from`, with the context's `columns`, is broken or ends before the
+/// last twelve bits of that EOL. Places are counted in bits; where they are out of range or order, and with other
+/// settings, the answer is false.
+///
+/// `OutOfMemory` comes only while a change of the line is stored, so where it paints a black pixel. The settings stay;
+/// what else the context holds isn't said, and it may be used again.
+pub fn body_is_local(data: &[u8], ctx: &mut DecoderContext, from: usize, to: usize) -> Result<bool>
+    requires fit { BitsFit «data».now }
+    ensures local { IfOk result (λ local. IsTrue local ↔ IsLocal ctx.old.held.settings (bits_of «data».now) from to) }
+    ensures memory { result ≡ Err DecodeError.OutOfMemory
+        → HasBlack (front_of (line_1d false ctx.old.held.settings.columns (drop from (bits_of «data».now)))) }
+    ensures only_memory { IsOkUnless result DecodeError.OutOfMemory }
+    ensures settings { ctx.new.held.settings ≡ ctx.old.held.settings }
+{
+    if !is_lenient_1d(ctx.settings()) || from > to || to > data.len() * 8 {
+        return Ok(false);
+    }
+    if !is_behind_eol(data, from) || !holds_one(data, from, to) || holds_eol(data, from, to) {
+        return Ok(false);
+    }
+    match end_of_eol(data, to) {
+        Some(end) => line_ends_before(data, ctx, from, end),
+        None => Ok(false),
+    }
+}

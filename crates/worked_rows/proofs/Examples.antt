@@ -1,0 +1,212 @@
+-- The examples.
+use Rattle.std.proofs.Common.{◌≡◌, ℕ, ◌+◌, ◌≤◌, true, false, [], ◌∷◌, length, Result, Ok, Err, refl, sym, ap, subst, ◌∙◌, arith, ◌⊎◌, inl, inr}
+use Rattle.std.specs.Prelude.{pos, negsuc}
+use Rattle.std.proofs.lemmas.List.Elements.{All-cons}
+use Rattle.hayro_ccitt.specs.declared.codes.Color.TheVariants.{White}
+use Rattle.hayro_ccitt.specs.declared.error.DecodeError.{DecodeError}
+use Rattle.hayro_ccitt.specs.Bits.{Bits, bits_of}
+use Rattle.hayro_ccitt.specs.Rows.{Row, pixels}
+use Rattle.hayro_ccitt.specs.Lines.{Line}
+use Rattle.hayro_ccitt.specs.Encodings.{Spells, EncodesLine1D, EncodesLine2D}
+use Rattle.worked_rows.specs.Examples.{hex, EncodesTwoLines, EncodesTaggedRows, with_eols, three_rows, bits_changed, bits_added, words_added, group3_1d, HaveLocalBodies, ReadsDamage, LimitBehindTheBody}
+use Rattle.hayro_ccitt.specs.Locality.{IsLocal, IsLocalByTests, ComesToLine, EndAlike}
+use Rattle.hayro_ccitt.specs.Repetition.{Turn, Reaches}
+use Rattle.hayro_ccitt.specs.PlainReading.{Progress, Move, start_group3, move_group3}
+use Rattle.hayro_ccitt.specs.declared.settings.DecodeSettings.{DecodeSettings}
+use Rattle.hayro_ccitt.proofs.DamagedLines.LocalByTests.{local_by_tests}
+
+pub two_lines_encoded : EncodesTwoLines
+two_lines_encoded = (
+  false ∷ false ∷ true ∷ true ∷ true ∷ false ∷ false ∷ false ∷ true ∷ false ∷ true ∷ [],
+  _,
+  EncodesLine2D.horizontal 0 (false ∷ false ∷ true ∷ []) (omega arith) (inr (inl (refl, refl)))
+      (Spells.terminating 5 (true ∷ true ∷ false ∷ false ∷ []) (inr (inr (inr (inr (inr (inl (refl, refl))))))) (omega arith))
+      (Spells.terminating 1 (false ∷ true ∷ false ∷ []) (inr (inl (refl, refl))) (omega arith))
+      (EncodesLine2D.vertical 7 (true ∷ []) (pos 0) (omega arith) (inr (inr (inl (refl, refl)))) refl EncodesLine2D.over),
+  (
+    false ∷ false ∷ false ∷ false ∷ false ∷ true ∷ false ∷ false ∷ false ∷ false ∷ false ∷ false ∷ true ∷ false ∷ true ∷ true ∷ true ∷ [],
+    [],
+    EncodesLine2D.vertical 0 (false ∷ false ∷ false ∷ false ∷ false ∷ true ∷ false ∷ []) (negsuc 2) (omega arith)
+        (inr (inr (inr (inr (inr (inr (inr (inr (inl (refl, refl)))))))))) refl
+        (EncodesLine2D.vertical 3 (false ∷ false ∷ false ∷ false ∷ false ∷ true ∷ false ∷ []) (negsuc 2) (omega arith)
+        (inr (inr (inr (inr (inr (inr (inr (inr (inl (refl, refl)))))))))) refl
+        (EncodesLine2D.vertical 4 (true ∷ []) (pos 0) (omega arith) (inr (inr (inl (refl, refl)))) refl
+        (EncodesLine2D.vertical 6 (true ∷ []) (pos 0) (omega arith) (inr (inr (inl (refl, refl)))) refl
+        (EncodesLine2D.vertical 7 (true ∷ []) (pos 0) (omega arith) (inr (inr (inl (refl, refl)))) refl EncodesLine2D.over)))),
+    refl,
+    refl,
+  ),
+  refl,
+)
+
+eight_white : EncodesLine1D White (pixels 8 []) (true ∷ false ∷ false ∷ true ∷ true ∷ [])
+eight_white = EncodesLine1D.run 8 (true ∷ false ∷ false ∷ true ∷ true ∷ [])
+    (Spells.terminating 8 (true ∷ false ∷ false ∷ true ∷ true ∷ []) (inr (inr (inr (inr (inr (inr (inr (inr (inl (refl, refl)))))))))) (omega arith))
+    (omega arith) (λ rest e. absurd cc) EncodesLine1D.over
+
+pub tagged_rows_encoded : EncodesTaggedRows
+tagged_rows_encoded = (
+  _,
+  _,
+  omega arith,
+  (
+    omega arith,
+    All-cons (λ row. length row ≡ 8) (pixels 8 []) (pixels 8 [] ∷ []) refl
+        (All-cons (λ row. length row ≡ 8) (pixels 8 []) [] refl (λ k d lt. absurd (omega arith))),
+  ),
+  (
+    0,
+    _,
+    _,
+    (_, inl (refl, eight_white)),
+    (
+      0,
+      _,
+      [],
+      (
+        true ∷ [],
+        inr (
+          refl,
+          EncodesLine2D.vertical 0 (true ∷ []) (pos 0) (omega arith)
+              (inr (inr (inl (refl, refl)))) refl EncodesLine2D.over,
+        ),
+      ),
+      refl,
+      refl,
+    ),
+    refl,
+  ),
+  (0, _, (0, _, (0, _, (0, _, (0, _, (0, [], refl, refl), refl), refl), refl), refl), refl),
+  refl,
+)
+
+-- what a line that is whole, or broken, leaves
+whole_stays : (n : ℕ) (row others : Row) (rest more : Bits) → Line.whole row rest ≡ Line.whole others more → n ≤ length rest → n ≤ length more
+whole_stays n row others rest more e le = subst (λ (bits : Bits). n ≤ length bits) (let same : rest ≡ more = cc in same) le
+
+broken_stays : (n : ℕ) (front others : Row) (fault : DecodeError) (more : Bits) → Line.broken front fault ≡ Line.whole others more → n ≤ length more
+broken_stays n front others fault more e = absurd cc
+
+local_of : (bits : Bits) (from to : ℕ) → IsLocalByTests with_eols bits from to → IsLocal with_eols bits from to
+local_of bits from to = (local_by_tests with_eols bits from to).1
+
+pub local_bodies : HaveLocalBodies
+local_bodies = (
+  local_of (bits_of (hex three_rows)) 29 39 (record {
+    encoding = refl;
+    lenient = refl;
+    order = omega arith;
+    within = omega arith;
+    starts = inr (omega arith, refl);
+    one = λ e. absurd cc;
+    no_eol =
+        refl;
+    closes = (_, refl, λ row rest e. whole_stays _ _ row _ rest e (omega arith));
+  }),
+  local_of (bits_of (hex bits_changed)) 29 39 (record {
+    encoding = refl;
+    lenient = refl;
+    order = omega arith;
+    within = omega arith;
+    starts = inr (omega arith, refl);
+    one = λ e. absurd cc;
+    no_eol =
+        refl;
+    closes = (_, refl, λ row rest e. broken_stays _ _ row _ rest e);
+  }),
+  local_of (bits_of (hex bits_added)) 29 47 (record {
+    encoding = refl;
+    lenient = refl;
+    order = omega arith;
+    within = omega arith;
+    starts = inr (omega arith, refl);
+    one = λ e. absurd cc;
+    no_eol =
+        refl;
+    closes = (_, refl, λ row rest e. whole_stays _ _ row _ rest e (omega arith));
+  }),
+  local_of (bits_of (hex words_added)) 29 111 (record {
+    encoding = refl;
+    lenient = refl;
+    order = omega arith;
+    within = omega arith;
+    starts = inr (omega arith, refl);
+    one = λ e. absurd cc;
+    no_eol =
+        refl;
+    closes = (_, refl, λ row rest e. whole_stays _ _ row _ rest e (omega arith));
+  }),
+)
+
+pub damage_read : ReadsDamage
+damage_read = (refl, refl, refl)
+
+-- ---- The limit behind the body
+
+-- where a step leads: nowhere further, or on from what its first turn leads to
+reaches_parts : {S R : Type 0} (step : S → Turn S R) (first last : S) → Reaches step first last
+    → (first ≡ last) ⊎ ((after : S) × (step first ≡ Turn.next after) × Reaches step after last)
+reaches_parts step first last (Reaches.stays same) = inl refl
+reaches_parts step first last (Reaches.moves same after end e reaches) = inr (after, e, reaches)
+
+-- where a turn goes on
+abbrev goes_on : Progress → Move → Progress
+goes_on start (Turn.next after) = after
+goes_on start (Turn.done end) = start
+
+-- the settings, and the states that the reading comes to
+abbrev limit_of_three : DecodeSettings
+limit_of_three = group3_1d 8 3 "l"
+
+abbrev no_row : Progress
+no_row = start_group3 limit_of_three (bits_of (hex three_rows))
+
+abbrev one_row : Progress
+one_row = goes_on no_row (move_group3 limit_of_three no_row)
+
+abbrev two_rows : Progress
+two_rows = goes_on one_row (move_group3 limit_of_three one_row)
+
+same_next : {S R : Type 0} (a b : S) → ◌≡◌ {A = Turn S R} (Turn.next a) (Turn.next b) → a ≡ b
+same_next a b e = cc
+
+not_before_two : ComesToLine limit_of_three (bits_of (hex three_rows)) 29 2 → ⊥
+not_before_two (so_far, reaches, rest, count) = by_none (reaches_parts (move_group3 limit_of_three) no_row so_far reaches)
+  where
+    Leads : Progress → Type 0
+    Leads state = (state ≡ so_far)
+        ⊎ ((after : Progress) × (move_group3 limit_of_three state ≡ Turn.next after) × Reaches (move_group3 limit_of_three) after so_far)
+
+    on : (state next : Progress) → move_group3 limit_of_three state ≡ Turn.next next → (after : Progress)
+        → move_group3 limit_of_three state ≡ Turn.next after → Reaches (move_group3 limit_of_three) after so_far → Leads next
+    on state next e after f more = reaches_parts (move_group3 limit_of_three) next so_far
+        (subst (λ (s : Progress). Reaches (move_group3 limit_of_three) s so_far) (same_next after next (sym f ∙ e)) more)
+
+    by_two : Leads two_rows → ⊥
+    by_two (inl e) = let n : 5 ≡ 27 = ap (λ (s : Progress). length s.rest) e ∙ ap length rest in absurd (omega (arith, n))
+    by_two (inr (after, e, more)) = absurd cc
+
+    by_one : Leads one_row → ⊥
+    by_one (inl e) = let n : 1 ≡ 2 = ap (λ (s : Progress). length s.rows) e ∙ count in absurd (omega (arith, n))
+    by_one (inr (after, e, more)) = by_two (on one_row two_rows refl after e more)
+
+    by_none : Leads no_row → ⊥
+    by_none (inl e) = let n : 0 ≡ 2 = ap (λ (s : Progress). length s.rows) e ∙ count in absurd (omega (arith, n))
+    by_none (inr (after, e, more)) = by_one (on no_row one_row refl after e more)
+
+count_is : (count n : ℕ) → ◌≡◌ {A = Result ℕ DecodeError} (Ok count) (Ok n) → count ≡ n
+count_is count n e = cc
+
+pub limit_behind : LimitBehindTheBody
+limit_behind rows count count2 (EndAlike.faults fault e f) = absurd cc
+limit_behind rows count count2 (EndAlike.no_columns e f g) = absurd (omega (arith, e))
+limit_behind rows count count2 (EndAlike.before place n le one two) =
+    let end : 0 ≡ length one.rest = ap (λ (r : Result Bits DecodeError). elim r [ Ok rest ↦ length rest | Err fault ↦ 0 ]) one.ends in
+    let place_is : place + length one.rest ≡ 56 = one.place_is in
+    absurd (omega (arith, le, end, place_is))
+limit_behind rows count count2 (EndAlike.past place place2 n n2 lt lt2 one two counts) =
+    let sum : n + 16 ≡ n2 + 7 = counts in
+    omega (arith, sum, count_is count n one.count_is, count_is count2 n2 two.count_is)
+limit_behind rows count count2 (EndAlike.at_limit index place place2 n n2 comes comes2 limit many le le2 one two) =
+    let second : index ≡ 2 = omega (arith, limit) in
+    absurd (not_before_two (subst (ComesToLine limit_of_three (bits_of (hex three_rows)) 29) second comes))

@@ -1,0 +1,120 @@
+-- Worked examples, written as texts: settings, bytes, and what the plain reading gives.
+use Rattle.std.specs.Prelude.{ℕ, ◌+◌, ◌-◌, ◌*◌, ◌==◌, ◌≡◌, nat_lt, List, [], ◌∷◌, take, map, codes, Bool, false, Ok, Result, if◌then◌else◌}
+use Rattle.std.specs.List.{list_any}
+use Prim.Native.String.{String}
+use Rattle.hayro_ccitt.specs.declared.error.DecodeError.{DecodeError}
+use Rattle.hayro_ccitt.specs.declared.settings.EncodingMode.{EncodingMode}
+use Rattle.hayro_ccitt.specs.declared.settings.EncodingMode.TheVariants.{Group4, Group3_1D, Group3_2D}
+use Rattle.hayro_ccitt.specs.declared.settings.DecodeSettings.{DecodeSettings}
+use Rattle.hayro_ccitt.specs.Bits.{bits_of}
+use Rattle.hayro_ccitt.specs.Rows.{Row, changes, pixels, white_row}
+use Rattle.hayro_ccitt.specs.Encodings.{EncodesRows, PictureT4}
+use Rattle.hayro_ccitt.specs.Locality.{IsLocal, EndAlike}
+use Rattle.hayro_ccitt.specs.PlainReading.{plain}
+
+-- the value of a hexadecimal digit, a capital letter or a figure
+abbrev pub digit : ℕ → ℕ
+digit c = if nat_lt c 58 then c - 48 else c - 55
+
+-- the bytes of pairs of digits
+abbrev pub bytes_of_digits : List ℕ → List ℕ
+bytes_of_digits [] = []
+bytes_of_digits (high ∷ []) = []
+bytes_of_digits (high ∷ low ∷ digits) = (16 * digit high + digit low) ∷ bytes_of_digits digits
+
+-- the bytes of a text of hexadecimal digits, two a byte
+abbrev pub hex : String → List ℕ
+hex text = bytes_of_digits (codes text)
+
+-- a letter stands in a text
+abbrev pub has_letter : ℕ → String → Bool
+has_letter letter text = list_any (λ c. c == letter) (codes text)
+
+-- Settings with these columns, this limit of rows and these flags: b end of block, l end of line, a rows aligned,
+-- s strict.
+abbrev pub settings_with : EncodingMode → ℕ → ℕ → String → DecodeSettings
+settings_with encoding columns rows flags =
+    record {
+      columns = columns;
+      rows = rows;
+      end_of_block = has_letter 98 flags;
+      end_of_line = has_letter 108 flags;
+      rows_are_byte_aligned = has_letter 97 flags;
+      encoding = encoding;
+      strict = has_letter 115 flags;
+    }
+
+-- such settings for Group 4
+abbrev pub group4 : ℕ → ℕ → String → DecodeSettings
+group4 = settings_with Group4
+
+-- for Group 3, one-dimensional
+abbrev pub group3_1d : ℕ → ℕ → String → DecodeSettings
+group3_1d = settings_with Group3_1D
+
+-- for Group 3, two-dimensional
+abbrev pub group3_2d : ℕ → ℕ → String → DecodeSettings
+group3_2d = settings_with Group3_2D
+
+-- the plain reading of a text of bytes, with its rows as changes
+abbrev pub reading_of : DecodeSettings → String → List (List ℕ) × Result ℕ DecodeError
+reading_of settings text = (map changes (plain settings (hex text)).rows, (plain settings (hex text)).outcome)
+
+-- ---- Encodings
+
+-- two lines of T.6: horizontal, and a vertical mode; then vertical modes to the left and the rest of the row
+abbrev pub two_lines : String
+two_lines = "38A08170"
+
+-- two white rows of T.4 with tags, closed by RTC
+abbrev pub tagged_rows : String
+tagged_rows = "001CC005001800C006003001800C"
+
+-- the lines of the rows with the changes 5, 6 and 2, 3, 5, 6, of eight columns
+abbrev pub EncodesTwoLines : Type 0
+EncodesTwoLines = EncodesRows Group4 false (white_row 8) (pixels 8 (5 ∷ 6 ∷ []) ∷ pixels 8 (2 ∷ 3 ∷ 5 ∷ 6 ∷ []) ∷ [])
+    (take 28 (bits_of (hex two_lines)))
+
+-- a line with the tag 1, one with the tag 0, and RTC with its tags
+abbrev pub EncodesTaggedRows : Type 0
+EncodesTaggedRows = PictureT4 Group3_2D 8 (pixels 8 [] ∷ pixels 8 [] ∷ []) (take 110 (bits_of (hex tagged_rows)))
+
+-- ---- Locality
+
+-- eight columns of lenient one-dimensional data with EOLs
+abbrev pub with_eols : DecodeSettings
+with_eols = group3_1d 8 0 "l"
+
+-- three rows, of which the second has the bits from 29 to 39
+abbrev pub three_rows : String
+three_rows = "0019800C700033"
+
+-- with one of these bits changed
+abbrev pub bits_changed : String
+bits_changed = "0019800C400033"
+
+-- with a black run of no pixels and a white one in their place, up to 47
+abbrev pub bits_added : String
+bits_added = "0019800C06F80033"
+
+-- with more words of the same row in their place, up to 111
+abbrev pub words_added : String
+words_added = "0019800C06E6A1B9A86E6A1B9AF00033"
+
+-- each body is local, so that `Locality` is about each two of these
+abbrev pub HaveLocalBodies : Type 0
+HaveLocalBodies = IsLocal with_eols (bits_of (hex three_rows)) 29 39
+    × IsLocal with_eols (bits_of (hex bits_changed)) 29 39
+    × IsLocal with_eols (bits_of (hex bits_added)) 29 47
+    × IsLocal with_eols (bits_of (hex words_added)) 29 111
+
+-- the second row alone is another
+abbrev pub ReadsDamage : Type 0
+ReadsDamage = (reading_of with_eols three_rows ≡ ([] ∷ (3 ∷ 5 ∷ []) ∷ [] ∷ [], Ok 7))
+    × (reading_of with_eols bits_changed ≡ ([] ∷ (3 ∷ 6 ∷ []) ∷ [] ∷ [], Ok 7))
+    × (reading_of with_eols bits_added ≡ ([] ∷ [] ∷ [] ∷ [], Ok 8))
+
+-- where a later row than the body's meets the limit, `EndAlike` fixes the counts: they differ by as much as the lengths
+abbrev pub LimitBehindTheBody : Type 0
+LimitBehindTheBody = (rows : List Row) (count count2 : ℕ)
+    → EndAlike (group3_1d 8 3 "l") (hex three_rows) (hex words_added) 29 rows (Ok count) (Ok count2) → count + 16 ≡ count2 + 7
