@@ -16,10 +16,10 @@ use Rattle.hayro_ccitt.specs.CodeReading.{Has}
 use Rattle.hayro_ccitt.specs.Repetition.{Turn}
 use Rattle.hayro_ccitt.specs.Rows.{Row, white_row, is_black, opposite, changes, pixels_from, AscendFrom, a1, a2, b1, b2}
 use Rattle.hayro_ccitt.specs.Encodings.{EncodesLine1D, EncodesLine2D, EncodesRows, EncodesRowsWithEols, ClosesWithEols, eol}
-use Rattle.hayro_ccitt.proofs.ChangesAndPixels.{AscendFrom-wider, pixels_from-first, pixels-changes, AreChanges-changes}
-use Rattle.hayro_ccitt.proofs.Places.{a1_next, a2_next, a2_least, b2_above}
-use Rattle.hayro_ccitt.proofs.Repeated.{Shrinks}
-use Rattle.hayro_ccitt.proofs.Gathered.{gathered_turn}
+use Rattle.hayro_ccitt.proofs.PixelRows.ChangesAndPixels.{AscendFrom-wider, pixels_from-first, pixels-changes, AreChanges-changes}
+use Rattle.hayro_ccitt.proofs.PixelRows.ChangePlaces.{a1_next, a2_next, a2_least, b2_above}
+use Rattle.hayro_ccitt.proofs.Readings.Repeated.{Shrinks}
+use Rattle.hayro_ccitt.proofs.Readings.Gathered.{gathered_turn}
 use Rattle.fax_encode.specs.Chosen.{chosen_run, chosen_runs, chosen_line_1d, Place, vertical_mode, is_near, chosen_mode, runs_of_mode, place_after, is_coded, next_place, bits_at, chosen_from, chosen_line_2d, chosen_lines_2d, chosen_lines_1d, return_to_control, word_of_mode}
 use Rattle.fax_encode.specs.Laws.{ChosenIsAnEncoding}
 use Rattle.fax_encode.proofs.ChosenWords.{run_spelled}

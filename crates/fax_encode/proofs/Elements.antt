@@ -1,7 +1,7 @@
 -- The changing elements as an encoder finds them, by how many changes are left of a0's right.
 use Rattle.std.proofs.Common.{◌≡◌, ℕ, suc, ◌+◌, ◌<◌, ◌≤◌, ltb, ◌&&◌, List, length, get_or, ap, ◌∙◌, arith}
 use Rattle.hayro_ccitt.specs.Rows.{AreChanges, pixels, is_change, least_below, a1, a2}
-use Rattle.hayro_ccitt.proofs.ReferencePlaces.{IsSplit, a1_is, next_change}
+use Rattle.hayro_ccitt.proofs.PixelRows.ReferencePlaces.{IsSplit, a1_is, next_change}
 use Rattle.fax_encode.specs.Coding.{AreLeft}
 
 -- the changes that are left, and no other

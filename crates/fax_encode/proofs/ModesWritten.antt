@@ -7,8 +7,8 @@ use Rattle.hayro_ccitt.specs.declared.codes.Mode.TheVariants.{Pass, Horizontal}
 use Rattle.hayro_ccitt.specs.Bits.{Bits}
 use Rattle.hayro_ccitt.specs.Rows.{Row, AreChanges, pixels, opposite, a1, a2, b1, b2}
 use Rattle.hayro_ccitt.specs.Encodings.{padding}
-use Rattle.hayro_ccitt.proofs.ChangesAndPixels.{length-pixels}
-use Rattle.hayro_ccitt.proofs.Places.{a1_next, a2_least}
+use Rattle.hayro_ccitt.proofs.PixelRows.ChangesAndPixels.{length-pixels}
+use Rattle.hayro_ccitt.proofs.PixelRows.ChangePlaces.{a1_next, a2_least}
 use Rattle.fax_encode.specs.Chosen.{Place, word_of_mode, vertical_mode, is_near, is_coded, chosen_mode, runs_of_mode, place_after, bits_at, chosen_run, chosen_from, chosen_line_2d, chosen_lines_2d, rows_of}
 use Rattle.fax_encode.proofs.ChosenLines.{goes_right, chooses, chosen_more, chosen_over}
 use Rattle.fax_encode.proofs.RowLists.{item_next}

@@ -9,7 +9,7 @@ use Rattle.hayro_ccitt.specs.Rows.{Row, AreChanges, pixels}
 use Rattle.hayro_ccitt.specs.Answers.{meaning_after}
 use Rattle.hayro_ccitt.specs.Encodings.{PictureT6, padding}
 use Rattle.hayro_ccitt.specs.Pictures.{BeginsWithPictureT6}
-use Rattle.hayro_ccitt.proofs.ChangesAndPixels.{changes-pixels}
+use Rattle.hayro_ccitt.proofs.PixelRows.ChangesAndPixels.{changes-pixels}
 use Rattle.fax_encode.specs.Chosen.{filled_up, rows_of, chosen_t6}
 use Rattle.fax_encode.specs.Packed.{packed, Bitmap}
 use Rattle.fax_encode.specs.Refusals.{AreRows}

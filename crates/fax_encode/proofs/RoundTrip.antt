@@ -8,14 +8,16 @@ use Rattle.hayro_ccitt.specs.declared.settings.EncodingMode.TheVariants.{Group3_
 use Rattle.hayro_ccitt.specs.Bits.{Bits, bits_of}
 use Rattle.hayro_ccitt.specs.Rows.{Row, AreChanges, pixels, white_row}
 use Rattle.hayro_ccitt.specs.EndOfLine.{after_eol, eols, all_eols}
-use Rattle.hayro_ccitt.specs.Encodings.{IsPicture, padding, EncodesRowsWithEols, PictureT6}
+use Rattle.hayro_ccitt.specs.Encodings.{IsPicture, padding, EncodesRowsWithEols, ClosesWithEols, PictureT6}
+use Rattle.hayro_ccitt.specs.Pictures.{BeginsWithPictureT6, BeginsWithPictureT4}
+use Rattle.hayro_ccitt.specs.declared.settings.EncodingMode.{EncodingMode}
 use Rattle.hayro_ccitt.specs.Settings.{AreSettings}
 use Rattle.hayro_ccitt.specs.PlainReading.{eols_group3}
-use Rattle.hayro_ccitt.proofs.BitLists.{length-bits_of}
-use Rattle.hayro_ccitt.proofs.ChangesAndPixels.{length-pixels}
-use Rattle.hayro_ccitt.proofs.Moves.{eols-none}
-use Rattle.hayro_ccitt.proofs.PicturesT6.{closed_picture_t6}
-use Rattle.hayro_ccitt.proofs.PicturesT4.{closed_picture_t4, eols_group3_one}
+use Rattle.hayro_ccitt.proofs.BitReading.BitLists.{length-bits_of}
+use Rattle.hayro_ccitt.proofs.PixelRows.ChangesAndPixels.{length-pixels}
+use Rattle.hayro_ccitt.proofs.Readings.TurnsMoveOn.{eols-none}
+use Rattle.hayro_ccitt.proofs.EncodedPictures.PicturesT6.{closed_picture_t6}
+use Rattle.hayro_ccitt.proofs.EncodedPictures.PicturesT4.{closed_picture_t4, eols_group3_one}
 use Rattle.fax_encode.specs.Chosen.{chosen_t6, chosen_t4, chosen_lines_1d, return_to_control, filled_up, rows_of}
 use Rattle.fax_encode.specs.Refusals.{AreRows}
 use Rattle.fax_encode.specs.Laws.{RoundTripT6, RoundTripT4, ReadToTheEnd}
@@ -40,9 +42,14 @@ round_trip_t6 settings columns lists bytes wide small are to_end group4 e =
     let rows : List Row = rows_of columns lists in
     let bits : Bits = chosen_t6 columns settings.rows_are_byte_aligned rows in
     let picture = (chosen_is_an_encoding columns rows (wide, widths_of columns lists are)).0 settings.rows_are_byte_aligned in
-    let picture_of : PictureT6 settings.columns settings.rows_are_byte_aligned rows bits
-    = subst (λ (n : ℕ). PictureT6 n settings.rows_are_byte_aligned rows bits) (sym to_end.columns_are) picture in
-    closed_picture_t6 settings rows bits (padding (length bits)) bytes (settings_are settings columns small to_end) group4 to_end.end_of_block (inl to_end.no_limit) picture_of e
+    let begins : BeginsWithPictureT6 settings rows bits (bits_of bytes) = record {
+      encoding = group4;
+      end_of_block = to_end.end_of_block;
+      limit = inl to_end.no_limit;
+      picture = subst (λ (n : ℕ). PictureT6 n settings.rows_are_byte_aligned rows bits) (sym to_end.columns_are) picture;
+      begins = (padding (length bits), e);
+    } in
+    closed_picture_t6 settings rows bits bytes (settings_are settings columns small to_end) begins
     ∙ ap (λ (n : ℕ). record { rows = rows; outcome = Ok n; has_eols = false }) (whole_bytes bits bytes e)
 
 -- ---- T.4
@@ -72,15 +79,22 @@ round_trip_t4 settings columns lists bytes wide small some are to_end group3 e =
     let n : ℕ = (8 - length bits % 8) % 8 in
     let more : Bits = replicate n false in
     let widths = widths_of columns lists are in
-    let picture : IsPicture settings.columns rows = subst (λ (n : ℕ). IsPicture n rows) (sym to_end.columns_are) (wide, widths) in
-    let encodes : EncodesRowsWithEols Group3_1D (white_row settings.columns) rows lines = lines_1d_encode columns (white_row settings.columns) rows wide widths in
     let stand : bits_of bytes ≡ lines ++ (return_to_control ++ more) = e ∙ append_assoc lines return_to_control more in
+    let begins : BeginsWithPictureT4 settings rows lines (return_to_control ++ more) (bits_of bytes) = record {
+      encoding = λ same. cc;
+      end_of_block = to_end.end_of_block;
+      limit = inl to_end.no_limit;
+      some = omega (arith, length-map lists (pixels columns));
+      picture = subst (λ (n : ℕ). IsPicture n rows) (sym to_end.columns_are) (wide, widths);
+      lines = subst (λ (k : EncodingMode). EncodesRowsWithEols k (white_row settings.columns) rows lines) (sym group3)
+      (lines_1d_encode columns (white_row settings.columns) rows wide widths);
+      closing = (return_to_control, subst (λ (k : EncodingMode). ClosesWithEols k 6 return_to_control) (sym group3) closes, (more, refl));
+      begins = stand;
+    } in
     let left : (eols_group3 settings (return_to_control ++ more)).1 ≡ more
     = ap (λ (f : ℕ × Bits). f.1) (eols_group3_one settings (return_to_control ++ more) group3) ∙ closing_eols n in
-    let some_rows : 0 < length rows = omega (arith, length-map lists (pixels columns)) in
     let count : (length (bits_of bytes) - length (eols_group3 settings (return_to_control ++ more)).1 + 7) / 8 ≡ length bytes
     = ap (λ (m : Bits). (length (bits_of bytes) - length m + 7) / 8) left
     ∙ (let k : (length (bits_of bytes) - length more + 7) / 8 ≡ length bytes = omega (arith, length-bits_of bytes, length-replicate n false) in k) in
-    closed_picture_t4 settings Group3_1D rows lines return_to_control more bytes (settings_are settings columns small to_end) group3 to_end.end_of_block (inl to_end.no_limit)
-    some_rows picture encodes closes stand
+    closed_picture_t4 settings rows lines (return_to_control ++ more) bytes (settings_are settings columns small to_end) begins
     ∙ ap (λ (n : ℕ). record { rows = rows; outcome = Ok n; has_eols = true }) count

@@ -6,8 +6,8 @@ use Rattle.hayro_ccitt.specs.declared.codes.Color.TheVariants.{White}
 use Rattle.hayro_ccitt.specs.Bits.{Bits}
 use Rattle.hayro_ccitt.specs.Rows.{AreChanges, pixels, changes}
 use Rattle.hayro_ccitt.specs.Encodings.{eol}
-use Rattle.hayro_ccitt.proofs.BitLists.{drop_some}
-use Rattle.hayro_ccitt.proofs.ChangesAndPixels.{length-pixels, changes-pixels}
+use Rattle.hayro_ccitt.proofs.BitReading.BitLists.{drop_some}
+use Rattle.hayro_ccitt.proofs.PixelRows.ChangesAndPixels.{length-pixels, changes-pixels}
 use Rattle.fax_encode.specs.Chosen.{chosen_runs, chosen_line_1d, chosen_lines_1d, rows_of}
 use Rattle.fax_encode.specs.Refusals.{AreRows}
 

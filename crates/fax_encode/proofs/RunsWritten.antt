@@ -3,8 +3,8 @@ use Rattle.std.proofs.Common.{◌≡◌, ℕ, suc, ◌+◌, ◌-◌, ◌*◌, �
 use Rattle.std.specs.Prelude.{flat_map}
 use Rattle.std.proofs.lemmas.Bool.{lt-ltb, le-ltb}
 use Rattle.std.proofs.lemmas.Option.{slice_get-get_or}
-use Rattle.hayro_ccitt.proofs.BitLists.{drop_some}
-use Rattle.hayro_ccitt.proofs.ChangesAndPixels.{AscendFrom-wider}
+use Rattle.hayro_ccitt.proofs.BitReading.BitLists.{drop_some}
+use Rattle.hayro_ccitt.proofs.PixelRows.ChangesAndPixels.{AscendFrom-wider}
 use Rattle.hayro_ccitt.specs.Rows.{opposite, AscendFrom}
 use Rattle.hayro_ccitt.specs.declared.codes.Color.{Color}
 use Rattle.hayro_ccitt.specs.Bits.{Bits}

@@ -9,7 +9,7 @@ use Rattle.std.proofs.lemmas.Nat.Bits.{bit_at_cat_low, bit_at_cat_high}
 use Rattle.hayro_ccitt.specs.Encodings.{padding}
 use Rattle.fax_encode.specs.Writing.{Written, all_bits}
 use Rattle.fax_encode.specs.Chosen.{filled_up}
-use Rattle.hayro_ccitt.proofs.BitLists.{length-bits_of, length-low_bits}
+use Rattle.hayro_ccitt.proofs.BitReading.BitLists.{length-bits_of, length-low_bits}
 use Rattle.hayro_ccitt.specs.Bits.{Bits, bit_of, bits_of, bits_of_byte, low_bits}
 
 same_bit : (m n j k : ℕ) → bit_at m j ≡ bit_at n k → bit_of m j ≡ bit_of n k

@@ -1,6 +1,6 @@
 use Rattle.std.proofs.Common.{◌≡◌, get_or, sym, ◌∙◌}
 use Rattle.hayro_ccitt.specs.Rows.{pixels, b1}
-use Rattle.hayro_ccitt.proofs.ReferencePlaces.{b1_first, b1_second, b2_after_b1}
+use Rattle.hayro_ccitt.proofs.PixelRows.ReferencePlaces.{b1_first, b1_second, b2_after_b1}
 use Rattle.fax_encode.proofs.Elements.{split_of}
 use Rattle.fax_encode.proofs.group4.elements_of_reference.Goals.{After-change_or_end, then-is_multiple_of-is_white, else-is_multiple_of-is_white}
 use Rattle.fax_encode.proofs.group4.elements_of_reference.Goals as goal

@@ -3,7 +3,7 @@ use Rattle.hayro_ccitt.specs.declared.codes.Color.{Color}
 use Rattle.hayro_ccitt.specs.declared.codes.Mode.TheVariants.{Horizontal}
 use Rattle.hayro_ccitt.specs.Bits.{Bits, low_bits}
 use Rattle.hayro_ccitt.specs.Rows.{Row, pixels, opposite, a1, a2, b1, b2}
-use Rattle.hayro_ccitt.proofs.ChangesAndPixels.{length-pixels}
+use Rattle.hayro_ccitt.proofs.PixelRows.ChangesAndPixels.{length-pixels}
 use Rattle.fax_encode.specs.Chosen.{chosen_run, word_of_mode, vertical_mode}
 use Rattle.fax_encode.specs.Coding.{place_of}
 use Rattle.fax_encode.specs.Writing.{all_bits}
