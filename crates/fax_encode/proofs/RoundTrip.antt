@@ -4,7 +4,6 @@ use Rattle.std.specs.Prelude.{All, Ok}
 use Rattle.std.proofs.lemmas.List.{length-append, length-replicate, length-map}
 use Rattle.std.proofs.lemmas.List.Elements.{All-head, All-tail, All-cons, All-nil}
 use Rattle.hayro_ccitt.specs.declared.settings.DecodeSettings.{DecodeSettings}
-use Rattle.hayro_ccitt.specs.declared.settings.EncodingMode.TheVariants.{Group3_1D}
 use Rattle.hayro_ccitt.specs.Bits.{Bits, bits_of}
 use Rattle.hayro_ccitt.specs.Rows.{Row, AreChanges, pixels, white_row}
 use Rattle.hayro_ccitt.specs.EndOfLine.{after_eol, eols, all_eols}
@@ -87,7 +86,7 @@ round_trip_t4 settings columns lists bytes wide small some are to_end group3 e =
       some = omega (arith, length-map lists (pixels columns));
       picture = subst (λ (n : ℕ). IsPicture n rows) (sym to_end.columns_are) (wide, widths);
       lines = subst (λ (k : EncodingMode). EncodesRowsWithEols k (white_row settings.columns) rows lines) (sym group3)
-      (lines_1d_encode columns (white_row settings.columns) rows wide widths);
+          (lines_1d_encode columns (white_row settings.columns) rows wide widths);
       closing = (return_to_control, subst (λ (k : EncodingMode). ClosesWithEols k 6 return_to_control) (sym group3) closes, (more, refl));
       begins = stand;
     } in
