@@ -442,8 +442,9 @@ impl<'a> BitReader<'a> {
     }
 
     /// Reads all EOLs in a row of two-dimensional data of Group 3, and answers how many there were (T.4
-    /// sections 4.2.2 and 4.2.4). A tag of 1 between two EOLs is passed; after the last EOL it is passed where there were six or more,
-    /// which are RTC. It never fails. Each bit that is looked at is a tick: one that is passed at most twice.
+    /// sections 4.2.2 and 4.2.4). A tag of 1 between two EOLs is passed; after the last EOL it is passed where there
+    /// were six or more, which are RTC. It never fails. Each bit that is looked at is a tick: one that is passed at
+    /// most twice.
     pub fn read_tagged_eols(&mut self, ticks: &mut Ticks) -> usize
         ensures eols { tagged_eols (here self.old) ≡ (result, here self.new) }
         ensures same_bits { self.new.bits ≡ self.old.bits }
