@@ -22,6 +22,9 @@ pub struct DecoderContext {
     ref_changes: Vec<u32>,
     coding_changes: Vec<u32>,
     pixels_decoded: u32,
+    /// How many changes of the reference row are not right of a0, as far as b1 was sought: it only moves forward in
+    /// a line.
+    passed: usize,
     color: Color,
     decoded_rows: u64,
     has_eols: bool,
@@ -58,6 +61,7 @@ impl DecoderContext {
             ref_changes: Vec::new(alloc),
             coding_changes: Vec::new(alloc),
             pixels_decoded: 0,
+            passed: 0,
             color: Color::White,
             decoded_rows: 0,
             has_eols: false,
@@ -112,6 +116,7 @@ impl DecoderContext {
         ensures frame { self.new ≡ record self.old { held = fresh self.old.held.settings } }
     {
         self.begin_line();
+        self.passed = 0;
         self.ref_changes.clear();
         self.decoded_rows = 0;
         self.has_eols = false;
@@ -131,6 +136,7 @@ impl DecoderContext {
     {
         self.coding_changes.clear();
         self.pixels_decoded = 0;
+        self.passed = 0;
         self.color = Color::White;
     }
 
@@ -223,6 +229,7 @@ impl DecoderContext {
             self.pixels_decoded,
             self.color,
             self.settings.columns,
+            &mut self.passed,
             &mut self.ticks,
         )
     }
@@ -296,6 +303,8 @@ impl DecoderContext {
         self.hand_over(decoder)?;
         // The row that was handed over is whole.
         self.pixels_decoded = self.settings.columns;
+        // Nothing of the new reference row was passed.
+        self.passed = 0;
         mem::swap(&mut self.ref_changes, &mut self.coding_changes);
         self.begin_line();
         self.decoded_rows += 1;

@@ -225,7 +225,7 @@ module _ (columns : ℕ) (places : List ℕ) (ascend : AreChanges columns places
   ]
 
   -- the next change after the one at an index is the one at the next index
-  next_change : (index : ℕ) → least_below (length row) (is_right_of (change index)) ≡ change (suc index)
+  pub next_change : (index : ℕ) → least_below (length row) (is_right_of (change index)) ≡ change (suc index)
   next_change index = least_unique (length row) (is_right_of (change index)) _ _ (is_least _ _) (record {
     above = omega arith;
     within = omega (arith, row_length, end_within (suc index));
@@ -261,6 +261,36 @@ module _ (columns : ℕ) (places : List ℕ) (ascend : AreChanges columns places
       none_before p lt = elim (cases_lt (change index) p) [
         | inl left ↦ rw (none_by p lt left) (and-false _)
         | inr ge ↦ rw (le-ltb _ _ ge) refl
+      ]
+
+  -- a1 is the change of the first index right of a0
+  pub a1_is : (from first : ℕ) → IsSplit places from first → least_below (length row) (λ p. leb from p && is_change row p) ≡ change first
+  a1_is from first split = least_unique (length row) (λ p. leb from p && is_change row p) _ _ (is_least _ _) (record {
+    above = omega arith;
+    within = omega (arith, row_length, end_within first);
+    before = λ p _ lt. none_before p lt;
+    there = λ lt. there (in_list_if_below first (omega (arith, row_length)));
+  })
+    where
+      there : first < length places → (leb from (change first) && is_change row (change first)) ≡ true
+      there lt =
+          let e : change first ≡ get_or places first 0 = get_or_default_zero places first columns lt in
+          let right : leb from (get_or places first 0) ≡ true = le-leb _ _ (split.here lt) in
+          rw (e, right) (change_there first lt)
+
+      none_by : (p : ℕ) → p < change first → from ≤ p → is_change row p ≡ false
+      none_by p lt le =
+          let split_p = split_of places p in
+          let end : change first ≤ columns = end_within first in
+          elim (change_or_none p split_p.0 (omega arith) split_p.1) [
+            | inl none ↦ none
+            | inr at ↦ absurd (omega (arith, at.1, split.before split_p.0 (less_if_left split_p.0 first at.0 (omega (arith, at.1)))))
+          ]
+
+      none_before : (p : ℕ) → p < change first → (leb from p && is_change row p) ≡ false
+      none_before p lt = elim (cases_lt p from) [
+        | inl left ↦ rw (lt-leb _ _ left) refl
+        | inr ge ↦ rw (le-leb _ _ ge) (none_by p lt ge)
       ]
 
   -- b1 is the change of the first index right of a0, or of the one after it where the first turns the other way
