@@ -1,6 +1,6 @@
 -- What a run writes, from what decoding answers.
-use Rattle.std.proofs.Common.{◌≡◌, ◌<◌, ◌≤◌, ℕ, List, [], ◌∷◌, ◌++◌, refl, sym, ap, ◌∙◌, subst, take, length, map, take_all, arith, append_assoc, append-nil, Option, None, Some, Ok, Err, IfSome}
-use Rattle.std.specs.Prelude.{IfOk, IfErr, IsOk, IsErr}
+use Rattle.std.proofs.Common.{◌≡◌, ℕ, List, [], ◌∷◌, ◌++◌, refl, sym, ap, ◌∙◌, subst, take, length, map, take_all, arith, append_assoc, append-nil, Option, None, Some, Ok, Err, IfSome}
+use Rattle.std.specs.Prelude.{IsOk, IsErr}
 use Rattle.std.specs.List.{fold}
 use Rattle.std.proofs.lemmas.List.{take-map, length-map}
 use Rattle.hayro_ccitt.specs.declared.error.DecodeError.TheVariants.{UnexpectedEof, InvalidCode, Overflow, OutOfMemory, Refused}
