@@ -3,6 +3,10 @@
 
 ghost use Rattle.std.specs.Prelude.{◌≡◌};
 
+mod calls_of_group3;
+mod group3;
+mod local_bodies;
+
 use hayro_ccitt::DecodeError::{InvalidCode, OutOfMemory, Overflow, Refused, UnexpectedEof};
 use hayro_ccitt::bit_reader::BitReader;
 use hayro_ccitt::codes::{Color, Mode, Ticks};
@@ -64,20 +68,44 @@ fn sink_of(alloc: Global, columns: u32, limit: usize) -> Limited
     }
 }
 
-/// Settings of Group 4. The flags are a for aligned rows, b for EOFB and s for strict.
-fn group_4(columns: u32, rows: u32, flags: &str) -> DecodeSettings
+/// Settings of an encoding. The flags are a for aligned rows, b for EOFB or RTC, l for EOLs and s for strict.
+fn settings_of(encoding: EncodingMode, columns: u32, rows: u32, flags: &str) -> DecodeSettings
     ensures columns { result.columns ≡ columns }
-    ensures encoding { result.encoding ≡ EncodingMode.Group4 }
+    ensures encoding { result.encoding ≡ encoding }
 {
     DecodeSettings {
         columns,
         rows,
         end_of_block: flags.contains('b'),
-        end_of_line: false,
+        end_of_line: flags.contains('l'),
         rows_are_byte_aligned: flags.contains('a'),
-        encoding: EncodingMode::Group4,
+        encoding,
         strict: flags.contains('s'),
     }
+}
+
+/// Settings of Group 4.
+fn group_4(columns: u32, rows: u32, flags: &str) -> DecodeSettings
+    ensures columns { result.columns ≡ columns }
+    ensures encoding { result.encoding ≡ EncodingMode.Group4 }
+{
+    settings_of(EncodingMode::Group4, columns, rows, flags)
+}
+
+/// Settings of one-dimensional Group 3.
+fn group_3_1d(columns: u32, rows: u32, flags: &str) -> DecodeSettings
+    ensures columns { result.columns ≡ columns }
+    ensures encoding { result.encoding ≡ EncodingMode.Group3_1D }
+{
+    settings_of(EncodingMode::Group3_1D, columns, rows, flags)
+}
+
+/// Settings of two-dimensional Group 3.
+fn group_3_2d(columns: u32, rows: u32, flags: &str) -> DecodeSettings
+    ensures columns { result.columns ≡ columns }
+    ensures encoding { result.encoding ≡ EncodingMode.Group3_2D }
+{
+    settings_of(EncodingMode::Group3_2D, columns, rows, flags)
 }
 
 /// Compares the rows of a sink, which are named by data.
@@ -100,7 +128,6 @@ fn decodes_in(
     rows: &[&[u32]],
     answer: Result<usize>,
 )
-    requires { ctx.old.held.settings.encoding ≡ EncodingMode.Group4 }
     ensures { ctx.new.held.settings ≡ ctx.old.held.settings }
 {
     let front = data.get(..16).unwrap_or(data);
@@ -126,9 +153,7 @@ fn decodes(
     data: &[u8],
     rows: &[&[u32]],
     answer: Result<usize>,
-)
-    requires { settings.encoding ≡ EncodingMode.Group4 }
-{
+) {
     let Ok(mut ctx) = DecoderContext::new(rt.alloc(), settings) else {
         panic!(rt; "no memory");
     };
@@ -150,6 +175,41 @@ fn repeated(
     Ok(data)
 }
 
+/// The bytes of hexadecimal digits, two a byte.
+fn bytes_of(alloc: Global, digits: &str) -> std::result::Result<Vec<u8>, AllocError> {
+    let mut data = Vec::new(alloc);
+    let mut high = None;
+    for digit in digits.bytes() {
+        let value = match digit {
+            b'0'..=b'9' => digit - b'0',
+            b'A'..=b'F' => digit - b'A' + 10,
+            _ => 0,
+        };
+        match high {
+            None => high = Some(value),
+            Some(half) => {
+                data.push(half << 4 | value)?;
+                high = None;
+            }
+        }
+    }
+    Ok(data)
+}
+
+/// Decodes hexadecimal digits in a context of its own, and compares the rows and the answer.
+fn reads(
+    rt: &(impl Abort + AllocGlobal),
+    settings: DecodeSettings,
+    digits: &str,
+    rows: &[&[u32]],
+    answer: Result<usize>,
+) {
+    let Ok(data) = bytes_of(rt.alloc(), digits) else {
+        panic!(rt; "no memory");
+    };
+    decodes(rt, settings, &data, rows, answer);
+}
+
 /// Refuses each row in turn; the same context then gives all the rows and the answer.
 fn refuses_each(
     rt: &(impl Abort + AllocGlobal),
@@ -157,9 +217,7 @@ fn refuses_each(
     data: &[u8],
     rows: &[&[u32]],
     answer: Result<usize>,
-)
-    requires { settings.encoding ≡ EncodingMode.Group4 }
-{
+) {
     assert!(rt; bits_fit(data));
     for limit in 0..rows.len() {
         let Ok(mut ctx) = DecoderContext::new(rt.alloc(), settings) else {

@@ -1,0 +1,167 @@
+//! The calls that Group 3 is made of.
+
+use super::{bytes_of, group_3_1d, group_3_2d, has_rows, sink_of};
+use hayro_ccitt::DecodeError::{InvalidCode, OutOfMemory, Refused, UnexpectedEof};
+use hayro_ccitt::bit_reader::BitReader;
+use hayro_ccitt::changes::{append_pixels, b1_index, change_or_end};
+use hayro_ccitt::codes::{Color, Ticks};
+use hayro_ccitt::context::decode_1d_line;
+use hayro_ccitt::group3::{check_eob, decode_1d, decode_2d, recover};
+use hayro_ccitt::{DecoderContext, bits_fit};
+use std::test::Fail;
+
+#[test]
+fn looks_for_the_next_eol(rt: HostRuntime) -> std::result::Result<(), Fail> {
+    let mut ticks = Ticks::new();
+    let data = bytes_of(rt.alloc(), "0019F800CC")?;
+    assert!(rt; bits_fit(&data));
+    let mut reader = BitReader::new(&data);
+    assert!(rt; reader.skip_to_eol(&mut ticks));
+    assert_eq!(rt; reader.bit_pos(), 0);
+    assert_eq!(rt; reader.consume(12), Ok(()));
+    assert!(rt; reader.skip_to_eol(&mut ticks));
+    assert_eq!(rt; reader.bit_pos(), 21);
+    assert_eq!(rt; reader.consume(1), Ok(()));
+    assert!(rt; !reader.skip_to_eol(&mut ticks));
+    assert_eq!(rt; reader.bit_pos(), 22);
+    Ok(())
+}
+
+#[test]
+fn reads_eols_with_tags(rt: HostRuntime) -> std::result::Result<(), Fail> {
+    let mut ticks = Ticks::new();
+    for (digits, count, place) in [
+        ("001800C006003001800C", 6, 78),
+        ("001800C0", 2, 25),
+        ("0018", 1, 12),
+        ("98", 0, 0),
+    ] {
+        let data = bytes_of(rt.alloc(), digits)?;
+        assert!(rt; bits_fit(&data));
+        let mut reader = BitReader::new(&data);
+        assert_eq!(rt; reader.read_tagged_eols(&mut ticks), count, "{digits}");
+        assert_eq!(rt; reader.bit_pos(), place, "{digits}");
+    }
+    Ok(())
+}
+
+/// White 3, black 2, and a front of a white run.
+#[test]
+fn repairs_lines(rt: HostRuntime) -> std::result::Result<(), Fail> {
+    let mut ctx = DecoderContext::new(rt.alloc(), group_3_1d(8, 0, ""))?;
+    let mut sink = sink_of(rt.alloc(), 8, 2);
+    let data = [0x8C];
+    assert!(rt; bits_fit(&data));
+    let mut reader = BitReader::new(&data);
+    assert_eq!(rt; decode_1d_line(&mut ctx, &mut reader), Err(UnexpectedEof));
+    for error in [UnexpectedEof, OutOfMemory, Refused] {
+        let start = BitReader::new(&data);
+        ctx.set_has_eols(error != UnexpectedEof);
+        let recovered = recover(&mut ctx, &mut reader, start, error);
+        assert_eq!(rt; recovered, Err(error));
+    }
+    ctx.set_has_eols(true);
+    let start = BitReader::new(&data);
+    let recovered = recover(&mut ctx, &mut reader, start, UnexpectedEof);
+    assert_eq!(rt; (recovered, reader.bit_pos()), (Ok(()), 0));
+    assert_eq!(rt; ctx.next_line(&mut sink), Ok(()));
+    assert_eq!(rt; ctx.push_pixels(4), Ok(()));
+    assert_eq!(rt; ctx.fill_white(), Ok(()));
+    assert_eq!(rt; ctx.fill_white(), Ok(()));
+    assert_eq!(rt; ctx.next_line(&mut sink), Ok(()));
+    has_rows(&rt, &sink, &[&[3, 5], &[]], &data);
+    Ok(())
+}
+
+/// The ends of an image and the EOLs that stand behind a white row.
+#[test]
+fn looks_behind_a_row(rt: HostRuntime) -> std::result::Result<(), Fail> {
+    for (settings, digits, answer, place, has_eols) in [
+        (group_3_1d(8, 0, ""), "001001", Ok(true), 24, true),
+        (group_3_1d(8, 0, ""), "00100180", Ok(false), 24, true),
+        (group_3_1d(8, 1, ""), "00100180", Ok(true), 24, true),
+        (group_3_1d(8, 1, ""), "FFFF", Ok(true), 0, true),
+        (
+            group_3_1d(8, 0, "b"),
+            "00100100100100100180",
+            Ok(true),
+            72,
+            true,
+        ),
+        (group_3_1d(8, 0, ""), "F800CC", Ok(false), 17, true),
+        (group_3_1d(8, 0, ""), "FFFF", Ok(false), 0, false),
+        (group_3_1d(8, 0, "s"), "F800CC", Err(InvalidCode), 0, true),
+        (
+            group_3_2d(8, 0, "b"),
+            "001800C006003001800C00",
+            Ok(true),
+            78,
+            true,
+        ),
+        (group_3_2d(8, 0, ""), "FFFF", Ok(false), 0, false),
+    ] {
+        let data = bytes_of(rt.alloc(), digits)?;
+        assert!(rt; bits_fit(&data));
+        let mut ctx = DecoderContext::new(rt.alloc(), settings)?;
+        let mut sink = sink_of(rt.alloc(), settings.columns, 1);
+        assert_eq!(rt; ctx.next_line(&mut sink), Ok(()));
+        assert!(rt; ctx.decoded_rows() > 0);
+        ctx.set_has_eols(true);
+        let mut reader = BitReader::new(&data);
+        assert_eq!(rt; check_eob(&mut ctx, &mut reader), answer, "{digits}");
+        assert_eq!(rt;
+            (reader.bit_pos(), ctx.has_eols()),
+            (place, has_eols),
+            "{digits}"
+        );
+    }
+    Ok(())
+}
+
+#[test]
+fn decodes_lines_from_a_reader(rt: HostRuntime) -> std::result::Result<(), Fail> {
+    let mut ctx = DecoderContext::new(rt.alloc(), group_3_1d(8, 0, "b"))?;
+    let mut sink = sink_of(rt.alloc(), 8, 9);
+    let data = bytes_of(rt.alloc(), "001980080080080080080080")?;
+    assert!(rt; bits_fit(&data));
+    let mut reader = BitReader::new(&data);
+    assert_eq!(rt; decode_1d(&mut ctx, &mut reader, &mut sink), Ok(()));
+    assert_eq!(rt; reader.bit_pos(), 89);
+    has_rows(&rt, &sink, &[&[]], &data);
+    Ok(())
+}
+
+#[test]
+fn decodes_tagged_lines_from_a_reader(rt: HostRuntime) -> std::result::Result<(), Fail> {
+    let mut ctx = DecoderContext::new(rt.alloc(), group_3_2d(8, 0, "b"))?;
+    let mut sink = sink_of(rt.alloc(), 8, 9);
+    let data = bytes_of(rt.alloc(), "001CC005001800C006003001800C")?;
+    assert!(rt; bits_fit(&data));
+    let mut reader = BitReader::new(&data);
+    assert_eq!(rt; decode_2d(&mut ctx, &mut reader, &mut sink), Ok(()));
+    assert_eq!(rt; reader.bit_pos(), 110);
+    has_rows(&rt, &sink, &[&[], &[]], &data);
+    Ok(())
+}
+
+/// White 3, black 2, white 3.
+#[test]
+fn changes_of_a_row(rt: HostRuntime) -> std::result::Result<(), Fail> {
+    let mut ticks = Ticks::new();
+    let mut changes = Vec::new(rt.alloc());
+    append_pixels(&mut changes, 0, Color::White, 3)?;
+    append_pixels(&mut changes, 3, Color::Black, 2)?;
+    append_pixels(&mut changes, 5, Color::White, 3)?;
+    assert_eq!(rt; changes.as_slice(), [3, 5].as_slice());
+    for (painted, color, b1, b2) in [
+        (0, Color::White, 3, 5),
+        (0, Color::Black, 5, 8),
+        (3, Color::White, 8, 8),
+        (3, Color::Black, 5, 8),
+    ] {
+        let index = b1_index(&changes, painted, color, 8, &mut ticks);
+        assert_eq!(rt; change_or_end(&changes, index, 8), b1);
+        assert_eq!(rt; change_or_end(&changes, index + 1, 8), b2);
+    }
+    Ok(())
+}
