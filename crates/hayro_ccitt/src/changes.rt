@@ -26,7 +26,8 @@ pub fn b1_index(
     ensures b2 { b2 (pixels columns changes.now) (right_of_painted painted) color
         ≡ get_or changes.now (result + 1) columns }
     ensures within { result ≤ length changes.now + 1 }
-    ensures counts { ticks.old ≤ ticks.new }
+    ensures forward { passed.old ≤ passed.new }
+    ensures work { ticks.new + passed.old ≡ ticks.old + passed.new + 1 }
 {
     let mut index = *passed;
     if painted > 0 {
