@@ -5,7 +5,6 @@ import subprocess
 import tempfile
 
 PROGRAM = os.path.abspath("crates/faxrows/out/faxrows")
-DECODED = ("g4",)  # the modes that the program decodes today
 
 
 def run(words, data, **more):
@@ -27,8 +26,6 @@ def real_strips():
     with open("corpus/manifest.tsv", encoding="utf-8") as file:
         lines = [line.rstrip("\n").split("\t") for line in file if not line.startswith("#")]
     for name, strip, mode, columns, rows, runs, picture, first, end, *_ in lines:
-        if mode not in DECODED:
-            continue
         with open(f"corpus/{strip}", "rb") as file:
             data = file.read()
         with open(f"corpus/{picture}", "rb") as file:
@@ -67,8 +64,6 @@ def known_cases():
             if line.startswith("#"):
                 continue
             settings, data, answer = line.rstrip("\n").split("\t")
-            if settings.split()[0] not in DECODED:
-                continue
             done = run(settings.split(), bytes_of(data))
             text = done.stdout.decode()
             assert text == answer.replace("/", "\n") + "\n", f"{settings} {data}: {text!r}, not {answer}"
@@ -79,16 +74,30 @@ def known_cases():
     print(f"  {seen} cases")
 
 
+# Words and data, and what the program writes and answers: 0 for ok, 1 for a fault of the data, 2 for other words.
+RUNS = [
+    ("g4 8 1 -", "31C0", b"r 3 5\nok 2\n", 0),
+    ("g4 0000000008 1 -", "31C0", b"r 3 5\nok 2\n", 0),
+    ("g4 0 0 -", "31C0", b"ok 0\n", 0),
+    ("g4 8 0 -", "80", b"r\nerror: invalid CCITT code sequence\n", 1),
+    ("1d 8 0 l", "0019800C700033", b"r\nr 3 5\nr\nok 7\n", 0),
+    ("1d 8 0 s", "001980", b"r\nerror: invalid CCITT code sequence\n", 1),
+    ("2d 8 1 sal", "CC", b"r\nok 1\n", 0),
+    ("", "31C0", b"", 2),
+    ("g4 8 1", "31C0", b"", 2),
+    ("g4 8 1 - -", "31C0", b"", 2),
+    ("g4 8 1 bb", "31C0", b"", 2),
+    ("3d 8 1 -", "31C0", b"", 2),
+    ("g4 00000000008 1 -", "31C0", b"", 2),
+    ("g4 4294967296 1 -", "31C0", b"", 2),
+]
+
+
 def statuses():
-    """0 for rows and ok, 1 for a fault of the data, 2 for words, 3 for a device that fails."""
-    row = bytes.fromhex("31C0")
-    good = run(["g4", "8", "1", "-"], row)
-    assert (good.returncode, good.stdout, good.stderr) == (0, b"r 3 5\nok 2\n", b""), good
-    faulty = run(["g4", "8", "0", "-"], b"\x80")
-    assert (faulty.returncode, faulty.stdout, faulty.stderr) == (1, b"r\nerror: invalid CCITT code sequence\n", b""), faulty
-    for words in [[], ["g4", "8", "1"], ["g4", "8", "1", "bb"], ["1d", "8", "1", "-"], ["g4", "4294967296", "1", "-"]]:
-        bad = run(words, row)
-        assert (bad.returncode, bad.stdout, bad.stderr) == (2, b"", b"faxrows: bad arguments\n"), (words, bad)
+    for words, data, text, status in RUNS:
+        done = run(words.split(), bytes.fromhex(data))
+        error = b"faxrows: bad arguments\n" if status == 2 else b""
+        assert (done.returncode, done.stdout, done.stderr) == (status, text, error), (words, done)
 
 
 def devices_that_fail():
@@ -122,16 +131,38 @@ def long_data():
     assert done.stdout == b"r 4294967294\nok 1\n", done
 
 
-# What a run over two equal rows may answer where one allocation is refused: status, text, standard error.
-REFUSED = {
-    "words that can't be fetched": (2, b"", b"faxrows: bad arguments\n"),
-    "no memory to begin": (3, b"", b"faxrows: out of memory\n"),
-    "no memory in the first row": (3, b"error: out of memory\n", b""),
-    "the first row refused": (3, b"error: row refused\n", b""),
-    "no memory in the second row": (3, b"r 3 5\nerror: out of memory\n", b""),
-    "the second row refused": (3, b"r 3 5\nerror: row refused\n", b""),
-    "a buffer of the C library, which does without": (0, b"r 3 5\nr 3 5\nok 2\n", b""),
-}
+# What a run answers where one allocation is refused: before decoding, with status and standard error ..
+BEFORE_DECODING = [
+    (2, b"", b"faxrows: bad arguments\n"),  # words that can't be fetched
+    (3, b"", b"faxrows: out of memory\n"),  # no memory to begin
+]
+# .. and while decoding: the whole text, and each text that ends in a want of memory or a refusal. The second row of the
+# second run is damaged: a want of memory there isn't repaired.
+WHILE_DECODING = [
+    (
+        "g4 8 2 -",
+        "31F8",
+        b"r 3 5\nr 3 5\nok 2\n",
+        [b"error: out of memory\n", b"error: row refused\n", b"r 3 5\nerror: out of memory\n", b"r 3 5\nerror: row refused\n"],
+    ),
+    (
+        "1d 8 0 l",
+        "0019800C400033",
+        b"r\nr 3 6\nr\nok 7\n",
+        [b"error: row refused\n", b"r\nerror: out of memory\n", b"r\nr 3 6\nerror: row refused\n"],
+    ),
+]
+
+
+def refused_in_turn(words, data, shim):
+    """The answers of a run whose first allocation is refused, whose second one is, and so on, and of one without."""
+    answers = []
+    for number in range(1, 1000):
+        done = run(words.split(), bytes.fromhex(data), env={**os.environ, "LD_PRELOAD": shim, "REFUSE": str(number)})
+        answers.append((done.returncode, done.stdout, done.stderr.replace(b"refused\n", b"", 1)))
+        if b"refused\n" not in done.stderr:
+            return answers
+    raise AssertionError("it never ran without a refusal")
 
 
 def refused_memory():
@@ -139,21 +170,15 @@ def refused_memory():
     with tempfile.TemporaryDirectory() as folder:
         shim = os.path.join(folder, "refuse.so")
         subprocess.run(["cc", "-shared", "-fPIC", "-o", shim, "checks/refuse.c", "-ldl"], check=True)
-        seen = []
-        for number in range(1, 1000):
-            done = run(["g4", "8", "2", "-"], bytes.fromhex("31F8"), env={**os.environ, "LD_PRELOAD": shim, "REFUSE": str(number)})
-            answer = (done.returncode, done.stdout, done.stderr.replace(b"refused\n", b"", 1))
-            if b"refused\n" not in done.stderr:
-                assert answer == REFUSED["a buffer of the C library, which does without"], answer
-                break
-            assert answer in REFUSED.values(), f"allocation {number}: {answer}"
-            seen.append(answer)
-        else:
-            raise AssertionError("it never ran without a refusal")
-    missing = [name for name, answer in REFUSED.items() if answer not in seen]
-    assert not missing, f"never seen: {missing}"
-    assert seen.count(REFUSED["a buffer of the C library, which does without"]) == 1, "more than one refusal did no harm"
-    print(f"  {len(seen)} allocations refused in turn, {len(REFUSED)} answers")
+        for words, data, text, ended in WHILE_DECODING:
+            whole = (0, text, b"")
+            expected = [whole, *BEFORE_DECODING, *[(3, text, b"") for text in ended]]
+            *answers, last = refused_in_turn(words, data, shim)
+            assert last == whole, (words, last)
+            assert all(answer in expected for answer in answers), (words, [a for a in answers if a not in expected])
+            assert all(answer in answers for answer in expected), (words, [e for e in expected if e not in answers])
+            assert answers.count(whole) == 1, f"{words}: only one refusal, of a buffer of the C library, does no harm"
+            print(f"  {words}: {len(answers)} allocations refused in turn, {len(expected)} answers")
 
 
 CHECKS = [real_strips, known_cases, statuses, devices_that_fail, a_file_and_a_pipe, long_data, refused_memory]

@@ -3,7 +3,7 @@ use Rattle.std.proofs.Common.{◌≡◌, refl, [], ◌∷◌, true, false, Some,
 use Rattle.std.specs.Prelude.{codes}
 use Rattle.std.specs.Fmt.{digits}
 use Rattle.hayro_ccitt.specs.declared.error.DecodeError.TheVariants.{InvalidCode}
-use Rattle.hayro_ccitt.specs.declared.settings.EncodingMode.TheVariants.{Group4}
+use Rattle.hayro_ccitt.specs.declared.settings.EncodingMode.TheVariants.{Group4, Group3_1D, Group3_2D}
 use Rattle.faxrows.specs.Arguments.{settings_of_words}
 use Rattle.faxrows.specs.Text.{text_of}
 
@@ -16,6 +16,15 @@ plain_words = refl
 flags : settings_of_words (codes "g4" ∷ codes "4294967295" ∷ codes "0" ∷ codes "sab" ∷ [])
     ≡ Some (record { columns = 4294967295; rows = 0; end_of_block = true; end_of_line = false; rows_are_byte_aligned = true; encoding = Group4; strict = true })
 flags = refl
+
+-- a mode of Group 3
+one_dimension : settings_of_words (codes "1d" ∷ codes "8" ∷ codes "0" ∷ codes "l" ∷ [])
+    ≡ Some (record { columns = 8; rows = 0; end_of_block = false; end_of_line = true; rows_are_byte_aligned = false; encoding = Group3_1D; strict = false })
+one_dimension = refl
+
+two_dimensions : settings_of_words (codes "2d" ∷ codes "8" ∷ codes "1" ∷ codes "sal" ∷ [])
+    ≡ Some (record { columns = 8; rows = 1; end_of_block = false; end_of_line = true; rows_are_byte_aligned = true; encoding = Group3_2D; strict = true })
+two_dimensions = refl
 
 -- a number too large, a number too long, a letter twice, no flag, another mode, a word too many
 too_large : settings_of_words (codes "g4" ∷ codes "4294967296" ∷ codes "1" ∷ codes "-" ∷ []) ≡ None
@@ -30,7 +39,7 @@ letter_twice = refl
 no_flag : settings_of_words (codes "g4" ∷ codes "8" ∷ codes "1" ∷ codes "" ∷ []) ≡ None
 no_flag = refl
 
-another_mode : settings_of_words (codes "1d" ∷ codes "8" ∷ codes "1" ∷ codes "-" ∷ []) ≡ None
+another_mode : settings_of_words (codes "3d" ∷ codes "8" ∷ codes "1" ∷ codes "-" ∷ []) ≡ None
 another_mode = refl
 
 a_word_too_many : settings_of_words (codes "g4" ∷ codes "8" ∷ codes "1" ∷ codes "-" ∷ codes "-" ∷ []) ≡ None

@@ -1,11 +1,13 @@
 -- What a run writes, from what decoding answers.
-use Rattle.std.proofs.Common.{◌≡◌, ◌<◌, ◌≤◌, ℕ, List, [], ◌∷◌, ◌++◌, refl, sym, ap, ◌∙◌, subst, take, length, map, take_all, arith, append_assoc, append-nil, Option, None, Some, Ok, Err, IfSome}
-use Rattle.std.specs.Prelude.{IfOk, IfErr, IsOk, IsErr}
+use Rattle.std.proofs.Common.{◌≡◌, ℕ, List, [], ◌∷◌, ◌++◌, refl, sym, ap, ◌∙◌, subst, take, length, map, take_all, arith, append_assoc, append-nil, Option, None, Some, Ok, Err, IfSome}
+use Rattle.std.specs.Prelude.{IsOk, IsErr}
 use Rattle.std.specs.List.{fold}
 use Rattle.std.proofs.lemmas.List.{take-map, length-map}
 use Rattle.hayro_ccitt.specs.declared.error.DecodeError.TheVariants.{UnexpectedEof, InvalidCode, Overflow, OutOfMemory, Refused}
 use Rattle.hayro_ccitt.specs.declared.settings.DecodeSettings.{DecodeSettings}
-use Rattle.hayro_ccitt.specs.Answers.{OnAnswer, IsFault, PaintsBlack, meaning_after}
+use Rattle.hayro_ccitt.specs.Answers.{meaning_after}
+use Rattle.hayro_ccitt.specs.Context.{Held}
+use Rattle.hayro_ccitt.specs.Decoding.{SinkState, TakesRows, StopsShort}
 use Rattle.hayro_ccitt.specs.PlainReading.{plain, lines_of}
 use Rattle.hayro_ccitt.specs.Rows.{Row, changes}
 use Rattle.faxrows.specs.declared.program.Done.TheVariants.{Good, Faulty}
@@ -17,34 +19,34 @@ fold_lines : (text : List ℕ) (rows : List (List ℕ)) → fold (λ t row. t ++
 fold_lines text [] = sym (append-nil text)
 fold_lines text (row ∷ rows) = fold_lines (text ++ line_of_row row) rows ∙ append_assoc text (line_of_row row) (lines_of_rows rows)
 
--- What decoding says of some data: the outcome, the number of rows that were taken, and the sink's text.
-pub record Decoded (settings : DecodeSettings) (input : List ℕ) (outcome : Outcome) (taken : ℕ) (text : List ℕ) : Type 0 where
-  pub meaning : text ≡ meaning_after (λ t row. t ++ line_of_row row) [] (take taken (plain settings input).rows)
-  pub within : taken ≤ length (plain settings input).rows
-  pub ok : IfOk outcome (λ n. outcome_of settings input ≡ Ok n)
-  pub fault : IfErr outcome (λ e. IsFault e → outcome_of settings input ≡ Err e)
-  pub all : OnAnswer outcome (taken ≡ length (plain settings input).rows)
-  pub memory : outcome ≡ Err OutOfMemory → PaintsBlack (lines_of settings input) taken
-  pub refused : outcome ≡ Err Refused → taken < length (plain settings input).rows
+-- the rows of some data were taken as lines of text
+abbrev pub TakesLines : DecodeSettings → List ℕ → SinkState (List ℕ) → SinkState (List ℕ) → Held → Outcome → Type 0
+TakesLines settings input before after held outcome =
+    TakesRows (plain settings input).rows (plain settings input).outcome (plain settings input).has_eols (λ text row. text ++ line_of_row row) before after held outcome
 
 -- the sink's text is the lines of the rows that were taken
-pub sink_text : (rows : List Row) (taken : ℕ) (text : List ℕ)
-    → text ≡ meaning_after (λ t row. t ++ line_of_row row) [] (take taken rows) → text ≡ lines_of_rows (take taken (map changes rows))
-sink_text rows taken text e = e ∙ fold_lines [] (map changes (take taken rows)) ∙ ap lines_of_rows (sym (take-map changes taken rows))
+pub sink_text : (settings : DecodeSettings) (input : List ℕ) (before after : SinkState (List ℕ)) (held : Held) (outcome : Outcome)
+    → before.meaning ≡ [] → TakesLines settings input before after held outcome → after.meaning ≡ lines_of_rows (take held.taken (rows_of settings input))
+sink_text settings input before after held outcome empty takes =
+    takes.meaning
+    ∙ ap (λ text. meaning_after (λ t row. t ++ line_of_row row) text (take held.taken (plain settings input).rows)) empty
+    ∙ fold_lines [] (map changes (take held.taken (plain settings input).rows))
+    ∙ ap lines_of_rows (sym (take-map changes held.taken (plain settings input).rows))
 
 -- as many rows were taken as their changes are listed
 all_changes : (rows : List Row) (taken : ℕ) → taken ≡ length rows → taken ≡ length (map changes rows)
 all_changes rows taken e = e ∙ sym (length-map rows changes)
 
 -- decoding ends as it may after the rows that were taken
-pub ends_after : (settings : DecodeSettings) (input : List ℕ) (outcome : Outcome) (taken : ℕ) (text : List ℕ)
-    → Decoded settings input outcome taken text → EndsAfter settings input taken outcome
-ends_after settings input (Ok n) taken text d = (all_changes _ taken d.all, d.ok)
-ends_after settings input (Err UnexpectedEof) taken text d = (all_changes _ taken (d.all tt), d.fault tt)
-ends_after settings input (Err InvalidCode) taken text d = (all_changes _ taken (d.all tt), d.fault tt)
-ends_after settings input (Err Overflow) taken text d = (all_changes _ taken (d.all tt), d.fault tt)
-ends_after settings input (Err OutOfMemory) taken text d = (rw (length-map (plain settings input).rows changes) d.within, d.memory refl)
-ends_after settings input (Err Refused) taken text d = rw (length-map (plain settings input).rows changes) (d.refused refl)
+pub ends_after : (settings : DecodeSettings) (input : List ℕ) (before after : SinkState (List ℕ)) (held : Held) (outcome : Outcome)
+    → TakesLines settings input before after held outcome → StopsShort (plain settings input).rows (lines_of settings input) before after held outcome
+    → EndsAfter settings input held.taken outcome
+ends_after settings input before after held (Ok n) takes short = (all_changes _ held.taken takes.all, takes.ok)
+ends_after settings input before after held (Err UnexpectedEof) takes short = (all_changes _ held.taken (takes.all tt), takes.fault tt)
+ends_after settings input before after held (Err InvalidCode) takes short = (all_changes _ held.taken (takes.all tt), takes.fault tt)
+ends_after settings input before after held (Err Overflow) takes short = (all_changes _ held.taken (takes.all tt), takes.fault tt)
+ends_after settings input before after held (Err OutOfMemory) takes short = (rw (length-map (plain settings input).rows changes) takes.taken, short.memory refl)
+ends_after settings input before after held (Err Refused) takes short = rw (length-map (plain settings input).rows changes) (short.refused refl)
 
 -- with all rows and the outcome of the plain reading, the whole text is written
 all_text : (settings : DecodeSettings) (input : List ℕ) (taken : ℕ) (outcome : Outcome)

@@ -4,7 +4,7 @@ use Rattle.std.specs.List.{list_all}
 use Rattle.std.specs.Char.{is_ascii_digit}
 use Rattle.std.specs.Str.Parse.{digits_value}
 use Rattle.hayro_ccitt.specs.declared.settings.EncodingMode.{EncodingMode}
-use Rattle.hayro_ccitt.specs.declared.settings.EncodingMode.TheVariants.{Group4}
+use Rattle.hayro_ccitt.specs.declared.settings.EncodingMode.TheVariants.{Group4, Group3_1D, Group3_2D}
 use Rattle.hayro_ccitt.specs.declared.settings.DecodeSettings.{DecodeSettings}
 
 -- what follows where there is a value
@@ -16,6 +16,8 @@ o >>= next = option_and_then next o
 abbrev pub mode_of : List ℕ → Option EncodingMode
 mode_of word =
     if bytes_eq word (codes "g4") then Some Group4
+    else if bytes_eq word (codes "1d") then Some Group3_1D
+    else if bytes_eq word (codes "2d") then Some Group3_2D
     else None
 
 -- one to ten digits

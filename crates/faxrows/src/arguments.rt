@@ -38,6 +38,8 @@ fn mode_of(word: &str) -> Option<EncodingMode>
 {
     match word {
         "g4" => Some(EncodingMode::Group4),
+        "1d" => Some(EncodingMode::Group3_1D),
+        "2d" => Some(EncodingMode::Group3_2D),
         _ => None,
     }
 }

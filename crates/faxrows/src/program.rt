@@ -11,7 +11,7 @@ use crate::arguments::settings_of;
 use crate::device::Device;
 use crate::last_line::{ROOM, error_line, put_ok};
 use crate::text_sink::TextSink;
-use hayro_ccitt::{DecodeError, DecoderContext, EncodingMode, decode};
+use hayro_ccitt::{DecodeError, DecoderContext, decode};
 use std::alloc::Global;
 use std::fmt;
 use std::io::{Read, Write};
@@ -119,7 +119,6 @@ fn write_decoded<W: Write>(
 ) -> std::result::Result<Done, RunFault>
     requires fit { BitsFit input.now }
     requires columns { ctx.old.held.settings.columns ≤ 4294967295 }
-    requires encoding { ctx.old.held.settings.encoding ≡ EncodingMode.Group4 }
     ensures written { IfOk result (λ done. (outcome : Outcome)
         × EndsAfter ctx.old.held.settings input.now ctx.new.held.taken outcome
         × (done ≡ done_of outcome)

@@ -34,7 +34,7 @@ HasBlack row = Contains row true
 abbrev pub StopsAtChange : Row → Row → Type 0
 StopsAtChange row front = (pixel : Bool) × (after : Row) × (row ≡ front ++ pixel ∷ after) × (pixel ≢ last_pixel false front)
 
--- ---- One line, and one step of it, as calls draw them.
+-- ---- One line, and one step of it, as calls draw them: what no reader of `decode` has to believe.
 
 -- What a call that draws a line answers, where the definition's line is known, and leaves in the front and of the
 -- bits: the whole line; or the broken one and its fault; or want of memory, where a changing element is to be stored

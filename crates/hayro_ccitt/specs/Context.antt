@@ -1,5 +1,5 @@
 -- What a context holds between its calls.
-use Rattle.std.specs.Prelude.{ℕ, zero, suc, ◌+◌, ◌-◌, [], ◌++◌, Bool, false, length, replicate, Result}
+use Rattle.std.specs.Prelude.{ℕ, zero, suc, ◌+◌, ◌-◌, [], ◌++◌, Bool, false, length, replicate, Result, ◌≡◌, ◌≤◌, ◌<◌, List, get_or}
 use Rattle.hayro_ccitt.specs.declared.codes.Color.{Color}
 use Rattle.hayro_ccitt.specs.declared.codes.Color.TheVariants.{White}
 use Rattle.hayro_ccitt.specs.declared.settings.DecodeSettings.{DecodeSettings}
@@ -51,6 +51,13 @@ redrawn h front color =
 -- a damaged line is repaired: its front is continued in white, and the colour is white (T.4, 4.1.2)
 abbrev pub after_repair : Held → Held
 after_repair h = redrawn h (repaired h.settings.columns h.front) White
+
+-- So many changes of a reference row are not right of a0, where so many pixels are painted: none, while a0 is left of the
+-- row; else those at or left of the place reached (T.4, 4.2.1.1).
+pub record ArePassed (places : List ℕ) (painted passed : ℕ) : Type 0 where
+  pub none : painted ≡ 0 → passed ≡ 0
+  pub within : passed ≤ length places
+  pub left : (k : ℕ) → k < passed → get_or places k 0 ≤ painted
 
 -- the first place right of a0, where so many pixels are painted (T.4, 4.2.1.1)
 abbrev pub right_of_painted : ℕ → ℕ

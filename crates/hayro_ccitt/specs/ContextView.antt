@@ -1,7 +1,8 @@
--- A context as it is seen from outside.
+-- A context as it is seen from outside. No reader has to believe this: contracts speak of what is seen, and the code is
+-- proved to keep what is inside lawful.
 use Rattle.std.specs.Prelude.{◌≤◌}
 use Rattle.hayro_ccitt.specs.Rows.{AreChanges, pixels}
-use Rattle.hayro_ccitt.specs.Context.{Context}
+use Rattle.hayro_ccitt.specs.Context.{Context, ArePassed}
 use Rattle.hayro_ccitt.specs.declared.context.DecoderContext.TheInside.{Inside}
 
 -- the rows that the lists of changes stand for
@@ -19,8 +20,10 @@ context_of c =
       ticks = c.ticks;
     }
 
--- both lists are lawful, the front's below the pixels decoded, and these at most the columns
+-- both lists are lawful, the front's below the pixels decoded, and these at most the columns; and the changes that were
+-- passed are not right of a0
 pub record IsLawful (c : Inside) : Type 0 where
   pub reference : AreChanges c.settings.columns c.ref_changes.items
   pub front : AreChanges c.pixels_decoded c.coding_changes.items
   pub within : c.pixels_decoded ≤ c.settings.columns
+  pub passed : ArePassed c.ref_changes.items c.pixels_decoded c.passed

@@ -10,12 +10,12 @@ use Rattle.hayro_ccitt.specs.Lines.{Line}
 use Rattle.hayro_ccitt.specs.PlainReading.{Gap}
 use Rattle.hayro_ccitt.specs.Rows.{Row, changes}
 
--- what a sink means, and whether it has refused a row
+-- glue: what a sink means, and whether it has refused a row
 pub record SinkState (M : Type 0) : Type 0 where
   pub meaning : M
   pub refused : Bool
 
--- ---- Whole data: the words of the contract of `decode`, and of the drivers' behind it
+-- ---- Whole data (glue): the words of the contract of `decode`, and of the drivers' behind it
 
 -- What was taken and answered, where a reading has these rows, ends so and leaves this of its EOLs: the first of its rows
 -- were taken, each as its changes, and all of them unless memory was wanted or a row was refused.

@@ -79,18 +79,18 @@ EncodesRowsWithEols encoding reference [] bits = bits ≡ []
 EncodesRowsWithEols encoding reference (row ∷ rows) bits = (fill : ℕ) × (line next : Bits)
     × EncodesLine encoding reference row line × EncodesRowsWithEols encoding row rows next × (bits ≡ eol fill ++ line ++ next)
 
--- the tag behind an EOL of RTC (T.4, 4.2.3)
+-- the tag behind an EOL of RTC (T.4, 4.2.4)
 abbrev pub tag_of : EncodingMode → Bits
 tag_of Group3_2D = true ∷ []
 tag_of Group3_1D = []
 tag_of Group4 = []
 
--- so many EOLs, each with its tag (T.4, 4.1.4 and 4.2.3)
+-- so many EOLs, each with its tag (T.4, 4.1.4 and 4.2.4)
 abbrev pub ClosesWithEols : EncodingMode → ℕ → Bits → Type 0
 ClosesWithEols encoding zero bits = bits ≡ []
 ClosesWithEols encoding (suc n) bits = (fill : ℕ) × (next : Bits) × ClosesWithEols encoding n next × (bits ≡ eol fill ++ tag_of encoding ++ next)
 
--- a T.4 stream, closed by RTC, which is six EOLs (T.4, 4.1.4 and 4.2.3)
+-- a T.4 stream, closed by RTC, which is six EOLs (T.4, 4.1.4 and 4.2.4)
 abbrev pub PictureT4 : EncodingMode → ℕ → List Row → Bits → Type 0
 PictureT4 encoding columns rows bits = (lines closing : Bits) × (0 < length rows) × IsPicture columns rows
     × EncodesRowsWithEols encoding (white_row columns) rows lines × ClosesWithEols encoding 6 closing × (bits ≡ lines ++ closing)

@@ -48,13 +48,13 @@ eols_with_tags (suc most) here = elim (after_eol 0 here) [
   | Some rest ↦ one_more (eols_with_tags most (past_tag rest))
 ]
 
--- six EOLs or more are RTC, and a tag of one after the last belongs to it (T.4, 4.2.3)
+-- six EOLs or more are RTC, and a tag of one after the last belongs to it (T.4, 4.2.4)
 abbrev pub pass_last_tag : ℕ × Bits → ℕ × Bits
 pass_last_tag (count, true ∷ here) = if nat_le 6 count then (count, here) else (count, true ∷ here)
 pass_last_tag (count, false ∷ here) = (count, false ∷ here)
 pass_last_tag (count, []) = (count, [])
 
 -- All EOLs of two-dimensional data that stand in a row here, with their tags: the last tag is the next line's, unless
--- they are RTC (T.4, 4.2.2 and 4.2.3).
+-- they are RTC (T.4, 4.2.2 and 4.2.4).
 abbrev pub tagged_eols : Bits → ℕ × Bits
 tagged_eols here = pass_last_tag (eols_with_tags (length here) here)

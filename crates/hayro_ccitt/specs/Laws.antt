@@ -124,7 +124,7 @@ ReadsPictureT6 = (settings : DecodeSettings) (rows : List Row) (bits : Bits) (by
     → plain settings bytes ≡ record { rows = rows; outcome = Ok ((length bits + 7) / 8); has_eols = false }
 
 -- A T.4 picture closed by RTC gives its rows, whatever follows. The count is the end of the EOLs that stand where the
--- last line ends, rounded up to a byte (T.4, 4.1.4 and 4.2.3).
+-- last line ends, rounded up to a byte (T.4, 4.1.4 and 4.2.4).
 abbrev pub ReadsPictureT4 : Type 0
 ReadsPictureT4 = (settings : DecodeSettings) (rows : List Row) (bits behind : Bits) (bytes : List ℕ) → AreSettings settings
     → BeginsWithPictureT4 settings rows bits behind (bits_of bytes)
@@ -134,7 +134,7 @@ ReadsPictureT4 = (settings : DecodeSettings) (rows : List Row) (bits behind : Bi
       has_eols = true;
     }
 
--- A closed picture of any kind gives its rows and its count, whatever follows (T.4, 4.1.4 and 4.2.3; T.6, 2.4.1.1).
+-- A closed picture of any kind gives its rows and its count, whatever follows (T.4, 4.1.4 and 4.2.4; T.6, 2.4.1.1).
 abbrev pub ReadsClosedPictures : Type 0
 ReadsClosedPictures = (settings : DecodeSettings) (rows : List Row) (count : ℕ) (bytes : List ℕ) → AreSettings settings
     → IsClosedPicture settings rows count (bits_of bytes)
@@ -161,7 +161,7 @@ ReadsLimitedPictures = (settings : DecodeSettings) (rows : List Row) (bytes : Li
     → IsLimitedPicture settings rows (bits_of bytes) → Gives settings bytes rows
 
 -- Every picture has encodings: as T.6, as T.4 with an EOL before each line, and as lines alone (T.4, 4.1.1, 4.1.4, 4.2.1
--- and 4.2.3; T.6, 2.2 and 2.4.1.1).
+-- and 4.2.4; T.6, 2.2 and 2.4.1.1).
 abbrev pub EveryPictureHasAnEncoding : Type 0
 EveryPictureHasAnEncoding = (columns : ℕ) (rows : List Row) → IsPicture columns rows
     → ((aligned : Bool) → (bits : Bits) × PictureT6 columns aligned rows bits)
@@ -179,7 +179,7 @@ abbrev pub OnePictureT6 : Type 0
 OnePictureT6 = (columns : ℕ) (aligned : Bool) (rows others : List Row) (bits more : Bits) → columns < 2 ^ 32
     → PictureT6 columns aligned rows bits → PictureT6 columns aligned others (bits ++ more) → rows ≡ others
 
--- Where one T.4 stream begins another of the same width and kind, their rows are equal (T.4, 4.1.4 and 4.2.3).
+-- Where one T.4 stream begins another of the same width and kind, their rows are equal (T.4, 4.1.4 and 4.2.4).
 abbrev pub OnePictureT4 : Type 0
 OnePictureT4 = (encoding : EncodingMode) (columns : ℕ) (rows others : List Row) (bits more : Bits) → encoding ≢ Group4 → columns < 2 ^ 32
     → PictureT4 encoding columns rows bits → PictureT4 encoding columns others (bits ++ more) → rows ≡ others

@@ -1,4 +1,4 @@
--- The count of a context, lent.
+-- The count of a context, lent. No reader has to believe this: it is how a loan is said.
 use Rattle.std.specs.Prelude.{ℕ}
 use Rattle.std.specs.Borrow.{Lends, MutBor, Fml}
 use Rattle.hayro_ccitt.specs.Context.{Context}

@@ -23,7 +23,7 @@ pub record BeginsWithPictureT6 (settings : DecodeSettings) (rows : List Row) (bi
   pub begins : IsPrefix bits whole
 
 -- The data begins with T.4 lines of these rows, an EOL before each, and behind them with RTC; and the settings look for
--- RTC and allow so many rows (T.4, 4.1.4 and 4.2.3).
+-- RTC and allow so many rows (T.4, 4.1.4 and 4.2.4).
 pub record BeginsWithPictureT4 (settings : DecodeSettings) (rows : List Row) (bits behind whole : Bits) : Type 0 where
   pub encoding : settings.encoding ≢ Group4
   pub end_of_block : settings.end_of_block ≡ true
@@ -35,12 +35,12 @@ pub record BeginsWithPictureT4 (settings : DecodeSettings) (rows : List Row) (bi
   pub begins : whole ≡ bits ++ behind
 
 -- The data begins with a closed picture of these rows, which ends with so many bytes, the last one rounded up (T.4, 4.1.4
--- and 4.2.3; T.6, 2.4.1.1).
+-- and 4.2.4; T.6, 2.4.1.1).
 pub data IsClosedPicture (settings : DecodeSettings) (rows : List Row) (count : ℕ) (whole : Bits) : Type 0 where
   -- in T.6 at the end of EOFB (T.6, 2.4.1.1)
   by_eofb : (bits : Bits) → BeginsWithPictureT6 settings rows bits whole → count ≡ (length bits + 7) / 8
       → IsClosedPicture settings rows count whole
-  -- in T.4 at the end of all the EOLs that stand where the last line ends, RTC being the first six (T.4, 4.1.4 and 4.2.3)
+  -- in T.4 at the end of all the EOLs that stand where the last line ends, RTC being the first six (T.4, 4.1.4 and 4.2.4)
   by_rtc : (bits behind : Bits) → BeginsWithPictureT4 settings rows bits behind whole
       → count ≡ (length whole - length (eols_group3 settings behind).1 + 7) / 8 → IsClosedPicture settings rows count whole
 

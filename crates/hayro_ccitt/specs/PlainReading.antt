@@ -11,7 +11,9 @@ use Rattle.hayro_ccitt.specs.Rows.{Row, white_row, repaired}
 use Rattle.hayro_ccitt.specs.Lines.{Line, line_1d, line_2d}
 use Rattle.hayro_ccitt.specs.EndOfLine.{eols, all_eols, tagged_eols, next_eol}
 
--- how far the reading came, between lines: the rows so far, whether EOLs are sought, the bits from here on
+-- ---- glue: between two turns, and what a turn comes to
+
+-- how far the reading came, between turns: the rows so far, whether EOLs are sought, the bits from here on
 pub record Progress : Type 0 where
   pub rows : List Row
   pub has_eols : Bool
@@ -198,7 +200,7 @@ abbrev pub move_group3 : DecodeSettings → Progress → Move
 move_group3 settings so_far =
     after_line_group3 settings so_far (line_at_group3 settings (row_before settings.columns so_far.rows) so_far.rest)
 
--- ---- The whole data
+-- ---- The whole data (T.4, 4.1 and 4.2; T.6, 2.2 and 2.4.1)
 
 -- rows are read from here on; there are at most two more turns than bits
 abbrev pub ending_from : (Progress → Move) → Progress → Ending
@@ -257,7 +259,7 @@ abbrev pub plain : DecodeSettings → List ℕ → Reading
 plain settings bytes =
     if settings.columns == 0 then nothing_read else whole_reading (bits_of bytes) (end_of settings (bits_of bytes))
 
--- ---- The lines that are read, one a turn
+-- ---- glue: the lines that are read, at most one a turn
 
 -- glue: the line of Group 4 behind a gap, if one stands there
 abbrev pub lines_at_gap_group4 : DecodeSettings → Progress → Gap → List Line

@@ -16,7 +16,7 @@ looked (false ∷ here) = suc (looked here)
 looked (true ∷ here) = 1
 
 -- the bits that are looked at where a tag between two EOLs may stand: the tag, and behind a one what a count of zeros
--- looks at
+-- looks at (T.4, 4.2.2)
 abbrev pub looked_at_tag : Bits → ℕ
 looked_at_tag [] = 0
 looked_at_tag (false ∷ here) = 1

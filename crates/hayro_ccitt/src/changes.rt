@@ -2,35 +2,41 @@
 
 ghost use Rattle.std.specs.Prelude.{◌≡◌, ◌≢◌, ◌+◌, ◌<◌, ◌≤◌, OnOk, OnErr, Err, IsOkUnless, false, length, get_or, ◌++◌, replicate};
 ghost use Rattle.hayro_ccitt.specs.Rows.{AreChanges, pixels, b1, b2, is_black, last_pixel};
-ghost use Rattle.hayro_ccitt.specs.Context.{right_of_painted};
+ghost use Rattle.hayro_ccitt.specs.Context.{right_of_painted, ArePassed};
 
 use crate::codes::{Color, Ticks};
 use crate::{DecodeError, Result};
 
 /// The index of b1 among the changes of a reference row, where so many pixels are painted and the next ones have
-/// this colour; b2 is the next change. Each change that is looked at is a tick.
+/// this colour; b2 is the next change. `passed` is how many changes are known not to be right of a0; afterwards it
+/// is how many there are. Each change that is looked at is a tick, and those that are known are not looked at.
 pub fn b1_index(
     changes: &[u32],
     painted: u32,
     color: Color,
     columns: u32,
+    passed: &mut usize,
     ticks: &mut Ticks,
 ) -> usize
-    requires { AreChanges columns changes.now }
+    requires lawful { AreChanges columns changes.now }
+    requires passed { ArePassed changes.now painted passed.old }
+    ensures passed { ArePassed changes.now painted passed.new }
     ensures b1 { b1 (pixels columns changes.now) (right_of_painted painted) color
         ≡ get_or changes.now result columns }
     ensures b2 { b2 (pixels columns changes.now) (right_of_painted painted) color
         ≡ get_or changes.now (result + 1) columns }
     ensures within { result ≤ length changes.now + 1 }
-    ensures counts { ticks.old ≤ ticks.new }
+    ensures forward { passed.old ≤ passed.new }
+    ensures work { ticks.new + passed.old ≡ ticks.old + passed.new + 1 }
 {
-    let mut index = 0;
+    let mut index = *passed;
     if painted > 0 {
         while index < changes.len() && changes[index] <= painted {
             ticks.tick();
             index += 1;
         }
     }
+    *passed = index;
     ticks.tick();
     // A change with an even index turns to black.
     if index.is_multiple_of(2) != color.is_white() {

@@ -397,7 +397,7 @@ impl<'a> BitReader<'a> {
         }
     }
 
-    /// Passes the tag of 1 after the last EOL, where so many EOLs are RTC: six or more (T.4 section 4.2.2). The bit
+    /// Passes the tag of 1 after the last EOL, where so many EOLs are RTC: six or more (T.4 section 4.2.4). The bit
     /// that is looked at is a tick.
     fn pass_last_tag(&mut self, count: usize, ticks: &mut Ticks)
         ensures rest { pass_last_tag (count, here self.old) ≡ (count, here self.new) }
@@ -441,9 +441,10 @@ impl<'a> BitReader<'a> {
         count
     }
 
-    /// Reads all EOLs in a row of two-dimensional data of Group 3, and answers how many there were (T.4 section
-    /// 4.2.2). A tag of 1 between two EOLs is passed; after the last EOL it is passed where there were six or more,
-    /// which are RTC. It never fails. Each bit that is looked at is a tick: one that is passed at most twice.
+    /// Reads all EOLs in a row of two-dimensional data of Group 3, and answers how many there were (T.4
+    /// sections 4.2.2 and 4.2.4). A tag of 1 between two EOLs is passed; after the last EOL it is passed where there
+    /// were six or more, which are RTC. It never fails. Each bit that is looked at is a tick: one that is passed at
+    /// most twice.
     pub fn read_tagged_eols(&mut self, ticks: &mut Ticks) -> usize
         ensures eols { tagged_eols (here self.old) ≡ (result, here self.new) }
         ensures same_bits { self.new.bits ≡ self.old.bits }

@@ -22,6 +22,9 @@ pub struct DecoderContext {
     ref_changes: Vec<u32>,
     coding_changes: Vec<u32>,
     pixels_decoded: u32,
+    /// How many changes of the reference row are not right of a0, as far as b1 was sought: it only moves forward in
+    /// a line.
+    passed: usize,
     color: Color,
     decoded_rows: u64,
     has_eols: bool,
@@ -58,6 +61,7 @@ impl DecoderContext {
             ref_changes: Vec::new(alloc),
             coding_changes: Vec::new(alloc),
             pixels_decoded: 0,
+            passed: 0,
             color: Color::White,
             decoded_rows: 0,
             has_eols: false,
@@ -112,6 +116,7 @@ impl DecoderContext {
         ensures frame { self.new ≡ record self.old { held = fresh self.old.held.settings } }
     {
         self.begin_line();
+        self.passed = 0;
         self.ref_changes.clear();
         self.decoded_rows = 0;
         self.has_eols = false;
@@ -119,8 +124,7 @@ impl DecoderContext {
 
     /// Makes all but the settings what a new context has.
     pub(crate) fn restart(&mut self)
-        ensures held { self.new.held ≡ fresh self.old.held.settings }
-        ensures count { self.new.ticks ≡ 0 }
+        ensures frame { self.new ≡ record { held = fresh self.old.held.settings; ticks = 0 } }
     {
         self.reset();
         self.ticks = Ticks::new();
@@ -132,6 +136,7 @@ impl DecoderContext {
     {
         self.coding_changes.clear();
         self.pixels_decoded = 0;
+        self.passed = 0;
         self.color = Color::White;
     }
 
@@ -224,6 +229,7 @@ impl DecoderContext {
             self.pixels_decoded,
             self.color,
             self.settings.columns,
+            &mut self.passed,
             &mut self.ticks,
         )
     }
@@ -263,7 +269,7 @@ impl DecoderContext {
     }
 
     /// Hands the row over to the sink, continued in its last colour where it isn't full.
-    #[tactic(auto, using(crate::proofs::ChangesAndPixels::front_fits))]
+    #[tactic(auto, using(crate::proofs::PixelRows::ChangesAndPixels::front_fits))]
     fn hand_over<D: Decoder>(&self, decoder: &mut D) -> Result<()>
         requires { self.now.held.settings.columns ≤ D.width decoder.old }
         ensures width { D.width decoder.new ≡ D.width decoder.old }
@@ -280,7 +286,7 @@ impl DecoderContext {
     /// Hands the row over, continued in its last colour where it isn't full. On Ok it is the reference row, the
     /// front is empty, the colour is white and one more row was taken. Where the sink refuses, the context and
     /// the sink's meaning are as before. It takes no memory.
-    #[tactic(auto, using(crate::proofs::ChangesAndPixels::front_fits))]
+    #[tactic(auto, using(crate::proofs::PixelRows::ChangesAndPixels::front_fits))]
     pub fn next_line<D: Decoder>(&mut self, decoder: &mut D) -> Result<()>
         requires width { self.old.held.settings.columns ≤ D.width decoder.old }
         requires rows { self.old.held.taken + 1 < 2 ^ 64 }
@@ -297,6 +303,8 @@ impl DecoderContext {
         self.hand_over(decoder)?;
         // The row that was handed over is whole.
         self.pixels_decoded = self.settings.columns;
+        // Nothing of the new reference row was passed.
+        self.passed = 0;
         mem::swap(&mut self.ref_changes, &mut self.coding_changes);
         self.begin_line();
         self.decoded_rows += 1;

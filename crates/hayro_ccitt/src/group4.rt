@@ -15,7 +15,7 @@ use crate::{Decoder, EncodingMode, Result};
 /// Reads the EOLs before a line, at most the two of EOFB with `end_of_block`, and answers how many there were.
 fn read_eols_before_line(ctx: &mut DecoderContext, reader: &mut BitReader<'_>) -> usize
     ensures eols { eols_group4 ctx.old.held.settings (here reader.old) ≡ (result, here reader.new) }
-    ensures same { reader.new.bits ≡ reader.old.bits }
+    ensures same_bits { reader.new.bits ≡ reader.old.bits }
     ensures held { ctx.new.held ≡ ctx.old.held }
     ensures counts { ctx.old.ticks ≤ ctx.new.ticks }
 {

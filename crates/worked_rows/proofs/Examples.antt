@@ -13,7 +13,7 @@ use Rattle.hayro_ccitt.specs.Locality.{IsLocal, IsLocalByTests, ComesToLine, End
 use Rattle.hayro_ccitt.specs.Repetition.{Turn, Reaches}
 use Rattle.hayro_ccitt.specs.PlainReading.{Progress, Move, start_group3, move_group3}
 use Rattle.hayro_ccitt.specs.declared.settings.DecodeSettings.{DecodeSettings}
-use Rattle.hayro_ccitt.proofs.Tests.{local_by_tests}
+use Rattle.hayro_ccitt.proofs.DamagedLines.LocalByTests.{local_by_tests}
 
 pub two_lines_encoded : EncodesTwoLines
 two_lines_encoded = (

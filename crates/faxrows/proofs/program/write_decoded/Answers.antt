@@ -1,25 +1,13 @@
-use Rattle.std.proofs.Common.{rules, ◌≡◌, ◌++◌, List, ℕ, subst, take}
+use Rattle.std.proofs.Common.{rules, ◌≡◌, ◌++◌, List, ℕ, subst, take, ◌∙◌}
 use Rattle.std.specs.Io.KnownBytes.{Appends}
 use Rattle.std.proofs.KnownBytes.{Appends-trans}
 use Rattle.faxrows.specs.Runs.{rows_of}
 use Rattle.faxrows.specs.Text.{lines_of_rows, line_of_outcome}
-use Rattle.faxrows.proofs.Texts.{Decoded, sink_text, ends_after}
+use Rattle.faxrows.proofs.Texts.{sink_text, ends_after}
 use Rattle.faxrows.proofs.program.write_decoded.Given.{Over}
 use Rattle.faxrows.proofs.program.write_decoded.Goals as goal
 
 module _ (g : Over) (c : goal.After-drop-sink-inside-2 g) where
-  -- what decoding said of its answer
-  decoded : Decoded c.args.ctx.now.held.settings c.args.input.now c.decode-outcome.result c.decode-outcome.new.ctx.held.taken c.text-lines.result.now
-  decoded = record {
-    meaning = search rules;
-    within = c.decode-outcome.ensures.taken;
-    ok = c.decode-outcome.ensures.ok;
-    fault = c.decode-outcome.ensures.fault;
-    all = c.decode-outcome.ensures.all;
-    memory = c.decode-outcome.ensures.memory;
-    refused = c.decode-outcome.ensures.refused;
-  }
-
   -- what the writer holds grew by a text
   abbrev Grew : List ℕ → Type 0
   Grew text = Appends (g.W.Write.contents c.args.writer.now.0) (g.W.Write.contents c.write_last_line.new.writer.0) text
@@ -32,12 +20,12 @@ module _ (g : Over) (c : goal.After-drop-sink-inside-2 g) where
 
   -- the sink's text is the lines of the rows that were taken
   lines : c.text-lines.result.now ≡ lines_of_rows (take c.decode-outcome.new.ctx.held.taken (rows_of c.args.ctx.now.held.settings c.args.input.now))
-  lines = sink_text _ _ _ decoded.meaning
+  lines = c.text-lines.ensures ∙ sink_text c.args.ctx.now.held.settings c.args.input.now _ _ _ _ (search rules) c.decode-outcome.ensures.reading
 
 pub returns-clause-written : goal.returns-clause-written
 returns-clause-written g c = (
   c.decode-outcome.result,
-  ends_after _ _ _ _ _ (decoded g c),
+  ends_after c.args.ctx.now.held.settings c.args.input.now _ _ _ _ c.decode-outcome.ensures.reading c.decode-outcome.ensures.short,
   c.done_of.ensures,
   subst (λ text. Grew g c (text ++ line_of_outcome c.decode-outcome.result)) (lines g c) (grew g c),
 )

@@ -1,6 +1,6 @@
 use Rattle.std.proofs.lemmas.Bool.{ltb-false}
 use Rattle.std.proofs.Common.{sym}
-use Rattle.hayro_ccitt.proofs.BitLists.{bit_there, bit_past}
+use Rattle.hayro_ccitt.proofs.BitReading.BitLists.{bit_there, bit_past}
 use Rattle.hayro_ccitt.proofs.bit_reader.bit_at.Goals as goal
 
 pub returns-in-None : goal.returns-in-None

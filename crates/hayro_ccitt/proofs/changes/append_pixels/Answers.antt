@@ -1,7 +1,7 @@
 use Rattle.std.proofs.Common.{◌≡◌, ◌+◌, length, refl, arith}
 use Rattle.std.proofs.lemmas.List.{append-nil}
-use Rattle.hayro_ccitt.proofs.ChangesAndPixels.{AreChanges-wider, AreChanges-push, pixels-same, pixels-push}
-use Rattle.hayro_ccitt.proofs.Painting.{last_pixel-agrees, last_pixel-differs, other_color}
+use Rattle.hayro_ccitt.proofs.PixelRows.ChangesAndPixels.{AreChanges-wider, AreChanges-push, pixels-same, pixels-push}
+use Rattle.hayro_ccitt.proofs.PixelRows.Painting.{last_pixel-agrees, last_pixel-differs, other_color}
 use Rattle.hayro_ccitt.proofs.changes.append_pixels.Goals.{else-count-gt0-via-then-count-gt0+else-last_is_white-is_white, else-count-gt0-via-else-count-gt0}
 use Rattle.hayro_ccitt.proofs.changes.append_pixels.Goals as goal
 

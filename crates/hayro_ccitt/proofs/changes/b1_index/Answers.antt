@@ -1,6 +1,6 @@
-use Rattle.std.proofs.Common.{◌+◌, arith}
+use Rattle.std.proofs.Common.{◌≡◌, sym, subst, ◌+◌, arith}
 use Rattle.hayro_ccitt.specs.Context.{right_of_painted}
-use Rattle.hayro_ccitt.proofs.ReferencePlaces.{IsSplit, IsSplit-painted, IsSplit-none, b1_first, b1_second, b2_after_b1}
+use Rattle.hayro_ccitt.proofs.PixelRows.ReferencePlaces.{IsSplit, IsSplit-painted, IsSplit-none, b1_first, b1_second, b2_after_b1}
 use Rattle.hayro_ccitt.proofs.changes.b1_index.Goals.{After-is_white, then-painted-gt0+then-loop-index-test+else-changes-index, then-painted-gt0+else-loop-index-test, else-painted-gt0}
 use Rattle.hayro_ccitt.proofs.changes.b1_index.Goals as goal
 
@@ -11,23 +11,26 @@ split c = elim c.if-painted-gt0.branch [
       (IsSplit-painted _ _ _ w.if-painted-gt0.true w.loop-index.invariant.within w.loop-index.invariant.left (λ l. w.if-changes-index.false))
   | then-painted-gt0+else-loop-index-test w ↦ rw w.index-is
       (IsSplit-painted _ _ _ w.if-painted-gt0.true w.loop-index.invariant.within w.loop-index.invariant.left (λ l. absurd (omega arith)))
-  | else-painted-gt0 w ↦ rw w.index-is (IsSplit-none _ _ w.if-painted-gt0.false)
+  | else-painted-gt0 w ↦
+      let none = c.requires.passed.none (omega (arith, w.if-painted-gt0.false)) in
+      let first : c.if-painted-gt0.index ≡ 0 = omega (arith, w.index-is, none) in
+      subst (IsSplit c.args.changes.now (right_of_painted c.args.painted)) (sym first) (IsSplit-none _ _ w.if-painted-gt0.false)
 ]
 
 pub returns-then-is_multiple_of-is_white-clause-b1 : goal.returns-then-is_multiple_of-is_white-clause-b1
 returns-then-is_multiple_of-is_white-clause-b1 c =
     b1_second c.args.columns c.args.changes.now (right_of_painted c.args.painted) c.if-painted-gt0.index c.args.color c.is_multiple_of.result c.is_white.result
-    c.requires (split (goal.at.returns-then-is_multiple_of-is_white-clause-b1 c).After-is_white) c.is_multiple_of.ensures c.is_white.ensures c.if-is_multiple_of-is_white.true
+    c.requires.lawful (split (goal.at.returns-then-is_multiple_of-is_white-clause-b1 c).After-is_white) c.is_multiple_of.ensures c.is_white.ensures c.if-is_multiple_of-is_white.true
 
 pub returns-then-is_multiple_of-is_white-clause-b2 : goal.returns-then-is_multiple_of-is_white-clause-b2
 returns-then-is_multiple_of-is_white-clause-b2 c =
-    b2_after_b1 c.args.columns c.args.changes.now (right_of_painted c.args.painted) (c.if-painted-gt0.index + 1) c.args.color c.requires (returns-then-is_multiple_of-is_white-clause-b1 c)
+    b2_after_b1 c.args.columns c.args.changes.now (right_of_painted c.args.painted) (c.if-painted-gt0.index + 1) c.args.color c.requires.lawful (returns-then-is_multiple_of-is_white-clause-b1 c)
 
 pub returns-else-is_multiple_of-is_white-clause-b1 : goal.returns-else-is_multiple_of-is_white-clause-b1
 returns-else-is_multiple_of-is_white-clause-b1 c =
     b1_first c.args.columns c.args.changes.now (right_of_painted c.args.painted) c.if-painted-gt0.index c.args.color c.is_multiple_of.result c.is_white.result
-    c.requires (split (goal.at.returns-else-is_multiple_of-is_white-clause-b1 c).After-is_white) c.is_multiple_of.ensures c.is_white.ensures c.if-is_multiple_of-is_white.false
+    c.requires.lawful (split (goal.at.returns-else-is_multiple_of-is_white-clause-b1 c).After-is_white) c.is_multiple_of.ensures c.is_white.ensures c.if-is_multiple_of-is_white.false
 
 pub returns-else-is_multiple_of-is_white-clause-b2 : goal.returns-else-is_multiple_of-is_white-clause-b2
 returns-else-is_multiple_of-is_white-clause-b2 c =
-    b2_after_b1 c.args.columns c.args.changes.now (right_of_painted c.args.painted) c.if-painted-gt0.index c.args.color c.requires (returns-else-is_multiple_of-is_white-clause-b1 c)
+    b2_after_b1 c.args.columns c.args.changes.now (right_of_painted c.args.painted) c.if-painted-gt0.index c.args.color c.requires.lawful (returns-else-is_multiple_of-is_white-clause-b1 c)

@@ -1,4 +1,4 @@
-use Rattle.std.proofs.Common.{ℕ, ◌-◌, ◌≤◌, ◌<◌, length, get_or}
+use Rattle.std.proofs.Common.{ℕ, ◌≡◌, ◌+◌, ◌-◌, ◌≤◌, ◌<◌, length, get_or}
 use Rattle.hayro_ccitt.proofs.changes.b1_index.Given as goal
 
 -- the changes so far are at most at a0
@@ -6,7 +6,8 @@ abbrev pub invariant-loop-index : goal.invariant-loop-index
 invariant-loop-index l = record {
   within : l.index ≤ length l.changes;
   left : (k : ℕ) → k < l.index → get_or l.changes k 0 ≤ l.painted;
-  counts : l.initial.ticks ≤ l.ticks;
+  forward : l.fn.passed ≤ l.index;
+  work : l.ticks + l.fn.passed ≡ l.fn.ticks + l.index;
 }
 
 abbrev pub decreases-loop-index : goal.decreases-loop-index

@@ -1,6 +1,6 @@
 use Rattle.std.proofs.Common.{◌≡◌, ◌+◌, Some, sym, arith}
 use Rattle.std.specs.Prelude.{slice_get}
-use Rattle.hayro_ccitt.proofs.ScanWords.{agreement_past, agreement_differs, agreement_goes_on}
+use Rattle.hayro_ccitt.proofs.BitReading.ScanWords.{agreement_past, agreement_differs, agreement_goes_on}
 use Rattle.hayro_ccitt.proofs.codes.agreement.Goals as goal
 
 pub returns-in-None : goal.returns-in-None

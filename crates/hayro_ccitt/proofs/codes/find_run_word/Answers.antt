@@ -1,7 +1,7 @@
 use Rattle.std.proofs.Common.{◌∙◌}
 use Rattle.hayro_ccitt.specs.Bits.{here}
 use Rattle.hayro_ccitt.specs.declared.tables.TheConstants.{COMMON_MAKEUP}
-use Rattle.hayro_ccitt.proofs.ScanWords.{word_at_three, first_of_three, second_of_three, third_of_three}
+use Rattle.hayro_ccitt.proofs.BitReading.ScanWords.{word_at_three, first_of_three, second_of_three, third_of_three}
 use Rattle.hayro_ccitt.proofs.codes.find_run_word.Goals as goal
 
 pub returns-in-Some-clause-found : goal.returns-in-Some-clause-found

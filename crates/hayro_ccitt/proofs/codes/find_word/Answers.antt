@@ -1,8 +1,8 @@
 use Rattle.std.proofs.Common.{sym, drop, ap, ◌∙◌, ◌+◌, ◌∷◌, arith}
 use Rattle.std.proofs.lemmas.List.{drop_more}
 use Rattle.hayro_ccitt.specs.Bits.{here, low_bits}
-use Rattle.hayro_ccitt.proofs.ReadCodes.{agreement_le}
-use Rattle.hayro_ccitt.proofs.ScanWords.{word_at_here, word_at_on}
+use Rattle.hayro_ccitt.proofs.CodeWords.ReadCodes.{agreement_le}
+use Rattle.hayro_ccitt.proofs.BitReading.ScanWords.{word_at_here, word_at_on}
 use Rattle.hayro_ccitt.proofs.codes.find_word.Goals as goal
 
 pub returns-then-agreement-width-clause-found : goal.returns-then-agreement-width-clause-found

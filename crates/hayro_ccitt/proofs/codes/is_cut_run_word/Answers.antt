@@ -3,7 +3,7 @@ use Rattle.hayro_ccitt.specs.Bits.{here}
 use Rattle.hayro_ccitt.specs.CodeLists.{numbered}
 use Rattle.hayro_ccitt.specs.CodeReading.{is_cut}
 use Rattle.hayro_ccitt.specs.declared.tables.TheConstants.{COMMON_MAKEUP}
-use Rattle.hayro_ccitt.proofs.ScanWords.{is_cut_three, or_left, or_right, or_three_left, or_three_right}
+use Rattle.hayro_ccitt.proofs.BitReading.ScanWords.{is_cut_three, or_left, or_right, or_three_left, or_three_right}
 use Rattle.hayro_ccitt.proofs.codes.is_cut_run_word.Goals.{then-is_cut_word, else-is_cut_word}
 use Rattle.hayro_ccitt.proofs.codes.is_cut_run_word.Goals as goal
 

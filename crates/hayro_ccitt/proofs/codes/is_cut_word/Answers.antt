@@ -1,7 +1,7 @@
 use Rattle.std.proofs.Common.{sym, drop, ap, ◌∙◌, ◌+◌, ◌∷◌}
 use Rattle.std.proofs.lemmas.List.{drop_more}
 use Rattle.hayro_ccitt.specs.Bits.{here}
-use Rattle.hayro_ccitt.proofs.ScanWords.{is_cut_here, is_cut_on}
+use Rattle.hayro_ccitt.proofs.BitReading.ScanWords.{is_cut_here, is_cut_on}
 use Rattle.hayro_ccitt.proofs.codes.is_cut_word.Goals as goal
 
 pub returns-then-from-left : goal.returns-then-from-left

@@ -5,10 +5,10 @@ use Rattle.hayro_ccitt.specs.Answers.{DrawsLine, pen_of, step_of_run}
 use Rattle.hayro_ccitt.specs.Bits.{Bits, here}
 use Rattle.hayro_ccitt.specs.Context.{Held, redrawn}
 use Rattle.hayro_ccitt.specs.Lines.{Line, Pen, line_1d}
-use Rattle.hayro_ccitt.proofs.Drawings.{drawn_by, step_1d}
-use Rattle.hayro_ccitt.proofs.Repeated.{after_turn}
-use Rattle.hayro_ccitt.proofs.DrawnLines.{open_by, line_by_run, line_1d_fails}
-use Rattle.hayro_ccitt.proofs.ReadLines.{drawn_run_shorter}
+use Rattle.hayro_ccitt.proofs.DrawingLines.Drawings.{drawn_by, step_1d}
+use Rattle.hayro_ccitt.proofs.Readings.Repeated.{after_turn}
+use Rattle.hayro_ccitt.proofs.DrawingLines.DrawnLines.{open_by, line_by_run, line_1d_fails}
+use Rattle.hayro_ccitt.proofs.DrawingLines.ReadLines.{drawn_run_shorter}
 use Rattle.hayro_ccitt.proofs.context.decode_1d_line.Goals as goal
 
 pub runs-smaller : goal.runs-smaller

@@ -1,7 +1,7 @@
 use Rattle.std.proofs.Common.{length}
 use Rattle.hayro_ccitt.specs.Bits.{here}
-use Rattle.hayro_ccitt.proofs.Drawings.{step_1d}
-use Rattle.hayro_ccitt.proofs.DrawnLines.{IsDrawnSoFar}
+use Rattle.hayro_ccitt.proofs.DrawingLines.Drawings.{step_1d}
+use Rattle.hayro_ccitt.proofs.DrawingLines.DrawnLines.{IsDrawnSoFar}
 use Rattle.hayro_ccitt.proofs.context.decode_1d_line.Given as goal
 
 abbrev pub invariant-runs : goal.invariant-runs

@@ -7,10 +7,10 @@ use Rattle.hayro_ccitt.specs.Bits.{Bits, here}
 use Rattle.hayro_ccitt.specs.Context.{Context, Held, redrawn}
 use Rattle.hayro_ccitt.specs.ContextView.{context_of}
 use Rattle.hayro_ccitt.specs.Lines.{Line, Pen, line_2d}
-use Rattle.hayro_ccitt.proofs.Drawings.{drawn_by, step_2d}
+use Rattle.hayro_ccitt.proofs.DrawingLines.Drawings.{drawn_by, step_2d}
 use Rattle.hayro_ccitt.specs.Repetition.{Turn}
-use Rattle.hayro_ccitt.proofs.Repeated.{after_turn}
-use Rattle.hayro_ccitt.proofs.DrawnLines.{open_by, line_by_mode, line_2d_fails, mode_shorter}
+use Rattle.hayro_ccitt.proofs.Readings.Repeated.{after_turn}
+use Rattle.hayro_ccitt.proofs.DrawingLines.DrawnLines.{open_by, line_by_mode, line_2d_fails, mode_shorter}
 use Rattle.hayro_ccitt.proofs.context.decode_2d_line.Goals as goal
 
 pub modes-smaller : goal.modes-smaller

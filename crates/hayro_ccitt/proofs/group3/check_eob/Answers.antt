@@ -1,6 +1,6 @@
 use Rattle.std.proofs.Common.{Bool, cond, Option, Some, None, ap, ◌∙◌, arith}
 use Rattle.hayro_ccitt.specs.Bits.{Bits, here}
-use Rattle.hayro_ccitt.proofs.Moves.{next_eol_found}
+use Rattle.hayro_ccitt.proofs.Readings.TurnsMoveOn.{next_eol_found}
 use Rattle.hayro_ccitt.proofs.group3.check_eob.Goals as goal
 
 pub returns-clause-counts : goal.returns-clause-counts

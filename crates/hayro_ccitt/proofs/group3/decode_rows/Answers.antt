@@ -6,9 +6,9 @@ use Rattle.hayro_ccitt.specs.Bits.{Bits, here}
 use Rattle.hayro_ccitt.specs.EndOfLine.{all_eols}
 use Rattle.hayro_ccitt.specs.Context.{Held}
 use Rattle.hayro_ccitt.specs.PlainReading.{move_group3, lines_of_move_group3, start_group3}
-use Rattle.hayro_ccitt.proofs.Moves.{left_group3}
-use Rattle.hayro_ccitt.proofs.RunsOverRows.{comes_first, held_between}
-use Rattle.hayro_ccitt.proofs.RowsOfGroup3.{by_rows_group3, left_start, fails_group3, misses_group3, ends_group3, next_between_group3, next_shorter_group3}
+use Rattle.hayro_ccitt.proofs.Readings.TurnsMoveOn.{left_group3}
+use Rattle.hayro_ccitt.proofs.Readings.RunsOverRows.{comes_first, held_between}
+use Rattle.hayro_ccitt.proofs.Readings.RowsOfGroup3.{by_rows_group3, left_start, fails_group3, misses_group3, ends_group3, next_between_group3, next_shorter_group3}
 use Rattle.hayro_ccitt.proofs.group3.decode_rows.Goals as goal
 
 pub rows-init : goal.rows-init

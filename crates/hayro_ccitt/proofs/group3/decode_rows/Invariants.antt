@@ -1,8 +1,8 @@
 use Rattle.std.proofs.Common.{◌≡◌, ◌≤◌, suc, cond, length}
 use Rattle.hayro_ccitt.specs.Bits.{here}
 use Rattle.hayro_ccitt.specs.PlainReading.{move_group3, lines_of_move_group3, start_group3}
-use Rattle.hayro_ccitt.proofs.Moves.{left_group3}
-use Rattle.hayro_ccitt.proofs.RunsOverRows.{Between}
+use Rattle.hayro_ccitt.proofs.Readings.TurnsMoveOn.{left_group3}
+use Rattle.hayro_ccitt.proofs.Readings.RunsOverRows.{Between}
 use Rattle.hayro_ccitt.proofs.group3.decode_rows.Given as goal
 
 -- some rows were read and taken, and the reading comes to them with what is left

@@ -1,5 +1,5 @@
 use Rattle.std.proofs.Common.{◌≡◌, true, false, arith}
-use Rattle.hayro_ccitt.proofs.ZeroRuns.{here_next}
+use Rattle.hayro_ccitt.proofs.BitReading.ZeroRuns.{here_next}
 use Rattle.hayro_ccitt.proofs.group3.decode_tagged_line.Goals as goal
 
 pub returns-then-tag-eq1-clause-line : goal.returns-then-tag-eq1-clause-line

@@ -5,8 +5,8 @@ use Rattle.hayro_ccitt.specs.declared.settings.DecodeSettings.{DecodeSettings}
 use Rattle.hayro_ccitt.specs.Bits.{Bits, here}
 use Rattle.hayro_ccitt.specs.EndOfLine.{all_eols}
 use Rattle.hayro_ccitt.specs.PlainReading.{eols_by}
-use Rattle.hayro_ccitt.proofs.EolCounts.{all_eols_leave}
-use Rattle.hayro_ccitt.proofs.Moves.{tagged_eols_counted}
+use Rattle.hayro_ccitt.proofs.BitReading.EolCounts.{all_eols_leave}
+use Rattle.hayro_ccitt.proofs.Readings.TurnsMoveOn.{tagged_eols_counted}
 use Rattle.hayro_ccitt.proofs.group3.read_eols.Goals as goal
 
 -- one-dimensional lines have no tags, nor have those of Group 4

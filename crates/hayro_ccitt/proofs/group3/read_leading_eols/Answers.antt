@@ -1,7 +1,7 @@
 use Rattle.std.proofs.Common.{ℕ, length, ap, arith}
 use Rattle.hayro_ccitt.specs.Bits.{Bits, here}
 use Rattle.hayro_ccitt.specs.Context.{Context}
-use Rattle.hayro_ccitt.proofs.Moves.{eols_shorter}
+use Rattle.hayro_ccitt.proofs.Readings.TurnsMoveOn.{eols_shorter}
 use Rattle.hayro_ccitt.proofs.group3.read_leading_eols.Goals as goal
 
 pub returns-clause-counts : goal.returns-clause-counts

@@ -3,8 +3,8 @@ use Rattle.std.proofs.lemmas.Result.{err_from_is_err_and}
 use Rattle.hayro_ccitt.specs.Bits.{here}
 use Rattle.hayro_ccitt.specs.Context.{Held}
 use Rattle.hayro_ccitt.specs.PlainReading.{line_at_group3}
-use Rattle.hayro_ccitt.proofs.FullRows.{IsFull, line_by_full, repaired_full}
-use Rattle.hayro_ccitt.proofs.UnreadRows.{isnt_repaired}
+use Rattle.hayro_ccitt.proofs.DrawingLines.FullRows.{IsFull, line_by_full, repaired_full}
+use Rattle.hayro_ccitt.proofs.DrawingLines.UnreadRows.{isnt_repaired}
 use Rattle.hayro_ccitt.proofs.group3.read_row.Goals.{in-Err+in_ok-recover, in_default}
 use Rattle.hayro_ccitt.proofs.group3.read_row.Goals as goal
 

@@ -3,9 +3,9 @@ use Rattle.std.proofs.lemmas.Result.{err_from_is_err_and}
 use Rattle.hayro_ccitt.specs.Bits.{here}
 use Rattle.hayro_ccitt.specs.Context.{Held}
 use Rattle.hayro_ccitt.specs.PlainReading.{move_group4, lines_of_move_group4, start_group4}
-use Rattle.hayro_ccitt.proofs.Moves.{left}
-use Rattle.hayro_ccitt.proofs.RunsOverRows.{comes_first}
-use Rattle.hayro_ccitt.proofs.RowsOfGroup4.{by_rows_group4, fails_group4, next_between, next_eols, next_shorter}
+use Rattle.hayro_ccitt.proofs.Readings.TurnsMoveOn.{left}
+use Rattle.hayro_ccitt.proofs.Readings.RunsOverRows.{comes_first}
+use Rattle.hayro_ccitt.proofs.Readings.RowsOfGroup4.{by_rows_group4, fails_group4, next_between, next_eols, next_shorter}
 use Rattle.hayro_ccitt.proofs.group4.decode.Goals as goal
 
 pub rows-init : goal.rows-init

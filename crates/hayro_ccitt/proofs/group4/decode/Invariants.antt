@@ -1,8 +1,8 @@
 use Rattle.std.proofs.Common.{◌≡◌, ◌≤◌, false, length}
 use Rattle.hayro_ccitt.specs.Bits.{here}
 use Rattle.hayro_ccitt.specs.PlainReading.{move_group4, lines_of_move_group4, start_group4}
-use Rattle.hayro_ccitt.proofs.Moves.{left}
-use Rattle.hayro_ccitt.proofs.RunsOverRows.{Between}
+use Rattle.hayro_ccitt.proofs.Readings.TurnsMoveOn.{left}
+use Rattle.hayro_ccitt.proofs.Readings.RunsOverRows.{Between}
 use Rattle.hayro_ccitt.proofs.group4.decode.Given as goal
 
 -- some rows were read and taken, and the reading comes to them with what is left

@@ -1,6 +1,6 @@
 use Rattle.std.proofs.Common.{arith}
 use Rattle.hayro_ccitt.specs.Bits.{here}
-use Rattle.hayro_ccitt.proofs.EolCounts.{eols_leave, all_eols_leave}
+use Rattle.hayro_ccitt.proofs.BitReading.EolCounts.{eols_leave, all_eols_leave}
 use Rattle.hayro_ccitt.proofs.group4.read_eols_before_line.Goals as goal
 
 pub returns-then-settings-clause-counts : goal.returns-then-settings-clause-counts

@@ -1,11 +1,11 @@
 use Rattle.std.proofs.lemmas.Result.{err_from_is_err_and}
 use Rattle.hayro_ccitt.specs.Answers.{line_from_2d}
 use Rattle.hayro_ccitt.specs.PlainReading.{row_group4}
-use Rattle.hayro_ccitt.proofs.UnreadRows.{is_unread}
+use Rattle.hayro_ccitt.proofs.DrawingLines.UnreadRows.{is_unread}
 use Rattle.std.proofs.Common.{ap, subst}
 use Rattle.hayro_ccitt.specs.Bits.{here}
 use Rattle.hayro_ccitt.specs.Context.{Held}
-use Rattle.hayro_ccitt.proofs.FullRows.{IsFull, line_2d_full}
+use Rattle.hayro_ccitt.proofs.DrawingLines.FullRows.{IsFull, line_2d_full}
 use Rattle.hayro_ccitt.proofs.group4.read_row.Goals as goal
 
 pub take_row-requires-clause-full : goal.take_row-requires-clause-full

@@ -1,4 +1,4 @@
-use Rattle.hayro_ccitt.proofs.ChangesAndPixels.{length-pixels, changes-pixels, AreChanges-changes, pixels-changes}
+use Rattle.hayro_ccitt.proofs.PixelRows.ChangesAndPixels.{length-pixels, changes-pixels, AreChanges-changes, pixels-changes}
 use Rattle.hayro_ccitt.proofs.laws.changes_are_rows.Goals as goal
 
 pub returns : goal.returns

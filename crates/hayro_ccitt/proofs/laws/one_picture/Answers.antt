@@ -1,5 +1,5 @@
-use Rattle.hayro_ccitt.proofs.PicturesT6.{one_picture_t6}
-use Rattle.hayro_ccitt.proofs.PicturesT4.{one_picture_t4}
+use Rattle.hayro_ccitt.proofs.EncodedPictures.PicturesT6.{one_picture_t6}
+use Rattle.hayro_ccitt.proofs.EncodedPictures.PicturesT4.{one_picture_t4}
 use Rattle.hayro_ccitt.proofs.laws.one_picture.Goals as goal
 
 pub returns-clause-t6 : goal.returns-clause-t6

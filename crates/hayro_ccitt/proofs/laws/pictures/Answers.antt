@@ -1,4 +1,4 @@
-use Rattle.hayro_ccitt.proofs.PicturesOfEachKind.{closed_pictures, limited_pictures}
+use Rattle.hayro_ccitt.proofs.EncodedPictures.PicturesOfEachKind.{closed_pictures, limited_pictures}
 use Rattle.hayro_ccitt.proofs.laws.pictures.Goals as goal
 
 pub returns-clause-closed : goal.returns-clause-closed

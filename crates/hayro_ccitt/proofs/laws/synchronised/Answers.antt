@@ -1,4 +1,4 @@
-use Rattle.hayro_ccitt.proofs.WordsFound.{words_synchronised}
+use Rattle.hayro_ccitt.proofs.CodeWords.WordsFound.{words_synchronised}
 use Rattle.hayro_ccitt.proofs.laws.synchronised.Goals as goal
 
 pub returns-clause-law : goal.returns-clause-law

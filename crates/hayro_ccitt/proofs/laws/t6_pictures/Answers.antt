@@ -1,4 +1,4 @@
-use Rattle.hayro_ccitt.proofs.PicturesT6.{closed_picture_t6, limited_rows_t6}
+use Rattle.hayro_ccitt.proofs.EncodedPictures.PicturesT6.{closed_picture_t6, limited_rows_t6}
 use Rattle.hayro_ccitt.proofs.laws.t6_pictures.Goals as goal
 
 pub returns-clause-closed : goal.returns-clause-closed

@@ -5,8 +5,8 @@ use Rattle.std.proofs.lemmas.Result.{IfOk-weaker}
 use Rattle.hayro_ccitt.specs.declared.settings.DecodeSettings.{DecodeSettings}
 use Rattle.hayro_ccitt.specs.Bits.{bits_of}
 use Rattle.hayro_ccitt.specs.Locality.{IsLocal, EndsBefore}
-use Rattle.hayro_ccitt.proofs.BitLists.{length-bits_of}
-use Rattle.hayro_ccitt.proofs.BodyTests.{local_by_end, tests_of}
+use Rattle.hayro_ccitt.proofs.BitReading.BitLists.{length-bits_of}
+use Rattle.hayro_ccitt.proofs.DamagedLines.BodyTests.{local_by_end, tests_of}
 use Rattle.hayro_ccitt.proofs.locality.body_is_local.Goals as goal
 use Rattle.hayro_ccitt.proofs.locality.body_is_local.Goals.{then-not-is_lenient_1d-via-then-not-is_lenient_1d, then-not-is_lenient_1d-via-else-not-is_lenient_1d+then-from-to, then-not-is_lenient_1d-via-else-not-is_lenient_1d+else-from-to+then-to-data}
 use Rattle.hayro_ccitt.proofs.locality.body_is_local.Goals.{then-not-is_behind_eol-via-then-not-is_behind_eol, then-not-is_behind_eol-via-else-not-is_behind_eol+then-not-holds_one, then-not-is_behind_eol-via-else-not-is_behind_eol+else-not-holds_one+then-holds_eol}

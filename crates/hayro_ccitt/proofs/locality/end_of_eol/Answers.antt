@@ -1,6 +1,6 @@
 use Rattle.std.proofs.Common.{ap, ◌∙◌, length, arith}
 use Rattle.hayro_ccitt.specs.Bits.{BitsAt}
-use Rattle.hayro_ccitt.proofs.BitLists.{length-bits_of}
+use Rattle.hayro_ccitt.proofs.BitReading.BitLists.{length-bits_of}
 use Rattle.hayro_ccitt.proofs.locality.end_of_eol.Goals as goal
 
 pub returns-clause-within : goal.returns-clause-within

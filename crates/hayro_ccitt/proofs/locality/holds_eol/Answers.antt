@@ -1,9 +1,8 @@
-use Rattle.std.proofs.Common.{◌≡◌, ℕ, ◌-◌, length, drop, Option, Some, None, sym, ap, ◌∙◌, arith}
+use Rattle.std.proofs.Common.{◌≡◌, ℕ, ◌-◌, length, drop, None, sym, ap, ◌∙◌, arith}
 use Rattle.hayro_ccitt.specs.Bits.{Bits, BitsAt, bits_of, here}
 use Rattle.hayro_ccitt.specs.EndOfLine.{after_eol, next_eol}
-use Rattle.hayro_ccitt.proofs.BitLists.{length-bits_of}
-use Rattle.hayro_ccitt.proofs.Moves.{next_eol_found}
-use Rattle.hayro_ccitt.proofs.BodyTests.{no_eol_in_front, eol_by_ends}
+use Rattle.hayro_ccitt.proofs.BitReading.BitLists.{length-bits_of}
+use Rattle.hayro_ccitt.proofs.DamagedLines.BodyTests.{no_eol_in_front, eol_by_ends, eol_found_stands}
 use Rattle.hayro_ccitt.proofs.locality.holds_eol.Goals as goal
 
 pub returns-then-not-skip_to_eol : goal.returns-then-not-skip_to_eol
@@ -38,6 +37,6 @@ returns-in-None c =
     let same = c.skip_to_eol.ensures.same_bits ∙ ap (λ (at : BitsAt). at.bits) c.starting_at-reader.ensures in
     let found : here c.skip_to_eol.new.self ≡ drop c.bit_pos.result bits = ap (λ (b : Bits). drop c.skip_to_eol.new.self.place b) same
     ∙ ap (λ (n : ℕ). drop n bits) (sym c.bit_pos.ensures.place) in
-    let stands = next_eol_found (here c.starting_at-reader.result) (here c.skip_to_eol.new.self) next in
     let none = rw c.in-None.is at c.end_of_eol.ensures.end in
-    absurd (let both : ◌≡◌ {A = Option Bits} None (Some stands.1.0) = sym none ∙ ap (after_eol 0) (sym found) ∙ stands.1.1 in cc)
+    let nothing : after_eol 0 (here c.skip_to_eol.new.self) ≡ None = ap (after_eol 0) found ∙ none in
+    absurd (eol_found_stands (here c.starting_at-reader.result) (here c.skip_to_eol.new.self) next nothing)

@@ -5,9 +5,9 @@ use Rattle.hayro_ccitt.specs.Answers.{DrawsLine}
 use Rattle.hayro_ccitt.specs.Bits.{Bits, BitsAt, bits_of, here}
 use Rattle.hayro_ccitt.specs.Context.{Context}
 use Rattle.hayro_ccitt.specs.Lines.{Line, line_1d}
-use Rattle.hayro_ccitt.proofs.BitLists.{length-bits_of}
-use Rattle.hayro_ccitt.proofs.BodyTests.{lenient_line, whole_ends, broken_ends}
-use Rattle.hayro_ccitt.proofs.DrawnLines.{memory_has_black}
+use Rattle.hayro_ccitt.proofs.BitReading.BitLists.{length-bits_of}
+use Rattle.hayro_ccitt.proofs.DamagedLines.BodyTests.{lenient_line, whole_ends, broken_ends}
+use Rattle.hayro_ccitt.proofs.DrawingLines.DrawnLines.{memory_has_black}
 use Rattle.hayro_ccitt.proofs.locality.line_ends_before.Goals as goal
 
 pub overflow_add-result : goal.overflow_add-result

@@ -1,6 +1,6 @@
 use Rattle.std.proofs.Common.{arith}
-use Rattle.hayro_ccitt.proofs.BitLists.{length-bits_of}
-use Rattle.hayro_ccitt.proofs.BitPlaces.{aligned-drop}
+use Rattle.hayro_ccitt.proofs.BitReading.BitLists.{length-bits_of}
+use Rattle.hayro_ccitt.proofs.BitReading.BitPlaces.{aligned-drop}
 use Rattle.hayro_ccitt.proofs.bit_reader.BitReader.align.Goals as goal
 
 pub returns-clause-rest : goal.returns-clause-rest

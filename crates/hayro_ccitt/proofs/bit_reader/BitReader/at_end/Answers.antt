@@ -1,6 +1,6 @@
 use Rattle.std.proofs.Common.{arith}
-use Rattle.hayro_ccitt.proofs.BitLists.{length-bits_of}
-use Rattle.hayro_ccitt.proofs.BitPlaces.{at_end-drop, within_bits}
+use Rattle.hayro_ccitt.proofs.BitReading.BitLists.{length-bits_of}
+use Rattle.hayro_ccitt.proofs.BitReading.BitPlaces.{at_end-drop, within_bits}
 use Rattle.hayro_ccitt.proofs.bit_reader.BitReader.at_end.Goals as goal
 
 pub returns-clause-end : goal.returns-clause-end

@@ -1,4 +1,4 @@
-use Rattle.hayro_ccitt.proofs.BitPlaces.{within_bits}
+use Rattle.hayro_ccitt.proofs.BitReading.BitPlaces.{within_bits}
 use Rattle.hayro_ccitt.proofs.bit_reader.BitReader.bit_pos.Goals as goal
 
 pub returns-clause-within : goal.returns-clause-within

@@ -1,5 +1,5 @@
 use Rattle.std.proofs.Common.{arith}
-use Rattle.hayro_ccitt.proofs.BitLists.{length-bits_of}
+use Rattle.hayro_ccitt.proofs.BitReading.BitLists.{length-bits_of}
 use Rattle.hayro_ccitt.proofs.bit_reader.BitReader.copy.Goals as goal
 
 pub returns-clause-fit : goal.returns-clause-fit

@@ -1,7 +1,7 @@
 use Rattle.std.proofs.Common.{sym, ◌∙◌}
 use Rattle.hayro_ccitt.specs.Bits.{here}
 use Rattle.hayro_ccitt.specs.CodeLists.{mode_codes}
-use Rattle.hayro_ccitt.proofs.ScanWords.{read_code_cut, read_code_none}
+use Rattle.hayro_ccitt.proofs.BitReading.ScanWords.{read_code_cut, read_code_none}
 use Rattle.hayro_ccitt.proofs.bit_reader.BitReader.decode_mode.Goals as goal
 
 pub returns-then-is_cut_word-clause-mode : goal.returns-then-is_cut_word-clause-mode

@@ -5,9 +5,9 @@ use Rattle.hayro_ccitt.specs.declared.error.DecodeError.{DecodeError}
 use Rattle.hayro_ccitt.specs.Bits.{here}
 use Rattle.hayro_ccitt.specs.Runs.{codes_of, run_from}
 use Rattle.hayro_ccitt.specs.Ticks.{run_found}
-use Rattle.hayro_ccitt.proofs.TickTurns.{run_found_on, run_found_missed}
-use Rattle.hayro_ccitt.proofs.ReadCodes.{read_code_missed}
-use Rattle.hayro_ccitt.proofs.ReadRuns.{read_code_shorter, words_not_empty, run_goes_on}
+use Rattle.hayro_ccitt.proofs.CodeWords.RunWords.{run_found_on, run_found_missed}
+use Rattle.hayro_ccitt.proofs.CodeWords.ReadCodes.{read_code_missed}
+use Rattle.hayro_ccitt.proofs.CodeWords.ReadRuns.{read_code_shorter, words_not_empty, run_goes_on}
 use Rattle.hayro_ccitt.proofs.bit_reader.BitReader.decode_run.Goals as goal
 
 -- a sum that was added with a test

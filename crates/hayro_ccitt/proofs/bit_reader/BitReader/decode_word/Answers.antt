@@ -4,7 +4,7 @@ use Rattle.hayro_ccitt.specs.Bits.{Bits, here}
 use Rattle.hayro_ccitt.specs.CodeLists.{Code}
 use Rattle.hayro_ccitt.specs.CodeReading.{read_code}
 use Rattle.hayro_ccitt.specs.Runs.{codes_of}
-use Rattle.hayro_ccitt.proofs.TablesAgree.{numbered_white, numbered_black}
+use Rattle.hayro_ccitt.proofs.BitReading.TablesAgree.{numbered_white, numbered_black}
 use Rattle.hayro_ccitt.proofs.bit_reader.BitReader.decode_word.Goals as goal
 
 -- what was read of one list was read of an equal one

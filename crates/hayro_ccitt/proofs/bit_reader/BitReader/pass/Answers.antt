@@ -1,6 +1,6 @@
 use Rattle.std.proofs.Common.{◌≤◌, length, drop, arith}
 use Rattle.hayro_ccitt.specs.Bits.{bits_of}
-use Rattle.hayro_ccitt.proofs.BitPlaces.{within_after}
+use Rattle.hayro_ccitt.proofs.BitReading.BitPlaces.{within_after}
 use Rattle.hayro_ccitt.proofs.bit_reader.BitReader.pass.Goals as goal
 
 pub overflow_add-self : goal.overflow_add-self

@@ -1,8 +1,8 @@
 use Rattle.std.proofs.Common.{◌≡◌, true, false, sym, ap, ◌∙◌, arith}
 use Rattle.hayro_ccitt.specs.Bits.{Bits, BitsAt, here}
 use Rattle.hayro_ccitt.specs.EndOfLine.{pass_last_tag}
-use Rattle.hayro_ccitt.proofs.ZeroRuns.{here_next}
-use Rattle.hayro_ccitt.proofs.TaggedEols.{last_tag-one}
+use Rattle.hayro_ccitt.proofs.BitReading.ZeroRuns.{here_next}
+use Rattle.hayro_ccitt.proofs.BitReading.TaggedEols.{last_tag-one}
 use Rattle.hayro_ccitt.proofs.bit_reader.BitReader.pass_last_tag.Goals as goal
 
 pub returns-in-Ok-eq0-clause-rest : goal.returns-in-Ok-eq0-clause-rest

@@ -2,8 +2,8 @@ use Rattle.std.proofs.Common.{◌≡◌, true, false, sym, ap, ◌∙◌, arith}
 use Rattle.hayro_ccitt.specs.Bits.{BitsAt, here}
 use Rattle.hayro_ccitt.specs.EndOfLine.{past_tag}
 use Rattle.hayro_ccitt.specs.Ticks.{looked_at_tag}
-use Rattle.hayro_ccitt.proofs.ZeroRuns.{here_next}
-use Rattle.hayro_ccitt.proofs.TaggedEols.{past_tag-eol, past_tag-none}
+use Rattle.hayro_ccitt.proofs.BitReading.ZeroRuns.{here_next}
+use Rattle.hayro_ccitt.proofs.BitReading.TaggedEols.{past_tag-eol, past_tag-none}
 use Rattle.hayro_ccitt.proofs.bit_reader.BitReader.pass_tag.Goals as goal
 
 pub returns-in-Ok-eq0-clause-rest : goal.returns-in-Ok-eq0-clause-rest

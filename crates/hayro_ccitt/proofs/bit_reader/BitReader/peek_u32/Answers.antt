@@ -3,7 +3,7 @@ use Rattle.std.specs.Option.{unwrap_or}
 use Rattle.std.proofs.lemmas.Option.{unwrap_or-slice_get}
 use mir.Val.{bool_byte}
 use Rattle.hayro_ccitt.specs.Bits.{bits_of}
-use Rattle.hayro_ccitt.proofs.BitPlaces.{shifted_or, fits_more, holds_more}
+use Rattle.hayro_ccitt.proofs.BitReading.BitPlaces.{shifted_or, fits_more, holds_more}
 use Rattle.hayro_ccitt.proofs.bit_reader.BitReader.peek_u32.Goals as goal
 
 pub loop-ahead-preserved : goal.loop-ahead-preserved

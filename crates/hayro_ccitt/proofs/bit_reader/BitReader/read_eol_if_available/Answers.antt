@@ -1,6 +1,6 @@
 use Rattle.std.proofs.Common.{arith}
 use Rattle.hayro_ccitt.specs.Bits.{here}
-use Rattle.hayro_ccitt.proofs.ZeroRuns.{eols_look_on}
+use Rattle.hayro_ccitt.proofs.BitReading.ZeroRuns.{eols_look_on}
 use Rattle.hayro_ccitt.proofs.bit_reader.BitReader.read_eol_if_available.Goals as goal
 
 pub returns-clause-eols : goal.returns-clause-eols

@@ -2,7 +2,7 @@ use Rattle.std.proofs.Common.{◌≡◌, Some, ◌∙◌, refl, arith}
 use Rattle.std.proofs.lemmas.Bool.{le-leb}
 use Rattle.hayro_ccitt.specs.Bits.{here}
 use Rattle.hayro_ccitt.specs.EndOfLine.{after_eol}
-use Rattle.hayro_ccitt.proofs.ZeroRuns.{looked_eol, eols_stepped}
+use Rattle.hayro_ccitt.proofs.BitReading.ZeroRuns.{looked_eol, eols_stepped}
 use Rattle.hayro_ccitt.proofs.bit_reader.BitReader.read_eols.Goals as goal
 
 pub eols-preserved : goal.eols-preserved

@@ -1,6 +1,6 @@
 use Rattle.std.proofs.Common.{◌≡◌, ℕ, ◌+◌, ◌*◌, ◌<◌, length, ◌∙◌, arith}
 use Rattle.hayro_ccitt.specs.Bits.{here}
-use Rattle.hayro_ccitt.proofs.TaggedEols.{one_eol_read, tagged_stepped, tagged_looks}
+use Rattle.hayro_ccitt.proofs.BitReading.TaggedEols.{one_eol_read, tagged_stepped, tagged_looks}
 use Rattle.hayro_ccitt.proofs.bit_reader.BitReader.read_eols_with_tags.Goals as goal
 
 pub eols-preserved : goal.eols-preserved

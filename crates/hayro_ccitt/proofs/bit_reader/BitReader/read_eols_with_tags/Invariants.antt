@@ -1,7 +1,7 @@
 use Rattle.std.proofs.Common.{◌≡◌, ◌+◌, ◌-◌, ◌*◌, ◌≤◌, length}
 use Rattle.hayro_ccitt.specs.Bits.{here}
 use Rattle.hayro_ccitt.specs.EndOfLine.{eols_with_tags}
-use Rattle.hayro_ccitt.proofs.TaggedEols.{looked_before}
+use Rattle.hayro_ccitt.proofs.BitReading.TaggedEols.{looked_before}
 use Rattle.hayro_ccitt.proofs.bit_reader.BitReader.read_eols_with_tags.Given as goal
 
 abbrev pub invariant-eols : goal.invariant-eols

@@ -2,7 +2,7 @@ use Rattle.std.proofs.Common.{◌≡◌, ◌+◌, ◌<◌, length, sym, ap, ◌�
 use Rattle.hayro_ccitt.specs.Bits.{Bits, BitsAt, here}
 use Rattle.hayro_ccitt.specs.EndOfLine.{next_eol}
 use Rattle.hayro_ccitt.specs.Ticks.{looked}
-use Rattle.hayro_ccitt.proofs.SoughtEols.{next_eol-behind, next_eol-zeros, looked-one, looked-zeros}
+use Rattle.hayro_ccitt.proofs.BitReading.SoughtEols.{next_eol-behind, next_eol-zeros, looked-one, looked-zeros}
 use Rattle.hayro_ccitt.proofs.bit_reader.BitReader.skip_to_eol.Goals as goal
 
 pub eols-preserved : goal.eols-preserved

@@ -4,7 +4,7 @@ use Rattle.hayro_ccitt.specs.Bits.{Bits, here}
 use Rattle.hayro_ccitt.specs.CodeReading.{leading_zeros}
 use Rattle.hayro_ccitt.specs.Ticks.{looked}
 use Rattle.hayro_ccitt.specs.EndOfLine.{after_eol}
-use Rattle.hayro_ccitt.proofs.ZeroRuns.{here_next, zeros_fit, zeros_more, leading_zeros-one, leading_zeros-replicate}
+use Rattle.hayro_ccitt.proofs.BitReading.ZeroRuns.{here_next, zeros_fit, zeros_more, leading_zeros-one, leading_zeros-replicate}
 use Rattle.hayro_ccitt.proofs.bit_reader.BitReader.zero_run.Goals as goal
 
 pub overflow_add-zeros : goal.overflow_add-zeros

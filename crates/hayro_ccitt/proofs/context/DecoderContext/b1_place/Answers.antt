@@ -1,6 +1,6 @@
 use Rattle.std.proofs.Common.{arith}
-use Rattle.hayro_ccitt.proofs.ChangesAndPixels.{changes-pixels}
-use Rattle.hayro_ccitt.proofs.ReferencePlaces.{row_length, right_of-pixels}
+use Rattle.hayro_ccitt.proofs.PixelRows.ChangesAndPixels.{changes-pixels}
+use Rattle.hayro_ccitt.proofs.PixelRows.ReferencePlaces.{row_length, right_of-pixels}
 use Rattle.hayro_ccitt.proofs.context.DecoderContext.b1_place.Goals as goal
 
 pub returns-clause-b1 : goal.returns-clause-b1

@@ -1,7 +1,7 @@
 use Rattle.std.proofs.Common.{◌+◌, ◌≤◌, length, get_or, ap, sym, ◌∙◌, arith}
 use Rattle.hayro_ccitt.specs.Context.{Held}
 use Rattle.hayro_ccitt.specs.Rows.{changes}
-use Rattle.hayro_ccitt.proofs.ReferencePlaces.{b2_from_front}
+use Rattle.hayro_ccitt.proofs.PixelRows.ReferencePlaces.{b2_from_front}
 use Rattle.hayro_ccitt.proofs.context.DecoderContext.b2.Goals as goal
 
 pub returns-clause-right : goal.returns-clause-right

@@ -5,10 +5,10 @@ use Rattle.hayro_ccitt.specs.declared.error.DecodeError.{DecodeError}
 use Rattle.hayro_ccitt.specs.Answers.{DrawsStep, pen_of}
 use Rattle.hayro_ccitt.specs.Bits.{Bits, here}
 use Rattle.hayro_ccitt.specs.Context.{Context, Held}
-use Rattle.hayro_ccitt.proofs.Drawings.{try}
+use Rattle.hayro_ccitt.proofs.DrawingLines.Drawings.{try}
 use Rattle.hayro_ccitt.specs.Repetition.{Turn}
 use Rattle.hayro_ccitt.specs.Rows.{right_of, b1, b2, paint}
-use Rattle.hayro_ccitt.proofs.DrawnLines.{IsUnpainted, place_of, some_where, unpainted, pass_draws, vertical_unpainted, first_run_fails, second_run, paint_draws}
+use Rattle.hayro_ccitt.proofs.DrawingLines.DrawnLines.{IsUnpainted, place_of, some_where, unpainted, pass_draws, vertical_unpainted, first_run_fails, second_run, paint_draws}
 use Rattle.hayro_ccitt.proofs.context.DecoderContext.draw_mode.Goals as goal
 
 pub returns-in_err-push_pixels-in-Vertical-clause-step : goal.returns-in_err-push_pixels-in-Vertical-clause-step

@@ -4,7 +4,7 @@ use Rattle.hayro_ccitt.specs.Answers.{DrawsStep, pen_of, step_of_run}
 use Rattle.hayro_ccitt.specs.Bits.{here}
 use Rattle.hayro_ccitt.specs.Context.{Context}
 use Rattle.hayro_ccitt.specs.ContextView.{context_of}
-use Rattle.hayro_ccitt.proofs.DrawnLines.{run_unread, run_unpainted}
+use Rattle.hayro_ccitt.proofs.DrawingLines.DrawnLines.{run_unread, run_unpainted}
 use Rattle.hayro_ccitt.proofs.context.DecoderContext.draw_run.Goals as goal
 
 pub returns-in_err-run-clause-step : goal.returns-in_err-run-clause-step

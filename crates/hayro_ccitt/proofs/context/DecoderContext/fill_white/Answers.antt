@@ -1,6 +1,6 @@
 use Rattle.std.proofs.Common.{◌≡◌, ◌≢◌, ◌+◌, ◌-◌, Bool, true, false, Err, refl, sym, ap, ◌∙◌, arith}
 use Rattle.std.proofs.lemmas.Result.{err_from_is_err_and}
-use Rattle.hayro_ccitt.proofs.ChangesAndPixels.{length-pixels}
+use Rattle.hayro_ccitt.proofs.PixelRows.ChangesAndPixels.{length-pixels}
 use Rattle.hayro_ccitt.proofs.context.DecoderContext.fill_white.Goals as goal
 
 -- a pixel that isn't white is black

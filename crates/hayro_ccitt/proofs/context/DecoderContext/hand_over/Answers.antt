@@ -1,4 +1,4 @@
-use Rattle.hayro_ccitt.proofs.ChangesAndPixels.{changes-continued}
+use Rattle.hayro_ccitt.proofs.PixelRows.ChangesAndPixels.{changes-continued}
 use Rattle.hayro_ccitt.proofs.context.DecoderContext.hand_over.Goals as goal
 
 pub returns-clause-taken : goal.returns-clause-taken

@@ -1,6 +1,6 @@
 use Rattle.std.proofs.Common.{◌+◌, refl, ap, ◌∙◌}
 use Rattle.hayro_ccitt.specs.Context.{Context}
-use Rattle.hayro_ccitt.proofs.ChangesAndPixels.{continued-pixels}
+use Rattle.hayro_ccitt.proofs.PixelRows.ChangesAndPixels.{continued-pixels}
 use Rattle.hayro_ccitt.proofs.context.DecoderContext.next_line.Goals as goal
 
 pub returns-clause-frame : goal.returns-clause-frame

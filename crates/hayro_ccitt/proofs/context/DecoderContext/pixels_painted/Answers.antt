@@ -1,5 +1,5 @@
 use Rattle.std.proofs.Common.{sym}
-use Rattle.hayro_ccitt.proofs.ChangesAndPixels.{length-pixels}
+use Rattle.hayro_ccitt.proofs.PixelRows.ChangesAndPixels.{length-pixels}
 use Rattle.hayro_ccitt.proofs.context.DecoderContext.pixels_painted.Goals as goal
 
 pub returns : goal.returns

@@ -1,7 +1,7 @@
 use Rattle.std.proofs.Common.{◌≡◌, ◌≤◌, ◌-◌, ◌⊎◌, inl, inr, min, false, Err, refl, sym, ap, ◌∙◌}
 use Rattle.std.proofs.lemmas.Result.{err_from_is_err_and}
 use Rattle.hayro_ccitt.specs.ContextView.{context_of}
-use Rattle.hayro_ccitt.proofs.Painting.{paint-strict, paint-fits, StoresChange-painted}
+use Rattle.hayro_ccitt.proofs.PixelRows.Painting.{paint-strict, paint-fits, StoresChange-painted}
 use Rattle.hayro_ccitt.proofs.context.DecoderContext.push_pixels.Goals.{else-count-room-via-then-count-room+else-self, else-count-room-via-else-count-room}
 use Rattle.hayro_ccitt.proofs.context.DecoderContext.push_pixels.Goals as goal
 

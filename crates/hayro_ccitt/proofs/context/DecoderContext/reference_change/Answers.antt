@@ -1,4 +1,4 @@
-use Rattle.hayro_ccitt.proofs.ChangesAndPixels.{changes-pixels}
+use Rattle.hayro_ccitt.proofs.PixelRows.ChangesAndPixels.{changes-pixels}
 use Rattle.hayro_ccitt.proofs.context.DecoderContext.reference_change.Goals as goal
 
 pub returns : goal.returns

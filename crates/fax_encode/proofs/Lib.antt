@@ -1,0 +1,10 @@
+pub mod ChosenLines
+pub mod ChosenWords
+pub mod Elements
+pub mod ModesWritten
+pub mod PackedRows
+pub mod RoundTrip
+pub mod RowLists
+pub mod RunsWritten
+pub mod WordTables
+pub mod WrittenBits

@@ -1,0 +1,62 @@
+-- What a bitmap's sink means after the rows of lists.
+use Rattle.std.proofs.Common.{◌≡◌, ℕ, ◌<◌, Bool, true, false, List, [], ◌∷◌, ◌++◌, length, sym, ap, subst, ◌∙◌, inl, append_assoc}
+use Rattle.std.proofs.lemmas.List.{append-nil}
+use Rattle.std.proofs.lemmas.List.Elements.{All-head, All-tail}
+use Rattle.hayro_ccitt.specs.declared.settings.EncodingMode.TheVariants.{Group4}
+use Rattle.hayro_ccitt.specs.declared.settings.DecodeSettings.{DecodeSettings}
+use Rattle.hayro_ccitt.specs.Bits.{Bits, bits_of}
+use Rattle.hayro_ccitt.specs.Rows.{Row, AreChanges, pixels}
+use Rattle.hayro_ccitt.specs.Answers.{meaning_after}
+use Rattle.hayro_ccitt.specs.Encodings.{PictureT6, padding}
+use Rattle.hayro_ccitt.specs.Pictures.{BeginsWithPictureT6}
+use Rattle.hayro_ccitt.proofs.PixelRows.ChangesAndPixels.{changes-pixels}
+use Rattle.fax_encode.specs.Chosen.{filled_up, rows_of, chosen_t6}
+use Rattle.fax_encode.specs.Packed.{packed, Bitmap}
+use Rattle.fax_encode.specs.Refusals.{AreRows}
+use Rattle.fax_encode.proofs.ChosenLines.{chosen_is_an_encoding}
+use Rattle.fax_encode.proofs.RoundTrip.{widths_of}
+
+-- the step of the sink
+abbrev pub packs : ℕ → Bits → List ℕ → Bits
+packs columns bits row = bits ++ filled_up (pixels columns row)
+
+pub meaning_packed : (columns : ℕ) (bits : Bits) (lists : List (List ℕ)) → AreRows columns lists
+    → meaning_after (packs columns) bits (rows_of columns lists) ≡ bits ++ packed (rows_of columns lists)
+meaning_packed columns bits [] are = sym (append-nil bits)
+meaning_packed columns bits (list ∷ lists) are =
+    let lawful : AreChanges columns list = All-head (AreChanges columns) list lists are in
+    let row : Row = pixels columns list in
+    ap (λ (l : List ℕ). meaning_after (packs columns) (bits ++ filled_up (pixels columns l)) (rows_of columns lists)) (changes-pixels columns list lawful)
+    ∙ meaning_packed columns (bits ++ filled_up row) lists (All-tail (AreChanges columns) list lists are)
+    ∙ append_assoc bits (filled_up row) (packed (rows_of columns lists))
+
+-- the settings that read a T.6 picture of these columns
+pub record ReadT6 (settings : DecodeSettings) (columns : ℕ) (aligned : Bool) : Type 0 where
+  pub encoding : settings.encoding ≡ Group4
+  pub end_of_block : settings.end_of_block ≡ true
+  pub no_limit : settings.rows ≡ 0
+  pub width : settings.columns ≡ columns
+  pub alignment : settings.rows_are_byte_aligned ≡ aligned
+
+-- data of a chosen T.6 picture begins with it
+pub begins_with_chosen : (settings : DecodeSettings) (columns : ℕ) (aligned : Bool) (lists : List (List ℕ)) (bytes : List ℕ) → ReadT6 settings columns aligned
+    → 0 < columns → AreRows columns lists → bits_of bytes ≡ filled_up (chosen_t6 columns aligned (rows_of columns lists))
+    → BeginsWithPictureT6 settings (rows_of columns lists) (chosen_t6 columns aligned (rows_of columns lists)) (bits_of bytes)
+begins_with_chosen settings columns aligned lists bytes read wide are e =
+    let rows : List Row = rows_of columns lists in
+    let bits : Bits = chosen_t6 columns aligned rows in
+    let picture : PictureT6 columns aligned rows bits = (chosen_is_an_encoding columns rows (wide, widths_of columns lists are)).0 aligned in
+    record {
+      encoding = read.encoding;
+      end_of_block = read.end_of_block;
+      limit = inl read.no_limit;
+      picture = subst (λ (n : ℕ). PictureT6 n settings.rows_are_byte_aligned rows bits) (sym read.width) (subst (λ (a : Bool). PictureT6 columns a rows bits) (sym read.alignment) picture);
+      begins = (padding (length bits), e);
+    }
+
+-- a bitmap that began empty
+pub packed_from : (columns : ℕ) (lists : List (List ℕ)) (empty : Bitmap) (now : Bits) → AreRows columns lists
+    → empty ≡ record { bytes = []; columns = columns; has_refused = false }
+    → now ≡ meaning_after (packs empty.columns) (bits_of empty.bytes) (rows_of columns lists) → now ≡ packed (rows_of columns lists)
+packed_from columns lists empty now are is e =
+    e ∙ ap (λ (b : Bitmap). meaning_after (packs b.columns) (bits_of b.bytes) (rows_of columns lists)) is ∙ meaning_packed columns [] lists are

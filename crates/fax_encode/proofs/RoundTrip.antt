@@ -1,0 +1,99 @@
+-- What was encoded is read again.
+use Rattle.std.proofs.Common.{◌≡◌, ℕ, zero, suc, ◌+◌, ◌-◌, ◌/◌, ◌%◌, ◌^◌, ◌<◌, true, false, List, [], ◌∷◌, ◌++◌, length, replicate, refl, sym, ap, subst, ◌∙◌, arith, inl, append_assoc, None}
+use Rattle.std.specs.Prelude.{All, Ok}
+use Rattle.std.proofs.lemmas.List.{length-append, length-replicate, length-map}
+use Rattle.std.proofs.lemmas.List.Elements.{All-head, All-tail, All-cons, All-nil}
+use Rattle.hayro_ccitt.specs.declared.settings.DecodeSettings.{DecodeSettings}
+use Rattle.hayro_ccitt.specs.Bits.{Bits, bits_of}
+use Rattle.hayro_ccitt.specs.Rows.{Row, AreChanges, pixels, white_row}
+use Rattle.hayro_ccitt.specs.EndOfLine.{after_eol, eols, all_eols}
+use Rattle.hayro_ccitt.specs.Encodings.{IsPicture, padding, EncodesRowsWithEols, ClosesWithEols, PictureT6}
+use Rattle.hayro_ccitt.specs.Pictures.{BeginsWithPictureT6, BeginsWithPictureT4}
+use Rattle.hayro_ccitt.specs.declared.settings.EncodingMode.{EncodingMode}
+use Rattle.hayro_ccitt.specs.Settings.{AreSettings}
+use Rattle.hayro_ccitt.specs.PlainReading.{eols_group3}
+use Rattle.hayro_ccitt.proofs.BitReading.BitLists.{length-bits_of}
+use Rattle.hayro_ccitt.proofs.PixelRows.ChangesAndPixels.{length-pixels}
+use Rattle.hayro_ccitt.proofs.Readings.TurnsMoveOn.{eols-none}
+use Rattle.hayro_ccitt.proofs.EncodedPictures.PicturesT6.{closed_picture_t6}
+use Rattle.hayro_ccitt.proofs.EncodedPictures.PicturesT4.{closed_picture_t4, eols_group3_one}
+use Rattle.fax_encode.specs.Chosen.{chosen_t6, chosen_t4, chosen_lines_1d, return_to_control, filled_up, rows_of}
+use Rattle.fax_encode.specs.Refusals.{AreRows}
+use Rattle.fax_encode.specs.Laws.{RoundTripT6, RoundTripT4, ReadToTheEnd}
+use Rattle.fax_encode.proofs.ChosenLines.{chosen_is_an_encoding, lines_1d_encode, closes}
+
+-- lawful lists are rows of the width
+pub widths_of : (columns : ℕ) (lists : List (List ℕ)) → AreRows columns lists → All (λ row. length row ≡ columns) (rows_of columns lists)
+widths_of columns [] are = All-nil (λ row. length row ≡ columns)
+widths_of columns (list ∷ lists) are = All-cons (λ row. length row ≡ columns) (pixels columns list) (rows_of columns lists)
+    (length-pixels columns list (All-head (AreChanges columns) list lists are)) (widths_of columns lists (All-tail (AreChanges columns) list lists are))
+
+-- the bits of the bytes, rounded up
+whole_bytes : (bits : Bits) (bytes : List ℕ) → bits_of bytes ≡ filled_up bits → (length bits + 7) / 8 ≡ length bytes
+whole_bytes bits bytes e =
+    omega (arith, ap length e, length-bits_of bytes, length-append bits (padding (length bits)), length-replicate ((8 - length bits % 8) % 8) false)
+
+settings_are : (settings : DecodeSettings) (columns : ℕ) → columns < 2 ^ 32 → ReadToTheEnd settings columns → AreSettings settings
+settings_are settings columns small to_end = record { columns = omega (arith, to_end.columns_are); rows = omega (arith, to_end.no_limit) }
+
+pub round_trip_t6 : RoundTripT6
+round_trip_t6 settings columns lists bytes wide small are to_end group4 e =
+    let rows : List Row = rows_of columns lists in
+    let bits : Bits = chosen_t6 columns settings.rows_are_byte_aligned rows in
+    let picture = (chosen_is_an_encoding columns rows (wide, widths_of columns lists are)).0 settings.rows_are_byte_aligned in
+    let begins : BeginsWithPictureT6 settings rows bits (bits_of bytes) = record {
+      encoding = group4;
+      end_of_block = to_end.end_of_block;
+      limit = inl to_end.no_limit;
+      picture = subst (λ (n : ℕ). PictureT6 n settings.rows_are_byte_aligned rows bits) (sym to_end.columns_are) picture;
+      begins = (padding (length bits), e);
+    } in
+    closed_picture_t6 settings rows bits bytes (settings_are settings columns small to_end) begins
+    ∙ ap (λ (n : ℕ). record { rows = rows; outcome = Ok n; has_eols = false }) (whole_bytes bits bytes e)
+
+-- ---- T.4
+-- no EOL stands in a few zeros
+no_eol : (seen n : ℕ) → after_eol seen (replicate n false) ≡ None
+no_eol seen zero = refl
+no_eol seen (suc n) = no_eol (suc seen) n
+
+eols_end : (most n : ℕ) → eols most (replicate n false) ≡ (0, replicate n false)
+eols_end most n = eols-none most (replicate n false) (no_eol 0 n)
+
+-- the EOLs of RTC, and the zeros behind them
+eols_of_closing : (most n : ℕ) → eols (suc (suc (suc (suc (suc (suc most)))))) (return_to_control ++ replicate n false) ≡ (6, replicate n false)
+eols_of_closing most n = rw (eols_end most n) refl
+
+closing_eols : (n : ℕ) → (all_eols (return_to_control ++ replicate n false)).1 ≡ replicate n false
+closing_eols n =
+    let rest : Bits = replicate n false in
+    let turns : length (return_to_control ++ rest) ≡ suc (suc (suc (suc (suc (suc (66 + length rest)))))) = omega (arith, length-append return_to_control rest) in
+    ap (λ (m : ℕ). (eols m (return_to_control ++ rest)).1) turns ∙ ap (λ (f : ℕ × Bits). f.1) (eols_of_closing (66 + length rest) n)
+
+pub round_trip_t4 : RoundTripT4
+round_trip_t4 settings columns lists bytes wide small some are to_end group3 e =
+    let rows : List Row = rows_of columns lists in
+    let lines : Bits = chosen_lines_1d rows in
+    let bits : Bits = chosen_t4 rows in
+    let n : ℕ = (8 - length bits % 8) % 8 in
+    let more : Bits = replicate n false in
+    let widths = widths_of columns lists are in
+    let stand : bits_of bytes ≡ lines ++ (return_to_control ++ more) = e ∙ append_assoc lines return_to_control more in
+    let begins : BeginsWithPictureT4 settings rows lines (return_to_control ++ more) (bits_of bytes) = record {
+      encoding = λ same. cc;
+      end_of_block = to_end.end_of_block;
+      limit = inl to_end.no_limit;
+      some = omega (arith, length-map lists (pixels columns));
+      picture = subst (λ (n : ℕ). IsPicture n rows) (sym to_end.columns_are) (wide, widths);
+      lines = subst (λ (k : EncodingMode). EncodesRowsWithEols k (white_row settings.columns) rows lines) (sym group3)
+          (lines_1d_encode columns (white_row settings.columns) rows wide widths);
+      closing = (return_to_control, subst (λ (k : EncodingMode). ClosesWithEols k 6 return_to_control) (sym group3) closes, (more, refl));
+      begins = stand;
+    } in
+    let left : (eols_group3 settings (return_to_control ++ more)).1 ≡ more
+    = ap (λ (f : ℕ × Bits). f.1) (eols_group3_one settings (return_to_control ++ more) group3) ∙ closing_eols n in
+    let count : (length (bits_of bytes) - length (eols_group3 settings (return_to_control ++ more)).1 + 7) / 8 ≡ length bytes
+    = ap (λ (m : Bits). (length (bits_of bytes) - length m + 7) / 8) left
+    ∙ (let k : (length (bits_of bytes) - length more + 7) / 8 ≡ length bytes = omega (arith, length-bits_of bytes, length-replicate n false) in k) in
+    closed_picture_t4 settings rows lines (return_to_control ++ more) bytes (settings_are settings columns small to_end) begins
+    ∙ ap (λ (n : ℕ). record { rows = rows; outcome = Ok n; has_eols = true }) count

@@ -1,0 +1,69 @@
+-- Runs and one-dimensional lines, word by word.
+use Rattle.std.proofs.Common.{◌≡◌, ℕ, suc, ◌+◌, ◌-◌, ◌*◌, ◌/◌, ◌%◌, ◌<◌, ◌≤◌, true, false, ltb, List, ◌∷◌, ◌++◌, length, get_or, drop, replicate, refl, sym, ap, subst, ◌∙◌, arith, append_assoc}
+use Rattle.std.specs.Prelude.{flat_map}
+use Rattle.std.proofs.lemmas.Bool.{lt-ltb, le-ltb}
+use Rattle.std.proofs.lemmas.Option.{slice_get-get_or}
+use Rattle.hayro_ccitt.proofs.BitReading.BitLists.{drop_some}
+use Rattle.hayro_ccitt.proofs.PixelRows.ChangesAndPixels.{AscendFrom-wider}
+use Rattle.hayro_ccitt.specs.Rows.{opposite, AscendFrom}
+use Rattle.hayro_ccitt.specs.declared.codes.Color.{Color}
+use Rattle.hayro_ccitt.specs.Bits.{Bits}
+use Rattle.fax_encode.specs.Chosen.{word_of_length, chosen_rest, chosen_run, chosen_runs}
+
+-- a few pixels are a terminating word
+pub rest_few : (color : Color) (n : ℕ) → n < 64 → chosen_rest color n ≡ word_of_length color n
+rest_few color n lt =
+    let few : ltb n 64 ≡ true = lt-ltb n 64 lt in
+    let same : n % 64 ≡ n = omega arith in
+    rw (few, same) refl
+
+-- more are two words
+pub rest_more : (color : Color) (n : ℕ) → 64 ≤ n → chosen_rest color n ≡ word_of_length color (64 * (n / 64)) ++ word_of_length color (n % 64)
+rest_more color n ge =
+    let more : ltb n 64 ≡ false = le-ltb n 64 ge in
+    let same : n - n % 64 ≡ 64 * (n / 64) = omega arith in
+    rw (more, same) refl
+
+-- a long run begins with the word of 2560 pixels
+pub run_more : (color : Color) (n : ℕ) → 2560 ≤ n → chosen_run color n ≡ word_of_length color 2560 ++ chosen_run color (n - 2560)
+run_more color n ge =
+    let times : n / 2560 ≡ suc ((n - 2560) / 2560) = omega arith in
+    let rest : n % 2560 ≡ (n - 2560) % 2560 = omega arith in
+    ap (λ (k : ℕ). flat_map (λ word. word) (replicate k (word_of_length color 2560)) ++ chosen_rest color (n % 2560)) times
+    ∙ ap (λ (k : ℕ). flat_map (λ word. word) (replicate (suc ((n - 2560) / 2560)) (word_of_length color 2560)) ++ chosen_rest color k) rest
+    ∙ append_assoc (word_of_length color 2560) (flat_map (λ word. word) (replicate ((n - 2560) / 2560) (word_of_length color 2560))) (chosen_rest color ((n - 2560) % 2560))
+
+-- a short one is its rest
+pub run_rest : (color : Color) (n : ℕ) → n < 2560 → chosen_run color n ≡ chosen_rest color n
+run_rest color n lt =
+    let none : n / 2560 ≡ 0 = omega arith in
+    let all : n % 2560 ≡ n = omega arith in
+    ap (λ (k : ℕ). flat_map (λ word. word) (replicate k (word_of_length color 2560)) ++ chosen_rest color (n % 2560)) none ∙ ap (chosen_rest color) all
+
+-- what was written, and what is left to write, with one part more
+pub one_part : (old now rest part left whole : Bits) → now ++ rest ≡ whole → rest ≡ part ++ left → old ≡ now ++ part → old ++ left ≡ whole
+one_part old now rest part left whole e split more =
+    ap (λ (b : Bits). b ++ left) more ∙ append_assoc now part left ∙ ap (λ (b : Bits). now ++ b) (sym split) ∙ e
+
+-- ---- One-dimensional lines.
+module _ (columns place i : ℕ) (color : Color) (changes : List ℕ) (lt : i < length changes) (ascend : AscendFrom place columns (drop i changes)) where
+  -- the next change
+  pub next_is : drop i changes ≡ get_or changes i 0 ∷ drop (i + 1) changes
+  next_is = drop_some changes i (get_or changes i 0) (slice_get-get_or changes i 0 lt)
+
+  ascends : AscendFrom place columns (get_or changes i 0 ∷ drop (i + 1) changes)
+  ascends = subst (λ (l : List ℕ). AscendFrom place columns l) next_is ascend
+
+  pub next_within : get_or changes i 0 ≤ columns
+  next_within = let within : get_or changes i 0 < columns = ascends.1 in omega arith
+
+  pub next_right : place ≤ get_or changes i 0
+  next_right = ascends.0
+
+  pub next_ascends : AscendFrom (get_or changes i 0) columns (drop (i + 1) changes)
+  next_ascends = AscendFrom-wider (get_or changes i 0) (suc (get_or changes i 0)) columns columns (drop (i + 1) changes) (omega arith) (omega arith) ascends.2
+
+  -- the run up to it
+  pub next_run : chosen_runs columns color place (drop i changes)
+      ≡ chosen_run color (get_or changes i 0 - place) ++ chosen_runs columns (opposite color) (get_or changes i 0) (drop (i + 1) changes)
+  next_run = ap (chosen_runs columns color place) next_is

@@ -1,0 +1,10 @@
+use Rattle.std.specs.Prelude.{◌↔◌}
+use Rattle.std.proofs.Common.{◌^◌, ◌≤◌, drop}
+use Rattle.hayro_ccitt.specs.Rows.{AscendFrom}
+use Rattle.fax_encode.proofs.rows.is_row.Given as goal
+
+abbrev pub invariant-loop-change : goal.invariant-loop-change
+invariant-loop-change l = record {
+  small : l.least ≤ 2 ^ 32;
+  same : AscendFrom l.least l.columns (drop l.change-index l.changes) ↔ AscendFrom 0 l.columns l.changes;
+}

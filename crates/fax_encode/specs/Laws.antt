@@ -1,0 +1,36 @@
+-- The laws of the chosen encoding.
+use Rattle.std.specs.Prelude.{◌≡◌, ℕ, ◌^◌, ◌<◌, Bool, true, false, List, length, Ok}
+use Rattle.hayro_ccitt.specs.declared.settings.EncodingMode.TheVariants.{Group4, Group3_1D}
+use Rattle.hayro_ccitt.specs.declared.settings.DecodeSettings.{DecodeSettings}
+use Rattle.hayro_ccitt.specs.Bits.{bits_of}
+use Rattle.hayro_ccitt.specs.Rows.{Row}
+use Rattle.hayro_ccitt.specs.Encodings.{IsPicture, PictureT6, PictureT4}
+use Rattle.hayro_ccitt.specs.PlainReading.{plain}
+use Rattle.fax_encode.specs.Chosen.{chosen_t6, chosen_t4, filled_up, rows_of}
+use Rattle.fax_encode.specs.Refusals.{AreRows}
+
+-- what is chosen for a picture is an encoding of it
+abbrev pub ChosenIsAnEncoding : Type 0
+ChosenIsAnEncoding = (columns : ℕ) (rows : List Row) → IsPicture columns rows
+    → ((aligned : Bool) → PictureT6 columns aligned rows (chosen_t6 columns aligned rows))
+    × (0 < length rows → PictureT4 Group3_1D columns rows (chosen_t4 rows))
+
+-- settings that look for the end of the block and have no limit of rows
+pub record ReadToTheEnd (settings : DecodeSettings) (columns : ℕ) : Type 0 where
+  pub columns_are : settings.columns ≡ columns
+  pub end_of_block : settings.end_of_block ≡ true
+  pub no_limit : settings.rows ≡ 0
+
+-- Bytes of the chosen T.6 picture are read as its rows, all of them.
+abbrev pub RoundTripT6 : Type 0
+RoundTripT6 = (settings : DecodeSettings) (columns : ℕ) (lists : List (List ℕ)) (bytes : List ℕ)
+    → 0 < columns → columns < 2 ^ 32 → AreRows columns lists → ReadToTheEnd settings columns → settings.encoding ≡ Group4
+    → bits_of bytes ≡ filled_up (chosen_t6 columns settings.rows_are_byte_aligned (rows_of columns lists))
+    → plain settings bytes ≡ record { rows = rows_of columns lists; outcome = Ok (length bytes); has_eols = false }
+
+-- Bytes of the chosen T.4 picture are read as its rows, all of them.
+abbrev pub RoundTripT4 : Type 0
+RoundTripT4 = (settings : DecodeSettings) (columns : ℕ) (lists : List (List ℕ)) (bytes : List ℕ)
+    → 0 < columns → columns < 2 ^ 32 → 0 < length lists → AreRows columns lists → ReadToTheEnd settings columns → settings.encoding ≡ Group3_1D
+    → bits_of bytes ≡ filled_up (chosen_t4 (rows_of columns lists))
+    → plain settings bytes ≡ record { rows = rows_of columns lists; outcome = Ok (length bytes); has_eols = true }

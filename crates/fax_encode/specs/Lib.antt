@@ -1,0 +1,6 @@
+pub mod Chosen
+pub mod Coding
+pub mod Laws
+pub mod Packed
+pub mod Refusals
+pub mod Writing

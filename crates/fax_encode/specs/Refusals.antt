@@ -1,0 +1,22 @@
+-- What an encoder refuses, and how it says so.
+use Rattle.std.specs.Prelude.{ℕ, ◌<◌, List, ◌++◌, length, get_or, codes, decimal, [], All}
+use Rattle.hayro_ccitt.specs.Rows.{AreChanges}
+use Rattle.fax_encode.specs.declared.error.EncodeError.{EncodeError}
+use Rattle.fax_encode.specs.declared.error.EncodeError.TheVariants.{NoColumns, NoRows, NotARow, OutOfMemory}
+
+-- the first list, counted from 0, that isn't strictly ascending and below the width
+pub record IsFirstUnlawful (columns : ℕ) (lists : List (List ℕ)) (k : ℕ) : Type 0 where
+  pub within : k < length lists
+  pub before : (j : ℕ) → j < k → AreChanges columns (get_or lists j [])
+  pub here : AreChanges columns (get_or lists k []) → ⊥
+
+-- all lists are rows of the width
+abbrev pub AreRows : ℕ → List (List ℕ) → Type 0
+AreRows columns lists = All (AreChanges columns) lists
+
+-- the text of a refusal
+abbrev pub text_of_refusal : EncodeError → List ℕ
+text_of_refusal NoColumns = codes "no columns"
+text_of_refusal NoRows = codes "no rows"
+text_of_refusal (NotARow k) = codes "row " ++ decimal k ++ codes " is not a list of changes"
+text_of_refusal OutOfMemory = codes "out of memory"

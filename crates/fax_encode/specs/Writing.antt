@@ -1,0 +1,19 @@
+-- Bits that are written one after another.
+use Rattle.std.specs.Prelude.{◌≡◌, ℕ, ◌^◌, ◌<◌, ◌≤◌, List, ◌++◌}
+use Rattle.hayro_ccitt.specs.Bits.{Bits, bits_of, low_bits}
+use Rattle.fax_encode.specs.declared.words.Word.{Word}
+
+-- the whole bytes, and the bits after them, fewer than a byte
+pub record Written : Type 0 where
+  pub bytes : List ℕ
+  pub rest : Bits
+
+-- all bits that were written
+abbrev pub all_bits : Written → Bits
+all_bits written = bits_of written.bytes ++ written.rest
+
+-- a number of so many bits, at most 13, is this word
+pub record IsWord (word : Bits) (coded : Word) : Type 0 where
+  pub few : coded.count ≤ 13
+  pub fits : coded.bits < 2 ^ coded.count
+  pub spells : low_bits coded.count coded.bits ≡ word

@@ -1,0 +1,112 @@
+//! A sink that packs rows into a bitmap.
+
+ghost use Rattle.std.specs.Prelude.{◌≡◌, ◌++◌, OnOk, OnErr};
+ghost use Rattle.hayro_ccitt.specs.Bits.{bits_of};
+ghost use Rattle.hayro_ccitt.specs.Rows.{AreChanges, pixels};
+ghost use Rattle.fax_encode.specs.Chosen.{filled_up};
+
+use crate::bit_writer::BitWriter;
+use hayro_ccitt::{DecodeError, Decoder};
+use std::alloc::{AllocError, Global};
+use std::marker::Model;
+
+/// Rows as a bitmap, kept in memory: one bit a pixel, 1 for black, the leftmost pixel in each byte's highest bit, and
+/// zeros after each row up to a whole byte.
+#[derive(Drop)]
+pub struct BitmapSink {
+    bytes: Vec<u8>,
+    row: BitWriter,
+    columns: u32,
+    has_refused: bool,
+}
+
+impl Model for BitmapSink {
+    ghost use Rattle.fax_encode.specs.Packed.{Bitmap};
+
+    ghost Value = { Bitmap };
+
+    ghost view = { λ s. record { bytes = s.bytes.items; columns = s.columns; has_refused = s.has_refused } };
+}
+
+/// Paints a row, and nothing else, into a writer: runs of equal pixels, and zeros up to a whole byte. It asks for all
+/// of its memory first.
+fn paint(row: &mut BitWriter, columns: u32, changes: &[u32]) -> Result<(), AllocError>
+    requires { AreChanges columns changes.now }
+    ensures { OnOk result (bits_of row.new.bytes ≡ filled_up (pixels columns changes.now)) }
+{
+    row.truncate(0);
+    row.reserve((columns as usize).div_ceil(8))?;
+    let mut is_black = false;
+    let mut place = 0;
+    for change in changes {
+        row.put_same(is_black, (*change - place) as usize)?;
+        place = *change;
+        is_black = !is_black;
+    }
+    row.put_same(is_black, (columns - place) as usize)?;
+    row.fill_up()
+}
+
+impl BitmapSink {
+    ghost use Rattle.std.specs.Prelude.{◌≡◌, [], false};
+
+    /// A sink for rows of so many columns: no bytes yet, and nothing refused. It takes no memory.
+    pub fn new(alloc: Global, columns: u32) -> BitmapSink
+        ensures { result ≡ record { bytes = []; columns = columns; has_refused = false } }
+    {
+        BitmapSink {
+            bytes: Vec::new(alloc),
+            row: BitWriter::new(alloc),
+            columns,
+            has_refused: false,
+        }
+    }
+
+    /// The bytes of the rows that were taken.
+    pub fn bytes(&self) -> &[u8]
+        ensures { result.now ≡ self.now.bytes }
+    {
+        self.bytes.as_slice()
+    }
+
+    /// Adds a row. It asks for memory first; where there is none, the bytes stay.
+    fn add_row(&mut self, changes: &[u32]) -> Result<(), AllocError>
+        requires { AreChanges self.old.columns changes.now }
+        ensures added { OnOk result (bits_of self.new.bytes
+            ≡ bits_of self.old.bytes ++ filled_up (pixels self.old.columns changes.now)) }
+        ensures kept { OnErr result (self.new.bytes ≡ self.old.bytes) }
+        ensures columns { self.new.columns ≡ self.old.columns }
+        ensures has_refused { self.new.has_refused ≡ self.old.has_refused }
+    {
+        self.bytes.reserve((self.columns as usize).div_ceil(8))?;
+        paint(&mut self.row, self.columns, changes)?;
+        self.bytes.extend_from_slice(self.row.bytes())
+    }
+}
+
+impl Decoder for BitmapSink {
+    ghost use Rattle.std.specs.Prelude.{◌++◌};
+    ghost use Rattle.hayro_ccitt.specs.Bits.{Bits, bits_of};
+    ghost use Rattle.hayro_ccitt.specs.Rows.{pixels};
+    ghost use Rattle.fax_encode.specs.Chosen.{filled_up};
+
+    ghost Meaning = { Bits };
+
+    ghost meaning = { λ sink. bits_of sink.bytes };
+
+    ghost step = { λ width bits row. bits ++ filled_up (pixels width row) };
+
+    ghost width = { λ sink. sink.columns };
+
+    ghost has_refused = { λ sink. sink.has_refused };
+
+    fn push_row(&mut self, changes: &[u32]) -> hayro_ccitt::Result<()> {
+        match self.add_row(changes) {
+            Ok(()) => Ok(()),
+            Err(_) => {
+                self.has_refused = true;
+                Err(DecodeError::Refused)
+            }
+        }
+    }
+}

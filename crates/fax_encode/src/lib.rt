@@ -1,0 +1,22 @@
+//! An encoder for CCITT fax images, and a sink that packs decoded rows into a bitmap.
+#![tactic(auto)]
+
+mod bit_writer;
+mod bitmap_sink;
+mod error;
+mod group3;
+mod group4;
+pub mod laws;
+mod round_trip;
+mod rows;
+mod runs;
+mod words;
+
+pub use bitmap_sink::BitmapSink;
+pub use error::EncodeError;
+pub use group3::encode_1d;
+pub use group4::encode_g4;
+pub use round_trip::bitmap_by_group4;
+
+#[cfg(test)]
+mod tests;

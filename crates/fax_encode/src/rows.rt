@@ -1,0 +1,33 @@
+//! Lists of changes, tested before they are encoded.
+
+ghost use Rattle.std.specs.Prelude.{◌↔◌, IsTrue, MatchOption, map};
+ghost use Rattle.hayro_ccitt.specs.Rows.{AreChanges};
+ghost use Rattle.fax_encode.specs.Refusals.{AreRows, IsFirstUnlawful};
+
+/// Whether a list is strictly ascending and below the width.
+fn is_row(columns: u32, changes: &[u32]) -> bool
+    ensures { IsTrue result ↔ AreChanges columns changes.now }
+{
+    let mut least: u64 = 0;
+    for change in changes {
+        let place = u64::from(*change);
+        if place < least || *change >= columns {
+            return false;
+        }
+        least = place + 1;
+    }
+    true
+}
+
+/// The index of the first list that isn't a row of the width.
+pub fn first_unlawful(columns: u32, rows: &[Vec<u32>]) -> Option<usize>
+    ensures { MatchOption result (AreRows columns (map (λ row. row.items) rows.now))
+        (λ k. IsFirstUnlawful columns (map (λ row. row.items) rows.now) k) }
+{
+    for (index, row) in rows.iter().enumerate() {
+        if !is_row(columns, row.as_slice()) {
+            return Some(index);
+        }
+    }
+    None
+}

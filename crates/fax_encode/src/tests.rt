@@ -1,0 +1,222 @@
+//! What no clause says: that memory is there, and that the bytes are those of the standards. They were worked out from
+//! T.4 and T.6, apart from the encoder.
+
+use crate::{BitmapSink, EncodeError, bitmap_by_group4, encode_1d, encode_g4};
+use hayro_ccitt::{DecodeError, Decoder};
+use std::alloc::{AllocError, AllocGlobal, Global};
+use std::process::Abort;
+use std::test::Fail;
+
+/// Lists of changes in memory of their own.
+fn lists_of(alloc: Global, rows: &[&[u32]]) -> Result<Vec<Vec<u32>>, AllocError> {
+    let mut lists = Vec::new(alloc);
+    for row in rows {
+        lists.push(row.to_vec(alloc)?)?;
+    }
+    Ok(lists)
+}
+
+/// Encodes rows as Group 4, and compares the bytes.
+fn encodes_g4(
+    rt: &(impl Abort + AllocGlobal),
+    columns: u32,
+    rows: &[&[u32]],
+    aligned: bool,
+    bytes: &[u8],
+) {
+    let Ok(lists) = lists_of(rt.alloc(), rows) else {
+        panic!(rt; "no memory");
+    };
+    let Ok(encoded) = encode_g4(rt.alloc(), columns, lists.as_slice(), aligned) else {
+        panic!(rt; "{rows:?} is refused");
+    };
+    assert_eq!(rt; encoded.as_slice(), bytes, "Group 4 of {rows:?}");
+}
+
+/// Encodes rows as one-dimensional Group 3, and compares the bytes.
+fn encodes_1d(rt: &(impl Abort + AllocGlobal), columns: u32, rows: &[&[u32]], bytes: &[u8]) {
+    let Ok(lists) = lists_of(rt.alloc(), rows) else {
+        panic!(rt; "no memory");
+    };
+    let Ok(encoded) = encode_1d(rt.alloc(), columns, lists.as_slice()) else {
+        panic!(rt; "{rows:?} is refused");
+    };
+    assert_eq!(rt; encoded.as_slice(), bytes, "Group 3 of {rows:?}");
+}
+
+/// Encodes rows as Group 4, decodes them, and compares the bitmap.
+fn packs(
+    rt: &(impl Abort + AllocGlobal),
+    columns: u32,
+    lists: &[Vec<u32>],
+    aligned: bool,
+    bytes: &[u8],
+) {
+    let Ok(sink) = bitmap_by_group4(rt.alloc(), columns, lists, aligned) else {
+        panic!(rt; "no bitmap of {columns} columns");
+    };
+    assert_eq!(rt;
+        sink.bytes(),
+        bytes,
+        "{columns} columns, aligned: {aligned}"
+    );
+}
+
+#[test]
+fn group_4_bytes(rt: HostRuntime) {
+    encodes_g4(&rt, 8, &[], false, &[0x00, 0x10, 0x01]);
+    encodes_g4(&rt, 8, &[&[3, 5]], false, &[0x31, 0xC0, 0x04, 0x00, 0x40]);
+    encodes_g4(
+        &rt,
+        8,
+        &[&[3, 5], &[3, 5]],
+        false,
+        &[0x31, 0xF8, 0x00, 0x80, 0x08],
+    );
+    encodes_g4(
+        &rt,
+        8,
+        &[&[3, 5], &[3, 5]],
+        true,
+        &[0x31, 0xC0, 0xE0, 0x00, 0x10, 0x01],
+    );
+    encodes_g4(
+        &rt,
+        8,
+        &[&[3, 5], &[]],
+        false,
+        &[0x31, 0xC6, 0x00, 0x20, 0x02],
+    );
+    encodes_g4(
+        &rt,
+        8,
+        &[&[0]],
+        false,
+        &[0x26, 0xA2, 0x80, 0x08, 0x00, 0x80],
+    );
+}
+
+#[test]
+fn one_dimensional_bytes(rt: HostRuntime) {
+    encodes_1d(
+        &rt,
+        8,
+        &[&[]],
+        &[
+            0x00, 0x19, 0x80, 0x08, 0x00, 0x80, 0x08, 0x00, 0x80, 0x08, 0x00, 0x80,
+        ],
+    );
+    encodes_1d(
+        &rt,
+        8,
+        &[&[3, 5]],
+        &[
+            0x00, 0x18, 0xE0, 0x00, 0x40, 0x04, 0x00, 0x40, 0x04, 0x00, 0x40, 0x04,
+        ],
+    );
+    encodes_1d(
+        &rt,
+        2560,
+        &[&[]],
+        &[
+            0x00, 0x10, 0x1F, 0x35, 0x00, 0x10, 0x01, 0x00, 0x10, 0x01, 0x00, 0x10, 0x01,
+        ],
+    );
+}
+
+#[test]
+fn refusals(rt: HostRuntime) -> Result<(), Fail> {
+    let alloc = rt.alloc();
+    let twice = lists_of(alloc, &[&[3, 3]])?;
+    let none = lists_of(alloc, &[])?;
+    let second_is_wide = lists_of(alloc, &[&[7], &[8]])?;
+    let g4 = |columns, rows: &Vec<Vec<u32>>| encode_g4(
+        alloc,
+        columns,
+        rows.as_slice(),
+        false,
+    ).err();
+    let one = |columns, rows: &Vec<Vec<u32>>| encode_1d(alloc, columns, rows.as_slice()).err();
+    assert_eq!(&rt; g4(0, &twice), Some(EncodeError::NoColumns));
+    assert_eq!(&rt; g4(8, &twice), Some(EncodeError::NotARow(0)));
+    assert_eq!(&rt; g4(8, &second_is_wide), Some(EncodeError::NotARow(1)));
+    assert_eq!(&rt; one(0, &none), Some(EncodeError::NoColumns));
+    assert_eq!(&rt; one(8, &none), Some(EncodeError::NoRows));
+    assert_eq!(&rt; one(8, &twice), Some(EncodeError::NotARow(0)));
+    let text = format!(in alloc; "{}", EncodeError::NotARow(12))?;
+    assert_eq!(&rt; text.as_str(), "row 12 is not a list of changes");
+    Ok(())
+}
+
+#[test]
+fn bitmaps(rt: HostRuntime) -> Result<(), Fail> {
+    let alloc = rt.alloc();
+    packs(
+        &rt,
+        8,
+        lists_of(alloc, &[&[3, 5]])?.as_slice(),
+        false,
+        &[0x18],
+    );
+    packs(
+        &rt,
+        8,
+        lists_of(alloc, &[&[3, 5], &[]])?.as_slice(),
+        true,
+        &[0x18, 0x00],
+    );
+    packs(&rt, 8, lists_of(alloc, &[&[0]])?.as_slice(), false, &[0xFF]);
+    packs(
+        &rt,
+        20,
+        lists_of(alloc, &[&[1, 18], &[9, 10, 19]])?.as_slice(),
+        true,
+        &[0x7F, 0xFF, 0xC0, 0x00, 0x40, 0x10],
+    );
+    let mut sink = BitmapSink::new(alloc, 8);
+    let taken: Result<(), DecodeError> = sink.push_row(&[7]);
+    assert_eq!(&rt; taken, Ok(()));
+    assert_eq!(&rt; sink.bytes(), [0x01u8].as_slice());
+    Ok(())
+}
+
+/// The changes of a row of at most four pixels, which are the bits of a number, the last pixel the lowest.
+fn changes_of(alloc: Global, pixels: u8, columns: u32) -> Result<Vec<u32>, AllocError> {
+    let mut changes = Vec::new(alloc);
+    let mut before = 0;
+    for (place, ahead) in [3, 2, 1, 0].into_iter().enumerate() {
+        let pixel = pixels >> ahead & 1;
+        if (place as u32) < columns && pixel != before {
+            changes.push(place as u32)?;
+        }
+        before = pixel;
+    }
+    Ok(changes)
+}
+
+#[test]
+fn every_small_picture(rt: HostRuntime) -> Result<(), Fail> {
+    let alloc = rt.alloc();
+    for columns in 1..5u32 {
+        let last = 4 - columns;
+        for picture in 0..1u16 << (3 * columns) {
+            let mut lists = Vec::new(alloc);
+            let mut bytes = [0u8; 3];
+            for row in 0..3usize {
+                let pixels = ((picture >> (columns * row as u32)) % (1 << columns)) as u8;
+                let left = pixels << last;
+                bytes[row] = left << 4;
+                lists.push(changes_of(alloc, left, columns)?)?;
+            }
+            for rows in 1..4usize {
+                let (Some(front), Some(packed)) = (lists.as_slice().get(..rows), bytes.get(..rows))
+                else {
+                    panic!(&rt; "fewer than {rows} rows");
+                };
+                packs(&rt, columns, front, false, packed);
+                packs(&rt, columns, front, true, packed);
+            }
+        }
+    }
+    Ok(())
+}

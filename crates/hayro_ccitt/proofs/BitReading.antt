@@ -1,0 +1,9 @@
+pub mod BitLists
+pub mod BitPlaces
+pub mod EolCounts
+pub mod ScanWords
+pub mod SoughtEols
+pub mod TablesAgree
+pub mod TaggedEols
+pub mod ZeroRuns
+pub mod ZerosInWords

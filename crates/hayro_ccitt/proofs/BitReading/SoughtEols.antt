@@ -1,0 +1,35 @@
+-- The next EOL, sought a count of zeros at a time.
+use Rattle.std.proofs.Common.{◌≡◌, ℕ, zero, suc, ◌+◌, ◌<◌, Bool, true, false, ◌∷◌, ◌++◌, length, replicate, None, refl, ap, arith}
+use Rattle.std.proofs.lemmas.Bool.{lt-leb}
+use Rattle.hayro_ccitt.specs.Bits.{Bits}
+use Rattle.hayro_ccitt.specs.EndOfLine.{after_eol, next_eol}
+use Rattle.hayro_ccitt.specs.Ticks.{looked}
+
+-- too few zeros and a one are no EOL
+few_zeros : (seen k : ℕ) (rest : Bits) → seen + k < 11 → after_eol seen (replicate k false ++ true ∷ rest) ≡ None
+few_zeros seen zero rest lt = let below : seen < 11 = omega arith in rw (lt-leb 11 seen below) refl
+few_zeros seen (suc k) rest lt = few_zeros (suc seen) k rest (omega arith)
+
+-- the next EOL is behind a one that too few zeros stand before
+pub next_eol-behind : (k : ℕ) (rest : Bits) → k < 11 → next_eol (replicate k false ++ true ∷ rest) ≡ next_eol rest
+next_eol-behind zero rest lt = refl
+next_eol-behind (suc k) rest lt = rw (few_zeros 0 (suc k) rest (omega arith), next_eol) (next_eol-behind k rest (omega arith))
+
+zeros_end : (seen n : ℕ) → after_eol seen (replicate n false) ≡ None
+zeros_end seen zero = refl
+zeros_end seen (suc n) = zeros_end (suc seen) n
+
+-- no EOL stands in zeros alone
+pub next_eol-zeros : (n : ℕ) → next_eol (replicate n false) ≡ None
+next_eol-zeros zero = refl
+next_eol-zeros (suc n) = rw (zeros_end 0 (suc n), next_eol) (next_eol-zeros n)
+
+-- the zeros and the one behind them are looked at
+pub looked-one : (k : ℕ) (rest : Bits) → looked (replicate k false ++ true ∷ rest) + length rest ≡ length (replicate k false ++ true ∷ rest)
+looked-one zero rest = omega arith
+looked-one (suc k) rest = omega (arith, looked-one k rest)
+
+-- all of some zeros are looked at
+pub looked-zeros : (n : ℕ) → looked (replicate n false) ≡ length {A = Bool} (replicate n false)
+looked-zeros zero = refl
+looked-zeros (suc n) = ap suc (looked-zeros n)

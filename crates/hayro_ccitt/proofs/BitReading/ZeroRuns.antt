@@ -1,0 +1,95 @@
+-- Zeros and EOLs that are counted a bit and an EOL at a time.
+use Rattle.std.proofs.Common.{◌≡◌, ℕ, zero, suc, ◌+◌, ◌-◌, ◌<◌, ◌≤◌, Bool, true, false, cond, leb, eqb, [], ◌∷◌, ◌++◌, length, replicate, Option}
+use Rattle.std.proofs.Common.{Some, None, refl, sym, ap, ◌∙◌, subst, arith, inl, inr}
+use Rattle.std.specs.Prelude.{slice_get}
+use Rattle.std.proofs.lemmas.Bool.{eqb-true}
+use Rattle.std.proofs.lemmas.List.{length-append, length-replicate, length-drop}
+use Rattle.hayro_ccitt.specs.Bits.{Bits, BitsAt, here}
+use Rattle.hayro_ccitt.specs.CodeReading.{leading_zeros}
+use Rattle.hayro_ccitt.specs.EndOfLine.{after_eol, one_more, eols}
+use Rattle.hayro_ccitt.specs.Ticks.{looked}
+use Rattle.hayro_ccitt.proofs.BitReading.BitLists.{drop_some}
+use Rattle.hayro_ccitt.proofs.CodeWords.ReadRuns.{chosen}
+use Rattle.hayro_ccitt.proofs.Readings.TurnsMoveOn.{after_eol_shorter, length-one_more, one_more-count}
+
+-- a zero behind zeros is one more of them
+pub zeros_more : (n : ℕ) (bits : Bits) → replicate n false ++ (false ∷ bits) ≡ replicate (n + 1) false ++ bits
+zeros_more zero bits = refl
+zeros_more (suc n) bits =
+    let m : suc n + 1 ≡ suc (n + 1) = omega arith in
+    ap (λ (x : Bits). false ∷ x) (zeros_more n bits) ∙ sym (ap (λ (k : ℕ). replicate k false ++ bits) m)
+
+pub leading_zeros-one : (n : ℕ) (bits : Bits) → leading_zeros (replicate n false ++ (true ∷ bits)) ≡ n
+leading_zeros-one zero bits = refl
+leading_zeros-one (suc n) bits = ap suc (leading_zeros-one n bits)
+
+pub leading_zeros-replicate : (n : ℕ) → leading_zeros (replicate n false) ≡ n
+leading_zeros-replicate zero = refl
+leading_zeros-replicate (suc n) = ap suc (leading_zeros-replicate n)
+
+-- a count of zeros looks at the bits of an EOL
+pub looked_eol : (seen : ℕ) (here after : Bits) → after_eol seen here ≡ Some after → looked here + length after ≡ length here
+looked_eol seen [] after e = absurd cc
+looked_eol seen (false ∷ here) after e = omega (arith, looked_eol (suc seen) here after e)
+looked_eol seen (true ∷ here) after e = elim (chosen (leb 11 seen) _ _ _ e) [
+  | inl a ↦ let same : here ≡ after = let f = a.1 in cc in omega (arith, ap length same)
+  | inr a ↦ absurd (let f = a.1 in cc)
+]
+
+-- the first of some EOLs
+pub eols_one : (most : ℕ) (here after : Bits) → after_eol 0 here ≡ Some after → 0 < most
+    → eols most here ≡ (suc (eols (most - 1) after).0, (eols (most - 1) after).1)
+eols_one zero here after e lt = absurd (omega arith)
+eols_one (suc most) here after e lt =
+    let n : suc most - 1 ≡ most = omega arith in
+    rw (e, n, eols) (by (eols most after))
+  where
+    by : (found : ℕ × Bits) → one_more found ≡ (suc found.0, found.1)
+    by (count, rest) = refl
+
+-- an EOL more, and those after it
+pub eols_stepped : (max count : ℕ) (start now after : Bits) → eols max start ≡ (count + (eols (max - count) now).0, (eols (max - count) now).1)
+    → after_eol 0 now ≡ Some after → count < max
+    → eols max start ≡ (count + 1 + (eols (max - (count + 1)) after).0, (eols (max - (count + 1)) after).1)
+eols_stepped max count start now after e h lt =
+    let one = eols_one (max - count) now after h (omega arith) in
+    let n : max - count - 1 ≡ max - (count + 1) = omega arith in
+    let f : eols (max - count) now ≡ (suc (eols (max - (count + 1)) after).0, (eols (max - (count + 1)) after).1) = rw n at one in
+    let m : count + suc (eols (max - (count + 1)) after).0 ≡ count + 1 + (eols (max - (count + 1)) after).0 = omega arith in
+    e ∙ rw f (ap (λ (k : ℕ). (k, (eols (max - (count + 1)) after).1)) m)
+
+-- an EOL takes a bit
+pub eols_fewer : (most : ℕ) (here : Bits) → (eols most here).0 + length (eols most here).1 ≤ length here
+eols_fewer zero here = omega arith
+eols_fewer (suc most) here = by (λ rest. eols_fewer most rest) (after_eol 0 here) refl
+  where
+    by : ((rest : Bits) → (eols most rest).0 + length (eols most rest).1 ≤ length rest) → (o : Option Bits) → after_eol 0 here ≡ o
+        → (eols (suc most) here).0 + length (eols (suc most) here).1 ≤ length here
+    by on None e = rw (e, eols) (omega arith)
+    by on (Some rest) e = rw (e, eols) (omega (arith, length-one_more (eols most rest), one_more-count (eols most rest), on rest, after_eol_shorter 0 here rest e))
+
+-- at the end no bit is looked at
+pub looked-none : (here : Bits) → length here ≡ 0 → looked here ≡ 0
+looked-none [] e = refl
+looked-none (b ∷ here) e = absurd (omega (arith, e))
+
+-- where as many EOLs as bits are looked for, the bits after the last are looked at
+pub eols_look_on : (here rest : Bits) (count : ℕ) → eols (length here) here ≡ (count, rest) → cond (eqb count (length here)) 0 (looked rest) ≡ looked rest
+eols_look_on here rest count e = by (eqb count (length here)) refl
+  where
+    by : (b : Bool) → eqb count (length here) ≡ b → cond b 0 (looked rest) ≡ looked rest
+    by false h = refl
+    by true h =
+        let counts : count + length rest ≤ length here = subst (λ (found : ℕ × Bits). found.0 + length found.1 ≤ length here) e (eols_fewer (length here) here) in
+        sym (looked-none rest (omega (arith, counts, eqb-true count (length here) h)))
+
+-- ---- A bit read.
+-- a bit that stands at the place is the first here
+pub here_next : (old new : BitsAt) (bit : Bool) → slice_get old.bits old.place ≡ Some bit → new ≡ record old { place = old.place + 1 }
+    → here old ≡ bit ∷ here new
+here_next old new bit h e = rw e (drop_some old.bits old.place bit h)
+
+-- zeros here are no more than the bits
+pub zeros_fit : (n : ℕ) (at : BitsAt) (rest : Bits) → here at ≡ replicate n false ++ rest → n + length rest ≤ length at.bits
+zeros_fit n at rest e =
+    omega (arith, ap length e, length-append (replicate n false) rest, length-replicate n false, length-drop at.place at.bits)

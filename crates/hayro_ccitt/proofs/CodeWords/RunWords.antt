@@ -1,0 +1,38 @@
+-- The words that the turns of a run find.
+use Rattle.std.proofs.Common.{◌≡◌, ℕ, suc, ◌+◌, ◌≤◌, List, ◌++◌, length, Ok, Err, refl, ap, ◌∙◌, arith}
+use Rattle.std.proofs.lemmas.Bool.{le-ltb}
+use Rattle.std.proofs.lemmas.List.{length-append}
+use Rattle.hayro_ccitt.specs.declared.codes.Color.{Color}
+use Rattle.hayro_ccitt.specs.declared.error.DecodeError.{DecodeError}
+use Rattle.hayro_ccitt.specs.Bits.{Bits}
+use Rattle.hayro_ccitt.specs.CodeLists.{Code}
+use Rattle.hayro_ccitt.specs.CodeReading.{read_code}
+use Rattle.hayro_ccitt.specs.Repetition.{Turn}
+use Rattle.hayro_ccitt.specs.Runs.{codes_of, run_turn}
+use Rattle.hayro_ccitt.specs.Ticks.{word_found, run_gives, run_found}
+use Rattle.hayro_ccitt.proofs.CodeWords.ReadRuns.{size, run_shrinks}
+use Rattle.hayro_ccitt.proofs.Readings.Gathered.{gathered_after, gathered_turn}
+
+-- what a turn gives, and then the turns after it
+abbrev pub given : {S R A : Type 0} → List A → (S → List A) → Turn S R → List A
+given now rest turn = now ++ gathered_after rest turn
+
+-- ---- The words of a run, by turns.
+run_found_turn : (color : Color) (total : ℕ) (here : Bits) → run_found color (total, here)
+    ≡ given (run_gives color (total, here)) (run_found color) (run_turn color (total, here))
+run_found_turn color total here = gathered_turn (run_turn color) (run_gives color) size (run_shrinks color) (total, here)
+
+one_word : {V : Type 0} (list : List (Code V)) (here : Bits) (found : V × Bits) → read_code list here ≡ Ok found → length (word_found list here) ≡ 1
+one_word list here found e = rw (e, word_found) refl
+
+-- a make-up word is one, and the run goes on
+pub run_found_on : (color : Color) (total n : ℕ) (here rest : Bits) → read_code (codes_of color) here ≡ Ok (n, rest) → total + n ≤ 4294967295
+    → 64 ≤ n → length (run_found color (total, here)) ≡ suc (length (run_found color (total + n, rest)))
+run_found_on color total n here rest h k l =
+    let turn : run_found color (total, here) ≡ word_found (codes_of color) here ++ run_found color (total + n, rest) =
+    run_found_turn color total here ∙ rw (h, run_turn, le-ltb 4294967295 (total + n) k, le-ltb n 64 l) refl in
+    omega (arith, ap length turn, length-append (word_found (codes_of color) here) (run_found color (total + n, rest)), one_word (codes_of color) here (n, rest) h)
+
+-- a word that is missed is none
+pub run_found_missed : (color : Color) (total : ℕ) (here : Bits) (e : DecodeError) → read_code (codes_of color) here ≡ Err e → length (run_found color (total, here)) ≡ 0
+run_found_missed color total here e h = ap length (run_found_turn color total here) ∙ rw (h, run_turn, word_found) refl

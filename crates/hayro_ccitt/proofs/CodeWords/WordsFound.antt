@@ -1,0 +1,355 @@
+-- The words that a line finds stand in a row from where it begins, and end before each EOL's one.
+use Rattle.std.proofs.Common.{ltb, leb, cond, ◌≡◌, take, ◌-◌, Result, Ok, Err, subst, append_assoc, ℕ, zero, suc, ◌+◌, ◌<◌, Bool, true, false}
+use Rattle.std.proofs.Common.{List, [], ◌∷◌, ◌++◌, length, replicate, refl, sym, ap, ◌∙◌, arith, inl, inr}
+use Rattle.std.proofs.lemmas.Bool.{false≢true, cases_lt}
+use Rattle.std.proofs.lemmas.List.{length-append, length-replicate, append-nil}
+use Rattle.hayro_ccitt.specs.declared.error.DecodeError.{DecodeError}
+use Rattle.hayro_ccitt.specs.declared.error.DecodeError.TheVariants.{UnexpectedEof}
+use Rattle.hayro_ccitt.specs.declared.codes.Color.{Color}
+use Rattle.hayro_ccitt.specs.declared.codes.Mode.{Mode}
+use Rattle.hayro_ccitt.specs.declared.codes.Mode.TheVariants.{Pass, Horizontal, Vertical}
+use Rattle.hayro_ccitt.specs.declared.settings.EncodingMode.{EncodingMode}
+use Rattle.hayro_ccitt.specs.declared.settings.EncodingMode.TheVariants.{Group4, Group3_1D, Group3_2D}
+use Rattle.hayro_ccitt.specs.Bits.{Bits}
+use Rattle.hayro_ccitt.specs.CodeLists.{Code, mode_codes}
+use Rattle.hayro_ccitt.specs.CodeReading.{read_code, Has}
+use Rattle.hayro_ccitt.specs.Repetition.{Turn, repeated, gathered}
+use Rattle.hayro_ccitt.specs.Rows.{Row, opposite, b2, right_of}
+use Rattle.hayro_ccitt.specs.Runs.{codes_of, run_of_word, run_turn, run_from}
+use Rattle.hayro_ccitt.specs.Lines.{Line, Pen, Drawing, ◌>>=◌, turn_behind, words_behind, go_on, unless_fault, finds, run_here, mode_here, painted, painted_to, place_by, unless_full, draw_run, draw_mode, draw_1d, draw_2d, start, line_1d, line_2d, found_1d, found_2d, tag_at, line_found}
+use Rattle.hayro_ccitt.specs.Ticks.{word_found, run_gives, run_found}
+use Rattle.hayro_ccitt.specs.PlainReading.{line_by}
+use Rattle.hayro_ccitt.specs.Laws.{IsWord, AreWords, joined, HoldsZeros, EndBeforeEol, Synchronised}
+use Rattle.hayro_ccitt.proofs.Readings.Repeated.{after_turn}
+use Rattle.hayro_ccitt.proofs.CodeWords.ReadCodes.{read_code_found}
+use Rattle.hayro_ccitt.proofs.CodeWords.ReadRuns.{chosen, word_next, not_done, done_is}
+use Rattle.hayro_ccitt.proofs.BitReading.ZerosInWords.{codes_free, modes_free, free_by, no_one, holds_a_one, word_one, no_eleven_in, prefix_of_prefix}
+
+-- what the turns after this one give
+abbrev pub gathered_after : {S R A : Type 0} → (S → List A) → Turn S R → List A
+gathered_after rest (Turn.next s) = rest s
+gathered_after rest (Turn.done r) = []
+
+-- ---- Words that stand in a row here.
+pub record Stands (here : Bits) (found : List Bits) (rest : Bits) : Type 0 where
+  pub words : AreWords found
+  pub place : here ≡ joined found ++ rest
+
+-- two lists of words
+pub are_words_append : (a b : List Bits) → AreWords a → AreWords b → AreWords (a ++ b)
+are_words_append [] b p q = q
+are_words_append (w ∷ a) b p q = (p.0, are_words_append a b p.1 q)
+
+-- their bits
+pub joined_append : (a b : List Bits) → joined (a ++ b) ≡ joined a ++ joined b
+joined_append [] b = refl
+joined_append (w ∷ a) b = ap (λ (x : Bits). w ++ x) (joined_append a b) ∙ sym (append_assoc w (joined a) (joined b))
+
+-- words that stand behind words
+pub stands_append : (here middle rest : Bits) (a b : List Bits) → Stands here a middle → Stands middle b rest → Stands here (a ++ b) rest
+stands_append here middle rest a b p q = record {
+  words = are_words_append a b p.words q.words;
+  place = p.place ∙ ap (λ (x : Bits). joined a ++ x) q.place ∙ sym (append_assoc (joined a) (joined b) rest)
+      ∙ ap (λ (x : Bits). x ++ rest) (sym (joined_append a b));
+}
+
+-- no words stand anywhere
+pub stands_none : (here : Bits) → Stands here [] here
+stands_none here = record { words = tt; place = refl }
+
+-- what the turns find stands in a row, and where an answer names the rest it is what follows
+pub gathered_stands : {S R : Type 0} (step : S → Turn S R) (late : R) (gives : S → List Bits) (here_of : S → Bits) (Ends : R → Bits → Type 0)
+    → ((b : Bits) → Ends late b)
+    → ((s t : S) → step s ≡ Turn.next t → Stands (here_of s) (gives s) (here_of t))
+    → ((s : S) (r : R) → step s ≡ Turn.done r → (rest : Bits) × Stands (here_of s) (gives s) rest × Ends r rest)
+    → (n : ℕ) (s : S) → (rest : Bits) × Stands (here_of s) (gathered step gives n s) rest × Ends (repeated step late n s) rest
+gathered_stands step late gives here_of Ends l goes ends zero s = (here_of s, stands_none (here_of s), l (here_of s))
+gathered_stands {S} {R} step late gives here_of Ends l goes ends (suc n) s =
+    let by_turn : (turn : Turn S R) → step s ≡ turn → (rest : Bits) × Stands (here_of s) (gives s ++ gathered_after (gathered step gives n) turn) rest
+    × Ends (after_turn (repeated step late n) turn) rest
+    = λ turn. elim turn as (λ (t : Turn S R). step s ≡ t → (rest : Bits)
+    × Stands (here_of s) (gives s ++ gathered_after (gathered step gives n) t) rest × Ends (after_turn (repeated step late n) t) rest) [
+      | Turn.next t ↦ λ e. let more = gathered_stands step late gives here_of Ends l goes ends n t in
+          (more.0, stands_append (here_of s) (here_of t) more.0 (gives s) (gathered step gives n t) (goes s t e) more.1, more.2)
+      | Turn.done r ↦ λ e. let last = ends s r e in
+          (last.0, stands_append (here_of s) last.0 last.0 (gives s) [] last.1 (stands_none last.0), last.2)
+    ] in
+    by_turn (step s) refl
+
+take_append : (a b : Bits) → take (length a) (a ++ b) ≡ a
+take_append [] b = refl
+take_append (x ∷ a) b = ap (λ (y : Bits). x ∷ y) (take_append a b)
+
+-- a word that a reading found stands here
+pub word_stands : {V : Type 0} (list : List (Code V)) (here : Bits) (v : V) (rest : Bits) → ((w : Bits) → Has list v w → IsWord w)
+    → read_code list here ≡ Ok (v, rest) → Stands here (word_found list here) rest
+word_stands {V} list here v rest is e =
+    let f = read_code_found list here v rest e in
+    let n : length here - length rest ≡ length f.0 = omega (arith, ap length f.2, length-append f.0 rest) in
+    let w : take (length here - length rest) here ≡ f.0 = ap (λ (k : ℕ). take k here) n ∙ ap (λ (x : Bits). take (length f.0) x) f.2 ∙ take_append f.0 rest in
+    let found : word_found list here ≡ f.0 ∷ [] = rw (e, word_found) (ap (λ (x : Bits). x ∷ []) w) in
+    subst (λ (x : List Bits). Stands here x rest) (sym found)
+    (record { words = (is f.0 f.1, tt); place = f.2 ∙ ap (λ (x : Bits). x ++ rest) (sym (append-nil f.0)) })
+
+-- a reading that found no word
+pub no_word_stands : {V : Type 0} (list : List (Code V)) (here : Bits) (fault : DecodeError) → read_code list here ≡ Err fault
+    → Stands here (word_found list here) here
+no_word_stands list here fault e = let found : word_found list here ≡ []
+    = rw (e, word_found) refl in subst (λ (x : List Bits). Stands here x here) (sym found) (stands_none here)
+
+-- ---- The words of a run.
+abbrev pub RunEnds : Result (ℕ × Bits) DecodeError → Bits → Type 0
+RunEnds (Ok found) rest = found.1 ≡ rest
+RunEnds (Err fault) rest = Unit {0}
+
+-- a turn of a run
+abbrev RunTurn : Type 0
+RunTurn = Turn (ℕ × Bits) (Result (ℕ × Bits) DecodeError)
+
+run_word : (color : Color) (v : ℕ) (w : Bits) → Has (codes_of color) v w → IsWord w
+run_word color v w i = inl (color, v, i)
+
+run_goes : (color : Color) (total : ℕ) (here : Bits) (t : ℕ × Bits) (r : Result (ℕ × Bits) DecodeError) → read_code (codes_of color) here ≡ r
+    → run_turn color (total, here) ≡ Turn.next t → Stands here (word_found (codes_of color) here) t.1
+run_goes color total here t (Err e) h k =
+    let g : ◌≡◌ {A = RunTurn} (Turn.done (Err e)) (Turn.next t) = rw (h, run_turn) at k in absurd (not_done _ t g)
+run_goes color total here t (Ok found) h k =
+    let g : run_of_word total found ≡ Turn.next t = rw (h, run_turn) at k in
+    subst (λ (x : ℕ × Bits). Stands here (word_found (codes_of color) here) x.1) (word_next total found t g)
+    (word_stands (codes_of color) here found.0 found.1 (run_word color found.0) h)
+
+run_ends : (color : Color) (total : ℕ) (here : Bits) (r : Result (ℕ × Bits) DecodeError) (q : Result (ℕ × Bits) DecodeError)
+    → read_code (codes_of color) here ≡ q → run_turn color (total, here) ≡ Turn.done r
+    → (rest : Bits) × Stands here (word_found (codes_of color) here) rest × RunEnds r rest
+run_ends color total here r (Err e) h k =
+    let g : ◌≡◌ {A = RunTurn} (Turn.done (Err e)) (Turn.done r) = rw (h, run_turn) at k in
+    (here, no_word_stands (codes_of color) here e h, subst (λ (x : Result (ℕ × Bits) DecodeError). RunEnds x here) (done_is _ r g) tt)
+run_ends color total here r (Ok found) h k =
+    let g : run_of_word total found ≡ Turn.done r = rw (h, run_turn) at k in
+    let stands = word_stands (codes_of color) here found.0 found.1 (run_word color found.0) h in
+    elim (chosen (ltb 4294967295 (total + found.0)) _ _ _ g) [
+      | inl a ↦ (found.1, stands, subst (λ (x : Result (ℕ × Bits) DecodeError). RunEnds x found.1) (done_is _ r a.1) tt)
+      | inr a ↦ elim (chosen (ltb found.0 64) _ _ _ a.1) [
+        | inl b ↦ (found.1, stands, subst (λ (x : Result (ℕ × Bits) DecodeError). RunEnds x found.1) (done_is _ r b.1) refl)
+        | inr b ↦ absurd (not_done r _ (sym b.1))
+      ]
+    ]
+
+-- the words of a run stand in a row
+pub run_stands : (color : Color) (total : ℕ) (here : Bits) → (rest : Bits) × Stands here (run_found color (total, here)) rest
+    × RunEnds (run_from color (total, here)) rest
+run_stands color total here =
+    gathered_stands (run_turn color) (Err UnexpectedEof) (run_gives color) (λ s. s.1) RunEnds (λ b. tt)
+    (λ s t e. run_goes color s.0 s.1 t (read_code (codes_of color) s.1) refl e)
+    (λ s r e. run_ends color s.0 s.1 r (read_code (codes_of color) s.1) refl e)
+    (suc (length here)) (total, here)
+
+-- ---- The words of a line.
+abbrev pub LineEnds : Line → Bits → Type 0
+LineEnds (Line.whole row after) rest = after ≡ rest
+LineEnds (Line.broken front fault) rest = Unit {0}
+
+-- what a turn finds stands in a row, up to where it goes on or ends
+abbrev pub TurnStands : {A : Type 0} → Bits → (A → Bits) → Turn A Line → List Bits → Type 0
+TurnStands here rest_of (Turn.next x) found = Stands here found (rest_of x)
+TurnStands here rest_of (Turn.done line) found = (rest : Bits) × Stands here found rest × LineEnds line rest
+
+-- what drawing finds stands in a row
+abbrev pub DrawingStands : {A : Type 0} → Bits → (A → Bits) → Drawing A → Type 0
+DrawingStands here rest_of drawing = TurnStands here rest_of drawing.turn drawing.words
+
+-- the bits behind a pen
+abbrev pub rest_of_pen : Pen → Bits
+rest_of_pen pen = pen.rest
+
+-- a turn behind words
+pub turn_after : {A : Type 0} (here middle : Bits) (rest_of : A → Bits) (a b : List Bits) (turn : Turn A Line) → Stands here a middle
+    → TurnStands middle rest_of turn b → TurnStands here rest_of turn (a ++ b)
+turn_after here middle rest_of a b (Turn.next x) p q = stands_append here middle (rest_of x) a b p q
+turn_after here middle rest_of a b (Turn.done line) p q = (q.0, stands_append here middle q.0 a b p q.1, q.2)
+
+-- drawing, and what is drawn behind it
+pub behind_stands : {A B : Type 0} (here : Bits) (rest_of : A → Bits) (last_of : B → Bits) (drawing : Drawing A) (behind : A → Drawing B)
+    → DrawingStands here rest_of drawing → ((x : A) → DrawingStands (rest_of x) last_of (behind x)) → DrawingStands here last_of (drawing >>= behind)
+behind_stands {A} {B} here rest_of last_of drawing behind stands each = by drawing.turn drawing.words stands
+  where
+    by : (turn : Turn A Line) (words : List Bits) → TurnStands here rest_of turn words
+        → TurnStands here last_of (turn_behind turn (λ x. (behind x).turn)) (words ++ words_behind turn (λ x. (behind x).words))
+    by (Turn.next x) words p = turn_after here (rest_of x) last_of words (behind x).words (behind x).turn p (each x)
+    by (Turn.done line) words p = (p.0, stands_append here p.0 p.0 words [] p.1 (stands_none p.0), p.2)
+
+-- what finds no words
+wordless_stands : {A : Type 0} (here : Bits) (pen : Pen) (result : Result A DecodeError) → DrawingStands here (λ (x : A). here) (finds pen [] result)
+wordless_stands here pen (Ok x) = stands_none here
+wordless_stands here pen (Err fault) = (here, stands_none here, tt)
+
+-- a run that is read
+run_read_stands : (pen : Pen)
+    → DrawingStands pen.rest (λ (run : ℕ × Bits). run.1) (run_here pen)
+run_read_stands pen = by (run_from pen.color (0, pen.rest)) stands.2
+  where
+    stands : (rest : Bits) × Stands pen.rest (run_found pen.color (0, pen.rest)) rest × RunEnds (run_from pen.color (0, pen.rest)) rest
+    stands = run_stands pen.color 0 pen.rest
+
+    by : (r : Result (ℕ × Bits) DecodeError) → RunEnds r stands.0
+        → TurnStands pen.rest (λ (run : ℕ × Bits). run.1) (unless_fault pen.front r) (run_found pen.color (0, pen.rest))
+    by (Ok run) ends = subst (λ (x : Bits). Stands pen.rest (run_found pen.color (0, pen.rest)) x) (sym ends) stands.1
+    by (Err fault) ends = (stands.0, stands.1, tt)
+
+mode_word : (v : Mode) (w : Bits) → Has mode_codes v w → IsWord w
+mode_word v w i = inr (v, i)
+
+-- a mode that is read
+mode_read_stands : (pen : Pen)
+    → DrawingStands pen.rest (λ (mode : Mode × Bits). mode.1) (mode_here pen)
+mode_read_stands pen = by (read_code mode_codes pen.rest) refl
+  where
+    by : (r : Result (Mode × Bits) DecodeError) → read_code mode_codes pen.rest ≡ r
+        → TurnStands pen.rest (λ (mode : Mode × Bits). mode.1) (unless_fault pen.front r) (word_found mode_codes pen.rest)
+    by (Ok mode) e = word_stands mode_codes pen.rest mode.0 mode.1 (mode_word mode.0) e
+    by (Err fault) e = (pen.rest, no_word_stands mode_codes pen.rest fault e, tt)
+
+-- a run that is drawn
+pub draw_run_stands : (strict : Bool) (columns : ℕ) (pen : Pen) → DrawingStands pen.rest rest_of_pen (draw_run strict columns pen)
+draw_run_stands strict columns pen =
+    behind_stands pen.rest (λ (run : ℕ × Bits). run.1) rest_of_pen (run_here pen)
+    (λ run. painted strict columns pen run.0 >>= (λ front. go_on (record { front = front; color = opposite pen.color; rest = run.1 })))
+    (run_read_stands pen)
+    (λ run. behind_stands run.1 (λ (front : Row). run.1) rest_of_pen (painted strict columns pen run.0)
+    (λ front. go_on (record { front = front; color = opposite pen.color; rest = run.1 })) (wordless_stands run.1 pen _) (λ front. stands_none run.1))
+
+-- a full line finds nothing more
+pub unless_full_stands : (columns : ℕ) (pen : Pen) → DrawingStands pen.rest rest_of_pen (unless_full columns pen)
+unless_full_stands columns pen = by (leb columns (length pen.front))
+  where
+    by : (full : Bool) → TurnStands pen.rest rest_of_pen (cond full (Turn.done (Line.whole pen.front pen.rest)) (Turn.next pen)) []
+    by true = (pen.rest, stands_none pen.rest, refl)
+    by false = stands_none pen.rest
+
+-- what a mode draws
+mode_stands : (strict : Bool) (columns : ℕ) (reference : Row) (pen : Pen) (mode : Mode) → DrawingStands pen.rest rest_of_pen (draw_mode strict columns reference pen mode)
+mode_stands strict columns reference pen Pass =
+    behind_stands pen.rest (λ (front : Row). pen.rest) rest_of_pen
+    (painted_to strict columns pen (b2 reference (right_of pen.front) pen.color))
+    (λ front. go_on (record pen { front = front })) (wordless_stands pen.rest pen _) (λ front. stands_none pen.rest)
+mode_stands strict columns reference pen Horizontal =
+    behind_stands pen.rest rest_of_pen rest_of_pen (draw_run strict columns pen) (draw_run strict columns) (draw_run_stands strict columns pen)
+    (draw_run_stands strict columns)
+mode_stands strict columns reference pen (Vertical k) =
+    let paints : ℕ → Drawing Row = painted_to strict columns pen in
+    let turns : Row → Drawing Pen = λ front. go_on (record { front = front; color = opposite pen.color; rest = pen.rest }) in
+    behind_stands pen.rest (λ (place : ℕ). pen.rest) rest_of_pen
+    (place_by reference pen k) (λ place. paints place >>= turns)
+    (wordless_stands pen.rest pen _)
+    (λ place. behind_stands pen.rest (λ (front : Row). pen.rest) rest_of_pen (paints place) turns (wordless_stands pen.rest pen _)
+    (λ front. stands_none pen.rest))
+
+-- a step of a one-dimensional line
+pub draw_1d_stands : (strict : Bool) (columns : ℕ) (pen : Pen) → DrawingStands pen.rest rest_of_pen (draw_1d strict columns pen)
+draw_1d_stands strict columns pen =
+    behind_stands pen.rest rest_of_pen rest_of_pen (unless_full columns pen) (draw_run strict columns) (unless_full_stands columns pen)
+    (draw_run_stands strict columns)
+
+-- a step of a two-dimensional line
+pub draw_2d_stands : (strict : Bool) (columns : ℕ) (reference : Row) (pen : Pen) → DrawingStands pen.rest rest_of_pen (draw_2d strict columns reference pen)
+draw_2d_stands strict columns reference pen =
+    let draws : Pen → Mode × Bits → Drawing Pen = λ p mode. draw_mode strict columns reference (record p { rest = mode.1 }) mode.0 in
+    behind_stands pen.rest rest_of_pen rest_of_pen (unless_full columns pen) (λ p. mode_here p >>= draws p) (unless_full_stands columns pen)
+    (λ p. behind_stands p.rest (λ (mode : Mode × Bits). mode.1) rest_of_pen (mode_here p) (draws p) (mode_read_stands p)
+    (λ mode. mode_stands strict columns reference (record p { rest = mode.1 }) mode.0))
+
+-- what a repeated step finds
+pub pen_stands : (draw : Pen → Drawing Pen) → ((pen : Pen) → DrawingStands pen.rest rest_of_pen (draw pen)) → (n : ℕ) (pen : Pen)
+    → (rest : Bits) × Stands pen.rest (gathered (λ pen. (draw pen).turn) (λ pen. (draw pen).words) n pen) rest
+    × LineEnds (repeated (λ pen. (draw pen).turn) (Line.broken [] UnexpectedEof) n pen) rest
+pen_stands draw each n pen =
+    gathered_stands (λ (p : Pen). (draw p).turn) (Line.broken [] UnexpectedEof) (λ p. (draw p).words) rest_of_pen LineEnds (λ b. tt)
+    (λ s t e. subst (λ (x : Turn Pen Line). TurnStands s.rest rest_of_pen x (draw s).words) e (each s))
+    (λ s r e. subst (λ (x : Turn Pen Line). TurnStands s.rest rest_of_pen x (draw s).words) e (each s))
+    n pen
+
+-- the words of a one-dimensional line stand in a row
+pub line_1d_stands : (strict : Bool) (columns : ℕ) (here : Bits) → (rest : Bits) × Stands here (found_1d strict columns here) rest
+    × LineEnds (line_1d strict columns here) rest
+line_1d_stands strict columns here = pen_stands (draw_1d strict columns) (draw_1d_stands strict columns) (suc (length here)) (start here)
+
+-- the words of a two-dimensional line stand in a row
+pub line_2d_stands : (strict : Bool) (columns : ℕ) (reference : Row) (here : Bits) → (rest : Bits)
+    × Stands here (found_2d strict columns reference here) rest × LineEnds (line_2d strict columns reference here) rest
+line_2d_stands strict columns reference here =
+    pen_stands (draw_2d strict columns reference) (draw_2d_stands strict columns reference) (suc (length here)) (start here)
+
+-- ---- No EOL's one stands before their end.
+ends_before : (tag : Bits) (words : List Bits) (here rest : Bits) → (HoldsZeros 11 (tag ++ joined words) → ⊥) → here ≡ (tag ++ joined words) ++ rest
+    → (before after : Bits) → here ≡ before ++ replicate 11 false ++ true ∷ after → length (tag ++ joined words) < length before + 11
+ends_before tag words here rest free stand before after eol = elim (cases_lt (length (tag ++ joined words)) (length before + 11)) [
+  | inl lt ↦ lt
+  | inr ge ↦
+      let zeros : Bits = before ++ replicate 11 false in
+      let cut : (tag ++ joined words) ++ rest ≡ zeros ++ (true ∷ after) = sym stand ∙ eol in
+      let f = prefix_of_prefix zeros (true ∷ after) (tag ++ joined words) rest cut
+      (omega (arith, length-append before (replicate 11 false), length-replicate 11 false)) in
+      absurd (free (before, f.0, f.1))
+]
+
+untagged_end : (here rest : Bits) (words : List Bits) → Stands here words rest → EndBeforeEol [] words here
+untagged_end here rest words stands = record {
+  are = stands.words;
+  stand = (rest, stands.place);
+  end = ends_before [] words here rest (λ holds. no_eleven_in true words stands.words
+      (true ∷ holds.0, holds.1, ap (λ (x : Bits). true ∷ x) holds.2)) stands.place;
+}
+
+tagged_end : (tag : Bool) (here rest : Bits) (words : List Bits) → Stands here words rest → EndBeforeEol (tag ∷ []) words (tag ∷ here)
+tagged_end tag here rest words stands =
+    let stand : tag ∷ here ≡ (tag ∷ joined words) ++ rest = ap (λ (x : Bits). tag ∷ x) stands.place in
+    record { are = stands.words; stand = (rest, stand); end = ends_before (tag ∷ []) words (tag ∷ here) rest (no_eleven_in tag words stands.words) stand }
+
+found_end : (encoding : EncodingMode) (strict : Bool) (columns : ℕ) (reference : Row) (here : Bits)
+    → EndBeforeEol (tag_at encoding here) (line_found encoding strict columns reference here) here
+found_end Group3_2D strict columns reference [] = untagged_end [] [] [] (stands_none [])
+found_end Group3_2D strict columns reference (true ∷ here) = let found
+    = line_1d_stands strict columns here in tagged_end true here found.0 (found_1d strict columns here) found.1
+found_end Group3_2D strict columns reference (false ∷ here) = let found
+    = line_2d_stands strict columns reference here in tagged_end false here found.0 (found_2d strict columns reference here) found.1
+found_end Group3_1D strict columns reference here = let found
+    = line_1d_stands strict columns here in untagged_end here found.0 (found_1d strict columns here) found.1
+found_end Group4 strict columns reference here = let found
+    = line_2d_stands strict columns reference here in untagged_end here found.0 (found_2d strict columns reference here) found.1
+
+-- ---- A whole line ends with the last of its words.
+whole_rest : (line : Line) (row : Row) (end rest here words : Bits) → line ≡ Line.whole row rest → LineEnds line end → here ≡ words ++ end
+    → here ≡ words ++ rest
+whole_rest line row end rest here words whole ends is = let same : rest ≡ end = subst (λ (l : Line). LineEnds l end) whole ends in is
+    ∙ ap (λ (b : Bits). words ++ b) (sym same)
+
+found_to_the_end : (encoding : EncodingMode) (strict : Bool) (columns : ℕ) (reference row : Row) (here rest : Bits)
+    → line_by encoding strict columns reference here ≡ Line.whole row rest
+    → here ≡ (tag_at encoding here ++ joined (line_found encoding strict columns reference here)) ++ rest
+found_to_the_end Group3_2D strict columns reference row [] rest whole = absurd cc
+found_to_the_end Group3_2D strict columns reference row (true ∷ here) rest whole =
+    let found = line_1d_stands strict columns here in
+    ap (λ (b : Bits). true ∷ b) (whole_rest (line_1d strict columns here) row found.0 rest here
+    (joined (found_1d strict columns here)) whole found.2 found.1.place)
+found_to_the_end Group3_2D strict columns reference row (false ∷ here) rest whole =
+    let found = line_2d_stands strict columns reference here in
+    ap (λ (b : Bits). false ∷ b) (whole_rest (line_2d strict columns reference here) row found.0 rest here
+    (joined (found_2d strict columns reference here)) whole found.2 found.1.place)
+found_to_the_end Group3_1D strict columns reference row here rest whole =
+    let found = line_1d_stands strict columns here in
+    whole_rest (line_1d strict columns here) row found.0 rest here (joined (found_1d strict columns here)) whole found.2 found.1.place
+found_to_the_end Group4 strict columns reference row here rest whole =
+    let found = line_2d_stands strict columns reference here in
+    whole_rest (line_2d strict columns reference here) row found.0 rest here
+    (joined (found_2d strict columns reference here)) whole found.2 found.1.place
+
+-- the law
+pub words_synchronised : Synchronised
+words_synchronised = record {
+  runs_prefix_free = λ color. free_by (codes_of color) (codes_free color);
+  modes_prefix_free = free_by mode_codes modes_free;
+  holds_one = λ word is e. false≢true (sym (no_one (length word)) ∙ ap holds_a_one (sym e) ∙ word_one word is);
+  no_eleven = no_eleven_in;
+  before_eol = found_end;
+  to_the_end = found_to_the_end;
+}

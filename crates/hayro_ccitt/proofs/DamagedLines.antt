@@ -1,0 +1,11 @@
+pub mod BodyTests
+pub mod Damage
+pub mod EolsAlike
+pub mod LineStarts
+pub mod LineTails
+pub mod LinesBeforeEol
+pub mod LinesByEols
+pub mod LocalByTests
+pub mod PastEol
+pub mod RunsAlike
+pub mod SoughtTurns

@@ -1,0 +1,239 @@
+-- The tests of a local body, as they are made.
+use Rattle.std.proofs.Common.{◌≡◌, ◌≢◌, ℕ, zero, suc, ◌+◌, ◌-◌, ◌<◌, ◌≤◌, ◌⊎◌, Bool, true, false, cond, eqb, ltb, leb, [], ◌∷◌, ◌++◌, length, take, drop}
+use Rattle.std.proofs.Common.{replicate, Option, Some, None, Err, IsTrue, refl, sym, ap, subst, ◌∙◌, arith, inl, inr}
+use Rattle.std.specs.Prelude.{◌↔◌, is_some}
+use Rattle.std.proofs.lemmas.Bool.{cases_lt, lt-ltb, le-leb, lt-leb, ltb-true, leb-true, eqb-true, eq-eqb, false≢true}
+use Rattle.std.proofs.lemmas.Option.{none-some}
+use Rattle.std.proofs.lemmas.List.{length-append, length-replicate, length-drop, take-append-drop, drop-drop}
+use Rattle.hayro_ccitt.specs.declared.error.DecodeError.{DecodeError}
+use Rattle.hayro_ccitt.specs.declared.error.DecodeError.TheVariants.{UnexpectedEof, InvalidCode, Overflow, OutOfMemory, Refused}
+use Rattle.hayro_ccitt.specs.declared.settings.DecodeSettings.{DecodeSettings}
+use Rattle.hayro_ccitt.specs.declared.settings.EncodingMode.TheVariants.{Group3_1D}
+use Rattle.hayro_ccitt.specs.Answers.{DrawsLine, line_from_1d}
+use Rattle.hayro_ccitt.specs.Bits.{Bits, BitsAt, here}
+use Rattle.hayro_ccitt.specs.CodeReading.{leading_zeros}
+use Rattle.hayro_ccitt.specs.Context.{Held, fresh}
+use Rattle.hayro_ccitt.specs.EndOfLine.{after_eol, next_eol}
+use Rattle.hayro_ccitt.specs.Lines.{Line, line_1d}
+use Rattle.hayro_ccitt.specs.Locality.{EndsBefore, IsLocal, IsLocalByTests}
+use Rattle.hayro_ccitt.specs.Rows.{Row}
+use Rattle.hayro_ccitt.proofs.Readings.TurnsMoveOn.{next_eol_found}
+use Rattle.hayro_ccitt.proofs.DamagedLines.LocalByTests.{local_by_tests}
+use Rattle.hayro_ccitt.proofs.DamagedLines.PastEol.{past, past_is, then_after}
+
+-- ---- An EOL before a place.
+-- the EOL of the twelve bits before a place ends there
+pub behind_eol : (bits rest : Bits) (place zeros : ℕ) → 12 ≤ place → place ≤ length bits → drop (place - 12) bits ≡ replicate zeros false ++ true ∷ rest
+    → after_eol 0 (drop (place - 12) bits) ≡ cond (leb 11 zeros) (Some rest) None
+    → IsTrue (eqb zeros 11) ↔ ((place ≡ 0) ⊎ ((12 ≤ place) × (after_eol 0 (drop (place - 12) bits) ≡ Some (drop place bits))))
+behind_eol bits rest place zeros far within is eol = (
+  λ test. inr (far, there (eqb-true zeros 11 test)),
+  λ before. elim before [
+    | inl none ↦ absurd (omega (arith, none, far))
+    | inr found ↦ eq-eqb zeros 11 (eleven found.1)
+  ],
+)
+  where
+    rest_is : zeros ≡ 11 → rest ≡ drop place bits
+    rest_is e =
+        let same : replicate 11 false ++ true ∷ rest ≡ drop (place - 12) bits = ap (λ (n : ℕ). replicate n false ++ true ∷ rest) (sym e) ∙ sym is in
+        let sum : place - 12 + 12 ≡ place = omega (arith, far) in
+        ap (λ (b : Bits). drop 12 b) same ∙ drop-drop 12 (place - 12) bits ∙ ap (λ (n : ℕ). drop n bits) sum
+
+    there : zeros ≡ 11 → after_eol 0 (drop (place - 12) bits) ≡ Some (drop place bits)
+    there e = eol ∙ rw (le-leb 11 zeros (omega (arith, e))) (ap (λ (b : Bits). Some b) (rest_is e))
+
+    eleven : after_eol 0 (drop (place - 12) bits) ≡ Some (drop place bits) → zeros ≡ 11
+    eleven found = by (leb 11 zeros) (sym eol ∙ found)
+      where
+        by : (b : Bool) → cond b (Some rest) None ≡ Some (drop place bits) → zeros ≡ 11
+        by false e = absurd (let f : ◌≡◌ {A = Option Bits} None (Some (drop place bits)) = e in cc)
+        by true e =
+            let f : ◌≡◌ {A = Option Bits} (Some rest) (Some (drop place bits)) = e in
+            let same : rest ≡ drop place bits = cc in omega (
+              arith,
+              ap length is,
+              length-append (replicate zeros false) (true ∷ rest),
+              length-replicate zeros false,
+              ap length same,
+              length-drop place bits,
+              length-drop (place - 12) bits,
+              far,
+              within,
+            )
+
+-- ---- A one in a body.
+zeros_only : (m : ℕ) (here : Bits) → m ≤ leading_zeros here → take m here ≡ replicate m false
+zeros_only zero here le = refl
+zeros_only (suc m) [] le = absurd (omega (arith, le))
+zeros_only (suc m) (true ∷ here) le = absurd (omega (arith, le))
+zeros_only (suc m) (false ∷ here) le = ap (λ (b : Bits). false ∷ b) (zeros_only m here (omega (arith, le)))
+
+one_in_front : (m : ℕ) (here : Bits) → m ≤ length here → leading_zeros here < m → take m here ≡ replicate m false → ⊥
+one_in_front zero here fits lt e = absurd (omega (arith, lt))
+one_in_front (suc m) [] fits lt e = absurd (omega (arith, fits))
+one_in_front (suc m) (true ∷ here) fits lt e = absurd cc
+one_in_front (suc m) (false ∷ here) fits lt e =
+    one_in_front m here (omega (arith, fits)) (omega (arith, lt)) (let f : take m here ≡ replicate m false = cc in f)
+
+-- some bits hold a one if fewer zeros stand here
+pub one_by_zeros : (m zeros : ℕ) (here : Bits) → m ≤ length here → zeros ≡ leading_zeros here
+    → IsTrue (ltb zeros m) ↔ (take m here ≢ replicate m false)
+one_by_zeros m zeros here fits is = (
+  λ test. one_in_front m here fits (omega (arith, ltb-true zeros m test, is)),
+  λ other. elim (cases_lt zeros m) [
+    | inl lt ↦ lt-ltb zeros m lt
+    | inr ge ↦ absurd (other (zeros_only m here (omega (arith, ge, is))))
+  ],
+)
+
+-- ---- An EOL in a body.
+past-front : (seen : ℕ) (front after more : Bits) → past seen front ≡ Some after → past seen (front ++ more) ≡ Some (after ++ more)
+past-front seen [] after more e = absurd cc
+past-front seen (false ∷ front) after more e = past-front (suc seen) front after more e
+past-front seen (true ∷ front) after more e = by (leb 11 seen) (λ f. past-front 0 front after more f) e
+  where
+    by : (b : Bool) → (past 0 front ≡ Some after → past 0 (front ++ more) ≡ Some (after ++ more)) → cond b (Some front) (past 0 front) ≡ Some after
+        → cond b (Some (front ++ more)) (past 0 (front ++ more)) ≡ Some (after ++ more)
+    by true on f = let same : front ≡ after = cc in ap (λ (b : Bits). Some (b ++ more)) same
+    by false on f = on f
+
+past_shorter : (seen : ℕ) (here after : Bits) → past seen here ≡ Some after → length after < length here
+past_shorter seen [] after e = absurd cc
+past_shorter seen (false ∷ here) after e = omega (arith, past_shorter (suc seen) here after e)
+past_shorter seen (true ∷ here) after e = by (leb 11 seen) (λ f. past_shorter 0 here after f) e
+  where
+    by : (b : Bool) → (past 0 here ≡ Some after → length after < length here) → cond b (Some here) (past 0 here) ≡ Some after
+        → length after < length (true ∷ here)
+    by true on f = let same : here ≡ after = cc in omega (arith, ap length same)
+    by false on f = omega (arith, on f)
+
+past-behind : (seen : ℕ) (front after more : Bits) → past seen front ≡ None → past seen (front ++ more) ≡ Some after → length after < length more
+past-behind seen [] after more none e = past_shorter seen more after e
+past-behind seen (false ∷ front) after more none e = past-behind (suc seen) front after more none e
+past-behind seen (true ∷ front) after more none e = by (leb 11 seen) (λ f g. past-behind 0 front after more f g) none e
+  where
+    by : (b : Bool) → (past 0 front ≡ None → past 0 (front ++ more) ≡ Some after → length after < length more)
+        → cond b (Some front) (past 0 front) ≡ None → cond b (Some (front ++ more)) (past 0 (front ++ more)) ≡ Some after → length after < length more
+    by true on f g = absurd (let h : ◌≡◌ {A = Option Bits} (Some front) None = f in cc)
+    by false on f g = on f g
+
+-- an EOL is found where one ends
+found_ends : (here : Bits) → is_some (next_eol here) ≡ is_some (past 0 here)
+found_ends here = by (next_eol here) refl ∙ ap is_some (sym (past_is here))
+  where
+    by : (o : Option Bits) → next_eol here ≡ o → is_some (next_eol here) ≡ is_some (then_after (next_eol here))
+    by None e = rw e refl
+    by (Some found) e = let f = next_eol_found here found e in rw (e, f.1.1) refl
+
+-- where no EOL stands, none stands in the first bits
+pub no_eol_in_front : (m : ℕ) (here : Bits) → next_eol here ≡ None → is_some (next_eol (take m here)) ≡ false
+no_eol_in_front m here none = found_ends (take m here) ∙ by (past 0 (take m here)) refl
+  where
+    by : (o : Option Bits) → past 0 (take m here) ≡ o → is_some (past 0 (take m here)) ≡ false
+    by None e = rw e refl
+    by (Some after) e = absurd (
+        let whole = past-front 0 (take m here) after (drop m here) e in
+        let nothing : past 0 here ≡ None = past_is here ∙ ap then_after none in
+        let both : ◌≡◌ {A = Option Bits} None (Some (after ++ drop m here)) = sym nothing ∙ ap (past 0) (sym (take-append-drop m here)) ∙ whole in
+        cc)
+
+-- the next EOL stands in the first bits if it ends there
+eol_in_front : (m : ℕ) (here found after : Bits) → next_eol here ≡ Some found → after_eol 0 found ≡ Some after
+    → is_some (next_eol (take m here)) ≡ leb (length (drop m here)) (length after)
+eol_in_front m here found after next eol = found_ends (take m here) ∙ by (past 0 (take m here)) refl
+  where
+    whole : past 0 (take m here ++ drop m here) ≡ Some after
+    whole = ap (past 0) (take-append-drop m here) ∙ past_is here ∙ ap then_after next ∙ eol
+
+    by : (o : Option Bits) → past 0 (take m here) ≡ o → is_some (past 0 (take m here)) ≡ leb (length (drop m here)) (length after)
+    by None e = rw (e, lt-leb (length (drop m here)) (length after) (past-behind 0 (take m here) after (drop m here) e whole)) refl
+    by (Some front) e =
+        let both : ◌≡◌ {A = Option Bits} (Some (front ++ drop m here)) (Some after) = sym (past-front 0 (take m here) front (drop m here) e) ∙ whole in
+        let same : front ++ drop m here ≡ after = cc in
+        let fits : length (drop m here) ≤ length after = omega (arith, ap length same, length-append front (drop m here)) in
+        rw (e, le-leb (length (drop m here)) (length after) fits) refl
+
+-- an EOL stands between two places if the next one ends there
+pub eol_by_ends : (bits : Bits) (from to end : ℕ) (found : Bits) → from ≤ to → to ≤ length bits → end ≤ length bits → next_eol (drop from bits) ≡ Some found
+    → after_eol 0 found ≡ Some (drop end bits) → is_some (next_eol (take (to - from) (drop from bits))) ≡ leb end to
+eol_by_ends bits from to end found order within le next eol =
+    let sum : from + (to - from) ≡ to = omega (arith, order) in
+    let behind : drop (to - from) (drop from bits) ≡ drop to bits = drop-drop (to - from) from bits ∙ ap (λ (n : ℕ). drop n bits) sum in
+    eol_in_front (to - from) (drop from bits) found (drop end bits) next eol ∙ ap (λ (b : Bits). leb (length b) (length (drop end bits))) behind
+    ∙ elim (cases_lt to end) [
+      | inl lt ↦
+          let further : length (drop end bits) < length (drop to bits) = omega (arith, length-drop end bits, length-drop to bits, le, lt) in
+          rw (lt-leb (length (drop to bits)) (length (drop end bits)) further, lt-leb end to lt) refl
+      | inr ge ↦
+          let nearer : length (drop to bits) ≤ length (drop end bits) = omega (arith, length-drop end bits, length-drop to bits, ge) in
+          rw (le-leb (length (drop to bits)) (length (drop end bits)) nearer, le-leb end to ge) refl
+    ]
+
+-- the next EOL, where one is found, stands there
+pub eol_found_stands : (here found : Bits) → next_eol here ≡ Some found → after_eol 0 found ≡ None → ⊥
+eol_found_stands here found next none = let stands = next_eol_found here found next in none-some stands.1.0 (sym none ∙ stands.1.1)
+
+-- ---- The end of a line.
+-- the line that a lenient context reads
+pub lenient_line : (held : Held) (settings : DecodeSettings) (at : BitsAt) (rest : Bits) → held ≡ fresh settings → settings.strict ≡ false → here at ≡ rest
+    → line_from_1d held (here at) ≡ line_1d false settings.columns rest
+lenient_line held settings at rest is lenient same =
+    ap (λ (h : Held). line_from_1d h (here at)) is ∙ ap (λ (b : Bool). line_1d b settings.columns (here at)) lenient
+    ∙ ap (λ (b : Bits). line_1d false settings.columns b) same
+
+-- a whole line ends before an EOL does by twelve bits
+pub whole_ends : (columns place end : ℕ) (bits here rest : Bits) (row : Row) → line_1d false columns here ≡ Line.whole row rest → rest ≡ drop place bits
+    → place ≤ length bits → end ≤ length bits → IsTrue (leb (place + 12) end) ↔ EndsBefore columns (drop end bits) here
+whole_ends columns place end bits here rest row is at within le = (
+  λ test. λ row2 rest2 is2.
+      let same : ◌≡◌ {A = Line} (Line.whole row rest) (Line.whole row2 rest2) = sym is ∙ is2 in
+      let rests : rest ≡ rest2 = cc in
+      omega (arith, leb-true (place + 12) end test, ap length rests, ap length at, length-drop place bits, length-drop end bits, within, le),
+  λ ends. le-leb (place + 12) end (omega (arith, ends row rest is, ap length at, length-drop place bits, length-drop end bits, within, le)),
+)
+
+not_both : (front row : Row) (rest : Bits) (fault : DecodeError) → Line.broken front fault ≡ Line.whole row rest → ⊥
+not_both front row rest fault e = cc
+
+-- a broken line has no end
+pub broken_ends : (columns : ℕ) (after here rest : Bits) (front : Row) (fault : DecodeError) → fault ≢ OutOfMemory
+    → DrawsLine (line_1d false columns here) (Err fault) front rest → EndsBefore columns after here
+broken_ends columns after here rest front UnexpectedEof other is row rest2 is2 = absurd (not_both front row rest2 UnexpectedEof (sym is ∙ is2))
+broken_ends columns after here rest front InvalidCode other is row rest2 is2 = absurd (not_both front row rest2 InvalidCode (sym is ∙ is2))
+broken_ends columns after here rest front Overflow other is row rest2 is2 = absurd (not_both front row rest2 Overflow (sym is ∙ is2))
+broken_ends columns after here rest front OutOfMemory other is row rest2 is2 = absurd (other refl)
+broken_ends columns after here rest front Refused other is row rest2 is2 = absurd is
+
+-- ---- All tests together.
+none_stands : (o : Option Bits) → is_some o ≡ false → o ≡ None
+none_stands None e = refl
+none_stands (Some x) e = absurd (false≢true (sym e))
+
+-- where the other tests hold, a body is local if its line ends before the EOL behind it
+pub local_by_end : (settings : DecodeSettings) (bits : Bits) (from to end : ℕ) (before : Bool) → (settings.encoding ≡ Group3_1D) × (settings.strict ≡ false)
+    → from ≤ to → to ≤ length bits → (from ≡ 0) ⊎ ((12 ≤ from) × (after_eol 0 (drop (from - 12) bits) ≡ Some (drop from bits)))
+    → take (to - from) (drop from bits) ≢ replicate (to - from) false → is_some (next_eol (take (to - from) (drop from bits))) ≡ false
+    → after_eol 0 (drop to bits) ≡ Some (drop end bits) → IsTrue before ↔ EndsBefore settings.columns (drop end bits) (drop from bits)
+    → IsTrue before ↔ IsLocal settings bits from to
+local_by_end settings bits from to end before lenient order within starts one no_eol eol ends = (
+  λ test. (local_by_tests settings bits from to).1 (record {
+    encoding = lenient.0;
+    lenient = lenient.1;
+    order = order;
+    within = within;
+    starts = starts;
+    one = one;
+    no_eol = none_stands (next_eol (take (to - from) (drop from bits))) no_eol;
+    closes = (drop end bits, eol, ends.0 test);
+  }),
+  λ local. ends.1 (same_end local.closes.0 (sym local.closes.1 ∙ eol) local.closes.2),
+)
+  where
+    same_end : (after : Bits) → ◌≡◌ {A = Option Bits} (Some after) (Some (drop end bits)) → EndsBefore settings.columns after (drop from bits)
+        → EndsBefore settings.columns (drop end bits) (drop from bits)
+    same_end after e is = let same : after ≡ drop end bits = cc in subst (λ (x : Bits). EndsBefore settings.columns x (drop from bits)) same is
+
+-- where a test fails, no body is local
+pub tests_of : (settings : DecodeSettings) (bits : Bits) (from to : ℕ) → IsLocal settings bits from to → IsLocalByTests settings bits from to
+tests_of settings bits from to local = (local_by_tests settings bits from to).0 local

@@ -1,0 +1,135 @@
+-- EOLs of two data that are equal up to one place, where an EOL ends and none begins.
+use Rattle.std.proofs.Common.{◌≡◌, ℕ, zero, suc, ◌<◌, ◌≤◌, Bool, true, false, cond, leb, [], ◌∷◌, ◌++◌, length, replicate, Option, Some, None}
+use Rattle.std.proofs.Common.{refl, sym, ap, ◌∙◌, append_assoc, arith, ◌⊎◌, inl, inr}
+use Rattle.std.proofs.lemmas.List.{length-append}
+use Rattle.hayro_ccitt.specs.Bits.{Bits}
+use Rattle.hayro_ccitt.specs.EndOfLine.{after_eol, all_eols}
+use Rattle.hayro_ccitt.proofs.DamagedLines.PastEol.{past, all_eols-some, all_eols-none}
+use Rattle.hayro_ccitt.proofs.BitReading.ZerosInWords.{scan, scan_holds}
+use Rattle.hayro_ccitt.proofs.DamagedLines.LinesBeforeEol.{Inside}
+
+-- bits that end with the zeros of an EOL
+abbrev pub Closes : Bits → Type 0
+Closes bits = (first : Bits) × (bits ≡ first ++ replicate 11 false)
+
+-- no zeros hold a one
+pub no_one : (n : ℕ) (before after : Bits) → before ++ true ∷ after ≡ replicate n false → ⊥
+no_one zero [] after e = absurd cc
+no_one zero (b ∷ before) after e = absurd cc
+no_one (suc n) [] after e = absurd cc
+no_one (suc n) (b ∷ before) after e = no_one n before after (let f : before ++ true ∷ after ≡ replicate n false = cc in f)
+
+-- what follows a one in them ends with these zeros too
+pub closes_after : (before after first : Bits) → before ++ true ∷ after ≡ first ++ replicate 11 false → Closes after
+closes_after [] after [] e = absurd cc
+closes_after [] after (b ∷ first) e = (first, cc)
+closes_after (b ∷ before) after [] e = absurd (no_one 11 (b ∷ before) after e)
+closes_after (b ∷ before) after (c ∷ first) e = closes_after before after first (let f : before ++ true ∷ after ≡ first ++ replicate 11 false = cc in f)
+
+-- what ends in eleven zeros holds them
+pub closes_inside : (bits : Bits) → Closes bits → Inside bits
+closes_inside bits closes = record { holds = ap (scan 3) closes.1 ∙ scan_holds 3 closes.0 [] (omega arith); last = ([], closes.0, closes.1) }
+
+-- what follows a one within them ends in them too
+pub inside_after : (bits before after : Bits) → Inside bits → bits ≡ before ++ true ∷ after → Closes after
+inside_after bits before after inside e =
+    closes_after (inside.last.0 ++ before) after inside.last.1
+    (append_assoc inside.last.0 before (true ∷ after) ∙ ap (λ (x : Bits). inside.last.0 ++ x) (sym e) ∙ inside.last.2)
+
+-- what follows a one is shorter
+pub after_shorter : (bits before after : Bits) → bits ≡ before ++ true ∷ after → length after < length bits
+after_shorter bits before after e = omega (arith, ap length e, length-append before (true ∷ after))
+
+module _ (x y : Bits) where
+  -- what follows an EOL: within the equal bits; or just past them; or there is none
+  abbrev pub EolAlike : Bits → Option Bits → Option Bits → Type 0
+  EolAlike bits o p = ((before after : Bits) × (bits ≡ before ++ true ∷ after) × (o ≡ Some (after ++ true ∷ x)) × (p ≡ Some (after ++ true ∷ y)))
+      ⊎ (((o ≡ Some x) × (p ≡ Some y)) ⊎ ((o ≡ None) × (p ≡ None)))
+
+  -- an EOL that stands before the one in the one data stands there in the other
+  pub after_eol_alike : (seen : ℕ) (bits : Bits) → EolAlike bits (after_eol seen (bits ++ true ∷ x)) (after_eol seen (bits ++ true ∷ y))
+  after_eol_alike seen [] = by (leb 11 seen)
+    where
+      by : (b : Bool) → EolAlike [] (cond b (Some x) None) (cond b (Some y) None)
+      by true = inr (inl (refl, refl))
+      by false = inr (inr (refl, refl))
+  after_eol_alike seen (false ∷ bits) = elim (after_eol_alike (suc seen) bits) [
+    | inl a ↦ inl (false ∷ a.0, a.1, ap (λ (z : Bits). false ∷ z) a.2, a.3, a.4)
+    | inr a ↦ inr a
+  ]
+  after_eol_alike seen (true ∷ bits) = by (leb 11 seen)
+    where
+      by : (b : Bool) → EolAlike (true ∷ bits) (cond b (Some (bits ++ true ∷ x)) None) (cond b (Some (bits ++ true ∷ y)) None)
+      by true = inl ([], bits, refl, refl, refl)
+      by false = inr (inr (refl, refl))
+
+  -- what follows the next EOL: within the equal bits; or just past them; or that of what follows them
+  abbrev pub PastAlike : Bits → Option Bits → Option Bits → Type 0
+  PastAlike bits o p = ((before after : Bits) × (bits ≡ before ++ true ∷ after) × (o ≡ Some (after ++ true ∷ x)) × (p ≡ Some (after ++ true ∷ y)))
+      ⊎ (((o ≡ Some x) × (p ≡ Some y)) ⊎ ((o ≡ past 0 x) × (p ≡ past 0 y)))
+
+  -- the next EOL ends alike in both
+  pub past_alike : (seen : ℕ) (bits : Bits) → PastAlike bits (past seen (bits ++ true ∷ x)) (past seen (bits ++ true ∷ y))
+  past_alike seen [] = by (leb 11 seen)
+    where
+      by : (b : Bool) → PastAlike [] (cond b (Some x) (past 0 x)) (cond b (Some y) (past 0 y))
+      by true = inr (inl (refl, refl))
+      by false = inr (inr (refl, refl))
+  past_alike seen (false ∷ bits) = elim (past_alike (suc seen) bits) [
+    | inl a ↦ inl (false ∷ a.0, a.1, ap (λ (z : Bits). false ∷ z) a.2, a.3, a.4)
+    | inr a ↦ inr a
+  ]
+  past_alike seen (true ∷ bits) = by (leb 11 seen) (past_alike 0 bits)
+    where
+      by : (b : Bool) → PastAlike bits (past 0 (bits ++ true ∷ x)) (past 0 (bits ++ true ∷ y))
+          → PastAlike (true ∷ bits) (cond b (Some (bits ++ true ∷ x)) (past 0 (bits ++ true ∷ x)))
+          (cond b (Some (bits ++ true ∷ y)) (past 0 (bits ++ true ∷ y)))
+      by true on = inl ([], bits, refl, refl, refl)
+      by false on = elim on [
+        | inl a ↦ inl (true ∷ a.0, a.1, ap (λ (z : Bits). true ∷ z) a.2, a.3, a.4)
+        | inr a ↦ inr a
+      ]
+
+  -- where counting EOLs ends: within the equal bits, or just past them
+  abbrev pub RestAlike : Bits → Bits → Bits → Type 0
+  RestAlike bits here there = ((rest : Bits) × (length rest ≤ length bits) × (Closes bits → Closes rest) × (here ≡ rest ++ true ∷ x)
+      × (there ≡ rest ++ true ∷ y)) ⊎ ((here ≡ x) × (there ≡ y))
+
+  -- counts of EOLs that end alike
+  abbrev pub CountAlike : Bits → ℕ × Bits → ℕ × Bits → Type 0
+  CountAlike bits f g = (f.0 ≡ g.0) × RestAlike bits f.1 g.1
+
+  module _ (none_x : after_eol 0 x ≡ None) (none_y : after_eol 0 y ≡ None) where
+    count_for : (n : ℕ) (bits : Bits) → length bits < n → CountAlike bits (all_eols (bits ++ true ∷ x)) (all_eols (bits ++ true ∷ y))
+    count_for zero bits lt = absurd (omega arith)
+    count_for (suc n) bits lt = by (λ rest small. count_for n rest small) (after_eol 0 (bits ++ true ∷ x)) (after_eol 0 (bits ++ true ∷ y)) refl refl
+        (after_eol_alike 0 bits)
+      where
+        by : ((rest : Bits) → length rest < n → CountAlike rest (all_eols (rest ++ true ∷ x)) (all_eols (rest ++ true ∷ y))) → (o p : Option Bits)
+            → after_eol 0 (bits ++ true ∷ x) ≡ o → after_eol 0 (bits ++ true ∷ y) ≡ p
+            → EolAlike bits o p → CountAlike bits (all_eols (bits ++ true ∷ x)) (all_eols (bits ++ true ∷ y))
+        by on o p e f (inl a) =
+            let shorter = after_shorter bits a.0 a.1 a.2 in
+            let more = on a.1 (omega (arith, shorter, lt)) in
+            rw (all_eols-some (bits ++ true ∷ x) (a.1 ++ true ∷ x) (e ∙ a.3), all_eols-some (bits ++ true ∷ y) (a.1 ++ true ∷ y) (f ∙ a.4)) (
+              ap suc more.0,
+              elim more.1 [
+                | inl b ↦ inl (b.0, omega (arith, b.1, shorter), λ closes. b.2 (closes_after a.0 a.1 closes.0 (sym a.2 ∙ closes.1)), b.3, b.4)
+                | inr b ↦ inr b
+              ],
+            )
+        by on o p e f (inr (inl a)) =
+            rw (
+              all_eols-some (bits ++ true ∷ x) x (e ∙ a.0),
+              all_eols-some (bits ++ true ∷ y) y
+                  (f ∙ a.1),
+              all_eols-none x none_x,
+              all_eols-none y none_y,
+            ) (refl, inr (refl, refl))
+        by on o p e f (inr (inr a)) =
+            rw (all_eols-none (bits ++ true ∷ x) (e ∙ a.0), all_eols-none (bits ++ true ∷ y) (f ∙ a.1))
+            (refl, inl (bits, omega arith, λ closes. closes, refl, refl))
+
+    -- the EOLs that stand in a row are alike in both
+    pub all_eols_alike : (bits : Bits) → CountAlike bits (all_eols (bits ++ true ∷ x)) (all_eols (bits ++ true ∷ y))
+    all_eols_alike bits = count_for (suc (length bits)) bits (omega arith)

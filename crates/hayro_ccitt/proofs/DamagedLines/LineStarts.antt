@@ -1,0 +1,302 @@
+-- Where lines begin, by places.
+use Rattle.std.proofs.Common.{◌≡◌, ℕ, zero, suc, ◌+◌, ◌<◌, ◌≤◌, Bool, true, false, cond, not, ◌&&◌, leb, List, [], ◌∷◌, ◌++◌, length, take, drop}
+use Rattle.std.proofs.Common.{replicate, Option, Some, None, refl, sym, ap, subst, ◌∙◌, append_assoc, arith, ◌⊎◌, inl, inr}
+use Rattle.std.specs.Prelude.{Contains, All, is_some}
+use Rattle.std.proofs.lemmas.Bool.{cases_lt, le-leb, leb-true, and_parts, and_from, not-true, not_from_false, false≢true}
+use Rattle.std.proofs.lemmas.List.{length-append, length-drop, take-append-drop, length-replicate, append_cancel_left}
+use Rattle.std.proofs.lemmas.List.Elements.{Contains-append_left, Contains-append_right, Contains-append_cases, All-nil, All-cons, All-append, All-weaker}
+use Rattle.hayro_ccitt.specs.Bits.{Bits}
+use Rattle.hayro_ccitt.specs.EndOfLine.{after_eol, all_eols}
+use Rattle.hayro_ccitt.specs.PlainReading.{at_end}
+use Rattle.hayro_ccitt.specs.Locality.{begins_line, later_starts, starts, IsStart, Descends, StartsAre}
+use Rattle.hayro_ccitt.proofs.DamagedLines.PastEol.{all_eols-some, all_eols-none}
+use Rattle.hayro_ccitt.proofs.Readings.TurnsMoveOn.{after_eol_shorter, eol_of}
+use Rattle.hayro_ccitt.proofs.BitReading.ZerosInWords.{prefix_of_prefix}
+use Rattle.hayro_ccitt.proofs.DrawingLines.LinesLeaveBits.{Leaves}
+use Rattle.hayro_ccitt.proofs.DamagedLines.LineTails.{after_eol_is, first_one, drop_at}
+
+-- ---- Later starts come in order
+later_below : (seen : ℕ) (here : Bits) → All (λ other. length other < length here) (later_starts seen here)
+later_below seen [] = All-nil (λ other. length other < 0)
+later_below seen (false ∷ here) = All-weaker (λ other. length other < length here) (λ other. length other < suc (length here))
+    (λ other lt. omega arith) (later_starts (suc seen) here) (later_below (suc seen) here)
+later_below seen (true ∷ here) =
+    All-append (λ other. length other < suc (length here)) (cond (leb 11 seen && begins_line here) (here ∷ []) []) (later_starts 0 here)
+    (by (leb 11 seen && begins_line here))
+    (All-weaker (λ other. length other < length here) (λ other. length other < suc (length here)) (λ other lt. omega arith) (later_starts 0 here)
+    (later_below 0 here))
+  where
+    by : (b : Bool) → All (λ other. length other < suc (length here)) (cond {A = List Bits} b (here ∷ []) [])
+    by true = All-cons (λ other. length other < suc (length here)) here [] (omega arith) (All-nil (λ other. length other < suc (length here)))
+    by false = All-nil (λ other. length other < suc (length here))
+
+later_descends : (seen : ℕ) (here : Bits) → Descends (later_starts seen here)
+later_descends seen [] = tt
+later_descends seen (false ∷ here) = later_descends (suc seen) here
+later_descends seen (true ∷ here) = by (leb 11 seen && begins_line here) (later_descends 0 here)
+  where
+    by : (b : Bool) → Descends (later_starts 0 here) → Descends (cond b (here ∷ []) [] ++ later_starts 0 here)
+    by true d = (later_below 0 here, d)
+    by false d = d
+
+-- ---- An EOL ends at each, and none begins
+
+-- an EOL that ends further on, so many zeros having been seen
+abbrev EndsLater : ℕ → Bits → Bits → Type 0
+EndsLater seen here end = (at : Bits) × Leaves (replicate seen false ++ here) at × (after_eol 0 at ≡ Some end) × (length end < length here)
+
+zeros_along : (seen : ℕ) (here : Bits) → replicate (suc seen) false ++ here ≡ replicate seen false ++ false ∷ here
+zeros_along zero here = refl
+zeros_along (suc seen) here = ap (λ (b : Bits). false ∷ b) (zeros_along seen here)
+
+contains_one : (here other : Bits) → Contains (here ∷ []) other → here ≡ other
+contains_one here other (zero, lt, e) = e
+contains_one here other (suc k, lt, e) = absurd (omega arith)
+
+contains_none : (other : Bits) → Contains {X = Bits} [] other → ⊥
+contains_none other (k, lt, e) = absurd (omega arith)
+
+from_later : (seen : ℕ) (here end : Bits) → Contains (later_starts seen here) end → EndsLater seen here end × (begins_line end ≡ true)
+from_later seen [] end c = absurd (contains_none end c)
+from_later seen (false ∷ here) end c =
+    let f = from_later (suc seen) here end c in
+    let g = f.0 in
+    ((g.0, (g.1.0, sym (zeros_along seen here) ∙ g.1.1), g.2, omega (arith, g.3)), f.1)
+from_later seen (true ∷ here) end c =
+    by (leb 11 seen && begins_line here) refl (from_later 0 here end)
+    (Contains-append_cases (cond (leb 11 seen && begins_line here) (here ∷ []) []) (later_starts 0 here) end c)
+  where
+    by : (b : Bool) → (leb 11 seen && begins_line here) ≡ b → (Contains (later_starts 0 here) end → EndsLater 0 here end × (begins_line end ≡ true))
+        → Contains (cond b (here ∷ []) []) end ⊎ Contains (later_starts 0 here) end → EndsLater seen (true ∷ here) end × (begins_line end ≡ true)
+    by true e on (inl found) =
+        let same = contains_one here end found in
+        let both = and_parts (leb 11 seen) (begins_line here) e in
+        subst (λ (h : Bits). EndsLater seen (true ∷ here) h × (begins_line h ≡ true)) same
+        ((replicate seen false ++ true ∷ here, ([], refl), eol_of 0 seen here (omega (arith, leb-true 11 seen both.0)), omega arith), both.1)
+    by false e on (inl found) = absurd (contains_none end found)
+    by b e on (inr found) =
+        let f = on found in
+        let g = f.0 in (
+          (
+            g.0,
+            (
+              replicate seen false ++ true ∷ g.1.0,
+              ap (λ (h : Bits). replicate seen false ++ true ∷ h) g.1.1
+                  ∙ sym (append_assoc (replicate seen false) (true ∷ g.1.0) g.0),
+            ),
+            g.2,
+            omega (arith, g.3),
+          ),
+          f.1,
+        )
+
+-- of two ends of one list the shorter is an end of the longer
+shorter_end : (xs ys us vs : Bits) → xs ++ ys ≡ us ++ vs → length vs ≤ length ys → Leaves ys vs
+shorter_end xs ys us vs e le =
+    let lengths : length xs + length ys ≡ length us + length vs = sym (length-append xs ys) ∙ ap length e ∙ length-append us vs in
+    let f = prefix_of_prefix xs ys us vs (sym e) (omega (arith, lengths, le)) in
+    (f.0, append_cancel_left xs ys (f.0 ++ vs) (e ∙ ap (λ (b : Bits). b ++ vs) f.1 ∙ append_assoc xs f.0 vs))
+
+same_end : (xs ys us vs : Bits) → xs ++ ys ≡ us ++ vs → length ys ≡ length vs → ys ≡ vs
+same_end xs ys us vs e len =
+    let f = shorter_end xs ys us vs e (omega (arith, len)) in
+    by f.0 f.1
+  where
+    by : (before : Bits) → ys ≡ before ++ vs → ys ≡ vs
+    by [] g = g
+    by (b ∷ before) g = absurd (omega (arith, len, ap length g, length-append before vs))
+
+to_later : (seen : ℕ) (here end : Bits) → EndsLater seen here end → begins_line end ≡ true → Contains (later_starts seen here) end
+to_later seen [] end (at, leaves, eol, lt) b = absurd (omega arith)
+to_later seen (false ∷ here) end (at, leaves, eol, lt) b =
+    let is = after_eol_is 0 at end eol in
+    let whole : replicate seen false ++ false ∷ here ≡ (leaves.0 ++ replicate is.0 false) ++ true ∷ end = leaves.1
+    ∙ ap (λ (h : Bits). leaves.0 ++ h) is.1 ∙ sym (append_assoc leaves.0 (replicate is.0 false) (true ∷ end)) in
+    to_later (suc seen) here end (
+      at,
+      (leaves.0, zeros_along seen here ∙ leaves.1),
+      eol,
+      elim (cases_lt (length end) (length here)) [
+        | inl less ↦ less
+        | inr ge ↦ absurd (let same : false ∷ here ≡ true ∷ end
+            = same_end (replicate seen false) (false ∷ here) (leaves.0 ++ replicate is.0 false) (true ∷ end) whole (omega arith) in cc)
+      ],
+    ) b
+to_later seen (true ∷ here) end (at, leaves, eol, lt) b = elim (cases_lt (length end) (length here)) [
+  | inl less ↦ Contains-append_right (cond (leb 11 seen && begins_line here) (here ∷ []) []) (later_starts 0 here) end
+      (to_later 0 here end (at, inside less, eol, less) b)
+  | inr ge ↦
+      let same : true ∷ here ≡ true ∷ end = same_end (replicate seen false) (true ∷ here) (leaves.0 ++ replicate is.0 false) (true ∷ end) whole (omega arith) in
+      let here_is : here ≡ end = cc in
+      let lengths : length (replicate seen false) + length (true ∷ here) ≡ length (leaves.0 ++ replicate is.0 false) + length (true ∷ end)
+      = sym (length-append (replicate seen false) (true ∷ here)) ∙ ap length whole ∙ length-append (leaves.0 ++ replicate is.0 false) (true ∷ end) in
+      let enough : 11 ≤ seen = omega (
+        arith,
+        lengths,
+        ap length here_is,
+        length-replicate seen false,
+        length-append leaves.0
+            (replicate is.0 false),
+        length-replicate is.0 false,
+        is.2,
+      ) in
+      let test : (leb 11 seen && begins_line here) ≡ true = and_from (leb 11 seen) (begins_line here) (le-leb 11 seen enough) (ap begins_line here_is ∙ b) in
+      Contains-append_left (cond (leb 11 seen && begins_line here) (here ∷ []) []) (later_starts 0 here) end
+      (subst (λ (t : Bool). Contains (cond t (here ∷ []) []) end) (sym test)
+      (subst (λ (h : Bits). Contains (h ∷ []) end) (sym here_is) (0, omega arith, refl)))
+]
+  where
+    is : (k : ℕ) × (at ≡ replicate k false ++ true ∷ end) × (11 ≤ 0 + k)
+    is = after_eol_is 0 at end eol
+
+    whole : replicate seen false ++ true ∷ here ≡ (leaves.0 ++ replicate is.0 false) ++ true ∷ end
+    whole = leaves.1 ∙ ap (λ (h : Bits). leaves.0 ++ h) is.1 ∙ sym (append_assoc leaves.0 (replicate is.0 false) (true ∷ end))
+
+    inside : length end < length here → Leaves here at
+    inside less = elim (cases_lt (length here) (length at)) [
+      | inl longer ↦ absurd (
+          let f = shorter_end leaves.0 at (replicate seen false) (true ∷ here) (sym leaves.1) (omega arith) in
+          omega (
+            arith,
+            less,
+            first_one is.0 end f.0 here (sym is.1 ∙ f.1),
+            ap length f.1,
+            length-append f.0
+                (true ∷ here),
+            ap length is.1,
+            length-append (replicate is.0 false) (true ∷ end),
+            length-replicate is.0 false,
+          ))
+      | inr short ↦ shorter_end (replicate seen false ++ true ∷ []) here leaves.0 at (append_assoc (replicate seen false) (true ∷ []) here ∙ leaves.1) short
+    ]
+
+-- ---- The EOLs at the front end with a one
+
+-- what comes before the first line: nothing, or EOLs
+abbrev FirstLeaves : Bits → Bits → Type 0
+FirstLeaves bits rest = (front : Bits) × (bits ≡ front ++ rest) × ((front ≡ []) ⊎ ((more : Bits) × (front ≡ more ++ true ∷ [])))
+
+first_leaves : (n : ℕ) (bits : Bits) → length bits < n → FirstLeaves bits (all_eols bits).1
+first_leaves zero bits lt = absurd (omega arith)
+first_leaves (suc n) bits lt = by (first_leaves n) (after_eol 0 bits) refl
+  where
+    by : ((rest : Bits) → length rest < n → FirstLeaves rest (all_eols rest).1) → (o : Option Bits) → after_eol 0 bits ≡ o → FirstLeaves bits (all_eols bits).1
+    by on None e = rw (all_eols-none bits e) ([], refl, inl refl)
+    by on (Some rest) e =
+        let is = after_eol_is 0 bits rest e in
+        let f = on rest (omega (arith, after_eol_shorter 0 bits rest e)) in
+        rw (all_eols-some bits rest e) (
+          replicate is.0 false ++ true ∷ f.0,
+          is.1 ∙ ap (λ (b : Bits). replicate is.0 false ++ true ∷ b) f.1 ∙ sym (append_assoc (replicate is.0 false) (true ∷ f.0) (all_eols rest).1),
+          inr (elim f.2 [
+            | inl none ↦ (replicate is.0 false, ap (λ (b : Bits). replicate is.0 false ++ true ∷ b) none)
+            | inr more ↦ (
+              replicate is.0 false ++ true ∷ more.0,
+              ap (λ (b : Bits). replicate is.0 false ++ true ∷ b) more.1
+                  ∙ sym (append_assoc (replicate is.0 false) (true ∷ more.0) (true ∷ [])),
+            )
+          ]),
+        )
+
+contains_first : (here other : Bits) (rest : List Bits) → Contains (here ∷ rest) other → (here ≡ other) ⊎ Contains rest other
+contains_first here other rest (zero, lt, e) = inl e
+contains_first here other rest (suc k, lt, e) = inr (k, omega arith, e)
+
+contains_more : (here other : Bits) (rest : List Bits) → Contains rest other → Contains (here ∷ rest) other
+contains_more here other rest (k, lt, e) = (suc k, omega arith, e)
+
+some_at_end : (here : Bits) → at_end here ≡ false → 0 < length here
+some_at_end [] e = absurd (false≢true (sym e))
+some_at_end (b ∷ here) e = omega arith
+
+not_some : (o : Option Bits) → is_some o ≡ false → o ≡ None
+not_some None e = refl
+not_some (Some b) e = absurd (false≢true (sym e))
+
+more_left : (here : Bits) → 0 < length here → at_end here ≡ false
+more_left [] lt = absurd (omega arith)
+more_left (b ∷ here) lt = refl
+
+module _ (bits : Bits) where
+  first : Bits
+  first = (all_eols bits).1
+
+  leaves_first : FirstLeaves bits (all_eols bits).1
+  leaves_first = first_leaves (suc (length bits)) bits (omega arith)
+
+  first_length : length leaves_first.0 + length (all_eols bits).1 ≡ length bits
+  first_length = sym (ap length leaves_first.1 ∙ length-append leaves_first.0 (all_eols bits).1)
+
+  is_start : (place : ℕ) → place ≤ length bits → Contains (starts bits) (drop place bits) → IsStart bits place
+  is_start place le c = elim (contains_first (all_eols bits).1 (drop place bits) (later_starts 0 (all_eols bits).1) c) [
+    | inl same ↦ inl (omega (arith, ap length same, length-drop place bits, le))
+    | inr found ↦
+        let f = from_later 0 (all_eols bits).1 (drop place bits) found in
+        let both = and_parts (not (at_end (drop place bits))) (not (is_some (after_eol 0 (drop place bits)))) f.1 in
+        let begins = some_at_end (drop place bits) (not-true (at_end (drop place bits)) both.0) in
+        let front : Bits = leaves_first.0 ++ f.0.1.0 in
+        let cut : bits ≡ front ++ f.0.0 = leaves_first.1 ∙ ap (λ (b : Bits). leaves_first.0 ++ b) f.0.1.1 ∙ sym (append_assoc leaves_first.0 f.0.1.0 f.0.0) in
+        let shorter = after_eol_shorter 0 f.0.0 (drop place bits) f.0.2 in
+        let lengths : length bits ≡ length front + length f.0.0 = ap length cut ∙ length-append front f.0.0 in
+        inr (
+          omega (arith, f.0.3, length-drop place bits, first_length),
+          omega (arith, begins, length-drop place bits),
+          (
+            length front,
+            (
+              omega (arith, shorter, lengths, length-drop place bits, le),
+              le,
+              ap (after_eol 0)
+                  (drop_at bits front f.0.0 (length front) cut refl) ∙ f.0.2,
+            ),
+          ),
+          not_some (after_eol 0 (drop place bits)) (not-true (is_some (after_eol 0 (drop place bits))) both.1),
+        )
+  ]
+
+  has_start : (place : ℕ) → place ≤ length bits → IsStart bits place → Contains (starts bits) (drop place bits)
+  has_start place le (inl same) =
+      let at : drop place bits ≡ (all_eols bits).1 = drop_at bits leaves_first.0 (all_eols bits).1 place leaves_first.1 (omega (arith, same, first_length)) in
+      (0, omega arith, sym at)
+  has_start place le (inr (later, below, (at, eol), none)) =
+      contains_more (all_eols bits).1 (drop place bits) (later_starts 0 (all_eols bits).1)
+      (to_later 0 (all_eols bits).1 (drop place bits) (drop at bits, inside, eol.2, omega (arith, length-drop place bits, first_length, later, below)) begins)
+    where
+      begins : begins_line (drop place bits) ≡ true
+      begins = and_from (not (at_end (drop place bits))) (not (is_some (after_eol 0 (drop place bits))))
+          (not_from_false (at_end (drop place bits)) (more_left (drop place bits) (omega (arith, length-drop place bits, below))))
+          (not_from_false (is_some (after_eol 0 (drop place bits))) (ap (λ (o : Option Bits). is_some o) none))
+
+      whole : leaves_first.0 ++ (all_eols bits).1 ≡ take at bits ++ drop at bits
+      whole = sym leaves_first.1 ∙ sym (take-append-drop at bits)
+
+      inside : Leaves (all_eols bits).1 (drop at bits)
+      inside = elim (cases_lt (length (all_eols bits).1) (length (drop at bits))) [
+        | inr short ↦ shorter_end leaves_first.0 (all_eols bits).1 (take at bits) (drop at bits) whole short
+        | inl longer ↦ absurd (before leaves_first.2 longer)
+      ]
+        where
+          before : (leaves_first.0 ≡ []) ⊎ ((more : Bits) × (leaves_first.0 ≡ more ++ true ∷ [])) → length (all_eols bits).1 < length (drop at bits) → ⊥
+          before (inl none_before) longer = omega (arith, longer, ap length none_before, first_length, length-drop at bits)
+          before (inr (more, is)) longer =
+              let split : more ++ true ∷ (all_eols bits).1 ≡ take at bits ++ drop at bits = sym (append_assoc more (true ∷ []) (all_eols bits).1)
+              ∙ ap (λ (b : Bits). b ++ (all_eols bits).1) (sym is) ∙ whole in
+              let f = shorter_end (take at bits) (drop at bits) more (true ∷ (all_eols bits).1) (sym split) (omega (arith, longer)) in
+              let zeros_one = after_eol_is 0 (drop at bits) (drop place bits) eol.2 in
+              omega (
+                arith,
+                first_one zeros_one.0 (drop place bits) f.0 (all_eols bits).1 (sym zeros_one.1 ∙ f.1),
+                ap length f.1,
+                length-append f.0 (true ∷ (all_eols bits).1),
+                ap length zeros_one.1,
+                length-append (replicate zeros_one.0 false) (true ∷ drop place bits),
+                length-replicate zeros_one.0 false,
+                length-drop place bits,
+                later,
+                below,
+                first_length,
+              )
+
+-- the law
+pub starts_are : StartsAre
+starts_are bits = (λ place le. (is_start bits place le, has_start bits place le), (later_below 0 (all_eols bits).1, later_descends 0 (all_eols bits).1))

@@ -1,0 +1,211 @@
+-- Lines by EOLs.
+use Rattle.std.proofs.Common.{◌≡◌, ℕ, zero, suc, ◌<◌, Bool, true, false, cond, not, ◌||◌, eqb, ltb, List, [], ◌∷◌, ◌++◌, length, map, Option, Some}
+use Rattle.std.proofs.Common.{None, Ok, Err, refl, sym, ap, subst, ◌∙◌, append_assoc, arith, ◌⊎◌, inl, inr}
+use Rattle.std.specs.Prelude.{All, is_some}
+use Rattle.std.proofs.lemmas.List.Elements.{All-head, All-tail, All-same}
+use Rattle.std.proofs.lemmas.List.{append-nil}
+use Rattle.std.proofs.lemmas.Bool.{cases_lt, lt-leb, le-leb, lt-ltb, ne_eqb, and_right, or_left, or_right, cond-true, cond-false}
+use Rattle.hayro_ccitt.specs.declared.error.DecodeError.TheVariants.{UnexpectedEof}
+use Rattle.hayro_ccitt.specs.declared.settings.EncodingMode.{EncodingMode}
+use Rattle.hayro_ccitt.specs.declared.settings.EncodingMode.TheVariants.{Group3_1D}
+use Rattle.hayro_ccitt.specs.declared.settings.DecodeSettings.{DecodeSettings}
+use Rattle.hayro_ccitt.specs.Bits.{Bits, bits_of, IsPrefix}
+use Rattle.hayro_ccitt.specs.Repetition.{Turn, repeated}
+use Rattle.hayro_ccitt.specs.Rows.{Row}
+use Rattle.hayro_ccitt.specs.Lines.{Line, line_1d}
+use Rattle.hayro_ccitt.specs.EndOfLine.{after_eol, one_more, all_eols}
+use Rattle.hayro_ccitt.specs.PlainReading.{Progress, Ending, Move, limit_met, at_end, ends_with, move_group3, plain_group3, end_by}
+use Rattle.hayro_ccitt.specs.Locality.{begins_line, later_starts, starts, row_at, StaysBefore, IsEolAt, LinesByEols}
+use Rattle.hayro_ccitt.proofs.Readings.Repeated.{after_turn, repeated_turn, repeated_same}
+use Rattle.hayro_ccitt.proofs.Readings.TurnsMoveOn.{after_eol_shorter, eols_shorter, eols_some_counts, left_group3, left_group3_below, move_group3_shrinks}
+use Rattle.hayro_ccitt.proofs.Readings.TurnsAddRows.{Keeps, after_row_keeps, move_group3_adds, repeated_adds}
+use Rattle.hayro_ccitt.proofs.DamagedLines.PastEol.{past, past-eol, past_later, all_eols-some, all_eols-none}
+use Rattle.hayro_ccitt.proofs.DamagedLines.SoughtTurns.{sought, rest_of, found_next, after_row_past, move_line}
+use Rattle.hayro_ccitt.proofs.DrawingLines.LinesLeaveBits.{line_1d_leaves, LineLeaves}
+use Rattle.hayro_ccitt.proofs.Readings.RowsAndGaps.{unless_over, after_row}
+
+-- what follows the next EOL is shorter
+pub past_shorter : (seen : ℕ) (here after : Bits) → past seen here ≡ Some after → length after < length here
+past_shorter seen [] after e = absurd cc
+past_shorter seen (false ∷ here) after e = omega (arith, past_shorter (suc seen) here after e)
+past_shorter seen (true ∷ here) after e = elim (cases_lt seen 11) [
+  | inl lt ↦ omega (arith, past_shorter 0 here after (rw (lt-leb 11 seen lt) at e))
+  | inr ge ↦ let f : ◌≡◌ {A = Option Bits} (Some here) (Some after) = rw (le-leb 11 seen ge) at e in let same : here ≡ after
+      = cc in omega (arith, ap length same)
+]
+
+-- ---- Where lines begin
+
+-- a line begins here, unless an EOL or the end is here
+abbrev own : Bits → List Bits
+own here = cond (begins_line here) (here ∷ []) []
+
+starts-past : (seen : ℕ) (here after : Bits) → past seen here ≡ Some after → later_starts seen here ≡ own after ++ later_starts 0 after
+starts-past seen [] after e = absurd cc
+starts-past seen (false ∷ here) after e = starts-past (suc seen) here after e
+starts-past seen (true ∷ here) after e = elim (cases_lt seen 11) [
+  | inl lt ↦ rw (lt-leb 11 seen lt) (starts-past 0 here after (rw (lt-leb 11 seen lt) at e))
+  | inr ge ↦
+      let f : ◌≡◌ {A = Option Bits} (Some here) (Some after) = rw (le-leb 11 seen ge) at e in
+      let same : here ≡ after = cc in
+      rw (le-leb 11 seen ge) (ap (λ (x : Bits). own x ++ later_starts 0 x) same)
+]
+
+starts-none : (seen : ℕ) (here : Bits) → past seen here ≡ None → later_starts seen here ≡ []
+starts-none seen [] e = refl
+starts-none seen (false ∷ here) e = starts-none (suc seen) here e
+starts-none seen (true ∷ here) e = elim (cases_lt seen 11) [
+  | inl lt ↦ rw (lt-leb 11 seen lt) (starts-none 0 here (rw (lt-leb 11 seen lt) at e))
+  | inr ge ↦ absurd (let f : ◌≡◌ {A = Option Bits} (Some here) None = rw (le-leb 11 seen ge) at e in cc)
+]
+
+-- the starts from a place on
+abbrev from_here : Bits → List Bits
+from_here [] = []
+from_here (b ∷ here) = (b ∷ here) ∷ later_starts 0 (b ∷ here)
+
+starts_after : (n : ℕ) (here : Bits) → length here < n → own here ++ later_starts 0 here ≡ from_here (all_eols here).1
+starts_after zero here lt = absurd (omega arith)
+starts_after (suc n) here lt = by (λ next small. starts_after n next small) (after_eol 0 here) refl
+  where
+    by : ((next : Bits) → length next < n → own next ++ later_starts 0 next ≡ from_here (all_eols next).1) → (o : Option Bits) → after_eol 0 here ≡ o
+        → own here ++ later_starts 0 here ≡ from_here (all_eols here).1
+    by on (Some next) e =
+        let no : own here ≡ [] = cond-false (begins_line here) (here ∷ []) [] (and_right (not (at_end here)) (not (is_some (after_eol 0 here))) (rw e refl)) in
+        let skip : (one_more (all_eols next)).1 ≡ (all_eols next).1 = refl in
+        ap (λ (x : List Bits). x ++ later_starts 0 here) no ∙ starts-past 0 here next (past-eol 0 here next e)
+        ∙ on next (omega (arith, after_eol_shorter 0 here next e))
+        ∙ ap from_here (sym skip ∙ ap (λ (x : ℕ × Bits). x.1) (sym (all_eols-some here next e)))
+    by on None e = ap (λ (x : List Bits). x ++ later_starts 0 here) (at here e) ∙ itself here
+        ∙ ap from_here (ap (λ (x : ℕ × Bits). x.1) (sym (all_eols-none here e)))
+      where
+        at : (here : Bits) → after_eol 0 here ≡ None → own here ≡ cond (at_end here) [] (here ∷ [])
+        at [] e = refl
+        at (b ∷ here) e = cond-true (begins_line (b ∷ here)) ((b ∷ here) ∷ []) [] (rw e refl)
+
+        itself : (here : Bits) → cond (at_end here) [] (here ∷ []) ++ later_starts 0 here ≡ from_here here
+        itself [] = refl
+        itself (b ∷ here) = refl
+
+-- the later starts are those from the end of the next EOLs on
+pub starts-next : (here after : Bits) → past 0 here ≡ Some after → later_starts 0 here ≡ from_here (all_eols after).1
+starts-next here after e = starts-past 0 here after e ∙ starts_after (suc (length after)) after (omega arith)
+
+-- ---- The next EOL is the same after a line that stays before it
+pub line_past : (columns : ℕ) (here after : Bits) → StaysBefore columns here → past 0 here ≡ Some after
+    → past 0 (rest_of (line_1d false columns here) here) ≡ Some after
+line_past columns here after stays e = by (line_1d false columns here) refl (line_1d_leaves false columns here)
+  where
+    by : (line : Line) → line_1d false columns here ≡ line → LineLeaves here line → past 0 (rest_of line here) ≡ Some after
+    by (Line.whole row rest) l leaves =
+        let next = found_next here after e in
+        let f : past 0 (leaves.0 ++ rest) ≡ Some after = ap (past 0) (sym leaves.1) ∙ e in
+        past_later 0 leaves.0 rest after f (stays next.0 after next.1 next.2 row rest l)
+    by (Line.broken front fault) l leaves = e
+
+module _ (settings : DecodeSettings) (encoding : settings.encoding ≡ Group3_1D) (lenient : settings.strict ≡ false)
+    (no_block : settings.end_of_block ≡ false) (unlimited : settings.rows ≡ 0) (wide : 0 < settings.columns) (late : Ending) where
+  -- the reading from a state on
+  abbrev rest_end : Progress → Ending
+  rest_end run = repeated (move_group3 settings) late (suc (left_group3 run)) run
+
+  extends : (run : Progress) → IsPrefix run.rows (rest_end run).rows
+  extends run = repeated_adds (move_group3 settings) late left_group3 (move_group3_shrinks settings wide) (move_group3_adds settings)
+      (suc (left_group3 run)) run (omega arith)
+
+  turn_extends : (rows : List Row) (m : Move) → Keeps rows m → IsPrefix rows (after_turn rest_end m).rows
+  turn_extends rows (Turn.next t) k = subst (λ (x : List Row). IsPrefix x (rest_end t).rows) k (extends t)
+  turn_extends rows (Turn.done e) k = ([], k ∙ sym (append-nil rows))
+
+  not_met : (n : ℕ) → limit_met settings n ≡ false
+  not_met n = rw unlimited refl
+
+  -- only the end ends the run
+  over_is : (rows : List Row) (rest : Bits) (count : ℕ) (here : Bits)
+      → unless_over settings (sought rows rest) (count, here) ≡ cond (at_end here) (ends_with (sought rows rest) (Ok here)) (Turn.next (sought rows here))
+  over_is rows rest count here = rw (no_block, unlimited) refl
+
+  -- the rows so far, and those of the lines that begin from here on
+  by_starts : (n : ℕ) (rows : List Row) (here : Bits) → length here < n → All (StaysBefore settings.columns) (here ∷ later_starts 0 here)
+      → IsPrefix (rows ++ map (row_at settings.columns) (here ∷ later_starts 0 here)) (rest_end (sought rows here)).rows
+  by_starts zero rows here lt stay = absurd (omega arith)
+  by_starts (suc n) rows here lt stay =
+      subst (λ (e : Ending). IsPrefix (rows ++ map (row_at settings.columns) (here ∷ later_starts 0 here)) e.rows)
+      (sym (repeated_turn (move_group3 settings) late left_group3 (move_group3_shrinks settings wide) (sought rows here)))
+      (rw (move_line settings encoding lenient rows here) (by (λ rows here small stay. by_starts n rows here small stay) (past 0 here) refl))
+    where
+      first : Row
+      first = row_at settings.columns here
+
+      rest : Bits
+      rest = rest_of (line_1d false settings.columns here) here
+
+      by : ((rows : List Row) (here : Bits) → length here < n → All (StaysBefore settings.columns) (here ∷ later_starts 0 here)
+          → IsPrefix (rows ++ map (row_at settings.columns) (here ∷ later_starts 0 here)) (rest_end (sought rows here)).rows)
+          → (o : Option Bits) → past 0 here ≡ o → IsPrefix (rows ++ map (row_at settings.columns) (here ∷ later_starts 0 here))
+          (after_turn rest_end (after_row settings (sought (rows ++ first ∷ []) rest))).rows
+      by on None e = rw (starts-none 0 here e)
+          (turn_extends (rows ++ first ∷ []) (after_row settings (sought (rows ++ first ∷ []) rest))
+          (after_row_keeps settings (sought (rows ++ first ∷ []) rest)))
+      by on (Some after) e = go (all_eols after).1 refl
+        where
+          others : List Row
+          others = rows ++ first ∷ []
+
+          turn : (there : Bits) → (all_eols after).1 ≡ there
+              → after_row settings (sought others rest) ≡ cond (at_end there) (ends_with (sought others rest) (Ok there)) (Turn.next (sought others there))
+          turn there is =
+              after_row_past settings encoding lenient others rest after (not_met (length others))
+              (line_past settings.columns here after (All-head (StaysBefore settings.columns) here (later_starts 0 here) stay) e)
+              ∙ over_is others rest (suc (all_eols after).0) (all_eols after).1
+              ∙ ap (λ (x : Bits). cond (at_end x) (ends_with (sought others rest) (Ok x)) (Turn.next (sought others x))) is
+
+          go : (there : Bits) → (all_eols after).1 ≡ there
+              → IsPrefix (rows ++ map (row_at settings.columns) (here ∷ later_starts 0 here))
+              (after_turn rest_end (after_row settings (sought others rest))).rows
+          go [] is =
+              let none : later_starts 0 here ≡ [] = starts-next here after e ∙ ap from_here is in
+              subst (λ (m : Move). IsPrefix (rows ++ map (row_at settings.columns) (here ∷ later_starts 0 here)) (after_turn rest_end m).rows) (sym (turn [] is))
+              (rw none ([], sym (append-nil others)))
+          go (b ∷ there) is =
+              let some : later_starts 0 here ≡ (b ∷ there) ∷ later_starts 0 (b ∷ there) = starts-next here after e ∙ ap from_here is in
+              let smaller : length (b ∷ there) < n = omega (arith, lt, past_shorter 0 here after e, eols_shorter (length after) after, ap length is) in
+              let tail = All-same (StaysBefore settings.columns) ((b ∷ there) ∷ later_starts 0 (b ∷ there)) (later_starts 0 here) (sym some)
+              (All-tail (StaysBefore settings.columns) here (later_starts 0 here) stay) in
+              let further = on others (b ∷ there) smaller tail in
+              let all : rows ++ map (row_at settings.columns) (here ∷ later_starts 0 here) ≡ others ++ map (row_at settings.columns)
+              ((b ∷ there) ∷ later_starts 0 (b ∷ there))
+              = ap (λ (x : List Bits). rows ++ map (row_at settings.columns) (here ∷ x)) some
+              ∙ sym (append_assoc rows (first ∷ []) (map (row_at settings.columns) ((b ∷ there) ∷ later_starts 0 (b ∷ there)))) in
+              subst (λ (m : Move). IsPrefix (rows ++ map (row_at settings.columns) (here ∷ later_starts 0 here)) (after_turn rest_end m).rows)
+              (sym (turn (b ∷ there) is))
+              (subst (λ (x : List Row). IsPrefix x (rest_end (sought others (b ∷ there))).rows) (sym all) further)
+
+  -- the whole run begins at the first of them
+  by_run : (run : Progress) (here : Bits) → run ≡ sought [] here → All (StaysBefore settings.columns) (here ∷ later_starts 0 here)
+      → IsPrefix (map (row_at settings.columns) (here ∷ later_starts 0 here)) (repeated (move_group3 settings) late (suc (suc (length run.rest))) run).rows
+  by_run run here is stay =
+      subst (λ (e : Ending). IsPrefix (map (row_at settings.columns) (here ∷ later_starts 0 here)) e.rows)
+      (repeated_same (move_group3 settings) late left_group3 (move_group3_shrinks settings wide) (suc (left_group3 run))
+      (suc (suc (length run.rest))) run (omega arith) (left_group3_below run))
+      (subst (λ (r : Progress). IsPrefix (map (row_at settings.columns) (here ∷ later_starts 0 here)) (rest_end r).rows) (sym is)
+      (by_starts (suc (length here)) [] here (omega arith) stay))
+
+-- EOLs are sought from the start
+pub seeks : (bits : Bits) (end_of_line : Bool) → (end_of_line ≡ true) ⊎ IsEolAt bits → (ltb 0 (all_eols bits).0 || end_of_line) ≡ true
+seeks bits end_of_line (inl e) = or_right (ltb 0 (all_eols bits).0) end_of_line e
+seeks bits end_of_line (inr e) = or_left (ltb 0 (all_eols bits).0) end_of_line (lt-ltb 0 (all_eols bits).0 (eols_some_counts bits e.0 e.1))
+
+-- the law
+pub lines_by_eols : LinesByEols
+lines_by_eols settings bytes are encoding lenient no_block unlimited wide sought_by stay =
+    let bits : Bits = bits_of bytes in
+    let columns : eqb settings.columns 0 ≡ false = ne_eqb settings.columns 0 (λ e. absurd (omega (arith, e, wide))) in
+    let first : Progress = record { rows = []; has_eols = ltb 0 (all_eols bits).0 || settings.end_of_line; rest = (all_eols bits).1 } in
+    let first_is : first ≡ sought [] (all_eols bits).1
+    = ap (λ (b : Bool). record { rows = []; has_eols = b; rest = (all_eols bits).1 }) (seeks bits settings.end_of_line sought_by) in
+    let ends : IsPrefix (map (row_at settings.columns) (starts bits)) (plain_group3 settings bits).rows
+    = by_run settings encoding lenient no_block unlimited wide
+    (record { rows = []; has_eols = ltb 0 (all_eols bits).0 || settings.end_of_line; outcome = Err UnexpectedEof }) first (all_eols bits).1 first_is stay in
+    let whole : end_by settings.encoding settings bits ≡ plain_group3 settings bits = ap (λ (e : EncodingMode). end_by e settings bits) encoding in
+    rw columns (subst (λ (e : Ending). IsPrefix (map (row_at settings.columns) (starts bits)) e.rows) (sym whole) ends)

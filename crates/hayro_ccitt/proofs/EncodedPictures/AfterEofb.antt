@@ -1,0 +1,220 @@
+-- What follows EOFB changes nothing.
+use Rattle.std.proofs.Common.{◌≡◌, ℕ, zero, suc, ◌+◌, ◌-◌, ◌*◌, ◌/◌, ◌%◌, ◌<◌, ◌≤◌, Bool, true, false, cond, ◌&&◌, ◌||◌, eqb, leb, List, [], ◌∷◌}
+use Rattle.std.proofs.Common.{◌++◌, length, take, drop, Option, Some, None, Result, Ok, refl, sym, ap, subst, ◌∙◌, append_assoc, arith, ◌⊎◌, inl, inr}
+use Rattle.std.proofs.lemmas.Bool.{or_parts, or_from, cond-true, cond-false, cases_lt, eq-eqb}
+use Rattle.std.proofs.lemmas.List.{length-append, length-take-le, take-append-drop, drop_at}
+use Rattle.std.proofs.lemmas.Grind.{flat_map-append}
+use Rattle.hayro_ccitt.specs.declared.error.DecodeError.{DecodeError}
+use Rattle.hayro_ccitt.specs.declared.settings.EncodingMode.TheVariants.{Group4}
+use Rattle.hayro_ccitt.specs.declared.settings.DecodeSettings.{DecodeSettings}
+use Rattle.hayro_ccitt.specs.Bits.{Bits, bits_of_byte, bits_of}
+use Rattle.hayro_ccitt.specs.Repetition.{Turn, Reaches}
+use Rattle.hayro_ccitt.specs.Lines.{Line, line_2d}
+use Rattle.hayro_ccitt.specs.EndOfLine.{after_eol, one_more, eols, all_eols}
+use Rattle.hayro_ccitt.specs.PlainReading.{eols_group4, Progress, Ending, row_before, aligned, at_end, limit_met, ends_with, after_line_group4, Reading, nothing_read, whole_reading, move_group4, end_of, plain}
+use Rattle.hayro_ccitt.specs.Laws.{AfterEofb}
+use Rattle.hayro_ccitt.proofs.Readings.TurnsMoveOn.{eols-none, next_is, not_next}
+use Rattle.hayro_ccitt.proofs.Readings.Repeated.{after_turn}
+use Rattle.hayro_ccitt.proofs.CodeWords.ReadRuns.{chosen}
+use Rattle.hayro_ccitt.proofs.BitReading.BitLists.{length-bits_of}
+use Rattle.hayro_ccitt.proofs.BitReading.ZerosInWords.{prefix_of_prefix}
+use Rattle.hayro_ccitt.proofs.DrawingLines.WhatFollows.{line_2d_found}
+use Rattle.hayro_ccitt.proofs.EncodedPictures.PicturesT6.{IsLineStart, mode_starts, goes, goes_is, between, move_group4_eofb, late_group4, end_of_goes, plain_ends}
+use Rattle.hayro_ccitt.proofs.Readings.RowsAndGaps.{line_at_group4, move_group4-is}
+
+-- ---- EOLs.
+after_eol_found : (seen : ℕ) (here rest : Bits) → after_eol seen here ≡ Some rest → (w : Bits) × (here ≡ w ++ rest)
+    × ((more : Bits) → after_eol seen (w ++ more) ≡ Some more)
+after_eol_found seen [] rest e = absurd cc
+after_eol_found seen (false ∷ here) rest e = let f = after_eol_found (suc seen) here rest e in (false ∷ f.0, ap (λ (x : Bits). false ∷ x) f.1, f.2)
+after_eol_found seen (true ∷ here) rest e = elim (chosen (leb 11 seen) _ _ _ e) [
+  | inl a ↦ let same : here ≡ rest = let f = a.1 in cc in (true ∷ [], ap (λ (x : Bits). true ∷ x) same, λ more. rw a.0 refl)
+  | inr a ↦ absurd (let f = a.1 in cc)
+]
+
+one_more_is : (found : ℕ × Bits) → one_more found ≡ (suc found.0, found.1)
+one_more_is (count, here) = refl
+
+-- the EOLs that were counted are a front, and are counted again whatever follows, if no EOL does or enough were asked for
+abbrev EolsFound : ℕ → Bits → ℕ × Bits → Type 0
+EolsFound most here found = (w : Bits) × (here ≡ w ++ found.1)
+    × ((more : Bits) → (found.0 ≡ most) ⊎ (after_eol 0 more ≡ None) → eols most (w ++ more) ≡ (found.0, more))
+
+eols_found : (most : ℕ) (here : Bits) → EolsFound most here (eols most here)
+eols_found zero here = ([], refl, λ more or. refl)
+eols_found (suc most) here =
+    let by : (o : Option Bits) → after_eol 0 here ≡ o → EolsFound (suc most) here (eols (suc most) here)
+    = λ o. elim o as (λ (o : Option Bits). after_eol 0 here ≡ o → EolsFound (suc most) here (eols (suc most) here)) [
+      | None ↦ λ e. subst (EolsFound (suc most) here) (sym (eols-none (suc most) here e)) (
+        [],
+        refl,
+        λ more or. elim or [
+          | inl same ↦ absurd (omega arith)
+          | inr none ↦ eols-none (suc most) more none
+        ],
+      )
+      | Some rest ↦ λ e.
+          let one = after_eol_found 0 here rest e in
+          let on = eols_found most rest in
+          let found : eols (suc most) here ≡ (suc (eols most rest).0, (eols most rest).1) = rw (e, eols) (one_more_is (eols most rest)) in
+          subst (EolsFound (suc most) here) (sym found) (
+            one.0 ++ on.0,
+            one.1 ∙ ap (λ (x : Bits). one.0 ++ x) on.1 ∙ sym (append_assoc one.0 on.0 (eols most rest).1),
+            λ more or.
+                let less : ((eols most rest).0 ≡ most) ⊎ (after_eol 0 more ≡ None) = elim or [ inl same ↦ inl (omega arith) | inr none ↦ inr none ] in
+                let stands : after_eol 0 (one.0 ++ (on.0 ++ more)) ≡ Some (on.0 ++ more) = one.2 (on.0 ++ more) in
+                ap (eols (suc most)) (append_assoc one.0 on.0 more) ∙ rw (stands, eols) (ap one_more (on.2 more less)),
+          )
+    ] in
+    by (after_eol 0 here) refl
+
+-- ---- Alignment: only how many bits follow, modulo eight, matters.
+aligned_split : (b : Bool) (j : Bits) → (pad : Bits) × (j ≡ pad ++ cond b (aligned j) j)
+    × ((more : Bits) → length more % 8 ≡ length (cond b (aligned j) j) % 8 → cond b (aligned (pad ++ more)) (pad ++ more) ≡ more)
+aligned_split false j = ([], refl, λ more e. refl)
+aligned_split true j =
+    let n : ℕ = length j % 8 in
+    let pad : Bits = take n j in
+    let whole : j ≡ pad ++ drop n j = sym (take-append-drop n j) in
+    let len : length pad ≡ n = length-take-le n j (omega arith) in
+    let sum : length j ≡ length pad + length (drop n j) = ap length whole ∙ length-append pad (drop n j) in
+    (pad, whole, λ more e. drop_at pad more (length (pad ++ more) % 8) (omega (arith, len, sum, e, length-append pad more)))
+
+-- ---- A line of a run.
+record MoveFound (settings : DecodeSettings) (run after : Progress) : Type 0 where
+  bits : Bits
+  is : run.rest ≡ bits ++ after.rest
+  again : (more : Bits) → length more % 8 ≡ length after.rest % 8
+      → move_group4 settings (record run { rest = bits ++ more }) ≡ Turn.next (record after { rest = more })
+
+-- the line that is read from a state
+abbrev reader : DecodeSettings → Progress → Bits → Line
+reader settings run = line_2d settings.strict settings.columns (row_before settings.columns run.rows)
+
+-- the reading ends in front of a line
+abbrev is_over : DecodeSettings → Progress → ℕ → Bits → Bool
+is_over settings run count rest = ((settings.end_of_block && (eqb count 2)) || limit_met settings (length run.rows)) || at_end rest
+
+module _ (settings : DecodeSettings) (block : settings.end_of_block ≡ true) (wide : 0 < settings.columns) where
+  by_line : (run after : Progress) (count : ℕ) (t : Bits) (line : Line) → eols 2 run.rest ≡ (count, t) → is_over settings run count t ≡ false
+      → reader settings run t ≡ line → after_line_group4 settings run line ≡ Turn.next after → MoveFound settings run after
+  by_line run after count t (Line.broken front fault) counted over read e = absurd (not_next _ after e)
+  by_line run after count t (Line.whole row j) counted over read e =
+      let b : Bool = settings.rows_are_byte_aligned in
+      let line = line_2d_found settings.strict settings.columns (row_before settings.columns run.rows) t row j read in
+      let eol = subst (EolsFound 2 run.rest) counted (eols_found 2 run.rest) in
+      let split = aligned_split b j in
+      let pad : Bits = split.0 in
+      let then : Progress = record { rows = run.rows ++ row ∷ []; has_eols = run.has_eols; rest = cond b (aligned j) j } in
+      let at_start : (more : Bits) → IsLineStart (line.bits ++ more) = λ more.
+      let w = line.begins wide in
+      subst IsLineStart (sym (ap (λ (x : Bits). x ++ more) w.4 ∙ append_assoc w.1 w.2 more)) (mode_starts w.0 w.1 (w.2 ++ more) w.3) in
+      let moved : MoveFound settings run then = record {
+        bits = eol.0 ++ (line.bits ++ pad);
+        is = eol.1 ∙ ap (λ (x : Bits). eol.0 ++ x) (line.is ∙ ap (λ (x : Bits). line.bits ++ x) split.1 ∙ sym (append_assoc line.bits pad then.rest))
+            ∙ sym (append_assoc eol.0 (line.bits ++ pad) then.rest);
+        again = λ more same.
+            let t2 : Bits = line.bits ++ (pad ++ more) in
+            let here : (eol.0 ++ (line.bits ++ pad)) ++ more ≡ eol.0 ++ t2 = append_assoc eol.0 (line.bits ++ pad) more
+            ∙ ap (λ (x : Bits). eol.0 ++ x) (append_assoc line.bits pad more) in
+            let run2 : Progress = record run { rest = (eol.0 ++ (line.bits ++ pad)) ++ more } in
+            let begins = at_start (pad ++ more) in
+            let counted2 : eols_group4 settings run2.rest ≡ (count, t2) = cond-true settings.end_of_block _ _ block ∙ ap (eols 2) here
+            ∙ eol.2 t2 (inr begins.no_eol) in
+            let over2 : is_over settings run2 count t2 ≡ false = or_from _ _ (or_parts _ _ over).0 begins.open_end in
+            move_group4-is settings run2 ∙ ap (line_at_group4 settings run2) counted2
+            ∙ cond-false (is_over settings run2 count t2) (ends_with run2 (Ok t2)) (after_line_group4 settings run2 (reader settings run2 t2)) over2
+            ∙ ap (after_line_group4 settings run2) (line.again (pad ++ more))
+            ∙ ap (λ (x : Bits). Turn.next (record then { rest = x })) (split.2 more same);
+      } in
+      subst (MoveFound settings run) (next_is then after e) moved
+
+  by_eols : (run after : Progress) (found : ℕ × Bits) → eols 2 run.rest ≡ found → line_at_group4 settings run found ≡ Turn.next after
+      → MoveFound settings run after
+  by_eols run after (count, t) counted e = elim (chosen (is_over settings run count t) _ _ _ e) [
+    | inl a ↦ absurd (not_next _ after a.1)
+    | inr a ↦ by_line run after count t (reader settings run t) counted a.0 refl a.1
+  ]
+
+  move_group4_found : (run after : Progress) → move_group4 settings run ≡ Turn.next after → MoveFound settings run after
+  move_group4_found run after e = by_eols run after (eols 2 run.rest) refl
+      (sym (move_group4-is settings run ∙ ap (line_at_group4 settings run) (cond-true settings.end_of_block (eols 2 run.rest) (all_eols run.rest) block)) ∙ e)
+
+  -- ---- A run that comes to two EOLs.
+  abbrev ended_at : Progress → Bits → Ending
+  ended_at last rest = record { rows = last.rows; has_eols = last.has_eols; outcome = Ok rest }
+
+  -- what was read up to two EOLs gives the same rows again, whatever follows
+  pub closed_found : (late : Ending) (run last : Progress) (rest : Bits) → Reaches (move_group4 settings) run last → eols 2 last.rest ≡ (2, rest)
+      → (w : Bits) × (run.rest ≡ w ++ rest) × ((more : Bits) → length more % 8 ≡ length rest % 8
+      → goes settings late (record run { rest = w ++ more }) ≡ ended_at last more)
+  closed_found late run last rest (Reaches.stays same) two =
+      let eol = subst (EolsFound 2 run.rest) two (eols_found 2 run.rest) in (
+        eol.0,
+        eol.1,
+        λ more e. goes_is settings late (record run { rest = eol.0 ++ more }) wide
+            ∙ ap (after_turn (goes settings late)) (move_group4_eofb settings (record run { rest = eol.0 ++ more }) more block (eol.2 more (inl refl))),
+      )
+  closed_found late run last rest (Reaches.moves run2 after last2 moved reaches) two =
+      let one = move_group4_found run after moved in
+      let on = closed_found late after last rest reaches two in (
+        one.bits ++ on.0,
+        one.is ∙ ap (λ (x : Bits). one.bits ++ x) on.1 ∙ sym (append_assoc one.bits on.0 rest),
+        λ more e.
+            let same : length (on.0 ++ more) % 8 ≡ length after.rest % 8 = omega (arith, e, length-append on.0 more, ap length on.1, length-append on.0 rest) in
+            ap (λ (x : Bits). goes settings late (record run { rest = x })) (append_assoc one.bits on.0 more)
+            ∙ goes_is settings late (record run { rest = one.bits ++ (on.0 ++ more) }) wide
+            ∙ ap (after_turn (goes settings late)) (one.again (on.0 ++ more) same) ∙ on.2 more e,
+      )
+
+-- ---- Over bytes.
+closed_plain : (settings : DecodeSettings) (last : Progress) (w rest : Bits) → settings.encoding ≡ Group4 → 0 < settings.columns
+    → ((more : Bits) → length more % 8 ≡ length rest % 8
+    → goes settings late_group4 (between [] (w ++ more)) ≡ record { rows = last.rows; has_eols = last.has_eols; outcome = Ok more })
+    → (bytes : List ℕ) (more : Bits) → bits_of bytes ≡ w ++ more → length more % 8 ≡ length rest % 8
+    → plain settings bytes ≡ record { rows = last.rows; outcome = Ok ((length w + 7) / 8); has_eols = last.has_eols }
+closed_plain settings last w rest four wide ends bytes more is whole =
+    let end : Ending = record { rows = last.rows; has_eols = last.has_eols; outcome = Ok more } in
+    let here : end_of settings (bits_of bytes) ≡ end = ap (end_of settings) is ∙ end_of_goes settings (w ++ more) four wide ∙ ends more whole in
+    let n : (length (bits_of bytes) - length more + 7) / 8 ≡ (length w + 7) / 8 = omega (arith, ap length is, length-append w more) in
+    plain_ends settings bytes end more wide here refl ∙ ap {B = Reading} (λ (k : ℕ). record { rows = last.rows; outcome = Ok k; has_eols = last.has_eols }) n
+
+bits_cut : (bytes : List ℕ) (n : ℕ) → bits_of bytes ≡ bits_of (take n bytes) ++ bits_of (drop n bytes)
+bits_cut bytes n = ap bits_of (sym (take-append-drop n bytes)) ∙ flat_map-append bits_of_byte (take n bytes) (drop n bytes)
+
+-- data with the same bytes begin with the same bits, and go on with whole bytes as far
+same_front : (one two : List ℕ) (count : ℕ) (w rest : Bits) → bits_of one ≡ w ++ rest → (length w + 7) / 8 ≡ count → take count two ≡ take count one
+    → (more : Bits) × (bits_of two ≡ w ++ more) × (length more % 8 ≡ length rest % 8)
+same_front one two count w rest is count_is same =
+    let len1 : 8 * length one ≡ length w + length rest = sym (length-bits_of one) ∙ ap length is ∙ length-append w rest in
+    let head : Bits = bits_of (take count one) in
+    let within : count ≤ length one = omega (arith, count_is, len1) in
+    let head_len : length head ≡ 8 * count = length-bits_of (take count one) ∙ ap (λ (k : ℕ). 8 * k) (length-take-le count one within) in
+    let front = prefix_of_prefix w rest head (bits_of (drop count one)) (sym (bits_cut one count) ∙ is) (omega (arith, head_len, count_is)) in
+    let more : Bits = front.0 ++ bits_of (drop count two) in
+    let two_is : bits_of two ≡ w ++ more
+    = bits_cut two count ∙ ap (λ (x : List ℕ). bits_of x ++ bits_of (drop count two)) same ∙ ap (λ (x : Bits). x ++ bits_of (drop count two)) front.1
+    ∙ append_assoc w front.0 (bits_of (drop count two)) in
+    let len2 : 8 * length two ≡ length w + length more = sym (length-bits_of two) ∙ ap length two_is ∙ length-append w more in
+    (more, two_is, omega (arith, len1, len2))
+
+-- without columns nothing is read
+plain_no_columns : (settings : DecodeSettings) (bytes : List ℕ) → settings.columns ≡ 0 → plain settings bytes ≡ nothing_read
+plain_no_columns settings bytes none = cond-true (eqb settings.columns 0) nothing_read
+    (whole_reading (bits_of bytes) (end_of settings (bits_of bytes))) (eq-eqb settings.columns 0 none)
+
+-- the law
+pub after_eofb : AfterEofb
+after_eofb settings one two count are four block comes counted same = elim (cases_lt 0 settings.columns) [
+  | inr none ↦ plain_no_columns settings two (omega arith) ∙ sym (plain_no_columns settings one (omega arith))
+  | inl wide ↦
+      let rest : Bits = (eols 2 comes.0.rest).1 in
+      let closes : eols 2 comes.0.rest ≡ (2, rest) = ap (λ (n : ℕ). (n, rest)) comes.2 in
+      let found = closed_found settings block wide late_group4 (between [] (bits_of one)) comes.0 rest comes.1 closes in
+      let first : plain settings one ≡ record { rows = comes.0.rows; outcome = Ok ((length found.0 + 7) / 8); has_eols = comes.0.has_eols }
+      = closed_plain settings comes.0 found.0 rest four wide found.2 one rest found.1 refl in
+      let count_is : (length found.0 + 7) / 8 ≡ count = let f : ◌≡◌ {A = Result ℕ DecodeError} (Ok ((length found.0 + 7) / 8)) (Ok count)
+      = sym (ap (λ (a : Reading). a.outcome) first) ∙ counted in cc in
+      let front = same_front one two count found.0 rest found.1 count_is same in
+      closed_plain settings comes.0 found.0 rest four wide found.2 two front.0 front.1 front.2 ∙ sym first
+]

@@ -1,0 +1,249 @@
+-- Every picture has encodings.
+use Rattle.std.proofs.Common.{◌≡◌, ℕ, zero, suc, ◌+◌, ◌-◌, ◌*◌, ◌/◌, ◌%◌, ◌^◌, ◌<◌, ◌≤◌, Bool, true, false, cond, eqb, List, [], ◌∷◌, ◌++◌}
+use Rattle.std.proofs.Common.{length, replicate, Option, Some, None, is_some, refl, sym, ap, subst, ◌∙◌, arith, ◌⊎◌, inl, inr}
+use Rattle.std.specs.Prelude.{All}
+use Rattle.std.proofs.lemmas.Bool.{agree_below_at, eqb-true, false≢true, cases_lt}
+use Rattle.std.proofs.lemmas.List.Elements.{All-head, All-tail, All-cons}
+use Rattle.std.proofs.lemmas.List.{length-append, length-replicate}
+use Rattle.std.proofs.lemmas.Nat.Bits.{bit_at_cat_low, bit_at_cat_high}
+use Rattle.std.specs.Int.{bit_at}
+use Rattle.hayro_ccitt.specs.declared.codes.Color.{Color}
+use Rattle.hayro_ccitt.specs.declared.codes.Color.TheVariants.{White, Black}
+use Rattle.hayro_ccitt.specs.Bits.{Bits, bit_of, bits_of_byte, bits_of, low_bits}
+use Rattle.hayro_ccitt.specs.CodeLists.{Code}
+use Rattle.hayro_ccitt.specs.CodeReading.{Has}
+use Rattle.hayro_ccitt.specs.Rows.{Row, is_black, opposite, a1, a2}
+use Rattle.hayro_ccitt.specs.Runs.{codes_of}
+use Rattle.hayro_ccitt.specs.Encodings.{Spells, EncodesLine1D, EncodesLine2D, EncodesLine, padding, EncodesRows, eol}
+use Rattle.hayro_ccitt.specs.Encodings.{EncodesRowsWithEols, tag_of, ClosesWithEols}
+use Rattle.hayro_ccitt.specs.Laws.{EveryPictureHasAnEncoding, BytesBeginWithAnyBits}
+use Rattle.hayro_ccitt.proofs.CodeWords.ReadRuns.{chosen}
+use Rattle.hayro_ccitt.proofs.PixelRows.ChangePlaces.{a1_next, a2_next, a2_least}
+use Rattle.hayro_ccitt.specs.declared.settings.EncodingMode.TheVariants.{Group4, Group3_1D, Group3_2D}
+use Rattle.hayro_ccitt.specs.declared.settings.EncodingMode.{EncodingMode}
+
+-- ---- Runs.
+-- the word of a list for a length
+abbrev word_for : List (Code ℕ) → ℕ → Option Bits
+word_for [] n = None
+word_for (c ∷ list) n = cond (eqb c.value n) (Some c.word) (word_for list n)
+
+word_for_has : (list : List (Code ℕ)) (n : ℕ) (word : Bits) → word_for list n ≡ Some word → Has list n word
+word_for_has [] n word e = absurd cc
+word_for_has (c ∷ list) n word e = elim (chosen (eqb c.value n) _ _ _ e) [
+  | inl a ↦ let f : ◌≡◌ {A = Option Bits} (Some c.word) (Some word) = a.1 in inl (eqb-true c.value n a.0, cc)
+  | inr a ↦ inr (word_for_has list n word a.1)
+]
+
+some_word : (list : List (Code ℕ)) (n : ℕ) → is_some (word_for list n) ≡ true → (word : Bits) × Has list n word
+some_word list n e = by (word_for list n) refl
+  where
+    by : (found : Option Bits) → word_for list n ≡ found → (word : Bits) × Has list n word
+    by None is = absurd (false≢true (ap is_some (sym is) ∙ e))
+    by (Some word) is = (word, word_for_has list n word is)
+
+-- each length below 64 has a terminating word, and 64 a make-up word
+terminating_word : (color : Color) (n : ℕ) → n < 64 → (word : Bits) × Has (codes_of color) n word
+terminating_word White n lt = some_word (codes_of White) n (agree_below_at (λ m. is_some (word_for (codes_of White) m)) (λ m. true) 64 n refl lt)
+terminating_word Black n lt = some_word (codes_of Black) n (agree_below_at (λ m. is_some (word_for (codes_of Black) m)) (λ m. true) 64 n refl lt)
+
+makeup_word : (color : Color) → (word : Bits) × Has (codes_of color) 64 word
+makeup_word White = some_word (codes_of White) 64 refl
+makeup_word Black = some_word (codes_of Black) 64 refl
+
+run_spelled : (color : Color) (times n : ℕ) → n < 64 → (bits : Bits) × Spells color (64 * times + n) bits
+run_spelled color zero n lt = let word = terminating_word color n lt in
+    (word.0, subst (λ (m : ℕ). Spells color m word.0) (let e : n ≡ 64 * zero + n = omega arith in e) (Spells.terminating n word.0 word.1 lt))
+run_spelled color (suc times) n lt =
+    let rest = run_spelled color times n lt in
+    let word = makeup_word color in (
+      word.0 ++ rest.0,
+      subst (λ (m : ℕ). Spells color m (word.0 ++ rest.0)) (let e : 64 + (64 * times + n) ≡ 64 * suc times + n = omega arith in e)
+          (Spells.makeup 64 word.0 word.1 (omega arith) rest.1),
+    )
+
+-- a run of any length is spelled by make-up words of 64 and a terminating word
+pub every_run_spelled : (color : Color) (n : ℕ) → (bits : Bits) × Spells color n bits
+every_run_spelled color n = subst (λ (m : ℕ). (bits : Bits) × Spells color m bits) (let e : 64 * (n / 64) + n % 64 ≡ n = omega arith in e)
+    (run_spelled color (n / 64) (n % 64) (omega arith))
+
+-- ---- One-dimensional lines.
+pixel_or : (color : Color) (pixel : Bool) → (pixel ≡ is_black color) ⊎ (pixel ≡ is_black (opposite color))
+pixel_or White false = inl refl
+pixel_or White true = inr refl
+pixel_or Black false = inr refl
+pixel_or Black true = inl refl
+
+colors_differ : (color : Color) → is_black (opposite color) ≡ is_black color → ⊥
+colors_differ White e = false≢true (sym e)
+colors_differ Black e = false≢true e
+
+replicate-push : (n : ℕ) (pixel : Bool) (row : Row) → replicate n pixel ++ (pixel ∷ row) ≡ replicate (suc n) pixel ++ row
+replicate-push zero pixel row = refl
+replicate-push (suc n) pixel row = ap (λ (r : Row). pixel ∷ r) (replicate-push n pixel row)
+
+-- a row that begins with some pixels of a colour
+line_1d_exists : (color : Color) (n : ℕ) (row : Row) → 0 < n + length row → (bits : Bits) × EncodesLine1D color (replicate n (is_black color) ++ row) bits
+line_1d_exists color n [] some =
+    let run = every_run_spelled color n in
+    (run.0 ++ [], EncodesLine1D.run n run.0 run.1 some (λ rest e. absurd cc) EncodesLine1D.over)
+line_1d_exists color n (pixel ∷ row) some = elim (pixel_or color pixel) [
+  | inl same ↦
+      let longer = line_1d_exists color (suc n) row (omega arith) in
+      let is : replicate (suc n) (is_black color) ++ row ≡ replicate n (is_black color) ++ (pixel ∷ row) = sym (replicate-push n (is_black color) row)
+      ∙ ap (λ (p : Bool). replicate n (is_black color) ++ (p ∷ row)) (sym same) in
+      (longer.0, subst (λ (r : Row). EncodesLine1D color r longer.0) is longer.1)
+  | inr other ↦
+      let run = every_run_spelled color n in
+      let next = line_1d_exists (opposite color) 1 row (omega arith) in
+      let is : is_black (opposite color) ∷ row ≡ pixel ∷ row = ap (λ (p : Bool). p ∷ row) (sym other) in (
+        run.0 ++ next.0,
+        EncodesLine1D.run n run.0 run.1 some
+            (λ rest e. colors_differ color (sym other ∙ (let heads : pixel ≡ is_black color = cc in heads)))
+            (subst (λ (r : Row). EncodesLine1D (opposite color) r next.0) is next.1),
+      )
+]
+
+-- ---- Two-dimensional lines, by horizontal modes alone.
+line_2d_over : (reference row : Row) (from : ℕ) (color : Color) → from ≡ suc (length row) → (bits : Bits) × EncodesLine2D reference row from color bits
+line_2d_over reference row from color e = ([], subst (λ (n : ℕ). EncodesLine2D reference row n color []) (sym e) EncodesLine2D.over)
+
+line_2d_exists : (turns : ℕ) (reference row : Row) (from : ℕ) (color : Color) → from ≤ suc (length row) → suc (length row) ≤ from + turns
+    → (bits : Bits) × EncodesLine2D reference row from color bits
+line_2d_exists zero reference row from color le enough = line_2d_over reference row from color (omega arith)
+line_2d_exists (suc turns) reference row from color le enough = elim (cases_lt (length row) from) [
+  | inl past ↦ line_2d_over reference row from color (omega arith)
+  | inr inside ↦
+      let word : Bits = false ∷ false ∷ true ∷ [] in
+      let above = (a1_next row from).above inside in
+      let within = (a2_next row from).within in
+      let least = a2_least row from in
+      let first = every_run_spelled color (a1 row from - (from - 1)) in
+      let second = every_run_spelled (opposite color) (a2 row from - a1 row from) in
+      let rest = line_2d_exists turns reference row (suc (a2 row from)) color (omega arith) (omega arith) in
+      (word ++ (first.0 ++ (second.0 ++ rest.0)), EncodesLine2D.horizontal from word inside (inr (inl (refl, refl))) first.1 second.1 rest.1)
+]
+
+white_line_exists : (row : Row) → 0 < length row → (bits : Bits) × EncodesLine1D White row bits
+white_line_exists row some = line_1d_exists White 0 row (omega arith)
+
+line_exists : (encoding : EncodingMode) (reference row : Row) → 0 < length row → (bits : Bits) × EncodesLine encoding reference row bits
+line_exists Group4 reference row some = line_2d_exists (suc (length row)) reference row 0 White (omega arith) (omega arith)
+line_exists Group3_1D reference row some = white_line_exists row some
+line_exists Group3_2D reference row some = let line = white_line_exists row some in (true ∷ line.0, (line.0, inl (refl, line.1)))
+
+-- ---- Pictures.
+module _ (columns : ℕ) (wide : 0 < columns) where
+  rows_exist : (encoding : EncodingMode) (aligned : Bool) (reference : Row) (rows : List Row) → All (λ row. length row ≡ columns) rows → (bits : Bits)
+      × EncodesRows encoding aligned reference rows bits
+  rows_exist encoding aligned reference [] widths = ([], refl)
+  rows_exist encoding aligned reference (row ∷ rows) widths =
+      let width : length row ≡ columns = All-head (λ row. length row ≡ columns) row rows widths in
+      let line = line_exists encoding reference row (omega arith) in
+      let next = rows_exist encoding aligned row rows (All-tail (λ row. length row ≡ columns) row rows widths) in
+      (line.0 ++ (cond aligned (padding (length line.0)) []) ++ next.0, (line.0, next.0, line.1, next.1, refl))
+
+  lines_exist : (encoding : EncodingMode) (reference : Row) (rows : List Row) → All (λ row. length row ≡ columns) rows → (bits : Bits)
+      × EncodesRowsWithEols encoding reference rows bits
+  lines_exist encoding reference [] widths = ([], refl)
+  lines_exist encoding reference (row ∷ rows) widths =
+      let width : length row ≡ columns = All-head (λ row. length row ≡ columns) row rows widths in
+      let line = line_exists encoding reference row (omega arith) in
+      let next = lines_exist encoding row rows (All-tail (λ row. length row ≡ columns) row rows widths) in
+      (eol 0 ++ line.0 ++ next.0, (0, line.0, next.0, line.1, next.1, refl))
+
+closing_exists : (encoding : EncodingMode) (n : ℕ) → (bits : Bits) × ClosesWithEols encoding n bits
+closing_exists encoding zero = ([], refl)
+closing_exists encoding (suc n) = let next = closing_exists encoding n in (eol 0 ++ tag_of encoding ++ next.0, (0, next.0, next.1, refl))
+
+-- the law
+pub every_picture_has_an_encoding : EveryPictureHasAnEncoding
+every_picture_has_an_encoding columns rows is = (
+  λ aligned. let body = rows_exist columns is.0 Group4 aligned (replicate columns false) rows is.1 in
+      (body.0 ++ eol 0 ++ eol 0, (body.0, is, body.1, refl)),
+  λ encoding some.
+      let lines = lines_exist columns is.0 encoding (replicate columns false) rows is.1 in
+      let closing = closing_exists encoding 6 in
+      (lines.0 ++ closing.0, (lines.0, closing.0, some, is, lines.1, closing.1, refl)),
+  λ encoding aligned. rows_exist columns is.0 encoding aligned (replicate columns false) rows is.1,
+)
+
+-- ---- Bytes.
+abbrev digit : Bool → ℕ
+digit true = 1
+digit false = 0
+
+-- the number that bits write
+value : Bits → ℕ
+value [] = 0
+value (bit ∷ bits) = digit bit * 2 ^ length bits + value bits
+
+power_doubles : (n : ℕ) → 2 ^ suc n ≡ 2 * 2 ^ n
+power_doubles n = omega arith
+
+-- it has no more bits
+value_below : (bits : Bits) → value bits < 2 ^ length bits
+unfolding value
+value_below [] = omega arith
+value_below (true ∷ bits) = subst (λ (n : ℕ). 1 * 2 ^ length bits + value bits < n) (sym (power_doubles (length bits))) (omega (arith, value_below bits))
+value_below (false ∷ bits) = subst (λ (n : ℕ). 0 * 2 ^ length bits + value bits < n) (sym (power_doubles (length bits))) (omega (arith, value_below bits))
+
+same_bit : (m n j k : ℕ) → bit_at m j ≡ bit_at n k → bit_of m j ≡ bit_of n k
+same_bit m n j k e = ap (λ (b : ℕ). eqb b 1) e
+
+-- the low bits of a number are those of what it is after a shift
+low_bits_of_low : (width a k b : ℕ) → width ≤ k → low_bits width (a * 2 ^ k + b) ≡ low_bits width b
+low_bits_of_low zero a k b le = refl
+low_bits_of_low (suc width) a k b le =
+    let one : bit_of (a * 2 ^ k + b) width ≡ bit_of b width = same_bit (a * 2 ^ k + b) b width width (bit_at_cat_low a k b width (omega arith)) in
+    let rest = low_bits_of_low width a k b (omega arith) in
+    cc
+
+digit_bit : (bit : Bool) → bit_of (digit bit) 0 ≡ bit
+digit_bit true = refl
+digit_bit false = refl
+
+-- the bits of the number that bits write
+low_bits_value : (bits : Bits) → low_bits (length bits) (value bits) ≡ bits
+unfolding value
+low_bits_value [] = refl
+low_bits_value (bit ∷ bits) =
+    let n : ℕ = length bits in
+    let none : n - n ≡ 0 = omega arith in
+    let one : bit_of (digit bit * 2 ^ n + value bits) n ≡ bit
+    = same_bit (digit bit * 2 ^ n + value bits) (digit bit) n (n - n) (bit_at_cat_high (digit bit) n (value bits) n (value_below bits) (omega arith))
+    ∙ ap (bit_of (digit bit)) none ∙ digit_bit bit in
+    let rest : low_bits n (digit bit * 2 ^ n + value bits) ≡ bits = low_bits_of_low n (digit bit) n (value bits) (omega arith) ∙ low_bits_value bits in
+    cc
+
+-- the first bits, so many of them
+cut : (n : ℕ) (bits : Bits) → n ≤ length bits → (front rest : Bits) × (bits ≡ front ++ rest) × (length front ≡ n)
+cut zero bits le = ([], bits, refl, refl)
+cut (suc n) [] le = absurd (omega arith)
+cut (suc n) (bit ∷ bits) le = let f = cut n bits (omega arith) in (bit ∷ f.0, f.1, ap (λ (b : Bits). bit ∷ b) f.2, ap suc f.3)
+
+-- the byte whose bits these are
+byte_of : (front : Bits) → length front ≡ 8 → bits_of_byte (value front) ≡ front
+byte_of front eight = subst (λ (n : ℕ). low_bits n (value front) ≡ front) eight (low_bits_value front)
+
+-- one byte more
+bits_more : (front rest bits : Bits) (byte : ℕ) (bytes : List ℕ) → bits_of_byte byte ≡ front → bits_of bytes ≡ rest → bits ≡ front ++ rest
+    → bits_of (byte ∷ bytes) ≡ bits
+bits_more front rest bits byte bytes one more is = ap (λ (b : Bits). b ++ bits_of bytes) one ∙ ap (λ (b : Bits). front ++ b) more ∙ sym is
+
+bytes_of : (n : ℕ) (bits : Bits) → length bits ≡ 8 * n → (bytes : List ℕ) × All (λ byte. byte < 256) bytes × (bits_of bytes ≡ bits)
+bytes_of zero [] e = ([], (λ k d lt. absurd (omega arith)), refl)
+bytes_of zero (bit ∷ bits) e = absurd (omega arith)
+bytes_of (suc n) bits e =
+    let f = cut 8 bits (omega (arith, e)) in
+    let on = bytes_of n f.1 (omega (arith, e, ap length f.2, length-append f.0 f.1, f.3)) in
+    let small : value f.0 < 256 = subst (λ (k : ℕ). value f.0 < 2 ^ k) f.3 (value_below f.0) in
+    (value f.0 ∷ on.0, All-cons (λ byte. byte < 256) (value f.0) on.0 small on.1, bits_more f.0 f.1 bits (value f.0) on.0 (byte_of f.0 f.3) on.2 f.2)
+
+-- the law
+pub bytes_begin_with_any_bits : BytesBeginWithAnyBits
+bytes_begin_with_any_bits bits =
+    let missing : ℕ = 7 - (length bits + 7) % 8 in
+    let more : Bits = replicate missing false in
+    let whole = bytes_of ((length bits + 7) / 8) (bits ++ more) (omega (arith, length-append bits more, length-replicate missing false)) in
+    (whole.0, whole.1, (more, whole.2))

@@ -1,0 +1,5 @@
+pub mod ChangePlaces
+pub mod ChangesAndPixels
+pub mod Painting
+pub mod ReferencePlaces
+pub mod RowChanges

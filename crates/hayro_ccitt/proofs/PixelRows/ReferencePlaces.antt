@@ -1,0 +1,436 @@
+-- b1 and b2 among the changes that a reference row is made of.
+use Rattle.std.proofs.Common.{◌≡◌, ℕ, zero, suc, ◌+◌, ◌-◌, ◌%◌, ◌<◌, ◌≤◌, ◌⊎◌, ◌↔◌, Bool, true, false, not, ◌&&◌, ltb, leb, List, [], ◌∷◌, length, get_or, replicate, refl, sym, ap, ◌∙◌, arith, inl, inr}
+use mathlib.Core.Bool.{beq}
+use Rattle.std.proofs.Math.Bool.{and-false}
+use Rattle.std.specs.Bool.{IsTrue}
+use Rattle.std.proofs.lemmas.Bool.{lt-ltb, le-leb, le-ltb, lt-leb, false≢true, cases_lt, cases_eq}
+use Rattle.std.proofs.lemmas.List.{length-replicate, get_or-replicate, get_or_append_left, get_or-append_right, get_or_past}
+use Rattle.std.proofs.lemmas.Grind.{get_or_default_zero}
+use Rattle.hayro_ccitt.specs.declared.codes.Color.{Color}
+use Rattle.hayro_ccitt.specs.declared.codes.Color.TheVariants.{White, Black}
+use Rattle.hayro_ccitt.specs.Rows.{Row, AscendFrom, AreChanges, pixels_from, pixels, pixel, pixel_before, is_change, is_black, right_of, least_below, b1, b2}
+use Rattle.hayro_ccitt.specs.Context.{right_of_painted}
+use Rattle.hayro_ccitt.proofs.PixelRows.ChangePlaces.{IsLeast, is_least, b2_above}
+use Rattle.hayro_ccitt.proofs.PixelRows.ChangesAndPixels.{length-pixels}
+
+-- there is one least place
+least_unique : (bound : ℕ) (test : ℕ → Bool) (p q : ℕ) → IsLeast 0 bound test p → IsLeast 0 bound test q → p ≡ q
+least_unique bound test p q u v =
+    let up : p ≤ bound = u.within in
+    let vp : q ≤ bound = v.within in
+    elim (cases_lt p q) [
+      | inl lt ↦ absurd (false≢true (sym (v.before p (omega arith) lt) ∙ u.there (omega arith)))
+      | inr ge ↦ elim (cases_lt q p) [
+        | inl lt ↦ absurd (false≢true (sym (u.before q (omega arith) lt) ∙ v.there (omega arith)))
+        | inr le ↦ omega arith
+      ]
+    ]
+
+-- ---- The colour after so many changes.
+-- a colour that is turned so often
+abbrev pub turned : ℕ → Bool → Bool
+turned zero color = color
+turned (suc n) color = turned n (not color)
+
+-- to turn first is to turn last
+turned-not : (n : ℕ) (color : Bool) → turned n (not color) ≡ not (turned n color)
+turned-not zero color = refl
+turned-not (suc n) color = turned-not n (not color)
+
+-- an even number of changes keeps the colour, and an odd one turns it
+pub turned_by_parity : (n : ℕ) → (n % 2 ≡ 0 → turned n false ≡ false) × (n % 2 ≡ 1 → turned n false ≡ true)
+turned_by_parity zero = (λ e. refl, λ e. absurd (omega arith))
+turned_by_parity (suc n) =
+    let before = turned_by_parity n in
+    (λ e. turned-not n false ∙ ap not (before.1 (omega arith)), λ e. turned-not n false ∙ ap not (before.0 (omega arith)))
+
+-- ---- Where a place stands among changes.
+-- the first j of the changes, and no other, are left of a place
+pub record IsSplit (places : List ℕ) (p j : ℕ) : Type 0 where
+  pub within : j ≤ length places
+  pub before : (k : ℕ) → k < j → get_or places k 0 < p
+  pub here : j < length places → p ≤ get_or places j 0
+
+-- each place stands somewhere among them
+split_of : (places : List ℕ) (p : ℕ) → (j : ℕ) × IsSplit places p j
+split_of [] p = (0, record { within = omega arith; before = λ k lt. absurd (omega arith); here = λ lt. absurd (omega arith) })
+split_of (place ∷ places) p = elim (cases_lt place p) [
+  | inl lt ↦ (let rest = split_of places p in (suc rest.0, split_later place places p rest.0 lt rest.1))
+  | inr ge ↦ (0, record { within = omega arith; before = λ k l. absurd (omega arith); here = λ l. ge })
+]
+  where
+    split_later : (place : ℕ) (places : List ℕ) (p j : ℕ) → place < p → IsSplit places p j → IsSplit (place ∷ places) p (suc j)
+    split_later place places p j lt split =
+        let within : j ≤ length places = split.within in
+        record { within = omega arith; before = earlier; here = λ l. split.here (omega arith) }
+      where
+        earlier : (k : ℕ) → k < suc j → get_or (place ∷ places) k 0 < p
+        earlier zero l = lt
+        earlier (suc k) l = split.before k (omega arith)
+
+-- ---- Ascending places.
+-- ascending places are from the first one on, and below the width
+ascend_bounds : (first width : ℕ) (places : List ℕ) → AscendFrom first width places
+    → (j : ℕ) → j < length places → (first ≤ get_or places j 0) × (get_or places j 0 < width)
+ascend_bounds first width [] ascend j lt = absurd (omega arith)
+ascend_bounds first width (place ∷ places) ascend zero lt = (ascend.0, ascend.1)
+ascend_bounds first width (place ∷ places) ascend (suc j) lt =
+    let rest = ascend_bounds (suc place) width places ascend.2 j (omega arith) in
+    (omega (arith, ascend.0, rest.0), rest.1)
+
+-- and of two of them the later one is greater
+ascend_order : (first width : ℕ) (places : List ℕ) → AscendFrom first width places
+    → (j k : ℕ) → j < k → k < length places → get_or places j 0 < get_or places k 0
+ascend_order first width [] ascend j k lt l = absurd (omega arith)
+ascend_order first width (place ∷ places) ascend j zero lt l = absurd (omega arith)
+ascend_order first width (place ∷ places) ascend zero (suc k) lt l = omega (arith, (ascend_bounds (suc place) width places ascend.2 k (omega arith)).0)
+ascend_order first width (place ∷ places) ascend (suc j) (suc k) lt l = ascend_order (suc place) width places ascend.2 j k (omega arith) (omega arith)
+
+-- ---- The pixels between ascending places.
+-- a pixel has the colour that the changes up to it give
+pixels_from-pixel : (place first : ℕ) (color : Bool) (width : ℕ) (places : List ℕ) (p j : ℕ) → AscendFrom first width places
+    → place ≤ first → place ≤ p → p < width → IsSplit places (suc p) j → get_or (pixels_from place color width places) (p - place) false ≡ turned j color
+pixels_from-pixel place first color width [] p zero ascend le lep lt split = get_or-replicate (width - place) (p - place) color false (omega arith)
+pixels_from-pixel place first color width [] p (suc j) ascend le lep lt split = absurd (omega (arith, split.within))
+pixels_from-pixel place first color width (change ∷ places) p zero ascend le lep lt split =
+    let left : p < change = split.here (omega arith) in
+    let run : length (replicate (change - place) color) ≡ change - place = length-replicate (change - place) color in
+    get_or_append_left (replicate (change - place) color) (pixels_from change (not color) width places) false (p - place) (omega arith)
+    ∙ get_or-replicate (change - place) (p - place) color false (omega arith)
+pixels_from-pixel place first color width (change ∷ places) p (suc j) ascend le lep lt split =
+    let here : change < suc p = split.before 0 (omega arith) in
+    let left : place ≤ change = omega (arith, ascend.0) in
+    let run : length (replicate (change - place) color) ≡ change - place = length-replicate (change - place) color in
+    let within : suc j ≤ suc (length places) = split.within in
+    let rest : IsSplit places (suc p) j = record {
+      within = omega arith;
+      before = λ k l. split.before (suc k) (omega arith);
+      here = λ l. split.here (omega arith);
+    } in
+    let e : p - place - (change - place) ≡ p - change = omega arith in
+    get_or-append_right (replicate (change - place) color) (pixels_from change (not color) width places) (change - place) (p - place) false run (omega arith)
+    ∙ ap (λ (n : ℕ). get_or (pixels_from change (not color) width places) n false) e
+    ∙ pixels_from-pixel change (suc change) (not color) width places p j ascend.2 (omega arith) (omega arith) lt rest
+
+-- ---- The changing elements of a row of pixels.
+same_beq : (b : Bool) → beq b b ≡ true
+same_beq true = refl
+same_beq false = refl
+
+other_beq : (b : Bool) → beq b (not b) ≡ false
+other_beq true = refl
+other_beq false = refl
+
+beq_other : (b : Bool) → beq (not b) b ≡ false
+beq_other true = refl
+beq_other false = refl
+
+module _ (columns : ℕ) (places : List ℕ) (ascend : AreChanges columns places) where
+  abbrev row : Row
+  row = pixels columns places
+
+  -- the change of an index, or the row's end where there is none
+  abbrev change : ℕ → ℕ
+  change index = get_or places index columns
+
+  -- the tests of b1, and of b2 where b1 is given
+  abbrev is_b1 : ℕ → Color → ℕ → Bool
+  is_b1 from color p = leb from p && is_change row p && beq (pixel_before row p) (is_black color)
+
+  abbrev is_right_of : ℕ → ℕ → Bool
+  is_right_of left p = ltb left p && is_change row p
+
+  -- the row has its width
+  pub row_length : length row ≡ columns
+  row_length = length-pixels columns places ascend
+
+  -- a pixel is turned by the changes up to it
+  pixel_is : (p j : ℕ) → p < columns → IsSplit places (suc p) j → pixel row p ≡ turned j false
+  pixel_is p j lt split =
+      let e : p - 0 ≡ p = omega arith in
+      ap (λ (n : ℕ). pixel row n) (sym e) ∙ pixels_from-pixel 0 0 false columns places p j ascend (omega arith) (omega arith) lt split
+
+  -- and the pixel before a place by those left of it
+  before_is : (p j : ℕ) → p ≤ columns → IsSplit places p j → pixel_before row p ≡ turned j false
+  before_is zero zero le split = refl
+  before_is zero (suc j) le split = absurd (omega (arith, split.before 0 (omega arith)))
+  before_is (suc p) j le split = pixel_is p j (omega arith) split
+
+  order : (j k : ℕ) → j < k → k < length places → get_or places j 0 < get_or places k 0
+  order = ascend_order 0 columns places ascend
+
+  below : (j : ℕ) → j < length places → get_or places j 0 < columns
+  below j lt = (ascend_bounds 0 columns places ascend j lt).1
+
+  -- so many changes are left of each of them
+  split_at : (j : ℕ) → j < length places → IsSplit places (get_or places j 0) j
+  split_at j lt = record { within = omega arith; before = λ k l. order k j l lt; here = λ l. omega arith }
+
+  -- and one more left of the place right of it
+  split_after : (j : ℕ) → j < length places → IsSplit places (suc (get_or places j 0)) (suc j)
+  split_after j lt = record { within = omega arith; before = earlier; here = λ l. order j (suc j) (omega arith) l }
+    where
+      earlier : (k : ℕ) → k < suc j → get_or places k 0 < suc (get_or places j 0)
+      earlier k l = elim (cases_eq k j) [ inl same ↦ rw same (omega arith) | inr other ↦ omega (arith, order k j (omega arith) lt) ]
+
+  -- each of the places is a changing element
+  change_there : (j : ℕ) → j < length places → is_change row (get_or places j 0) ≡ true
+  change_there j lt =
+      let p : ℕ = get_or places j 0 in
+      let left : get_or places j 0 < columns = below j lt in
+      let u = before_is p j (omega arith) (split_at j lt) in
+      let v = pixel_is p (suc j) left (split_after j lt) ∙ turned-not j false in
+      rw (u, v) (ap not (other_beq (turned j false)))
+
+  -- no other place is
+  change_none : (p j : ℕ) → p < columns → IsSplit places p j → (j < length places → p < get_or places j 0) → is_change row p ≡ false
+  change_none p j lt split left =
+      let within : j ≤ length places = split.within in
+      let next : IsSplit places (suc p) j = record { within = omega arith; before = λ k l. omega (arith, split.before k l); here = left } in
+      let u = before_is p j (omega arith) split in
+      let v = pixel_is p j lt next in
+      rw (u, v) (ap not (same_beq (turned j false)))
+
+  -- a place of the row is no change, or it is one of the places
+  change_or_none : (p j : ℕ) → p < columns → IsSplit places p j → (is_change row p ≡ false) ⊎ ((j < length places) × (get_or places j 0 ≡ p))
+  change_or_none p j lt split = elim (cases_lt j (length places)) [
+    | inl in_list ↦ elim (cases_eq (get_or places j 0) p) [
+      | inl same ↦ inr (in_list, same)
+      | inr other ↦ inl (change_none p j lt split (λ l. omega (arith, split.here l)))
+    ]
+    | inr past ↦ inl (change_none p j lt split (λ l. absurd (omega arith)))
+  ]
+
+  -- the change of an index, or the row's end, is at most the row's end; left of it, it is in the list
+  end_within : (j : ℕ) → change j ≤ columns
+  end_within j = elim (cases_lt j (length places)) [
+    | inl lt ↦ omega (arith, get_or_default_zero places j columns lt, below j lt)
+    | inr ge ↦ omega (arith, get_or_past places j columns ge)
+  ]
+
+  in_list_if_below : (j : ℕ) → change j < columns → j < length places
+  in_list_if_below j lt = elim (cases_lt j (length places)) [
+    | inl l ↦ l
+    | inr ge ↦ absurd (omega (arith, get_or_past places j columns ge))
+  ]
+
+  -- a change left of the one at an index has a lesser index
+  less_if_left : (j k : ℕ) → j < length places → get_or places j 0 < change k → j < k
+  less_if_left j k lt left = elim (cases_lt j k) [
+    | inl l ↦ l
+    | inr ge ↦ elim (cases_eq j k) [
+      | inl same ↦ absurd (let e : change k ≡ get_or places j 0 = get_or_default_zero places k columns (omega arith) ∙ ap (λ (n : ℕ). get_or places n 0) (sym same) in omega arith)
+      | inr other ↦ absurd (omega (arith, get_or_default_zero places k columns (omega arith), order k j (omega arith) lt))
+    ]
+  ]
+
+  -- the next change after the one at an index is the one at the next index
+  pub next_change : (index : ℕ) → least_below (length row) (is_right_of (change index)) ≡ change (suc index)
+  next_change index = least_unique (length row) (is_right_of (change index)) _ _ (is_least _ _) (record {
+    above = omega arith;
+    within = omega (arith, row_length, end_within (suc index));
+    before = λ p _ lt. none_before p lt;
+    there = λ lt. there (in_list_if_below (suc index) (omega (arith, row_length)));
+  })
+    where
+      there : suc index < length places → (is_right_of (change index) (change (suc index))) ≡ true
+      there lt =
+          let e : change index ≡ get_or places index 0 = get_or_default_zero places index columns (omega arith) in
+          let f : change (suc index) ≡ get_or places (suc index) 0 = get_or_default_zero places (suc index) columns lt in
+          let right : ltb (get_or places index 0) (get_or places (suc index) 0) ≡ true = lt-ltb _ _ (order index (suc index) (omega arith) lt) in
+          rw (e, f, right) (change_there (suc index) lt)
+
+      none_by : (p : ℕ) → p < change (suc index) → change index < p → is_change row p ≡ false
+      none_by p lt left =
+          let split = split_of places p in
+          let end : change (suc index) ≤ columns = end_within (suc index) in
+          let in_list : index < length places = in_list_if_below index (omega arith) in
+          let e : change index ≡ get_or places index 0 = get_or_default_zero places index columns in_list in
+          elim (change_or_none p split.0 (omega arith) split.1) [
+            | inl none ↦ none
+            | inr at ↦ absurd (impossible split.0 at.0 at.1 in_list (omega arith))
+          ]
+        where
+          impossible : (j : ℕ) → j < length places → get_or places j 0 ≡ p → index < length places → get_or places index 0 < p → ⊥
+          impossible j jn same lt_index less =
+              let before : j < suc index = less_if_left j (suc index) jn (omega arith) in
+              let after : index < j = less_if_left index j lt_index (omega (arith, get_or_default_zero places j columns jn)) in
+              omega arith
+
+      none_before : (p : ℕ) → p < change (suc index) → is_right_of (change index) p ≡ false
+      none_before p lt = elim (cases_lt (change index) p) [
+        | inl left ↦ rw (none_by p lt left) (and-false _)
+        | inr ge ↦ rw (le-ltb _ _ ge) refl
+      ]
+
+  -- a1 is the change of the first index right of a0
+  pub a1_is : (from first : ℕ) → IsSplit places from first → least_below (length row) (λ p. leb from p && is_change row p) ≡ change first
+  a1_is from first split = least_unique (length row) (λ p. leb from p && is_change row p) _ _ (is_least _ _) (record {
+    above = omega arith;
+    within = omega (arith, row_length, end_within first);
+    before = λ p _ lt. none_before p lt;
+    there = λ lt. there (in_list_if_below first (omega (arith, row_length)));
+  })
+    where
+      there : first < length places → (leb from (change first) && is_change row (change first)) ≡ true
+      there lt =
+          let e : change first ≡ get_or places first 0 = get_or_default_zero places first columns lt in
+          let right : leb from (get_or places first 0) ≡ true = le-leb _ _ (split.here lt) in
+          rw (e, right) (change_there first lt)
+
+      none_by : (p : ℕ) → p < change first → from ≤ p → is_change row p ≡ false
+      none_by p lt le =
+          let split_p = split_of places p in
+          let end : change first ≤ columns = end_within first in
+          elim (change_or_none p split_p.0 (omega arith) split_p.1) [
+            | inl none ↦ none
+            | inr at ↦ absurd (omega (arith, at.1, split.before split_p.0 (less_if_left split_p.0 first at.0 (omega (arith, at.1)))))
+          ]
+
+      none_before : (p : ℕ) → p < change first → (leb from p && is_change row p) ≡ false
+      none_before p lt = elim (cases_lt p from) [
+        | inl left ↦ rw (lt-leb _ _ left) refl
+        | inr ge ↦ rw (le-leb _ _ ge) (none_by p lt ge)
+      ]
+
+  -- b1 is the change of the first index right of a0, or of the one after it where the first turns the other way
+  b1_is : (from first index : ℕ) (color : Color) → IsSplit places from first → turned index false ≡ is_black color
+      → (index ≡ first) ⊎ ((index ≡ suc first) × (turned first false ≡ not (is_black color)))
+      → b1 row from color ≡ change index
+  b1_is from first index color split colored reach = least_unique (length row) (is_b1 from color) _ _ (is_least _ _) (record {
+    above = omega arith;
+    within = omega (arith, row_length, end_within index);
+    before = λ p _ lt. none_before p lt;
+    there = λ lt. there (in_list_if_below index (omega (arith, row_length)));
+  })
+    where
+      first_le : first ≤ index
+      first_le = elim reach [ inl same ↦ omega arith | inr next ↦ omega (arith, next.0) ]
+
+      there : index < length places → is_b1 from color (change index) ≡ true
+      there lt =
+          let e : change index ≡ get_or places index 0 = get_or_default_zero places index columns lt in
+          let right : leb from (get_or places index 0) ≡ true = le-leb _ _ (right_of_first lt) in
+          let u = before_is (get_or places index 0) index (omega (arith, below index lt)) (split_at index lt) ∙ colored in
+          rw (e, right, change_there index lt, u) (same_beq (is_black color))
+        where
+          right_of_first : index < length places → from ≤ get_or places index 0
+          right_of_first lt = elim (cases_eq first index) [
+            | inl same ↦ rw same at (split.here (omega (arith, first_le)))
+            | inr other ↦ omega (arith, first_le, split.here (omega (arith, first_le)), order first index (omega (arith, first_le)) lt)
+          ]
+
+      -- a change that is left of it, and not left of a0, turns the other way
+      wrong_color : (j : ℕ) → first ≤ j → j < index → turned j false ≡ not (is_black color)
+      wrong_color j le lt = elim reach [
+        | inl same ↦ absurd (omega arith)
+        | inr next ↦ let e : j ≡ first = omega (arith, next.0) in rw e next.1
+      ]
+
+      none_by : (p : ℕ) → p < change index → from ≤ p → (is_change row p && beq (pixel_before row p) (is_black color)) ≡ false
+      none_by p lt le =
+          let split_p = split_of places p in
+          let end : change index ≤ columns = end_within index in
+          elim (change_or_none p split_p.0 (omega arith) split_p.1) [
+            | inl none ↦ rw none refl
+            | inr at ↦ (
+                let u = before_is p split_p.0 (omega arith) split_p.1 ∙ wrong_color split_p.0 (first_before split_p.0 at.0 at.1) (less_if_left split_p.0 index at.0 (omega (arith, at.1))) in
+                rw (u, beq_other (is_black color)) (and-false _))
+          ]
+        where
+          first_before : (j : ℕ) → j < length places → get_or places j 0 ≡ p → first ≤ j
+          first_before j jn same = elim (cases_lt j first) [ inl l ↦ absurd (omega (arith, split.before j l)) | inr ge ↦ ge ]
+
+      none_before : (p : ℕ) → p < change index → is_b1 from color p ≡ false
+      none_before p lt = elim (cases_lt p from) [
+        | inl left ↦ rw (lt-leb _ _ left) refl
+        | inr ge ↦ rw (le-leb _ _ ge) (none_by p lt ge)
+      ]
+
+-- ---- The index of b1 as code finds it.
+-- a0 is where the front ends
+pub right_of-pixels : (painted : ℕ) (places : List ℕ) → AreChanges painted places → right_of (pixels painted places) ≡ right_of_painted painted
+right_of-pixels painted places ascend = by_length (pixels painted places) painted (row_length painted places ascend)
+  where
+    by_length : (front : Row) (n : ℕ) → length front ≡ n → right_of front ≡ right_of_painted n
+    by_length [] zero e = refl
+    by_length [] (suc n) e = absurd (omega arith)
+    by_length (p ∷ front) zero e = absurd (omega arith)
+    by_length (p ∷ front) (suc n) e = let u : length front ≡ n = omega arith in rw u refl
+
+-- the changes that are at most at a0, while some pixel is painted
+pub IsSplit-painted : (places : List ℕ) (painted j : ℕ) → 0 < painted → j ≤ length places
+    → ((k : ℕ) → k < j → get_or places k 0 ≤ painted) → (j < length places → painted < get_or places j 0) → IsSplit places (right_of_painted painted) j
+IsSplit-painted places zero j some within left here = absurd (omega arith)
+IsSplit-painted places (suc painted) j some within left here =
+    record { within = within; before = λ k l. omega (arith, left k l); here = λ l. omega (arith, here l) }
+
+-- while none is, a0 is left of them all
+pub IsSplit-none : (places : List ℕ) (painted : ℕ) → painted ≤ 0 → IsSplit places (right_of_painted painted) 0
+IsSplit-none places zero none = record { within = omega arith; before = λ k l. absurd (omega arith); here = λ l. omega arith }
+IsSplit-none places (suc painted) none = absurd (omega arith)
+
+-- b2 is the change after b1
+pub b2_after_b1 : (columns : ℕ) (places : List ℕ) (from index : ℕ) (color : Color) → AreChanges columns places
+    → b1 (pixels columns places) from color ≡ get_or places index columns → b2 (pixels columns places) from color ≡ get_or places (index + 1) columns
+b2_after_b1 columns places from index color ascend e =
+    ap (λ (b : ℕ). least_below (length (pixels columns places)) (λ p. ltb b p && is_change (pixels columns places) p)) e
+    ∙ next_change columns places ascend index
+    ∙ ap (λ (n : ℕ). get_or places n columns) (let s : suc index ≡ index + 1 = omega arith in s)
+
+-- what a colour and the parity of an index tell
+black_from_white : (color : Color) (white : Bool) → IsTrue white ↔ (color ≡ White) → is_black color ≡ not white
+black_from_white White true h = refl
+black_from_white White false h = h.1 refl
+black_from_white Black true h = absurd (let e : Black ≡ White = h.0 refl in cc)
+black_from_white Black false h = refl
+
+turned_from_even : (n : ℕ) (even : Bool) → IsTrue even ↔ (n % 2 ≡ 0) → turned n false ≡ not even
+turned_from_even n true h = (turned_by_parity n).0 (h.0 refl)
+turned_from_even n false h = elim (cases_eq (n % 2) 0) [
+  | inl none ↦ absurd (false≢true (h.1 none))
+  | inr some ↦ (turned_by_parity n).1 (omega arith)
+]
+
+same_from : (even white : Bool) → not (beq even white) ≡ false → not even ≡ not white
+same_from true true e = refl
+same_from false false e = refl
+same_from true false e = absurd (false≢true (sym e))
+same_from false true e = absurd (false≢true (sym e))
+
+other_from : (even white : Bool) → not (beq even white) ≡ true → not even ≡ not (not white)
+other_from true false e = refl
+other_from false true e = refl
+other_from true true e = absurd (false≢true e)
+other_from false false e = absurd (false≢true e)
+
+not_not : (b : Bool) → not (not b) ≡ b
+not_not true = refl
+not_not false = refl
+
+module _ (columns : ℕ) (places : List ℕ) (from first : ℕ) (color : Color) (even white : Bool) (ascend : AreChanges columns places) (split : IsSplit places from first)
+    (parity : IsTrue even ↔ (first % 2 ≡ 0)) (whiteness : IsTrue white ↔ (color ≡ White)) where
+  -- the first change right of a0 is b1, where it turns the colour to the other one
+  pub b1_first : not (beq even white) ≡ false → b1 (pixels columns places) from color ≡ get_or places first columns
+  b1_first same =
+      let turns : turned first false ≡ is_black color = turned_from_even first even parity ∙ same_from even white same ∙ sym (black_from_white color white whiteness) in
+      b1_is columns places ascend from first first color split turns (inl refl)
+
+  -- and else the next one is
+  pub b1_second : not (beq even white) ≡ true → b1 (pixels columns places) from color ≡ get_or places (first + 1) columns
+  b1_second other =
+      let stays : turned first false ≡ not (is_black color) = turned_from_even first even parity ∙ other_from even white other ∙ ap not (sym (black_from_white color white whiteness)) in
+      let turns : turned (suc first) false ≡ is_black color = turned-not first false ∙ ap not stays ∙ not_not (is_black color) in
+      let next : first + 1 ≡ suc first = omega arith in
+      rw next (b1_is columns places ascend from first (suc first) color split turns (inr (refl, stays)))
+
+-- b2 is not left of where the front ends
+pub b2_from_front : (reference front : Row) (color : Color) → length front ≤ length reference → length front ≤ b2 reference (right_of front) color
+b2_from_front reference front color within = elim (cases_lt (b2 reference (right_of front) color) (length reference)) [
+  | inl lt ↦ (let sides = b2_above reference (right_of front) color lt in omega (arith, sides.0, sides.1, right_of_least front))
+  | inr ge ↦ omega arith
+]
+  where
+    right_of_least : (front : Row) → length front ≤ right_of front
+    right_of_least [] = omega arith
+    right_of_least (p ∷ front) = omega arith

@@ -1,0 +1,233 @@
+-- A limit of rows cuts what comes without one.
+use Rattle.std.proofs.Common.{◌≡◌, ℕ, suc, ◌-◌, ◌<◌, ◌≤◌, Bool, true, false, cond, not, ◌&&◌, ◌||◌, eqb, ltb, leb, List, [], ◌∷◌, ◌++◌, length, take}
+use Rattle.std.proofs.Common.{replicate, Option, Some, None, Result, Ok, Err, refl, sym, ap, subst, ◌∙◌, arith, inl, inr}
+use Rattle.std.specs.Prelude.{IsOk}
+use Rattle.std.proofs.lemmas.List.{append-nil, length-append, take_all, take-append-le}
+use Rattle.std.proofs.lemmas.Bool.{cases_eq, false≢true, and_left, and_right, and_from, or_left, or_right, eq-eqb, ne_eqb, not_from_true}
+use Rattle.std.proofs.lemmas.Bool.{not_from_false, cond-true, cond-false, cases_lt}
+use Rattle.hayro_ccitt.specs.declared.error.DecodeError.{DecodeError}
+use Rattle.hayro_ccitt.specs.declared.error.DecodeError.TheVariants.{UnexpectedEof}
+use Rattle.hayro_ccitt.specs.declared.settings.DecodeSettings.{DecodeSettings}
+use Rattle.hayro_ccitt.specs.declared.settings.EncodingMode.{EncodingMode}
+use Rattle.hayro_ccitt.specs.declared.settings.EncodingMode.TheVariants.{Group4, Group3_1D, Group3_2D}
+use Rattle.hayro_ccitt.specs.Bits.{Bits, bits_of, IsPrefix}
+use Rattle.hayro_ccitt.specs.Repetition.{Turn, repeated}
+use Rattle.hayro_ccitt.specs.Rows.{Row}
+use Rattle.hayro_ccitt.specs.Lines.{Line, line_2d}
+use Rattle.hayro_ccitt.specs.EndOfLine.{eols, all_eols, next_eol}
+use Rattle.hayro_ccitt.specs.PlainReading.{Progress, Ending, Move, row_before, aligned, ends_with, after_line_group4, move_group4}
+use Rattle.hayro_ccitt.specs.PlainReading.{limit_met, at_end, plain_group3, plain_group4, end_by, bytes_before, eols_group3, line_at_group3}
+use Rattle.hayro_ccitt.specs.PlainReading.{after_line_group3, move_group3}
+use Rattle.hayro_ccitt.specs.Laws.{RowLimit}
+use Rattle.hayro_ccitt.proofs.Readings.Repeated.{Follows, after_turn, repeated_follows}
+use Rattle.hayro_ccitt.proofs.Readings.TurnsMoveOn.{left, move_group4_shrinks, left_group3, left_group3_below, move_group3_shrinks}
+use Rattle.hayro_ccitt.proofs.Readings.TurnsAddRows.{Adds, move_group4_adds, Keeps, after_row_keeps, move_group3_adds, repeated_adds, prefix_trans}
+use Rattle.hayro_ccitt.proofs.Readings.RowsAndGaps.{line_at_group4, unless_over, seek_from, after_row, move_group4-is, after_whole-is, after_damage-is}
+
+module _ (settings : DecodeSettings) (limit : ℕ) (some : 0 < limit) (wide : 0 < settings.columns) where
+  -- the settings with the limit, and without one
+  abbrev limited : DecodeSettings
+  limited = record settings { rows = limit }
+
+  -- without one
+  abbrev unlimited : DecodeSettings
+  unlimited = record settings { rows = 0 }
+
+  -- the same run, short of the limit
+  abbrev Same : Progress → Progress → Type 0
+  Same s t = (s ≡ t) × (length s.rows < limit)
+
+  -- the rows are cut, and as many as the limit are no fault
+  abbrev Cut : Ending → Ending → Type 0
+  Cut r q = (r.rows ≡ take limit q.rows) × (length r.rows ≡ limit → IsOk r.outcome)
+
+  -- the same run, at most at the limit
+  abbrev SameGroup4 : Progress → Progress → Type 0
+  SameGroup4 s t = (s ≡ t) × (length s.rows ≤ limit)
+
+  cut_rows : (rows more : List Row) → length rows ≡ limit → IsPrefix rows more → rows ≡ take limit more
+  cut_rows rows more full front = sym (ap (take limit) front.1 ∙ ap (λ (n : ℕ). take n (rows ++ front.0)) (sym full)
+      ∙ take-append-le (length rows) rows front.0 (omega arith) ∙ take_all (length rows) rows (omega arith))
+
+  is_met : limit_met limited limit ≡ true
+  is_met = and_from (not (eqb limit 0)) (eqb limit limit) (not_from_false (eqb limit 0) (ne_eqb limit 0 (λ e. absurd (omega (arith, e, some)))))
+      (eq-eqb limit limit refl)
+
+  is_open : (n : ℕ) → n < limit → limit_met limited n ≡ false
+  is_open n lt = and_right (not (eqb limit 0)) (eqb limit n) (ne_eqb limit n (λ e. absurd (omega (arith, e, lt))))
+
+  module _ (rest : Progress → Ending) (extends : (t : Progress) → IsPrefix t.rows (rest t).rows) where
+    turn_extends : (rows : List Row) (m : Move) → Keeps rows m → IsPrefix rows (after_turn rest m).rows
+    turn_extends rows (Turn.next t) k = subst (λ (x : List Row). IsPrefix x (rest t).rows) k (extends t)
+    turn_extends rows (Turn.done e) k = ([], k ∙ sym (append-nil rows))
+
+    short : (e : Ending) → length e.rows < limit → Cut e e
+    short e lt = (sym (take_all limit e.rows (omega arith)), λ full. absurd (omega (arith, full, lt)))
+
+    -- short of the limit the turns are the same
+    same_turn : (rows : List Row) (m : Move) → length rows < limit → Keeps rows m → Follows Same Cut rest m m
+    same_turn rows (Turn.next t) lt k = (refl, rw k lt)
+    same_turn rows (Turn.done e) lt k = short e (rw k lt)
+
+    -- at the limit the run is over
+    cut_turn : (run : Progress) (found : ℕ × Bits) (m : Move) → length run.rows ≡ limit → Keeps run.rows m
+        → Follows Same Cut rest (unless_over limited run found) m
+    cut_turn run (count, here) m full k =
+        let over : (((settings.end_of_block && leb 6 count) || limit_met limited (length run.rows)) || at_end here) ≡ true
+        = or_left ((settings.end_of_block && leb 6 count) || limit_met limited (length run.rows)) (at_end here)
+        (or_right (settings.end_of_block && leb 6 count) (limit_met limited (length run.rows)) (rw full is_met)) in
+        let is_done : unless_over limited run (count, here) ≡ ends_with run (Ok here)
+        = cond-true (((settings.end_of_block && leb 6 count) || limit_met limited (length run.rows)) || at_end here) _ _ over in
+        let more = turn_extends run.rows m k in
+        subst (λ (x : Move). Follows Same Cut rest x m) (sym is_done)
+        (cut_rows run.rows (after_turn rest m).rows full more, λ same. refl)
+
+    unless_over_open : (run : Progress) (found : ℕ × Bits) → limit_met limited (length run.rows) ≡ false
+        → unless_over limited run found ≡ unless_over unlimited run found
+    unless_over_open run (count, here) e = rw e refl
+
+    seek_from_open : (run : Progress) (o : Option Bits) → limit_met limited (length run.rows) ≡ false → seek_from limited run o ≡ seek_from unlimited run o
+    seek_from_open run None e = refl
+    seek_from_open run (Some found) e = unless_over_open run (eols_group3 settings found) e
+
+    after_row_open : (run : Progress) → limit_met limited (length run.rows) ≡ false → after_row limited run ≡ after_row unlimited run
+    after_row_open run e = rw (e, seek_from_open run (next_eol run.rest) e) refl
+
+    after_row_follows : (run : Progress) → length run.rows ≤ limit → Follows Same Cut rest (after_row limited run) (after_row unlimited run)
+    after_row_follows run le = elim (cases_lt (length run.rows) limit) [
+      | inl lt ↦ rw (after_row_open run (is_open (length run.rows) lt)) (same_turn run.rows (after_row unlimited run) lt (after_row_keeps unlimited run))
+      | inr ge ↦
+          let full : length run.rows ≡ limit = omega arith in
+          let first : Bool = eqb (eols_group3 limited run.rest).0 0 && run.has_eols in
+          let none : ((first && not (limit_met limited (length run.rows))) && not (at_end run.rest)) ≡ false
+          = and_left (first && not (limit_met limited (length run.rows))) (not (at_end run.rest))
+          (and_right first (not (limit_met limited (length run.rows))) (not_from_true (limit_met limited (length run.rows)) (rw full is_met))) in
+          let over : after_row limited run ≡ unless_over limited run (eols_group3 limited run.rest)
+          = cond-false ((first && not (limit_met limited (length run.rows))) && not (at_end run.rest)) _ _ none in
+          rw over (cut_turn run (eols_group3 limited run.rest) (after_row unlimited run) full (after_row_keeps unlimited run))
+    ]
+
+    one_longer : (rows : List Row) (row : Row) → length rows < limit → length (rows ++ row ∷ []) ≤ limit
+    one_longer rows row lt = omega (arith, length-append rows (row ∷ []))
+
+    after_line_group3_follows : (run : Progress) (line : Line) → length run.rows < limit
+        → Follows Same Cut rest (after_line_group3 limited run line) (after_line_group3 unlimited run line)
+    after_line_group3_follows run (Line.whole row here) lt =
+        rw (after_whole-is limited run row here, after_whole-is unlimited run row here) (after_row_follows (record run {
+          rows = run.rows ++ row ∷ [];
+          rest =
+              cond (settings.rows_are_byte_aligned && not run.has_eols) (aligned here) here;
+        }) (one_longer run.rows row lt))
+    after_line_group3_follows run (Line.broken front fault) lt =
+        rw (after_damage-is limited run front fault, after_damage-is unlimited run front fault) (by (settings.strict || not run.has_eols))
+      where
+        more : Progress
+        more = record run {
+          rows = run.rows ++ (front ++ replicate (settings.columns - length front) false) ∷ [];
+          rest =
+              cond (settings.rows_are_byte_aligned && not run.has_eols) (aligned run.rest) run.rest;
+        }
+
+        by : (b : Bool) → Follows Same Cut rest (cond b (ends_with run (Err fault)) (after_row limited more))
+            (cond b (ends_with run (Err fault)) (after_row unlimited more))
+        by true = short (record { rows = run.rows; has_eols = run.has_eols; outcome = Err fault }) lt
+        by false = after_row_follows more (one_longer run.rows (front ++ replicate (settings.columns - length front) false) lt)
+
+    move_group3_follows : (s t : Progress) → Same s t → Follows Same Cut rest (move_group3 limited s) (move_group3 unlimited t)
+    move_group3_follows s t same = subst (λ (r : Progress). Follows Same Cut rest (move_group3 limited s) (move_group3 unlimited r)) same.0
+        (after_line_group3_follows s (line_at_group3 settings (row_before settings.columns s.rows) s.rest) same.1)
+
+    after_line_group4_follows : (run : Progress) (line : Line) → length run.rows < limit
+        → Follows SameGroup4 Cut rest (after_line_group4 limited run line) (after_line_group4 unlimited run line)
+    after_line_group4_follows run (Line.whole row here) lt = (refl, one_longer run.rows row lt)
+    after_line_group4_follows run (Line.broken front fault) lt = short (record { rows = run.rows; has_eols = run.has_eols; outcome = Err fault }) lt
+
+    turn_group4_extends : (rows : List Row) (m : Move) → Adds rows m → IsPrefix rows (after_turn rest m).rows
+    turn_group4_extends rows (Turn.next t) k = prefix_trans rows t.rows (rest t).rows k (extends t)
+    turn_group4_extends rows (Turn.done e) k = k
+
+    line_at_group4_follows : (run : Progress) (found : ℕ × Bits) → length run.rows ≤ limit → Adds run.rows (line_at_group4 unlimited run found)
+        → Follows SameGroup4 Cut rest (line_at_group4 limited run found) (line_at_group4 unlimited run found)
+    line_at_group4_follows run (count, here) le adds = elim (cases_lt (length run.rows) limit) [
+      | inl lt ↦ rw (is_open (length run.rows) lt) (by ((settings.end_of_block && eqb count 2) || false || at_end here) lt)
+      | inr ge ↦
+          let full : length run.rows ≡ limit = omega arith in
+          let over : (((settings.end_of_block && (eqb count 2)) || limit_met limited (length run.rows)) || at_end here) ≡ true
+          = or_left ((settings.end_of_block && (eqb count 2)) || limit_met limited (length run.rows)) (at_end here)
+          (or_right (settings.end_of_block && (eqb count 2)) (limit_met limited (length run.rows)) (rw full is_met)) in
+          let is_done : line_at_group4 limited run (count, here) ≡ ends_with run (Ok here)
+          = cond-true (((settings.end_of_block && (eqb count 2)) || limit_met limited (length run.rows)) || at_end here) _ _ over in
+          subst (λ (x : Move). Follows SameGroup4 Cut rest x (line_at_group4 unlimited run (count, here))) (sym is_done) (
+            cut_rows run.rows (after_turn rest (line_at_group4 unlimited run (count, here))).rows full
+                (turn_group4_extends run.rows (line_at_group4 unlimited run (count, here)) adds),
+            λ same. refl,
+          )
+    ]
+      where
+        line : Line
+        line = line_2d settings.strict settings.columns (row_before settings.columns run.rows) here
+
+        by : (b : Bool) → length run.rows < limit
+            → Follows SameGroup4 Cut rest (cond b (ends_with run (Ok here)) (after_line_group4 limited run line))
+            (cond b (ends_with run (Ok here)) (after_line_group4 unlimited run line))
+        by true lt = short (record { rows = run.rows; has_eols = run.has_eols; outcome = Ok here }) lt
+        by false lt = after_line_group4_follows run line lt
+
+    move_group4_follows : (s t : Progress) → SameGroup4 s t → Follows SameGroup4 Cut rest (move_group4 limited s) (move_group4 unlimited t)
+    move_group4_follows s t same = subst (λ (r : Progress). Follows SameGroup4 Cut rest (move_group4 limited s) (move_group4 unlimited r)) same.0
+        (rw (move_group4-is limited s, move_group4-is unlimited s)
+        (line_at_group4_follows s (cond settings.end_of_block (eols 2 s.rest) (all_eols s.rest)) same.1
+        (subst (Adds s.rows) (move_group4-is unlimited s) (move_group4_adds unlimited s))))
+
+  -- ---- The whole
+  cut_group3 : (n m : ℕ) (run : Progress) (late : Ending) → left_group3 run < n → left_group3 run < m → length run.rows < limit
+      → Cut (repeated (move_group3 limited) late n run) (repeated (move_group3 unlimited) late m run)
+  cut_group3 n m run late lt lt2 short =
+      repeated_follows (move_group3 limited) late left_group3 (move_group3_shrinks limited wide) (move_group3 unlimited) late left_group3
+      (move_group3_shrinks unlimited wide) Same Cut
+      (move_group3_follows (λ t. repeated (move_group3 unlimited) late (suc (left_group3 t)) t)
+      (λ t. repeated_adds (move_group3 unlimited) late left_group3 (move_group3_shrinks unlimited wide) (move_group3_adds unlimited)
+      (suc (left_group3 t)) t (omega arith)))
+      n m run run lt lt2 (refl, short)
+
+  cut_group4 : (n m : ℕ) (run : Progress) (late : Ending) → length run.rest < n → length run.rest < m → length run.rows ≤ limit
+      → Cut (repeated (move_group4 limited) late n run) (repeated (move_group4 unlimited) late m run)
+  cut_group4 n m run late lt lt2 short =
+      repeated_follows (move_group4 limited) late left (move_group4_shrinks limited wide) (move_group4 unlimited) late left
+      (move_group4_shrinks unlimited wide) SameGroup4 Cut
+      (move_group4_follows (λ t. repeated (move_group4 unlimited) late (suc (left t)) t)
+      (λ t. repeated_adds (move_group4 unlimited) late left (move_group4_shrinks unlimited wide) (move_group4_adds unlimited) (suc (left t)) t
+      (omega arith)))
+      n m run run lt lt2 (refl, short)
+
+  cut_end_group3 : (bits : Bits) → Cut (plain_group3 limited bits) (plain_group3 unlimited bits)
+  cut_end_group3 bits =
+      let first : Progress = record { rows = []; has_eols = ltb 0 (all_eols bits).0 || settings.end_of_line; rest = (all_eols bits).1 } in
+      cut_group3 (suc (suc (length first.rest))) (suc (suc (length first.rest))) first
+      (record { rows = []; has_eols = first.has_eols; outcome = Err UnexpectedEof }) (left_group3_below first) (left_group3_below first) some
+
+  cut_end_group4 : (bits : Bits) → Cut (plain_group4 limited bits) (plain_group4 unlimited bits)
+  cut_end_group4 bits = cut_group4 (suc (suc (length bits))) (suc (suc (length bits))) (record { rows = []; has_eols = false; rest = bits })
+      (record { rows = []; has_eols = false; outcome = Err UnexpectedEof }) (omega arith) (omega arith) (omega arith)
+
+  cut_end : (encoding : EncodingMode) (bits : Bits) → Cut (end_by encoding limited bits) (end_by encoding unlimited bits)
+  cut_end Group4 bits = cut_end_group4 bits
+  cut_end Group3_1D bits = cut_end_group3 bits
+  cut_end Group3_2D bits = cut_end_group3 bits
+
+ok_bytes : (bits : Bits) (r : Result Bits DecodeError) → IsOk r → IsOk (bytes_before bits r)
+ok_bytes bits (Ok rest) ok = refl
+ok_bytes bits (Err fault) ok = absurd (false≢true ok)
+
+-- the law
+pub row_limit : RowLimit
+row_limit settings limit bytes are some small = elim (cases_eq settings.columns 0) [
+  | inl none ↦
+      let no_columns : eqb settings.columns 0 ≡ true = eq-eqb settings.columns 0 none in
+      rw no_columns (sym (take_all limit [] (omega arith)), λ full. absurd (omega (arith, full, some)))
+  | inr not_none ↦
+      let wide : 0 < settings.columns = elim (cases_lt 0 settings.columns) [ inl lt ↦ lt | inr ge ↦ absurd (not_none (omega arith)) ] in
+      let columns : eqb settings.columns 0 ≡ false = ne_eqb settings.columns 0 not_none in
+      let cut = cut_end settings limit some wide settings.encoding (bits_of bytes) in
+      rw columns (cut.0, λ full. ok_bytes (bits_of bytes) (end_by settings.encoding (record settings { rows = limit }) (bits_of bytes)).outcome (cut.1 full))
+]

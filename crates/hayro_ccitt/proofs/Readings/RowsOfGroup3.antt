@@ -1,0 +1,177 @@
+-- The turns of Group 3: a line, and what stands behind its row.
+use Rattle.std.proofs.Common.{◌≡◌, ◌<◌, ◌≤◌, ℕ, suc, Bool, true, false, cond, ltb, ◌||◌, List, [], ◌∷◌, ◌++◌, length, append-nil, Result, Ok, Err, refl, sym, ap, ◌∙◌, subst, arith}
+use Rattle.std.proofs.lemmas.List.{length-append}
+use Rattle.hayro_ccitt.specs.declared.error.DecodeError.{DecodeError}
+use Rattle.hayro_ccitt.specs.declared.settings.DecodeSettings.{DecodeSettings}
+use Rattle.hayro_ccitt.specs.declared.settings.EncodingMode.TheVariants.{Group3_1D}
+use Rattle.hayro_ccitt.specs.Bits.{Bits}
+use Rattle.hayro_ccitt.specs.Answers.{IsFault, meaning_after}
+use Rattle.hayro_ccitt.specs.Context.{Held}
+use Rattle.hayro_ccitt.specs.Decoding.{SinkState, TakesOneRow, RowIsTaken, with_row_taken, gap_said}
+use Rattle.hayro_ccitt.specs.Lines.{Line}
+use Rattle.hayro_ccitt.specs.PlainReading.{Progress, Ending, Gap, gap_group3, line_at_group3, row_group3, row_before, at_gap_group3, add_row_group3, move_behind_row, with_row, move_group3, lines_of_move_group3, start_group3, plain_group3, lines_by}
+use Rattle.hayro_ccitt.specs.Repetition.{Turn}
+use Rattle.hayro_ccitt.specs.Rows.{Row, changes}
+use Rattle.hayro_ccitt.proofs.Readings.TurnsAddRows.{Adds, Keeps, after_row_keeps, keeps_adds, move_group3_adds}
+use Rattle.hayro_ccitt.specs.EndOfLine.{all_eols}
+use Rattle.hayro_ccitt.proofs.Readings.TurnsMoveOn.{eols_shorter, left_group3, left_group3_below, move_group3_shrinks}
+use Rattle.hayro_ccitt.proofs.Readings.RowsAndGaps.{after_row, move_behind_row-is}
+use Rattle.hayro_ccitt.proofs.Readings.RunsOverRows.{RowByRow, ReadsRow, Leaves, Between, comes_done, comes_next, row_fails, ends_well, ends_at_fault, held_between, held_between-more, meaning_after-more}
+
+-- its turns leave less to read, or give up EOLs, and add rows
+pub by_rows_group3 : (settings : DecodeSettings) → 0 < settings.columns → RowByRow (move_group3 settings) left_group3
+by_rows_group3 settings wide =
+    record { shrinks = move_group3_shrinks settings wide; adds = move_group3_adds settings; below = left_group3_below }
+
+module _ (settings : DecodeSettings) (so_far : Progress) where
+  -- the line of a turn
+  abbrev pub line_of_turn : Line
+  line_of_turn = line_at_group3 settings (row_before settings.columns so_far.rows) so_far.rest
+
+  -- and what it comes to
+  abbrev pub row_of_turn : Result (Row × Bits) DecodeError
+  row_of_turn = row_group3 settings so_far.has_eols so_far.rest line_of_turn
+
+  -- what stands behind a row leaves the rows as they are
+  behind_adds : (taken : Row) (rest : Bits) → Adds (so_far.rows ++ taken ∷ []) (move_behind_row settings (with_row so_far taken rest))
+  behind_adds taken rest =
+      let next : Progress = with_row so_far taken rest in
+      subst (Adds next.rows) (sym (move_behind_row-is settings next))
+      (keeps_adds next.rows [] (after_row settings next) (subst (λ (rows : List Row). Keeps rows (after_row settings next)) (sym (append-nil next.rows)) (after_row_keeps settings next)))
+
+  -- a turn reads its line
+  pub reads_row_group3 : ReadsRow (move_group3 settings) (lines_of_move_group3 settings) so_far line_of_turn row_of_turn
+  reads_row_group3 = record {
+    reads = refl;
+    fails = λ fault is. ap (add_row_group3 settings so_far) is;
+    adds = λ taken rest is. subst (Adds (so_far.rows ++ taken ∷ [])) (sym (ap (add_row_group3 settings so_far) is)) (behind_adds taken rest);
+  }
+
+  -- and goes on, or ends, as what stands behind its row says
+  pub turn_group3 : (taken : Row) (rest : Bits) (gap : Gap) → row_of_turn ≡ Ok (taken, rest)
+      → gap_group3 settings (length (so_far.rows ++ taken ∷ [])) so_far.has_eols rest ≡ gap → move_group3 settings so_far ≡ at_gap_group3 (with_row so_far taken rest) gap
+  turn_group3 taken rest gap is stands = ap (add_row_group3 settings so_far) is ∙ ap (at_gap_group3 (with_row so_far taken rest)) stands
+
+-- ---- A turn of the driver, between two rows
+
+-- a row of Group 3 is read and handed over, where these bits stand
+abbrev pub TakesRowGroup3 : {M : Type 0} → (M → List ℕ → M) → SinkState M → SinkState M → Held → Bits → Held → Result (Unit {0}) DecodeError → Bits → Type 0
+TakesRowGroup3 step now after held here new answer rest =
+    TakesOneRow (line_at_group3 held.settings held.reference here) (row_group3 held.settings held.has_eols here (line_at_group3 held.settings held.reference here))
+    step now after held new answer rest
+
+module _ {M : Type 0} (settings : DecodeSettings) (wide : 0 < settings.columns) (bits : Bits) (step_of : ℕ → M → List ℕ → M) (width : ℕ) (before now : SinkState M) (held : Held) (here : Bits)
+    (between : Between (move_group3 settings) (lines_of_move_group3 settings) left_group3 (start_group3 settings bits) settings (step_of width) before now held here)
+    (now_width : ℕ) (same_width : now_width ≡ width) (after : SinkState M) (new : Held) (rest : Bits) where
+  abbrev so_far : Progress
+  so_far = between.so_far
+
+  abbrev step : M → List ℕ → M
+  step = step_of width
+
+  -- what was taken is what the turn reads
+  takes_is : (answer : Result (Unit {0}) DecodeError) → TakesRowGroup3 (step_of now_width) now after held here new answer rest
+      → TakesOneRow (line_of_turn settings so_far) (row_of_turn settings so_far) step now after held new answer rest
+  takes_is answer takes =
+      let wider : TakesRowGroup3 step now after held here new answer rest = subst (λ (w : ℕ). TakesRowGroup3 (step_of w) now after held here new answer rest) same_width takes in
+      let known : TakesOneRow (line_at_group3 settings (row_before settings.columns so_far.rows) here)
+      (row_group3 settings so_far.has_eols here (line_at_group3 settings (row_before settings.columns so_far.rows) here)) step now after held new answer rest
+      = subst (λ (h : Held). TakesOneRow (line_at_group3 h.settings h.reference here) (row_group3 h.settings h.has_eols here (line_at_group3 h.settings h.reference here)) step now after held new answer rest)
+      between.held wider in
+      subst (λ (x : Bits). TakesOneRow (line_at_group3 settings (row_before settings.columns so_far.rows) x)
+      (row_group3 settings so_far.has_eols x (line_at_group3 settings (row_before settings.columns so_far.rows) x)) step now after held new answer rest) between.here known
+
+  -- a row that isn't taken ends the run
+  pub fails_group3 : (e : DecodeError) → TakesRowGroup3 (step_of now_width) now after held here new (Err e) rest
+      → Leaves (plain_group3 settings bits) (lines_by Group3_1D settings bits) step before after new (Err e)
+  fails_group3 e takes =
+      row_fails (move_group3 settings) (lines_of_move_group3 settings) left_group3 (by_rows_group3 settings wide) (start_group3 settings bits) refl settings step before now held here between
+      (line_of_turn settings so_far) (row_of_turn settings so_far) (reads_row_group3 settings so_far) after new rest e (takes_is (Err e) takes)
+
+  module _ (takes : TakesRowGroup3 (step_of now_width) now after held here new (Ok tt) rest) where
+    abbrev taken : RowIsTaken (row_of_turn settings so_far) step now after held new rest
+    taken = (takes_is (Ok tt) takes).taken
+
+    -- the rows with the one that was taken
+    abbrev next : Progress
+    next = with_row so_far taken.taken rest
+
+    next_held : new ≡ held_between settings next
+    next_held = taken.held ∙ ap (λ (h : Held). with_row_taken h taken.taken) between.held ∙ held_between-more settings so_far taken.taken rest
+
+    next_meaning : after.meaning ≡ meaning_after step before.meaning next.rows
+    next_meaning = taken.meaning ∙ ap (λ (m : M). step m (changes taken.taken)) between.meaning ∙ sym (meaning_after-more step before.meaning so_far.rows taken.taken)
+
+    next_refused : after.refused ≡ before.refused
+    next_refused = takes.no_flag (λ e. cc) ∙ between.refused
+
+    module _ (last : Held) (left_over : Bits) (answer : Result Bool DecodeError)
+        (said : gap_group3 new.settings new.taken new.has_eols rest ≡ gap_said answer last.has_eols left_over)
+        (frame : last ≡ record new { has_eols = last.has_eols }) where
+      gap_is : gap_group3 settings (length next.rows) so_far.has_eols rest ≡ gap_said answer last.has_eols left_over
+      gap_is = ap (λ (h : Held). gap_group3 h.settings h.taken h.has_eols rest) (sym next_held) ∙ said
+
+      turn : move_group3 settings so_far ≡ at_gap_group3 next (gap_said answer last.has_eols left_over)
+      turn = turn_group3 settings so_far taken.taken rest (gap_said answer last.has_eols left_over) taken.is gap_is
+
+      last_taken : last.taken ≡ length next.rows
+      last_taken = ap (λ (h : Held). h.taken) (frame ∙ ap (λ (h : Held). record h { has_eols = last.has_eols }) next_held)
+
+      -- strict data that miss an EOL end the run
+      pub misses_group3 : (e : DecodeError) → answer ≡ Err e → IsFault e → last.has_eols ≡ new.has_eols
+          → Leaves (plain_group3 settings bits) (lines_by Group3_1D settings bits) step before after last (Err e)
+      misses_group3 e is fault kept =
+          let end : Ending = record { rows = next.rows; has_eols = next.has_eols; outcome = Err e } in
+          let ends : move_group3 settings so_far ≡ Turn.done end = turn ∙ ap (λ (a : Result Bool DecodeError). at_gap_group3 next (gap_said a last.has_eols left_over)) is in
+          let known = comes_done (move_group3 settings) (lines_of_move_group3 settings) left_group3 (by_rows_group3 settings wide) (start_group3 settings bits) refl so_far between.comes end ends in
+          subst (λ (x : Ending). Leaves x (lines_by Group3_1D settings bits) step before after last (Err e)) (sym known)
+          (ends_at_fault step before after last end (lines_by Group3_1D settings bits) last_taken next_meaning (kept ∙ ap (λ (h : Held). h.has_eols) next_held) next_refused e fault refl)
+
+      -- so does what ends it well
+      pub ends_group3 : answer ≡ Ok true → last.has_eols ≡ new.has_eols
+          → Leaves (plain_group3 settings bits) (lines_by Group3_1D settings bits) step before after last (Ok left_over)
+      ends_group3 is kept =
+          let end : Ending = record { rows = next.rows; has_eols = next.has_eols; outcome = Ok left_over } in
+          let ends : move_group3 settings so_far ≡ Turn.done end = turn ∙ ap (λ (a : Result Bool DecodeError). at_gap_group3 next (gap_said a last.has_eols left_over)) is in
+          let known = comes_done (move_group3 settings) (lines_of_move_group3 settings) left_group3 (by_rows_group3 settings wide) (start_group3 settings bits) refl so_far between.comes end ends in
+          subst (λ (x : Ending). Leaves x (lines_by Group3_1D settings bits) step before after last (Ok left_over)) (sym known)
+          (ends_well step before after last end (lines_by Group3_1D settings bits) last_taken next_meaning (kept ∙ ap (λ (h : Held). h.has_eols) next_held) next_refused left_over refl)
+
+      abbrev on : Progress
+      on = record next { has_eols = last.has_eols; rest = left_over }
+
+      goes_on : answer ≡ Ok false → move_group3 settings so_far ≡ Turn.next on
+      goes_on is = turn ∙ ap (λ (a : Result Bool DecodeError). at_gap_group3 next (gap_said a last.has_eols left_over)) is
+
+      -- else the run goes on
+      pub next_between_group3 : answer ≡ Ok false
+          → Between (move_group3 settings) (lines_of_move_group3 settings) left_group3 (start_group3 settings bits) settings step before after last left_over
+      next_between_group3 is = record {
+        so_far = on;
+        comes = comes_next (move_group3 settings) (lines_of_move_group3 settings) left_group3 (by_rows_group3 settings wide) (start_group3 settings bits) refl so_far between.comes
+            (line_of_turn settings so_far) refl on (goes_on is) (omega (arith, length-append so_far.rows (taken.taken ∷ [])));
+        held = frame ∙ ap (λ (h : Held). record h { has_eols = last.has_eols }) next_held;
+        here = refl;
+        meaning = next_meaning;
+        refused = next_refused;
+      }
+
+      -- where less is left, or EOLs were given up
+      pub next_shorter_group3 : answer ≡ Ok false
+          → cond last.has_eols (suc (length left_over)) (length left_over) < cond held.has_eols (suc (length here)) (length here)
+      next_shorter_group3 is =
+          let less = move_group3_shrinks settings wide so_far on (goes_on is) in
+          subst (λ (x : Bits). cond last.has_eols (suc (length left_over)) (length left_over) < cond held.has_eols (suc (length x)) (length x)) (sym between.here)
+          (subst (λ (b : Bool). cond last.has_eols (suc (length left_over)) (length left_over) < cond b (suc (length so_far.rest)) (length so_far.rest))
+          (sym (ap (λ (h : Held). h.has_eols) between.held)) less)
+
+-- there are at most as many turns as bits, and one more
+pub left_start : (settings : DecodeSettings) (bits : Bits) → left_group3 (start_group3 settings bits) ≤ suc (length bits)
+left_start settings bits = by (ltb 0 (all_eols bits).0 || settings.end_of_line)
+  where
+    fewer : length (all_eols bits).1 ≤ length bits
+    fewer = eols_shorter (length bits) bits
+
+    by : (b : Bool) → cond b (suc (length (all_eols bits).1)) (length (all_eols bits).1) ≤ suc (length bits)
+    by true = omega (arith, fewer)
+    by false = omega (arith, fewer)

@@ -1,0 +1,275 @@
+-- What a strict run reads, a lenient run reads too.
+use Rattle.std.proofs.Common.{◌≡◌, ℕ, suc, ◌-◌, ◌<◌, Bool, true, false, cond, not, ◌&&◌, ◌||◌, eqb, ltb, leb, List, [], ◌∷◌, ◌++◌, length, replicate}
+use Rattle.std.proofs.Common.{min, Result, Ok, Err, refl, sym, ap, subst, ◌∙◌, arith, inl, inr}
+use Rattle.std.specs.Prelude.{IsOk, pos, ◌+ℤ◌}
+use Rattle.std.proofs.lemmas.List.{append-nil}
+use Rattle.std.proofs.lemmas.Bool.{cases_lt, cases_eq, eq-eqb, ne_eqb, false≢true}
+use Rattle.hayro_ccitt.specs.declared.codes.Color.{Color}
+use Rattle.hayro_ccitt.specs.declared.codes.Mode.{Mode}
+use Rattle.hayro_ccitt.specs.declared.codes.Mode.TheVariants.{Pass, Horizontal, Vertical}
+use Rattle.hayro_ccitt.specs.declared.error.DecodeError.{DecodeError}
+use Rattle.hayro_ccitt.specs.declared.error.DecodeError.TheVariants.{InvalidCode, UnexpectedEof}
+use Rattle.hayro_ccitt.specs.declared.settings.DecodeSettings.{DecodeSettings}
+use Rattle.hayro_ccitt.specs.declared.settings.EncodingMode.{EncodingMode}
+use Rattle.hayro_ccitt.specs.declared.settings.EncodingMode.TheVariants.{Group4, Group3_1D, Group3_2D}
+use Rattle.hayro_ccitt.specs.Bits.{Bits, bits_of, IsPrefix}
+use Rattle.hayro_ccitt.specs.CodeLists.{mode_codes}
+use Rattle.hayro_ccitt.specs.CodeReading.{read_code}
+use Rattle.hayro_ccitt.specs.Repetition.{Turn, repeated}
+use Rattle.hayro_ccitt.specs.Rows.{Row, is_black, opposite, b1, b2, right_of, paint}
+use Rattle.hayro_ccitt.specs.Runs.{run_from}
+use Rattle.hayro_ccitt.specs.Lines.{Line, Pen, start, line_1d, line_2d, place_from}
+use Rattle.hayro_ccitt.proofs.DrawingLines.Drawings.{try, run_then, mode_step, step_unless_full, step_1d, step_2d, step_1d_is, step_2d_is, horizontal_is}
+use Rattle.hayro_ccitt.specs.Answers.{Step}
+use Rattle.hayro_ccitt.specs.EndOfLine.{eols, all_eols, next_eol}
+use Rattle.hayro_ccitt.specs.PlainReading.{Progress, Ending, Move, row_before, aligned, ends_with, after_line_group4, move_group4, whole_reading}
+use Rattle.hayro_ccitt.specs.PlainReading.{limit_met, at_end, plain_group3, plain_group4, end_by, bytes_before, eols_group3, line_by}
+use Rattle.hayro_ccitt.specs.PlainReading.{after_line_group3, move_group3}
+use Rattle.hayro_ccitt.specs.Laws.{StrictThenLenient}
+use Rattle.hayro_ccitt.proofs.Readings.Repeated.{Follows, after_turn, repeated_follows}
+use Rattle.hayro_ccitt.proofs.DrawingLines.ReadLines.{left as pen_left, step_1d_shrinks, step_2d_shrinks}
+use Rattle.hayro_ccitt.proofs.Readings.TurnsMoveOn.{left, move_group4_shrinks, left_group3, left_group3_below, move_group3_shrinks}
+use Rattle.hayro_ccitt.proofs.Readings.TurnsAddRows.{Keeps, Adds, seek_from_keeps, after_line_group4_adds, move_group3_adds, move_group4_adds, repeated_adds, prefix_trans}
+use Rattle.hayro_ccitt.proofs.Readings.RowsAndGaps.{line_at_group4, unless_over, seek_from, after_row, move_group4-is, after_whole-is}
+
+-- ---- Lines
+
+-- a whole line is the same
+abbrev pub Agrees : Line → Line → Type 0
+Agrees (Line.whole row rest) other = other ≡ Line.whole row rest
+Agrees (Line.broken front fault) other = Unit {0}
+
+-- one pen in both readings
+abbrev SamePen : Pen → Pen → Type 0
+SamePen s t = s ≡ t
+
+module _ (rest : Pen → Line) where
+  -- a strict step that goes on is the lenient one
+  abbrev StepFollows : Step → Step → Type 0
+  StepFollows a b = Follows SamePen Agrees rest a b
+
+  try_follows : {A : Type 0} (front : Row) (r q : Result A DecodeError) (f g : A → Step) → ((x : A) → r ≡ Ok x → q ≡ Ok x)
+      → ((x : A) → StepFollows (f x) (g x)) → StepFollows (try front r f) (try front q g)
+  try_follows front (Ok x) q f g same on = rw (same x refl) (on x)
+  try_follows front (Err fault) q f g same on = tt
+
+  paint_lenient : (columns : ℕ) (front : Row) (color : Color) (n : ℕ) (x : Row) → paint true columns front color n ≡ Ok x
+      → paint false columns front color n ≡ Ok x
+  paint_lenient columns front color n x e = by (ltb (columns - length front) n) e
+    where
+      by : (b : Bool) → cond {A = Result Row DecodeError} b (Err InvalidCode)
+          (Ok (front ++ replicate (min n (columns - length front)) (is_black color))) ≡ Ok x
+          → ◌≡◌ {A = Result Row DecodeError} (Ok (front ++ replicate (min n (columns - length front)) (is_black color))) (Ok x)
+      by true e = absurd cc
+      by false e = e
+
+  draw_run_follows : (columns : ℕ) (pen : Pen) (f g : Pen → Step) → ((p : Pen) → StepFollows (f p) (g p))
+      → StepFollows (run_then true columns pen f) (run_then false columns pen g)
+  draw_run_follows columns pen f g on =
+      try_follows pen.front (run_from pen.color (0, pen.rest)) (run_from pen.color (0, pen.rest))
+      (λ run. try pen.front (paint true columns pen.front pen.color run.0)
+      (λ front. f (record { front = front; color = opposite pen.color; rest = run.1 })))
+      (λ run. try pen.front (paint false columns pen.front pen.color run.0)
+      (λ front. g (record { front = front; color = opposite pen.color; rest = run.1 }))) (λ x e. e)
+      (λ run. try_follows pen.front (paint true columns pen.front pen.color run.0) (paint false columns pen.front pen.color run.0)
+      (λ front. f (record { front = front; color = opposite pen.color; rest = run.1 }))
+      (λ front. g (record { front = front; color = opposite pen.color; rest = run.1 })) (paint_lenient columns pen.front pen.color run.0)
+      (λ front. on (record { front = front; color = opposite pen.color; rest = run.1 })))
+
+  unless_full_follows : (columns : ℕ) (pen : Pen) (a b : Step) → StepFollows a b → StepFollows (step_unless_full columns pen a) (step_unless_full columns pen b)
+  unless_full_follows columns pen a b on = by (leb columns (length pen.front))
+    where
+      by : (full : Bool) → StepFollows (cond full (Turn.done (Line.whole pen.front pen.rest)) a) (cond full (Turn.done (Line.whole pen.front pen.rest)) b)
+      by true = refl
+      by false = on
+
+  -- two steps that are others, of which the second follows
+  follows_as : (a b : Step) {x y : Step} → x ≡ a → y ≡ b → StepFollows a b → StepFollows x y
+  follows_as a b is other on = rw (is, other) on
+
+  step_1d_follows : (columns : ℕ) (s t : Pen) → SamePen s t → StepFollows (step_1d true columns s) (step_1d false columns t)
+  step_1d_follows columns s t same = subst (λ (p : Pen). StepFollows (step_1d true columns s) (step_1d false columns p)) same
+      (follows_as _ _ (step_1d_is true columns s) (step_1d_is false columns s)
+      (unless_full_follows columns s _ _ (draw_run_follows columns s Turn.next Turn.next (λ p. refl))))
+
+  draw_mode_follows : (columns : ℕ) (reference : Row) (pen : Pen) (mode : Mode)
+      → StepFollows (mode_step true columns reference pen mode) (mode_step false columns reference pen mode)
+  draw_mode_follows columns reference pen Pass =
+      let n : ℕ = b2 reference (right_of pen.front) pen.color - length pen.front in
+      try_follows pen.front (paint true columns pen.front pen.color n) (paint false columns pen.front pen.color n)
+      (λ front. Turn.next (record pen { front = front })) (λ front. Turn.next (record pen { front = front }))
+      (paint_lenient columns pen.front pen.color n) (λ front. refl)
+  draw_mode_follows columns reference pen Horizontal =
+      follows_as _ _ (sym (horizontal_is true columns reference pen)) (sym (horizontal_is false columns reference pen))
+      (draw_run_follows columns pen (λ pen. run_then true columns pen Turn.next) (λ pen. run_then false columns pen Turn.next)
+      (λ p. draw_run_follows columns p Turn.next Turn.next (λ q. refl)))
+  draw_mode_follows columns reference pen (Vertical k) =
+      let place : Result ℕ DecodeError = place_from (length pen.front) (pos (b1 reference (right_of pen.front) pen.color) +ℤ k) in
+      let paints : Bool → ℕ → Step = λ strict place. try pen.front (paint strict columns pen.front pen.color (place - length pen.front))
+      (λ front. Turn.next (record { front = front; color = opposite pen.color; rest = pen.rest })) in
+      try_follows pen.front place place (paints true) (paints false) (λ x e. e)
+      (λ place. try_follows pen.front (paint true columns pen.front pen.color (place - length pen.front))
+      (paint false columns pen.front pen.color (place - length pen.front))
+      (λ front. Turn.next (record { front = front; color = opposite pen.color; rest = pen.rest }))
+      (λ front. Turn.next (record { front = front; color = opposite pen.color; rest = pen.rest }))
+      (paint_lenient columns pen.front pen.color (place - length pen.front)) (λ front. refl))
+
+  step_2d_follows : (columns : ℕ) (reference : Row) (s t : Pen) → SamePen s t
+      → StepFollows (step_2d true columns reference s) (step_2d false columns reference t)
+  step_2d_follows columns reference s t same = subst (λ (p : Pen). StepFollows (step_2d true columns reference s) (step_2d false columns reference p)) same
+      (follows_as _ _ (step_2d_is true columns reference s) (step_2d_is false columns reference s)
+      (unless_full_follows columns s _ _ (try_follows s.front (read_code mode_codes s.rest) (read_code mode_codes s.rest)
+      (λ mode. mode_step true columns reference (record s { rest = mode.1 }) mode.0)
+      (λ mode. mode_step false columns reference (record s { rest = mode.1 }) mode.0) (λ x e. e)
+      (λ mode. draw_mode_follows columns reference (record s { rest = mode.1 }) mode.0))))
+
+line_1d_agrees : (columns : ℕ) (here : Bits) → Agrees (line_1d true columns here) (line_1d false columns here)
+line_1d_agrees columns here =
+    repeated_follows (step_1d true columns) (Line.broken [] UnexpectedEof) pen_left (step_1d_shrinks true columns) (step_1d false columns)
+    (Line.broken [] UnexpectedEof) pen_left (step_1d_shrinks false columns) SamePen Agrees
+    (step_1d_follows _ columns) (suc (length here)) (suc (length here)) (start here) (start here) (omega arith) (omega arith) refl
+
+line_2d_agrees : (columns : ℕ) (reference : Row) (here : Bits) → Agrees (line_2d true columns reference here) (line_2d false columns reference here)
+line_2d_agrees columns reference here =
+    repeated_follows (step_2d true columns reference) (Line.broken [] UnexpectedEof) pen_left (step_2d_shrinks true columns reference)
+    (step_2d false columns reference) (Line.broken [] UnexpectedEof) pen_left (step_2d_shrinks false columns reference) SamePen Agrees
+    (step_2d_follows _ columns reference) (suc (length here)) (suc (length here)) (start here) (start here) (omega arith) (omega arith) refl
+
+line_by_agrees : (encoding : EncodingMode) (columns : ℕ) (reference : Row) (here : Bits)
+    → Agrees (line_by encoding true columns reference here) (line_by encoding false columns reference here)
+line_by_agrees Group3_1D columns reference here = line_1d_agrees columns here
+line_by_agrees Group3_2D columns reference [] = tt
+line_by_agrees Group3_2D columns reference (true ∷ rest) = line_1d_agrees columns rest
+line_by_agrees Group3_2D columns reference (false ∷ rest) = line_2d_agrees columns reference rest
+line_by_agrees Group4 columns reference here = line_2d_agrees columns reference here
+
+-- ---- Runs
+
+module _ (settings : DecodeSettings) (wide : 0 < settings.columns) where
+  -- the strict settings, and the lenient ones
+  abbrev strictly : DecodeSettings
+  strictly = record settings { strict = true }
+
+  -- the lenient ones
+  abbrev leniently : DecodeSettings
+  leniently = record settings { strict = false }
+
+  -- one state in both readings
+  abbrev SameRun : Progress → Progress → Type 0
+  SameRun s t = s ≡ t
+
+  -- the rows are a prefix of the other's, and all is the same where it ended without a fault
+  abbrev Precedes : Ending → Ending → Type 0
+  Precedes r q = IsPrefix r.rows q.rows × (IsOk r.outcome → r ≡ q)
+
+  module _ (rest : Progress → Ending) (extends : (t : Progress) → IsPrefix t.rows (rest t).rows) where
+    turn_extends : (rows : List Row) (m : Move) → Adds rows m → IsPrefix rows (after_turn rest m).rows
+    turn_extends rows (Turn.next t) k = prefix_trans rows t.rows (rest t).rows k (extends t)
+    turn_extends rows (Turn.done e) k = k
+
+    keeps_extends : (rows : List Row) (m : Move) → Keeps rows m → IsPrefix rows (after_turn rest m).rows
+    keeps_extends rows (Turn.next t) k = subst (λ (x : List Row). IsPrefix x (rest t).rows) k (extends t)
+    keeps_extends rows (Turn.done e) k = ([], k ∙ sym (append-nil rows))
+
+    same_turn : (m : Move) → Follows SameRun Precedes rest m m
+    same_turn (Turn.next t) = refl
+    same_turn (Turn.done e) = (([], sym (append-nil e.rows)), λ ok. refl)
+
+    after_row_follows : (run : Progress) → Follows SameRun Precedes rest (after_row strictly run) (after_row leniently run)
+    after_row_follows run = by ((((eqb (eols_group3 settings run.rest).0 0) && run.has_eols) && not (limit_met settings (length run.rows))) && not
+        (at_end run.rest))
+      where
+        by : (b : Bool) → Follows SameRun Precedes rest
+            (cond b (ends_with run (Err InvalidCode)) (unless_over strictly run (eols_group3 settings run.rest)))
+            (cond b (seek_from leniently run (next_eol run.rest)) (unless_over leniently run (eols_group3 settings run.rest)))
+        by true = (
+          keeps_extends run.rows (seek_from leniently run (next_eol run.rest))
+              (seek_from_keeps leniently run (next_eol run.rest)),
+          λ ok. absurd (false≢true ok),
+        )
+        by false = same_turn (unless_over leniently run (eols_group3 settings run.rest))
+
+    after_line_group3_follows : (run : Progress) (line other : Line) → Agrees line other → Adds run.rows (after_line_group3 leniently run other)
+        → Follows SameRun Precedes rest (after_line_group3 strictly run line) (after_line_group3 leniently run other)
+    after_line_group3_follows run (Line.whole row here) other agrees adds =
+        rw (agrees, after_whole-is strictly run row here, after_whole-is leniently run row here) (after_row_follows (record run
+        { rows = run.rows ++ row ∷ []; rest = cond (settings.rows_are_byte_aligned && not run.has_eols) (aligned here) here }))
+    after_line_group3_follows run (Line.broken front fault) other agrees adds =
+        (turn_extends run.rows (after_line_group3 leniently run other) adds, λ ok. absurd (false≢true ok))
+
+    move_group3_follows : (s t : Progress) → SameRun s t → Follows SameRun Precedes rest (move_group3 strictly s) (move_group3 leniently t)
+    move_group3_follows s t same = subst (λ (r : Progress). Follows SameRun Precedes rest (move_group3 strictly s) (move_group3 leniently r)) same
+        (after_line_group3_follows s _ _ (line_by_agrees settings.encoding settings.columns (row_before settings.columns s.rows) s.rest)
+        (move_group3_adds leniently s))
+
+    after_line_group4_follows : (run : Progress) (line other : Line) → Agrees line other → Adds run.rows (after_line_group4 leniently run other)
+        → Follows SameRun Precedes rest (after_line_group4 strictly run line) (after_line_group4 leniently run other)
+    after_line_group4_follows run (Line.whole row here) other agrees adds = rw agrees refl
+    after_line_group4_follows run (Line.broken front fault) other agrees adds =
+        (turn_extends run.rows (after_line_group4 leniently run other) adds, λ ok. absurd (false≢true ok))
+
+    line_at_group4_follows : (run : Progress) (found : ℕ × Bits)
+        → Follows SameRun Precedes rest (line_at_group4 strictly run found) (line_at_group4 leniently run found)
+    line_at_group4_follows run (count, here) = by (((settings.end_of_block && (eqb count 2)) || limit_met settings (length run.rows)) || at_end here)
+      where
+        line : Bool → Line
+        line strict = line_2d strict settings.columns (row_before settings.columns run.rows) here
+
+        by : (b : Bool) → Follows SameRun Precedes rest (cond b (ends_with run (Ok here)) (after_line_group4 strictly run (line true)))
+            (cond b (ends_with run (Ok here)) (after_line_group4 leniently run (line false)))
+        by true = same_turn (ends_with run (Ok here))
+        by false = after_line_group4_follows run (line true) (line false)
+            (line_2d_agrees settings.columns (row_before settings.columns run.rows) here) (after_line_group4_adds leniently run (line false))
+
+    move_group4_follows : (s t : Progress) → SameRun s t → Follows SameRun Precedes rest (move_group4 strictly s) (move_group4 leniently t)
+    move_group4_follows s t same = subst (λ (r : Progress). Follows SameRun Precedes rest (move_group4 strictly s) (move_group4 leniently r)) same
+        (rw (move_group4-is strictly s, move_group4-is leniently s)
+        (line_at_group4_follows s (cond settings.end_of_block (eols 2 s.rest) (all_eols s.rest))))
+
+  precedes_group3 : (bits : Bits) → Precedes (plain_group3 strictly bits) (plain_group3 leniently bits)
+  precedes_group3 bits =
+      let first : Progress = record { rows = []; has_eols = ltb 0 (all_eols bits).0 || settings.end_of_line; rest = (all_eols bits).1 } in
+      let late : Ending = record { rows = []; has_eols = first.has_eols; outcome = Err UnexpectedEof } in
+      repeated_follows (move_group3 strictly) late left_group3 (move_group3_shrinks strictly wide) (move_group3 leniently) late left_group3
+      (move_group3_shrinks leniently wide) SameRun Precedes
+      (move_group3_follows (λ t. repeated (move_group3 leniently) late (suc (left_group3 t)) t)
+      (λ t. repeated_adds (move_group3 leniently) late left_group3 (move_group3_shrinks leniently wide) (move_group3_adds leniently)
+      (suc (left_group3 t)) t (omega arith)))
+      (suc (suc (length first.rest))) (suc (suc (length first.rest))) first first (left_group3_below first) (left_group3_below first) refl
+
+  precedes_group4 : (bits : Bits) → Precedes (plain_group4 strictly bits) (plain_group4 leniently bits)
+  precedes_group4 bits =
+      let first : Progress = record { rows = []; has_eols = false; rest = bits } in
+      let late : Ending = record { rows = []; has_eols = false; outcome = Err UnexpectedEof } in
+      repeated_follows (move_group4 strictly) late left (move_group4_shrinks strictly wide) (move_group4 leniently) late left
+      (move_group4_shrinks leniently wide) SameRun Precedes
+      (move_group4_follows (λ t. repeated (move_group4 leniently) late (suc (left t)) t)
+      (λ t. repeated_adds (move_group4 leniently) late left (move_group4_shrinks leniently wide) (move_group4_adds leniently) (suc (left t)) t
+      (omega arith)))
+      (suc (suc (length first.rest))) (suc (suc (length first.rest))) first first (omega arith) (omega arith) refl
+
+  precedes : (encoding : EncodingMode) (bits : Bits) → Precedes (end_by encoding strictly bits) (end_by encoding leniently bits)
+  precedes Group4 bits = precedes_group4 bits
+  precedes Group3_1D bits = precedes_group3 bits
+  precedes Group3_2D bits = precedes_group3 bits
+
+ok_outcome : (bits : Bits) (r : Result Bits DecodeError) → IsOk (bytes_before bits r) → IsOk r
+ok_outcome bits (Ok rest) ok = refl
+ok_outcome bits (Err fault) ok = absurd (false≢true ok)
+
+-- the law
+pub strict_then_lenient : StrictThenLenient
+strict_then_lenient settings bytes are = elim (cases_eq settings.columns 0) [
+  | inl none ↦
+      let no_columns : eqb settings.columns 0 ≡ true = eq-eqb settings.columns 0 none in
+      rw no_columns (([], refl), λ ok. refl)
+  | inr not_none ↦
+      let wide : 0 < settings.columns = elim (cases_lt 0 settings.columns) [ inl lt ↦ lt | inr ge ↦ absurd (not_none (omega arith)) ] in
+      let columns : eqb settings.columns 0 ≡ false = ne_eqb settings.columns 0 not_none in
+      let both = precedes settings wide settings.encoding (bits_of bytes) in
+      rw columns (
+        both.0,
+        λ ok. ap (whole_reading (bits_of bytes))
+            (both.1 (ok_outcome (bits_of bytes) (end_by settings.encoding (record settings { strict = true }) (bits_of bytes)).outcome ok)),
+      )
+]

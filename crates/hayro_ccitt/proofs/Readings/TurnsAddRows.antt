@@ -1,0 +1,98 @@
+-- A run only adds rows.
+use Rattle.std.proofs.Common.{◌≡◌, ℕ, ◌-◌, ◌<◌, Bool, true, false, cond, not, ◌&&◌, ◌||◌, eqb, leb, List, [], ◌∷◌, ◌++◌, length, replicate, Option}
+use Rattle.std.proofs.Common.{Some, None, Ok, Err, refl, sym, ap, subst, ◌∙◌, append_assoc}
+use Rattle.std.proofs.lemmas.List.{append-nil}
+use Rattle.hayro_ccitt.specs.declared.error.DecodeError.TheVariants.{InvalidCode}
+use Rattle.hayro_ccitt.specs.declared.settings.DecodeSettings.{DecodeSettings}
+use Rattle.hayro_ccitt.specs.Bits.{Bits, IsPrefix}
+use Rattle.hayro_ccitt.specs.Repetition.{Turn, repeated}
+use Rattle.hayro_ccitt.specs.Rows.{Row}
+use Rattle.hayro_ccitt.specs.Lines.{Line, line_2d}
+use Rattle.hayro_ccitt.specs.EndOfLine.{eols, all_eols, next_eol}
+use Rattle.hayro_ccitt.specs.PlainReading.{Progress, Ending, Move, row_before, aligned, ends_with, after_line_group4, move_group4}
+use Rattle.hayro_ccitt.specs.PlainReading.{limit_met, at_end, eols_group3, line_at_group3}
+use Rattle.hayro_ccitt.specs.PlainReading.{after_line_group3, move_group3}
+use Rattle.hayro_ccitt.proofs.Readings.Repeated.{Shrinks, repeated_induct}
+use Rattle.hayro_ccitt.proofs.Readings.RowsAndGaps.{line_at_group4, unless_over, seek_from, seek_eol, after_row, add_row, move_group4-is, after_whole-is, after_damage-is}
+
+-- a turn that leaves the rows as they are
+abbrev pub Keeps : List Row → Move → Type 0
+Keeps rows (Turn.next t) = t.rows ≡ rows
+Keeps rows (Turn.done e) = e.rows ≡ rows
+
+keeps_cond : (rows : List Row) (b : Bool) (x y : Move) → Keeps rows x → Keeps rows y → Keeps rows (cond b x y)
+keeps_cond rows true x y p q = p
+keeps_cond rows false x y p q = q
+
+-- the rows stay those that stand
+pub unless_over_keeps : (settings : DecodeSettings) (run : Progress) (found : ℕ × Bits) → Keeps run.rows (unless_over settings run found)
+unless_over_keeps settings run (count, rest) =
+    keeps_cond run.rows (((settings.end_of_block && leb 6 count) || limit_met settings (length run.rows)) || at_end rest) (ends_with run (Ok rest))
+    (Turn.next (record run { rest = rest })) refl refl
+
+-- and where an EOL is looked for
+pub seek_from_keeps : (settings : DecodeSettings) (run : Progress) (o : Option Bits) → Keeps run.rows (seek_from settings run o)
+seek_from_keeps settings run None = refl
+seek_from_keeps settings run (Some found) = unless_over_keeps settings run (eols_group3 settings found)
+
+-- and after a row
+pub after_row_keeps : (settings : DecodeSettings) (run : Progress) → Keeps run.rows (after_row settings run)
+after_row_keeps settings run =
+    keeps_cond run.rows ((((eqb (eols_group3 settings run.rest).0 0) && run.has_eols) && not (limit_met settings (length run.rows))) && not
+    (at_end run.rest)) (seek_eol settings run) (unless_over settings run (eols_group3 settings run.rest))
+    (keeps_cond run.rows settings.strict (ends_with run (Err InvalidCode)) (seek_from settings run (next_eol run.rest)) refl
+    (seek_from_keeps settings run (next_eol run.rest)))
+    (unless_over_keeps settings run (eols_group3 settings run.rest))
+
+-- a turn that adds rows, or none
+abbrev pub Adds : List Row → Move → Type 0
+Adds rows (Turn.next t) = IsPrefix rows t.rows
+Adds rows (Turn.done e) = IsPrefix rows e.rows
+
+adds_cond : (rows : List Row) (b : Bool) (x y : Move) → Adds rows x → Adds rows y → Adds rows (cond b x y)
+adds_cond rows true x y p q = p
+adds_cond rows false x y p q = q
+
+pub keeps_adds : (rows more : List Row) (m : Move) → Keeps (rows ++ more) m → Adds rows m
+keeps_adds rows more (Turn.next t) k = (more, k)
+keeps_adds rows more (Turn.done e) k = (more, k)
+
+after_line_group3_adds : (settings : DecodeSettings) (run : Progress) (line : Line) → Adds run.rows (after_line_group3 settings run line)
+after_line_group3_adds settings run (Line.whole row rest) =
+    subst (Adds run.rows) (sym (after_whole-is settings run row rest)) (keeps_adds run.rows (row ∷ []) _ (after_row_keeps settings
+    (record run { rows = run.rows ++ row ∷ []; rest = cond (settings.rows_are_byte_aligned && not run.has_eols) (aligned rest) rest })))
+after_line_group3_adds settings run (Line.broken front fault) =
+    let row : Row = front ++ replicate (settings.columns - length front) false in
+    subst (Adds run.rows) (sym (after_damage-is settings run front fault)) (adds_cond run.rows (settings.strict || not run.has_eols) (ends_with run (Err fault)) (add_row settings run row run.rest) ([], sym (append-nil run.rows))
+    (keeps_adds run.rows (row ∷ []) _ (after_row_keeps settings
+    (record run { rows = run.rows ++ row ∷ []; rest = cond (settings.rows_are_byte_aligned && not run.has_eols) (aligned run.rest) run.rest }))))
+
+-- a turn of Group 3 adds a row
+pub move_group3_adds : (settings : DecodeSettings) (run : Progress) → Adds run.rows (move_group3 settings run)
+move_group3_adds settings run = after_line_group3_adds settings run (line_at_group3 settings (row_before settings.columns run.rows) run.rest)
+
+-- a line of Group 4 adds its row
+pub after_line_group4_adds : (settings : DecodeSettings) (run : Progress) (line : Line) → Adds run.rows (after_line_group4 settings run line)
+after_line_group4_adds settings run (Line.whole row rest) = (row ∷ [], refl)
+after_line_group4_adds settings run (Line.broken front fault) = ([], sym (append-nil run.rows))
+
+line_at_group4_adds : (settings : DecodeSettings) (run : Progress) (found : ℕ × Bits) → Adds run.rows (line_at_group4 settings run found)
+line_at_group4_adds settings run (count, rest) =
+    let line : Line = line_2d settings.strict settings.columns (row_before settings.columns run.rows) rest in
+    adds_cond run.rows (((settings.end_of_block && (eqb count 2)) || limit_met settings (length run.rows)) || at_end rest) (ends_with run (Ok rest))
+    (after_line_group4 settings run line) ([], sym (append-nil run.rows)) (after_line_group4_adds settings run line)
+
+-- a turn of Group 4 adds a row, or ends
+pub move_group4_adds : (settings : DecodeSettings) (run : Progress) → Adds run.rows (move_group4 settings run)
+move_group4_adds settings run = subst (Adds run.rows) (sym (move_group4-is settings run)) (line_at_group4_adds settings run (cond settings.end_of_block (eols 2 run.rest) (all_eols run.rest)))
+
+-- a front of a front is a front
+pub prefix_trans : {A : Type 0} (a b c : List A) → IsPrefix a b → IsPrefix b c → IsPrefix a c
+prefix_trans a b c f g = (f.0 ++ g.0, g.1 ∙ ap (λ (x : List _). x ++ g.0) f.1 ∙ append_assoc a f.0 g.0)
+
+-- the rows of a state are a front of the answer's
+pub repeated_adds : (move : Progress → Move) (late : Ending) (size : Progress → ℕ) → Shrinks move size → ((run : Progress) → Adds run.rows (move run))
+    → (n : ℕ) (run : Progress) → size run < n → IsPrefix run.rows (repeated move late n run).rows
+repeated_adds move late size shrinks adds n run lt =
+    repeated_induct move late size shrinks (λ run end. IsPrefix run.rows end.rows) (λ run end e. subst (Adds run.rows) e (adds run))
+    (λ run t end e more. prefix_trans run.rows t.rows end.rows (subst (Adds run.rows) e (adds run)) more) n run lt

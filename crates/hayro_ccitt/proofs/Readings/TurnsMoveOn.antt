@@ -1,0 +1,394 @@
+-- Each line of a run moves the place on.
+use Rattle.std.proofs.Common.{◌≡◌, ℕ, zero, suc, ◌+◌, ◌-◌, ◌%◌, ◌<◌, ◌≤◌, Bool, true, false, cond, not, ◌&&◌, ◌||◌, eqb, leb, [], ◌∷◌, ◌++◌}
+use Rattle.std.proofs.Common.{length, replicate, Option, Some, None, Result, Ok, Err, refl, sym, ap, subst, ◌∙◌, arith, ◌⊎◌, inl, inr}
+use Rattle.std.proofs.lemmas.List.{length-drop}
+use Rattle.std.proofs.lemmas.Bool.{cases_lt, not-false, and_parts, and_cases, or_parts, false≢true, le-leb, eqb-false}
+use Rattle.hayro_ccitt.specs.declared.error.DecodeError.{DecodeError}
+use Rattle.hayro_ccitt.specs.declared.settings.DecodeSettings.{DecodeSettings}
+use Rattle.hayro_ccitt.specs.Bits.{Bits}
+use Rattle.hayro_ccitt.specs.Repetition.{Turn}
+use Rattle.hayro_ccitt.specs.Rows.{Row}
+use Rattle.hayro_ccitt.specs.declared.settings.EncodingMode.{EncodingMode}
+use Rattle.hayro_ccitt.specs.declared.settings.EncodingMode.TheVariants.{Group4, Group3_1D, Group3_2D}
+use Rattle.hayro_ccitt.specs.declared.error.DecodeError.TheVariants.{InvalidCode}
+use Rattle.hayro_ccitt.specs.Lines.{Line, line_1d, line_2d}
+use Rattle.hayro_ccitt.specs.EndOfLine.{after_eol, one_more, eols, all_eols, next_eol, past_tag, eols_with_tags, pass_last_tag, tagged_eols}
+use Rattle.hayro_ccitt.specs.PlainReading.{Progress, Ending, Move, row_before, aligned, ends_with, after_line_group4, move_group4, limit_met, at_end, line_by, eols_by, eols_group3, line_at_group3, after_line_group3, move_group3}
+use Rattle.hayro_ccitt.proofs.Readings.Repeated.{Shrinks}
+use Rattle.hayro_ccitt.proofs.CodeWords.ReadRuns.{chosen}
+use Rattle.hayro_ccitt.proofs.DrawingLines.ReadLines.{TookBits, line_1d_took_bits, line_2d_took_bits}
+use Rattle.hayro_ccitt.proofs.Readings.RowsAndGaps.{line_at_group4, unless_over, seek_from, seek_eol, after_row, move_group4-is, after_whole-is, after_damage-is}
+
+-- enough zeros and a one are an EOL
+pub eol_of : (seen k : ℕ) (rest : Bits) → 11 ≤ seen + k → after_eol seen (replicate k false ++ true ∷ rest) ≡ Some rest
+eol_of seen zero rest le = let ge : 11 ≤ seen = omega arith in rw (le-leb 11 seen ge) refl
+eol_of seen (suc k) rest le = eol_of (suc seen) k rest (omega arith)
+
+-- what follows an EOL is shorter
+pub after_eol_shorter : (seen : ℕ) (here rest : Bits) → after_eol seen here ≡ Some rest → length rest < length here
+after_eol_shorter seen [] rest e = absurd cc
+after_eol_shorter seen (false ∷ here) rest e = omega (arith, after_eol_shorter (suc seen) here rest e)
+after_eol_shorter seen (true ∷ here) rest e = elim (chosen (leb 11 seen) _ _ _ e) [
+  | inl a ↦ let same : here ≡ rest = let f = a.1 in cc in subst (λ (x : Bits). length x < length (true ∷ here)) same (omega arith)
+  | inr a ↦ absurd (let f = a.1 in cc)
+]
+
+-- one more EOL, and the same bits
+pub length-one_more : (found : ℕ × Bits) → length (one_more found).1 ≡ length found.1
+length-one_more (count, here) = refl
+
+-- what follows EOLs is not longer
+pub eols_shorter : (most : ℕ) (here : Bits) → length (eols most here).1 ≤ length here
+eols_shorter zero here = omega arith
+eols_shorter (suc most) here =
+    let by : (o : Option Bits) → after_eol 0 here ≡ o → length (eols (suc most) here).1 ≤ length here
+    = λ o. elim o as (λ (o : Option Bits). after_eol 0 here ≡ o → length (eols (suc most) here).1 ≤ length here) [
+      | None ↦ λ e. rw (e, eols) (omega arith)
+      | Some rest ↦ λ e. rw (e, eols) (omega (arith, length-one_more (eols most rest), eols_shorter most rest, after_eol_shorter 0 here rest e))
+    ] in
+    by (after_eol 0 here) refl
+
+-- the bits that are left
+abbrev pub left : Progress → ℕ
+left run = length run.rest
+
+-- states of equal turns are equal
+pub next_is : (s t : Progress) → ◌≡◌ {A = Move} (Turn.next s) (Turn.next t) → s ≡ t
+next_is s t e = cc
+
+-- a turn that ends does not go on
+pub not_next : (l : Ending) (t : Progress) → ◌≡◌ {A = Move} (Turn.done l) (Turn.next t) → ⊥
+not_next l t e = cc
+
+unless_next : (b : Bool) (run : Progress) (outcome : Result Bits DecodeError) (on : Move) (t : Progress)
+    → cond b (ends_with run outcome) on ≡ Turn.next t → on ≡ Turn.next t
+unless_next true run outcome on t e = absurd (not_next _ t e)
+unless_next false run outcome on t e = e
+
+-- of two lists that are short enough either is
+pub cond_le : (b : Bool) (x y : Bits) (n : ℕ) → length x ≤ n → length y ≤ n → length (cond b x y) ≤ n
+cond_le true x y n p q = p
+cond_le false x y n p q = q
+
+after_line_group4_next : (settings : DecodeSettings) (run t : Progress) (n : ℕ) (line : Line) → TookBits n line
+    → after_line_group4 settings run line ≡ Turn.next t → left t < n
+after_line_group4_next settings run t n (Line.broken front fault) took e = absurd (not_next _ t e)
+after_line_group4_next settings run t n (Line.whole row rest) took e =
+    let shorter : length (cond settings.rows_are_byte_aligned (aligned rest) rest) ≤ length rest
+    = cond_le settings.rows_are_byte_aligned (aligned rest) rest (length rest) (omega (arith, length-drop (length rest % 8) rest)) (omega arith) in
+    subst (λ (r : Progress). left r < n) (next_is _ t e) (omega (arith, shorter, took))
+
+-- a turn of Group 4 leaves fewer bits
+pub move_group4_shrinks : (settings : DecodeSettings) → 0 < settings.columns → Shrinks (move_group4 settings) left
+move_group4_shrinks settings wide run t e = by_eols (cond settings.end_of_block (eols 2 run.rest) (all_eols run.rest)) at_most (sym (move_group4-is settings run) ∙ e)
+  where
+    at_most : length (cond settings.end_of_block (eols 2 run.rest) (all_eols run.rest)).1 ≤ length run.rest
+    at_most = by settings.end_of_block
+      where
+        by : (b : Bool) → length (cond b (eols 2 run.rest) (all_eols run.rest)).1 ≤ length run.rest
+        by true = eols_shorter 2 run.rest
+        by false = eols_shorter (length run.rest) run.rest
+
+    by_eols : (found : ℕ × Bits) → length found.1 ≤ length run.rest → line_at_group4 settings run found ≡ Turn.next t → left t < left run
+    by_eols (count, rest) le k =
+        let line : Line = line_2d settings.strict settings.columns (row_before settings.columns run.rows) rest in
+        let over : Bool = ((settings.end_of_block && (eqb count 2)) || limit_met settings (length run.rows)) || at_end rest in
+        let on = unless_next over run (Ok rest) (after_line_group4 settings run line) t k in
+        let f = after_line_group4_next settings run t (length rest) line
+        (line_2d_took_bits settings.strict settings.columns (row_before settings.columns run.rows) rest wide) on in
+        omega (arith, f, le)
+
+-- ---- Group 3
+
+-- one more EOL
+pub one_more-count : (found : ℕ × Bits) → (one_more found).0 ≡ suc found.0
+one_more-count (count, here) = refl
+
+-- where an EOL stands, the count of EOLs is that of those after it, and one more
+pub eols-some : (most : ℕ) (here rest : Bits) → after_eol 0 here ≡ Some rest → eols (suc most) here ≡ one_more (eols most rest)
+eols-some most here rest e = rw (e, eols) refl
+
+-- where no EOL stands, none is counted
+pub eols-none : (most : ℕ) (here : Bits) → after_eol 0 here ≡ None → eols most here ≡ (0, here)
+eols-none zero here e = refl
+eols-none (suc most) here e = rw (e, eols) refl
+
+-- the place is moved on by each EOL
+pub eols_moves : (most : ℕ) (here : Bits) → 0 < (eols most here).0 → length (eols most here).1 < length here
+eols_moves zero here some = absurd (omega arith)
+eols_moves (suc most) here some = by (after_eol 0 here) refl
+  where
+    by : (o : Option Bits) → after_eol 0 here ≡ o → length (eols (suc most) here).1 < length here
+    by None e = absurd (let f : eols (suc most) here ≡ (0, here) = eols-none (suc most) here e in omega (arith, ap (λ (x : ℕ × Bits). x.0) f, some))
+    by (Some rest) e = rw (eols-some most here rest e)
+        (omega (arith, length-one_more (eols most rest), eols_shorter most rest, after_eol_shorter 0 here rest e))
+
+-- where the next EOL was found, one stands
+pub next_eol_found : (here found : Bits) → next_eol here ≡ Some found → (length found ≤ length here) × ((after : Bits) × (after_eol 0 found ≡ Some after))
+next_eol_found [] found e = absurd cc
+next_eol_found (bit ∷ here) found e = by (next_eol_found here found) (after_eol 0 (bit ∷ here)) refl
+  where
+    by : (next_eol here ≡ Some found → (length found ≤ length here) × ((after : Bits) × (after_eol 0 found ≡ Some after)))
+        → (o : Option Bits) → after_eol 0 (bit ∷ here) ≡ o → (length found ≤ length (bit ∷ here)) × ((after : Bits) × (after_eol 0 found ≡ Some after))
+    by on None f = let g : next_eol here ≡ Some found = rw (f, next_eol) at e in let h = on g in (omega (arith, h.0), h.1)
+    by on (Some rest) f =
+        let g : ◌≡◌ {A = Option Bits} (Some (bit ∷ here)) (Some found) = rw (f, next_eol) at e in
+        let same : (bit ∷ here) ≡ found = cc in
+        subst (λ (x : Bits). (length x ≤ length (bit ∷ here)) × ((after : Bits) × (after_eol 0 x ≡ Some after))) same (omega arith, (rest, f))
+
+-- an EOL that stands is counted
+pub eols_some_counts : (here rest : Bits) → after_eol 0 here ≡ Some rest → 0 < (all_eols here).0
+eols_some_counts [] rest e = absurd cc
+eols_some_counts (bit ∷ here) rest e = rw (eols-some (length here) (bit ∷ here) rest e) (omega (arith, one_more-count (eols (length here) rest)))
+
+-- a tag is passed, or nothing
+past_tag_shorter : (here : Bits) → length (past_tag here) ≤ length here
+past_tag_shorter [] = omega arith
+past_tag_shorter (false ∷ here) = omega arith
+past_tag_shorter (true ∷ here) = by (after_eol 0 here) refl
+  where
+    by : (o : Option Bits) → after_eol 0 here ≡ o → length (past_tag (true ∷ here)) ≤ length (true ∷ here)
+    by None e = rw (e, past_tag) (omega arith)
+    by (Some rest) e = rw (e, past_tag) (omega arith)
+
+-- where an EOL stands, the count of EOLs with their tags is that of those after it and its tag, and one more
+pub eols_with_tags-some : (most : ℕ) (here rest : Bits) → after_eol 0 here ≡ Some rest
+    → eols_with_tags (suc most) here ≡ one_more (eols_with_tags most (past_tag rest))
+eols_with_tags-some most here rest e = rw (e, eols_with_tags) refl
+
+-- where no EOL stands, none is counted
+pub eols_with_tags-none : (most : ℕ) (here : Bits) → after_eol 0 here ≡ None → eols_with_tags most here ≡ (0, here)
+eols_with_tags-none zero here e = refl
+eols_with_tags-none (suc most) here e = rw (e, eols_with_tags) refl
+
+eols_with_tags_shorter : (most : ℕ) (here : Bits) → length (eols_with_tags most here).1 ≤ length here
+eols_with_tags_shorter zero here = omega arith
+eols_with_tags_shorter (suc most) here = by (λ rest. eols_with_tags_shorter most rest) (after_eol 0 here) refl
+  where
+    by : ((rest : Bits) → length (eols_with_tags most rest).1 ≤ length rest) → (o : Option Bits) → after_eol 0 here ≡ o
+        → length (eols_with_tags (suc most) here).1 ≤ length here
+    by on None e = rw (eols_with_tags-none (suc most) here e) (omega arith)
+    by on (Some rest) e = rw (eols_with_tags-some most here rest e)
+        (omega (arith, length-one_more (eols_with_tags most (past_tag rest)), on (past_tag rest), past_tag_shorter rest, after_eol_shorter 0 here rest e))
+
+-- the place is moved on by each of them
+eols_with_tags_moves : (most : ℕ) (here : Bits) → 0 < (eols_with_tags most here).0 → length (eols_with_tags most here).1 < length here
+eols_with_tags_moves zero here some = absurd (omega arith)
+eols_with_tags_moves (suc most) here some = by (after_eol 0 here) refl
+  where
+    by : (o : Option Bits) → after_eol 0 here ≡ o → length (eols_with_tags (suc most) here).1 < length here
+    by None e = absurd (let f = eols_with_tags-none (suc most) here e in omega (arith, ap (λ (x : ℕ × Bits). x.0) f, some))
+    by (Some rest) e =
+        rw (eols_with_tags-some most here rest e) (omega (
+          arith,
+          length-one_more (eols_with_tags most (past_tag rest)),
+          eols_with_tags_shorter most (past_tag rest),
+          past_tag_shorter rest,
+          after_eol_shorter 0 here rest e,
+        ))
+
+pub last_tag_count : (found : ℕ × Bits) → (pass_last_tag found).0 ≡ found.0
+last_tag_count (count, []) = refl
+last_tag_count (count, false ∷ here) = refl
+last_tag_count (count, true ∷ here) = by (leb 6 count)
+  where
+    by : (b : Bool) → (cond {A = ℕ × Bits} b (count, here) (count, true ∷ here)).0 ≡ count
+    by true = refl
+    by false = refl
+
+last_tag_shorter : (found : ℕ × Bits) → length (pass_last_tag found).1 ≤ length found.1
+last_tag_shorter (count, []) = omega arith
+last_tag_shorter (count, false ∷ here) = omega arith
+last_tag_shorter (count, true ∷ here) = by (leb 6 count)
+  where
+    by : (b : Bool) → length (cond {A = ℕ × Bits} b (count, here) (count, true ∷ here)).1 ≤ length (true ∷ here)
+    by true = omega arith
+    by false = omega arith
+
+-- counting EOLs leaves at most the bits that were there, and fewer where one came
+abbrev pub Counted : Bits → ℕ × Bits → Type 0
+Counted here found = (length found.1 ≤ length here) × (0 < found.0 → length found.1 < length here)
+
+all_counted : (here : Bits) → Counted here (all_eols here)
+all_counted here = (eols_shorter (length here) here, eols_moves (length here) here)
+
+pub tagged_eols_counted : (here : Bits) → Counted here (tagged_eols here)
+tagged_eols_counted here =
+    let found : ℕ × Bits = eols_with_tags (length here) here in (
+      omega (arith, last_tag_shorter found, eols_with_tags_shorter (length here) here),
+      λ some. let counts : 0 < found.0 = omega (arith, last_tag_count found, some) in
+          omega (arith, last_tag_shorter found, eols_with_tags_moves (length here) here counts),
+    )
+
+-- so many EOLs took bits
+pub eols_group3_counted : (settings : DecodeSettings) (here : Bits) → Counted here (eols_group3 settings here)
+eols_group3_counted settings here = by settings.encoding
+  where
+    by : (encoding : EncodingMode) → Counted here (eols_by encoding here)
+    by Group3_1D = all_counted here
+    by Group3_2D = tagged_eols_counted here
+    by Group4 = all_counted here
+
+tagged_eols_some_counts : (here rest : Bits) → after_eol 0 here ≡ Some rest → 0 < (tagged_eols here).0
+tagged_eols_some_counts [] rest e = absurd cc
+tagged_eols_some_counts (bit ∷ here) rest e =
+    let found : ℕ × Bits = eols_with_tags (length here) (past_tag rest) in
+    rw (eols_with_tags-some (length here) (bit ∷ here) rest e) (omega (arith, last_tag_count (one_more found), one_more-count found))
+
+-- where an EOL stands, one is counted
+pub eols_group3_some : (settings : DecodeSettings) (here rest : Bits) → after_eol 0 here ≡ Some rest → 0 < (eols_group3 settings here).0
+eols_group3_some settings here rest e = by settings.encoding
+  where
+    by : (encoding : EncodingMode) → 0 < (eols_by encoding here).0
+    by Group3_1D = eols_some_counts here rest e
+    by Group3_2D = tagged_eols_some_counts here rest e
+    by Group4 = eols_some_counts here rest e
+
+-- what is left of a run: its bits, and the EOLs that may be given up once
+abbrev pub left_group3 : Progress → ℕ
+left_group3 run = cond run.has_eols (suc (length run.rest)) (length run.rest)
+
+-- where the reading goes on, it does so behind the EOLs
+pub unless_over_next : (settings : DecodeSettings) (run t : Progress) (found : ℕ × Bits) → unless_over settings run found ≡ Turn.next t
+    → ◌≡◌ {A = Progress} (record run { rest = found.1 }) t
+unless_over_next settings run t (count, rest) e =
+    next_is _ t (unless_next (((settings.end_of_block && leb 6 count) || limit_met settings (length run.rows)) || at_end rest) run (Ok rest)
+    (Turn.next (record run { rest = rest })) t e)
+
+-- a run goes on neither at its limit nor at the end
+pub unless_over_open : (settings : DecodeSettings) (run t : Progress) (found : ℕ × Bits) → unless_over settings run found ≡ Turn.next t
+    → (limit_met settings (length run.rows) ≡ false) × (at_end found.1 ≡ false)
+unless_over_open settings run t (count, rest) e =
+    elim (chosen (((settings.end_of_block && leb 6 count) || limit_met settings (length run.rows)) || at_end rest) _ _ _ e) [
+      | inl a ↦ absurd (not_next _ t a.1)
+      | inr a ↦
+          let b = or_parts ((settings.end_of_block && leb 6 count) || limit_met settings (length run.rows)) (at_end rest) a.0 in
+          let c = or_parts (settings.end_of_block && leb 6 count) (limit_met settings (length run.rows)) b.0 in
+          (c.1, b.1)
+    ]
+
+not_at_end : (rest : Bits) → at_end rest ≡ true → length rest ≡ 0
+not_at_end [] e = refl
+not_at_end (b ∷ rest) e = absurd (false≢true e)
+
+seek_left : (settings : DecodeSettings) (run t : Progress) (o : Option Bits) → run.has_eols ≡ true → next_eol run.rest ≡ o
+    → seek_from settings run o ≡ Turn.next t → left_group3 t ≤ length run.rest
+seek_left settings run t None h e k =
+    let given_up : Progress = record run { has_eols = false } in
+    let same : given_up ≡ t = let turn : ◌≡◌ {A = Move} (Turn.next given_up) (Turn.next t) = k in cc in
+    subst (λ (r : Progress). left_group3 r ≤ length run.rest) same (omega arith)
+seek_left settings run t (Some found) h e k =
+    let f = next_eol_found run.rest found e in
+    let g = eols_group3_counted settings found in
+    subst (λ (r : Progress). left_group3 r ≤ length run.rest) (unless_over_next settings run t (eols_group3 settings found) k)
+    (rw h (omega (arith, f.0, g.1 (eols_group3_some settings found f.1.0 f.1.1))))
+
+seek_eol_next : (settings : DecodeSettings) (run t : Progress) → seek_eol settings run ≡ Turn.next t → seek_from settings run (next_eol run.rest) ≡ Turn.next t
+seek_eol_next settings run t e = unless_next settings.strict run (Err InvalidCode) (seek_from settings run (next_eol run.rest)) t e
+
+at_end_length : (rest : Bits) → at_end rest ≡ false → 0 < length rest
+at_end_length [] e = absurd (false≢true (sym e))
+at_end_length (b ∷ rest) e = omega arith
+
+left_group3_least : (run : Progress) → length run.rest ≤ left_group3 run
+left_group3_least run = by run.has_eols
+  where
+    by : (b : Bool) → length run.rest ≤ cond b (suc (length run.rest)) (length run.rest)
+    by true = omega arith
+    by false = omega arith
+
+took_more : (line : Line) (n : ℕ) → TookBits n line → TookBits (suc n) line
+took_more (Line.whole row rest) n took = omega arith
+took_more (Line.broken front fault) n took = tt
+
+-- where a run goes on without seeking an EOL, one came or none are sought
+went_on : (settings : DecodeSettings) (run : Progress) (found : ℕ × Bits) → Counted run.rest found → limit_met settings (length run.rows) ≡ false
+    → at_end found.1 ≡ false
+    → (((eqb found.0 0 && run.has_eols) && not (limit_met settings (length run.rows))) && not (at_end run.rest)) ≡ false → (0 < found.0)
+    ⊎ (run.has_eols ≡ false)
+went_on settings run found counted open_limit open_end e =
+    elim (and_cases ((eqb found.0 0 && run.has_eols) && not (limit_met settings (length run.rows))) (not (at_end run.rest)) e) [
+      | inl a ↦ elim (and_cases (eqb found.0 0 && run.has_eols) (not (limit_met settings (length run.rows))) a) [
+        | inl b ↦ elim (and_cases (eqb found.0 0) run.has_eols b) [
+          | inl c ↦ let d = eqb-false found.0 0 c in elim (cases_lt 0 found.0) [ inl lt ↦ inl lt | inr ge ↦ absurd (d (omega arith)) ]
+          | inr c ↦ inr c
+        ]
+        | inr b ↦ absurd (false≢true (sym b ∙ rw open_limit refl))
+      ]
+      | inr a ↦ absurd (let b = not_at_end run.rest (not-false (at_end run.rest) a) in omega (arith, b, counted.0, at_end_length found.1 open_end))
+    ]
+
+-- the EOLs after a row leave less than there was before its line: it took bits, or EOLs are sought
+pub after_row_next : (settings : DecodeSettings) (run t : Progress) (n : ℕ) → after_row settings run ≡ Turn.next t → length run.rest < n → left_group3 t < n
+after_row_next settings run t n e small = elim
+    (chosen ((((eqb (eols_group3 settings run.rest).0 0) && run.has_eols) && not (limit_met settings (length run.rows))) && not (at_end run.rest)) _ _ _ e) [
+      | inl a ↦
+          let b = (and_parts ((eqb (eols_group3 settings run.rest).0 0 && run.has_eols) && not (limit_met settings (length run.rows)))
+          (not (at_end run.rest)) a.0).0 in
+          let c = (and_parts (eqb (eols_group3 settings run.rest).0 0 && run.has_eols) (not (limit_met settings (length run.rows))) b).0 in
+          let d = (and_parts (eqb (eols_group3 settings run.rest).0 0) run.has_eols c).1 in
+          omega (arith, seek_left settings run t (next_eol run.rest) d refl (seek_eol_next settings run t a.1), small)
+      | inr a ↦
+          let open_run = unless_over_open settings run t (eols_group3 settings run.rest) a.1 in
+          let counted = eols_group3_counted settings run.rest in
+          subst (λ (r : Progress). left_group3 r < n) (unless_over_next settings run t (eols_group3 settings run.rest) a.1)
+          (elim (went_on settings run (eols_group3 settings run.rest) counted open_run.0 open_run.1 a.0) [
+            | inl some ↦ either run.has_eols (length (eols_group3 settings run.rest).1) (omega (arith, counted.1 some, small))
+            | inr gave_up ↦ rw gave_up (omega (arith, counted.0, small))
+          ])
+    ]
+  where
+    either : (b : Bool) (k : ℕ) → suc k < n → cond b (suc k) k < n
+    either true k lt = lt
+    either false k lt = omega arith
+
+-- a whole line took bits
+pub line_by_took : (encoding : EncodingMode) (strict : Bool) (columns : ℕ) (reference : Row) (here : Bits) → 0 < columns
+    → TookBits (length here) (line_by encoding strict columns reference here)
+line_by_took Group3_1D strict columns reference here wide = line_1d_took_bits strict columns here wide
+line_by_took Group3_2D strict columns reference [] wide = tt
+line_by_took Group3_2D strict columns reference (true ∷ rest) wide =
+    took_more (line_1d strict columns rest) (length rest) (line_1d_took_bits strict columns rest wide)
+line_by_took Group3_2D strict columns reference (false ∷ rest) wide =
+    took_more (line_2d strict columns reference rest) (length rest) (line_2d_took_bits strict columns reference rest wide)
+line_by_took Group4 strict columns reference here wide = line_2d_took_bits strict columns reference here wide
+
+after_line_group3_next : (settings : DecodeSettings) (run t : Progress) (line : Line) → TookBits (length run.rest) line
+    → after_line_group3 settings run line ≡ Turn.next t → left_group3 t < left_group3 run
+after_line_group3_next settings run t (Line.whole row rest) took e =
+    let al : Bool = settings.rows_are_byte_aligned && not run.has_eols in
+    let shorter : length (cond al (aligned rest) rest) ≤ length rest
+    = cond_le al (aligned rest) rest (length rest) (omega (arith, length-drop (length rest % 8) rest)) (omega arith) in
+    after_row_next settings (record run { rows = run.rows ++ row ∷ []; rest = cond al (aligned rest) rest }) t (left_group3 run) (sym (after_whole-is settings run row rest) ∙ e)
+    (omega (arith, shorter, took, left_group3_least run))
+after_line_group3_next settings run t (Line.broken front fault) took e =
+    elim (chosen (settings.strict || not run.has_eols) _ _ _ (sym (after_damage-is settings run front fault) ∙ e)) [
+      | inl a ↦ absurd (not_next _ t a.1)
+      | inr a ↦
+          let sought : run.has_eols ≡ true = not-false run.has_eols (or_parts settings.strict (not run.has_eols) a.0).1 in
+          let al : Bool = settings.rows_are_byte_aligned && not run.has_eols in
+          let more : Progress = record run {
+            rows = run.rows ++ (front ++ replicate (settings.columns - length front) false) ∷ [];
+            rest =
+                cond al (aligned run.rest) run.rest;
+          } in
+          let shorter : length (cond al (aligned run.rest) run.rest) ≤ length run.rest
+          = cond_le al (aligned run.rest) run.rest (length run.rest) (omega (arith, length-drop (length run.rest % 8) run.rest)) (omega arith) in
+          let left_is : left_group3 run ≡ suc (length run.rest) = rw sought refl in
+          rw left_is (after_row_next settings more t (suc (length run.rest)) a.1 (omega (arith, shorter)))
+    ]
+
+-- a turn of Group 3 leaves fewer bits, or gives up EOLs
+pub move_group3_shrinks : (settings : DecodeSettings) → 0 < settings.columns → Shrinks (move_group3 settings) left_group3
+move_group3_shrinks settings wide run t e =
+    let reference : Row = row_before settings.columns run.rows in
+    after_line_group3_next settings run t (line_at_group3 settings reference run.rest)
+    (line_by_took settings.encoding settings.strict settings.columns reference run.rest wide) e
+
+-- a run is allowed more turns than that
+pub left_group3_below : (run : Progress) → left_group3 run < suc (suc (length run.rest))
+left_group3_below run = by run.has_eols
+  where
+    by : (b : Bool) → cond b (suc (length run.rest)) (length run.rest) < suc (suc (length run.rest))
+    by true = omega arith
+    by false = omega arith
