@@ -13,8 +13,8 @@ use hayro_ccitt::codes::{Color, Mode, Ticks};
 use hayro_ccitt::context::{decode_1d_line, decode_2d_line};
 use hayro_ccitt::tables::Tables;
 use hayro_ccitt::{
-    DecodeError, DecodeSettings, Decoder, DecoderContext, EncodingMode, Result, bits_fit,
-    body_is_local, decode, group4,
+    DecodeError, DecodeSettings, Decoder, DecoderContext, EncodingMode, Result, bits_fit, decode,
+    group4,
 };
 use std::alloc::{AllocError, AllocGlobal, Global};
 use std::process::Abort;
@@ -646,101 +646,4 @@ fn prints_errors(rt: HostRuntime) -> std::result::Result<(), Fail> {
     }
     assert_eq!(rt; DecodeError::from(AllocError), OutOfMemory);
     Ok(())
-}
-
-/// Settings of one-dimensional data of Group 3 with EOLs, for rows of eight columns.
-fn group_3_1d(strict: bool) -> DecodeSettings {
-    DecodeSettings {
-        columns: 8,
-        rows: 0,
-        end_of_block: false,
-        end_of_line: true,
-        rows_are_byte_aligned: false,
-        encoding: EncodingMode::Group3_1D,
-        strict,
-    }
-}
-
-/// Compares whether the bits from one place to another are a local body, in a context of its own.
-fn is_local(
-    rt: &(impl Abort + AllocGlobal),
-    strict: bool,
-    data: &[u8],
-    from: usize,
-    to: usize,
-    local: bool,
-) {
-    let Ok(mut ctx) = DecoderContext::new(rt.alloc(), group_3_1d(strict)) else {
-        panic!(rt; "no memory");
-    };
-    assert!(rt; bits_fit(data));
-    assert_eq!(rt;
-        body_is_local(data, &mut ctx, from, to),
-        Ok(local),
-        "the body of {data:?} from {from} to {to}"
-    );
-}
-
-/// Three lines of eight pixels, white 8, then white 3, black 2 and white 3, then white 8; the body of the second
-/// stands from bit 29 to bit 39.
-#[test]
-fn bodies_of_lines(rt: HostRuntime) {
-    let lines = [0x00, 0x19, 0x80, 0x0C, 0x70, 0x00, 0x33];
-    is_local(&rt, false, &lines, 29, 39, true);
-    is_local(&rt, false, &lines, 29, 38, true); // a zero of the body may be fill
-    is_local(&rt, false, &lines, 29, 40, false); // ten zeros are no EOL
-    is_local(&rt, false, &lines, 28, 39, false); // no EOL ends there
-    is_local(&rt, false, &lines, 29, 29, false); // no one
-    is_local(&rt, false, &lines, 0, 12, false); // an EOL
-    is_local(&rt, false, &lines, 29, 57, false); // there are 56 bits
-    is_local(&rt, true, &lines, 29, 39, false);
-}
-
-/// The second line damaged.
-#[test]
-fn damaged_bodies(rt: HostRuntime) {
-    let broken_later = [0x00, 0x19, 0x80, 0x0C, 0x40, 0x00, 0x33];
-    is_local(&rt, false, &broken_later, 29, 39, true);
-    let broken = [0x00, 0x19, 0x80, 0x0C, 0x00, 0x00, 0x33];
-    is_local(&rt, false, &broken, 29, 39, true);
-    let longer = [0x00, 0x19, 0x80, 0x0C, 0x06, 0xF8, 0x00, 0x33];
-    is_local(&rt, false, &longer, 29, 47, true);
-    let into_its_eol = [0x00, 0x19, 0x80, 0x08, 0xEE, 0x00, 0x33];
-    is_local(&rt, false, &into_its_eol, 29, 39, false);
-}
-
-/// The EOL behind the first line begins at bit 17.
-#[test]
-fn skips_to_eols(rt: HostRuntime) {
-    let data = [0x00, 0x19, 0x80, 0x0C];
-    assert!(rt; bits_fit(&data));
-    let mut reader = BitReader::new(&data);
-    let mut ticks = Ticks::new();
-    assert!(rt; reader.skip_to_eol(&mut ticks));
-    assert_eq!(rt; reader.bit_pos(), 0);
-    assert_eq!(rt; reader.read_eols(1, &mut ticks), 1);
-    assert!(rt; reader.skip_to_eol(&mut ticks));
-    assert_eq!(rt; reader.bit_pos(), 17);
-    assert_eq!(rt; reader.read_eols(1, &mut ticks), 1);
-    assert!(rt; !reader.skip_to_eol(&mut ticks));
-    assert_eq!(rt; reader.bit_pos(), 29);
-}
-
-/// RTC of two-dimensional data, six times an EOL and a one; and two EOLs with the tag of the line that follows.
-#[test]
-fn reads_tagged_eols(rt: HostRuntime) {
-    let rtc = [0x00, 0x18, 0x00, 0xC0, 0x06, 0x00, 0x30, 0x01, 0x80, 0x0C];
-    assert!(rt; bits_fit(&rtc));
-    let mut reader = BitReader::new(&rtc);
-    assert_eq!(rt;
-        (reader.read_tagged_eols(&mut Ticks::new()), reader.bit_pos()),
-        (6, 78)
-    );
-    let two = [0x00, 0x18, 0x00, 0xC0];
-    assert!(rt; bits_fit(&two));
-    let mut reader = BitReader::new(&two);
-    assert_eq!(rt;
-        (reader.read_tagged_eols(&mut Ticks::new()), reader.bit_pos()),
-        (2, 25)
-    );
 }

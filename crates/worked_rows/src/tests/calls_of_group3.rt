@@ -164,13 +164,15 @@ fn changes_of_a_row(rt: HostRuntime) -> std::result::Result<(), Fail> {
     append_pixels(&mut changes, 3, Color::Black, 2)?;
     append_pixels(&mut changes, 5, Color::White, 3)?;
     assert_eq!(rt; changes.as_slice(), [3, 5].as_slice());
-    for (painted, color, b1, b2) in [
-        (0, Color::White, 3, 5),
-        (0, Color::Black, 5, 8),
-        (3, Color::White, 8, 8),
-        (3, Color::Black, 5, 8),
+    for (painted, color, b1, b2, known) in [
+        (0, Color::White, 3, 5, 0),
+        (0, Color::Black, 5, 8, 0),
+        (3, Color::White, 8, 8, 1),
+        (3, Color::Black, 5, 8, 1),
     ] {
-        let index = b1_index(&changes, painted, color, 8, &mut ticks);
+        let mut passed = 0;
+        let index = b1_index(&changes, painted, color, 8, &mut passed, &mut ticks);
+        assert_eq!(rt; passed, known);
         assert_eq!(rt; change_or_end(&changes, index, 8), b1);
         assert_eq!(rt; change_or_end(&changes, index + 1, 8), b2);
     }
