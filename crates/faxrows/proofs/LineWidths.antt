@@ -1,5 +1,5 @@
 -- No line has more pixels than there are columns.
-use Rattle.std.proofs.Common.{ℕ, ◌≤◌, ◌-◌, suc, Bool, true, false, cond, leb, List, [], ◌∷◌, ◌++◌, length, replicate, min, Result, Ok, Err, IfOk, subst, arith}
+use Rattle.std.proofs.Common.{ℕ, ◌≤◌, ◌-◌, suc, Bool, true, false, cond, leb, [], ◌∷◌, ◌++◌, length, replicate, min, Result, Ok, Err, IfOk, subst, arith}
 use Rattle.std.proofs.lemmas.List.{length-append, length-replicate}
 use Rattle.hayro_ccitt.specs.declared.codes.Color.{Color}
 use Rattle.hayro_ccitt.specs.declared.codes.Mode.{Mode}

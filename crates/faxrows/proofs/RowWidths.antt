@@ -12,8 +12,7 @@ use Rattle.hayro_ccitt.specs.Bits.{Bits, bits_of}
 use Rattle.hayro_ccitt.specs.Repetition.{Turn}
 use Rattle.hayro_ccitt.specs.Rows.{Row, repaired}
 use Rattle.hayro_ccitt.specs.Lines.{Line}
-use Rattle.hayro_ccitt.specs.EndOfLine.{all_eols}
-use Rattle.hayro_ccitt.specs.PlainReading.{Progress, Ending, Move, Reading, plain, plain_group3, plain_group4, end_by, end_of, whole_reading, nothing_read, start_group3, start_group4, ending_from}
+use Rattle.hayro_ccitt.specs.PlainReading.{Progress, Move, plain, end_by, end_of, whole_reading, nothing_read, start_group3, start_group4, ending_from}
 use Rattle.hayro_ccitt.specs.PlainReading.{row_before, ends_with, with_row, behind_row, line_at_group3, line_group4, after_line_group3, after_line_group4, move_group3, move_group4, is_over_group4, eols_group4}
 use Rattle.hayro_ccitt.proofs.DrawingLines.FullRows.{IsFull, line_2d_full, line_by_full}
 use Rattle.hayro_ccitt.proofs.Readings.Repeated.{repeated_keeps}
