@@ -100,6 +100,21 @@ def statuses():
         assert (done.returncode, done.stdout, done.stderr) == (status, text, error), (words, done)
 
 
+# Words behind `-o` and data, the bytes that the program writes, its standard error, and its status.
+BITMAPS = [
+    ("-o g4 8 0 b", "31C0040040", b"\x18", b"", 0),
+    ("-o g4 8 0 -", "80", b"\x00", b"faxrows: invalid CCITT code sequence\n", 1),
+    ("-o", "31C0", b"", b"faxrows: bad arguments\n", 2),
+    ("-o -o g4 8 1 -", "31C0", b"", b"faxrows: bad arguments\n", 2),
+]
+
+
+def bitmaps():
+    for words, data, text, error, status in BITMAPS:
+        done = run(words.split(), bytes.fromhex(data))
+        assert (done.returncode, done.stdout, done.stderr) == (status, text, error), (words, done)
+
+
 def devices_that_fail():
     with open("/dev/full", "wb") as full:
         done = subprocess.run([PROGRAM, "g4", "8", "1", "-"], input=bytes.fromhex("31C0"), stdout=full, stderr=subprocess.PIPE, timeout=60, check=False)
@@ -181,4 +196,4 @@ def refused_memory():
             print(f"  {words}: {len(answers)} allocations refused in turn, {len(expected)} answers")
 
 
-CHECKS = [real_strips, known_cases, statuses, devices_that_fail, a_file_and_a_pipe, long_data, refused_memory]
+CHECKS = [real_strips, known_cases, statuses, bitmaps, devices_that_fail, a_file_and_a_pipe, long_data, refused_memory]

@@ -1,2 +1,5 @@
 pub mod Examples
+pub mod LineWidths
+pub mod PackedRuns
+pub mod RowWidths
 pub mod Texts

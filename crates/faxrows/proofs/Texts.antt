@@ -19,10 +19,14 @@ fold_lines : (text : List ℕ) (rows : List (List ℕ)) → fold (λ t row. t ++
 fold_lines text [] = sym (append-nil text)
 fold_lines text (row ∷ rows) = fold_lines (text ++ line_of_row row) rows ∙ append_assoc text (line_of_row row) (lines_of_rows rows)
 
--- the rows of some data were taken as lines of text
+-- the rows of some data were taken, each by a step
+abbrev pub Takes : {M : Type 0} → (M → List ℕ → M) → DecodeSettings → List ℕ → SinkState M → SinkState M → Held → Outcome → Type 0
+Takes step settings input before after held outcome =
+    TakesRows (plain settings input).rows (plain settings input).outcome (plain settings input).has_eols step before after held outcome
+
+-- and as lines of text
 abbrev pub TakesLines : DecodeSettings → List ℕ → SinkState (List ℕ) → SinkState (List ℕ) → Held → Outcome → Type 0
-TakesLines settings input before after held outcome =
-    TakesRows (plain settings input).rows (plain settings input).outcome (plain settings input).has_eols (λ text row. text ++ line_of_row row) before after held outcome
+TakesLines = Takes (λ text row. text ++ line_of_row row)
 
 -- the sink's text is the lines of the rows that were taken
 pub sink_text : (settings : DecodeSettings) (input : List ℕ) (before after : SinkState (List ℕ)) (held : Held) (outcome : Outcome)
@@ -38,15 +42,15 @@ all_changes : (rows : List Row) (taken : ℕ) → taken ≡ length rows → take
 all_changes rows taken e = e ∙ sym (length-map rows changes)
 
 -- decoding ends as it may after the rows that were taken
-pub ends_after : (settings : DecodeSettings) (input : List ℕ) (before after : SinkState (List ℕ)) (held : Held) (outcome : Outcome)
-    → TakesLines settings input before after held outcome → StopsShort (plain settings input).rows (lines_of settings input) before after held outcome
+pub ends_after : {M : Type 0} (step : M → List ℕ → M) (settings : DecodeSettings) (input : List ℕ) (before after : SinkState M) (held : Held) (outcome : Outcome)
+    → Takes step settings input before after held outcome → StopsShort (plain settings input).rows (lines_of settings input) before after held outcome
     → EndsAfter settings input held.taken outcome
-ends_after settings input before after held (Ok n) takes short = (all_changes _ held.taken takes.all, takes.ok)
-ends_after settings input before after held (Err UnexpectedEof) takes short = (all_changes _ held.taken (takes.all tt), takes.fault tt)
-ends_after settings input before after held (Err InvalidCode) takes short = (all_changes _ held.taken (takes.all tt), takes.fault tt)
-ends_after settings input before after held (Err Overflow) takes short = (all_changes _ held.taken (takes.all tt), takes.fault tt)
-ends_after settings input before after held (Err OutOfMemory) takes short = (rw (length-map (plain settings input).rows changes) takes.taken, short.memory refl)
-ends_after settings input before after held (Err Refused) takes short = rw (length-map (plain settings input).rows changes) (short.refused refl)
+ends_after step settings input before after held (Ok n) takes short = (all_changes _ held.taken takes.all, takes.ok)
+ends_after step settings input before after held (Err UnexpectedEof) takes short = (all_changes _ held.taken (takes.all tt), takes.fault tt)
+ends_after step settings input before after held (Err InvalidCode) takes short = (all_changes _ held.taken (takes.all tt), takes.fault tt)
+ends_after step settings input before after held (Err Overflow) takes short = (all_changes _ held.taken (takes.all tt), takes.fault tt)
+ends_after step settings input before after held (Err OutOfMemory) takes short = (rw (length-map (plain settings input).rows changes) takes.taken, short.memory refl)
+ends_after step settings input before after held (Err Refused) takes short = rw (length-map (plain settings input).rows changes) (short.refused refl)
 
 -- with all rows and the outcome of the plain reading, the whole text is written
 all_text : (settings : DecodeSettings) (input : List ℕ) (taken : ℕ) (outcome : Outcome)

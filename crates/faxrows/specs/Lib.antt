@@ -1,4 +1,5 @@
 pub mod Arguments
 pub mod Faults
+pub mod PackedRuns
 pub mod Runs
 pub mod Text

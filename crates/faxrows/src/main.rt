@@ -1,18 +1,24 @@
 //! `faxrows`: decodes a fax image from standard input, and writes its rows as text on standard output.
 //!
-//! It is called as `faxrows MODE COLUMNS ROWS FLAGS`. The mode is `g4`, `1d` or `2d`, columns and rows are decimal
+//! It is called as `faxrows MODE COLUMNS ROWS FLAGS`, or as `faxrows -o MODE COLUMNS ROWS FLAGS` to write the rows as a
+//! bitmap, of one bit a pixel. The mode is `g4`, `1d` or `2d`, columns and rows are decimal
 //! numbers, and the flags are `-` or letters: `b` for an end of block, `l` for ends of line, `a` for aligned rows,
 //! `s` for a strict reading.
 #![tactic(auto)]
+
+ghost use Rattle.std.specs.Prelude.{◌<◌, IsTrue, length};
 
 mod arguments;
 pub mod device;
 mod digits;
 mod last_line;
+pub mod packed;
 pub mod program;
 pub mod text_sink;
 
 pub use device::{Device, Failed};
+use hayro_ccitt::DecodeError;
+pub use packed::run_packed;
 pub use program::{Done, RunFault, run};
 use std::env;
 use std::process::ExitCode;
@@ -20,9 +26,7 @@ pub use text_sink::TextSink;
 
 fn main(rt: HostRuntime) -> ExitCode {
     match run_words(&rt) {
-        Ok(Done::Good) => ExitCode::SUCCESS,
-        Ok(Done::Faulty) => ExitCode::from(1),
-        Ok(Done::Memory) => ExitCode::from(3),
+        Ok(status) => ExitCode::from(status),
         Err(fault) => {
             let _ = eprintln!(rt; "faxrows: {fault}");
             match fault {
@@ -33,8 +37,8 @@ fn main(rt: HostRuntime) -> ExitCode {
     }
 }
 
-/// Runs with the words of the environment, on standard input and output.
-fn run_words(rt: &HostRuntime) -> Result<Done, RunFault> {
+/// Runs with the words of the environment, on standard input and output. It answers the status to end with.
+fn run_words(rt: &HostRuntime) -> Result<u8, RunFault> {
     let Ok(all) = env::args(rt) else {
         return Err(RunFault::BadArguments);
     };
@@ -44,7 +48,41 @@ fn run_words(rt: &HostRuntime) -> Result<Done, RunFault> {
     let words: Vec<String> = words;
     let mut reader = Device::new(rt.stdin());
     let mut writer = Device::new(rt.stdout());
-    run(rt.alloc(), words.as_slice(), &mut reader, &mut writer)
+    let words = words.as_slice();
+    if has_bitmap_word(words) {
+        let answer = run_packed(rt.alloc(), &words[1..], &mut reader, &mut writer)?;
+        return Ok(status_of_answer(rt, answer));
+    }
+    let done = run(rt.alloc(), words, &mut reader, &mut writer)?;
+    Ok(status_of_done(done))
+}
+
+/// Whether the first word asks for a bitmap.
+fn has_bitmap_word(words: &[String]) -> bool
+    ensures { IsTrue result → 0 < length words.now }
+{
+    !words.is_empty() && words[0].as_str() == "-o"
+}
+
+/// The status of a run that wrote its text.
+fn status_of_done(done: Done) -> u8 {
+    match done {
+        Done::Good => 0,
+        Done::Faulty => 1,
+        Done::Memory => 3,
+    }
+}
+
+/// The status of a run that wrote its bitmap. An error is printed.
+fn status_of_answer(rt: &HostRuntime, answer: Result<(), DecodeError>) -> u8 {
+    let Err(error) = answer else {
+        return 0;
+    };
+    let _ = eprintln!(rt; "faxrows: {error}");
+    match error {
+        DecodeError::OutOfMemory | DecodeError::Refused => 3,
+        _ => 1,
+    }
 }
 
 #[cfg(test)]

@@ -137,7 +137,7 @@ fn write_decoded<W: Write>(
 }
 
 /// Reads until the reader has no more.
-fn read_all<R: Read>(
+pub(crate) fn read_all<R: Read>(
     alloc: Global,
     reader: &mut Device<R>,
 ) -> std::result::Result<Vec<u8>, RunFault>
@@ -174,7 +174,10 @@ fn read_all<R: Read>(
 const MOST_BYTES: usize = (usize::MAX - 64) / 8;
 
 /// Writes bytes until the writer has taken all of them.
-fn write_all<W: Write>(writer: &mut Device<W>, bytes: &[u8]) -> std::result::Result<(), RunFault>
+pub(crate) fn write_all<W: Write>(
+    writer: &mut Device<W>,
+    bytes: &[u8],
+) -> std::result::Result<(), RunFault>
     ensures ok { OnOk result (Appends (W.contents writer.old.0) (W.contents writer.new.0) bytes.now) }
     ensures flag { OnOk result (writer.new.1 ≡ writer.old.1) }
     ensures failed { OnErr result (writer.new.1 ≡ true) }

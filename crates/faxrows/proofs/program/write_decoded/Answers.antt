@@ -25,7 +25,7 @@ module _ (g : Over) (c : goal.After-drop-sink-inside-2 g) where
 pub returns-clause-written : goal.returns-clause-written
 returns-clause-written g c = (
   c.decode-outcome.result,
-  ends_after c.args.ctx.now.held.settings c.args.input.now _ _ _ _ c.decode-outcome.ensures.reading c.decode-outcome.ensures.short,
+  ends_after _ c.args.ctx.now.held.settings c.args.input.now _ _ _ _ c.decode-outcome.ensures.reading c.decode-outcome.ensures.short,
   c.done_of.ensures,
   subst (λ text. Grew g c (text ++ line_of_outcome c.decode-outcome.result)) (lines g c) (grew g c),
 )

@@ -1,0 +1,89 @@
+//! A run of the program that writes packed rows: all that a reader has is decoded, and written as a bitmap.
+
+ghost use Rattle.std.specs.Prelude.{◌≡◌, ◌≤◌, ◌↔◌, ◌≢◌, IfOk, IfErr, OnOk, OnErr, IfSome, true, false, map, string_bytes, None, Ok, Err, List, ℕ};
+ghost use Rattle.std.specs.Io.KnownBytes.{Appends, IsAtEnd};
+ghost use Rattle.hayro_ccitt.specs.Bits.{BitsFit};
+ghost use Rattle.faxrows.specs.Arguments.{settings_of_words};
+ghost use Rattle.faxrows.specs.Runs.{OnKnown, WasRead};
+ghost use Rattle.faxrows.specs.PackedRuns.{IsPackedOf, answer_of};
+
+use crate::arguments::settings_of;
+use crate::device::Device;
+use crate::program::{RunFault, read_all, write_all};
+use fax_encode::BitmapSink;
+use hayro_ccitt::{DecodeError, DecoderContext, decode};
+use std::alloc::Global;
+use std::io::{Read, Write};
+
+/// Reads all that the reader has, decodes it with the settings that the words mean, and writes the rows as a bitmap: one
+/// bit a pixel, 1 for black, the leftmost pixel in each byte's highest bit, and zeros after each row up to a whole byte.
+/// The inner answer says how the decoding ended.
+///
+/// Where the data is at fault, the rows before the fault were written; with `OutOfMemory` and `Refused` the rows that
+/// were taken.
+pub fn run_packed<R: Read, W: Write>(
+    alloc: Global,
+    words: &[String],
+    reader: &mut Device<R>,
+    writer: &mut Device<W>,
+) -> std::result::Result<std::result::Result<(), DecodeError>, RunFault>
+    ensures bad_arguments { (result ≡ Err RunFault.BadArguments)
+        ↔ (settings_of_words (map string_bytes words.now) ≡ None) }
+    ensures unread { result ≡ Err RunFault.BadArguments → reader.new ≡ reader.old }
+    ensures unwritten { IfErr result (λ fault. fault ≢ RunFault.Write → writer.new ≡ writer.old) }
+    ensures packed { IfOk result (λ answer.
+        OnKnown (settings_of_words (map string_bytes words.now)) (R.remaining reader.old.0) (λ settings input.
+        (bytes : List ℕ) × IsPackedOf settings input answer bytes
+        × Appends (W.contents writer.old.0) (W.contents writer.new.0) bytes)) }
+    ensures drained { IfOk result (λ _. IsAtEnd (R.remaining reader.new.0)) }
+    ensures fit { IfOk result (λ _. IfSome (R.remaining reader.old.0) BitsFit) }
+    ensures fit_write { result ≡ Err RunFault.Write → IfSome (R.remaining reader.old.0) BitsFit }
+    ensures fit_so_far { result ≢ Err RunFault.TooLong
+        → WasRead (R.remaining reader.old.0) (R.remaining reader.new.0) BitsFit }
+    ensures too_long { result ≡ Err RunFault.TooLong
+        → IfSome (R.remaining reader.old.0) (λ input. ¬ (BitsFit input)) }
+    ensures read { reader.old.1 ≡ false → ((result ≡ Err RunFault.Read) ↔ (reader.new.1 ≡ true)) }
+    ensures write { writer.old.1 ≡ false → ((result ≡ Err RunFault.Write) ↔ (writer.new.1 ≡ true)) }
+{
+    let Some(settings) = settings_of(words) else {
+        return Err(RunFault::BadArguments);
+    };
+    let input = read_all(alloc, reader)?;
+    let Ok(mut ctx) = DecoderContext::new(alloc, settings) else {
+        return Err(RunFault::Memory);
+    };
+    write_packed(alloc, input.as_slice(), &mut ctx, writer)
+}
+
+/// Decodes bytes, writes the bitmap of the rows that were taken, and answers how the decoding ended. It fails only where
+/// the writer does.
+fn write_packed<W: Write>(
+    alloc: Global,
+    input: &[u8],
+    ctx: &mut DecoderContext,
+    writer: &mut Device<W>,
+) -> std::result::Result<std::result::Result<(), DecodeError>, RunFault>
+    requires fit { BitsFit input.now }
+    ensures written { IfOk result (λ answer. (bytes : List ℕ)
+        × IsPackedOf ctx.old.held.settings input.now answer bytes
+        × Appends (W.contents writer.old.0) (W.contents writer.new.0) bytes) }
+    ensures flag { OnOk result (writer.new.1 ≡ writer.old.1) }
+    ensures failed { OnErr result (writer.new.1 ≡ true) }
+    ensures only { IfErr result (λ fault. fault ≡ RunFault.Write) }
+{
+    let mut sink = BitmapSink::new(alloc, ctx.settings().columns);
+    let outcome = decode(input, &mut sink, ctx);
+    let bytes = sink.bytes();
+    write_all(writer, bytes)?;
+    Ok(answer_of(&outcome))
+}
+
+/// How the decoding ended, without the count of bytes.
+fn answer_of(outcome: &hayro_ccitt::Result<usize>) -> std::result::Result<(), DecodeError>
+    ensures { result ≡ answer_of outcome.now }
+{
+    match outcome {
+        Ok(_) => Ok(()),
+        Err(error) => Err(*error),
+    }
+}
