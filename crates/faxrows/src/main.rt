@@ -1,9 +1,8 @@
 //! `faxrows`: decodes a fax image from standard input, and writes its rows as text on standard output.
 //!
 //! It is called as `faxrows MODE COLUMNS ROWS FLAGS`, or as `faxrows -o MODE COLUMNS ROWS FLAGS` to write the rows as a
-//! bitmap, of one bit a pixel. The mode is `g4`, `1d` or `2d`, columns and rows are decimal
-//! numbers, and the flags are `-` or letters: `b` for an end of block, `l` for ends of line, `a` for aligned rows,
-//! `s` for a strict reading.
+//! bitmap of one bit a pixel. The mode is `g4`, `1d` or `2d`, columns and rows are decimal numbers, and the flags are `-`
+//! or letters: `b` for an end of block, `l` for ends of line, `a` for aligned rows, `s` for a strict reading.
 #![tactic(auto)]
 
 ghost use Rattle.std.specs.Prelude.{◌<◌, IsTrue, length};
