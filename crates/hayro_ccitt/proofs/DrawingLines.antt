@@ -1,6 +1,7 @@
 pub mod Drawings
 pub mod DrawnLines
 pub mod FullRows
+pub mod LineWidths
 pub mod LinesLeaveBits
 pub mod ReadLines
 pub mod UnreadRows

@@ -1,1 +1,2 @@
+pub mod PackedMemory
 pub mod Reporting

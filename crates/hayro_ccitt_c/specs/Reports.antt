@@ -1,12 +1,14 @@
 -- What C is told of a decoding.
-use Rattle.std.specs.Prelude.{◌≡◌, ◌≤◌, ◌<◌, ◌⊎◌, ℕ, ◌+◌, List, length, map, take, sum, Option, IfSome, Result, Ok, Err}
+use Rattle.std.specs.Prelude.{◌≡◌, ◌≤◌, ◌<◌, ◌⊎◌, ℕ, ◌+◌, ◌*◌, List, length, map, take, drop, sum, min, Option, IfSome, Result, Ok, Err}
 use Rattle.hayro_ccitt.specs.declared.error.DecodeError.{DecodeError}
 use Rattle.hayro_ccitt.specs.declared.error.DecodeError.TheVariants.{UnexpectedEof, InvalidCode, Overflow, OutOfMemory, Refused}
 use Rattle.hayro_ccitt.specs.declared.settings.DecodeSettings.{DecodeSettings}
 use Rattle.hayro_ccitt.specs.Answers.{PaintsBlack}
-use Rattle.hayro_ccitt.specs.Bits.{BitsFit}
+use Rattle.hayro_ccitt.specs.Bits.{BitsFit, bits_of}
 use Rattle.hayro_ccitt.specs.PlainReading.{plain, lines_of}
 use Rattle.hayro_ccitt.specs.Rows.{changes}
+use Rattle.fax_encode.specs.Packed.{packed}
+use Rattle.hayro_ccitt_c.specs.Packing.{bytes_of_row}
 
 -- the status of an answer
 abbrev pub status_of : Result ℕ DecodeError → ℕ
@@ -39,10 +41,16 @@ pub record IsReport (settings : DecodeSettings) (input : List ℕ) (status rows 
   pub status_is : status ≡ status_of answer
   pub bytes_are : bytes_read ≡ bytes_read_of answer
 
--- the number of the changes of the first so many rows
+-- the number of the changes of the first so many rows, as far as 64 bits hold it
 abbrev pub changes_taken : DecodeSettings → List ℕ → ℕ → ℕ
-changes_taken settings input taken = sum (map (λ row. length (changes row)) (take taken (plain settings input).rows))
+changes_taken settings input taken = min (sum (map (λ row. length (changes row)) (take taken (plain settings input).rows))) 18446744073709551615
 
 -- a fact on the settings that C means, where it means some, and the data isn't too long
 abbrev pub OnSettings : Option DecodeSettings → List ℕ → (DecodeSettings → Type 0) → Type 0
 OnSettings meant input P = BitsFit input → IfSome meant P
+
+-- Packed rows stand at the front of the caller's memory, the first so many, and what lies behind them is as it was.
+pub record ArePacked (settings : DecodeSettings) (input : List ℕ) (taken : ℕ) (before after : List ℕ) : Type 0 where
+  pub rows : bits_of (take (taken * bytes_of_row settings.columns) after) ≡ packed (take taken (plain settings input).rows)
+  pub rest : drop (taken * bytes_of_row settings.columns) after ≡ drop (taken * bytes_of_row settings.columns) before
+  pub room : taken * bytes_of_row settings.columns ≤ length after

@@ -1,25 +1,31 @@
-//! A sink that counts changes.
+//! Counting changes, and a sink that does nothing else.
 
-use hayro_ccitt::{DecodeError, Decoder};
+ghost use Rattle.std.specs.Prelude.{◌≡◌, length};
+ghost use Rattle.hayro_ccitt_c.specs.Packing.{counted};
+
+use hayro_ccitt::Decoder;
+
+/// A row's changes counted with those before, as far as 64 bits hold their number.
+pub(crate) fn counted(count: u64, changes: &[u32]) -> u64
+    ensures { result ≡ counted count (length changes.now) }
+{
+    count.saturating_add(changes.len() as u64)
+}
 
 /// The number of the changes of the rows that were taken.
 #[derive(Drop)]
 pub(crate) struct ChangeCount {
     changes: u64,
-    has_refused: bool,
 }
 
 impl ChangeCount {
-    ghost use Rattle.std.specs.Prelude.{◌≡◌, false};
+    ghost use Rattle.std.specs.Prelude.{◌≡◌};
 
     /// No row was taken yet.
     pub(crate) fn new() -> ChangeCount
-        ensures { result ≡ record { changes = 0; has_refused = false } }
+        ensures { result ≡ record { changes = 0 } }
     {
-        ChangeCount {
-            changes: 0,
-            has_refused: false,
-        }
+        ChangeCount { changes: 0 }
     }
 
     /// The number of changes.
@@ -31,28 +37,21 @@ impl ChangeCount {
 }
 
 impl Decoder for ChangeCount {
-    ghost use Rattle.std.specs.Prelude.{◌+◌, ℕ, length};
+    ghost use Rattle.std.specs.Prelude.{ℕ, length, false};
+    ghost use Rattle.hayro_ccitt_c.specs.Packing.{counted};
 
     ghost Meaning = { ℕ };
 
     ghost meaning = { λ sink. sink.changes };
 
-    ghost step = { λ _ count row. count + length row };
+    ghost step = { λ _ count row. counted count (length row) };
 
     ghost width = { λ _. 4294967295 };
 
-    ghost has_refused = { λ sink. sink.has_refused };
+    ghost has_refused = { λ _. false };
 
     fn push_row(&mut self, changes: &[u32]) -> hayro_ccitt::Result<()> {
-        match self.changes.checked_add(changes.len() as u64) {
-            Some(sum) => {
-                self.changes = sum;
-                Ok(())
-            }
-            None => {
-                self.has_refused = true;
-                Err(DecodeError::Refused)
-            }
-        }
+        self.changes = counted(self.changes, changes);
+        Ok(())
     }
 }

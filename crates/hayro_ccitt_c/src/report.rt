@@ -81,6 +81,7 @@ pub(crate) fn decoded<D: Decoder>(
     ensures report { IsReport settings «data».now result.status result.rows result.bytes_read }
     ensures meaning { D.meaning sink.new ≡ meaning_after (D.step (D.width sink.old)) (D.meaning sink.old)
         (take result.rows (plain settings «data».now).rows) }
+    ensures width { D.width sink.new ≡ D.width sink.old }
     ensures flag { result.status ≡ 5 → D.has_refused sink.new ≡ true }
 {
     let Ok(mut ctx) = DecoderContext::new(alloc, settings) else {
