@@ -1,2 +1,3 @@
+pub mod ListedMemory
 pub mod PackedMemory
 pub mod Reporting

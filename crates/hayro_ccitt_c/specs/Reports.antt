@@ -1,5 +1,5 @@
 -- What C is told of a decoding.
-use Rattle.std.specs.Prelude.{◌≡◌, ◌≤◌, ◌<◌, ◌⊎◌, ℕ, ◌+◌, ◌*◌, List, length, map, take, drop, sum, min, Option, IfSome, Result, Ok, Err}
+use Rattle.std.specs.Prelude.{◌≡◌, ◌≤◌, ◌<◌, ◌⊎◌, ℕ, suc, ◌+◌, ◌*◌, List, length, map, take, drop, sum, min, Option, IfSome, Result, Ok, Err}
 use Rattle.hayro_ccitt.specs.declared.error.DecodeError.{DecodeError}
 use Rattle.hayro_ccitt.specs.declared.error.DecodeError.TheVariants.{UnexpectedEof, InvalidCode, Overflow, OutOfMemory, Refused}
 use Rattle.hayro_ccitt.specs.declared.settings.DecodeSettings.{DecodeSettings}
@@ -9,6 +9,7 @@ use Rattle.hayro_ccitt.specs.PlainReading.{plain, lines_of}
 use Rattle.hayro_ccitt.specs.Rows.{changes}
 use Rattle.fax_encode.specs.Packed.{packed}
 use Rattle.hayro_ccitt_c.specs.Packing.{bytes_of_row}
+use Rattle.hayro_ccitt_c.specs.Listing.{listed}
 
 -- the status of an answer
 abbrev pub status_of : Result ℕ DecodeError → ℕ
@@ -54,3 +55,8 @@ pub record ArePacked (settings : DecodeSettings) (input : List ℕ) (taken : ℕ
   pub rows : bits_of (take (taken * bytes_of_row settings.columns) after) ≡ packed (take taken (plain settings input).rows)
   pub rest : drop (taken * bytes_of_row settings.columns) after ≡ drop (taken * bytes_of_row settings.columns) before
   pub room : taken * bytes_of_row settings.columns ≤ length after
+
+-- Lists of rows stand at the front of the caller's memory, the first so many, and what lies behind them is as it was.
+pub record AreListed (settings : DecodeSettings) (input : List ℕ) (taken : ℕ) (before after : List ℕ) : Type 0 where
+  pub rows : take (length (listed (take taken (plain settings input).rows))) after ≡ listed (take taken (plain settings input).rows)
+  pub rest : drop (length (listed (take taken (plain settings input).rows))) after ≡ drop (length (listed (take taken (plain settings input).rows))) before

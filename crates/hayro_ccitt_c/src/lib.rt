@@ -7,15 +7,17 @@
 ghost use Rattle.std.specs.Prelude.{◌≡◌, ◌≢◌, ◌<◌, ◌+◌, ◌*◌, ◌⊎◌, None, length};
 ghost use Rattle.hayro_ccitt.specs.Bits.{BitsFit};
 ghost use Rattle.hayro_ccitt_c.specs.Packing.{bytes_of_row};
-ghost use Rattle.hayro_ccitt_c.specs.Reports.{OnSettings, IsReport, changes_taken, ArePacked};
+ghost use Rattle.hayro_ccitt_c.specs.Reports.{OnSettings, IsReport, changes_taken, ArePacked, AreListed};
 ghost use Rattle.hayro_ccitt_c.specs.Settings.{settings_of};
 
 mod change_count;
+mod listed_rows;
 mod packed_rows;
 mod report;
 mod settings;
 
 use change_count::ChangeCount;
+use listed_rows::ListedRows;
 use packed_rows::PackedRows;
 pub use report::Outcome;
 use report::{decoded, untaken};
@@ -91,6 +93,45 @@ pub extern "C" fn hayro_ccitt_decode_packed(
         return untaken(outcome);
     };
     let mut rows = PackedRows::new(bitmap, meant.columns);
+    let report = decoded(alloc, data, meant, &mut rows);
+    *outcome = Outcome {
+        rows: report.rows,
+        changes: rows.changes(),
+        bytes_read: report.bytes_read,
+    };
+    report.status
+}
+
+/// Lists the changes of the rows of the data in `lists`, one row behind the other: of each row the number of its changes, and
+/// then the places at which its colour changes, white first, ascending. What lies behind the last row stays.
+///
+/// `outcome` holds the number of rows, of their changes, and of the bytes read if the status is 0, else 0. A status of 5 says
+/// that there is no room for the next row; 6, that the data is too long or the settings are none.
+#[unsafe(no_mangle)]
+pub extern "C" fn hayro_ccitt_decode_changes(
+    alloc: Global,
+    data: &[u8],
+    settings: &Settings,
+    lists: &mut [u32],
+    outcome: &mut Outcome,
+) -> u32
+    ensures report { OnSettings (settings_of settings.now) «data».now (λ s.
+        IsReport s «data».now result outcome.new.rows outcome.new.bytes_read) }
+    ensures changes { OnSettings (settings_of settings.now) «data».now (λ s.
+        outcome.new.changes ≡ changes_taken s «data».now outcome.new.rows) }
+    ensures listed { OnSettings (settings_of settings.now) «data».now (λ s.
+        AreListed s «data».now outcome.new.rows lists.old lists.new) }
+    ensures untaken { (settings_of settings.now ≡ None) ⊎ (¬ (BitsFit «data».now))
+        → (result ≡ 6) × (outcome.new ≡ record { rows = 0; changes = 0; bytes_read = 0 })
+        × (lists.new ≡ lists.old) }
+{
+    if !bits_fit(data) {
+        return untaken(outcome);
+    }
+    let Some(meant) = settings_of(settings) else {
+        return untaken(outcome);
+    };
+    let mut rows = ListedRows::new(lists);
     let report = decoded(alloc, data, meant, &mut rows);
     *outcome = Outcome {
         rows: report.rows,
