@@ -1,12 +1,11 @@
 -- A row while it is painted: what is written, and what is left to paint.
-use Rattle.std.proofs.Common.{◌≡◌, ℕ, zero, suc, ◌+◌, ◌-◌, ◌*◌, ◌/◌, ◌%◌, ◌^◌, ◌<◌, ◌≤◌, Bool, true, false, not, List, [], ◌∷◌, ◌++◌, length, get_or, take, drop, replicate, refl, sym, ap, subst, ◌∙◌, arith, append_assoc, take_all}
+use Rattle.std.proofs.Common.{◌≡◌, ℕ, zero, suc, ◌+◌, ◌-◌, ◌*◌, ◌/◌, ◌%◌, ◌<◌, ◌≤◌, Bool, true, false, not, List, [], ◌++◌, length, get_or, take, drop, replicate, refl, sym, ap, ◌∙◌, arith, append_assoc, take_all}
 use Rattle.std.proofs.lemmas.Grind.{flat_map-append}
-use Rattle.std.proofs.lemmas.List.{append-nil, length-append, length-replicate, length-take, length-drop, drop_all, replicate-append-replicate, take-append-le, take-replicate}
+use Rattle.std.proofs.lemmas.List.{append-nil, length-append, length-replicate, length-take, length-drop, drop_all, replicate-append-replicate, take-replicate}
 use Rattle.std.proofs.Math.Seq.{take-append-add}
 use Rattle.std.proofs.lemmas.Slice.{take-put_mid}
 use borrow.Rule.Slice.PartMut.{put_mid}
 use Rattle.hayro_ccitt.specs.Bits.{Bits, bits_of, bits_of_byte, low_bits}
-use Rattle.hayro_ccitt.specs.Encodings.{padding}
 use Rattle.hayro_ccitt.specs.Rows.{Row, AscendFrom, AreChanges, pixels, pixels_from}
 use Rattle.hayro_ccitt.proofs.BitReading.BitLists.{length-bits_of}
 use Rattle.hayro_ccitt.proofs.PixelRows.ChangesAndPixels.{length-pixels}
@@ -15,7 +14,6 @@ use Rattle.fax_encode.specs.Painting.{under, StandsAt}
 use Rattle.fax_encode.specs.declared.painting.Brush.{Brush}
 use Rattle.fax_encode.proofs.PaintedWords.{bits_of-take, turned_under}
 use Rattle.fax_encode.proofs.RunsWritten.{next_is, next_right, next_within, next_ascends, one_part}
-use Rattle.fax_encode.proofs.WrittenBits.{byte_full_of, bits_of_full}
 use Rattle.hayro_ccitt.specs.declared.codes.Color.TheVariants.{White}
 
 -- ---- moving to another word
@@ -155,9 +153,9 @@ turned_there row at new place front color stands within long same painted turn =
     ap (λ (k : ℕ). bits_of (take k row) ++ low_bits 64 new.word) same
     ∙ turned_under bytes (low_bits 64 at.word) (low_bits 64 new.word) front n color (not color) painted (omega arith)
     (λ f len e.
-      let left : 64 - length f ≡ n = omega arith in
-      let turned = turn f (omega arith) (e ∙ ap (λ (k : ℕ). f ++ replicate k color) (sym left)) in
-      turned ∙ ap (λ (k : ℕ). f ++ replicate k (not color)) left)
+    let left : 64 - length f ≡ n = omega arith in
+    let turned = turn f (omega arith) (e ∙ ap (λ (k : ℕ). f ++ replicate k color) (sym left)) in
+    turned ∙ ap (λ (k : ℕ). f ++ replicate k (not color)) left)
     ∙ ap (λ (k : ℕ). front ++ replicate (8 * k + 64 - place) (not color)) (sym same)
 
 -- what turning the colour at a place does to a word

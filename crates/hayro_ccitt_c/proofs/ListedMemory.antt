@@ -1,6 +1,6 @@
 -- Lists of rows in the caller's memory, from what the sink leaves.
-use Rattle.std.proofs.Common.{◌≡◌, ℕ, suc, ◌+◌, ◌-◌, ◌≤◌, ◌<◌, List, [], ◌∷◌, ◌++◌, length, take, drop, set, map, refl, sym, ap, subst, ◌∙◌, arith, append_assoc}
-use Rattle.std.proofs.lemmas.List.{append-nil, length-append, length-take, length-drop, drop-drop, length-set, take_more_set, drop-set-lt}
+use Rattle.std.proofs.Common.{◌≡◌, ℕ, suc, ◌+◌, ◌-◌, ◌≤◌, ◌<◌, List, [], ◌∷◌, ◌++◌, length, take, drop, set, refl, sym, ap, subst, ◌∙◌, arith, append_assoc}
+use Rattle.std.proofs.lemmas.List.{append-nil, length-append, drop-drop, length-set, take_more_set, drop-set-lt}
 use Rattle.std.proofs.lemmas.Slice.{take-put_mid, drop-put_mid}
 use borrow.Rule.Slice.PartMut.{put_mid}
 use Rattle.hayro_ccitt.specs.declared.settings.DecodeSettings.{DecodeSettings}
@@ -8,8 +8,7 @@ use Rattle.hayro_ccitt.specs.Answers.{meaning_after}
 use Rattle.hayro_ccitt.specs.PlainReading.{plain}
 use Rattle.hayro_ccitt.specs.Rows.{Row, AscendFrom, changes}
 use Rattle.hayro_ccitt_c.specs.Listing.{Listing, with_listed, listed, listed_row}
-use Rattle.hayro_ccitt_c.specs.Packing.{counted}
-use Rattle.hayro_ccitt_c.specs.Reports.{changes_taken, AreListed}
+use Rattle.hayro_ccitt_c.specs.Reports.{changes_taken, numbers_taken, AreListed}
 use Rattle.hayro_ccitt_c.proofs.Reporting.{counts, changes_counted}
 
 -- ---- one row
@@ -44,10 +43,10 @@ listed_more end row lists part within room is =
     let more : end + 1 + length row ≡ end + length (listed_row row) = omega arith in
     let before : end < end + 1 + length row = omega arith in (
       take-put_mid (end + 1) count now part (end + 1 + length row) behind begun
-      ∙ ap (λ (l : List ℕ). l ++ part) (take_more_set lists end (length row) inside) ∙ ap (λ (l : List ℕ). (take end lists ++ length row ∷ []) ++ l) is
-      ∙ append_assoc (take end lists) (length row ∷ []) row,
+          ∙ ap (λ (l : List ℕ). l ++ part) (take_more_set lists end (length row) inside) ∙ ap (λ (l : List ℕ). (take end lists ++ length row ∷ []) ++ l) is
+          ∙ append_assoc (take end lists) (length row ∷ []) row,
       drop-put_mid (end + 1) count now part (end + 1 + length row) reach begun whole
-      ∙ drop-set-lt (end + 1 + length row) lists end (length row) before ∙ ap (λ (n : ℕ). drop n lists) more ∙ sym (drop-drop (length (listed_row row)) end lists),
+          ∙ drop-set-lt (end + 1 + length row) lists end (length row) before ∙ ap (λ (n : ℕ). drop n lists) more ∙ sym (drop-drop (length (listed_row row)) end lists),
     )
 
 -- ---- all rows
@@ -77,6 +76,7 @@ rows_listed before (row ∷ rows) =
 
 -- ---- what the caller's memory holds, where it was lent to a sink that took the first rows
 pub record HoldsLists (settings : DecodeSettings) (input : List ℕ) (taken : ℕ) (before after : List ℕ) (start final : Listing) : Type 0 where
+  pub end : final.end ≡ numbers_taken settings input taken
   pub changes : final.changes ≡ changes_taken settings input taken
   pub listed : AreListed settings input taken before after
   pub name : start.name ≡ final.name
@@ -89,6 +89,7 @@ holds_lists settings input taken start final before after begun empty whole unco
     let has : HasListed rows start final = subst (HasListed rows start) (sym meaning) (rows_listed start rows) in
     let end : final.end ≡ length (listed rows) = omega (arith, has.end) in
     record {
+      end = end;
       changes = has.changes ∙ ap (λ (n : ℕ). meaning_after counts n rows) uncounted ∙ changes_counted 0 rows;
       listed = record {
         rows = ap (λ (n : ℕ). take n after) (sym end) ∙ numbers ∙ has.numbers ∙ ap (λ (l : List ℕ). l ++ listed rows) empty;

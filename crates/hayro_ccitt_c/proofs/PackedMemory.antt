@@ -1,8 +1,7 @@
 -- Packed rows in the caller's memory, from what the sink leaves.
-use Rattle.std.proofs.Common.{◌≡◌, ℕ, zero, suc, ◌+◌, ◌-◌, ◌*◌, ◌/◌, ◌≤◌, ◌<◌, List, [], ◌∷◌, ◌++◌, length, take, drop, map, refl, sym, ap, subst, ◌∙◌, arith, append_assoc}
-use Rattle.std.specs.Prelude.{All}
+use Rattle.std.proofs.Common.{◌≡◌, ℕ, suc, ◌+◌, ◌-◌, ◌*◌, ◌≤◌, ◌<◌, List, [], ◌∷◌, ◌++◌, length, take, drop, refl, sym, ap, subst, ◌∙◌, arith, append_assoc}
 use Rattle.std.proofs.lemmas.Grind.{flat_map-append}
-use Rattle.std.proofs.lemmas.List.{append-nil, length-append, length-take, length-drop, drop-drop}
+use Rattle.std.proofs.lemmas.List.{append-nil, length-take, length-drop, drop-drop}
 use Rattle.std.proofs.lemmas.List.Elements.{All-head, All-tail, All-take}
 use Rattle.std.proofs.lemmas.Slice.{take-put_mid, drop-put_mid}
 use borrow.Rule.Slice.PartMut.{put_mid}
@@ -14,7 +13,7 @@ use Rattle.fax_encode.specs.Chosen.{filled_up}
 use Rattle.fax_encode.specs.Packed.{packed}
 use Rattle.hayro_ccitt.proofs.PixelRows.ChangesAndPixels.{pixels-changes}
 use Rattle.hayro_ccitt.proofs.Readings.RowWidths.{HaveWidth, plain_width}
-use Rattle.hayro_ccitt_c.specs.Packing.{Packing, with_packed, bytes_of_row, counted}
+use Rattle.hayro_ccitt_c.specs.Packing.{Packing, with_packed, bytes_of_row}
 use Rattle.hayro_ccitt_c.specs.Reports.{changes_taken, ArePacked}
 use Rattle.hayro_ccitt_c.proofs.Reporting.{counts, changes_counted}
 use Rattle.hayro_ccitt.specs.PlainReading.{plain}
@@ -30,9 +29,9 @@ packed_more columns end bytes list bitmap row is room within same painted =
     let reach : end + (end + bytes - end) ≤ end + bytes = omega arith in
     let part : length row ≡ end + bytes - end = omega arith in (
       ap bits_of (take-put_mid end (end + bytes - end) bitmap row (end + bytes) behind within) ∙ flat_map-append bits_of_byte (take end bitmap) row
-      ∙ ap (λ (b : Bits). bits_of (take end bitmap) ++ b) painted,
+          ∙ ap (λ (b : Bits). bits_of (take end bitmap) ++ b) painted,
       drop-put_mid end (end + bytes - end) bitmap row (end + bytes) reach within part
-      ∙ sym (drop-drop (bytes_of_row columns) end bitmap ∙ ap (λ (n : ℕ). drop (end + n) bitmap) (sym is)),
+          ∙ sym (drop-drop (bytes_of_row columns) end bitmap ∙ ap (λ (n : ℕ). drop (end + n) bitmap) (sym is)),
     )
 
 -- the same in each part is the same

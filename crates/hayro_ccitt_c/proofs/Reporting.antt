@@ -1,5 +1,5 @@
 -- What C is told, from what decoding answers.
-use Rattle.std.proofs.Common.{◌≡◌, ◌≤◌, ◌+◌, min, ℕ, List, [], ◌∷◌, length, map, take, refl, sym, ap, subst, ◌∙◌, Ok, Err, Option, Some, None, IfSome, inl, inr, arith}
+use Rattle.std.proofs.Common.{◌≡◌, ◌≤◌, ◌+◌, min, ℕ, List, [], ◌∷◌, length, map, refl, ap, subst, ◌∙◌, Ok, Err, Option, Some, None, IfSome, inl, inr, arith}
 use Rattle.hayro_ccitt.specs.declared.error.DecodeError.TheVariants.{UnexpectedEof, InvalidCode, Overflow, OutOfMemory, Refused}
 use Rattle.hayro_ccitt.specs.declared.error.DecodeError.{DecodeError}
 use Rattle.hayro_ccitt.specs.declared.settings.DecodeSettings.{DecodeSettings}

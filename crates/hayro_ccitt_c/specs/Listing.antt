@@ -1,5 +1,5 @@
 -- Rows as lists of changes in the caller's memory.
-use Rattle.std.specs.Prelude.{ℕ, ◌+◌, List, ◌∷◌, ◌++◌, length, drop, map, flat_map}
+use Rattle.std.specs.Prelude.{ℕ, ◌+◌, List, ◌∷◌, ◌++◌, length, drop, flat_map}
 use Rattle.hayro_ccitt.specs.Rows.{Row, changes}
 use Rattle.hayro_ccitt_c.specs.Packing.{counted}
 

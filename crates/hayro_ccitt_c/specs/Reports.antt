@@ -1,5 +1,5 @@
 -- What C is told of a decoding.
-use Rattle.std.specs.Prelude.{◌≡◌, ◌≤◌, ◌<◌, ◌⊎◌, ℕ, suc, ◌+◌, ◌*◌, List, length, map, take, drop, sum, min, Option, IfSome, Result, Ok, Err}
+use Rattle.std.specs.Prelude.{◌≡◌, ◌≤◌, ◌<◌, ◌⊎◌, ℕ, ◌*◌, List, length, map, take, drop, sum, min, Option, IfSome, Result, Ok, Err}
 use Rattle.hayro_ccitt.specs.declared.error.DecodeError.{DecodeError}
 use Rattle.hayro_ccitt.specs.declared.error.DecodeError.TheVariants.{UnexpectedEof, InvalidCode, Overflow, OutOfMemory, Refused}
 use Rattle.hayro_ccitt.specs.declared.settings.DecodeSettings.{DecodeSettings}
@@ -56,7 +56,11 @@ pub record ArePacked (settings : DecodeSettings) (input : List ℕ) (taken : ℕ
   pub rest : drop (taken * bytes_of_row settings.columns) after ≡ drop (taken * bytes_of_row settings.columns) before
   pub room : taken * bytes_of_row settings.columns ≤ length after
 
+-- how many numbers the lists of the first so many rows take
+abbrev pub numbers_taken : DecodeSettings → List ℕ → ℕ → ℕ
+numbers_taken settings input taken = length (listed (take taken (plain settings input).rows))
+
 -- Lists of rows stand at the front of the caller's memory, the first so many, and what lies behind them is as it was.
 pub record AreListed (settings : DecodeSettings) (input : List ℕ) (taken : ℕ) (before after : List ℕ) : Type 0 where
-  pub rows : take (length (listed (take taken (plain settings input).rows))) after ≡ listed (take taken (plain settings input).rows)
-  pub rest : drop (length (listed (take taken (plain settings input).rows))) after ≡ drop (length (listed (take taken (plain settings input).rows))) before
+  pub rows : take (numbers_taken settings input taken) after ≡ listed (take taken (plain settings input).rows)
+  pub rest : drop (numbers_taken settings input taken) after ≡ drop (numbers_taken settings input taken) before

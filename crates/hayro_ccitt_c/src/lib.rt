@@ -4,10 +4,10 @@
 //! all memory that it asks for is let go when it returns.
 #![tactic(auto)]
 
-ghost use Rattle.std.specs.Prelude.{◌≡◌, ◌≢◌, ◌<◌, ◌+◌, ◌*◌, ◌⊎◌, None, length};
+ghost use Rattle.std.specs.Prelude.{◌≡◌, ◌≢◌, ◌<◌, ◌≤◌, ◌+◌, ◌*◌, ◌⊎◌, None, length};
 ghost use Rattle.hayro_ccitt.specs.Bits.{BitsFit};
 ghost use Rattle.hayro_ccitt_c.specs.Packing.{bytes_of_row};
-ghost use Rattle.hayro_ccitt_c.specs.Reports.{OnSettings, IsReport, changes_taken, ArePacked, AreListed};
+ghost use Rattle.hayro_ccitt_c.specs.Reports.{OnSettings, IsReport, changes_taken, ArePacked, AreListed, numbers_taken};
 ghost use Rattle.hayro_ccitt_c.specs.Settings.{settings_of};
 
 mod change_count;
@@ -17,13 +17,13 @@ mod report;
 mod settings;
 
 use change_count::ChangeCount;
+use hayro_ccitt::bits_fit;
 use listed_rows::ListedRows;
 use packed_rows::PackedRows;
 pub use report::Outcome;
 use report::{decoded, untaken};
 pub use settings::Settings;
 use settings::settings_of;
-use hayro_ccitt::bits_fit;
 use std::alloc::Global;
 
 /// Counts the rows of the data and their changes, and writes nothing down.
@@ -106,7 +106,8 @@ pub extern "C" fn hayro_ccitt_decode_packed(
 /// then the places at which its colour changes, white first, ascending. What lies behind the last row stays.
 ///
 /// `outcome` holds the number of rows, of their changes, and of the bytes read if the status is 0, else 0. A status of 5 says
-/// that there is no room for the next row; 6, that the data is too long or the settings are none.
+/// that there is no room for the next row, and comes only where fewer than columns + 1 numbers are left; 6, that the data is
+/// too long or the settings are none.
 #[unsafe(no_mangle)]
 pub extern "C" fn hayro_ccitt_decode_changes(
     alloc: Global,
@@ -121,6 +122,8 @@ pub extern "C" fn hayro_ccitt_decode_changes(
         outcome.new.changes ≡ changes_taken s «data».now outcome.new.rows) }
     ensures listed { OnSettings (settings_of settings.now) «data».now (λ s.
         AreListed s «data».now outcome.new.rows lists.old lists.new) }
+    ensures refused { result ≡ 5 → OnSettings (settings_of settings.now) «data».now (λ s.
+        length lists.new ≤ numbers_taken s «data».now outcome.new.rows + s.columns) }
     ensures untaken { (settings_of settings.now ≡ None) ⊎ (¬ (BitsFit «data».now))
         → (result ≡ 6) × (outcome.new ≡ record { rows = 0; changes = 0; bytes_read = 0 })
         × (lists.new ≡ lists.old) }
@@ -131,7 +134,7 @@ pub extern "C" fn hayro_ccitt_decode_changes(
     let Some(meant) = settings_of(settings) else {
         return untaken(outcome);
     };
-    let mut rows = ListedRows::new(lists);
+    let mut rows = ListedRows::new(lists, meant.columns);
     let report = decoded(alloc, data, meant, &mut rows);
     *outcome = Outcome {
         rows: report.rows,

@@ -12,25 +12,29 @@ pub(crate) struct ListedRows<'a> {
     lists: &'a mut [u32],
     /// How many numbers the rows take so far.
     end: usize,
+    columns: u32,
     changes: u64,
     has_refused: bool,
     ghost within: { end ≤ length lists.now },
+    ghost full: { has_refused ≡ true → length lists.now ≤ end + columns },
 }
 
 impl<'a> ListedRows<'a> {
     ghost use Rattle.std.specs.Prelude.{◌≡◌, false};
 
     /// No row was taken yet.
-    pub(crate) fn new(lists: &'a mut [u32]) -> ListedRows<'a>
+    pub(crate) fn new(lists: &'a mut [u32], columns: u32) -> ListedRows<'a>
         ensures same_reference { result.lists.ghost_name ≡ lists.entry.ghost_name }
         ensures numbers { result.lists.now ≡ lists.old }
         ensures end { result.end ≡ 0 }
+        ensures columns { result.columns ≡ columns }
         ensures changes { result.changes ≡ 0 }
         ensures has_refused { result.has_refused ≡ false }
     {
         ListedRows {
             lists,
             end: 0,
+            columns,
             changes: 0,
             has_refused: false,
         }
@@ -51,16 +55,16 @@ impl Decoder for ListedRows<'_> {
     ghost Meaning = { Listing };
 
     ghost meaning = { λ sink. record {
-        end = sink.end;
-        numbers = take sink.end sink.lists.now;
-        rest = drop sink.end sink.lists.now;
-        changes = sink.changes;
-        name = sink.lists.ghost_name;
+      end = sink.end;
+      numbers = take sink.end sink.lists.now;
+      rest = drop sink.end sink.lists.now;
+      changes = sink.changes;
+      name = sink.lists.ghost_name;
     } };
 
     ghost step = { λ _ before row. with_listed before row };
 
-    ghost width = { λ _. 4294967295 };
+    ghost width = { λ sink. sink.columns };
 
     ghost has_refused = { λ sink. sink.has_refused };
 

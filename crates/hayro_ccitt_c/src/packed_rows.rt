@@ -57,11 +57,11 @@ impl Decoder for PackedRows<'_> {
     ghost Meaning = { Packing };
 
     ghost meaning = { λ sink. record {
-        end = sink.end;
-        bits = bits_of (take sink.end sink.bitmap.now);
-        rest = drop sink.end sink.bitmap.now;
-        changes = sink.changes;
-        name = sink.bitmap.ghost_name;
+      end = sink.end;
+      bits = bits_of (take sink.end sink.bitmap.now);
+      rest = drop sink.end sink.bitmap.now;
+      changes = sink.changes;
+      name = sink.bitmap.ghost_name;
     } };
 
     ghost step = { with_packed };

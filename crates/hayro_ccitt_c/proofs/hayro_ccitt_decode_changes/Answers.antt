@@ -1,6 +1,6 @@
-use Rattle.std.proofs.Common.{◌≡◌, ◌∙◌, [], take, drop, refl, sym, ap, rules, Some}
+use Rattle.std.proofs.Common.{◌≡◌, ◌∙◌, ◌+◌, ◌≤◌, length, arith, take, drop, refl, sym, ap, rules, Some}
 use Rattle.hayro_ccitt_c.specs.Listing.{Listing}
-use Rattle.hayro_ccitt_c.specs.Reports.{changes_taken, AreListed}
+use Rattle.hayro_ccitt_c.specs.Reports.{changes_taken, numbers_taken, AreListed}
 use Rattle.hayro_ccitt_c.specs.Settings.{settings_of}
 use Rattle.hayro_ccitt_c.proofs.ListedMemory.{HoldsLists, holds_lists}
 use Rattle.hayro_ccitt_c.proofs.Reporting.{on_meant}
@@ -48,3 +48,10 @@ returns-clause-listed c = λ fit.
     let are : AreListed c.in-Some.meant c.args.«data».now c.decoded-report.result.rows c.args.lists.now c.decoded-report.new.sink.lists.now = (holds c).listed in
     let name = sym c.new-rows.ensures.same_reference ∙ (holds c).name in
     on_meant (settings_of c.args.settings.now) c.in-Some.meant (λ s. AreListed s c.args.«data».now c.decoded-report.result.rows c.args.lists.now _) (meant c) (search rules)
+
+pub returns-clause-refused : goal.returns-clause-refused
+returns-clause-refused c = λ full fit.
+    let few : length c.decoded-report.new.sink.lists.now ≤ numbers_taken c.in-Some.meant c.args.«data».now c.decoded-report.result.rows + c.in-Some.meant.columns
+    = omega (arith, c.decoded-report.new.sink.full (c.decoded-report.ensures.flag full), (holds c).end, c.decoded-report.ensures.width, c.new-rows.ensures.columns) in
+    let name = sym c.new-rows.ensures.same_reference ∙ (holds c).name in
+    on_meant (settings_of c.args.settings.now) c.in-Some.meant (λ s. length _ ≤ numbers_taken s c.args.«data».now c.decoded-report.result.rows + s.columns) (meant c) (search rules)

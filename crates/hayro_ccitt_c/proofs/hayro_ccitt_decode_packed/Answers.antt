@@ -1,4 +1,4 @@
-use Rattle.std.proofs.Common.{◌≡◌, ◌∙◌, ◌≤◌, ◌<◌, ◌+◌, ◌*◌, ℕ, List, [], take, drop, length, refl, sym, ap, rules, Some}
+use Rattle.std.proofs.Common.{◌≡◌, ◌∙◌, ◌≤◌, ◌<◌, ◌+◌, ◌*◌, ℕ, [], take, drop, length, refl, sym, ap, rules, Some}
 use Rattle.hayro_ccitt.specs.Bits.{bits_of}
 use Rattle.hayro_ccitt.specs.PlainReading.{plain}
 use Rattle.hayro_ccitt_c.specs.Packing.{Packing, bytes_of_row}

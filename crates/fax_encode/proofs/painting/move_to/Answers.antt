@@ -1,6 +1,6 @@
-use Rattle.std.proofs.Common.{◌≡◌, ◌+◌, ◌*◌, ◌/◌, ◌-◌, ◌≤◌, ℕ, List, length, take, replicate, ◌++◌, refl, ap, ◌∙◌, arith}
+use Rattle.std.proofs.Common.{◌≡◌, ◌+◌, ◌*◌, ◌/◌, ◌-◌, ◌≤◌, ℕ, List, length, ap, ◌∙◌, arith}
 use borrow.Rule.Slice.PartMut.{put_mid}
-use Rattle.hayro_ccitt.specs.Bits.{Bits, bits_of, low_bits}
+use Rattle.hayro_ccitt.specs.Bits.{bits_of, low_bits}
 use Rattle.fax_encode.proofs.PaintedRows.{moved_on, filled_in, none_between}
 use Rattle.fax_encode.proofs.PaintedWords.{bits_of_word}
 use Rattle.fax_encode.proofs.painting.move_to.Goals as goal

@@ -1,4 +1,4 @@
-use Rattle.std.proofs.Common.{◌≡◌, ◌+◌, ◌-◌, ◌*◌, ◌/◌, ◌≤◌, ◌++◌, ℕ, List, false, length, replicate, sym, ap, ◌∙◌, arith}
+use Rattle.std.proofs.Common.{◌≡◌, ◌+◌, ◌-◌, ◌*◌, ◌/◌, ◌≤◌, ◌++◌, ℕ, List, false, length, replicate, ap, ◌∙◌, arith}
 use Rattle.hayro_ccitt.specs.Rows.{pixels}
 use Rattle.fax_encode.specs.declared.painting.Brush.{Brush}
 use Rattle.fax_encode.specs.Painting.{under}
@@ -26,7 +26,7 @@ returns c =
     let bytes : length row ≡ (columns + 7) / 8 = last.length ∙ c.loop-change.invariant.room ∙ c.requires.room in
     let room : columns ≤ 8 * length row = omega arith in
     let painted = all_painted columns changes c.loop-change.change-index c.loop-change.brush c.move_to-at-2.result c.loop-change.row row
-        (omega (arith, c.loop-change-test.false)) c.loop-change.invariant.painted last.stands last.right last.color last.painted in
+    (omega (arith, c.loop-change-test.false)) c.loop-change.invariant.painted last.stands last.right last.color last.painted in
     let n : ℕ = 8 * c.move_to-at-2.result.start + 64 - columns in
     let white : under c.if-at.at row ≡ pixels columns changes ++ replicate n false = elim c.if-at.branch [
       | then-at w ↦ ap (λ (b : Brush). under b row) w.at-is

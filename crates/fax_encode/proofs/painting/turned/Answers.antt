@@ -1,7 +1,7 @@
-use Rattle.std.proofs.Common.{◌≡◌, ◌-◌, ◌≤◌, ◌%◌, ◌/◌, ◌^◌, ℕ, ◌++◌, Bool, not, length, replicate, refl, sym, ap, ◌∙◌, arith}
+use Rattle.std.proofs.Common.{◌≡◌, ◌-◌, ◌≤◌, ◌%◌, ◌/◌, ◌^◌, ℕ, length, ap, ◌∙◌, arith}
 use Rattle.std.specs.Int.RustNames.{bit_xor}
 use Rattle.std.proofs.lemmas.Nat.Bits.{ones_shr}
-use Rattle.hayro_ccitt.specs.Bits.{Bits, low_bits}
+use Rattle.hayro_ccitt.specs.Bits.{low_bits}
 use Rattle.fax_encode.proofs.PaintedWords.{turned_behind}
 use Rattle.fax_encode.proofs.painting.turned.Goals as goal
 

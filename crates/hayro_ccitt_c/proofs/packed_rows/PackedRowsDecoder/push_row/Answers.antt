@@ -1,4 +1,4 @@
-use Rattle.std.proofs.Common.{◌≡◌, ◌+◌, ℕ, refl, ap, arith}
+use Rattle.std.proofs.Common.{◌≡◌, ◌+◌, ℕ, ap, arith}
 use Rattle.hayro_ccitt_c.specs.Packing.{bytes_of_row}
 use Rattle.hayro_ccitt_c.proofs.PackedMemory.{packed_more, same_packing}
 use Rattle.hayro_ccitt_c.proofs.packed_rows.PackedRowsDecoder.push_row.Goals as goal
