@@ -153,7 +153,7 @@ filled_behind bit waiting count n full byte few room full-is is =
     ∙ put_together waiting count n (byte_full_of bit / 2 ^ (8 - n)) _ few short high.0 refl ∙ ap (λ (b : Bits). low_bits count waiting ++ b) high.1
 
 -- whole bytes of them
-pub bits_of_full : (bit : Bool) (k : ℕ) → bits_of (replicate k (byte_full_of bit)) ≡ replicate (8 * k) bit
+bits_of_full : (bit : Bool) (k : ℕ) → bits_of (replicate k (byte_full_of bit)) ≡ replicate (8 * k) bit
 bits_of_full bit zero = refl
 bits_of_full bit (suc k) =
     let n : 8 * suc k ≡ 8 + 8 * k = omega arith in
