@@ -20,7 +20,9 @@ static uint8_t *data, *bitmap;
 static size_t length, room;
 static hayro_ccitt_settings settings;
 static hayro_ccitt_outcome outcome;
+#ifdef WITH_TIFF
 static void *tiff;
+#endif
 
 static int is(const char *name) { return !strcmp(decoder, name); }
 
