@@ -3,7 +3,7 @@
 ghost use Rattle.std.specs.Prelude.{◌≡◌, ◌+◌, ◌^◌, ◌<◌, ◌≤◌, ◌⊎◌, ◌↔◌, Ok, Err, OnOk, OnErr, IfOk, IfErr, true, IsOkUnless, IsTrue, length, get_or, []};
 ghost use Rattle.hayro_ccitt.specs.Rows.{right_of, b1, b2, changes, opposite};
 ghost use Rattle.hayro_ccitt.specs.Bits.{here};
-ghost use Rattle.hayro_ccitt.specs.Context.{redrawn, painted_front, taken_row, after_repair};
+ghost use Rattle.hayro_ccitt.specs.Context.{redrawn, painted_front, taken_row, after_repair, passed_changes};
 ghost use Rattle.hayro_ccitt.specs.Answers.{DrawsLine, DrawsStep, StoresChange, RepairStoresChange, pen_of, step_of_run, step_of_mode, line_from_1d, line_from_2d};
 
 use crate::bit_reader::BitReader;
@@ -54,7 +54,7 @@ impl DecoderContext {
     /// A context for images with these settings: a white reference row, nothing painted, no row taken. Its only
     /// refusal is `OutOfMemory`, and nothing is made then.
     pub fn new(alloc: Global, settings: DecodeSettings) -> Result<DecoderContext>
-        ensures made { IfOk result (λ ctx. ctx ≡ record { held = fresh settings; ticks = 0 }) }
+        ensures made { IfOk result (λ ctx. ctx ≡ record { held = fresh settings; passed = 0; ticks = 0 }) }
         ensures only_memory { IsOkUnless result DecodeError.OutOfMemory }
     {
         Ok(DecoderContext {
@@ -113,7 +113,7 @@ impl DecoderContext {
 
     /// Makes all but the settings and the count what a new context has. It takes no memory.
     pub fn reset(&mut self)
-        ensures frame { self.new ≡ record self.old { held = fresh self.old.held.settings } }
+        ensures frame { self.new ≡ record self.old { held = fresh self.old.held.settings; passed = 0 } }
     {
         self.begin_line();
         self.passed = 0;
@@ -124,7 +124,7 @@ impl DecoderContext {
 
     /// Makes all but the settings what a new context has.
     pub(crate) fn restart(&mut self)
-        ensures frame { self.new ≡ record { held = fresh self.old.held.settings; ticks = 0 } }
+        ensures frame { self.new ≡ record { held = fresh self.old.held.settings; passed = 0; ticks = 0 } }
     {
         self.reset();
         self.ticks = Ticks::new();
@@ -132,7 +132,7 @@ impl DecoderContext {
 
     /// Empties the front and sets the colour to white, as each line begins.
     fn begin_line(&mut self)
-        ensures frame { self.new ≡ record self.old { held = redrawn self.old.held [] Color.White } }
+        ensures frame { self.new ≡ record self.old { held = redrawn self.old.held [] Color.White; passed = 0 } }
     {
         self.coding_changes.clear();
         self.pixels_decoded = 0;
@@ -222,7 +222,10 @@ impl DecoderContext {
         ensures edge { length self.old.held.reference ≡ self.old.held.settings.columns }
         ensures within { length self.old.held.front ≤ self.old.held.settings.columns }
         ensures unchanged { self.new.held ≡ self.old.held }
-        ensures counts { self.old.ticks ≤ self.new.ticks }
+        ensures passed { self.new.passed
+            ≡ passed_changes (changes self.old.held.reference) (length self.old.held.front) }
+        ensures forward { self.old.passed ≤ self.new.passed }
+        ensures work { self.new.ticks + self.old.passed ≡ self.old.ticks + self.new.passed + 1 }
     {
         b1_index(
             self.ref_changes.as_slice(),
@@ -248,7 +251,11 @@ impl DecoderContext {
         ensures edge { length self.old.held.reference ≡ self.old.held.settings.columns }
         ensures within { length self.old.held.front ≤ self.old.held.settings.columns }
         ensures unchanged { self.new.held ≡ self.old.held }
-        ensures counts { self.old.ticks ≤ self.new.ticks }
+        ensures passed { self.new.passed
+            ≡ passed_changes (changes self.old.held.reference) (length self.old.held.front) }
+        ensures forward { self.old.passed ≤ self.new.passed }
+        ensures at_least { self.old.ticks + self.new.passed ≤ self.new.ticks + self.old.passed }
+        ensures at_most { self.new.ticks + self.old.passed ≤ self.old.ticks + self.new.passed + 3 }
     {
         let place = self.b1_place();
         self.reference_change(place)
@@ -262,7 +269,11 @@ impl DecoderContext {
         ensures within { length self.old.held.front ≤ self.old.held.settings.columns }
         ensures right { length self.old.held.front ≤ result }
         ensures unchanged { self.new.held ≡ self.old.held }
-        ensures counts { self.old.ticks ≤ self.new.ticks }
+        ensures passed { self.new.passed
+            ≡ passed_changes (changes self.old.held.reference) (length self.old.held.front) }
+        ensures forward { self.old.passed ≤ self.new.passed }
+        ensures at_least { self.old.ticks + self.new.passed ≤ self.new.ticks + self.old.passed }
+        ensures at_most { self.new.ticks + self.old.passed ≤ self.old.ticks + self.new.passed + 3 }
     {
         let place = self.b1_place();
         self.reference_change(place + 1)
@@ -293,7 +304,7 @@ impl DecoderContext {
         ensures width { D.width decoder.new ≡ D.width decoder.old }
         ensures taken { OnOk result (D.meaning decoder.new
             ≡ D.step (D.width decoder.old) (D.meaning decoder.old) (changes (taken_row self.old.held))) }
-        ensures frame { OnOk result (self.new ≡ record self.old { held = after_taking self.old.held }) }
+        ensures frame { OnOk result (self.new ≡ record self.old { held = after_taking self.old.held; passed = 0 }) }
         ensures flag { OnOk result (D.has_refused decoder.new ≡ D.has_refused decoder.old) }
         ensures kept { OnErr result (D.meaning decoder.new ≡ D.meaning decoder.old) }
         ensures unchanged { OnErr result (self.new ≡ self.old) }
