@@ -4,7 +4,7 @@ ghost use Rattle.std.specs.Prelude.{◌≡◌, ◌+◌, ◌^◌, ◌<◌, ◌≤
 ghost use Rattle.hayro_ccitt.specs.Rows.{right_of, b1, b2, changes, opposite};
 ghost use Rattle.hayro_ccitt.specs.Bits.{here};
 ghost use Rattle.hayro_ccitt.specs.Context.{redrawn, painted_front, taken_row, after_repair, passed_changes};
-ghost use Rattle.hayro_ccitt.specs.Answers.{DrawsLine, DrawsStep, StoresChange, RepairStoresChange, pen_of, step_of_run, step_of_mode, line_from_1d, line_from_2d};
+ghost use Rattle.hayro_ccitt.specs.Answers.{DrawsLine, DrawsStep, OnAnswer, words_of_run, words_of_mode, StoresChange, RepairStoresChange, pen_of, step_of_run, step_of_mode, line_from_1d, line_from_2d};
 
 use crate::bit_reader::BitReader;
 use crate::changes::{append_pixels, b1_index, change_or_end};
@@ -224,6 +224,7 @@ impl DecoderContext {
         ensures unchanged { self.new.held ≡ self.old.held }
         ensures passed { self.new.passed
             ≡ passed_changes (changes self.old.held.reference) (length self.old.held.front) }
+        ensures passed_within { self.new.passed ≤ length (changes self.old.held.reference) }
         ensures forward { self.old.passed ≤ self.new.passed }
         ensures work { self.new.ticks + self.old.passed ≡ self.old.ticks + self.new.passed + 1 }
     {
@@ -253,6 +254,7 @@ impl DecoderContext {
         ensures unchanged { self.new.held ≡ self.old.held }
         ensures passed { self.new.passed
             ≡ passed_changes (changes self.old.held.reference) (length self.old.held.front) }
+        ensures passed_within { self.new.passed ≤ length (changes self.old.held.reference) }
         ensures forward { self.old.passed ≤ self.new.passed }
         ensures at_least { self.old.ticks + self.new.passed ≤ self.new.ticks + self.old.passed }
         ensures at_most { self.new.ticks + self.old.passed ≤ self.old.ticks + self.new.passed + 3 }
@@ -271,6 +273,7 @@ impl DecoderContext {
         ensures unchanged { self.new.held ≡ self.old.held }
         ensures passed { self.new.passed
             ≡ passed_changes (changes self.old.held.reference) (length self.old.held.front) }
+        ensures passed_within { self.new.passed ≤ length (changes self.old.held.reference) }
         ensures forward { self.old.passed ≤ self.new.passed }
         ensures at_least { self.old.ticks + self.new.passed ≤ self.new.ticks + self.old.passed }
         ensures at_most { self.new.ticks + self.old.passed ≤ self.old.ticks + self.new.passed + 3 }
@@ -328,7 +331,12 @@ impl DecoderContext {
             result (pen_of self.new.held (here reader.new)) }
         ensures held { self.new.held ≡ redrawn self.old.held self.new.held.front self.new.held.color }
         ensures same_bits { reader.new.bits ≡ reader.old.bits }
-        ensures counts { self.old.ticks ≤ self.new.ticks }
+        ensures exact { OnOk result (self.new.ticks
+            ≡ self.old.ticks + length (words_of_run self.old.held (here reader.old))) }
+        ensures at_least { self.old.ticks + length (words_of_run self.old.held (here reader.old)) ≤ self.new.ticks }
+        ensures at_most { self.new.ticks
+            ≤ self.old.ticks + length (words_of_run self.old.held (here reader.old)) + 1 }
+        ensures passed { self.new.passed ≡ self.old.passed }
     {
         let run = reader.decode_run(self.color, &self.tables, &mut self.ticks)?;
         self.push_pixels(run)?;
@@ -343,6 +351,12 @@ impl DecoderContext {
         ensures held { self.new.held ≡ redrawn self.old.held self.new.held.front self.new.held.color }
         ensures same_bits { reader.new.bits ≡ reader.old.bits }
         ensures counts { self.old.ticks ≤ self.new.ticks }
+        ensures at_least { OnAnswer result (self.old.ticks
+            + length (words_of_mode self.old.held (here reader.old) mode) ≤ self.new.ticks) }
+        ensures at_most { self.new.ticks + self.old.passed
+            ≤ self.old.ticks + length (words_of_mode self.old.held (here reader.old) mode) + self.new.passed + 3 }
+        ensures within { self.old.passed ≤ length (changes self.old.held.reference)
+            → self.new.passed ≤ length (changes self.old.held.reference) }
     {
         match mode {
             Mode::Pass => {

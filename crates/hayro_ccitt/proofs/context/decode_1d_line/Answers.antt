@@ -29,7 +29,7 @@ runs-preserved c =
       line = sym (line ∙ ap (after_turn (drawn_by (step_1d before.settings.strict before.settings.columns))) drawing.step);
       held = drawing.held ∙ ap (λ (h : Held). redrawn h new.front new.color) so_far.held;
       same_bits = drawing.same_bits ∙ so_far.same_bits;
-      counts = omega (arith, drawing.counts, so_far.counts);
+      counts = omega (arith, drawing.at_least, so_far.counts);
     }
 
 pub returns-in_err-draw_run-clause-line : goal.returns-in_err-draw_run-clause-line

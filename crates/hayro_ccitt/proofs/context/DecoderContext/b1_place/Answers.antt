@@ -32,3 +32,9 @@ returns-clause-passed c =
     let painted = row_length inside.pixels_decoded inside.coding_changes.items c.self.invariant.front in
     let listed = changes-pixels inside.settings.columns inside.ref_changes.items c.self.invariant.reference in
     rw (← c.self.view_is, painted, listed) (rw c.as_slice.ensures.value at c.b1_index.ensures.all)
+
+pub returns-clause-passed_within : goal.returns-clause-passed_within
+returns-clause-passed_within c =
+    let inside = c.self.inside in
+    let listed = changes-pixels inside.settings.columns inside.ref_changes.items c.self.invariant.reference in
+    rw (← c.self.view_is, listed) (rw c.as_slice.ensures.value at c.b1_index.ensures.passed.within)
