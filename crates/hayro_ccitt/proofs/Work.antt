@@ -1,2 +1,3 @@
 pub mod ChangesStored
+pub mod RunsCount
 pub mod WordsPay
