@@ -1,12 +1,16 @@
 //! Group 3: EOLs stand between the lines, and a damaged line stays in its row (T.4).
 
-ghost use Rattle.std.specs.Prelude.{◌≡◌, ◌≢◌, ◌↔◌, ◌<◌, ◌≤◌, ◌+◌, Err, OnOk, OnErr, IfOk, IsErr, IsOkUnless, IsTrue, true, nat_lt, ◌||◌, [], length};
-ghost use Rattle.hayro_ccitt.specs.Answers.{DrawsLine, IsFault, IsRepairable, RepairStoresChange};
+ghost use Rattle.std.specs.Prelude.{◌≡◌, ◌≢◌, ◌↔◌, ◌<◌, ◌≤◌, ◌+◌, ◌*◌, Err, OnOk, OnErr, IfOk, IsErr, IsOkUnless, IsTrue, true, nat_lt, ◌||◌, [], length};
+ghost use Rattle.hayro_ccitt.specs.Answers.{DrawsLine, IsFault, IsRepairable, OnAnswer, RepairStoresChange};
 ghost use Rattle.hayro_ccitt.specs.Bits.{here};
 ghost use Rattle.hayro_ccitt.specs.Context.{after_repair, fresh, redrawn};
 ghost use Rattle.hayro_ccitt.specs.EndOfLine.{all_eols};
 ghost use Rattle.hayro_ccitt.specs.Decoding.{TakesRows, StopsShort, TakesOneRow, leaving, gap_said};
 ghost use Rattle.hayro_ccitt.specs.PlainReading.{plain_group3, lines_by, eols_group3, is_over_group3, gap_group3, row_group3, line_by, line_at_group3};
+ghost use Rattle.hayro_ccitt.specs.Lines.{line_found};
+ghost use Rattle.hayro_ccitt.specs.Rows.{changes};
+ghost use Rattle.hayro_ccitt.specs.Ticks.{looked};
+ghost use Rattle.hayro_ccitt.specs.Work.{found_at_group3};
 
 use crate::bit_reader::BitReader;
 use crate::context::{DecoderContext, decode_1d_line, decode_2d_line};
@@ -114,6 +118,12 @@ fn decode_tagged_line(ctx: &mut DecoderContext, reader: &mut BitReader<'_>) -> R
     ensures held { ctx.new.held ≡ redrawn ctx.old.held ctx.new.held.front ctx.new.held.color }
     ensures same_bits { reader.new.bits ≡ reader.old.bits }
     ensures counts { ctx.old.ticks ≤ ctx.new.ticks }
+    ensures at_least { OnAnswer result (ctx.old.ticks + length (line_found EncodingMode.Group3_2D
+        ctx.old.held.settings.strict ctx.old.held.settings.columns ctx.old.held.reference (here reader.old))
+        ≤ ctx.new.ticks) }
+    ensures at_most { ctx.new.ticks ≤ ctx.old.ticks + 4 * length (line_found EncodingMode.Group3_2D
+        ctx.old.held.settings.strict ctx.old.held.settings.columns ctx.old.held.reference (here reader.old)) + 2
+        + length (changes ctx.old.held.reference) }
 {
     let tag = reader.read_bit()?;
     ctx.ticks().tick();
@@ -132,6 +142,11 @@ fn decode_line(ctx: &mut DecoderContext, reader: &mut BitReader<'_>) -> Result<(
     ensures held { ctx.new.held ≡ redrawn ctx.old.held ctx.new.held.front ctx.new.held.color }
     ensures same_bits { reader.new.bits ≡ reader.old.bits }
     ensures counts { ctx.old.ticks ≤ ctx.new.ticks }
+    ensures at_least { OnAnswer result (ctx.old.ticks
+        + length (found_at_group3 ctx.old.held.settings ctx.old.held.reference (here reader.old)) ≤ ctx.new.ticks) }
+    ensures at_most { ctx.new.ticks ≤ ctx.old.ticks
+        + 4 * length (found_at_group3 ctx.old.held.settings ctx.old.held.reference (here reader.old)) + 2
+        + length (changes ctx.old.held.reference) }
 {
     match ctx.settings().encoding {
         EncodingMode::Group3_1D => decode_1d_line(ctx, reader),
@@ -160,6 +175,13 @@ fn read_row<D: Decoder>(
         ctx.old.held ctx.new.held result (here reader.new) }
     ensures same_bits { reader.new.bits ≡ reader.old.bits }
     ensures counts { ctx.old.ticks ≤ ctx.new.ticks }
+    ensures at_least { OnOk result (ctx.old.ticks
+        + length (found_at_group3 ctx.old.held.settings ctx.old.held.reference (here reader.old)) ≤ ctx.new.ticks) }
+    ensures at_most { ctx.new.ticks ≤ ctx.old.ticks
+        + 4 * length (found_at_group3 ctx.old.held.settings ctx.old.held.reference (here reader.old)) + 2
+        + length (changes ctx.old.held.reference) }
+    ensures stored { OnOk result (length (changes ctx.new.held.reference)
+        ≤ length (found_at_group3 ctx.old.held.settings ctx.old.held.reference (here reader.old)) + 1) }
 {
     let line_start = reader.copy();
     if let Err(error) = decode_line(ctx, reader) {
@@ -177,6 +199,8 @@ fn read_leading_eols(ctx: &mut DecoderContext, reader: &mut BitReader<'_>)
     } }
     ensures same_bits { reader.new.bits ≡ reader.old.bits }
     ensures counts { ctx.old.ticks ≤ ctx.new.ticks }
+    ensures work { ctx.new.ticks + length (here reader.new)
+        ≤ ctx.old.ticks + length (here reader.old) + looked (here reader.new) }
 {
     let count = reader.read_eol_if_available(ctx.ticks());
     let end_of_line = ctx.settings().end_of_line;
