@@ -1,1 +1,3 @@
+pub mod ChangesStored
 pub mod EolsPassed
+pub mod WordsPay
