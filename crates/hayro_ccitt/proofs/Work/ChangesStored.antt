@@ -41,9 +41,12 @@ one_at_most false place none is = omega (arith, ap length is)
 count_painted : (front : Row) (n : ℕ) (color : Bool) → count (front ++ replicate n color) ≤ suc (count front)
 count_painted front zero color = rw (append-nil front) (omega arith)
 count_painted front (suc n) color =
-    omega (arith, ap length (changes_from-append 0 false front (color ∷ replicate n color)),
-    length-append (changes_from 0 false front) (changes_from (0 + length front) (last_pixel false front) (color ∷ replicate n color)),
-    one_at_most (beq (last_pixel false front) color) (0 + length front) (changes_from (suc (0 + length front)) color (replicate n color)) (changes_from-same (suc (0 + length front)) n color))
+    omega (
+      arith,
+      ap length (changes_from-append 0 false front (color ∷ replicate n color)),
+      length-append (changes_from 0 false front) (changes_from (0 + length front) (last_pixel false front) (color ∷ replicate n color)),
+      one_at_most (beq (last_pixel false front) color) (0 + length front) (changes_from (suc (0 + length front)) color (replicate n color)) (changes_from-same (suc (0 + length front)) n color),
+    )
 
 count_paint : (strict : Bool) (columns : ℕ) (front : Row) (color : Color) (n : ℕ) (new : Row) → paint strict columns front color n ≡ Ok new → count new ≤ suc (count front)
 count_paint strict columns front color n new e = elim (chosen (strict && ltb (columns - length front) n) _ _ _ e) [

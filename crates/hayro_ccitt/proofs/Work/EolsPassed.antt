@@ -1,5 +1,5 @@
 -- The EOLs that are passed where a line follows, and the bits that are looked at ahead of it.
-use Rattle.std.proofs.Common.{◌≡◌, ℕ, suc, ◌+◌, ◌-◌, ◌≤◌, Bool, true, false, not, ◌&&◌, ◌||◌, eqb, leb, [], ◌∷◌, ◌++◌, length, replicate, drop}
+use Rattle.std.proofs.Common.{◌≡◌, ℕ, suc, ◌+◌, ◌-◌, ◌*◌, ◌≤◌, Bool, true, false, not, ◌&&◌, ◌||◌, eqb, leb, [], ◌∷◌, ◌++◌, length, replicate, drop}
 use Rattle.std.proofs.Common.{Option, Some, None, Result, Ok, Err, refl, sym, ap, ◌∙◌, subst, arith, ◌⊎◌, inl, inr}
 use Rattle.std.proofs.lemmas.Bool.{and_parts, or_parts, false≢true}
 use Rattle.std.proofs.lemmas.List.{length-append, length-replicate, replicate-append-replicate}
@@ -12,10 +12,11 @@ use Rattle.hayro_ccitt.specs.Bits.{Bits}
 use Rattle.hayro_ccitt.specs.EndOfLine.{after_eol, all_eols, next_eol, past_tag, eols_with_tags, eols, pass_last_tag, tagged_eols}
 use Rattle.hayro_ccitt.specs.PlainReading.{Gap, at_end, limit_met, eols_by, eols_group3, behind_eols_group3, from_next_eol, gap_group3}
 use Rattle.hayro_ccitt.specs.Ticks.{looked, looked_ahead}
+use Rattle.hayro_ccitt.proofs.BitReading.ZeroRuns.{looked_eol}
 use Rattle.hayro_ccitt.proofs.CodeWords.ReadRuns.{chosen}
 use Rattle.hayro_ccitt.proofs.DamagedLines.LineTails.{after_eol_is}
 use Rattle.hayro_ccitt.proofs.DamagedLines.PastEol.{all_eols-none}
-use Rattle.hayro_ccitt.proofs.Readings.TurnsMoveOn.{length-one_more, eols_shorter, eols-some, eols_with_tags-some, eols_with_tags-none, eols_with_tags_shorter, past_tag_shorter, last_tag_shorter, eols_group3_counted, next_eol_found}
+use Rattle.hayro_ccitt.proofs.Readings.TurnsMoveOn.{length-one_more, eols_shorter, eols-some, eols_with_tags-some, eols_with_tags-none, eols_with_tags_shorter, past_tag_shorter, last_tag_shorter, eols_group3_counted, eols_group3_some, next_eol_found}
 
 -- ---- An EOL that stands here or further on
 
@@ -106,6 +107,14 @@ eols_group3-none settings here e = by settings.encoding
     by Group3_1D = all_eols-none here e
     by Group3_2D = tagged_eols-none here e
     by Group4 = all_eols-none here e
+
+-- where none is counted, the place stays
+pub eols_group3_stay : (settings : DecodeSettings) (here rest : Bits) → eols_group3 settings here ≡ (0, rest) → rest ≡ here
+eols_group3_stay settings here rest is = by (after_eol 0 here) refl
+  where
+    by : (o : Option Bits) → after_eol 0 here ≡ o → rest ≡ here
+    by None e = sym (ap (λ (found : ℕ × Bits). found.1) (sym (eols_group3-none settings here e) ∙ is))
+    by (Some after) e = absurd (omega (arith, eols_group3_some settings here after e, ap (λ (found : ℕ × Bits). found.0) is))
 
 -- ---- A line that stands behind a row
 
@@ -268,6 +277,14 @@ looked_to_eol here after eol = rw eol.place (by eol.fill)
     by [] = (looked_to_one (replicate 11 false) after, omega (arith, looked_to_one (replicate 10 false) after))
     by (bit ∷ fill) =
         (looked_to_one (bit ∷ fill ++ replicate 11 false) after, omega (arith, looked_to_one (fill ++ replicate 11 false) after))
+
+-- Where the next EOL is found and counted, no bit behind it is looked at: not where none stood before, and not where it
+-- was found.
+pub sought_looks : (settings : DecodeSettings) (here found : Bits) → next_eol here ≡ Some found
+    → looked here + looked found + 2 * length (eols_group3 settings found).1 ≤ length here + length found
+sought_looks settings here found next =
+    let eol = next_eol_within here found next in
+    omega (arith, (looked_to_eol here eol.0 eol.2).0, looked_eol 0 found eol.0 eol.1, eols_group3_past settings found eol.0 eol.1)
 
 -- where an EOL stands here or further on, no bit behind it is looked at ahead
 pub looked_ahead_to_eol : (encoding : EncodingMode) (here after : Bits) → EolWithin here after → looked_ahead encoding here + length after ≤ length here
