@@ -17,7 +17,7 @@ use Rattle.hayro_ccitt.specs.CodeReading.{read_code}
 use Rattle.hayro_ccitt.specs.Lines.{Line, Pen, Drawing, start, turn_behind, words_behind, unless_fault, mode_here, place_from, draw_run, draw_mode, draw_1d, draw_2d, line_1d, line_2d, found_1d, found_2d, line_found, ◌>>=◌}
 use Rattle.hayro_ccitt.specs.PlainReading.{line_by}
 use Rattle.hayro_ccitt.specs.Repetition.{Turn, repeated, gathered}
-use Rattle.hayro_ccitt.specs.Rows.{Row, changes, is_black, opposite, b1, b2, right_of, paint, last_pixel, repaired}
+use Rattle.hayro_ccitt.specs.Rows.{Row, changes, is_black, opposite, b1, b2, right_of, paint, last_pixel, repaired, white_row}
 use Rattle.hayro_ccitt.specs.Runs.{run_from}
 use Rattle.hayro_ccitt.specs.Ticks.{word_found, run_found}
 use Rattle.hayro_ccitt.proofs.CodeWords.ReadRuns.{chosen, run_shorter}
@@ -210,3 +210,7 @@ changes_found encoding strict columns reference here =
 pub changes_repaired : (columns : ℕ) (front : Row) → length (changes (repaired columns front)) ≤ suc (length (changes front))
 changes_repaired columns front =
     omega (arith, count_painted front (columns - length front) false, ap length (changes-recursive (repaired columns front)), ap length (changes-recursive front))
+
+-- a white row has none
+pub changes_white : (columns : ℕ) → length (changes (white_row columns)) ≡ 0
+changes_white columns = ap length (changes-recursive (white_row columns) ∙ changes_from-same 0 columns false)
