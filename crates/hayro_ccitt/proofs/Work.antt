@@ -1,3 +1,4 @@
 pub mod ChangesStored
+pub mod EolsPassed
 pub mod RunsCount
 pub mod WordsPay

@@ -9,7 +9,7 @@ ghost use Rattle.hayro_ccitt.specs.Decoding.{TakesRows, StopsShort, TakesOneRow,
 ghost use Rattle.hayro_ccitt.specs.PlainReading.{plain_group3, lines_by, eols_group3, is_over_group3, gap_group3, row_group3, line_by, line_at_group3};
 ghost use Rattle.hayro_ccitt.specs.Lines.{line_found};
 ghost use Rattle.hayro_ccitt.specs.Rows.{changes};
-ghost use Rattle.hayro_ccitt.specs.Ticks.{looked};
+ghost use Rattle.hayro_ccitt.specs.Ticks.{looked, looked_ahead};
 ghost use Rattle.hayro_ccitt.specs.Work.{found_at_group3};
 
 use crate::bit_reader::BitReader;
@@ -54,12 +54,16 @@ pub fn recover<'a>(
     Ok(())
 }
 
-/// Reads the EOLs that stand here, in two-dimensional data with their tags, and answers how many there were.
+/// Reads the EOLs that stand here, in two-dimensional data with their tags, and answers how many there were. Each bit
+/// that is looked at is a tick: one that is passed at most twice.
 fn read_eols(ctx: &mut DecoderContext, reader: &mut BitReader<'_>) -> usize
     ensures eols { eols_group3 ctx.old.held.settings (here reader.old) ≡ (result, here reader.new) }
     ensures same_bits { reader.new.bits ≡ reader.old.bits }
     ensures held { ctx.new.held ≡ ctx.old.held }
     ensures counts { ctx.old.ticks ≤ ctx.new.ticks }
+    ensures work { ctx.new.ticks + 2 * length (here reader.new) ≤ ctx.old.ticks + 2 * length (here reader.old) + 3
+        + looked_ahead ctx.old.held.settings.encoding (here reader.new) }
+    ensures work_none { result ≡ 0 → ctx.new.ticks ≡ ctx.old.ticks + looked (here reader.old) }
 {
     match ctx.settings().encoding {
         EncodingMode::Group3_2D => reader.read_tagged_eols(ctx.ticks()),
@@ -80,7 +84,8 @@ fn is_over(ctx: &DecoderContext, reader: &BitReader<'_>, count: usize) -> bool
 
 /// What stands behind a row (T.4 sections 4.1.2 and 4.1.4): counts the EOLs there, and answers whether the image
 /// ends. Where none came although the data has EOLs, the next one is looked for, and where none is left EOLs are
-/// given up; strict data is then at fault, which is `InvalidCode`. It takes no memory.
+/// given up; strict data is then at fault, which is `InvalidCode`. It takes no memory. Each bit that is looked at is a
+/// tick: one that is passed at most four times.
 pub fn check_eob(ctx: &mut DecoderContext, reader: &mut BitReader<'_>) -> Result<bool>
     requires encoding { ctx.old.held.settings.encoding ≢ EncodingMode.Group4 }
     requires some { 0 < ctx.old.held.taken }
@@ -93,6 +98,12 @@ pub fn check_eob(ctx: &mut DecoderContext, reader: &mut BitReader<'_>) -> Result
     ensures only_strict { OnErr result (ctx.old.held.settings.strict ≡ true) }
     ensures same_bits { reader.new.bits ≡ reader.old.bits }
     ensures counts { ctx.old.ticks ≤ ctx.new.ticks }
+    ensures work { OnOk result (ctx.new.held.has_eols ≡ ctx.old.held.has_eols
+        → ctx.new.ticks + 4 * length (here reader.new) ≤ ctx.old.ticks + 4 * length (here reader.old) + 3
+        + looked_ahead ctx.old.held.settings.encoding (here reader.new)) }
+    ensures work_given_up { OnOk result (ctx.new.held.has_eols ≢ ctx.old.held.has_eols
+        → ctx.new.ticks ≤ ctx.old.ticks + 2 * length (here reader.old)) }
+    ensures work_refused { OnErr result (ctx.new.ticks ≤ ctx.old.ticks + length (here reader.old)) }
 {
     let count = read_eols(ctx, reader);
     if count > 0 || !ctx.has_eols() || limit_met(ctx) || reader.at_end() {
