@@ -29,12 +29,6 @@ words_bits (word ∷ words) are = omega (arith, words_bits words are.1, not_empt
 pub stands_count : (here : Bits) (found : List Bits) (rest : Bits) → Stands here found rest → length found + length rest ≤ length here
 stands_count here found rest stands = omega (arith, words_bits found stands.words, ap length stands.place, length-append (joined found) rest)
 
--- a count of zeros looks at no more bits than there are
-pub looked_within : (here : Bits) → looked here ≤ length here
-looked_within [] = omega arith
-looked_within (false ∷ here) = omega (arith, looked_within here)
-looked_within (true ∷ here) = omega arith
-
 looked_word : (word more : Bits) → holds_a_one word ≡ true → looked (word ++ more) ≤ length word
 looked_word [] more e = absurd (false≢true e)
 looked_word (true ∷ word) more e = omega arith

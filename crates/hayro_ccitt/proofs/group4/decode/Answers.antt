@@ -13,7 +13,8 @@ use Rattle.hayro_ccitt.specs.declared.settings.EncodingMode.TheVariants.{Group4}
 use Rattle.hayro_ccitt.specs.Work.{words_of_move_group4}
 use Rattle.hayro_ccitt.proofs.Work.ChangesStored.{changes_white}
 use Rattle.hayro_ccitt.proofs.Work.RunsCount.{counted_ends}
-use Rattle.hayro_ccitt.proofs.Work.WordsPay.{found_within, looked_within}
+use Rattle.hayro_ccitt.proofs.Work.WordsPay.{found_within}
+use Rattle.hayro_ccitt.proofs.Work.EolsPassed.{looked_most}
 use Rattle.hayro_ccitt.proofs.group4.decode.Goals as goal
 
 pub rows-init : goal.rows-init
@@ -132,7 +133,7 @@ returns-then-before_line-clause-work g c =
     let bits = c.args.reader.now.bits in
     let begun = c.args.ctx.now.ticks in
     let counted = c.before_line.ensures.work in
-    let ahead = looked_within (here c.before_line.new.reader) in
+    let ahead = looked_most (here c.before_line.new.reader) in
     counted_ends (move_group4 settings) (words_of_move_group4 settings) left (by_rows_group4 settings c.requires.columns) (start_group4 bits) refl between.so_far begun c.rows.ctx.ticks words
     c.before_line.new.ctx.held.taken c.before_line.new.ctx.ticks (22 * length bits + 1) (ap (λ (h : Held). h.taken) (c.before_line.ensures.held ∙ between.held)) c.before_line.ensures.counts
     (omega (arith, most, counted, ahead))
@@ -155,7 +156,7 @@ returns-in_err-read_row-clause-work g c =
       arith,
       most,
       c.before_line.ensures.work,
-      looked_within (here reader),
+      looked_most (here reader),
       c.in_err-read_row.ensures.at_most,
       found,
       ap (λ (h : Held). length (changes h.reference)) c.before_line.ensures.held,
