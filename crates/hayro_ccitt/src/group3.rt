@@ -10,7 +10,7 @@ ghost use Rattle.hayro_ccitt.specs.PlainReading.{plain_group3, lines_by, eols_gr
 ghost use Rattle.hayro_ccitt.specs.Lines.{line_found};
 ghost use Rattle.hayro_ccitt.specs.Rows.{changes};
 ghost use Rattle.hayro_ccitt.specs.Ticks.{looked, looked_ahead};
-ghost use Rattle.hayro_ccitt.specs.Work.{found_at_group3};
+ghost use Rattle.hayro_ccitt.specs.Work.{CountsRun, found_at_group3, words_by, most_counted};
 
 use crate::bit_reader::BitReader;
 use crate::context::{DecoderContext, decode_1d_line, decode_2d_line};
@@ -243,7 +243,8 @@ fn decode_rows<D: Decoder>(
         (record { meaning = D.meaning decoder.new; refused = D.has_refused decoder.new })
         ctx.new.held (leaving result (here reader.new)) }
     ensures same_bits { reader.new.bits ≡ reader.old.bits }
-    ensures counts { ctx.old.ticks ≤ ctx.new.ticks }
+    ensures work { CountsRun (words_by EncodingMode.Group3_1D ctx.old.held.settings reader.old.bits) ctx.new.held.taken
+        ctx.old.ticks ctx.new.ticks (most_counted EncodingMode.Group3_1D (length reader.old.bits)) }
 {
     read_leading_eols(ctx, reader);
     'rows: loop {
@@ -281,7 +282,8 @@ pub fn decode_1d<D: Decoder>(
         (record { meaning = D.meaning decoder.new; refused = D.has_refused decoder.new })
         ctx.new.held (leaving result (here reader.new)) }
     ensures same_bits { reader.new.bits ≡ reader.old.bits }
-    ensures counts { ctx.old.ticks ≤ ctx.new.ticks }
+    ensures work { CountsRun (words_by EncodingMode.Group3_1D ctx.old.held.settings reader.old.bits) ctx.new.held.taken
+        ctx.old.ticks ctx.new.ticks (most_counted EncodingMode.Group3_1D (length reader.old.bits)) }
 {
     decode_rows(ctx, reader, decoder)
 }
@@ -313,7 +315,8 @@ pub fn decode_2d<D: Decoder>(
         (record { meaning = D.meaning decoder.new; refused = D.has_refused decoder.new })
         ctx.new.held (leaving result (here reader.new)) }
     ensures same_bits { reader.new.bits ≡ reader.old.bits }
-    ensures counts { ctx.old.ticks ≤ ctx.new.ticks }
+    ensures work { CountsRun (words_by EncodingMode.Group3_2D ctx.old.held.settings reader.old.bits) ctx.new.held.taken
+        ctx.old.ticks ctx.new.ticks (most_counted EncodingMode.Group3_2D (length reader.old.bits)) }
 {
     decode_rows(ctx, reader, decoder)
 }

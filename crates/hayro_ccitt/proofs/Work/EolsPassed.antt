@@ -262,6 +262,12 @@ length-later : (here : Bits) → length (drop 1 here) ≤ length here
 length-later [] = omega arith
 length-later (bit ∷ here) = omega arith
 
+-- a count of zeros looks at no more than one bit besides what stands ahead
+pub looked_before : (encoding : EncodingMode) (here : Bits) → looked here ≤ suc (looked_ahead encoding here)
+looked_before Group3_2D here = looked_later here
+looked_before Group3_1D here = omega arith
+looked_before Group4 here = omega arith
+
 -- no more than the bits here are looked at ahead
 pub looked_ahead_most : (encoding : EncodingMode) (here : Bits) → looked_ahead encoding here ≤ length here
 looked_ahead_most Group3_2D here = omega (arith, looked_most (drop 1 here), length-later here)

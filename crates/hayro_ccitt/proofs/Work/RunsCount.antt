@@ -52,8 +52,12 @@ module _ (move : Progress → Move) (gives : Progress → List (List Bits)) (lef
       → then ≤ begun + most → CountsRun (gathered_from move gives start) taken begun then most
   counted_ends_behind line taken then most reads rows on at_most = record {
     at_least =
-        omega (arith, counted.at_least, on,
-        sum_more (gathered_from move gives start) (length so_far.rows) line _ (lines_on move gives left by_rows start begins so_far counted.comes line reads),
-        ap (λ (k : ℕ). sum_by length (take k (gathered_from move gives start))) rows);
+        omega (
+          arith,
+          counted.at_least,
+          on,
+          sum_more (gathered_from move gives start) (length so_far.rows) line _ (lines_on move gives left by_rows start begins so_far counted.comes line reads),
+          ap (λ (k : ℕ). sum_by length (take k (gathered_from move gives start))) rows,
+        );
     at_most = at_most;
   }

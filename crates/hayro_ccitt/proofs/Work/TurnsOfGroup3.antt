@@ -170,8 +170,18 @@ module _ (settings : DecodeSettings) (wide : 0 < settings.columns) (begun bits :
             let stands : gap_group3 settings taken true rest ≡ Gap.line_at false next
             = ap (λ (x : Bool). gap_group3 settings taken x rest) (sym h_is) ∙ gap ∙ ap (λ (x : Bool). Gap.line_at x next) k_is in
             let before = subst (λ (x : Bool). IsPaidUpTo begun bits settings.encoding x ticks changes here) h_is paid in
-            omega (arith, before, line, within, row_fits, few, found_fits, looked_ahead_most settings.encoding here,
-            given_up (λ e. absurd (false≢true (sym k_is ∙ e ∙ h_is))), ap length (line_given_up settings taken rest next stands))
+            omega (
+              arith,
+              before,
+              line,
+              within,
+              row_fits,
+              few,
+              found_fits,
+              looked_ahead_most settings.encoding here,
+              given_up (λ e. absurd (false≢true (sym k_is ∙ e ∙ h_is))),
+              ap length (line_given_up settings taken rest next stands),
+            )
         by false true h_is k_is =
             let stands : gap_group3 settings taken false rest ≡ Gap.line_at true next
             = ap (λ (x : Bool). gap_group3 settings taken x rest) (sym h_is) ∙ gap ∙ ap (λ (x : Bool). Gap.line_at x next) k_is in

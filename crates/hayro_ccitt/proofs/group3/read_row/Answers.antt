@@ -43,14 +43,14 @@ returns-clause-stored g c =
     let words = found_at_group3 held.settings held.reference start in
     let few = changes_found held.settings.encoding held.settings.strict held.settings.columns held.reference start in
     elim c.match-decode_line.branch [
-  | in-Err+in_ok-recover w ↦
-      let left = c.decode_line.new.ctx.held in
-      let breaks = line_breaks (line_at_group3 held.settings held.reference start) w.in-Err.error left.front (here c.decode_line.new.reader) w.in_ok-recover.ensures.only_damage.fault w.in-Err.ensures.line in
-      let drawn = subst (λ (l : Line). length (changes (front_of l)) ≤ length words) breaks few in
-      let stands = ap (λ (x : Context). length (changes x.held.front)) (w.ctx-is ∙ w.in_ok-recover.ensures.frame) in
-      on_ok_weaker c.take_row.result (λ taken. omega (arith, drawn, stands, changes_repaired left.settings.columns left.front, ap (λ (h : Held). length (changes h.reference)) taken)) c.take_row.ensures.taken
-  | in_default w ↦
-      let drawn = subst (λ (l : Line). length (changes (front_of l)) ≤ length words) w.in_default.ensures.line few in
-      let stands = ap (λ (x : Context). length (changes x.held.front)) w.ctx-is in
-      on_ok_weaker c.take_row.result (λ taken. omega (arith, drawn, stands, ap (λ (h : Held). length (changes h.reference)) taken)) c.take_row.ensures.taken
-]
+      | in-Err+in_ok-recover w ↦
+          let left = c.decode_line.new.ctx.held in
+          let breaks = line_breaks (line_at_group3 held.settings held.reference start) w.in-Err.error left.front (here c.decode_line.new.reader) w.in_ok-recover.ensures.only_damage.fault w.in-Err.ensures.line in
+          let drawn = subst (λ (l : Line). length (changes (front_of l)) ≤ length words) breaks few in
+          let stands = ap (λ (x : Context). length (changes x.held.front)) (w.ctx-is ∙ w.in_ok-recover.ensures.frame) in
+          on_ok_weaker c.take_row.result (λ taken. omega (arith, drawn, stands, changes_repaired left.settings.columns left.front, ap (λ (h : Held). length (changes h.reference)) taken)) c.take_row.ensures.taken
+      | in_default w ↦
+          let drawn = subst (λ (l : Line). length (changes (front_of l)) ≤ length words) w.in_default.ensures.line few in
+          let stands = ap (λ (x : Context). length (changes x.held.front)) w.ctx-is in
+          on_ok_weaker c.take_row.result (λ taken. omega (arith, drawn, stands, ap (λ (h : Held). length (changes h.reference)) taken)) c.take_row.ensures.taken
+    ]
