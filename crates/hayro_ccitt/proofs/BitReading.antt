@@ -5,5 +5,6 @@ pub mod ScanWords
 pub mod SoughtEols
 pub mod TablesAgree
 pub mod TaggedEols
+pub mod WindowWords
 pub mod ZeroRuns
 pub mod ZerosInWords

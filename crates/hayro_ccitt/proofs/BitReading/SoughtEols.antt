@@ -1,5 +1,5 @@
 -- The next EOL, sought a count of zeros at a time.
-use Rattle.std.proofs.Common.{◌≡◌, ℕ, zero, suc, ◌+◌, ◌<◌, Bool, true, false, ◌∷◌, ◌++◌, length, replicate, None, refl, ap, arith}
+use Rattle.std.proofs.Common.{◌≡◌, ℕ, zero, suc, ◌+◌, ◌<◌, Bool, true, false, [], ◌∷◌, ◌++◌, length, replicate, Some, None, refl, ap, arith}
 use Rattle.std.proofs.lemmas.Bool.{lt-leb}
 use Rattle.hayro_ccitt.specs.Bits.{Bits}
 use Rattle.hayro_ccitt.specs.EndOfLine.{after_eol, next_eol}
@@ -14,6 +14,11 @@ few_zeros seen (suc k) rest lt = few_zeros (suc seen) k rest (omega arith)
 pub next_eol-behind : (k : ℕ) (rest : Bits) → k < 11 → next_eol (replicate k false ++ true ∷ rest) ≡ next_eol rest
 next_eol-behind zero rest lt = refl
 next_eol-behind (suc k) rest lt = rw (few_zeros 0 (suc k) rest (omega arith), next_eol) (next_eol-behind k rest (omega arith))
+
+-- an EOL that stands here is the next
+pub next_eol-here : (here after : Bits) → after_eol 0 here ≡ Some after → next_eol here ≡ Some here
+next_eol-here [] after e = absurd cc
+next_eol-here (b ∷ here) after e = rw (e, next_eol) refl
 
 zeros_end : (seen n : ℕ) → after_eol seen (replicate n false) ≡ None
 zeros_end seen zero = refl
