@@ -1,5 +1,6 @@
 pub mod BitLists
 pub mod BitPlaces
+pub mod ClonedReaders
 pub mod EolCounts
 pub mod ScanWords
 pub mod SoughtEols
@@ -8,3 +9,4 @@ pub mod TaggedEols
 pub mod WindowWords
 pub mod ZeroRuns
 pub mod ZerosInWords
+pub mod ZerosPassed

@@ -31,7 +31,8 @@ impl<'a> Model for BitReader<'a> {
     ghost invariant = { IsFilled };
 }
 
-/// The eight bytes at the front as one number, the first highest.
+/// The bits of the eight bytes at the front, the first in the highest position.
+#[inline(always)]
 fn whole_word(bytes: &[u8]) -> u64
     requires { 8 ≤ length bytes.now }
     ensures { (k : ℕ) → k < 64 → bit_of result (63 - k) ≡ get_or (bits_of bytes.now) k false }
@@ -48,7 +49,9 @@ fn byte_or_zero(bytes: &[u8], index: usize) -> u8
     bytes.get(index).copied().unwrap_or(0)
 }
 
-/// The same of fewer than eight bytes, with zeros behind them.
+/// The bits of the last bytes, fewer than eight, the first in the highest position, with zeros behind them.
+#[cold]
+#[inline(never)]
 fn last_word(bytes: &[u8]) -> u64
     ensures { (k : ℕ) → k < 64 → bit_of result (63 - k) ≡ get_or (bits_of bytes.now) k false }
 {
@@ -65,6 +68,7 @@ fn last_word(bytes: &[u8]) -> u64
 }
 
 /// The 64 bits from a byte on, the first in the highest position, with zeros past the end.
+#[inline(always)]
 fn word_at(data: &[u8], byte: usize) -> u64
     requires { byte ≤ length «data».now }
     ensures { (k : ℕ) → k < 64 → bit_of result (63 - k) ≡ get_or (bits_of «data».now) (8 * byte + k) false }
@@ -97,6 +101,7 @@ impl<'a> BitReader<'a> {
     }
 
     /// A reader at a place among the bits.
+    #[inline(always)]
     pub(crate) fn starting_at(data: &'a [u8], place: usize) -> BitReader<'a>
         requires fit { BitsFit «data».now }
         requires within { place ≤ 8 * length «data».now }
@@ -112,6 +117,7 @@ impl<'a> BitReader<'a> {
     }
 
     /// The next bit. At the end it is `UnexpectedEof`, and the place stays.
+    #[inline(always)]
     pub fn read_bit(&mut self) -> Result<u32>
         ensures bit { IfOk result (λ bit. (bit ≤ 1) × (slice_get self.old.bits self.old.place ≡ Some (bit == 1))) }
         ensures next { OnOk result (self.new ≡ record self.old { place = self.old.place + 1 }) }
@@ -125,6 +131,7 @@ impl<'a> BitReader<'a> {
     }
 
     /// The next 32 bits, padded with zeros, the first in the highest position.
+    #[inline(always)]
     pub fn peek_u32(&self) -> u32
         ensures { (k : ℕ) → k < 32 → bit_of result (31 - k) ≡ get_or self.now.bits (self.now.place + k) false }
     {
@@ -133,9 +140,11 @@ impl<'a> BitReader<'a> {
 
     /// Moves so many bits on, at most 32. Where that passes the end the reader stands at the end, and the
     /// answer is `UnexpectedEof`.
+    #[inline(always)]
     pub fn consume(&mut self, n: usize) -> Result<()>
         requires { n ≤ 32 }
         ensures moved { self.new ≡ record self.old { place = min (self.old.place + n) (length self.old.bits) } }
+        ensures forward { self.old.place ≤ self.new.place }
         ensures end { IsErr result ↔ (length self.old.bits < self.old.place + n) }
         ensures only_end { IsOkUnless result DecodeError.UnexpectedEof }
     {
@@ -149,14 +158,19 @@ impl<'a> BitReader<'a> {
     }
 
     /// Moves to a place that the window doesn't hold, at most to the end, and fills the window there.
+    #[inline(always)]
     fn refill(&mut self, next: usize) -> Result<()>
+        requires { self.old.place ≤ next }
         ensures moved { self.new ≡ record self.old { place = min next (length self.old.bits) } }
+        ensures forward { self.old.place ≤ self.new.place }
         ensures end { IsErr result ↔ (length self.old.bits < next) }
         ensures only_end { IsOkUnless result DecodeError.UnexpectedEof }
     {
         let end = self.data.len() * 8;
         if next > end {
-            *self = BitReader::starting_at(self.data, end);
+            self.place = end;
+            self.limit = end;
+            self.window = 0;
             return Err(DecodeError::UnexpectedEof);
         }
         *self = BitReader::starting_at(self.data, next);

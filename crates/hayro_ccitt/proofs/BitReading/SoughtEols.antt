@@ -20,7 +20,8 @@ pub next_eol-here : (here after : Bits) → after_eol 0 here ≡ Some after → 
 next_eol-here [] after e = absurd cc
 next_eol-here (b ∷ here) after e = rw (e, next_eol) refl
 
-zeros_end : (seen n : ℕ) → after_eol seen (replicate n false) ≡ None
+-- zeros alone are no EOL
+pub zeros_end : (seen n : ℕ) → after_eol seen (replicate n false) ≡ None
 zeros_end seen zero = refl
 zeros_end seen (suc n) = zeros_end (suc seen) n
 

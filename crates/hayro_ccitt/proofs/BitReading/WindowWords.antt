@@ -135,3 +135,8 @@ pub top_bit : (w : ℕ) → w < 2 ^ 64 → (w / 2 ^ 63 ≤ 1) × (bit_of w 63 �
 top_bit w h =
     let low : w / 2 ^ 63 % 2 ≡ w / 2 ^ 63 = omega arith in
     (omega arith, ap (λ (n : ℕ). eqb n 1) low)
+
+-- at the end the bits are zeros
+pub none_held : (bytes : List ℕ) (end k : ℕ) → 8 * length bytes ≤ end → bit_of 0 (63 - k) ≡ get_or (bits_of bytes) (end + k) false
+none_held bytes end k h =
+    ap (λ (b : ℕ). eqb b 1) (bit_at-zero (63 - k)) ∙ sym (get_or_past (bits_of bytes) (end + k) false (omega (arith, h, length-bits_of bytes)))

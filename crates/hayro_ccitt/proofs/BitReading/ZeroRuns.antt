@@ -27,6 +27,19 @@ pub leading_zeros-replicate : (n : ℕ) → leading_zeros (replicate n false) �
 leading_zeros-replicate zero = refl
 leading_zeros-replicate (suc n) = ap suc (leading_zeros-replicate n)
 
+-- what is looked at where zeros and a one stand
+pub looked_run : (k : ℕ) (rest : Bits) → looked (replicate k false ++ true ∷ rest) ≡ k + 1
+looked_run zero rest = refl
+looked_run (suc k) rest = omega (arith, looked_run k rest)
+
+-- zeros and a one are an EOL if the zeros are enough
+pub after_eol_run : (k : ℕ) (rest : Bits) → after_eol 0 (replicate k false ++ true ∷ rest) ≡ cond (leb 11 k) (Some rest) None
+after_eol_run k rest = from 0 k ∙ let e : 0 + k ≡ k = omega arith in ap (λ (n : ℕ). cond (leb 11 n) (Some rest) None) e
+  where
+    from : (seen k : ℕ) → after_eol seen (replicate k false ++ true ∷ rest) ≡ cond (leb 11 (seen + k)) (Some rest) None
+    from seen zero = let e : seen + 0 ≡ seen = omega arith in rw e refl
+    from seen (suc k) = let e : suc seen + k ≡ seen + suc k = omega arith in from (suc seen) k ∙ ap (λ (n : ℕ). cond (leb 11 n) (Some rest) None) e
+
 -- a count of zeros looks at the bits of an EOL
 pub looked_eol : (seen : ℕ) (here after : Bits) → after_eol seen here ≡ Some after → looked here + length after ≡ length here
 looked_eol seen [] after e = absurd cc
