@@ -9,8 +9,8 @@ use std::marker::Model;
 
 /// The bits of some bytes, each byte's highest first, and a place among them.
 ///
-/// The next bits stand in a window of 64, the first in the highest position: those up to 32 behind the limit, which
-/// is at most the end. While the place doesn't pass the limit they are at least the next 32.
+/// The next bits stand in a window, the first in its highest position, zeros past the end: all that are at most 32
+/// behind the limit. The place never passes the limit, so that the window has the next 32 at least.
 #[derive(Clone, Drop)]
 pub struct BitReader<'a> {
     data: &'a [u8],
