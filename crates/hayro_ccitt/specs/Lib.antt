@@ -20,3 +20,4 @@ pub mod Settings
 pub mod Texts
 pub mod Ticks
 pub mod Window
+pub mod Work
