@@ -333,6 +333,21 @@ impl<'a> BitReader<'a> {
         (zeros, Some(reader))
     }
 
+    /// Whether a one is among the next eleven bits, so that no EOL stands here. Then each bit up to it is a tick.
+    #[inline(always)]
+    fn is_near_one(&self, ticks: &mut Ticks) -> bool
+        ensures near { result ≡ true → after_eol 0 (here self.now) ≡ None }
+        ensures looked { result ≡ true → ticks.new ≡ ticks.old + looked (here self.now) }
+        ensures far { result ≡ false → ticks.new ≡ ticks.old }
+    {
+        let next = self.peek_u32();
+        if next >> 21 == 0 {
+            return false;
+        }
+        ticks.tick_times(next.leading_zeros() as usize + 1);
+        true
+    }
+
     /// Reads EOLs in a row, each with its fill (T.4 sections 4.1.2 and 4.1.3), at most so many, and answers how
     /// many there were. It never fails. Each bit that is looked at is a tick.
     pub fn read_eols(&mut self, max: usize, ticks: &mut Ticks) -> usize
@@ -343,6 +358,9 @@ impl<'a> BitReader<'a> {
     {
         let mut count = 0;
         'eols: while count < max {
+            if self.is_near_one(ticks) {
+                return count;
+            }
             let (zeros, after) = self.zero_run(ticks);
             match after {
                 Some(after) if zeros >= 11 => *self = after,

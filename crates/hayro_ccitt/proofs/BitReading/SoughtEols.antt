@@ -6,7 +6,7 @@ use Rattle.hayro_ccitt.specs.EndOfLine.{after_eol, next_eol}
 use Rattle.hayro_ccitt.specs.Ticks.{looked}
 
 -- too few zeros and a one are no EOL
-few_zeros : (seen k : ℕ) (rest : Bits) → seen + k < 11 → after_eol seen (replicate k false ++ true ∷ rest) ≡ None
+pub few_zeros : (seen k : ℕ) (rest : Bits) → seen + k < 11 → after_eol seen (replicate k false ++ true ∷ rest) ≡ None
 few_zeros seen zero rest lt = let below : seen < 11 = omega arith in rw (lt-leb 11 seen below) refl
 few_zeros seen (suc k) rest lt = few_zeros (suc seen) k rest (omega arith)
 

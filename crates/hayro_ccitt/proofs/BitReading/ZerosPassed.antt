@@ -1,10 +1,10 @@
 -- Zeros that are passed by the word.
-use Rattle.std.proofs.Common.{◌≡◌, ℕ, zero, suc, ◌+◌, ◌-◌, ◌*◌, ◌/◌, ◌%◌, ◌^◌, ◌<◌, ◌≤◌, true, false, eqb, ◌∷◌, ◌++◌, length, get_or, slice_get, drop, replicate, min, Some, refl, sym, ap, ◌∙◌, append_assoc, arith, inl, inr}
+use Rattle.std.proofs.Common.{◌≡◌, ◌≢◌, ℕ, zero, suc, ◌+◌, ◌-◌, ◌*◌, ◌/◌, ◌%◌, ◌^◌, ◌<◌, ◌≤◌, true, false, eqb, ◌∷◌, ◌++◌, length, get_or, slice_get, drop, replicate, min, Some, refl, sym, ap, ◌∙◌, append_assoc, arith, inl, inr}
 use lib.Count.{count_leading_zeros}
 use Rattle.std.proofs.lemmas.Bool.{cases_lt, false≢true}
 use Rattle.std.proofs.lemmas.List.{get_or_past, replicate-append-replicate}
 use Rattle.std.proofs.lemmas.Nat.{leading_top, leading_length, leading_le, div-mul-add, pow_pos}
-use Rattle.std.proofs.Math.Nat.{pow-suc}
+use Rattle.std.proofs.Math.Nat.{pow-suc, pow-le-pow_right}
 use Rattle.std.proofs.lemmas.Nat.Bits.{bit_at_above}
 use Rattle.std.proofs.lemmas.Option.{slice_get-get_or, slice_get_within}
 use Rattle.hayro_ccitt.specs.Bits.{Bits, BitsAt, here, bit_of}
@@ -79,17 +79,24 @@ word_passed start now next w small held forward e on before =
     ∙ ap (λ (x : Bits). replicate (next.place - start.place) false ++ drop next.place x) same
 
 -- where they are fewer than 32 a one follows
-pub one_follows : (now next : BitsAt) (w : ℕ) → w < 2 ^ 32 → Holds w now → next ≡ record now { place = min (now.place + count_leading_zeros 32 w) (length now.bits) }
-    → count_leading_zeros 32 w < 32 → slice_get next.bits next.place ≡ Some true
-one_follows now next w small held e few =
+one_ahead : (now : BitsAt) (w : ℕ) → w < 2 ^ 32 → Holds w now → count_leading_zeros 32 w < 32 → slice_get now.bits (now.place + count_leading_zeros 32 w) ≡ Some true
+one_ahead now w small held few =
     let at = now.place + count_leading_zeros 32 w in
     let one : get_or now.bits at false ≡ true = sym (held (count_leading_zeros 32 w) few) ∙ word_one w small few in
     let within : at < length now.bits = elim (cases_lt at (length now.bits)) [
       | inl lt ↦ lt
       | inr past ↦ absurd (false≢true (sym (get_or_past now.bits at false past) ∙ one))
     ] in
-    let place : min at (length now.bits) ≡ at = omega arith in
-    ap (λ (x : BitsAt). slice_get x.bits x.place) e ∙ ap (λ (i : ℕ). slice_get now.bits i) place ∙ slice_get-get_or now.bits at false within ∙ ap Some one
+    slice_get-get_or now.bits at false within ∙ ap Some one
+
+-- and the reader stands at it
+pub one_follows : (now next : BitsAt) (w : ℕ) → w < 2 ^ 32 → Holds w now → next ≡ record now { place = min (now.place + count_leading_zeros 32 w) (length now.bits) }
+    → count_leading_zeros 32 w < 32 → slice_get next.bits next.place ≡ Some true
+one_follows now next w small held e few =
+    let one = one_ahead now w small held few in
+    let within = slice_get_within now.bits (now.place + count_leading_zeros 32 w) true one in
+    let place : min (now.place + count_leading_zeros 32 w) (length now.bits) ≡ now.place + count_leading_zeros 32 w = omega (arith, within) in
+    ap (λ (x : BitsAt). slice_get x.bits x.place) e ∙ ap (λ (i : ℕ). slice_get now.bits i) place ∙ one
 
 -- ---- A copy of a reader that passed zeros, and a one behind them.
 pub run_passed : (old copy new : BitsAt) (to from : ℕ) → copy ≡ old → here copy ≡ replicate (new.place - copy.place) false ++ here new → to ≡ new.place → from ≡ old.place
@@ -103,3 +110,25 @@ one_passed at next one e =
     let within = slice_get_within at.bits at.place true one in
     let place : at.place + 1 ≡ min (at.place + 1) (length at.bits) = omega (arith, within) in
     drop_some at.bits at.place true one ∙ ap (λ (i : ℕ). true ∷ drop i at.bits) place ∙ ap (λ (x : BitsAt). true ∷ here x) (sym e)
+
+-- ---- A one that is near.
+-- the zeros of the word, and the one behind them
+pub run_ahead : (at : BitsAt) (w : ℕ) → w < 2 ^ 32 → Holds w at → count_leading_zeros 32 w < 32
+    → here at ≡ replicate (count_leading_zeros 32 w) false ++ true ∷ drop (at.place + count_leading_zeros 32 w + 1) at.bits
+run_ahead at w small held few =
+    let n = count_leading_zeros 32 w in
+    let one = one_ahead at w small held few in
+    let within = slice_get_within at.bits (at.place + n) true one in
+    zeros_here at.bits at.place n (λ k lt. sym (held k (omega (arith, lt, few))) ∙ word_zeros w k small lt) (omega (arith, within))
+    ∙ ap (λ (x : Bits). replicate n false ++ x) (drop_some at.bits (at.place + n) true one)
+
+-- a one among the first eleven bits of a word
+pub near_one : (w : ℕ) → w < 2 ^ 32 → w / 2 ^ 21 ≢ 0 → count_leading_zeros 32 w < 11
+near_one w small some = elim (cases_lt (count_leading_zeros 32 w) 11) [
+  | inl lt ↦ lt
+  | inr ge ↦
+      let long = leading_length 32 w small in
+      let room : 2 ^ long.0 ≤ 2 ^ 21 = pow-le-pow_right {n = 2} (omega arith) {i = long.0} {j = 21} (omega (arith, long.1, ge)) in
+      let none : w / 2 ^ 21 ≡ 0 = omega (arith, room, long.2) in
+      absurd (some none)
+]
