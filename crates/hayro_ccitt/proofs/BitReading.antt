@@ -1,9 +1,12 @@
 pub mod BitLists
 pub mod BitPlaces
+pub mod ClonedReaders
 pub mod EolCounts
 pub mod ScanWords
 pub mod SoughtEols
 pub mod TablesAgree
 pub mod TaggedEols
+pub mod WindowWords
 pub mod ZeroRuns
 pub mod ZerosInWords
+pub mod ZerosPassed

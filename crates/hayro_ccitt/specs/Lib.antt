@@ -19,4 +19,5 @@ pub mod Runs
 pub mod Settings
 pub mod Texts
 pub mod Ticks
+pub mod Window
 pub mod Work
