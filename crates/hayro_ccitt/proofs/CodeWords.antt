@@ -1,4 +1,5 @@
 pub mod CodeReadings
+pub mod LooksAhead
 pub mod ReadCodes
 pub mod ReadRuns
 pub mod RunWords
