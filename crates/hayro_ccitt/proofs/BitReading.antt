@@ -1,9 +1,11 @@
 pub mod BitLists
 pub mod BitPlaces
 pub mod EolCounts
+pub mod LookUpEntries
 pub mod ScanWords
 pub mod SoughtEols
 pub mod TablesAgree
 pub mod TaggedEols
+pub mod WordRanges
 pub mod ZeroRuns
 pub mod ZerosInWords

@@ -1,8 +1,11 @@
 -- Telling a code word from a fixed number of bits.
-use Rattle.std.specs.Prelude.{ℕ, zero, suc, ◌+◌, ◌-◌, ◌*◌, ◌<◌, ◌≡◌, max, false, List, [], ◌∷◌, Some, None, length, get_or}
+use Rattle.std.specs.Prelude.{ℕ, zero, suc, ◌+◌, ◌-◌, ◌*◌, ◌^◌, ◌<◌, ◌≡◌, max, Bool, false, ◌&&◌, nat_le, nat_lt, if◌then◌else◌, List, [], ◌∷◌, Some, None, length, get_or}
 use Rattle.hayro_ccitt.specs.Bits.{Bits, low_bits}
 use Rattle.hayro_ccitt.specs.CodeLists.{Code}
-use Rattle.hayro_ccitt.specs.CodeReading.{agreement, word_at}
+use Rattle.hayro_ccitt.specs.declared.codes.Color.{Color}
+use Rattle.hayro_ccitt.specs.declared.codes.Color.TheVariants.{White, Black}
+use Rattle.hayro_ccitt.specs.Runs.{codes_of}
+use Rattle.hayro_ccitt.specs.CodeReading.{agreement, word_at, is_prefix}
 
 -- glue: the first bits here, so many of them, padded with zeros
 abbrev pub padded : ℕ → Bits → Bits
@@ -34,6 +37,42 @@ run_or_none list here = elim (word_at list here) [
 abbrev pub entry_of : List (Code ℕ) → Bits → ℕ
 entry_of list here = telling_bits list here * 4096 + run_or_none list here
 
--- the entries of a list, one for each thirteen bits taken as a number, the first bit highest (T.4, 4.1.1)
-abbrev pub AreEntries : List (Code ℕ) → List ℕ → Type 0
-AreEntries list entries = (i : ℕ) → i < 8192 → get_or entries i 0 ≡ entry_of list (low_bits 13 i)
+-- glue: the thirteen bits that an index stands for, the highest first
+unfoldable pub thirteen_bits : ℕ → Bits
+thirteen_bits index = low_bits 13 index
+
+-- the entries of a list, one for each thirteen bits (T.4, 4.1.1)
+pub record AreEntries (list : List (Code ℕ)) (entries : List ℕ) : Type 0 where
+  pub count : length entries ≡ 8192
+  pub each : (index : ℕ) → index < 8192 → get_or entries index 0 ≡ entry_of list (thirteen_bits index)
+
+-- ---- glue: the entries while a table of triples (run, number of bits, word as a number) is written
+
+-- no bit of the word is above its width, which is thirteen at most, and the run has twelve bits
+abbrev pub is_row : ℕ × ℕ × ℕ → Bool
+is_row row = nat_le row.1 13 && nat_lt row.2 (2 ^ row.1) && nat_lt row.0 4096
+
+-- the entry for these bits after one row
+abbrev pub with_row : ℕ × ℕ × ℕ → Bits → ℕ → ℕ
+with_row row here entry = if is_prefix (low_bits row.1 row.2) here then row.1 * 4096 + row.0 else entry
+
+-- the entry after each row in turn
+abbrev pub with_rows : List (ℕ × ℕ × ℕ) → Bits → ℕ → ℕ
+with_rows [] here entry = entry
+with_rows (row ∷ table) here entry = with_rows table here (with_row row here entry)
+
+-- ---- glue: the look-ups of both colours
+
+-- the entries of either colour
+pub record ColorEntries : Type 0 where
+  pub white : List ℕ
+  pub black : List ℕ
+
+-- those of one colour
+abbrev pub entries_of : Color → ColorEntries → List ℕ
+entries_of White both = both.white
+entries_of Black both = both.black
+
+-- they are those of its list (T.4, 4.1.1)
+abbrev pub AreOfColors : ColorEntries → Type 0
+AreOfColors both = (color : Color) → AreEntries (codes_of color) (entries_of color both)

@@ -1,11 +1,11 @@
 -- What a fixed number of bits, padded with zeros, tells of the word that stands here.
-use Rattle.std.proofs.Common.{◌≡◌, ℕ, zero, suc, ◌+◌, ◌-◌, ◌<◌, ◌≤◌,  inl, inr, Bool, true, false, leb, max, List, [], ◌∷◌, ◌++◌, length, drop, Option, Some, None, Ok, Err, refl, sym, ap, subst, ◌∙◌, append_assoc, arith}
+use Rattle.std.proofs.Common.{◌≡◌, ℕ, zero, suc, ◌+◌, ◌-◌, ◌<◌, ◌≤◌, inl, inr, Bool, true, false, leb, List, [], ◌∷◌, ◌++◌, length, drop, Option, Some, None, Ok, Err, refl, ap, ◌∙◌, append_assoc, arith}
 use Rattle.std.proofs.lemmas.Bool.{leb-true, cases_lt}
 use Rattle.std.proofs.lemmas.List.{length-append}
 use Rattle.hayro_ccitt.specs.declared.error.DecodeError.TheVariants.{UnexpectedEof, InvalidCode}
 use Rattle.hayro_ccitt.specs.Bits.{Bits}
 use Rattle.hayro_ccitt.specs.CodeLists.{Code}
-use Rattle.hayro_ccitt.specs.CodeReading.{agreement, word_at, read_code, Has, Stands, NoneStands, IsCut, is_prefix_free}
+use Rattle.hayro_ccitt.specs.CodeReading.{agreement, word_at, read_code, Has, NoneStands, IsCut, is_prefix_free}
 use Rattle.hayro_ccitt.specs.Laws.{each_word}
 use Rattle.hayro_ccitt.specs.LookUps.{padded, longest_agreement, telling_bits}
 use Rattle.hayro_ccitt.proofs.CodeWords.ReadCodes.{word_at_again, word_at_found}

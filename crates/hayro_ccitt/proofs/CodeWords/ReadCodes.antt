@@ -32,7 +32,7 @@ either_prefix (true ∷ u) (false ∷ w) here rest e = absurd cc
 either_prefix (false ∷ u) (true ∷ w) here rest e = absurd cc
 
 -- where neither is, the first doesn't stand
-apart_misses : (u w here : Bits) → apart u w ≡ true → after u (w ++ here) ≡ None
+pub apart_misses : (u w here : Bits) → apart u w ≡ true → after u (w ++ here) ≡ None
 apart_misses u w here h =
     let both = and_parts (not (is_prefix u w)) (not (is_prefix w u)) h in
     let by : (o : Option Bits) → after u (w ++ here) ≡ o → o ≡ None
