@@ -2,6 +2,7 @@ pub mod BitLists
 pub mod BitPlaces
 pub mod EolCounts
 pub mod LookUpEntries
+pub mod PeekedBits
 pub mod ScanWords
 pub mod SoughtEols
 pub mod TablesAgree

@@ -1,4 +1,5 @@
 pub mod CodeReadings
+pub mod LookedUp
 pub mod LooksAhead
 pub mod ReadCodes
 pub mod ReadRuns

@@ -8,14 +8,13 @@ ghost use Rattle.hayro_ccitt.specs.Bits.{here, low_bits};
 ghost use Rattle.hayro_ccitt.specs.CodeLists.{mode_codes, numbered};
 ghost use Rattle.hayro_ccitt.specs.CodeReading.{agreement, word_at, is_cut, read_code, leading_zeros};
 ghost use Rattle.hayro_ccitt.specs.EndOfLine.{after_eol, eols, all_eols, next_eol, past_tag, eols_with_tags, pass_last_tag, tagged_eols};
+ghost use Rattle.hayro_ccitt.specs.LookUps.{entry_of, padded};
 ghost use Rattle.hayro_ccitt.specs.Rows.{opposite};
 ghost use Rattle.hayro_ccitt.specs.Runs.{codes_of, read_run};
 ghost use Rattle.hayro_ccitt.specs.Ticks.{run_found, missed, looked, looked_at_tag};
 
 use crate::bit_reader::BitReader;
-use crate::tables::{
-    BLACK_MAKEUP, BLACK_TERMINATING, COMMON_MAKEUP, MODES, Tables, WHITE_MAKEUP, WHITE_TERMINATING,
-};
+use crate::tables::{LOOKUP_BITS, LOOKUP_INVALID, MODES, Tables};
 use crate::{DecodeError, Result};
 use std::marker::Model;
 
@@ -148,75 +147,21 @@ fn is_cut_word<V>(reader: &BitReader<'_>, list: &[(V, u8, u16)]) -> bool
     false
 }
 
-/// The run and the width of the word of these lists, or of the common make-up words, that stands here.
-fn find_run_word(
-    reader: &BitReader<'_>,
-    terminating: &[(u16, u8, u16)],
-    makeup: &[(u16, u8, u16)],
-) -> Option<(u16, u8)>
-    requires widths { IsTrue (list_all (λ e. nat_le e.1 16) terminating.now) }
-    requires makeup_widths { IsTrue (list_all (λ e. nat_le e.1 16) makeup.now) }
-    ensures found { word_at (numbered (terminating.now ++ makeup.now ++ COMMON_MAKEUP)) (here reader.now)
-        ≡ option_map (λ f. (f.0, drop f.1 (here reader.now))) result }
-    ensures within { IfSome result (λ f. f.1 ≤ length (here reader.now)) }
-{
-    if let Some(found) = find_word(reader, terminating) {
-        return Some(found);
-    }
-    if let Some(found) = find_word(reader, makeup) {
-        return Some(found);
-    }
-    find_word(reader, &COMMON_MAKEUP)
-}
-
-/// Whether the bits from here to the end are a prefix of a word of these lists or of a common make-up word.
-fn is_cut_run_word(
-    reader: &BitReader<'_>,
-    terminating: &[(u16, u8, u16)],
-    makeup: &[(u16, u8, u16)],
-) -> bool
-    requires widths { IsTrue (list_all (λ e. nat_le e.1 16) terminating.now) }
-    requires makeup_widths { IsTrue (list_all (λ e. nat_le e.1 16) makeup.now) }
-    ensures { result ≡ is_cut (numbered (terminating.now ++ makeup.now ++ COMMON_MAKEUP)) (here reader.now) }
-{
-    is_cut_word(reader, terminating)
-        || is_cut_word(reader, makeup)
-        || is_cut_word(reader, &COMMON_MAKEUP)
-}
-
 impl<'a> BitReader<'a> {
-    /// Reads a word of these lists or a common make-up word.
-    fn read_run_word(
-        &mut self,
-        terminating: &[(u16, u8, u16)],
-        makeup: &[(u16, u8, u16)],
-    ) -> Result<u16>
-        requires widths { IsTrue (list_all (λ e. nat_le e.1 16) terminating.now) }
-        requires makeup_widths { IsTrue (list_all (λ e. nat_le e.1 16) makeup.now) }
-        ensures word { MatchResult result
-            (λ n. read_code (numbered (terminating.now ++ makeup.now ++ COMMON_MAKEUP)) (here self.old)
-            ≡ Ok (n, here self.new))
-            (λ e. read_code (numbered (terminating.now ++ makeup.now ++ COMMON_MAKEUP)) (here self.old) ≡ Err e) }
-        ensures fault { IfErr result IsFault }
-        ensures same_bits { self.new.bits ≡ self.old.bits }
+    /// The entry of the next thirteen bits, padded with zeros, in the look-up of a colour.
+    #[inline]
+    fn look_up(&self, color: Color, tables: &Tables) -> u16
+        ensures { result ≡ entry_of (codes_of color) (padded 13 (here self.now)) }
     {
-        match find_run_word(self, terminating, makeup) {
-            Some((run, width)) => {
-                self.pass(width);
-                Ok(run)
-            }
-            None => {
-                if is_cut_run_word(self, terminating, makeup) {
-                    Err(DecodeError::UnexpectedEof)
-                } else {
-                    Err(DecodeError::InvalidCode)
-                }
-            }
-        }
+        let index = self.peek_u32() >> (32 - LOOKUP_BITS);
+        let Some(entry) = tables.lookup(color).entry(index as usize) else {
+            unreachable!()
+        };
+        entry
     }
 
     /// Reads a word of a colour's list, which is one tick.
-    fn decode_word(&mut self, color: Color, ticks: &mut Ticks) -> Result<u16>
+    fn decode_word(&mut self, color: Color, tables: &Tables, ticks: &mut Ticks) -> Result<u16>
         ensures word { MatchResult result
             (λ n. read_code (codes_of color) (here self.old) ≡ Ok (n, here self.new))
             (λ e. read_code (codes_of color) (here self.old) ≡ Err e) }
@@ -226,16 +171,20 @@ impl<'a> BitReader<'a> {
     {
         // A word that doesn't stand here was looked for too.
         ticks.tick();
-        match color {
-            Color::White => self.read_run_word(&WHITE_TERMINATING, &WHITE_MAKEUP),
-            Color::Black => self.read_run_word(&BLACK_TERMINATING, &BLACK_MAKEUP),
+        let entry = self.look_up(color, tables);
+        // Where the data ends inside a word these bits aren't there.
+        self.consume(usize::from(entry >> 12))?;
+        let run = entry & LOOKUP_INVALID;
+        if run == LOOKUP_INVALID {
+            return Err(DecodeError::InvalidCode);
         }
+        Ok(run)
     }
 
     /// Reads a run of a colour: make-up words and one terminating word (T.4 section 4.1.1). Each word that is
     /// looked for is a tick. `UnexpectedEof` where the data ends inside a word, `InvalidCode` where none
     /// stands, `Overflow` where the sum passes 32 bits; where the reader then stands isn't said.
-    pub fn decode_run(&mut self, color: Color, _tables: &Tables, ticks: &mut Ticks) -> Result<u32>
+    pub fn decode_run(&mut self, color: Color, tables: &Tables, ticks: &mut Ticks) -> Result<u32>
         ensures run { MatchResult result
             (λ n. read_run color (here self.old) ≡ Ok (n, here self.new))
             (λ e. read_run color (here self.old) ≡ Err e) }
@@ -245,7 +194,7 @@ impl<'a> BitReader<'a> {
     {
         let mut total: u32 = 0;
         'words: loop {
-            let run = self.decode_word(color, ticks)?;
+            let run = self.decode_word(color, tables, ticks)?;
             total = total
                 .checked_add(u32::from(run))
                 .ok_or(DecodeError::Overflow)?;

@@ -1,6 +1,6 @@
 -- What a fixed number of bits, padded with zeros, tells of the word that stands here.
-use Rattle.std.proofs.Common.{◌≡◌, ℕ, zero, suc, ◌+◌, ◌-◌, ◌<◌, ◌≤◌, inl, inr, Bool, true, false, leb, List, [], ◌∷◌, ◌++◌, length, drop, Option, Some, None, Ok, Err, refl, ap, ◌∙◌, append_assoc, arith}
-use Rattle.std.proofs.lemmas.Bool.{leb-true, cases_lt}
+use Rattle.std.proofs.Common.{◌≡◌, ℕ, zero, suc, ◌+◌, ◌-◌, ◌<◌, ◌≤◌, inl, inr, Bool, true, false, leb, List, [], ◌∷◌, ◌++◌, length, drop, Option, Some, None, Ok, Err, refl, sym, ap, ◌∙◌, append_assoc, arith}
+use Rattle.std.proofs.lemmas.Bool.{leb-true, cases_lt, false≢true}
 use Rattle.std.proofs.lemmas.List.{length-append}
 use Rattle.hayro_ccitt.specs.declared.error.DecodeError.TheVariants.{UnexpectedEof, InvalidCode}
 use Rattle.hayro_ccitt.specs.Bits.{Bits}
@@ -82,18 +82,27 @@ abbrev pub Agrees : {V : Type 0} → List (Code V) → Bits → ℕ → Type 0
 Agrees {V} list here n = (v : V) × (w : Bits) × Has list v w × (n ≤ agreement w here)
 
 -- the longest agreement is one of a word, if the list has any
-pub longest_reached : {V : Type 0} (c : Code V) (list : List (Code V)) (here : Bits) → Agrees (c ∷ list) here (longest_agreement (c ∷ list) here)
+longest_reached : {V : Type 0} (c : Code V) (list : List (Code V)) (here : Bits) → Agrees (c ∷ list) here (longest_agreement (c ∷ list) here)
 longest_reached c [] here = (c.value, c.word, inl (refl, refl), omega arith)
 longest_reached c (d ∷ list) here = elim (cases_lt (agreement c.word here) (longest_agreement (d ∷ list) here)) [
   | inl lt ↦ let on = longest_reached d list here in (on.0, on.1, inr on.2, omega (arith, on.3))
   | inr ge ↦ (c.value, c.word, inl (refl, refl), omega arith)
 ]
 
+-- whether a list has no words
+abbrev pub has_none : {V : Type 0} → List (Code V) → Bool
+has_none [] = true
+has_none (c ∷ list) = false
+
+reached_of : {V : Type 0} (list : List (Code V)) (here : Bits) → has_none list ≡ false → Agrees list here (longest_agreement list here)
+reached_of [] here e = absurd (false≢true (sym e))
+reached_of (c ∷ list) here e = longest_reached c list here
+
 -- ---- What the padded bits tell, of a list that is prefix-free and has no words longer than they are.
 pub record TellsWords {V : Type 0} (n : ℕ) (list : List (Code V)) : Type 0 where
   pub free : is_prefix_free list ≡ true
   pub short : each_word (λ w. leb (length w) n) list ≡ true
-  pub reached : (here : Bits) → Agrees list here (longest_agreement list here)
+  pub some : has_none list ≡ false
 
 module _ {V : Type 0} (n : ℕ) (list : List (Code V)) (tells : TellsWords n list) (here : Bits) where
   width_of : (v : V) (w : Bits) → Has list v w → length w ≤ n
@@ -112,7 +121,7 @@ module _ {V : Type 0} (n : ℕ) (list : List (Code V)) (tells : TellsWords n lis
   telling_is found w e at =
       rw (e, telling_bits) (omega (arith, ap length at, length-append w found.1))
 
-  telling_none : word_at list (padded n here) ≡ None → telling_bits list (padded n here) ≡ suc (longest_agreement list (padded n here))
+  pub telling_none : word_at list (padded n here) ≡ None → telling_bits list (padded n here) ≡ suc (longest_agreement list (padded n here))
   telling_none e = rw (e, telling_bits) refl
 
   -- the word that stands in the padded bits stands here, if it isn't cut
@@ -151,7 +160,7 @@ module _ {V : Type 0} (n : ℕ) (list : List (Code V)) (tells : TellsWords n lis
 
   by_none : word_at list (padded n here) ≡ None → length here < telling_bits list (padded n here) → read_code list here ≡ Err UnexpectedEof
   by_none e h =
-      let (v, w, has, most) = tells.reached (padded n here) in
+      let (v, w, has, most) = reached_of list (padded n here) tells.some in
       let begins = agrees_with_all n here w (omega (arith, h, telling_none e, most)) in
       ((reads_codes list tells.free).cut here).1 (none_here e, (v, w, has, begins))
 
