@@ -1,5 +1,6 @@
 pub mod CodeReadings
 pub mod LookedUp
+pub mod LookedUpModes
 pub mod LooksAhead
 pub mod ReadCodes
 pub mod ReadRuns

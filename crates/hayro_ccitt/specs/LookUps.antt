@@ -1,7 +1,8 @@
 -- Telling a code word from a fixed number of bits.
-use Rattle.std.specs.Prelude.{ℕ, zero, suc, ◌+◌, ◌-◌, ◌*◌, ◌^◌, ◌<◌, ◌≡◌, max, Bool, false, ◌&&◌, nat_le, nat_lt, if◌then◌else◌, List, [], ◌∷◌, Some, None, length, get_or}
+use Rattle.std.specs.Prelude.{ℕ, zero, suc, ◌+◌, ◌-◌, ◌*◌, ◌^◌, ◌<◌, ◌≡◌, max, Bool, false, ◌&&◌, nat_le, nat_lt, if◌then◌else◌, List, [], ◌∷◌, Option, Some, None, option_map, length, get_or}
 use Rattle.hayro_ccitt.specs.Bits.{Bits, low_bits}
-use Rattle.hayro_ccitt.specs.CodeLists.{Code}
+use Rattle.hayro_ccitt.specs.CodeLists.{Code, mode_codes}
+use Rattle.hayro_ccitt.specs.declared.codes.Mode.{Mode}
 use Rattle.hayro_ccitt.specs.declared.codes.Color.{Color}
 use Rattle.hayro_ccitt.specs.declared.codes.Color.TheVariants.{White, Black}
 use Rattle.hayro_ccitt.specs.Runs.{codes_of}
@@ -45,6 +46,14 @@ thirteen_bits index = low_bits 13 index
 pub record AreEntries (list : List (Code ℕ)) (entries : List ℕ) : Type 0 where
   pub count : length entries ≡ 8192
   pub each : (index : ℕ) → index < 8192 → get_or entries index 0 ≡ entry_of list (thirteen_bits index)
+
+-- glue: the seven bits that a number stands for, the highest first
+unfoldable pub seven_bits : ℕ → Bits
+seven_bits number = low_bits 7 number
+
+-- the mode whose word stands here, None where no word does, and how many bits tell so (T.4, 4.2.1.2)
+abbrev pub mode_told : Bits → Option Mode × ℕ
+mode_told here = (option_map (λ found. found.0) (word_at mode_codes here), telling_bits mode_codes here)
 
 -- ---- glue: the entries while a table of triples (run, number of bits, word as a number) is written
 

@@ -3,7 +3,7 @@ use Rattle.std.proofs.Common.{◌≡◌, ℕ, zero, suc, ◌+◌, ◌-◌, ◌/�
 use Rattle.std.proofs.lemmas.List.{get_or-drop}
 use Rattle.std.proofs.lemmas.Nat.{shr-shr}
 use Rattle.hayro_ccitt.specs.Bits.{Bits, BitsAt, bit_of, low_bits, here}
-use Rattle.hayro_ccitt.specs.LookUps.{padded, thirteen_bits}
+use Rattle.hayro_ccitt.specs.LookUps.{padded, seven_bits, thirteen_bits}
 
 -- the low bits of a number, where they are the first ones here
 low_bits-padded : (n x : ℕ) (here : Bits) → ((k : ℕ) → k < n → bit_of x (n - 1 - k) ≡ get_or here k false) → low_bits n x ≡ padded n here
@@ -33,3 +33,8 @@ pub peeked_thirteen : (at : BitsAt) (word : ℕ) → ((k : ℕ) → k < 32 → b
     → thirteen_bits (word / 524288) ≡ padded 13 (here at)
 unfolding thirteen_bits
 peeked_thirteen at word h = peeked at word 13 (omega arith) h
+
+pub peeked_seven : (at : BitsAt) (word : ℕ) → ((k : ℕ) → k < 32 → bit_of word (31 - k) ≡ get_or at.bits (at.place + k) false)
+    → seven_bits (word / 33554432) ≡ padded 7 (here at)
+unfolding seven_bits
+peeked_seven at word h = peeked at word 7 (omega arith) h

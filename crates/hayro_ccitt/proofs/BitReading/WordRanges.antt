@@ -76,7 +76,7 @@ word_begins width rest word n fits below some = rw (low_bits-append width rest n
     by (inr other) = differ (after (low_bits width word) (low_bits width (n / 2 ^ rest) ++ low_bits rest n)) refl other ∙ sym (ne_eqb (n / 2 ^ rest) word other)
 
 -- of bits so many
-word_begins_of : (whole width word n : ℕ) → width ≤ whole → word < 2 ^ width → n < 2 ^ whole
+pub word_begins_of : (whole width word n : ℕ) → width ≤ whole → word < 2 ^ width → n < 2 ^ whole
     → is_prefix (low_bits width word) (low_bits whole n) ≡ eqb (n / 2 ^ (whole - width)) word
 word_begins_of whole width word n le fits below =
     let e : width + (whole - width) ≡ whole = omega arith in
