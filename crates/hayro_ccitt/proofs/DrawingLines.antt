@@ -1,3 +1,4 @@
+pub mod CountedLines
 pub mod Drawings
 pub mod DrawnLines
 pub mod FullRows

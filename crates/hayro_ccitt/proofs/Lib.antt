@@ -5,3 +5,4 @@ pub mod DrawingLines
 pub mod EncodedPictures
 pub mod PixelRows
 pub mod Readings
+pub mod Work

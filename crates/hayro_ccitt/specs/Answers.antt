@@ -7,7 +7,7 @@ use Rattle.hayro_ccitt.specs.declared.codes.Mode.{Mode}
 use Rattle.hayro_ccitt.specs.Bits.{Bits}
 use Rattle.hayro_ccitt.specs.Rows.{Row, is_black, changes, last_pixel}
 use Rattle.hayro_ccitt.specs.Context.{Held, painted_front}
-use Rattle.hayro_ccitt.specs.Lines.{Line, Pen, draw_run, draw_mode, line_1d, line_2d}
+use Rattle.hayro_ccitt.specs.Lines.{Line, Pen, draw_run, draw_mode, line_1d, line_2d, found_1d, found_2d}
 use Rattle.hayro_ccitt.specs.Repetition.{Turn}
 
 -- ---- Errors, and what a row shows (glue).
@@ -70,6 +70,22 @@ line_from_1d held rest = line_1d held.settings.strict held.settings.columns rest
 -- a two-dimensional line against the reference row (T.4, 4.2; T.6, 2.2)
 abbrev pub line_from_2d : Held → Bits → Line
 line_from_2d held rest = line_2d held.settings.strict held.settings.columns held.reference rest
+
+-- the words that a run of the present colour finds (T.4, 4.1.1)
+abbrev pub words_of_run : Held → Bits → List Bits
+words_of_run held rest = (draw_run held.settings.strict held.settings.columns (pen_of held rest)).words
+
+-- the words that drawing a mode finds: those of its runs, where it is horizontal (T.4, 4.2.1.3; T.6, 2.2)
+abbrev pub words_of_mode : Held → Bits → Mode → List Bits
+words_of_mode held rest mode = (draw_mode held.settings.strict held.settings.columns held.reference (pen_of held rest) mode).words
+
+-- the words that a one-dimensional line finds (T.4, 4.1.1)
+abbrev pub words_from_1d : Held → Bits → List Bits
+words_from_1d held rest = found_1d held.settings.strict held.settings.columns rest
+
+-- the words that a two-dimensional line finds (T.4, 4.2; T.6, 2.2)
+abbrev pub words_from_2d : Held → Bits → List Bits
+words_from_2d held rest = found_2d held.settings.strict held.settings.columns held.reference rest
 
 -- the front that a step comes to (T.4, 4.1.1 and 4.2.1.3; T.6, 2.2)
 abbrev pub front_after : Step → Row

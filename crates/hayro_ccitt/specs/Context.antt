@@ -1,5 +1,5 @@
 -- What a context holds between its calls.
-use Rattle.std.specs.Prelude.{ℕ, zero, suc, ◌+◌, ◌-◌, [], ◌++◌, Bool, false, length, replicate, Result, ◌≡◌, ◌≤◌, ◌<◌, List, get_or}
+use Rattle.std.specs.Prelude.{ℕ, zero, suc, ◌+◌, ◌-◌, [], ◌++◌, Bool, false, length, replicate, Result, ◌≡◌, ◌≤◌, ◌<◌, List, get_or, filter, nat_le}
 use Rattle.hayro_ccitt.specs.declared.codes.Color.{Color}
 use Rattle.hayro_ccitt.specs.declared.codes.Color.TheVariants.{White}
 use Rattle.hayro_ccitt.specs.declared.settings.DecodeSettings.{DecodeSettings}
@@ -16,9 +16,11 @@ pub record Held : Type 0 where
   pub has_eols : Bool
   pub settings : DecodeSettings
 
--- a context: what it holds, and beside it the count of its work (glue)
+-- a context: what it holds, and beside it how many changes of the reference row were passed in this line, and the count
+-- of its work (glue)
 pub record Context : Type 0 where
   pub held : Held
+  pub passed : ℕ
   pub ticks : ℕ
 
 -- what a new context holds: a white reference row, nothing painted, no row taken (T.4, 4.2.1.1)
@@ -52,12 +54,17 @@ redrawn h front color =
 abbrev pub after_repair : Held → Held
 after_repair h = redrawn h (repaired h.settings.columns h.front) White
 
--- So many changes of a reference row are not right of a0, where so many pixels are painted: none, while a0 is left of the
--- row; else those at or left of the place reached (T.4, 4.2.1.1).
+-- So many changes of a reference row are known not to be right of a0, where so many pixels are painted (T.4, 4.2.1.1).
 pub record ArePassed (places : List ℕ) (painted passed : ℕ) : Type 0 where
   pub none : painted ≡ 0 → passed ≡ 0
   pub within : passed ≤ length places
   pub left : (k : ℕ) → k < passed → get_or places k 0 ≤ painted
+
+-- How many changes of a reference row are not right of a0, where so many pixels are painted: none, while a0 is left of the
+-- row; else those at or left of the place reached (T.4, 4.2.1.1).
+abbrev pub passed_changes : List ℕ → ℕ → ℕ
+passed_changes places zero = 0
+passed_changes places (suc painted) = length (filter (λ p. nat_le p (suc painted)) places)
 
 -- the first place right of a0, where so many pixels are painted (T.4, 4.2.1.1)
 abbrev pub right_of_painted : ℕ → ℕ

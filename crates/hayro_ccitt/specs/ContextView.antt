@@ -17,6 +17,7 @@ context_of c =
         has_eols = c.has_eols;
         settings = c.settings;
       };
+      passed = c.passed;
       ticks = c.ticks;
     }
 

@@ -20,3 +20,4 @@ pub mod Runs
 pub mod Settings
 pub mod Texts
 pub mod Ticks
+pub mod Work

@@ -275,15 +275,15 @@ lines_of_move_group4 settings so_far =
 abbrev pub lines_of_move_group3 : DecodeSettings → Progress → List Line
 lines_of_move_group3 settings so_far = line_at_group3 settings (row_before settings.columns so_far.rows) so_far.rest ∷ []
 
--- the lines that are read from here on
-abbrev pub lines_from : (Progress → Move) → (Progress → List Line) → Progress → List Line
-lines_from move lines so_far = gathered move lines (suc (suc (length so_far.rest))) so_far
+-- what the turns from here on give
+abbrev pub gathered_from : {A : Type 0} → (Progress → Move) → (Progress → List A) → Progress → List A
+gathered_from move gives so_far = gathered move gives (suc (suc (length so_far.rest))) so_far
 
 -- the lines of an encoding
 abbrev pub lines_by : EncodingMode → DecodeSettings → Bits → List Line
-lines_by Group4 settings bits = lines_from (move_group4 settings) (lines_of_move_group4 settings) (start_group4 bits)
-lines_by Group3_1D settings bits = lines_from (move_group3 settings) (lines_of_move_group3 settings) (start_group3 settings bits)
-lines_by Group3_2D settings bits = lines_from (move_group3 settings) (lines_of_move_group3 settings) (start_group3 settings bits)
+lines_by Group4 settings bits = gathered_from (move_group4 settings) (lines_of_move_group4 settings) (start_group4 bits)
+lines_by Group3_1D settings bits = gathered_from (move_group3 settings) (lines_of_move_group3 settings) (start_group3 settings bits)
+lines_by Group3_2D settings bits = gathered_from (move_group3 settings) (lines_of_move_group3 settings) (start_group3 settings bits)
 
 -- The lines that the plain reading reads, in order. The line of an index is read when so many rows stand.
 abbrev pub lines_of : DecodeSettings → List ℕ → List Line

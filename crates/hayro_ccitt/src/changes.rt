@@ -2,7 +2,7 @@
 
 ghost use Rattle.std.specs.Prelude.{◌≡◌, ◌≢◌, ◌+◌, ◌<◌, ◌≤◌, OnOk, OnErr, Err, IsOkUnless, false, length, get_or, ◌++◌, replicate};
 ghost use Rattle.hayro_ccitt.specs.Rows.{AreChanges, pixels, b1, b2, is_black, last_pixel};
-ghost use Rattle.hayro_ccitt.specs.Context.{right_of_painted, ArePassed};
+ghost use Rattle.hayro_ccitt.specs.Context.{right_of_painted, ArePassed, passed_changes};
 
 use crate::codes::{Color, Ticks};
 use crate::{DecodeError, Result};
@@ -21,6 +21,7 @@ pub fn b1_index(
     requires lawful { AreChanges columns changes.now }
     requires passed { ArePassed changes.now painted passed.old }
     ensures passed { ArePassed changes.now painted passed.new }
+    ensures all { passed.new ≡ passed_changes changes.now painted }
     ensures b1 { b1 (pixels columns changes.now) (right_of_painted painted) color
         ≡ get_or changes.now result columns }
     ensures b2 { b2 (pixels columns changes.now) (right_of_painted painted) color

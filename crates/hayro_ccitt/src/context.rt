@@ -1,10 +1,10 @@
 //! What a decoder keeps from line to line, and the lines themselves.
 
-ghost use Rattle.std.specs.Prelude.{◌≡◌, ◌+◌, ◌^◌, ◌<◌, ◌≤◌, ◌⊎◌, ◌↔◌, Ok, Err, OnOk, OnErr, IfOk, IfErr, true, IsOkUnless, IsTrue, length, get_or, []};
+ghost use Rattle.std.specs.Prelude.{◌≡◌, ◌+◌, ◌*◌, ◌^◌, ◌<◌, ◌≤◌, ◌⊎◌, ◌↔◌, Ok, Err, OnOk, OnErr, IfOk, IfErr, true, IsOkUnless, IsTrue, length, get_or, []};
 ghost use Rattle.hayro_ccitt.specs.Rows.{right_of, b1, b2, changes, opposite};
 ghost use Rattle.hayro_ccitt.specs.Bits.{here};
-ghost use Rattle.hayro_ccitt.specs.Context.{redrawn, painted_front, taken_row, after_repair};
-ghost use Rattle.hayro_ccitt.specs.Answers.{DrawsLine, DrawsStep, StoresChange, RepairStoresChange, pen_of, step_of_run, step_of_mode, line_from_1d, line_from_2d};
+ghost use Rattle.hayro_ccitt.specs.Context.{redrawn, painted_front, taken_row, after_repair, passed_changes};
+ghost use Rattle.hayro_ccitt.specs.Answers.{DrawsLine, DrawsStep, OnAnswer, words_of_run, words_of_mode, words_from_1d, words_from_2d, StoresChange, RepairStoresChange, pen_of, step_of_run, step_of_mode, line_from_1d, line_from_2d};
 
 use crate::bit_reader::BitReader;
 use crate::changes::{append_pixels, b1_index, change_or_end};
@@ -54,7 +54,7 @@ impl DecoderContext {
     /// A context for images with these settings: a white reference row, nothing painted, no row taken. Its only
     /// refusal is `OutOfMemory`, and nothing is made then.
     pub fn new(alloc: Global, settings: DecodeSettings) -> Result<DecoderContext>
-        ensures made { IfOk result (λ ctx. ctx ≡ record { held = fresh settings; ticks = 0 }) }
+        ensures made { IfOk result (λ ctx. ctx ≡ record { held = fresh settings; passed = 0; ticks = 0 }) }
         ensures only_memory { IsOkUnless result DecodeError.OutOfMemory }
     {
         Ok(DecoderContext {
@@ -113,7 +113,7 @@ impl DecoderContext {
 
     /// Makes all but the settings and the count what a new context has. It takes no memory.
     pub fn reset(&mut self)
-        ensures frame { self.new ≡ record self.old { held = fresh self.old.held.settings } }
+        ensures frame { self.new ≡ record self.old { held = fresh self.old.held.settings; passed = 0 } }
     {
         self.begin_line();
         self.passed = 0;
@@ -124,7 +124,7 @@ impl DecoderContext {
 
     /// Makes all but the settings what a new context has.
     pub(crate) fn restart(&mut self)
-        ensures frame { self.new ≡ record { held = fresh self.old.held.settings; ticks = 0 } }
+        ensures frame { self.new ≡ record { held = fresh self.old.held.settings; passed = 0; ticks = 0 } }
     {
         self.reset();
         self.ticks = Ticks::new();
@@ -132,7 +132,7 @@ impl DecoderContext {
 
     /// Empties the front and sets the colour to white, as each line begins.
     fn begin_line(&mut self)
-        ensures frame { self.new ≡ record self.old { held = redrawn self.old.held [] Color.White } }
+        ensures frame { self.new ≡ record self.old { held = redrawn self.old.held [] Color.White; passed = 0 } }
     {
         self.coding_changes.clear();
         self.pixels_decoded = 0;
@@ -222,7 +222,11 @@ impl DecoderContext {
         ensures edge { length self.old.held.reference ≡ self.old.held.settings.columns }
         ensures within { length self.old.held.front ≤ self.old.held.settings.columns }
         ensures unchanged { self.new.held ≡ self.old.held }
-        ensures counts { self.old.ticks ≤ self.new.ticks }
+        ensures passed { self.new.passed
+            ≡ passed_changes (changes self.old.held.reference) (length self.old.held.front) }
+        ensures passed_within { self.new.passed ≤ length (changes self.old.held.reference) }
+        ensures forward { self.old.passed ≤ self.new.passed }
+        ensures work { self.new.ticks + self.old.passed ≡ self.old.ticks + self.new.passed + 1 }
     {
         b1_index(
             self.ref_changes.as_slice(),
@@ -248,7 +252,12 @@ impl DecoderContext {
         ensures edge { length self.old.held.reference ≡ self.old.held.settings.columns }
         ensures within { length self.old.held.front ≤ self.old.held.settings.columns }
         ensures unchanged { self.new.held ≡ self.old.held }
-        ensures counts { self.old.ticks ≤ self.new.ticks }
+        ensures passed { self.new.passed
+            ≡ passed_changes (changes self.old.held.reference) (length self.old.held.front) }
+        ensures passed_within { self.new.passed ≤ length (changes self.old.held.reference) }
+        ensures forward { self.old.passed ≤ self.new.passed }
+        ensures at_least { self.old.ticks + self.new.passed ≤ self.new.ticks + self.old.passed }
+        ensures at_most { self.new.ticks + self.old.passed ≤ self.old.ticks + self.new.passed + 3 }
     {
         let place = self.b1_place();
         self.reference_change(place)
@@ -262,7 +271,12 @@ impl DecoderContext {
         ensures within { length self.old.held.front ≤ self.old.held.settings.columns }
         ensures right { length self.old.held.front ≤ result }
         ensures unchanged { self.new.held ≡ self.old.held }
-        ensures counts { self.old.ticks ≤ self.new.ticks }
+        ensures passed { self.new.passed
+            ≡ passed_changes (changes self.old.held.reference) (length self.old.held.front) }
+        ensures passed_within { self.new.passed ≤ length (changes self.old.held.reference) }
+        ensures forward { self.old.passed ≤ self.new.passed }
+        ensures at_least { self.old.ticks + self.new.passed ≤ self.new.ticks + self.old.passed }
+        ensures at_most { self.new.ticks + self.old.passed ≤ self.old.ticks + self.new.passed + 3 }
     {
         let place = self.b1_place();
         self.reference_change(place + 1)
@@ -293,7 +307,7 @@ impl DecoderContext {
         ensures width { D.width decoder.new ≡ D.width decoder.old }
         ensures taken { OnOk result (D.meaning decoder.new
             ≡ D.step (D.width decoder.old) (D.meaning decoder.old) (changes (taken_row self.old.held))) }
-        ensures frame { OnOk result (self.new ≡ record self.old { held = after_taking self.old.held }) }
+        ensures frame { OnOk result (self.new ≡ record self.old { held = after_taking self.old.held; passed = 0 }) }
         ensures flag { OnOk result (D.has_refused decoder.new ≡ D.has_refused decoder.old) }
         ensures kept { OnErr result (D.meaning decoder.new ≡ D.meaning decoder.old) }
         ensures unchanged { OnErr result (self.new ≡ self.old) }
@@ -317,7 +331,12 @@ impl DecoderContext {
             result (pen_of self.new.held (here reader.new)) }
         ensures held { self.new.held ≡ redrawn self.old.held self.new.held.front self.new.held.color }
         ensures same_bits { reader.new.bits ≡ reader.old.bits }
-        ensures counts { self.old.ticks ≤ self.new.ticks }
+        ensures exact { OnOk result (self.new.ticks
+            ≡ self.old.ticks + length (words_of_run self.old.held (here reader.old))) }
+        ensures at_least { self.old.ticks + length (words_of_run self.old.held (here reader.old)) ≤ self.new.ticks }
+        ensures at_most { self.new.ticks
+            ≤ self.old.ticks + length (words_of_run self.old.held (here reader.old)) + 1 }
+        ensures passed { self.new.passed ≡ self.old.passed }
     {
         let run = reader.decode_run(self.color, &self.tables, &mut self.ticks)?;
         self.push_pixels(run)?;
@@ -332,6 +351,12 @@ impl DecoderContext {
         ensures held { self.new.held ≡ redrawn self.old.held self.new.held.front self.new.held.color }
         ensures same_bits { reader.new.bits ≡ reader.old.bits }
         ensures counts { self.old.ticks ≤ self.new.ticks }
+        ensures at_least { OnAnswer result (self.old.ticks
+            + length (words_of_mode self.old.held (here reader.old) mode) ≤ self.new.ticks) }
+        ensures at_most { self.new.ticks + self.old.passed
+            ≤ self.old.ticks + length (words_of_mode self.old.held (here reader.old) mode) + self.new.passed + 3 }
+        ensures within { self.old.passed ≤ length (changes self.old.held.reference)
+            → self.new.passed ≤ length (changes self.old.held.reference) }
     {
         match mode {
             Mode::Pass => {
@@ -367,6 +392,11 @@ pub fn decode_1d_line(ctx: &mut DecoderContext, reader: &mut BitReader<'_>) -> R
     ensures held { ctx.new.held ≡ redrawn ctx.old.held ctx.new.held.front ctx.new.held.color }
     ensures same_bits { reader.new.bits ≡ reader.old.bits }
     ensures counts { ctx.old.ticks ≤ ctx.new.ticks }
+    ensures exact { OnOk result (ctx.new.ticks
+        ≡ ctx.old.ticks + length (words_from_1d ctx.old.held (here reader.old))) }
+    ensures at_least { OnAnswer result (ctx.old.ticks
+        + length (words_from_1d ctx.old.held (here reader.old)) ≤ ctx.new.ticks) }
+    ensures at_most { ctx.new.ticks ≤ ctx.old.ticks + length (words_from_1d ctx.old.held (here reader.old)) + 1 }
 {
     ctx.begin_line(); // The first run is white.
     'runs: while !ctx.is_full() {
@@ -385,6 +415,11 @@ pub fn decode_2d_line(ctx: &mut DecoderContext, reader: &mut BitReader<'_>) -> R
     ensures held { ctx.new.held ≡ redrawn ctx.old.held ctx.new.held.front ctx.new.held.color }
     ensures same_bits { reader.new.bits ≡ reader.old.bits }
     ensures counts { ctx.old.ticks ≤ ctx.new.ticks }
+    ensures at_least { OnAnswer result (ctx.old.ticks
+        + length (words_from_2d ctx.old.held (here reader.old)) ≤ ctx.new.ticks) }
+    ensures at_most { ctx.new.ticks ≤ ctx.old.ticks + 4 * length (words_from_2d ctx.old.held (here reader.old)) + 1
+        + length (changes ctx.old.held.reference) }
+    ensures no_words { length (words_from_2d ctx.old.held (here reader.old)) ≡ 0 → ctx.new.ticks ≤ ctx.old.ticks + 1 }
 {
     ctx.begin_line(); // The place a0 is left of the row.
     'modes: while !ctx.is_full() {

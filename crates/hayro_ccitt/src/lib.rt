@@ -4,7 +4,7 @@
 //! a [`Decoder`].
 #![tactic(auto)]
 
-ghost use Rattle.std.specs.Prelude.{◌≡◌, ◌<◌, ◌≤◌, ◌↔◌, ◌⊎◌, ℕ, List, Bool, true, false, OnOk, OnErr, IfOk, Ok, IsOk, IsOkUnless, IsTrue, length};
+ghost use Rattle.std.specs.Prelude.{◌≡◌, ◌<◌, ◌≤◌, ◌↔◌, ◌⊎◌, ℕ, List, Bool, true, false, OnOk, OnErr, IfOk, Ok, IsOk, IsOkUnless, IsTrue, length, take};
 ghost use Rattle.hayro_ccitt.specs.Answers.{OnAnswer, meaning_after};
 ghost use Rattle.hayro_ccitt.specs.Bits.{BitsFit, bits_of, here};
 ghost use Rattle.hayro_ccitt.specs.Context.{fresh};
@@ -144,9 +144,8 @@ pub fn decode<D: Decoder>(data: &[u8], decoder: &mut D, ctx: &mut DecoderContext
         × (D.meaning decoder.new ≡ meaning_after (D.step (D.width decoder.old)) (D.meaning decoder.old) rows)) }
 
     // In lenient one-dimensional data with EOLs a change inside one line's body changes that row alone.
-    ensures damage { OnAnswer result ((rows : List Row)
-        × (D.meaning decoder.new ≡ meaning_after (D.step (D.width decoder.old)) (D.meaning decoder.old) rows)
-        × DamageStaysInRow ctx.old.held.settings «data».now rows result) }
+    ensures damage { OnAnswer result (DamageStaysInRow ctx.old.held.settings «data».now
+        (take ctx.new.held.taken (plain ctx.old.held.settings «data».now).rows) result) }
 {
     ctx.restart();
     if ctx.settings().columns == 0 {

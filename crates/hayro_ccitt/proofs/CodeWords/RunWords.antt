@@ -22,7 +22,7 @@ run_found_turn : (color : Color) (total : ℕ) (here : Bits) → run_found color
     ≡ given (run_gives color (total, here)) (run_found color) (run_turn color (total, here))
 run_found_turn color total here = gathered_turn (run_turn color) (run_gives color) size (run_shrinks color) (total, here)
 
-one_word : {V : Type 0} (list : List (Code V)) (here : Bits) (found : V × Bits) → read_code list here ≡ Ok found → length (word_found list here) ≡ 1
+pub one_word : {V : Type 0} (list : List (Code V)) (here : Bits) (found : V × Bits) → read_code list here ≡ Ok found → length (word_found list here) ≡ 1
 one_word list here found e = rw (e, word_found) refl
 
 -- a make-up word is one, and the run goes on

@@ -3,16 +3,16 @@ use Rattle.std.proofs.Common.{◌≡◌, ℕ, suc, ◌+◌, ◌-◌, ◌/◌, �
 use Rattle.std.proofs.Common.{replicate, set, Option, Some, None, Result, Ok, Err, refl, sym, ap, subst, ◌∙◌, append_assoc, arith, ◌⊎◌, inl, inr}
 use Rattle.std.proofs.lemmas.Bool.{cases_lt, cases_eq, eq-eqb, ne_eqb, or_right, cond-true, cond-false}
 use Rattle.std.proofs.lemmas.List.{length-append, length-take-le, length-drop, take-append-drop, append_cancel_right, replicate-append-replicate}
+use Rattle.std.proofs.Math.Seq.{take-length}
 use Rattle.std.proofs.lemmas.List.{set_at}
 use Rattle.hayro_ccitt.specs.declared.error.DecodeError.{DecodeError}
 use Rattle.hayro_ccitt.specs.declared.error.DecodeError.TheVariants.{UnexpectedEof}
 use Rattle.hayro_ccitt.specs.declared.settings.EncodingMode.{EncodingMode}
 use Rattle.hayro_ccitt.specs.declared.settings.EncodingMode.TheVariants.{Group3_1D}
 use Rattle.hayro_ccitt.specs.declared.settings.DecodeSettings.{DecodeSettings}
-use Rattle.hayro_ccitt.specs.Answers.{OnAnswer, meaning_after}
+use Rattle.hayro_ccitt.specs.Answers.{OnAnswer}
 use Rattle.hayro_ccitt.specs.Context.{Held}
 use Rattle.hayro_ccitt.specs.Decoding.{SinkState, TakesRows}
-use Rattle.hayro_ccitt.proofs.EncodedPictures.PicturesOfEachKind.{handed}
 use Rattle.hayro_ccitt.specs.Bits.{Bits, bits_of}
 use Rattle.hayro_ccitt.specs.Settings.{AreSettings}
 use Rattle.hayro_ccitt.specs.Repetition.{repeated, Reaches}
@@ -288,14 +288,17 @@ damage_stays settings bytes rows outcome are rows_are outcome_is = rw (rows_are,
 pub damage_stays_taken : {M : Type 0} (settings : DecodeSettings) (bytes : List ℕ) (sought : Bool) (step : M → List ℕ → M) (before after : SinkState M)
     (held : Held) (answer : Result ℕ DecodeError) → AreSettings settings
     → TakesRows (plain settings bytes).rows (plain settings bytes).outcome sought step before after held answer
-    → OnAnswer answer ((rows : List Row) × (after.meaning ≡ meaning_after step before.meaning rows) × DamageStaysInRow settings bytes rows answer)
+    → OnAnswer answer (DamageStaysInRow settings bytes (take held.taken (plain settings bytes).rows) answer)
 damage_stays_taken settings bytes sought step before after held answer are takes = by answer takes
   where
     rows : List Row
     rows = (plain settings bytes).rows
 
+    all_taken : held.taken ≡ length rows → take held.taken rows ≡ rows
+    all_taken all = ap (λ (n : ℕ). take n rows) all ∙ take-length rows
+
     by : (r : Result ℕ DecodeError) → TakesRows rows (plain settings bytes).outcome sought step before after held r
-        → OnAnswer r ((rows : List Row) × (after.meaning ≡ meaning_after step before.meaning rows) × DamageStaysInRow settings bytes rows r)
-    by (Ok n) takes = (rows, handed step before after held _ takes.all takes.meaning, damage_stays settings bytes rows (Ok n) are refl (sym takes.ok))
+        → OnAnswer r (DamageStaysInRow settings bytes (take held.taken rows) r)
+    by (Ok n) takes = damage_stays settings bytes (take held.taken rows) (Ok n) are (all_taken takes.all) (sym takes.ok)
     by (Err e) takes = λ fault.
-        (rows, handed step before after held _ (takes.all fault) takes.meaning, damage_stays settings bytes rows (Err e) are refl (sym (takes.fault fault)))
+        damage_stays settings bytes (take held.taken rows) (Err e) are (all_taken (takes.all fault)) (sym (takes.fault fault))

@@ -3,13 +3,14 @@ use Rattle.std.proofs.Common.{◌≡◌, ℕ, zero, suc, ◌+◌, ◌-◌, ◌%�
 use mathlib.Core.Bool.{beq}
 use Rattle.std.proofs.Math.Bool.{and-false}
 use Rattle.std.specs.Bool.{IsTrue}
-use Rattle.std.proofs.lemmas.Bool.{lt-ltb, le-leb, le-ltb, lt-leb, false≢true, cases_lt, cases_eq}
+use Rattle.std.specs.List.{filter}
+use Rattle.std.proofs.lemmas.Bool.{lt-ltb, le-leb, le-ltb, lt-leb, false≢true, cases_lt, cases_eq, cond-true, cond-false}
 use Rattle.std.proofs.lemmas.List.{length-replicate, get_or-replicate, get_or_append_left, get_or-append_right, get_or_past}
 use Rattle.std.proofs.lemmas.Grind.{get_or_default_zero}
 use Rattle.hayro_ccitt.specs.declared.codes.Color.{Color}
 use Rattle.hayro_ccitt.specs.declared.codes.Color.TheVariants.{White, Black}
 use Rattle.hayro_ccitt.specs.Rows.{Row, AscendFrom, AreChanges, pixels_from, pixels, pixel, pixel_before, is_change, is_black, right_of, least_below, b1, b2}
-use Rattle.hayro_ccitt.specs.Context.{right_of_painted}
+use Rattle.hayro_ccitt.specs.Context.{right_of_painted, passed_changes}
 use Rattle.hayro_ccitt.proofs.PixelRows.ChangePlaces.{IsLeast, is_least, b2_above}
 use Rattle.hayro_ccitt.proofs.PixelRows.ChangesAndPixels.{length-pixels}
 
@@ -434,3 +435,34 @@ b2_from_front reference front color within = elim (cases_lt (b2 reference (right
     right_of_least : (front : Row) → length front ≤ right_of front
     right_of_least [] = omega arith
     right_of_least (p ∷ front) = omega arith
+
+-- as many changes of ascending ones are at most at a place as stand before the split behind it
+split_count : (first width : ℕ) (places : List ℕ) (p j : ℕ) → AscendFrom first width places → IsSplit places (suc p) j
+    → j ≡ length (filter (λ place. leb place p) places)
+split_count first width [] p j ascend split = omega (arith, split.within)
+split_count first width (place ∷ places) p zero ascend split =
+    let right : p < place = split.here (omega arith) in
+    let rest : IsSplit places (suc p) 0 = record {
+      within = omega arith;
+      before = λ k l. absurd (omega arith);
+      here = λ l. omega (arith, right, (ascend_bounds (suc place) width places ascend.2 0 l).0);
+    } in
+    split_count (suc place) width places p 0 ascend.2 rest
+    ∙ ap length (sym (cond-false (leb place p) (place ∷ filter (λ place. leb place p) places) (filter (λ place. leb place p) places) (lt-leb place p right)))
+split_count first width (place ∷ places) p (suc j) ascend split =
+    let left : place < suc p = split.before 0 (omega arith) in
+    let within : suc j ≤ suc (length places) = split.within in
+    let rest : IsSplit places (suc p) j = record {
+      within = omega arith;
+      before = λ k l. split.before (suc k) (omega arith);
+      here = λ l. split.here (omega arith);
+    } in
+    ap suc (split_count (suc place) width places p j ascend.2 rest)
+    ∙ ap length (sym (cond-true (leb place p) (place ∷ filter (λ place. leb place p) places) (filter (λ place. leb place p) places) (le-leb place p (omega arith))))
+
+-- the changes that are not right of a0 are those before the split there
+pub split_passed : (columns : ℕ) (places : List ℕ) (painted j : ℕ) → AreChanges columns places → IsSplit places (right_of_painted painted) j
+    → j ≡ passed_changes places painted
+split_passed columns places zero zero ascend split = refl
+split_passed columns places zero (suc j) ascend split = let none : get_or places 0 0 < 0 = split.before 0 (omega arith) in absurd (omega arith)
+split_passed columns places (suc painted) j ascend split = split_count 0 columns places (suc painted) j ascend split

@@ -15,7 +15,7 @@ use Rattle.hayro_ccitt.specs.Bits.{Bits, IsPrefix}
 use Rattle.hayro_ccitt.specs.Context.{Held}
 use Rattle.hayro_ccitt.specs.Decoding.{SinkState, TakesRows, StopsShort, TakesOneRow, with_row_taken}
 use Rattle.hayro_ccitt.specs.Lines.{Line}
-use Rattle.hayro_ccitt.specs.PlainReading.{Progress, Ending, Move, row_before, ends_with, with_row, ending_from, lines_from}
+use Rattle.hayro_ccitt.specs.PlainReading.{Progress, Ending, Move, row_before, ends_with, with_row, ending_from, gathered_from}
 use Rattle.hayro_ccitt.specs.Repetition.{Turn, repeated, gathered}
 use Rattle.hayro_ccitt.specs.Rows.{Row, changes}
 use Rattle.hayro_ccitt.proofs.Readings.Gathered.{gathered_after, gathered_turn, gathered_same}
@@ -72,14 +72,14 @@ abbrev pub ending : (Progress → Move) → (Progress → ℕ) → Progress → 
 ending move left start so_far =
     repeated move (record { rows = start.rows; has_eols = start.has_eols; outcome = Err UnexpectedEof }) (suc (left so_far)) so_far
 
--- the lines that are read from a state on
-abbrev pub lines : (Progress → Move) → (Progress → List Line) → (Progress → ℕ) → Progress → List Line
+-- what the turns from a state on give: the lines that are read, or the words that these find
+abbrev pub lines : {A : Type 0} → (Progress → Move) → (Progress → List A) → (Progress → ℕ) → Progress → List A
 lines move gives left so_far = gathered move gives (suc (left so_far)) so_far
 
 -- The reading comes to a state: how it ends and which lines follow is known from there on.
-pub record Comes (move : Progress → Move) (gives : Progress → List Line) (left : Progress → ℕ) (start so_far : Progress) : Type 0 where
+pub record Comes {A : Type 0} (move : Progress → Move) (gives : Progress → List A) (left : Progress → ℕ) (start so_far : Progress) : Type 0 where
   pub ends : ending_from move start ≡ ending move left start so_far
-  pub follow : drop (length so_far.rows) (lines_from move gives start) ≡ lines move gives left so_far
+  pub follow : drop (length so_far.rows) (gathered_from move gives start) ≡ lines move gives left so_far
   pub room : length so_far.rows + left so_far ≤ left start
 
 -- A turn from a state reads this line, which comes to this row.
@@ -88,12 +88,12 @@ pub record ReadsRow (move : Progress → Move) (gives : Progress → List Line) 
   pub fails : (fault : DecodeError) → row ≡ Err fault → move so_far ≡ ends_with so_far (Err fault)
   pub adds : (taken : Row) (rest : Bits) → row ≡ Ok (taken, rest) → Adds (so_far.rows ++ taken ∷ []) (move so_far)
 
-module _ (move : Progress → Move) (gives : Progress → List Line) (left : Progress → ℕ) (by_rows : RowByRow move left) (start : Progress) (begins : start.rows ≡ []) where
+module _ {A : Type 0} (move : Progress → Move) (gives : Progress → List A) (left : Progress → ℕ) (by_rows : RowByRow move left) (start : Progress) (begins : start.rows ≡ []) where
   abbrev whole : Ending
   whole = ending_from move start
 
-  abbrev all_lines : List Line
-  all_lines = lines_from move gives start
+  abbrev all_lines : List A
+  all_lines = gathered_from move gives start
 
   abbrev never : Ending
   never = record { rows = start.rows; has_eols = start.has_eols; outcome = Err UnexpectedEof }
@@ -131,11 +131,11 @@ module _ (move : Progress → Move) (gives : Progress → List Line) (left : Pro
             (repeated_adds move never left by_rows.shrinks by_rows.adds (suc (left after)) after (omega arith))
         by (Turn.done end) p = p
 
-    module _ (line : Line) (reads : gives so_far ≡ line ∷ []) where
+    module _ (line : A) (reads : gives so_far ≡ line ∷ []) where
       lines_on : drop (length so_far.rows) all_lines ≡ line ∷ gathered_after (lines move gives left) (move so_far)
       lines_on =
           comes.follow ∙ gathered_turn move gives left by_rows.shrinks so_far
-          ∙ ap (λ (x : List Line). x ++ gathered_after (lines move gives left) (move so_far)) reads
+          ∙ ap (λ (x : List A). x ++ gathered_after (lines move gives left) (move so_far)) reads
 
       -- the line of a turn is the one of its index
       pub comes_line : slice_get all_lines (length so_far.rows) ≡ Some line
@@ -264,7 +264,7 @@ module _ {M : Type 0} (move : Progress → Move) (gives : Progress → List Line
   the_end = ending_from move start
 
   abbrev the_lines : List Line
-  the_lines = lines_from move gives start
+  the_lines = gathered_from move gives start
 
   -- a run that ends here, all its rows being taken
   pub between_ends : (end : Ending) (new : Held) → move between.so_far ≡ Turn.done end → end.rows ≡ between.so_far.rows → new ≡ held → end.has_eols ≡ held.has_eols

@@ -1,6 +1,6 @@
 use Rattle.std.proofs.Common.{◌≡◌, sym, subst, ◌+◌, arith}
 use Rattle.hayro_ccitt.specs.Context.{right_of_painted}
-use Rattle.hayro_ccitt.proofs.PixelRows.ReferencePlaces.{IsSplit, IsSplit-painted, IsSplit-none, b1_first, b1_second, b2_after_b1}
+use Rattle.hayro_ccitt.proofs.PixelRows.ReferencePlaces.{IsSplit, IsSplit-painted, IsSplit-none, b1_first, b1_second, b2_after_b1, split_passed}
 use Rattle.hayro_ccitt.proofs.changes.b1_index.Goals.{After-is_white, then-painted-gt0+then-loop-index-test+else-changes-index, then-painted-gt0+else-loop-index-test, else-painted-gt0}
 use Rattle.hayro_ccitt.proofs.changes.b1_index.Goals as goal
 
@@ -34,3 +34,11 @@ returns-else-is_multiple_of-is_white-clause-b1 c =
 pub returns-else-is_multiple_of-is_white-clause-b2 : goal.returns-else-is_multiple_of-is_white-clause-b2
 returns-else-is_multiple_of-is_white-clause-b2 c =
     b2_after_b1 c.args.columns c.args.changes.now (right_of_painted c.args.painted) c.if-painted-gt0.index c.args.color c.requires.lawful (returns-else-is_multiple_of-is_white-clause-b1 c)
+
+pub returns-then-is_multiple_of-is_white-clause-all : goal.returns-then-is_multiple_of-is_white-clause-all
+returns-then-is_multiple_of-is_white-clause-all c =
+    split_passed c.args.columns c.args.changes.now c.args.painted c.if-painted-gt0.index c.requires.lawful (split (goal.at.returns-then-is_multiple_of-is_white-clause-all c).After-is_white)
+
+pub returns-else-is_multiple_of-is_white-clause-all : goal.returns-else-is_multiple_of-is_white-clause-all
+returns-else-is_multiple_of-is_white-clause-all c =
+    split_passed c.args.columns c.args.changes.now c.args.painted c.if-painted-gt0.index c.requires.lawful (split (goal.at.returns-else-is_multiple_of-is_white-clause-all c).After-is_white)

@@ -1,10 +1,11 @@
 use Rattle.std.proofs.Common.{length, Result, Err, subst, ap, sym, arith, ◌∙◌}
 use Rattle.std.proofs.lemmas.Result.{err_from_is_err_and}
 use Rattle.hayro_ccitt.specs.declared.error.DecodeError.{DecodeError}
-use Rattle.hayro_ccitt.specs.Answers.{DrawsLine, pen_of, step_of_run}
+use Rattle.hayro_ccitt.specs.Answers.{IsFault, DrawsLine, Step, pen_of, step_of_run}
 use Rattle.hayro_ccitt.specs.Bits.{Bits, here}
 use Rattle.hayro_ccitt.specs.Context.{Held, redrawn}
 use Rattle.hayro_ccitt.specs.Lines.{Line, Pen, line_1d}
+use Rattle.hayro_ccitt.proofs.DrawingLines.CountedLines.{found_1d_from, found_after, counted_by_run, none_after_fault}
 use Rattle.hayro_ccitt.proofs.DrawingLines.Drawings.{drawn_by, step_1d}
 use Rattle.hayro_ccitt.proofs.Readings.Repeated.{after_turn}
 use Rattle.hayro_ccitt.proofs.DrawingLines.DrawnLines.{open_by, line_by_run, line_1d_fails}
@@ -21,16 +22,20 @@ runs-preserved c =
     let before : Held = c.args.ctx.now.held in
     let now : Held = c.runs.ctx.held in
     let new : Held = c.draw_run.new.self.held in
-    let so_far = c.runs.invariant in
+    let so_far = c.runs.invariant.0 in
     let drawing = c.in_ok-draw_run.ensures in
     let open_row = open_by c.is_full.result (length now.front) now.settings.columns c.runs-test.true c.is_full.ensures.1 in
     let line = line_by_run before now _ (here c.runs.reader) so_far.held so_far.line open_row in
-    record {
-      line = sym (line ∙ ap (after_turn (drawn_by (step_1d before.settings.strict before.settings.columns))) drawing.step);
-      held = drawing.held ∙ ap (λ (h : Held). redrawn h new.front new.color) so_far.held;
-      same_bits = drawing.same_bits ∙ so_far.same_bits;
-      counts = omega (arith, drawing.counts, so_far.counts);
-    }
+    let found = counted_by_run before now (here c.runs.reader) so_far.held open_row in
+    let on = ap (λ (step : Step). length (found_after (found_1d_from before.settings.strict before.settings.columns) step)) drawing.step in (
+      record {
+        line = sym (line ∙ ap (after_turn (drawn_by (step_1d before.settings.strict before.settings.columns))) drawing.step);
+        held = drawing.held ∙ ap (λ (h : Held). redrawn h new.front new.color) so_far.held;
+        same_bits = drawing.same_bits ∙ so_far.same_bits;
+        counts = omega (arith, drawing.at_least, so_far.counts);
+      },
+      omega (arith, drawing.exact, found, on, c.runs.invariant.1),
+    )
 
 pub returns-in_err-draw_run-clause-line : goal.returns-in_err-draw_run-clause-line
 returns-in_err-draw_run-clause-line c =
@@ -40,10 +45,35 @@ returns-in_err-draw_run-clause-line c =
     let pen : Pen = pen_of c.draw_run.new.self.held (here c.draw_run.new.reader) in
     let rest : Bits = here c.runs.reader in
     let fault : DecodeError = c.in_err-draw_run.field-0.0 in
-    let so_far = c.runs.invariant in
+    let so_far = c.runs.invariant.0 in
     let open_row = open_by c.is_full.result (length now.front) now.settings.columns c.runs-test.true c.is_full.ensures.1 in
     let line : Line = line_1d before.settings.strict before.settings.columns (here c.args.reader.now) in
     let fails : DrawsLine line (Err fault) pen.front pen.rest
     = line_1d_fails before.settings.strict before.settings.columns line (step_of_run now rest) fault pen
     (line_by_run before now line rest so_far.held so_far.line open_row) c.in_err-draw_run.ensures.step in
     subst (λ (r : Result (Unit {0}) DecodeError). DrawsLine line r pen.front pen.rest) (sym (p.1 ∙ ap (λ (e : DecodeError). Err e) p.2)) fails
+
+pub returns-in_err-draw_run-clause-at_most : goal.returns-in_err-draw_run-clause-at_most
+returns-in_err-draw_run-clause-at_most c =
+    let now : Held = c.runs.ctx.held in
+    let open_row = open_by c.is_full.result (length now.front) now.settings.columns c.runs-test.true c.is_full.ensures.1 in
+    let found = counted_by_run c.args.ctx.now.held now (here c.runs.reader) c.runs.invariant.0.held open_row in
+    omega (arith, found, c.in_err-draw_run.ensures.at_most, c.runs.invariant.1)
+
+pub returns-in_err-draw_run-clause-at_least : goal.returns-in_err-draw_run-clause-at_least
+returns-in_err-draw_run-clause-at_least c =
+    let p = err_from_is_err_and c.from_residual.result c.from_residual.ensures.1 in
+    let before : Held = c.args.ctx.now.held in
+    let now : Held = c.runs.ctx.held in
+    let pen : Pen = pen_of c.draw_run.new.self.held (here c.draw_run.new.reader) in
+    let fault : DecodeError = c.in_err-draw_run.field-0.0 in
+    let open_row = open_by c.is_full.result (length now.front) now.settings.columns c.runs-test.true c.is_full.ensures.1 in
+    let found = counted_by_run before now (here c.runs.reader) c.runs.invariant.0.held open_row in
+    rw (p.1, p.2) (λ (is : IsFault fault).
+    omega (
+      arith,
+      found,
+      c.in_err-draw_run.ensures.at_least,
+      c.runs.invariant.1,
+      none_after_fault (found_1d_from before.settings.strict before.settings.columns) (step_of_run now (here c.runs.reader)) fault pen is c.in_err-draw_run.ensures.step,
+    ))

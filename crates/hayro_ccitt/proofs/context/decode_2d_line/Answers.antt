@@ -2,7 +2,9 @@ use Rattle.std.proofs.Common.{◌≡◌, length, Result, Err, subst, ap, sym, ar
 use Rattle.std.proofs.lemmas.Result.{err_from_is_err_and}
 use Rattle.hayro_ccitt.specs.declared.codes.Mode.{Mode}
 use Rattle.hayro_ccitt.specs.declared.error.DecodeError.{DecodeError}
-use Rattle.hayro_ccitt.specs.Answers.{DrawsLine, DrawsStep, pen_of, step_of_mode}
+use Rattle.hayro_ccitt.specs.Answers.{IsFault, DrawsLine, DrawsStep, OnAnswer, Step, pen_of, step_of_mode, words_of_mode}
+use Rattle.hayro_ccitt.specs.Rows.{changes}
+use Rattle.hayro_ccitt.proofs.DrawingLines.CountedLines.{found_2d_from, found_after, counted_by_mode, none_after_fault}
 use Rattle.hayro_ccitt.specs.Bits.{Bits, here}
 use Rattle.hayro_ccitt.specs.Context.{Context, Held, redrawn}
 use Rattle.hayro_ccitt.specs.ContextView.{context_of}
@@ -26,7 +28,7 @@ modes-preserved c =
     let new : Held = c.draw_mode.new.self.held in
     let rest : Bits = here c.decode_mode.new.self in
     let mode : Mode = c.in_ok-mode.mode in
-    let so_far = c.modes.invariant in
+    let so_far = c.modes.invariant.0 in
     let drawing = c.in_ok-draw_mode.ensures in
     let left : context_of c.ctx.inside ≡ c.modes.ctx = c.ctx.view_is in
     let open_row = open_by c.is_full.result (length now.front) now.settings.columns c.modes-test.true c.is_full.ensures.1 in
@@ -35,12 +37,26 @@ modes-preserved c =
     let kept : new ≡ redrawn now new.front new.color = subst (λ (x : Context). new ≡ redrawn x.held new.front new.color) left drawing.held in
     let ticks : (context_of c.ctx.inside).ticks ≡ c.modes.ctx.ticks = ap (λ (x : Context). x.ticks) left in
     let line = line_by_mode before now _ (here c.modes.reader) rest mode so_far.held so_far.line open_row c.in_ok-mode.ensures.mode in
-    record {
-      line = sym (line ∙ ap (after_turn (drawn_by (step_2d before.settings.strict before.settings.columns before.reference))) draws);
-      held = kept ∙ ap (λ (h : Held). redrawn h new.front new.color) so_far.held;
-      same_bits = drawing.same_bits ∙ c.in_ok-mode.ensures.same_bits ∙ so_far.same_bits;
-      counts = omega (arith, drawing.counts, c.in_ok-mode.ensures.ticks, so_far.counts, ticks);
-    }
+    let words = counted_by_mode before now (here c.modes.reader) rest mode so_far.held open_row c.in_ok-mode.ensures.mode in
+    let on = ap (λ (step : Step). length (found_after (found_2d_from before.settings.strict before.settings.columns before.reference) step)) draws in
+    let work = c.modes.invariant.1 in
+    let found = ap (λ (x : Context). length (words_of_mode x.held rest mode)) left in
+    let passed = ap (λ (x : Context). x.passed) left in
+    let changed = ap (λ (x : Context). length (changes x.held.reference)) left in
+    let reference = ap (λ (h : Held). length (changes h.reference)) so_far.held in (
+      record {
+        line = sym (line ∙ ap (after_turn (drawn_by (step_2d before.settings.strict before.settings.columns before.reference))) draws);
+        held = kept ∙ ap (λ (h : Held). redrawn h new.front new.color) so_far.held;
+        same_bits = drawing.same_bits ∙ c.in_ok-mode.ensures.same_bits ∙ so_far.same_bits;
+        counts = omega (arith, drawing.counts, c.in_ok-mode.ensures.ticks, so_far.counts, ticks);
+      },
+      record {
+        at_least = omega (arith, drawing.at_least, c.in_ok-mode.ensures.ticks, work.at_least, words, on, found, ticks);
+        at_most = omega (arith, drawing.at_most, c.in_ok-mode.ensures.ticks, work.at_most, words, on, found, ticks, passed);
+        within = omega (arith, drawing.within (omega (arith, work.within, passed, changed, reference)), changed, reference);
+        no_words = λ none. absurd (omega (arith, (work.no_words none).1, words));
+      },
+    )
 
 pub returns-in_err-draw_mode-clause-line : goal.returns-in_err-draw_mode-clause-line
 returns-in_err-draw_mode-clause-line c =
@@ -51,7 +67,7 @@ returns-in_err-draw_mode-clause-line c =
     let rest : Bits = here c.decode_mode.new.self in
     let mode : Mode = c.in_ok-mode.mode in
     let fault : DecodeError = c.in_err-draw_mode.field-0.0 in
-    let so_far = c.modes.invariant in
+    let so_far = c.modes.invariant.0 in
     let left : context_of c.ctx.inside ≡ c.modes.ctx = c.ctx.view_is in
     let open_row = open_by c.is_full.result (length now.front) now.settings.columns c.modes-test.true c.is_full.ensures.1 in
     let draws : DrawsStep (step_of_mode now rest mode) (Err fault) pen
@@ -61,3 +77,31 @@ returns-in_err-draw_mode-clause-line c =
     = line_2d_fails before.settings.strict before.settings.columns before.reference line (step_of_mode now rest mode) fault pen
     (line_by_mode before now line (here c.modes.reader) rest mode so_far.held so_far.line open_row c.in_ok-mode.ensures.mode) draws in
     subst (λ (r : Result (Unit {0}) DecodeError). DrawsLine line r pen.front pen.rest) (sym (p.1 ∙ ap (λ (e : DecodeError). Err e) p.2)) fails
+
+pub returns-in_err-draw_mode-clause-at_least : goal.returns-in_err-draw_mode-clause-at_least
+returns-in_err-draw_mode-clause-at_least c =
+    let p = err_from_is_err_and c.from_residual-in_err-draw_mode.result c.from_residual-in_err-draw_mode.ensures.1 in
+    let before : Held = c.args.ctx.now.held in
+    let now : Held = c.modes.ctx.held in
+    let pen : Pen = pen_of c.draw_mode.new.self.held (here c.draw_mode.new.reader) in
+    let rest : Bits = here c.decode_mode.new.self in
+    let mode : Mode = c.in_ok-mode.mode in
+    let fault : DecodeError = c.in_err-draw_mode.field-0.0 in
+    let left : context_of c.ctx.inside ≡ c.modes.ctx = c.ctx.view_is in
+    let open_row = open_by c.is_full.result (length now.front) now.settings.columns c.modes-test.true c.is_full.ensures.1 in
+    let words = counted_by_mode before now (here c.modes.reader) rest mode c.modes.invariant.0.held open_row c.in_ok-mode.ensures.mode in
+    let ticks = ap (λ (x : Context). x.ticks) left in
+    let found = ap (λ (x : Context). length (words_of_mode x.held rest mode)) left in
+    let draws : DrawsStep (step_of_mode now rest mode) (Err fault) pen
+    = subst (λ (x : Context). DrawsStep (step_of_mode x.held rest mode) (Err fault) pen) left c.in_err-draw_mode.ensures.step in
+    rw (p.1, p.2) (λ (is : IsFault fault).
+    omega (
+      arith,
+      c.in_err-draw_mode.ensures.at_least is,
+      c.in_ok-mode.ensures.ticks,
+      c.modes.invariant.1.at_least,
+      words,
+      found,
+      ticks,
+      none_after_fault (found_2d_from before.settings.strict before.settings.columns before.reference) (step_of_mode now rest mode) fault pen is draws,
+    ))

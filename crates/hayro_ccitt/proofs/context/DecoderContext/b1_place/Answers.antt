@@ -25,3 +25,16 @@ pub returns-clause-within : goal.returns-clause-within
 returns-clause-within c =
     let painted = row_length c.self.inside.pixels_decoded c.self.inside.coding_changes.items c.self.invariant.front in
     rw (← c.self.view_is) (omega (arith, painted, c.self.invariant.within))
+
+pub returns-clause-passed : goal.returns-clause-passed
+returns-clause-passed c =
+    let inside = c.self.inside in
+    let painted = row_length inside.pixels_decoded inside.coding_changes.items c.self.invariant.front in
+    let listed = changes-pixels inside.settings.columns inside.ref_changes.items c.self.invariant.reference in
+    rw (← c.self.view_is, painted, listed) (rw c.as_slice.ensures.value at c.b1_index.ensures.all)
+
+pub returns-clause-passed_within : goal.returns-clause-passed_within
+returns-clause-passed_within c =
+    let inside = c.self.inside in
+    let listed = changes-pixels inside.settings.columns inside.ref_changes.items c.self.invariant.reference in
+    rw (← c.self.view_is, listed) (rw c.as_slice.ensures.value at c.b1_index.ensures.passed.within)

@@ -1,0 +1,2 @@
+pub mod ChangesStored
+pub mod WordsPay
