@@ -3,7 +3,6 @@ pub mod BitPlaces
 pub mod EolCounts
 pub mod LookUpEntries
 pub mod PeekedBits
-pub mod ScanWords
 pub mod SoughtEols
 pub mod TablesAgree
 pub mod TaggedEols
