@@ -84,7 +84,7 @@ In w (v ∷ words) = (v ≡ w) ⊎ In w words
 abbrev tails : Bool → List Bits → List Bits
 tails b [] = []
 tails b ([] ∷ words) = tails b words
-tails b ((c ∷ word) ∷ words) = elim (beq b c) [ | true ↦ word ∷ tails b words | false ↦ tails b words ]
+tails b ((c ∷ word) ∷ words) = elim (beq b c) [ true ↦ word ∷ tails b words | false ↦ tails b words ]
 
 abbrev has_empty : List Bits → Bool
 has_empty [] = false
@@ -94,7 +94,7 @@ has_empty ((c ∷ word) ∷ words) = has_empty words
 -- whether one of the words begins any so many bits
 abbrev covers : ℕ → List Bits → Bool
 covers zero words = has_empty words
-covers (suc n) words = elim (has_empty words) [ | true ↦ true | false ↦ covers n (tails true words) && covers n (tails false words) ]
+covers (suc n) words = elim (has_empty words) [ true ↦ true | false ↦ covers n (tails true words) && covers n (tails false words) ]
 
 in_tails : (b : Bool) (words : List Bits) (w : Bits) → In w (tails b words) → In (b ∷ w) words
 in_tails b [] w i = elim i [ ]
