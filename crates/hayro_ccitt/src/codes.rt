@@ -98,7 +98,6 @@ impl Ticks {
 
 /// The mode whose word begins these seven bits, None where no word does, and the number of bits that tell so: those of
 /// the word, or one more than the bits that agree with any.
-#[inline]
 fn mode_of(bits: u32) -> (Option<Mode>, usize)
     requires { bits < 128 }
     ensures told { result ≡ mode_told (seven_bits bits) }
@@ -130,7 +129,6 @@ fn mode_of(bits: u32) -> (Option<Mode>, usize)
 
 impl<'a> BitReader<'a> {
     /// The entry of the next thirteen bits, padded with zeros, in the look-up of a colour.
-    #[inline]
     fn look_up(&self, color: Color, tables: &Tables) -> u16
         ensures { result ≡ entry_of (codes_of color) (padded 13 (here self.now)) }
     {

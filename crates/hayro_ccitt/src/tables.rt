@@ -293,7 +293,6 @@ impl Model for Lookup {
 
 impl Lookup {
     /// The entry for thirteen bits, None from 8192 on.
-    #[inline]
     pub fn entry(&self, index: usize) -> Option<u16>
         ensures value { result ≡ slice_get self.now index }
         ensures past { IsNone result ↔ (8192 ≤ index) }
@@ -401,7 +400,6 @@ impl Tables {
     }
 
     /// The look-up of a colour.
-    #[inline]
     pub fn lookup(&self, color: Color) -> &Lookup
         ensures value { result.now ≡ entries_of color self.now }
         ensures entries { AreEntries (codes_of color) result.now }
