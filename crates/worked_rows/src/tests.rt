@@ -8,6 +8,7 @@ mod calls_of_group3;
 mod group3;
 mod local_bodies;
 mod most_work;
+mod look_ups;
 
 use hayro_ccitt::DecodeError::{InvalidCode, OutOfMemory, Overflow, Refused, UnexpectedEof};
 use hayro_ccitt::bit_reader::BitReader;
