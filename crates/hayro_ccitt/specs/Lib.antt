@@ -11,6 +11,7 @@ pub mod Laws
 pub mod Lending
 pub mod Lines
 pub mod Locality
+pub mod LookUps
 pub mod Pictures
 pub mod PlainReading
 pub mod Repetition
@@ -19,4 +20,5 @@ pub mod Runs
 pub mod Settings
 pub mod Texts
 pub mod Ticks
+pub mod Window
 pub mod Work

@@ -1,21 +1,19 @@
 //! Colours, modes, and the code words and EOLs of the data.
 
-ghost use Rattle.std.specs.Prelude.{◌≡◌, ℕ, ◌+◌, ◌*◌, ◌≤◌, ◌==◌, ◌↔◌, ◌++◌, ◌∷◌, IsTrue, IfSome, IfNone, IfErr, MatchResult, Ok, Err, Some, None, true, false, length, replicate, nat_le, if◌then◌else◌, drop, option_map, is_some, min};
+ghost use Rattle.std.specs.Prelude.{◌≡◌, ℕ, ◌+◌, ◌-◌, ◌*◌, ◌<◌, ◌≤◌, ◌==◌, ◌↔◌, ◌++◌, ◌∷◌, IsTrue, IfSome, IfNone, IfErr, MatchResult, Ok, Err, Some, None, true, false, length, replicate, nat_le, if◌then◌else◌, drop, [], slice_get, option_map, is_some, min};
 ghost use Rattle.std.specs.Borrow.{ftrue};
-ghost use Rattle.std.specs.List.{list_all};
 ghost use Rattle.hayro_ccitt.specs.Answers.{IsFault};
-ghost use Rattle.hayro_ccitt.specs.Bits.{here, low_bits};
-ghost use Rattle.hayro_ccitt.specs.CodeLists.{mode_codes, numbered};
-ghost use Rattle.hayro_ccitt.specs.CodeReading.{agreement, word_at, is_cut, read_code, leading_zeros};
+ghost use Rattle.hayro_ccitt.specs.Bits.{here};
+ghost use Rattle.hayro_ccitt.specs.CodeLists.{mode_codes};
+ghost use Rattle.hayro_ccitt.specs.CodeReading.{read_code, leading_zeros};
 ghost use Rattle.hayro_ccitt.specs.EndOfLine.{after_eol, eols, all_eols, next_eol, past_tag, eols_with_tags, pass_last_tag, tagged_eols};
+ghost use Rattle.hayro_ccitt.specs.LookUps.{entry_of, mode_told, padded, seven_bits};
 ghost use Rattle.hayro_ccitt.specs.Rows.{opposite};
 ghost use Rattle.hayro_ccitt.specs.Runs.{codes_of, read_run};
 ghost use Rattle.hayro_ccitt.specs.Ticks.{run_found, missed, looked, looked_at_tag};
 
 use crate::bit_reader::BitReader;
-use crate::tables::{
-    BLACK_MAKEUP, BLACK_TERMINATING, COMMON_MAKEUP, MODES, Tables, WHITE_MAKEUP, WHITE_TERMINATING,
-};
+use crate::tables::{LOOKUP_BITS, LOOKUP_INVALID, Tables};
 use crate::{DecodeError, Result};
 use std::marker::Model;
 
@@ -96,127 +94,62 @@ impl Ticks {
         let next = Ticks::after(self);
         *self = next;
     }
-}
 
-/// How many bits of a word of this width, from its front, stand here.
-fn agreement(reader: &BitReader<'_>, width: u8, word: u16) -> u8
-    requires { width ≤ 16 }
-    ensures { result ≡ agreement (low_bits width word) (here reader.now) }
-{
-    let mut agreed = 0;
-    while agreed < width {
-        let bit = (word >> (width - 1 - agreed)) & 1 == 1;
-        match reader.bit_ahead(usize::from(agreed)) {
-            None => return agreed,
-            Some(next) => {
-                if next != bit {
-                    return agreed;
-                }
-            }
-        }
-        agreed += 1;
-    }
-    agreed
-}
-
-/// The value and the width of the word of the list that stands here.
-fn find_word<V: Copy>(reader: &BitReader<'_>, list: &[(V, u8, u16)]) -> Option<(V, u8)>
-    requires { IsTrue (list_all (λ e. nat_le e.1 16) list.now) }
-    ensures found { word_at (numbered list.now) (here reader.now)
-        ≡ option_map (λ f. (f.0, drop f.1 (here reader.now))) result }
-    ensures within { IfSome result (λ f. f.1 ≤ length (here reader.now)) }
-{
-    for (value, width, word) in list {
-        if agreement(reader, *width, *word) == *width {
-            return Some((*value, *width));
+    /// Counts so many. This is a proof alone: nothing is done in the loop, and so it leaves no code.
+    fn tick_times(&mut self, n: usize)
+        ensures { self.new ≡ self.old + n }
+    {
+        for _ in 0..n {
+            self.tick();
         }
     }
-    None
 }
 
-/// Whether the bits from here to the end are a prefix of a word of the list.
-fn is_cut_word<V>(reader: &BitReader<'_>, list: &[(V, u8, u16)]) -> bool
-    requires { IsTrue (list_all (λ e. nat_le e.1 16) list.now) }
-    ensures { result ≡ is_cut (numbered list.now) (here reader.now) }
+/// The mode whose word begins these seven bits, None where no word does, and the number of bits that tell so: those of
+/// the word, or one more than the bits that agree with any.
+fn mode_of(bits: u32) -> (Option<Mode>, usize)
+    requires { bits < 128 }
+    ensures told { result ≡ mode_told (seven_bits bits) }
+    ensures few { result.1 ≤ 7 }
 {
-    let left = reader.bits_left();
-    for (_value, width, word) in list {
-        if usize::from(agreement(reader, *width, *word)) == left {
-            return true;
-        }
+    // The words in the order of their bits: each begins where the next in this order ends.
+    if bits >= 0b1000000 {
+        (Some(Mode::Vertical(0)), 1)
+    } else if bits >= 0b0110000 {
+        (Some(Mode::Vertical(1)), 3)
+    } else if bits >= 0b0100000 {
+        (Some(Mode::Vertical(-1)), 3)
+    } else if bits >= 0b0010000 {
+        (Some(Mode::Horizontal), 3)
+    } else if bits >= 0b0001000 {
+        (Some(Mode::Pass), 4)
+    } else if bits >= 0b0000110 {
+        (Some(Mode::Vertical(2)), 6)
+    } else if bits >= 0b0000100 {
+        (Some(Mode::Vertical(-2)), 6)
+    } else if bits == 0b0000011 {
+        (Some(Mode::Vertical(3)), 7)
+    } else if bits == 0b0000010 {
+        (Some(Mode::Vertical(-3)), 7)
+    } else {
+        (None, 6)
     }
-    false
-}
-
-/// The run and the width of the word of these lists, or of the common make-up words, that stands here.
-fn find_run_word(
-    reader: &BitReader<'_>,
-    terminating: &[(u16, u8, u16)],
-    makeup: &[(u16, u8, u16)],
-) -> Option<(u16, u8)>
-    requires widths { IsTrue (list_all (λ e. nat_le e.1 16) terminating.now) }
-    requires makeup_widths { IsTrue (list_all (λ e. nat_le e.1 16) makeup.now) }
-    ensures found { word_at (numbered (terminating.now ++ makeup.now ++ COMMON_MAKEUP)) (here reader.now)
-        ≡ option_map (λ f. (f.0, drop f.1 (here reader.now))) result }
-    ensures within { IfSome result (λ f. f.1 ≤ length (here reader.now)) }
-{
-    if let Some(found) = find_word(reader, terminating) {
-        return Some(found);
-    }
-    if let Some(found) = find_word(reader, makeup) {
-        return Some(found);
-    }
-    find_word(reader, &COMMON_MAKEUP)
-}
-
-/// Whether the bits from here to the end are a prefix of a word of these lists or of a common make-up word.
-fn is_cut_run_word(
-    reader: &BitReader<'_>,
-    terminating: &[(u16, u8, u16)],
-    makeup: &[(u16, u8, u16)],
-) -> bool
-    requires widths { IsTrue (list_all (λ e. nat_le e.1 16) terminating.now) }
-    requires makeup_widths { IsTrue (list_all (λ e. nat_le e.1 16) makeup.now) }
-    ensures { result ≡ is_cut (numbered (terminating.now ++ makeup.now ++ COMMON_MAKEUP)) (here reader.now) }
-{
-    is_cut_word(reader, terminating)
-        || is_cut_word(reader, makeup)
-        || is_cut_word(reader, &COMMON_MAKEUP)
 }
 
 impl<'a> BitReader<'a> {
-    /// Reads a word of these lists or a common make-up word.
-    fn read_run_word(
-        &mut self,
-        terminating: &[(u16, u8, u16)],
-        makeup: &[(u16, u8, u16)],
-    ) -> Result<u16>
-        requires widths { IsTrue (list_all (λ e. nat_le e.1 16) terminating.now) }
-        requires makeup_widths { IsTrue (list_all (λ e. nat_le e.1 16) makeup.now) }
-        ensures word { MatchResult result
-            (λ n. read_code (numbered (terminating.now ++ makeup.now ++ COMMON_MAKEUP)) (here self.old)
-            ≡ Ok (n, here self.new))
-            (λ e. read_code (numbered (terminating.now ++ makeup.now ++ COMMON_MAKEUP)) (here self.old) ≡ Err e) }
-        ensures fault { IfErr result IsFault }
-        ensures same_bits { self.new.bits ≡ self.old.bits }
+    /// The entry of the next thirteen bits, padded with zeros, in the look-up of a colour.
+    fn look_up(&self, color: Color, tables: &Tables) -> u16
+        ensures { result ≡ entry_of (codes_of color) (padded 13 (here self.now)) }
     {
-        match find_run_word(self, terminating, makeup) {
-            Some((run, width)) => {
-                self.pass(width);
-                Ok(run)
-            }
-            None => {
-                if is_cut_run_word(self, terminating, makeup) {
-                    Err(DecodeError::UnexpectedEof)
-                } else {
-                    Err(DecodeError::InvalidCode)
-                }
-            }
-        }
+        let index = self.peek_u32() >> (32 - LOOKUP_BITS);
+        let Some(entry) = tables.lookup(color).entry(index as usize) else {
+            unreachable!()
+        };
+        entry
     }
 
     /// Reads a word of a colour's list, which is one tick.
-    fn decode_word(&mut self, color: Color, ticks: &mut Ticks) -> Result<u16>
+    fn decode_word(&mut self, color: Color, tables: &Tables, ticks: &mut Ticks) -> Result<u16>
         ensures word { MatchResult result
             (λ n. read_code (codes_of color) (here self.old) ≡ Ok (n, here self.new))
             (λ e. read_code (codes_of color) (here self.old) ≡ Err e) }
@@ -226,16 +159,20 @@ impl<'a> BitReader<'a> {
     {
         // A word that doesn't stand here was looked for too.
         ticks.tick();
-        match color {
-            Color::White => self.read_run_word(&WHITE_TERMINATING, &WHITE_MAKEUP),
-            Color::Black => self.read_run_word(&BLACK_TERMINATING, &BLACK_MAKEUP),
+        let entry = self.look_up(color, tables);
+        // Where the data ends inside a word these bits aren't there.
+        self.consume(usize::from(entry >> 12))?;
+        let run = entry & LOOKUP_INVALID;
+        if run == LOOKUP_INVALID {
+            return Err(DecodeError::InvalidCode);
         }
+        Ok(run)
     }
 
     /// Reads a run of a colour: make-up words and one terminating word (T.4 section 4.1.1). Each word that is
     /// looked for is a tick. `UnexpectedEof` where the data ends inside a word, `InvalidCode` where none
     /// stands, `Overflow` where the sum passes 32 bits; where the reader then stands isn't said.
-    pub fn decode_run(&mut self, color: Color, _tables: &Tables, ticks: &mut Ticks) -> Result<u32>
+    pub fn decode_run(&mut self, color: Color, tables: &Tables, ticks: &mut Ticks) -> Result<u32>
         ensures run { MatchResult result
             (λ n. read_run color (here self.old) ≡ Ok (n, here self.new))
             (λ e. read_run color (here self.old) ≡ Err e) }
@@ -245,7 +182,7 @@ impl<'a> BitReader<'a> {
     {
         let mut total: u32 = 0;
         'words: loop {
-            let run = self.decode_word(color, ticks)?;
+            let run = self.decode_word(color, tables, ticks)?;
             total = total
                 .checked_add(u32::from(run))
                 .ok_or(DecodeError::Overflow)?;
@@ -266,17 +203,29 @@ impl<'a> BitReader<'a> {
         ensures ticks { ticks.new ≡ ticks.old + 1 }
     {
         ticks.tick();
-        match find_word(self, &MODES) {
-            Some((mode, width)) => {
-                self.pass(width);
-                Ok(mode)
-            }
-            None => {
-                if is_cut_word(self, &MODES) {
-                    Err(DecodeError::UnexpectedEof)
-                } else {
-                    Err(DecodeError::InvalidCode)
-                }
+        let (mode, width) = mode_of(self.peek_u32() >> 25);
+        // Where the data ends inside a word these bits aren't there.
+        self.consume(width)?;
+        match mode {
+            Some(mode) => Ok(mode),
+            None => Err(DecodeError::InvalidCode),
+        }
+    }
+
+    /// Passes the zeros here, by the word, and answers whether a one follows. Where none does they go on to the end.
+    fn pass_zeros(&mut self) -> bool
+        ensures zeros { here self.old ≡ replicate (self.new.place - self.old.place) false ++ here self.new }
+        ensures forward { self.old.place ≤ self.new.place }
+        ensures one { result ≡ true → slice_get self.new.bits self.new.place ≡ Some true }
+        ensures end { result ≡ false → here self.new ≡ [] }
+        ensures same_bits { self.new.bits ≡ self.old.bits }
+    {
+        'words: loop {
+            let zeros = self.peek_u32().leading_zeros();
+            match self.consume(zeros as usize) {
+                Err(_) => return false,
+                Ok(()) if zeros < 32 => return true,
+                Ok(()) => {}
             }
         }
     }
@@ -293,21 +242,32 @@ impl<'a> BitReader<'a> {
         ensures no_eol { IfNone result.1 (after_eol 0 (here self.now) ≡ None) }
         ensures ticks { ticks.new ≡ ticks.old + looked (here self.now) }
     {
-        let mut reader = self.copy();
-        let mut zeros = 0;
-        'bits: loop {
-            match reader.read_bit() {
-                Ok(0) => {
-                    ticks.tick();
-                    zeros += 1;
-                }
-                Ok(_) => {
-                    ticks.tick();
-                    return (zeros, Some(reader));
-                }
-                Err(_) => return (zeros, None),
-            }
+        let mut reader = self.clone().unwrap();
+        let is_one = reader.pass_zeros();
+        let zeros = reader.bit_pos() - self.bit_pos();
+        ticks.tick_times(zeros);
+        if !is_one {
+            return (zeros, None);
         }
+        ticks.tick();
+        // The one is there to be passed.
+        let _ = reader.consume(1);
+        (zeros, Some(reader))
+    }
+
+    /// Whether a one is among the next eleven bits, so that no EOL stands here. Then each bit up to it is a tick.
+    #[inline(always)]
+    fn is_near_one(&self, ticks: &mut Ticks) -> bool
+        ensures near { result ≡ true → after_eol 0 (here self.now) ≡ None }
+        ensures looked { result ≡ true → ticks.new ≡ ticks.old + looked (here self.now) }
+        ensures far { result ≡ false → ticks.new ≡ ticks.old }
+    {
+        let next = self.peek_u32();
+        if next >> 21 == 0 {
+            return false;
+        }
+        ticks.tick_times(next.leading_zeros() as usize + 1);
+        true
     }
 
     /// Reads EOLs in a row, each with its fill (T.4 sections 4.1.2 and 4.1.3), at most so many, and answers how
@@ -320,6 +280,9 @@ impl<'a> BitReader<'a> {
     {
         let mut count = 0;
         'eols: while count < max {
+            if self.is_near_one(ticks) {
+                return count;
+            }
             let (zeros, after) = self.zero_run(ticks);
             match after {
                 Some(after) if zeros >= 11 => *self = after,
@@ -352,7 +315,7 @@ impl<'a> BitReader<'a> {
         ensures ticks { ticks.new + length (here self.new)
             ≡ ticks.old + length (here self.old) + (if result then looked (here self.new) else length (here self.new)) }
     {
-        let mut reader = self.copy();
+        let mut reader = self.clone().unwrap();
         'eols: loop {
             let (zeros, after) = reader.zero_run(ticks);
             match after {
@@ -384,7 +347,7 @@ impl<'a> BitReader<'a> {
         ensures same_bits { self.new.bits ≡ self.old.bits }
         ensures ticks { ticks.new ≡ ticks.old + looked_at_tag (here self.old) }
     {
-        let mut behind = self.copy();
+        let mut behind = self.clone().unwrap();
         match behind.read_bit() {
             Ok(0) => ticks.tick(),
             Ok(_) => {
@@ -407,7 +370,7 @@ impl<'a> BitReader<'a> {
         if count < 6 {
             return;
         }
-        let mut behind = self.copy();
+        let mut behind = self.clone().unwrap();
         match behind.read_bit() {
             Ok(0) => ticks.tick(),
             Ok(_) => {

@@ -1,12 +1,15 @@
 //! The code words of T.4 and T.6 as arrays of (run length or mode, number of bits, word).
 
-ghost use Rattle.std.specs.Prelude.{◌≡◌, ◌++◌, ◌^◌, IsOkUnless, IsTrue, nat_lt};
+ghost use Rattle.std.specs.Prelude.{◌≡◌, ◌++◌, ◌^◌, ◌<◌, ◌≤◌, ◌↔◌, ◌⊎◌, ℕ, IfOk, IsOkUnless, IsNone, IsTrue, nat_lt, length, get_or, slice_get, ◌+◌};
 ghost use Rattle.std.specs.List.{list_all};
 ghost use Rattle.hayro_ccitt.specs.CodeLists.{numbered, white_codes, black_codes, mode_codes};
+ghost use Rattle.hayro_ccitt.specs.LookUps.{AreEntries, AreOfColors, entries_of, is_row, with_row, with_rows, thirteen_bits};
+ghost use Rattle.hayro_ccitt.specs.Runs.{codes_of};
 
-use crate::codes::Mode;
+use crate::codes::{Color, Mode};
 use crate::{DecodeError, Result};
 use std::alloc::Global;
+use std::marker::Model;
 
 /// The white runs 0 to 63 (T.4, table 2).
 #[rattlefmt::skip]
@@ -262,16 +265,148 @@ pub const LOOKUP_BITS: u32 = 13;
 /// The run length that stands in a look-up where no code word does.
 pub const LOOKUP_INVALID: u16 = 0xFFF;
 
-/// What run codes are read by. Its fields are for the look-ups of whole words to come; until then the arrays are
-/// scanned and it holds nothing.
+/// The number of entries of a look-up, one for each thirteen bits.
+const LOOKUP_ENTRIES: usize = 8192;
+
+/// The entry where no code word of a run stands: the thirteen bits then begin with eight zeros, and no word does, but
+/// seven of them agree with a word.
+const NO_WORD: u16 = 8 << 12 | LOOKUP_INVALID;
+
+/// The code words of a colour by the next thirteen bits, which are taken as a number, the first bit highest. The low
+/// twelve bits of an entry are the run of the word that stands there, the high four its number of bits. Where no word
+/// stands the low twelve are `LOOKUP_INVALID`, and the high four one more than the bits that agree with any word: so many
+/// bits tell that none stands.
 #[derive(Drop)]
-pub struct Tables {}
+pub struct Lookup {
+    entries: Vec<u16>,
+}
+
+impl Model for Lookup {
+    ghost use Rattle.std.specs.Prelude.{List, ℕ, ◌≡◌, length};
+
+    ghost Value = { List ℕ };
+
+    ghost view = { λ l. l.entries.items };
+
+    ghost invariant = { λ l. length l.entries.items ≡ 8192 };
+}
+
+impl Lookup {
+    /// The entry for thirteen bits, None from 8192 on.
+    pub fn entry(&self, index: usize) -> Option<u16>
+        ensures value { result ≡ slice_get self.now index }
+        ensures past { IsNone result ↔ (8192 ≤ index) }
+    {
+        if index < LOOKUP_ENTRIES {
+            Some(self.entries[index])
+        } else {
+            None
+        }
+    }
+}
+
+/// So many entries, all of them one value.
+fn filled(alloc: Global, count: usize, value: u16) -> Result<Vec<u16>>
+    ensures entries { IfOk result (λ v. (length v.items ≡ count) × ((k : ℕ) → k < count → get_or v.items k 0 ≡ value)) }
+    ensures only_memory { IsOkUnless result DecodeError.OutOfMemory }
+{
+    Ok(vec![in alloc; value; count]?)
+}
+
+/// Writes one entry at so many indexes from the first on.
+fn fill(entries: &mut Vec<u16>, first: usize, count: usize, entry: u16)
+    requires { first + count ≤ length entries.old.items }
+    ensures count { length entries.new.items ≡ length entries.old.items }
+    ensures inside { (k : ℕ) → first ≤ k → k < first + count → get_or entries.new.items k 0 ≡ entry }
+    ensures before { (k : ℕ) → k < first → get_or entries.new.items k 0 ≡ get_or entries.old.items k 0 }
+    ensures behind { (k : ℕ) → first + count ≤ k → get_or entries.new.items k 0 ≡ get_or entries.old.items k 0 }
+{
+    entries[first..first + count].fill(entry);
+}
+
+/// Writes the entry of a word wherever it begins the thirteen bits.
+fn put_word(entries: &mut Vec<u16>, run: u16, width: u8, word: u16)
+    requires count { length entries.old.items ≡ 8192 }
+    requires row { IsTrue (is_row (run, width, word)) }
+    ensures each { (k : ℕ) → k < 8192 → get_or entries.new.items k 0 ≡ with_row (run, width, word) (thirteen_bits k) (get_or entries.old.items k 0) }
+    ensures count { length entries.new.items ≡ 8192 }
+{
+    // the bits behind the word may be any
+    let others = LOOKUP_BITS - u32::from(width);
+    let entry = u16::from(width) << 12 | run;
+    fill(entries, usize::from(word) << others, 1 << others, entry);
+}
+
+/// Writes the entries of the words of a list.
+fn put_words(entries: &mut Vec<u16>, words: &[(u16, u8, u16)])
+    requires count { length entries.old.items ≡ 8192 }
+    requires rows { IsTrue (list_all is_row words.now) }
+    ensures each { (k : ℕ) → k < 8192 → get_or entries.new.items k 0 ≡ with_rows words.now (thirteen_bits k) (get_or entries.old.items k 0) }
+    ensures count { length entries.new.items ≡ 8192 }
+{
+    for (run, width, word) in words {
+        put_word(entries, *run, *width, *word);
+    }
+}
+
+/// The look-up of a colour: of its terminating words, its make-up words and the common make-up words. The only refusal
+/// is `OutOfMemory`.
+pub fn build_lookup(
+    alloc: Global,
+    terminating: &[(u16, u8, u16)],
+    makeup: &[(u16, u8, u16)],
+) -> Result<Lookup>
+    requires one_color { ((terminating.now ≡ WHITE_TERMINATING) × (makeup.now ≡ WHITE_MAKEUP))
+        ⊎ ((terminating.now ≡ BLACK_TERMINATING) × (makeup.now ≡ BLACK_MAKEUP)) }
+    ensures entries { IfOk result (λ lookup. AreEntries (numbered (terminating.now ++ makeup.now ++ COMMON_MAKEUP)) lookup) }
+    ensures only_memory { IsOkUnless result DecodeError.OutOfMemory }
+{
+    let mut entries = filled(alloc, LOOKUP_ENTRIES, NO_WORD)?;
+    put_words(&mut entries, terminating);
+    put_words(&mut entries, makeup);
+    put_words(&mut entries, &COMMON_MAKEUP);
+    Ok(Lookup { entries })
+}
+
+/// What run codes are read by: the look-ups of both colours.
+#[derive(Drop)]
+pub struct Tables {
+    white: Lookup,
+    black: Lookup,
+}
+
+impl Model for Tables {
+    ghost use Rattle.hayro_ccitt.specs.LookUps.{ColorEntries};
+
+    ghost Value = { ColorEntries };
+
+    ghost use Rattle.hayro_ccitt.specs.LookUps.{AreOfColors};
+
+    ghost view = { λ t. record { white = t.white; black = t.black } };
+
+    ghost invariant = { λ t. AreOfColors (record { white = t.white; black = t.black }) };
+}
 
 impl Tables {
-    /// The tables of both colours. The only refusal is `OutOfMemory`.
-    pub fn new(_alloc: Global) -> Result<Tables>
+    /// The tables of both colours. The only refusal is `OutOfMemory`, and nothing is made then.
+    pub fn new(alloc: Global) -> Result<Tables>
+        ensures entries { IfOk result (λ tables. AreOfColors tables) }
         ensures only_memory { IsOkUnless result DecodeError.OutOfMemory }
     {
-        Ok(Tables {})
+        Ok(Tables {
+            white: build_lookup(alloc, &WHITE_TERMINATING, &WHITE_MAKEUP)?,
+            black: build_lookup(alloc, &BLACK_TERMINATING, &BLACK_MAKEUP)?,
+        })
+    }
+
+    /// The look-up of a colour.
+    pub fn lookup(&self, color: Color) -> &Lookup
+        ensures value { result.now ≡ entries_of color self.now }
+        ensures entries { AreEntries (codes_of color) result.now }
+    {
+        match color {
+            Color::White => &self.white,
+            Color::Black => &self.black,
+        }
     }
 }

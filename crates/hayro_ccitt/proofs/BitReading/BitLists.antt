@@ -30,18 +30,6 @@ drop_some [] i x h = absurd cc
 drop_some (y ∷ xs) zero x h = cc
 drop_some (y ∷ xs) (suc i) x h = let k : suc i + 1 ≡ suc (i + 1) = omega arith in rw k (drop_some xs i x h)
 
-pub drop_none : {A : Type 0} (xs : List A) (i : ℕ) → slice_get xs i ≡ None → drop i xs ≡ []
-drop_none [] zero h = refl
-drop_none [] (suc i) h = refl
-drop_none (y ∷ xs) zero h = absurd cc
-drop_none (y ∷ xs) (suc i) h = drop_none xs i h
-
-pub low_bits-suc : (width k n : ℕ) → k < width → low_bits (width - k) n ≡ bit_of n (width - 1 - k) ∷ low_bits (width - (k + 1)) n
-low_bits-suc width k n h =
-    let i : width - k ≡ suc (width - (k + 1)) = omega arith in
-    let j : width - 1 - k ≡ width - (k + 1) = omega arith in
-    rw (i, j) refl
-
 pub length-low_bits : (width n : ℕ) → length (low_bits width n) ≡ width
 length-low_bits zero n = refl
 length-low_bits (suc width) n = ap suc (length-low_bits width n)

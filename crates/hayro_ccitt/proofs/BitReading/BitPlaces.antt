@@ -1,5 +1,5 @@
 -- Places among the bits of bytes, and a number that grows by the bits read.
-use Rattle.std.proofs.Common.{◌≡◌, ℕ, zero, suc, ◌+◌, ◌-◌, ◌*◌, ◌/◌, ◌%◌, ◌^◌, ◌<◌, ◌≤◌, inl, inr, Bool, true, false, eqb, leb, List, [], ◌∷◌, length, get_or, drop, Some, None, bit_or, refl, sym, ap, ◌∙◌, arith}
+use Rattle.std.proofs.Common.{◌≡◌, ℕ, zero, suc, ◌+◌, ◌-◌, ◌*◌, ◌/◌, ◌%◌, ◌^◌, ◌<◌, ◌≤◌, inl, inr, Bool, true, false, eqb, leb, List, [], ◌∷◌, length, get_or, drop, min, Some, None, bit_or, refl, sym, ap, ◌∙◌, arith}
 use Rattle.std.specs.Prelude.{slice_get}
 use Rattle.std.specs.Int.{bit_at}
 use Rattle.std.proofs.Math.Nat.{pow-suc, pow-le-pow_right}
@@ -9,7 +9,7 @@ use Rattle.std.proofs.lemmas.Nat.{or_shifted}
 use Rattle.std.proofs.lemmas.Nat.Bits.{bit_at_cat_high}
 use Rattle.std.proofs.lemmas.Option.{slice_get_within}
 use mir.Val.{bool_byte}
-use Rattle.hayro_ccitt.specs.Bits.{Bits, BitsAt, bit_of, bits_of}
+use Rattle.hayro_ccitt.specs.Bits.{Bits, BitsAt, bit_of, bits_of, here}
 use Rattle.hayro_ccitt.specs.PlainReading.{at_end, aligned}
 use Rattle.hayro_ccitt.proofs.BitReading.BitLists.{length-bits_of}
 
@@ -104,3 +104,19 @@ holds_more bits place width n held k h =
           let at : width + 1 - 1 - k ≡ suc (width - 1 - k) = omega arith in
           rw at (bit_of-higher n (width - 1 - k) bit ∙ held k (omega arith))
     ]
+
+-- ---- So many bits from the place on, where they are there and where they aren't.
+pub bits_missing : (at : BitsAt) (n k : ℕ) → n ≡ k → 0 < k → length at.bits < at.place + n → length (here at) < k
+bits_missing at n k e some past = omega (arith, length-drop at.place at.bits)
+
+pub bits_enough : (at : BitsAt) (n k : ℕ) → n ≡ k → (length at.bits < at.place + n → ⊥) → k ≤ length (here at)
+bits_enough at n k e there = elim (cases_lt (length at.bits) (at.place + n)) [
+  | inl lt ↦ absurd (there lt)
+  | inr ge ↦ omega (arith, length-drop at.place at.bits)
+]
+
+pub moved_on : (at next : BitsAt) (n k : ℕ) → n ≡ k → next ≡ bits_at at.bits (min (at.place + n) (length at.bits)) → k ≤ length (here at) → 0 < k
+    → here next ≡ drop k (here at)
+moved_on at next n k e moved there some =
+    let place : min (at.place + n) (length at.bits) ≡ at.place + k = omega (arith, length-drop at.place at.bits) in
+    rw (moved, place) (sym (drop-drop k at.place at.bits))

@@ -1,10 +1,32 @@
--- The arrays of the code are the code lists.
-use Rattle.std.proofs.Common.{◌≡◌, ◌++◌, refl}
+-- The arrays of the code are the code lists, and the look-ups of the arrays those of the lists.
+use Rattle.std.proofs.Common.{◌≡◌, ℕ, ◌++◌, ◌⊎◌, inl, inr, List, refl, ap, subst, ◌∙◌}
+use Rattle.hayro_ccitt.specs.declared.codes.Color.{Color}
+use Rattle.hayro_ccitt.specs.declared.codes.Color.TheVariants.{White, Black}
 use Rattle.hayro_ccitt.specs.CodeLists.{white_codes, black_codes, numbered}
+use Rattle.hayro_ccitt.specs.LookUps.{AreEntries, AreOfColors}
+use Rattle.hayro_ccitt.specs.Runs.{codes_of}
 use Rattle.hayro_ccitt.specs.declared.tables.TheConstants.{WHITE_TERMINATING, WHITE_MAKEUP, BLACK_TERMINATING, BLACK_MAKEUP, COMMON_MAKEUP}
+use Rattle.hayro_ccitt.proofs.BitReading.LookUpEntries.{Table}
 
 pub numbered_white : numbered (WHITE_TERMINATING ++ WHITE_MAKEUP ++ COMMON_MAKEUP) ≡ white_codes
 numbered_white = refl
 
 pub numbered_black : numbered (BLACK_TERMINATING ++ BLACK_MAKEUP ++ COMMON_MAKEUP) ≡ black_codes
 numbered_black = refl
+
+-- the arrays of white, or those of black
+abbrev pub AreArrays : Table → Table → Type 0
+AreArrays terminating makeup = ((terminating ≡ WHITE_TERMINATING) × (makeup ≡ WHITE_MAKEUP)) ⊎ ((terminating ≡ BLACK_TERMINATING) × (makeup ≡ BLACK_MAKEUP))
+
+-- they are the list of a colour
+pub numbered_of : (terminating makeup : Table) → AreArrays terminating makeup → (color : Color) × (numbered (terminating ++ makeup ++ COMMON_MAKEUP) ≡ codes_of color)
+numbered_of terminating makeup (inl e) =
+    (White, ap (λ (t : Table). numbered (t ++ makeup ++ COMMON_MAKEUP)) e.0 ∙ ap (λ (m : Table). numbered (WHITE_TERMINATING ++ m ++ COMMON_MAKEUP)) e.1 ∙ numbered_white)
+numbered_of terminating makeup (inr e) =
+    (Black, ap (λ (t : Table). numbered (t ++ makeup ++ COMMON_MAKEUP)) e.0 ∙ ap (λ (m : Table). numbered (BLACK_TERMINATING ++ m ++ COMMON_MAKEUP)) e.1 ∙ numbered_black)
+
+-- the look-ups of both
+pub of_arrays : (white black : List ℕ) → AreEntries (numbered (WHITE_TERMINATING ++ WHITE_MAKEUP ++ COMMON_MAKEUP)) white
+    → AreEntries (numbered (BLACK_TERMINATING ++ BLACK_MAKEUP ++ COMMON_MAKEUP)) black → AreOfColors (record { white = white; black = black })
+of_arrays white black w b White = subst (λ list. AreEntries list white) numbered_white w
+of_arrays white black w b Black = subst (λ list. AreEntries list black) numbered_black b

@@ -1,5 +1,5 @@
 -- What reading a list finds, by the words that stand there.
-use Rattle.std.proofs.Common.{◌≡◌, drop, ◌<◌, ◌≤◌, Bool, true, false, not, List, [], ◌∷◌, ◌++◌, length, Option, Some, None, Result, Ok, Err, refl, sym, ap, subst, ◌∙◌, arith, ◌⊎◌, inl, inr}
+use Rattle.std.proofs.Common.{◌≡◌, Bool, true, false, not, List, [], ◌∷◌, ◌++◌, Option, Some, None, Result, Ok, Err, refl, sym, ap, subst, ◌∙◌, ◌⊎◌, inl, inr}
 use Rattle.std.proofs.lemmas.Bool.{and_parts, false≢true, not-true}
 use Rattle.std.specs.List.{list_all}
 use Rattle.hayro_ccitt.specs.declared.error.DecodeError.{DecodeError}
@@ -7,7 +7,7 @@ use Rattle.hayro_ccitt.specs.declared.error.DecodeError.TheVariants.{UnexpectedE
 use Rattle.hayro_ccitt.specs.Bits.{Bits}
 use Rattle.hayro_ccitt.specs.CodeLists.{Code}
 use Rattle.hayro_ccitt.specs.Ticks.{missed}
-use Rattle.hayro_ccitt.specs.CodeReading.{agreement, after, is_prefix, word_at, is_cut, Has, read_code, apart, is_prefix_free}
+use Rattle.hayro_ccitt.specs.CodeReading.{after, is_prefix, word_at, is_cut, Has, read_code, apart, is_prefix_free}
 
 pub after_is : (word here rest : Bits) → after word here ≡ Some rest → here ≡ word ++ rest
 after_is [] here rest e = cc
@@ -32,7 +32,7 @@ either_prefix (true ∷ u) (false ∷ w) here rest e = absurd cc
 either_prefix (false ∷ u) (true ∷ w) here rest e = absurd cc
 
 -- where neither is, the first doesn't stand
-apart_misses : (u w here : Bits) → apart u w ≡ true → after u (w ++ here) ≡ None
+pub apart_misses : (u w here : Bits) → apart u w ≡ true → after u (w ++ here) ≡ None
 apart_misses u w here h =
     let both = and_parts (not (is_prefix u w)) (not (is_prefix w u)) h in
     let by : (o : Option Bits) → after u (w ++ here) ≡ o → o ≡ None
@@ -108,44 +108,3 @@ read_code_found {V} list here v rest e = elim (cases_reading list here (Ok (v, r
   | inl a ↦ let p : (v, rest) ≡ a.0 = cc in subst (λ (x : V × Bits). (w : Bits) × Has list x.0 w × (here ≡ w ++ x.1)) (sym p) (word_at_found list here a.0 a.2)
   | inr b ↦ elim b [ inl c ↦ absurd cc | inr c ↦ absurd cc ]
 ]
-
--- The agreement of a word with the bits here says whether it stands, and whether they are a prefix of it.
-pub agreement_le : (word here : Bits) → (agreement word here ≤ length word) × (agreement word here ≤ length here)
-agreement_le [] here = (omega arith, omega arith)
-agreement_le (b ∷ word) [] = (omega arith, omega arith)
-agreement_le (true ∷ word) (true ∷ here) = let h = agreement_le word here in (omega arith, omega arith)
-agreement_le (false ∷ word) (false ∷ here) = let h = agreement_le word here in (omega arith, omega arith)
-agreement_le (true ∷ word) (false ∷ here) = (omega arith, omega arith)
-agreement_le (false ∷ word) (true ∷ here) = (omega arith, omega arith)
-
-pub agreement_stands : (word here : Bits) → agreement word here ≡ length word → after word here ≡ Some (drop (length word) here)
-agreement_stands [] here e = refl
-agreement_stands (b ∷ word) [] e = absurd (omega arith)
-agreement_stands (true ∷ word) (true ∷ here) e = agreement_stands word here (omega arith)
-agreement_stands (false ∷ word) (false ∷ here) e = agreement_stands word here (omega arith)
-agreement_stands (true ∷ word) (false ∷ here) e = absurd (omega arith)
-agreement_stands (false ∷ word) (true ∷ here) e = absurd (omega arith)
-
-pub agreement_misses : (word here : Bits) → agreement word here < length word → after word here ≡ None
-agreement_misses [] here e = absurd (omega arith)
-agreement_misses (b ∷ word) [] e = refl
-agreement_misses (true ∷ word) (true ∷ here) e = agreement_misses word here (omega arith)
-agreement_misses (false ∷ word) (false ∷ here) e = agreement_misses word here (omega arith)
-agreement_misses (true ∷ word) (false ∷ here) e = refl
-agreement_misses (false ∷ word) (true ∷ here) e = refl
-
-pub agreement_begins : (word here : Bits) → agreement word here ≡ length here → is_prefix here word ≡ true
-agreement_begins word [] e = refl
-agreement_begins [] (c ∷ here) e = absurd (omega arith)
-agreement_begins (true ∷ word) (true ∷ here) e = agreement_begins word here (omega arith)
-agreement_begins (false ∷ word) (false ∷ here) e = agreement_begins word here (omega arith)
-agreement_begins (true ∷ word) (false ∷ here) e = absurd (omega arith)
-agreement_begins (false ∷ word) (true ∷ here) e = absurd (omega arith)
-
-pub agreement_ends : (word here : Bits) → agreement word here < length here → is_prefix here word ≡ false
-agreement_ends word [] e = absurd (omega arith)
-agreement_ends [] (c ∷ here) e = refl
-agreement_ends (true ∷ word) (true ∷ here) e = agreement_ends word here (omega arith)
-agreement_ends (false ∷ word) (false ∷ here) e = agreement_ends word here (omega arith)
-agreement_ends (true ∷ word) (false ∷ here) e = refl
-agreement_ends (false ∷ word) (true ∷ here) e = refl

@@ -1,23 +1,44 @@
-use Rattle.std.proofs.Common.{◌≡◌, ℕ, List, Ok, Err, Result, MatchResult, sym, ap, subst, ◌∙◌}
-use Rattle.hayro_ccitt.specs.declared.error.DecodeError.{DecodeError}
-use Rattle.hayro_ccitt.specs.Bits.{Bits, here}
-use Rattle.hayro_ccitt.specs.CodeLists.{Code}
-use Rattle.hayro_ccitt.specs.CodeReading.{read_code}
+use Rattle.std.proofs.Common.{◌≡◌, ◌<◌, length, bit_and, Err, refl, sym, ap, ◌∙◌}
+use Rattle.std.proofs.lemmas.Result.{err_from_is_err_and}
+use Rattle.std.proofs.lemmas.Bool.{false≢true}
+use Rattle.std.proofs.lemmas.Nat.{and_mask}
+use Rattle.hayro_ccitt.specs.Bits.{here}
+use Rattle.hayro_ccitt.specs.LookUps.{padded, telling_bits, run_or_none}
 use Rattle.hayro_ccitt.specs.Runs.{codes_of}
-use Rattle.hayro_ccitt.proofs.BitReading.TablesAgree.{numbered_white, numbered_black}
+use Rattle.hayro_ccitt.proofs.CodeWords.LookedUp.{high_bits, low_twelve, looked_up_cut, looked_up_wrong, looked_up_found, some_bits_tell}
+use Rattle.hayro_ccitt.proofs.BitReading.BitPlaces.{moved_on, bits_enough, bits_missing}
 use Rattle.hayro_ccitt.proofs.bit_reader.BitReader.decode_word.Goals as goal
 
--- what was read of one list was read of an equal one
-same_codes : (r : Result ℕ DecodeError) (a b : List (Code ℕ)) (h k : Bits) → a ≡ b
-    → MatchResult r (λ n. read_code a h ≡ Ok (n, k)) (λ e. read_code a h ≡ Err e) → MatchResult r (λ n. read_code b h ≡ Ok (n, k)) (λ e. read_code b h ≡ Err e)
-same_codes r a b h k e m = subst (λ (x : List (Code ℕ)). MatchResult r (λ n. read_code x h ≡ Ok (n, k)) (λ e. read_code x h ≡ Err e)) e m
+pub returns-in_err-consume-clause-word : goal.returns-in_err-consume-clause-word
+returns-in_err-consume-clause-word c =
+    let color = c.args.color in
+    let at = c.args.self.now in
+    let seen = padded 13 (here at) in
+    let width = high_bits color seen c.look_up-entry.result c.look_up-entry.ensures in
+    let missing : length (here at) < telling_bits (codes_of color) seen
+    = bits_missing at c.from.result (telling_bits (codes_of color) seen) (c.from.ensures ∙ width) (some_bits_tell color (here at)) (c.in_err-consume.ensures.end.0 refl) in
+    let answer = err_from_is_err_and c.from_residual.result c.from_residual.ensures.1 in
+    rw (answer.1, answer.2) (looked_up_cut color (here at) missing ∙ ap Err (sym c.in_err-consume.ensures.only_end))
 
-pub returns-in-White-clause-word : goal.returns-in-White-clause-word
-returns-in-White-clause-word c =
-    same_codes c.read_run_word.result _ _ (here c.args.self.now) (here c.read_run_word.new.self)
-    (numbered_white ∙ sym (ap codes_of c.in-White.is)) c.read_run_word.ensures.word
+pub returns-then-run-eq-LOOKUP_INVALID-clause-word : goal.returns-then-run-eq-LOOKUP_INVALID-clause-word
+returns-then-run-eq-LOOKUP_INVALID-clause-word c =
+    let color = c.args.color in
+    let at = c.args.self.now in
+    let seen = padded 13 (here at) in
+    let entry = c.look_up-entry.result in
+    let width = high_bits color seen entry c.look_up-entry.ensures in
+    let run = low_twelve color seen entry c.look_up-entry.ensures in
+    let enough = bits_enough at c.from.result (telling_bits (codes_of color) seen) (c.from.ensures ∙ width) (λ lt. false≢true (c.in_ok-consume.ensures.end.1 lt)) in
+    looked_up_wrong color (here at) (sym run ∙ sym (and_mask entry 12) ∙ c.if-run-eq-LOOKUP_INVALID.true) enough
 
-pub returns-in-Black-clause-word : goal.returns-in-Black-clause-word
-returns-in-Black-clause-word c =
-    same_codes c.read_run_word-in-Black.result _ _ (here c.args.self.now) (here c.read_run_word-in-Black.new.self)
-    (numbered_black ∙ sym (ap codes_of c.in-Black.is)) c.read_run_word-in-Black.ensures.word
+pub returns-clause-word : goal.returns-clause-word
+returns-clause-word c =
+    let color = c.args.color in
+    let at = c.args.self.now in
+    let seen = padded 13 (here at) in
+    let entry = c.look_up-entry.result in
+    let width = high_bits color seen entry c.look_up-entry.ensures in
+    let run : bit_and entry 4095 ≡ run_or_none (codes_of color) seen = and_mask entry 12 ∙ low_twelve color seen entry c.look_up-entry.ensures in
+    let enough = bits_enough at c.from.result (telling_bits (codes_of color) seen) (c.from.ensures ∙ width) (λ lt. false≢true (c.in_ok-consume.ensures.end.1 lt)) in
+    let moved = moved_on at c.consume.new.self c.from.result (telling_bits (codes_of color) seen) (c.from.ensures ∙ width) c.in_ok-consume.ensures.moved enough (some_bits_tell color (here at)) in
+    looked_up_found color (here at) (λ e. c.if-run-eq-LOOKUP_INVALID.false (run ∙ e)) enough ∙ cc

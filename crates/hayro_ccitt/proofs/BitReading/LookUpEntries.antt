@@ -1,0 +1,217 @@
+-- The entries that the words of a table write are those of its list.
+use Rattle.std.proofs.Common.{◌≡◌, ℕ, zero, suc, ◌+◌, ◌-◌, ◌*◌, ◌<◌, ◌⊎◌, inl, inr, Bool, true, false, not, ◌&&◌, ltb, List, [], ◌∷◌, ◌++◌, length, map, Option, Some, None, refl, sym, ap, ◌∙◌, arith}
+use mathlib.Core.Bool.{beq}
+use Rattle.std.specs.List.{list_all}
+use Rattle.std.proofs.lemmas.Bool.{and_parts, and_from, ltb-true, false≢true}
+use Rattle.std.proofs.lemmas.List.{length-append}
+use Rattle.hayro_ccitt.specs.declared.codes.Color.{Color}
+use Rattle.hayro_ccitt.specs.declared.codes.Color.TheVariants.{White, Black}
+use Rattle.hayro_ccitt.specs.Bits.{Bits, low_bits}
+use Rattle.hayro_ccitt.specs.CodeLists.{Code, numbered}
+use Rattle.hayro_ccitt.specs.CodeReading.{after, agreement, word_at, Has, apart, is_prefix, is_prefix_free}
+use Rattle.hayro_ccitt.specs.LookUps.{thirteen_bits, longest_agreement, telling_bits, entry_of, with_row, with_rows, run_or_none}
+use Rattle.hayro_ccitt.specs.Runs.{codes_of}
+use Rattle.hayro_ccitt.proofs.CodeWords.ReadCodes.{after_is, apart_misses, word_at_again}
+use Rattle.hayro_ccitt.proofs.BitReading.BitLists.{length-low_bits}
+use Rattle.hayro_ccitt.proofs.BitReading.ZerosInWords.{codes_free}
+
+-- ---- The rows of a table, one after another.
+abbrev pub Table : Type 0
+Table = List (ℕ × ℕ × ℕ)
+
+pub with_rows-append : (a b : Table) (here : Bits) (entry : ℕ) → with_rows (a ++ b) here entry ≡ with_rows b here (with_rows a here entry)
+with_rows-append [] b here entry = refl
+with_rows-append (row ∷ a) b here entry = with_rows-append a b here (with_row row here entry)
+
+-- a row whose word stands here writes its entry
+row_stands : (row : ℕ × ℕ × ℕ) (here rest : Bits) (entry : ℕ) → after (low_bits row.1 row.2) here ≡ Some rest → with_row row here entry ≡ row.1 * 4096 + row.0
+row_stands row here rest entry e = rw (e, is_prefix) refl
+
+-- another writes none
+row_misses : (row : ℕ × ℕ × ℕ) (here : Bits) (entry : ℕ) → after (low_bits row.1 row.2) here ≡ None → with_row row here entry ≡ entry
+row_misses row here entry e = rw (e, is_prefix) refl
+
+-- a table none of whose words stands here writes none
+with_rows_none : (table : Table) (here : Bits) (entry : ℕ) → word_at (numbered table) here ≡ None → with_rows table here entry ≡ entry
+with_rows_none [] here entry e = refl
+with_rows_none (row ∷ table) here entry e = by (with_rows_none table here) (after (low_bits row.1 row.2) here) refl
+  where
+    by : ((other : ℕ) → word_at (numbered table) here ≡ None → with_rows table here other ≡ other) → (o : Option Bits) → after (low_bits row.1 row.2) here ≡ o
+        → with_rows table here (with_row row here entry) ≡ entry
+    by on (Some rest) a = absurd (let g : Option.Some (row.0, rest) ≡ None = rw (a, word_at) at e in cc)
+    by on None a =
+        let g : word_at (numbered table) here ≡ None = rw (a, word_at) at e in
+        on (with_row row here entry) g ∙ row_misses row here entry a
+
+-- where a word stands that is apart from all of a table, none of these does
+all_miss : {V : Type 0} (u : Bits) (list : List (Code V)) (rest : Bits) → list_all (λ d. apart u d.word) list ≡ true → word_at list (u ++ rest) ≡ None
+all_miss u [] rest e = refl
+all_miss u (c ∷ list) rest e =
+    let both = and_parts (apart u c.word) (list_all (λ d. apart u d.word) list) e in
+    let parts = and_parts (not (is_prefix u c.word)) (not (is_prefix c.word u)) both.0 in
+    let turned : apart c.word u ≡ true = and_from (not (is_prefix c.word u)) (not (is_prefix u c.word)) parts.1 parts.0 in
+    rw (apart_misses c.word u rest turned, word_at) (all_miss u list rest both.1)
+
+with_rows_found : (table : Table) (here : Bits) (entry : ℕ) (found : ℕ × Bits) → is_prefix_free (numbered table) ≡ true → word_at (numbered table) here ≡ Some found
+    → with_rows table here entry ≡ (length here - length found.1) * 4096 + found.0
+with_rows_found [] here entry found free e = absurd cc
+with_rows_found (row ∷ table) here entry found free e =
+    by (with_rows_found table here (with_row row here entry) found) (after (low_bits row.1 row.2) here) refl
+  where
+    both : (list_all (λ d. apart (low_bits row.1 row.2) d.word) (numbered table) ≡ true) × (is_prefix_free (numbered table) ≡ true)
+    both = and_parts (list_all (λ d. apart (low_bits row.1 row.2) d.word) (numbered table)) (is_prefix_free (numbered table)) free
+
+    by : (is_prefix_free (numbered table) ≡ true → word_at (numbered table) here ≡ Some found → with_rows table here (with_row row here entry) ≡ (length here - length found.1) * 4096 + found.0)
+        → (o : Option Bits) → after (low_bits row.1 row.2) here ≡ o → with_rows table here (with_row row here entry) ≡ (length here - length found.1) * 4096 + found.0
+    by on (Some rest) a =
+        let g : Option.Some (row.0, rest) ≡ Some found = rw (a, word_at) at e in
+        let p : (row.0, rest) ≡ found = cc in
+        let stands = after_is (low_bits row.1 row.2) here rest a in
+        let none : word_at (numbered table) here ≡ None = rw stands (all_miss (low_bits row.1 row.2) (numbered table) rest both.0) in
+        let width : length here - length rest ≡ row.1 = omega (arith, ap length stands, length-append (low_bits row.1 row.2) rest, length-low_bits row.1 row.2) in
+        with_rows_none table here (with_row row here entry) none ∙ row_stands row here rest entry a
+        ∙ ap (λ (w : ℕ). w * 4096 + row.0) (sym width) ∙ ap (λ (f : ℕ × Bits). (length here - length f.1) * 4096 + f.0) p
+    by on None a =
+        let g : word_at (numbered table) here ≡ Some found = rw (a, word_at) at e in
+        on both.1 g
+
+-- ---- Words that begin all bits.
+abbrev pub In : Bits → List Bits → Type 0
+In w [] = ⊥
+In w (v ∷ words) = (v ≡ w) ⊎ In w words
+
+-- what follows a bit in the words that begin with it
+abbrev tails : Bool → List Bits → List Bits
+tails b [] = []
+tails b ([] ∷ words) = tails b words
+tails b ((c ∷ word) ∷ words) = elim (beq b c) [ true ↦ word ∷ tails b words | false ↦ tails b words ]
+
+abbrev has_empty : List Bits → Bool
+has_empty [] = false
+has_empty ([] ∷ words) = true
+has_empty ((c ∷ word) ∷ words) = has_empty words
+
+-- whether one of the words begins any so many bits
+abbrev covers : ℕ → List Bits → Bool
+covers zero words = has_empty words
+covers (suc n) words = elim (has_empty words) [ true ↦ true | false ↦ covers n (tails true words) && covers n (tails false words) ]
+
+in_tails : (b : Bool) (words : List Bits) (w : Bits) → In w (tails b words) → In (b ∷ w) words
+in_tails b [] w i = elim i [ ]
+in_tails b ([] ∷ words) w i = inr (in_tails b words w i)
+in_tails true ((true ∷ word) ∷ words) w (inl e) = inl (ap (λ (x : Bits). true ∷ x) e)
+in_tails true ((true ∷ word) ∷ words) w (inr i) = inr (in_tails true words w i)
+in_tails true ((false ∷ word) ∷ words) w i = inr (in_tails true words w i)
+in_tails false ((true ∷ word) ∷ words) w i = inr (in_tails false words w i)
+in_tails false ((false ∷ word) ∷ words) w (inl e) = inl (ap (λ (x : Bits). false ∷ x) e)
+in_tails false ((false ∷ word) ∷ words) w (inr i) = inr (in_tails false words w i)
+
+empty_in : (words : List Bits) → has_empty words ≡ true → In [] words
+empty_in [] e = absurd (false≢true e)
+empty_in ([] ∷ words) e = inl refl
+empty_in ((c ∷ word) ∷ words) e = inr (empty_in words e)
+
+-- a word that stands here
+abbrev Begins : List Bits → Bits → Type 0
+Begins words here = (w : Bits) × In w words × (rest : Bits) × (here ≡ w ++ rest)
+
+covers_all : (n : ℕ) (words : List Bits) (here : Bits) → covers n words ≡ true → length here ≡ n → Begins words here
+covers_all zero words here e h = ([], empty_in words e, here, refl)
+covers_all (suc n) words [] e h = absurd (omega arith)
+covers_all (suc n) words (b ∷ here) e h = by (λ c k. covers_all n (tails c words) here k (omega arith)) (has_empty words) refl b
+  where
+    by : ((c : Bool) → covers n (tails c words) ≡ true → Begins (tails c words) here) → (t : Bool) → has_empty words ≡ t → (c : Bool) → Begins words (c ∷ here)
+    by more true a c = ([], empty_in words a, c ∷ here, refl)
+    by more false a true =
+        let both = and_parts (covers n (tails true words)) (covers n (tails false words)) (rw (a, covers) at e) in
+        let on = more true both.0 in
+        (true ∷ on.0, in_tails true words on.0 on.1, on.2, ap (λ (x : Bits). true ∷ x) on.3)
+    by more false a false =
+        let both = and_parts (covers n (tails true words)) (covers n (tails false words)) (rw (a, covers) at e) in
+        let on = more false both.1 in
+        (false ∷ on.0, in_tails false words on.0 on.1, on.2, ap (λ (x : Bits). false ∷ x) on.3)
+
+abbrev words_of : {V : Type 0} → List (Code V) → List Bits
+words_of list = map (λ c. c.word) list
+
+in_words : {V : Type 0} (list : List (Code V)) (w : Bits) → In w (words_of list) → (v : V) × Has list v w
+in_words [] w i = elim i [ ]
+in_words (c ∷ list) w (inl e) = (c.value, inl (refl, e))
+in_words (c ∷ list) w (inr i) = let on = in_words list w i in (on.0, inr on.1)
+
+-- ---- Where no word of a run stands.
+abbrev eight_zeros : Bits
+eight_zeros = false ∷ false ∷ false ∷ false ∷ false ∷ false ∷ false ∷ false ∷ []
+
+-- the words of a run and eight zeros begin any thirteen bits
+codes_cover : (color : Color) → covers 13 (eight_zeros ∷ words_of (codes_of color)) ≡ true
+codes_cover White = refl
+codes_cover Black = refl
+
+-- where no word of a run stands, eight zeros do
+eight_zeros_there : (color : Color) (here : Bits) → length here ≡ 13 → word_at (codes_of color) here ≡ None → (rest : Bits) × (here ≡ eight_zeros ++ rest)
+eight_zeros_there color here h e = by (covers_all 13 (eight_zeros ∷ words_of (codes_of color)) here (codes_cover color) h)
+  where
+    by : Begins (eight_zeros ∷ words_of (codes_of color)) here → (rest : Bits) × (here ≡ eight_zeros ++ rest)
+    by (w, inl same, rest, at) = (rest, at ∙ ap (λ (x : Bits). x ++ rest) (sym same))
+    by (w, inr i, rest, at) =
+        let (v, has) = in_words (codes_of color) w i in
+        let there : word_at (codes_of color) here ≡ Some (v, rest) = rw at (word_at_again (codes_of color) v w rest (codes_free color) has) in
+        absurd cc
+
+-- an agreement that ends goes no further
+agreement_ended : (word here rest : Bits) → agreement word here < length here → agreement word (here ++ rest) ≡ agreement word here
+agreement_ended word [] rest h = absurd (omega arith)
+agreement_ended [] (c ∷ here) rest h = refl
+agreement_ended (true ∷ word) (true ∷ here) rest h = ap suc (agreement_ended word here rest (omega arith))
+agreement_ended (false ∷ word) (false ∷ here) rest h = ap suc (agreement_ended word here rest (omega arith))
+agreement_ended (true ∷ word) (false ∷ here) rest h = refl
+agreement_ended (false ∷ word) (true ∷ here) rest h = refl
+
+longest_ended : {V : Type 0} (list : List (Code V)) (here rest : Bits) → list_all (λ c. ltb (agreement c.word here) (length here)) list ≡ true
+    → longest_agreement list (here ++ rest) ≡ longest_agreement list here
+longest_ended [] here rest e = refl
+longest_ended (c ∷ list) here rest e =
+    let both = and_parts (ltb (agreement c.word here) (length here)) (list_all (λ d. ltb (agreement d.word here) (length here)) list) e in
+    rw (agreement_ended c.word here rest (ltb-true _ _ both.0), longest_ended list here rest both.1) refl
+
+zeros_end : (color : Color) → list_all (λ c. ltb (agreement c.word eight_zeros) (length eight_zeros)) (codes_of color) ≡ true
+zeros_end White = refl
+zeros_end Black = refl
+
+seven_zeros : (color : Color) → longest_agreement (codes_of color) eight_zeros ≡ 7
+seven_zeros White = refl
+seven_zeros Black = refl
+
+-- the entry where no word of a run stands
+entry_of_none : (color : Color) (here : Bits) → length here ≡ 13 → word_at (codes_of color) here ≡ None → entry_of (codes_of color) here ≡ 36863
+entry_of_none color here h e =
+    let (rest, at) = eight_zeros_there color here h e in
+    let seven : longest_agreement (codes_of color) here ≡ 7 = rw at (longest_ended (codes_of color) eight_zeros rest (zeros_end color)) ∙ seven_zeros color in
+    let bits : telling_bits (codes_of color) here ≡ suc (longest_agreement (codes_of color) here) = rw (e, telling_bits) refl in
+    let run : run_or_none (codes_of color) here ≡ 4095 = rw (e, run_or_none) refl in
+    omega (arith, bits, run, seven)
+
+entry_of_found : (list : List (Code ℕ)) (here : Bits) (found : ℕ × Bits) → word_at list here ≡ Some found → entry_of list here ≡ (length here - length found.1) * 4096 + found.0
+entry_of_found list here found e =
+    let bits : telling_bits list here ≡ length here - length found.1 = rw (e, telling_bits) refl in
+    let run : run_or_none list here ≡ found.0 = rw (e, run_or_none) refl in
+    omega (arith, bits, run)
+
+-- what the rows of a colour write is the entry of its list
+pub entry_written : (color : Color) (table : Table) (here : Bits) → numbered table ≡ codes_of color → length here ≡ 13
+    → with_rows table here 36863 ≡ entry_of (numbered table) here
+entry_written color table here e h = by (word_at (numbered table) here) refl
+  where
+    free : is_prefix_free (numbered table) ≡ true
+    free = rw e (codes_free color)
+
+    by : (o : Option (ℕ × Bits)) → word_at (numbered table) here ≡ o → with_rows table here 36863 ≡ entry_of (numbered table) here
+    by (Some found) a = with_rows_found table here 36863 found free a ∙ sym (entry_of_found (numbered table) here found a)
+    by None a =
+        let none : word_at (codes_of color) here ≡ None = rw e at a in
+        with_rows_none table here 36863 a ∙ sym (rw e (entry_of_none color here h none))
+
+pub length-thirteen_bits : (k : ℕ) → length (thirteen_bits k) ≡ 13
+unfolding thirteen_bits
+length-thirteen_bits k = length-low_bits 13 k

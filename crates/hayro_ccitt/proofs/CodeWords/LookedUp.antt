@@ -1,0 +1,105 @@
+-- What the entry of a look-up says of the run code that stands here.
+use Rattle.std.proofs.Common.{◌≡◌, ◌≢◌, ℕ, ◌/◌, ◌%◌, ◌<◌, ◌≤◌, inl, inr, true, false, leb, ltb, List, [], ◌∷◌, length, drop, Option, Some, None, Ok, Err, refl, sym, ap, ◌∙◌, arith}
+use Rattle.std.specs.List.{list_all}
+use Rattle.std.proofs.lemmas.Bool.{ltb-true, and_parts}
+use Rattle.hayro_ccitt.specs.declared.error.DecodeError.TheVariants.{UnexpectedEof, InvalidCode}
+use Rattle.hayro_ccitt.specs.declared.codes.Color.{Color}
+use Rattle.hayro_ccitt.specs.declared.codes.Color.TheVariants.{White, Black}
+use Rattle.hayro_ccitt.specs.Bits.{Bits}
+use Rattle.hayro_ccitt.specs.CodeLists.{Code, mode_codes}
+use Rattle.hayro_ccitt.specs.CodeReading.{word_at, read_code, Has}
+use Rattle.hayro_ccitt.specs.Laws.{each_word}
+use Rattle.hayro_ccitt.specs.LookUps.{padded, telling_bits, run_or_none, entry_of}
+use Rattle.hayro_ccitt.specs.Runs.{codes_of}
+use Rattle.hayro_ccitt.proofs.CodeWords.ReadCodes.{word_at_found}
+use Rattle.hayro_ccitt.proofs.CodeWords.LooksAhead.{TellsWords, has_none, telling_is, telling_none, tells_cut, tells_found, tells_wrong}
+use Rattle.hayro_ccitt.proofs.CodeWords.ReadRuns.{words_not_empty, word_length}
+use Rattle.hayro_ccitt.proofs.BitReading.ZerosInWords.{codes_free, modes_free}
+
+-- ---- Thirteen bits tell a run code, seven a mode.
+pub codes_tell : (color : Color) → TellsWords 13 (codes_of color)
+codes_tell color = record { free = codes_free color; short = short color; some = some color }
+  where
+    short : (color : Color) → each_word (λ w. leb (length w) 13) (codes_of color) ≡ true
+    short White = refl
+    short Black = refl
+
+    some : (color : Color) → has_none (codes_of color) ≡ false
+    some White = refl
+    some Black = refl
+
+pub modes_tell : TellsWords 7 mode_codes
+modes_tell = record { free = modes_free; short = refl; some = refl }
+
+-- ---- The runs of a list are below 4095.
+abbrev runs_below : List (Code ℕ) → Type 0
+runs_below list = list_all (λ c. ltb c.value 4095) list ≡ true
+
+codes_below : (color : Color) → runs_below (codes_of color)
+codes_below White = refl
+codes_below Black = refl
+
+run_below : (list : List (Code ℕ)) (v : ℕ) (w : Bits) → runs_below list → Has list v w → v < 4095
+run_below [] v w e i = elim i [ ]
+run_below (c ∷ list) v w e (inl i) = let both = and_parts (ltb c.value 4095) (list_all (λ d. ltb d.value 4095) list) e in omega (arith, i.0, ltb-true _ _ both.0)
+run_below (c ∷ list) v w e (inr i) = let both = and_parts (ltb c.value 4095) (list_all (λ d. ltb d.value 4095) list) e in run_below list v w both.1 i
+
+found_below : (color : Color) (here : Bits) (found : ℕ × Bits) → word_at (codes_of color) here ≡ Some found → found.0 < 4095
+found_below color here found e =
+    let is = word_at_found (codes_of color) here found e in
+    run_below (codes_of color) found.0 is.0 (codes_below color) is.1
+
+run_of_found : (list : List (Code ℕ)) (here : Bits) (found : ℕ × Bits) → word_at list here ≡ Some found → run_or_none list here ≡ found.0
+run_of_found list here found e = rw (e, run_or_none) refl
+
+run_of_none : (list : List (Code ℕ)) (here : Bits) → word_at list here ≡ None → run_or_none list here ≡ 4095
+run_of_none list here e = rw (e, run_or_none) refl
+
+-- ---- The entry in its two parts.
+run_small : (color : Color) (here : Bits) → run_or_none (codes_of color) here < 4096
+run_small color here = by (word_at (codes_of color) here) refl
+  where
+    by : (o : Option (ℕ × Bits)) → word_at (codes_of color) here ≡ o → run_or_none (codes_of color) here < 4096
+    by (Some found) e = omega (arith, run_of_found (codes_of color) here found e, found_below color here found e)
+    by None e = omega (arith, run_of_none (codes_of color) here e)
+
+pub high_bits : (color : Color) (here : Bits) (entry : ℕ) → entry ≡ entry_of (codes_of color) here → entry / 4096 ≡ telling_bits (codes_of color) here
+high_bits color here entry e = omega (arith, e, run_small color here)
+
+pub low_twelve : (color : Color) (here : Bits) (entry : ℕ) → entry ≡ entry_of (codes_of color) here → entry % 4096 ≡ run_or_none (codes_of color) here
+low_twelve color here entry e = omega (arith, e, run_small color here)
+
+-- ---- What they tell of the bits here.
+pub looked_up_cut : (color : Color) (here : Bits) → length here < telling_bits (codes_of color) (padded 13 here) → read_code (codes_of color) here ≡ Err UnexpectedEof
+looked_up_cut color here h = tells_cut 13 (codes_of color) (codes_tell color) here h
+
+pub looked_up_wrong : (color : Color) (here : Bits) → run_or_none (codes_of color) (padded 13 here) ≡ 4095
+    → telling_bits (codes_of color) (padded 13 here) ≤ length here → read_code (codes_of color) here ≡ Err InvalidCode
+looked_up_wrong color here e h = by (word_at (codes_of color) (padded 13 here)) refl
+  where
+    by : (o : Option (ℕ × Bits)) → word_at (codes_of color) (padded 13 here) ≡ o → read_code (codes_of color) here ≡ Err InvalidCode
+    by (Some found) a = absurd (omega (arith, e, run_of_found (codes_of color) (padded 13 here) found a, found_below color (padded 13 here) found a))
+    by None a = tells_wrong 13 (codes_of color) (codes_tell color) here a h
+
+pub looked_up_found : (color : Color) (here : Bits) → run_or_none (codes_of color) (padded 13 here) ≢ 4095
+    → telling_bits (codes_of color) (padded 13 here) ≤ length here
+    → read_code (codes_of color) here ≡ Ok (run_or_none (codes_of color) (padded 13 here), drop (telling_bits (codes_of color) (padded 13 here)) here)
+looked_up_found color here e h = by (word_at (codes_of color) (padded 13 here)) refl
+  where
+    by : (o : Option (ℕ × Bits)) → word_at (codes_of color) (padded 13 here) ≡ o
+        → read_code (codes_of color) here ≡ Ok (run_or_none (codes_of color) (padded 13 here), drop (telling_bits (codes_of color) (padded 13 here)) here)
+    by (Some found) a =
+        let run = run_of_found (codes_of color) (padded 13 here) found a in
+        tells_found 13 (codes_of color) (codes_tell color) here found a h
+        ∙ ap (λ (n : ℕ). Ok (n, drop (telling_bits (codes_of color) (padded 13 here)) here)) (sym run)
+    by None a = absurd (e (run_of_none (codes_of color) (padded 13 here) a))
+
+-- at least one bit is needed
+pub some_bits_tell : (color : Color) (here : Bits) → 0 < telling_bits (codes_of color) (padded 13 here)
+some_bits_tell color here = by (word_at (codes_of color) (padded 13 here)) refl
+  where
+    by : (o : Option (ℕ × Bits)) → word_at (codes_of color) (padded 13 here) ≡ o → 0 < telling_bits (codes_of color) (padded 13 here)
+    by (Some found) e =
+        let (w, has, at) = word_at_found (codes_of color) (padded 13 here) found e in
+        omega (arith, telling_is 13 (codes_of color) (codes_tell color) here found w e at, word_length (codes_of color) found.0 w (words_not_empty color) has)
+    by None e = omega (arith, telling_none 13 (codes_of color) (codes_tell color) here e)
