@@ -1,5 +1,5 @@
 -- A row while it is painted: what is written, and what is left to paint.
-use Rattle.std.proofs.Common.{◌≡◌, ℕ, zero, suc, ◌+◌, ◌-◌, ◌*◌, ◌/◌, ◌%◌, ◌<◌, ◌≤◌, Bool, true, false, not, List, [], ◌++◌, length, get_or, take, drop, replicate, refl, sym, ap, ◌∙◌, arith, append_assoc, take_all}
+use Rattle.std.proofs.Common.{◌≡◌, ℕ, zero, suc, ◌+◌, ◌-◌, ◌*◌, ◌/◌, ◌%◌, ◌<◌, ◌≤◌, Bool, true, false, not, List, [], ◌++◌, length, get_or, take, drop, replicate, refl, sym, ap, ◌∙◌, arith, append_assoc, take_all, ◌∷◌}
 use Rattle.std.proofs.lemmas.Grind.{flat_map-append}
 use Rattle.std.proofs.lemmas.List.{append-nil, length-append, length-replicate, length-take, length-drop, drop_all, replicate-append-replicate, take-replicate}
 use Rattle.std.proofs.Math.Seq.{take-append-add}
@@ -248,3 +248,15 @@ finished start row row' bytes word within last eight spelled put =
     ap bits_of all ∙ flat_map-append bits_of_byte head part
     ∙ ap (λ (b : Bits). bits_of head ++ b) (bits_of-take count bytes ∙ ap (take (8 * count)) spelled)
     ∙ sym (take-append-add (bits_of head) (low_bits 64 word) (8 * count)) ∙ sym (ap (λ (n : ℕ). take n (bits_of head ++ low_bits 64 word)) split)
+
+-- a row without changes is white
+pub white : (columns : ℕ) (changes row row' : List ℕ) → length changes ≡ 0 → length row ≡ (columns + 7) / 8 → row' ≡ replicate (length row) 0
+    → bits_of row' ≡ filled_up (pixels columns changes)
+white columns [] row row' none room is =
+    let whole : Row = pixels columns [] in
+    let long : length whole ≡ columns - 0 = length-replicate (columns - 0) false in
+    let more : ℕ = (8 - length whole % 8) % 8 in
+    let all : 8 * length row ≡ (columns - 0) + more = omega arith in
+    ap bits_of is ∙ bits_of_plain 0 (length row) false refl ∙ ap (λ (n : ℕ). replicate n false) all
+    ∙ sym (replicate-append-replicate (columns - 0) more false)
+white columns (change ∷ changes) row row' none room is = absurd (omega arith)

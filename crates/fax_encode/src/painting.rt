@@ -89,9 +89,9 @@ fn finish(row: &mut [u8], brush: Brush)
     row[brush.start..].copy_from_slice(&brush.word.to_be_bytes()[..length]);
 }
 
-/// Paints a row: one bit a pixel, 1 for black, the leftmost pixel in each byte's highest bit, and zeros up to the end of
-/// the last byte. It takes time in proportion to the bytes and the changes.
-pub fn paint_row(row: &mut [u8], columns: u32, changes: &[u32])
+/// Paints a row by its changes, a word at a time.
+#[inline(never)]
+fn paint_changes(row: &mut [u8], columns: u32, changes: &[u32])
     requires changes { AreChanges columns changes.now }
     requires room { length row.old ≡ (columns + 7) / 8 }
     ensures painted { bits_of row.new ≡ filled_up (pixels columns changes.now) }
@@ -110,4 +110,18 @@ pub fn paint_row(row: &mut [u8], columns: u32, changes: &[u32])
         at = turned(at, columns);
     }
     finish(row, at);
+}
+
+/// Paints a row: one bit a pixel, 1 for black, the leftmost pixel in each byte's highest bit, and zeros up to the end of
+/// the last byte. It takes time in proportion to the bytes and the changes.
+pub fn paint_row(row: &mut [u8], columns: u32, changes: &[u32])
+    requires changes { AreChanges columns changes.now }
+    requires room { length row.old ≡ (columns + 7) / 8 }
+    ensures painted { bits_of row.new ≡ filled_up (pixels columns changes.now) }
+{
+    if changes.is_empty() {
+        row.fill(0);
+    } else {
+        paint_changes(row, columns, changes);
+    }
 }

@@ -1,6 +1,6 @@
 use Rattle.std.proofs.Common.{◌≡◌, length}
 use Rattle.fax_encode.proofs.PaintedRows.{IsPainted}
-use Rattle.fax_encode.proofs.painting.paint_row.Given as goal
+use Rattle.fax_encode.proofs.painting.paint_changes.Given as goal
 
 abbrev pub invariant-loop-change : goal.invariant-loop-change
 invariant-loop-change l =
