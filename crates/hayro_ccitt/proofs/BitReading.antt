@@ -1,11 +1,14 @@
 pub mod BitLists
 pub mod BitPlaces
+pub mod ClonedReaders
 pub mod EolCounts
 pub mod LookUpEntries
 pub mod PeekedBits
 pub mod SoughtEols
 pub mod TablesAgree
 pub mod TaggedEols
+pub mod WindowWords
 pub mod WordRanges
 pub mod ZeroRuns
 pub mod ZerosInWords
+pub mod ZerosPassed

@@ -20,4 +20,5 @@ pub mod Runs
 pub mod Settings
 pub mod Texts
 pub mod Ticks
+pub mod Window
 pub mod Work

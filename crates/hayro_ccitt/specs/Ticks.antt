@@ -1,8 +1,10 @@
 -- What is counted while bits are read.
-use Rattle.std.specs.Prelude.{ℕ, suc, ◌-◌, true, false, Result, Ok, Err, List, [], ◌∷◌, length, take}
+use Rattle.std.specs.Prelude.{ℕ, suc, ◌-◌, true, false, Result, Ok, Err, List, [], ◌∷◌, length, take, drop}
 use Rattle.hayro_ccitt.specs.declared.codes.Color.{Color}
 use Rattle.hayro_ccitt.specs.declared.error.DecodeError.{DecodeError}
 use Rattle.hayro_ccitt.specs.declared.error.DecodeError.TheVariants.{UnexpectedEof, InvalidCode, Overflow, OutOfMemory, Refused}
+use Rattle.hayro_ccitt.specs.declared.settings.EncodingMode.{EncodingMode}
+use Rattle.hayro_ccitt.specs.declared.settings.EncodingMode.TheVariants.{Group4, Group3_1D, Group3_2D}
 use Rattle.hayro_ccitt.specs.Bits.{Bits}
 use Rattle.hayro_ccitt.specs.CodeLists.{Code}
 use Rattle.hayro_ccitt.specs.CodeReading.{read_code}
@@ -21,6 +23,13 @@ abbrev pub looked_at_tag : Bits → ℕ
 looked_at_tag [] = 0
 looked_at_tag (false ∷ here) = 1
 looked_at_tag (true ∷ here) = suc (looked here)
+
+-- the bits that a count of zeros looks at where the words of a line begin, which in two-dimensional data of T.4 is behind
+-- its tag (T.4, 4.1.2 and 4.2.2)
+abbrev pub looked_ahead : EncodingMode → Bits → ℕ
+looked_ahead Group3_2D here = looked (drop 1 here)
+looked_ahead Group3_1D here = looked here
+looked_ahead Group4 here = looked here
 
 -- the word that a reading finds, if it finds one (T.4, 4.1.1 and 4.2.1)
 abbrev pub word_found : {V : Type 0} → List (Code V) → Bits → List Bits

@@ -1,6 +1,6 @@
 //! The bits of a slice of bytes, read from the front.
 
-ghost use Rattle.std.specs.Prelude.{◌≡◌, ◌+◌, ◌-◌, ◌*◌, ◌/◌, ◌%◌, ◌^◌, ◌<◌, ◌≤◌, ◌==◌, ◌↔◌, ℕ, length, min, drop, false, slice_get, get_or, Some, IfOk, OnOk, OnErr, IsErr, IsOkUnless};
+ghost use Rattle.std.specs.Prelude.{◌≡◌, ◌+◌, ◌-◌, ◌*◌, ◌/◌, ◌%◌, ◌^◌, ◌<◌, ◌≤◌, ◌==◌, ◌↔◌, ℕ, length, min, drop, false, slice_get, slice_index, get_or, Some, IfOk, OnOk, OnErr, IsErr, IsOkUnless};
 ghost use Rattle.hayro_ccitt.specs.Bits.{BitsAt, BitsFit, bits_of, bit_of, here};
 ghost use Rattle.hayro_ccitt.specs.PlainReading.{at_end, aligned};
 
@@ -8,18 +8,77 @@ use crate::{DecodeError, Result};
 use std::marker::Model;
 
 /// The bits of some bytes, each byte's highest first, and a place among them.
+///
+/// The next bits stand in a window, the first in its highest position, zeros past the end: all that are at most 32
+/// behind the limit. The place never passes the limit, so that the window has the next 32 at least.
 #[derive(Clone, Drop)]
 pub struct BitReader<'a> {
     data: &'a [u8],
     place: usize,
+    limit: usize,
+    window: u64,
 }
 
 impl<'a> Model for BitReader<'a> {
+    ghost use Rattle.hayro_ccitt.specs.Bits.{BitsAt, bits_of};
+
     ghost Value = { BitsAt };
+
+    ghost use Rattle.hayro_ccitt.specs.Window.{IsFilled};
 
     ghost view = { λ r. record { bits = bits_of r.data.now; place = r.place } };
 
-    ghost invariant = { λ r. (r.place ≤ 8 * length r.data.now) × BitsFit r.data.now };
+    ghost invariant = { IsFilled };
+}
+
+/// The bits of the eight bytes at the front, the first in the highest position.
+#[inline(always)]
+fn whole_word(bytes: &[u8]) -> u64
+    requires { 8 ≤ length bytes.now }
+    ensures { (k : ℕ) → k < 64 → bit_of result (63 - k) ≡ get_or (bits_of bytes.now) k false }
+{
+    u64::from_be_bytes([
+        bytes[0], bytes[1], bytes[2], bytes[3], bytes[4], bytes[5], bytes[6], bytes[7],
+    ])
+}
+
+/// The byte at an index, 0 past the end.
+fn byte_or_zero(bytes: &[u8], index: usize) -> u8
+    ensures { result ≡ slice_index bytes.now index }
+{
+    bytes.get(index).copied().unwrap_or(0)
+}
+
+/// The bits of the last bytes, fewer than eight, the first in the highest position, with zeros behind them.
+#[cold]
+#[inline(never)]
+fn last_word(bytes: &[u8]) -> u64
+    ensures { (k : ℕ) → k < 64 → bit_of result (63 - k) ≡ get_or (bits_of bytes.now) k false }
+{
+    u64::from_be_bytes([
+        byte_or_zero(bytes, 0),
+        byte_or_zero(bytes, 1),
+        byte_or_zero(bytes, 2),
+        byte_or_zero(bytes, 3),
+        byte_or_zero(bytes, 4),
+        byte_or_zero(bytes, 5),
+        byte_or_zero(bytes, 6),
+        byte_or_zero(bytes, 7),
+    ])
+}
+
+/// The 64 bits from a byte on, the first in the highest position, with zeros past the end.
+#[inline(always)]
+fn word_at(data: &[u8], byte: usize) -> u64
+    requires { byte ≤ length «data».now }
+    ensures { (k : ℕ) → k < 64 → bit_of result (63 - k) ≡ get_or (bits_of «data».now) (8 * byte + k) false }
+{
+    let rest = &data[byte..];
+    if rest.len() >= 8 {
+        whole_word(rest)
+    } else {
+        last_word(rest)
+    }
 }
 
 /// The bit at a place of some bytes, None past their end.
@@ -38,19 +97,27 @@ impl<'a> BitReader<'a> {
         requires { BitsFit «data».now }
         ensures { result ≡ record { bits = bits_of «data».now; place = 0 } }
     {
-        BitReader { data, place: 0 }
+        BitReader::starting_at(data, 0)
     }
 
     /// A reader at a place among the bits.
+    #[inline(always)]
     pub(crate) fn starting_at(data: &'a [u8], place: usize) -> BitReader<'a>
         requires fit { BitsFit «data».now }
         requires within { place ≤ 8 * length «data».now }
         ensures { result ≡ record { bits = bits_of «data».now; place = place } }
     {
-        BitReader { data, place }
+        let byte = place / 8;
+        BitReader {
+            data,
+            place,
+            limit: (byte * 8 + 32).min(data.len() * 8),
+            window: word_at(data, byte) << (place % 8),
+        }
     }
 
     /// The next bit. At the end it is `UnexpectedEof`, and the place stays.
+    #[inline(always)]
     pub fn read_bit(&mut self) -> Result<u32>
         ensures bit { IfOk result (λ bit. (bit ≤ 1) × (slice_get self.old.bits self.old.place ≡ Some (bit == 1))) }
         ensures next { OnOk result (self.new ≡ record self.old { place = self.old.place + 1 }) }
@@ -58,41 +125,55 @@ impl<'a> BitReader<'a> {
         ensures unchanged { OnErr result (self.new ≡ self.old) }
         ensures only_end { IsOkUnless result DecodeError.UnexpectedEof }
     {
-        match bit_at(self.data, self.place) {
-            Some(bit) => {
-                self.place += 1;
-                Ok(u32::from(bit))
-            }
-            None => Err(DecodeError::UnexpectedEof),
-        }
+        let bit = (self.window >> 63) as u32;
+        self.consume(1)?;
+        Ok(bit)
     }
 
     /// The next 32 bits, padded with zeros, the first in the highest position.
+    #[inline(always)]
     pub fn peek_u32(&self) -> u32
         ensures { (k : ℕ) → k < 32 → bit_of result (31 - k) ≡ get_or self.now.bits (self.now.place + k) false }
     {
-        let mut bits: u32 = 0;
-        for ahead in 0..32usize {
-            let bit = bit_at(self.data, self.place + ahead).unwrap_or(false);
-            bits = bits << 1 | u32::from(bit);
-        }
-        bits
+        (self.window >> 32) as u32
     }
 
     /// Moves so many bits on, at most 32. Where that passes the end the reader stands at the end, and the
     /// answer is `UnexpectedEof`.
+    #[inline(always)]
     pub fn consume(&mut self, n: usize) -> Result<()>
         requires { n ≤ 32 }
         ensures moved { self.new ≡ record self.old { place = min (self.old.place + n) (length self.old.bits) } }
+        ensures forward { self.old.place ≤ self.new.place }
         ensures end { IsErr result ↔ (length self.old.bits < self.old.place + n) }
         ensures only_end { IsOkUnless result DecodeError.UnexpectedEof }
     {
+        let next = self.place + n;
+        if next > self.limit {
+            return self.refill(next);
+        }
+        self.place = next;
+        self.window <<= n;
+        Ok(())
+    }
+
+    /// Moves to a place that the window doesn't hold, at most to the end, and fills the window there.
+    #[inline(always)]
+    fn refill(&mut self, next: usize) -> Result<()>
+        requires { self.old.place ≤ next }
+        ensures moved { self.new ≡ record self.old { place = min next (length self.old.bits) } }
+        ensures forward { self.old.place ≤ self.new.place }
+        ensures end { IsErr result ↔ (length self.old.bits < next) }
+        ensures only_end { IsOkUnless result DecodeError.UnexpectedEof }
+    {
         let end = self.data.len() * 8;
-        if self.place + n > end {
+        if next > end {
             self.place = end;
+            self.limit = end;
+            self.window = 0;
             return Err(DecodeError::UnexpectedEof);
         }
-        self.place += n;
+        *self = BitReader::starting_at(self.data, next);
         Ok(())
     }
 
@@ -102,7 +183,9 @@ impl<'a> BitReader<'a> {
         ensures rest { here self.new ≡ aligned (here self.old) }
         ensures within { self.new.place ≤ length self.new.bits }
     {
-        self.place = self.place.div_ceil(8) * 8;
+        let left = self.place.div_ceil(8) * 8 - self.place;
+        // The data is whole bytes, so that the next one begins at its end at the latest.
+        let _ = self.consume(left);
     }
 
     /// Whether no bit is left.
@@ -151,7 +234,7 @@ impl<'a> BitReader<'a> {
         ensures rest { here self.new ≡ drop width (here self.old) }
         ensures same_bits { self.new.bits ≡ self.old.bits }
     {
-        self.place += usize::from(width);
+        *self = BitReader::starting_at(self.data, self.place + usize::from(width));
     }
 
     /// The same bits at the same place.
@@ -162,6 +245,8 @@ impl<'a> BitReader<'a> {
         BitReader {
             data: self.data,
             place: self.place,
+            limit: self.limit,
+            window: self.window,
         }
     }
 }

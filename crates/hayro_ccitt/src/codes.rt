@@ -1,6 +1,6 @@
 //! Colours, modes, and the code words and EOLs of the data.
 
-ghost use Rattle.std.specs.Prelude.{◌≡◌, ℕ, ◌+◌, ◌*◌, ◌<◌, ◌≤◌, ◌==◌, ◌↔◌, ◌++◌, ◌∷◌, IsTrue, IfSome, IfNone, IfErr, MatchResult, Ok, Err, Some, None, true, false, length, replicate, nat_le, if◌then◌else◌, drop, option_map, is_some, min};
+ghost use Rattle.std.specs.Prelude.{◌≡◌, ℕ, ◌+◌, ◌-◌, ◌*◌, ◌<◌, ◌≤◌, ◌==◌, ◌↔◌, ◌++◌, ◌∷◌, IsTrue, IfSome, IfNone, IfErr, MatchResult, Ok, Err, Some, None, true, false, length, replicate, nat_le, if◌then◌else◌, drop, [], slice_get, is_some, min};
 ghost use Rattle.std.specs.Borrow.{ftrue};
 ghost use Rattle.hayro_ccitt.specs.Answers.{IsFault};
 ghost use Rattle.hayro_ccitt.specs.Bits.{here};
@@ -93,6 +93,15 @@ impl Ticks {
     {
         let next = Ticks::after(self);
         *self = next;
+    }
+
+    /// Counts so many. This is a proof alone: nothing is done in the loop, and so it leaves no code.
+    fn tick_times(&mut self, n: usize)
+        ensures { self.new ≡ self.old + n }
+    {
+        for _ in 0..n {
+            self.tick();
+        }
     }
 }
 
@@ -203,6 +212,24 @@ impl<'a> BitReader<'a> {
         }
     }
 
+    /// Passes the zeros here, by the word, and answers whether a one follows. Where none does they go on to the end.
+    fn pass_zeros(&mut self) -> bool
+        ensures zeros { here self.old ≡ replicate (self.new.place - self.old.place) false ++ here self.new }
+        ensures forward { self.old.place ≤ self.new.place }
+        ensures one { result ≡ true → slice_get self.new.bits self.new.place ≡ Some true }
+        ensures end { result ≡ false → here self.new ≡ [] }
+        ensures same_bits { self.new.bits ≡ self.old.bits }
+    {
+        'words: loop {
+            let zeros = self.peek_u32().leading_zeros();
+            match self.consume(zeros as usize) {
+                Err(_) => return false,
+                Ok(()) if zeros < 32 => return true,
+                Ok(()) => {}
+            }
+        }
+    }
+
     /// The number of zeros from here up to the next one, and a reader just past that one; up to the end, and
     /// None, where no one follows. Each bit that is looked at is a tick.
     pub fn zero_run(&self, ticks: &mut Ticks) -> (usize, Option<BitReader<'a>>)
@@ -215,21 +242,32 @@ impl<'a> BitReader<'a> {
         ensures no_eol { IfNone result.1 (after_eol 0 (here self.now) ≡ None) }
         ensures ticks { ticks.new ≡ ticks.old + looked (here self.now) }
     {
-        let mut reader = self.copy();
-        let mut zeros = 0;
-        'bits: loop {
-            match reader.read_bit() {
-                Ok(0) => {
-                    ticks.tick();
-                    zeros += 1;
-                }
-                Ok(_) => {
-                    ticks.tick();
-                    return (zeros, Some(reader));
-                }
-                Err(_) => return (zeros, None),
-            }
+        let mut reader = self.clone().unwrap();
+        let is_one = reader.pass_zeros();
+        let zeros = reader.bit_pos() - self.bit_pos();
+        ticks.tick_times(zeros);
+        if !is_one {
+            return (zeros, None);
         }
+        ticks.tick();
+        // The one is there to be passed.
+        let _ = reader.consume(1);
+        (zeros, Some(reader))
+    }
+
+    /// Whether a one is among the next eleven bits, so that no EOL stands here. Then each bit up to it is a tick.
+    #[inline(always)]
+    fn is_near_one(&self, ticks: &mut Ticks) -> bool
+        ensures near { result ≡ true → after_eol 0 (here self.now) ≡ None }
+        ensures looked { result ≡ true → ticks.new ≡ ticks.old + looked (here self.now) }
+        ensures far { result ≡ false → ticks.new ≡ ticks.old }
+    {
+        let next = self.peek_u32();
+        if next >> 21 == 0 {
+            return false;
+        }
+        ticks.tick_times(next.leading_zeros() as usize + 1);
+        true
     }
 
     /// Reads EOLs in a row, each with its fill (T.4 sections 4.1.2 and 4.1.3), at most so many, and answers how
@@ -242,6 +280,9 @@ impl<'a> BitReader<'a> {
     {
         let mut count = 0;
         'eols: while count < max {
+            if self.is_near_one(ticks) {
+                return count;
+            }
             let (zeros, after) = self.zero_run(ticks);
             match after {
                 Some(after) if zeros >= 11 => *self = after,
@@ -274,7 +315,7 @@ impl<'a> BitReader<'a> {
         ensures ticks { ticks.new + length (here self.new)
             ≡ ticks.old + length (here self.old) + (if result then looked (here self.new) else length (here self.new)) }
     {
-        let mut reader = self.copy();
+        let mut reader = self.clone().unwrap();
         'eols: loop {
             let (zeros, after) = reader.zero_run(ticks);
             match after {
@@ -306,7 +347,7 @@ impl<'a> BitReader<'a> {
         ensures same_bits { self.new.bits ≡ self.old.bits }
         ensures ticks { ticks.new ≡ ticks.old + looked_at_tag (here self.old) }
     {
-        let mut behind = self.copy();
+        let mut behind = self.clone().unwrap();
         match behind.read_bit() {
             Ok(0) => ticks.tick(),
             Ok(_) => {
@@ -329,7 +370,7 @@ impl<'a> BitReader<'a> {
         if count < 6 {
             return;
         }
-        let mut behind = self.copy();
+        let mut behind = self.clone().unwrap();
         match behind.read_bit() {
             Ok(0) => ticks.tick(),
             Ok(_) => {

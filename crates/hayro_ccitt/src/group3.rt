@@ -1,12 +1,16 @@
 //! Group 3: EOLs stand between the lines, and a damaged line stays in its row (T.4).
 
-ghost use Rattle.std.specs.Prelude.{◌≡◌, ◌≢◌, ◌↔◌, ◌<◌, ◌≤◌, ◌+◌, Err, OnOk, OnErr, IfOk, IsErr, IsOkUnless, IsTrue, true, nat_lt, ◌||◌, [], length};
-ghost use Rattle.hayro_ccitt.specs.Answers.{DrawsLine, IsFault, IsRepairable, RepairStoresChange};
+ghost use Rattle.std.specs.Prelude.{◌≡◌, ◌≢◌, ◌↔◌, ◌<◌, ◌≤◌, ◌+◌, ◌*◌, Err, OnOk, OnErr, IfOk, IsErr, IsOkUnless, IsTrue, true, nat_lt, ◌||◌, [], length};
+ghost use Rattle.hayro_ccitt.specs.Answers.{DrawsLine, IsFault, IsRepairable, OnAnswer, RepairStoresChange};
 ghost use Rattle.hayro_ccitt.specs.Bits.{here};
 ghost use Rattle.hayro_ccitt.specs.Context.{after_repair, fresh, redrawn};
 ghost use Rattle.hayro_ccitt.specs.EndOfLine.{all_eols};
 ghost use Rattle.hayro_ccitt.specs.Decoding.{TakesRows, StopsShort, TakesOneRow, leaving, gap_said};
 ghost use Rattle.hayro_ccitt.specs.PlainReading.{plain_group3, lines_by, eols_group3, is_over_group3, gap_group3, row_group3, line_by, line_at_group3};
+ghost use Rattle.hayro_ccitt.specs.Lines.{line_found};
+ghost use Rattle.hayro_ccitt.specs.Rows.{changes};
+ghost use Rattle.hayro_ccitt.specs.Ticks.{looked, looked_ahead};
+ghost use Rattle.hayro_ccitt.specs.Work.{CountsRun, found_at_group3, words_by, most_counted};
 
 use crate::bit_reader::BitReader;
 use crate::context::{DecoderContext, decode_1d_line, decode_2d_line};
@@ -50,12 +54,16 @@ pub fn recover<'a>(
     Ok(())
 }
 
-/// Reads the EOLs that stand here, in two-dimensional data with their tags, and answers how many there were.
+/// Reads the EOLs that stand here, in two-dimensional data with their tags, and answers how many there were. Each bit
+/// that is looked at is a tick: one that is passed at most twice.
 fn read_eols(ctx: &mut DecoderContext, reader: &mut BitReader<'_>) -> usize
     ensures eols { eols_group3 ctx.old.held.settings (here reader.old) ≡ (result, here reader.new) }
     ensures same_bits { reader.new.bits ≡ reader.old.bits }
     ensures held { ctx.new.held ≡ ctx.old.held }
     ensures counts { ctx.old.ticks ≤ ctx.new.ticks }
+    ensures work { ctx.new.ticks + 2 * length (here reader.new) ≤ ctx.old.ticks + 2 * length (here reader.old) + 3
+        + looked_ahead ctx.old.held.settings.encoding (here reader.new) }
+    ensures work_none { result ≡ 0 → ctx.new.ticks ≡ ctx.old.ticks + looked (here reader.old) }
 {
     match ctx.settings().encoding {
         EncodingMode::Group3_2D => reader.read_tagged_eols(ctx.ticks()),
@@ -76,7 +84,8 @@ fn is_over(ctx: &DecoderContext, reader: &BitReader<'_>, count: usize) -> bool
 
 /// What stands behind a row (T.4 sections 4.1.2 and 4.1.4): counts the EOLs there, and answers whether the image
 /// ends. Where none came although the data has EOLs, the next one is looked for, and where none is left EOLs are
-/// given up; strict data is then at fault, which is `InvalidCode`. It takes no memory.
+/// given up; strict data is then at fault, which is `InvalidCode`. It takes no memory. Each bit that is looked at is a
+/// tick: one that is passed at most four times.
 pub fn check_eob(ctx: &mut DecoderContext, reader: &mut BitReader<'_>) -> Result<bool>
     requires encoding { ctx.old.held.settings.encoding ≢ EncodingMode.Group4 }
     requires some { 0 < ctx.old.held.taken }
@@ -89,6 +98,12 @@ pub fn check_eob(ctx: &mut DecoderContext, reader: &mut BitReader<'_>) -> Result
     ensures only_strict { OnErr result (ctx.old.held.settings.strict ≡ true) }
     ensures same_bits { reader.new.bits ≡ reader.old.bits }
     ensures counts { ctx.old.ticks ≤ ctx.new.ticks }
+    ensures work { OnOk result (ctx.new.held.has_eols ≡ ctx.old.held.has_eols
+        → ctx.new.ticks + 4 * length (here reader.new) ≤ ctx.old.ticks + 4 * length (here reader.old) + 3
+        + looked_ahead ctx.old.held.settings.encoding (here reader.new)) }
+    ensures work_given_up { OnOk result (ctx.new.held.has_eols ≢ ctx.old.held.has_eols
+        → ctx.new.ticks ≤ ctx.old.ticks + 2 * length (here reader.old)) }
+    ensures work_refused { OnErr result (ctx.new.ticks ≤ ctx.old.ticks + length (here reader.old)) }
 {
     let count = read_eols(ctx, reader);
     if count > 0 || !ctx.has_eols() || limit_met(ctx) || reader.at_end() {
@@ -114,6 +129,12 @@ fn decode_tagged_line(ctx: &mut DecoderContext, reader: &mut BitReader<'_>) -> R
     ensures held { ctx.new.held ≡ redrawn ctx.old.held ctx.new.held.front ctx.new.held.color }
     ensures same_bits { reader.new.bits ≡ reader.old.bits }
     ensures counts { ctx.old.ticks ≤ ctx.new.ticks }
+    ensures at_least { OnAnswer result (ctx.old.ticks + length (line_found EncodingMode.Group3_2D
+        ctx.old.held.settings.strict ctx.old.held.settings.columns ctx.old.held.reference (here reader.old))
+        ≤ ctx.new.ticks) }
+    ensures at_most { ctx.new.ticks ≤ ctx.old.ticks + 4 * length (line_found EncodingMode.Group3_2D
+        ctx.old.held.settings.strict ctx.old.held.settings.columns ctx.old.held.reference (here reader.old)) + 2
+        + length (changes ctx.old.held.reference) }
 {
     let tag = reader.read_bit()?;
     ctx.ticks().tick();
@@ -132,6 +153,11 @@ fn decode_line(ctx: &mut DecoderContext, reader: &mut BitReader<'_>) -> Result<(
     ensures held { ctx.new.held ≡ redrawn ctx.old.held ctx.new.held.front ctx.new.held.color }
     ensures same_bits { reader.new.bits ≡ reader.old.bits }
     ensures counts { ctx.old.ticks ≤ ctx.new.ticks }
+    ensures at_least { OnAnswer result (ctx.old.ticks
+        + length (found_at_group3 ctx.old.held.settings ctx.old.held.reference (here reader.old)) ≤ ctx.new.ticks) }
+    ensures at_most { ctx.new.ticks ≤ ctx.old.ticks
+        + 4 * length (found_at_group3 ctx.old.held.settings ctx.old.held.reference (here reader.old)) + 2
+        + length (changes ctx.old.held.reference) }
 {
     match ctx.settings().encoding {
         EncodingMode::Group3_1D => decode_1d_line(ctx, reader),
@@ -160,6 +186,13 @@ fn read_row<D: Decoder>(
         ctx.old.held ctx.new.held result (here reader.new) }
     ensures same_bits { reader.new.bits ≡ reader.old.bits }
     ensures counts { ctx.old.ticks ≤ ctx.new.ticks }
+    ensures at_least { OnOk result (ctx.old.ticks
+        + length (found_at_group3 ctx.old.held.settings ctx.old.held.reference (here reader.old)) ≤ ctx.new.ticks) }
+    ensures at_most { ctx.new.ticks ≤ ctx.old.ticks
+        + 4 * length (found_at_group3 ctx.old.held.settings ctx.old.held.reference (here reader.old)) + 2
+        + length (changes ctx.old.held.reference) }
+    ensures stored { OnOk result (length (changes ctx.new.held.reference)
+        ≤ length (found_at_group3 ctx.old.held.settings ctx.old.held.reference (here reader.old)) + 1) }
 {
     let line_start = reader.copy();
     if let Err(error) = decode_line(ctx, reader) {
@@ -177,6 +210,8 @@ fn read_leading_eols(ctx: &mut DecoderContext, reader: &mut BitReader<'_>)
     } }
     ensures same_bits { reader.new.bits ≡ reader.old.bits }
     ensures counts { ctx.old.ticks ≤ ctx.new.ticks }
+    ensures work { ctx.new.ticks + length (here reader.new)
+        ≤ ctx.old.ticks + length (here reader.old) + looked (here reader.new) }
 {
     let count = reader.read_eol_if_available(ctx.ticks());
     let end_of_line = ctx.settings().end_of_line;
@@ -208,7 +243,8 @@ fn decode_rows<D: Decoder>(
         (record { meaning = D.meaning decoder.new; refused = D.has_refused decoder.new })
         ctx.new.held (leaving result (here reader.new)) }
     ensures same_bits { reader.new.bits ≡ reader.old.bits }
-    ensures counts { ctx.old.ticks ≤ ctx.new.ticks }
+    ensures work { CountsRun (words_by EncodingMode.Group3_1D ctx.old.held.settings reader.old.bits) ctx.new.held.taken
+        ctx.old.ticks ctx.new.ticks (most_counted EncodingMode.Group3_1D (length reader.old.bits)) }
 {
     read_leading_eols(ctx, reader);
     'rows: loop {
@@ -246,7 +282,8 @@ pub fn decode_1d<D: Decoder>(
         (record { meaning = D.meaning decoder.new; refused = D.has_refused decoder.new })
         ctx.new.held (leaving result (here reader.new)) }
     ensures same_bits { reader.new.bits ≡ reader.old.bits }
-    ensures counts { ctx.old.ticks ≤ ctx.new.ticks }
+    ensures work { CountsRun (words_by EncodingMode.Group3_1D ctx.old.held.settings reader.old.bits) ctx.new.held.taken
+        ctx.old.ticks ctx.new.ticks (most_counted EncodingMode.Group3_1D (length reader.old.bits)) }
 {
     decode_rows(ctx, reader, decoder)
 }
@@ -278,7 +315,8 @@ pub fn decode_2d<D: Decoder>(
         (record { meaning = D.meaning decoder.new; refused = D.has_refused decoder.new })
         ctx.new.held (leaving result (here reader.new)) }
     ensures same_bits { reader.new.bits ≡ reader.old.bits }
-    ensures counts { ctx.old.ticks ≤ ctx.new.ticks }
+    ensures work { CountsRun (words_by EncodingMode.Group3_2D ctx.old.held.settings reader.old.bits) ctx.new.held.taken
+        ctx.old.ticks ctx.new.ticks (most_counted EncodingMode.Group3_2D (length reader.old.bits)) }
 {
     decode_rows(ctx, reader, decoder)
 }

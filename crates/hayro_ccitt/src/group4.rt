@@ -1,11 +1,14 @@
 //! Group 4: every line is two-dimensional (T.6).
 
-ghost use Rattle.std.specs.Prelude.{◌≡◌, ◌<◌, ◌≤◌, ◌+◌, ◌^◌, Ok, false, length};
-ghost use Rattle.hayro_ccitt.specs.Answers.{line_from_2d};
+ghost use Rattle.std.specs.Prelude.{◌≡◌, ◌<◌, ◌≤◌, ◌+◌, ◌*◌, ◌^◌, Ok, OnOk, false, length};
+ghost use Rattle.hayro_ccitt.specs.Answers.{line_from_2d, words_from_2d};
 ghost use Rattle.hayro_ccitt.specs.Bits.{here};
 ghost use Rattle.hayro_ccitt.specs.Context.{fresh};
 ghost use Rattle.hayro_ccitt.specs.Decoding.{TakesRows, StopsShort, TakesOneRow, leaving, gap_said};
 ghost use Rattle.hayro_ccitt.specs.PlainReading.{plain_group4, lines_by, eols_group4, is_over_group4, gap_group4, row_group4};
+ghost use Rattle.hayro_ccitt.specs.Rows.{changes};
+ghost use Rattle.hayro_ccitt.specs.Ticks.{looked};
+ghost use Rattle.hayro_ccitt.specs.Work.{CountsRun, words_by, most_counted};
 
 use crate::bit_reader::BitReader;
 use crate::context::{DecoderContext, decode_2d_line};
@@ -18,6 +21,9 @@ fn read_eols_before_line(ctx: &mut DecoderContext, reader: &mut BitReader<'_>) -
     ensures same_bits { reader.new.bits ≡ reader.old.bits }
     ensures held { ctx.new.held ≡ ctx.old.held }
     ensures counts { ctx.old.ticks ≤ ctx.new.ticks }
+    ensures work { ctx.new.ticks + length (here reader.new)
+        ≤ ctx.old.ticks + length (here reader.old) + looked (here reader.new) }
+    ensures forward { length (here reader.new) ≤ length (here reader.old) }
 {
     if ctx.settings().end_of_block {
         reader.read_eols(2, ctx.ticks())
@@ -45,6 +51,9 @@ fn before_line(ctx: &mut DecoderContext, reader: &mut BitReader<'_>) -> bool
     ensures same_bits { reader.new.bits ≡ reader.old.bits }
     ensures held { ctx.new.held ≡ ctx.old.held }
     ensures counts { ctx.old.ticks ≤ ctx.new.ticks }
+    ensures work { ctx.new.ticks + length (here reader.new)
+        ≤ ctx.old.ticks + length (here reader.old) + looked (here reader.new) }
+    ensures forward { length (here reader.new) ≤ length (here reader.old) }
     ensures fit { length reader.new.bits + 64 < 2 ^ 64 }
 {
     let count = read_eols_before_line(ctx, reader);
@@ -68,6 +77,12 @@ fn read_row<D: Decoder>(
         ctx.old.held ctx.new.held result (here reader.new) }
     ensures same_bits { reader.new.bits ≡ reader.old.bits }
     ensures counts { ctx.old.ticks ≤ ctx.new.ticks }
+    ensures at_least { OnOk result (ctx.old.ticks
+        + length (words_from_2d ctx.old.held (here reader.old)) ≤ ctx.new.ticks) }
+    ensures at_most { ctx.new.ticks ≤ ctx.old.ticks + 4 * length (words_from_2d ctx.old.held (here reader.old)) + 1
+        + length (changes ctx.old.held.reference) }
+    ensures stored { OnOk result (length (changes ctx.new.held.reference)
+        ≤ length (words_from_2d ctx.old.held (here reader.old))) }
 {
     decode_2d_line(ctx, reader)?;
     take_row(ctx, reader, decoder)
@@ -100,7 +115,8 @@ pub fn decode<D: Decoder>(
         ctx.new.held (leaving result (here reader.new)) }
     ensures no_eols { ctx.new.held.has_eols ≡ false }
     ensures same_bits { reader.new.bits ≡ reader.old.bits }
-    ensures counts { ctx.old.ticks ≤ ctx.new.ticks }
+    ensures work { CountsRun (words_by EncodingMode.Group4 ctx.old.held.settings reader.old.bits) ctx.new.held.taken
+        ctx.old.ticks ctx.new.ticks (most_counted EncodingMode.Group4 (length reader.old.bits)) }
 {
     'rows: loop {
         if before_line(ctx, reader) {

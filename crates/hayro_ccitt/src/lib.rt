@@ -13,6 +13,7 @@ ghost use Rattle.hayro_ccitt.specs.Locality.{DamageStaysInRow};
 ghost use Rattle.hayro_ccitt.specs.Pictures.{IsClosedPicture, IsLimitedPicture};
 ghost use Rattle.hayro_ccitt.specs.PlainReading.{plain, end_of, lines_of, lines_by};
 ghost use Rattle.hayro_ccitt.specs.Rows.{Row, AreChanges};
+ghost use Rattle.hayro_ccitt.specs.Work.{CountsRun, CountsWork, words_by, most_counted};
 
 pub mod bit_reader;
 pub mod changes;
@@ -96,6 +97,9 @@ fn decode_rows<D: Decoder>(
         ctx.new.held (leaving result (here reader.new)) }
     ensures no_eols { ctx.old.held.settings.encoding ≡ EncodingMode.Group4 → ctx.new.held.has_eols ≡ false }
     ensures same_bits { reader.new.bits ≡ reader.old.bits }
+    ensures work { CountsRun (words_by ctx.old.held.settings.encoding ctx.old.held.settings reader.old.bits)
+        ctx.new.held.taken ctx.old.ticks ctx.new.ticks
+        (most_counted ctx.old.held.settings.encoding (length reader.old.bits)) }
 {
     match ctx.settings().encoding {
         EncodingMode::Group4 => group4::decode(ctx, reader, decoder),
@@ -146,6 +150,9 @@ pub fn decode<D: Decoder>(data: &[u8], decoder: &mut D, ctx: &mut DecoderContext
     // In lenient one-dimensional data with EOLs a change inside one line's body changes that row alone.
     ensures damage { OnAnswer result (DamageStaysInRow ctx.old.held.settings «data».now
         (take ctx.new.held.taken (plain ctx.old.held.settings «data».now).rows) result) }
+
+    // It counts at least the words of the rows taken, and at most 128 ticks a bit and 256 more.
+    ensures work { CountsWork ctx.old.held.settings «data».now ctx.new.held.taken ctx.new.ticks }
 {
     ctx.restart();
     if ctx.settings().columns == 0 {

@@ -3,10 +3,12 @@
 
 ghost use Rattle.std.specs.Prelude.{◌≡◌};
 
+mod bit_reads;
 mod calls_of_group3;
 mod group3;
 mod local_bodies;
 mod look_ups;
+mod most_work;
 
 use hayro_ccitt::DecodeError::{InvalidCode, OutOfMemory, Overflow, Refused, UnexpectedEof};
 use hayro_ccitt::bit_reader::BitReader;
@@ -234,16 +236,6 @@ fn refuses_each(
     }
 }
 
-/// The first 32 of some bits, written as digits, as a number; zeros where there are fewer.
-fn first_32(bits: &[u8]) -> u32 {
-    let mut number = 0;
-    for place in 0..32usize {
-        let is_one = bits.get(place) == Some(&b'1');
-        number = number << 1 | u32::from(is_one);
-    }
-    number
-}
-
 #[test]
 fn rows_of_each_mode(rt: HostRuntime) {
     let one_row = group_4(8, 1, "");
@@ -429,32 +421,6 @@ fn reads_bits(rt: HostRuntime) -> std::result::Result<(), Fail> {
     assert_eq!(rt; reader.read_bit(), Err(UnexpectedEof));
     assert_eq!(rt; kept.bit_pos(), 2);
     Ok(())
-}
-
-#[test]
-fn consumes_as_a_list_of_bits(rt: HostRuntime) {
-    let data = [0xA5, 0x3C, 0x0F, 0x81, 0x7E, 0xC3, 0x18, 0xFF, 0x01];
-    let digits = b"101001010011110000001111100000010111111011000011000110001111111100000001";
-    for length in 0..10usize {
-        let (data, bits) = (&data[..length], &digits[..8 * length]);
-        assert!(rt; bits_fit(data));
-        for n in 0..33usize {
-            let mut reader = BitReader::new(data);
-            let mut rest = bits;
-            for _ in 0..4u32 {
-                let answer = if n <= rest.len() {
-                    Ok(())
-                } else {
-                    Err(UnexpectedEof)
-                };
-                rest = rest.get(n..).unwrap_or(&[]);
-                assert_eq!(rt; reader.consume(n), answer, "{n} of {data:?}");
-                let place = bits.len().checked_sub(rest.len());
-                assert_eq!(rt; Some(reader.bit_pos()), place, "{n} of {data:?}");
-                assert_eq!(rt; reader.peek_u32(), first_32(rest), "{n} of {data:?}");
-            }
-        }
-    }
 }
 
 #[test]

@@ -1,12 +1,12 @@
 -- The next EOL, sought a count of zeros at a time.
-use Rattle.std.proofs.Common.{◌≡◌, ℕ, zero, suc, ◌+◌, ◌<◌, Bool, true, false, ◌∷◌, ◌++◌, length, replicate, None, refl, ap, arith}
+use Rattle.std.proofs.Common.{◌≡◌, ℕ, zero, suc, ◌+◌, ◌<◌, Bool, true, false, [], ◌∷◌, ◌++◌, length, replicate, Some, None, refl, ap, arith}
 use Rattle.std.proofs.lemmas.Bool.{lt-leb}
 use Rattle.hayro_ccitt.specs.Bits.{Bits}
 use Rattle.hayro_ccitt.specs.EndOfLine.{after_eol, next_eol}
 use Rattle.hayro_ccitt.specs.Ticks.{looked}
 
 -- too few zeros and a one are no EOL
-few_zeros : (seen k : ℕ) (rest : Bits) → seen + k < 11 → after_eol seen (replicate k false ++ true ∷ rest) ≡ None
+pub few_zeros : (seen k : ℕ) (rest : Bits) → seen + k < 11 → after_eol seen (replicate k false ++ true ∷ rest) ≡ None
 few_zeros seen zero rest lt = let below : seen < 11 = omega arith in rw (lt-leb 11 seen below) refl
 few_zeros seen (suc k) rest lt = few_zeros (suc seen) k rest (omega arith)
 
@@ -15,7 +15,13 @@ pub next_eol-behind : (k : ℕ) (rest : Bits) → k < 11 → next_eol (replicate
 next_eol-behind zero rest lt = refl
 next_eol-behind (suc k) rest lt = rw (few_zeros 0 (suc k) rest (omega arith), next_eol) (next_eol-behind k rest (omega arith))
 
-zeros_end : (seen n : ℕ) → after_eol seen (replicate n false) ≡ None
+-- an EOL that stands here is the next
+pub next_eol-here : (here after : Bits) → after_eol 0 here ≡ Some after → next_eol here ≡ Some here
+next_eol-here [] after e = absurd cc
+next_eol-here (b ∷ here) after e = rw (e, next_eol) refl
+
+-- zeros alone are no EOL
+pub zeros_end : (seen n : ℕ) → after_eol seen (replicate n false) ≡ None
 zeros_end seen zero = refl
 zeros_end seen (suc n) = zeros_end (suc seen) n
 

@@ -27,6 +27,19 @@ pub leading_zeros-replicate : (n : ℕ) → leading_zeros (replicate n false) �
 leading_zeros-replicate zero = refl
 leading_zeros-replicate (suc n) = ap suc (leading_zeros-replicate n)
 
+-- what is looked at where zeros and a one stand
+pub looked_run : (k : ℕ) (rest : Bits) → looked (replicate k false ++ true ∷ rest) ≡ k + 1
+looked_run zero rest = refl
+looked_run (suc k) rest = omega (arith, looked_run k rest)
+
+-- zeros and a one are an EOL if the zeros are enough
+pub after_eol_run : (k : ℕ) (rest : Bits) → after_eol 0 (replicate k false ++ true ∷ rest) ≡ cond (leb 11 k) (Some rest) None
+after_eol_run k rest = from 0 k ∙ let e : 0 + k ≡ k = omega arith in ap (λ (n : ℕ). cond (leb 11 n) (Some rest) None) e
+  where
+    from : (seen k : ℕ) → after_eol seen (replicate k false ++ true ∷ rest) ≡ cond (leb 11 (seen + k)) (Some rest) None
+    from seen zero = let e : seen + 0 ≡ seen = omega arith in rw e refl
+    from seen (suc k) = let e : suc seen + k ≡ seen + suc k = omega arith in from (suc seen) k ∙ ap (λ (n : ℕ). cond (leb 11 n) (Some rest) None) e
+
 -- a count of zeros looks at the bits of an EOL
 pub looked_eol : (seen : ℕ) (here after : Bits) → after_eol seen here ≡ Some after → looked here + length after ≡ length here
 looked_eol seen [] after e = absurd cc
@@ -57,6 +70,17 @@ eols_stepped max count start now after e h lt =
     let f : eols (max - count) now ≡ (suc (eols (max - (count + 1)) after).0, (eols (max - (count + 1)) after).1) = rw n at one in
     let m : count + suc (eols (max - (count + 1)) after).0 ≡ count + 1 + (eols (max - (count + 1)) after).0 = omega arith in
     e ∙ rw f (ap (λ (k : ℕ). (k, (eols (max - (count + 1)) after).1)) m)
+
+-- where no EOL follows
+pub eols_over : (max count : ℕ) (start now : Bits) → eols max start ≡ (count + (eols (max - count) now).0, (eols (max - count) now).1)
+    → after_eol 0 now ≡ None → eols max start ≡ (count, now)
+eols_over max count start now e none =
+    let more : count + 0 ≡ count = omega arith in
+    e ∙ rw (no_more (max - count)) (ap (λ (k : ℕ). (k, now)) more)
+  where
+    no_more : (most : ℕ) → eols most now ≡ (0, now)
+    no_more zero = refl
+    no_more (suc most) = rw (none, eols) refl
 
 -- an EOL takes a bit
 pub eols_fewer : (most : ℕ) (here : Bits) → (eols most here).0 + length (eols most here).1 ≤ length here

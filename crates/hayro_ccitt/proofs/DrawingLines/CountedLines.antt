@@ -8,7 +8,7 @@ use Rattle.hayro_ccitt.specs.declared.codes.Mode.TheVariants.{Pass, Horizontal, 
 use Rattle.hayro_ccitt.specs.declared.error.DecodeError.{DecodeError}
 use Rattle.hayro_ccitt.specs.Bits.{Bits}
 use Rattle.hayro_ccitt.specs.Lines.{Line, Pen, turn_behind, words_behind, unless_fault, painted, draw_run, draw_mode, draw_1d, draw_2d, words_drawn}
-use Rattle.hayro_ccitt.specs.Answers.{IsFault, Step, DrawsStep, pen_of, step_of_run, step_of_mode, words_of_run, words_of_mode}
+use Rattle.hayro_ccitt.specs.Answers.{IsFault, OnAnswer, Step, DrawsStep, pen_of, step_of_run, step_of_mode, words_of_run, words_of_mode}
 use Rattle.hayro_ccitt.specs.Context.{Held, redrawn}
 use Rattle.hayro_ccitt.specs.declared.settings.DecodeSettings.{DecodeSettings}
 use Rattle.hayro_ccitt.specs.declared.error.DecodeError.TheVariants.{UnexpectedEof, InvalidCode, Overflow, OutOfMemory, Refused}
@@ -184,3 +184,8 @@ pub record IsCountedSoFar (changes begun now passed all left : ℕ) : Type 0 whe
   pub at_most : now + 4 * left ≤ begun + 4 * all + passed
   pub within : passed ≤ changes
   pub no_words : all ≡ 0 → (now ≡ begun) × (left ≡ 0)
+
+-- what follows from what holds of an answer holds of it as well
+pub on_answer_weaker : {T P Q : Type 0} (result : Result T DecodeError) → (P → Q) → OnAnswer result P → OnAnswer result Q
+on_answer_weaker (Ok x) follows p = follows p
+on_answer_weaker (Err fault) follows p = λ is. follows (p is)

@@ -99,3 +99,11 @@ module _ {M : Type 0} (line : Line) (start : Bits) (step : M → List ℕ → M)
           itself e draws (λ fault broken. ap (row_group3 old.settings old.has_eols start) broken ∙ cond-true (old.settings.strict || not old.has_eols) _ _ is)
           (otherwise (λ r. let both : true ≡ false = sym is ∙ or_from old.settings.strict (not old.has_eols) (sym same_strict ∙ r.lenient) (not_from_true old.has_eols (sym same_eols ∙ r.has_eols)) in cc))
       by false is = lenient e draws is (λ r. stores (broken e draws r.fault) r) otherwise
+
+-- a fault of the data breaks the line, with the front that is left
+pub line_breaks : (line : Line) (e : DecodeError) (front : Row) (rest : Bits) → IsFault e → DrawsLine line (Err e) front rest → line ≡ Line.broken front e
+line_breaks line UnexpectedEof front rest fault draws = draws
+line_breaks line InvalidCode front rest fault draws = draws
+line_breaks line Overflow front rest fault draws = draws
+line_breaks line OutOfMemory front rest fault draws = absurd fault
+line_breaks line Refused front rest fault draws = absurd fault

@@ -1,5 +1,5 @@
 -- The turns of Group 3: a line, and what stands behind its row.
-use Rattle.std.proofs.Common.{◌≡◌, ◌<◌, ◌≤◌, ℕ, suc, Bool, true, false, cond, ltb, ◌||◌, List, [], ◌∷◌, ◌++◌, length, append-nil, Result, Ok, Err, refl, sym, ap, ◌∙◌, subst, arith}
+use Rattle.std.proofs.Common.{◌≡◌, ◌≢◌, ◌+◌, ◌*◌, ◌<◌, ◌≤◌, ℕ, suc, Bool, true, false, cond, ltb, ◌||◌, List, [], ◌∷◌, ◌++◌, length, append-nil, Result, Ok, Err, refl, sym, ap, ◌∙◌, subst, arith}
 use Rattle.std.proofs.lemmas.List.{length-append}
 use Rattle.hayro_ccitt.specs.declared.error.DecodeError.{DecodeError}
 use Rattle.hayro_ccitt.specs.declared.settings.DecodeSettings.{DecodeSettings}
@@ -12,6 +12,11 @@ use Rattle.hayro_ccitt.specs.Lines.{Line}
 use Rattle.hayro_ccitt.specs.PlainReading.{Progress, Ending, Gap, gap_group3, line_at_group3, row_group3, row_before, at_gap_group3, add_row_group3, move_behind_row, with_row, move_group3, lines_of_move_group3, start_group3, plain_group3, lines_by}
 use Rattle.hayro_ccitt.specs.Repetition.{Turn}
 use Rattle.hayro_ccitt.specs.Rows.{Row, changes}
+use Rattle.hayro_ccitt.specs.Work.{CountsRun, found_at_group3, words_of_move_group3, words_by}
+use Rattle.hayro_ccitt.specs.Ticks.{looked_ahead}
+use Rattle.hayro_ccitt.specs.declared.settings.EncodingMode.{EncodingMode}
+use Rattle.hayro_ccitt.proofs.Work.TurnsOfGroup3.{IsPaidUpTo, line_ends, missing_ends, gap_ends, turn_goes_on}
+use Rattle.hayro_ccitt.proofs.Work.RunsCount.{WordsCounted, counted_next, counted_ends_behind}
 use Rattle.hayro_ccitt.proofs.Readings.TurnsAddRows.{Adds, Keeps, after_row_keeps, keeps_adds, move_group3_adds}
 use Rattle.hayro_ccitt.specs.EndOfLine.{all_eols}
 use Rattle.hayro_ccitt.proofs.Readings.TurnsMoveOn.{eols_shorter, left_group3, left_group3_below, move_group3_shrinks}
@@ -69,8 +74,17 @@ module _ {M : Type 0} (settings : DecodeSettings) (wide : 0 < settings.columns) 
   abbrev step : M → List ℕ → M
   step = step_of width
 
+  -- the words that its line finds
+  abbrev words : List Bits
+  words = found_at_group3 settings (row_before settings.columns so_far.rows) so_far.rest
+
+  pub words_are : length (found_at_group3 held.settings held.reference here) ≡ length words
+  words_are =
+      ap (λ (h : Held). length (found_at_group3 h.settings h.reference here)) between.held
+      ∙ ap (λ (x : Bits). length (found_at_group3 settings (row_before settings.columns so_far.rows) x)) between.here
+
   -- what was taken is what the turn reads
-  takes_is : (answer : Result (Unit {0}) DecodeError) → TakesRowGroup3 (step_of now_width) now after held here new answer rest
+  pub takes_is : (answer : Result (Unit {0}) DecodeError) → TakesRowGroup3 (step_of now_width) now after held here new answer rest
       → TakesOneRow (line_of_turn settings so_far) (row_of_turn settings so_far) step now after held new answer rest
   takes_is answer takes =
       let wider : TakesRowGroup3 step now after held here new answer rest = subst (λ (w : ℕ). TakesRowGroup3 (step_of w) now after held here new answer rest) same_width takes in
@@ -88,6 +102,70 @@ module _ {M : Type 0} (settings : DecodeSettings) (wide : 0 < settings.columns) 
       row_fails (move_group3 settings) (lines_of_move_group3 settings) left_group3 (by_rows_group3 settings wide) (start_group3 settings bits) refl settings step before now held here between
       (line_of_turn settings so_far) (row_of_turn settings so_far) (reads_row_group3 settings so_far) after new rest e (takes_is (Err e) takes)
 
+  -- the words as the settings of the run say
+  words_here : length (found_at_group3 held.settings held.reference here) ≡ length (found_at_group3 settings held.reference here)
+  words_here = ap (λ (h : Held). length (found_at_group3 h.settings held.reference here)) between.held
+
+  module _ (within : length here ≤ length bits) (begun ticks : ℕ) (paid : IsPaidUpTo begun (length bits) settings.encoding held.has_eols ticks (length (changes held.reference)) here)
+      (then : ℕ) (line : then ≤ ticks + 4 * length (found_at_group3 held.settings held.reference here) + 2 + length (changes held.reference)) where
+    -- what the line counts, as the settings of the run say
+    line_here : then ≤ ticks + 4 * length (found_at_group3 settings held.reference here) + 2 + length (changes held.reference)
+    line_here = omega (arith, line, words_here)
+
+    -- a line that ends the run keeps the account
+    pub fails_paid_group3 : then ≤ begun + (36 * length bits + 14)
+    fails_paid_group3 = line_ends settings wide begun (length bits) held.reference held.has_eols here within ticks (length (changes held.reference)) paid then line_here
+
+    module _ (takes : TakesRowGroup3 (step_of now_width) now after held here new (Ok tt) rest) where
+      abbrev row_taken : RowIsTaken (row_of_turn settings so_far) step now after held new rest
+      row_taken = (takes_is (Ok tt) takes).taken
+
+      -- the row that was taken is the line's
+      row_is : row_group3 settings held.has_eols here (line_at_group3 settings held.reference here) ≡ Ok (row_taken.taken, rest)
+      row_is =
+          subst (λ (h : Held). row_group3 settings h.has_eols here (line_at_group3 settings h.reference here) ≡ Ok (row_taken.taken, rest)) (sym between.held)
+          (subst (λ (x : Bits). row_group3 settings so_far.has_eols x (line_at_group3 settings (row_before settings.columns so_far.rows) x) ≡ Ok (row_taken.taken, rest)) (sym between.here) row_taken.is)
+
+      row_eols : new.has_eols ≡ held.has_eols
+      row_eols = ap (λ (h : Held). h.has_eols) row_taken.held
+
+      settings_are : new.settings ≡ settings
+      settings_are = ap (λ (h : Held). h.settings) row_taken.held ∙ ap (λ (h : Held). h.settings) between.held
+
+      encoding_is : new.settings.encoding ≡ settings.encoding
+      encoding_is = ap (λ (x : DecodeSettings). x.encoding) settings_are
+
+      -- so does strict data's missing EOL
+      pub misses_paid_group3 : (last_ticks : ℕ) → last_ticks ≤ then + length rest → last_ticks ≤ begun + (36 * length bits + 14)
+      misses_paid_group3 last_ticks counted =
+          missing_ends settings wide begun (length bits) held.reference held.has_eols here within ticks (length (changes held.reference)) paid then line_here row_taken.taken rest row_is
+          last_ticks counted
+
+      -- and what ends it well
+      pub ends_paid_group3 : (last_ticks : ℕ) (left_over : Bits)
+          → last_ticks + 4 * length left_over ≤ then + 4 * length rest + 3 + looked_ahead new.settings.encoding left_over → last_ticks ≤ begun + (36 * length bits + 14)
+      ends_paid_group3 last_ticks left_over counted =
+          gap_ends settings wide begun (length bits) held.reference held.has_eols here within ticks (length (changes held.reference)) paid then line_here row_taken.taken rest row_is
+          last_ticks left_over (subst (λ (e : EncodingMode). last_ticks + 4 * length left_over ≤ then + 4 * length rest + 3 + looked_ahead e left_over) encoding_is counted)
+
+      -- and what leads to the next row
+      pub next_paid_group3 : (last_ticks : ℕ) (last : Held) (left_over : Bits) → gap_group3 new.settings new.taken new.has_eols rest ≡ Gap.line_at last.has_eols left_over
+          → last ≡ record new { has_eols = last.has_eols } → length (changes new.reference) ≤ length (found_at_group3 held.settings held.reference here) + 1
+          → (last.has_eols ≡ new.has_eols → last_ticks + 4 * length left_over ≤ then + 4 * length rest + 3 + looked_ahead new.settings.encoding left_over)
+          → (last.has_eols ≢ new.has_eols → last_ticks ≤ then + 2 * length rest)
+          → IsPaidUpTo begun (length bits) settings.encoding last.has_eols last_ticks (length (changes last.reference)) left_over
+      next_paid_group3 last_ticks last left_over gap frame stored kept given_up =
+          turn_goes_on settings wide begun (length bits) held.reference held.has_eols here within ticks (length (changes held.reference)) paid then line_here row_taken.taken rest row_is
+          new.taken last.has_eols left_over last_ticks (length (changes last.reference)) gap_here
+          (omega (arith, stored, words_here, ap (λ (h : Held). length (changes h.reference)) frame))
+          (λ same. subst (λ (e : EncodingMode). last_ticks + 4 * length left_over ≤ then + 4 * length rest + 3 + looked_ahead e left_over) encoding_is (kept (same ∙ sym row_eols)))
+          (λ other. given_up (λ same. other (same ∙ row_eols)))
+        where
+          gap_here : gap_group3 settings new.taken held.has_eols rest ≡ Gap.line_at last.has_eols left_over
+          gap_here =
+              subst (λ (s : DecodeSettings). gap_group3 s new.taken held.has_eols rest ≡ Gap.line_at last.has_eols left_over) settings_are
+              (subst (λ (b : Bool). gap_group3 new.settings new.taken b rest ≡ Gap.line_at last.has_eols left_over) row_eols gap)
+
   module _ (takes : TakesRowGroup3 (step_of now_width) now after held here new (Ok tt) rest) where
     abbrev taken : RowIsTaken (row_of_turn settings so_far) step now after held new rest
     taken = (takes_is (Ok tt) takes).taken
@@ -96,25 +174,25 @@ module _ {M : Type 0} (settings : DecodeSettings) (wide : 0 < settings.columns) 
     abbrev next : Progress
     next = with_row so_far taken.taken rest
 
-    next_held : new ≡ held_between settings next
+    pub next_held : new ≡ held_between settings next
     next_held = taken.held ∙ ap (λ (h : Held). with_row_taken h taken.taken) between.held ∙ held_between-more settings so_far taken.taken rest
 
-    next_meaning : after.meaning ≡ meaning_after step before.meaning next.rows
+    pub next_meaning : after.meaning ≡ meaning_after step before.meaning next.rows
     next_meaning = taken.meaning ∙ ap (λ (m : M). step m (changes taken.taken)) between.meaning ∙ sym (meaning_after-more step before.meaning so_far.rows taken.taken)
 
-    next_refused : after.refused ≡ before.refused
+    pub next_refused : after.refused ≡ before.refused
     next_refused = takes.no_flag (λ e. cc) ∙ between.refused
 
     module _ (last : Held) (left_over : Bits) (answer : Result Bool DecodeError)
         (said : gap_group3 new.settings new.taken new.has_eols rest ≡ gap_said answer last.has_eols left_over)
         (frame : last ≡ record new { has_eols = last.has_eols }) where
-      gap_is : gap_group3 settings (length next.rows) so_far.has_eols rest ≡ gap_said answer last.has_eols left_over
+      pub gap_is : gap_group3 settings (length next.rows) so_far.has_eols rest ≡ gap_said answer last.has_eols left_over
       gap_is = ap (λ (h : Held). gap_group3 h.settings h.taken h.has_eols rest) (sym next_held) ∙ said
 
       turn : move_group3 settings so_far ≡ at_gap_group3 next (gap_said answer last.has_eols left_over)
       turn = turn_group3 settings so_far taken.taken rest (gap_said answer last.has_eols left_over) taken.is gap_is
 
-      last_taken : last.taken ≡ length next.rows
+      pub last_taken : last.taken ≡ length next.rows
       last_taken = ap (λ (h : Held). h.taken) (frame ∙ ap (λ (h : Held). record h { has_eols = last.has_eols }) next_held)
 
       -- strict data that miss an EOL end the run
@@ -140,11 +218,11 @@ module _ {M : Type 0} (settings : DecodeSettings) (wide : 0 < settings.columns) 
       abbrev on : Progress
       on = record next { has_eols = last.has_eols; rest = left_over }
 
-      goes_on : answer ≡ Ok false → move_group3 settings so_far ≡ Turn.next on
+      pub goes_on : answer ≡ Ok false → move_group3 settings so_far ≡ Turn.next on
       goes_on is = turn ∙ ap (λ (a : Result Bool DecodeError). at_gap_group3 next (gap_said a last.has_eols left_over)) is
 
       -- else the run goes on
-      pub next_between_group3 : answer ≡ Ok false
+      abbrev pub next_between_group3 : answer ≡ Ok false
           → Between (move_group3 settings) (lines_of_move_group3 settings) left_group3 (start_group3 settings bits) settings step before after last left_over
       next_between_group3 is = record {
         so_far = on;
@@ -155,6 +233,22 @@ module _ {M : Type 0} (settings : DecodeSettings) (wide : 0 < settings.columns) 
         meaning = next_meaning;
         refused = next_refused;
       }
+
+      -- and where the line's words are counted, those of all rows are
+      pub next_counted_group3 : answer ≡ Ok false → (begun ticks then : ℕ)
+          → WordsCounted (move_group3 settings) (words_of_move_group3 settings) left_group3 (start_group3 settings bits) so_far begun ticks → ticks + length words ≤ then
+          → WordsCounted (move_group3 settings) (words_of_move_group3 settings) left_group3 (start_group3 settings bits) on begun then
+      next_counted_group3 is begun ticks then counted at_least =
+          counted_next (move_group3 settings) (words_of_move_group3 settings) left_group3 (by_rows_group3 settings wide) (start_group3 settings bits) refl so_far begun ticks counted
+          words on then refl (goes_on is) (omega (arith, length-append so_far.rows (taken.taken ∷ []))) at_least
+
+      -- also where it ends the run
+      pub last_counted_group3 : (begun ticks then most : ℕ)
+          → WordsCounted (move_group3 settings) (words_of_move_group3 settings) left_group3 (start_group3 settings bits) so_far begun ticks → ticks + length words ≤ then
+          → then ≤ begun + most → CountsRun (words_by Group3_1D settings bits) last.taken begun then most
+      last_counted_group3 begun ticks then most counted at_least at_most =
+          counted_ends_behind (move_group3 settings) (words_of_move_group3 settings) left_group3 (by_rows_group3 settings wide) (start_group3 settings bits) refl so_far begun ticks counted
+          words last.taken then most refl (omega (arith, last_taken, length-append so_far.rows (taken.taken ∷ []))) at_least at_most
 
       -- where less is left, or EOLs were given up
       pub next_shorter_group3 : answer ≡ Ok false

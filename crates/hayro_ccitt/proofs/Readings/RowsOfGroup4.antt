@@ -1,17 +1,20 @@
 -- The turns of Group 4: what stands before a line, and the line.
-use Rattle.std.proofs.Common.{◌≡◌, ◌<◌, ℕ, Bool, true, false, List, [], ◌∷◌, ◌++◌, length, append-nil, Result, Ok, Err, refl, sym, ap, ◌∙◌, subst, arith}
+use Rattle.std.proofs.Common.{◌≡◌, ◌+◌, ◌<◌, ◌≤◌, ℕ, Bool, true, false, cond, List, [], ◌∷◌, ◌++◌, length, append-nil, Result, Ok, Err, refl, sym, ap, ◌∙◌, subst, arith}
 use Rattle.std.proofs.lemmas.List.{length-append}
 use Rattle.hayro_ccitt.specs.declared.error.DecodeError.{DecodeError}
 use Rattle.hayro_ccitt.specs.declared.settings.DecodeSettings.{DecodeSettings}
 use Rattle.hayro_ccitt.specs.declared.settings.EncodingMode.TheVariants.{Group4}
-use Rattle.hayro_ccitt.specs.Answers.{line_from_2d}
+use Rattle.hayro_ccitt.specs.Answers.{line_from_2d, words_from_2d}
 use Rattle.hayro_ccitt.specs.Bits.{Bits}
 use Rattle.hayro_ccitt.specs.Context.{Held}
 use Rattle.hayro_ccitt.specs.Decoding.{SinkState, TakesOneRow, RowIsTaken, with_row_taken, gap_said}
-use Rattle.hayro_ccitt.specs.Lines.{Line}
-use Rattle.hayro_ccitt.specs.PlainReading.{Progress, Ending, Gap, gap_group4, line_group4, row_group4, at_gap_group4, add_row_group4, ends_with, with_row, move_group4, lines_at_gap_group4, lines_of_move_group4, start_group4, plain_group4, lines_by}
+use Rattle.hayro_ccitt.specs.Lines.{Line, line_2d, found_2d}
+use Rattle.hayro_ccitt.specs.PlainReading.{Progress, Ending, Gap, row_before, aligned, gap_group4, line_group4, row_group4, at_gap_group4, add_row_group4, ends_with, with_row, move_group4, lines_at_gap_group4, lines_of_move_group4, start_group4, plain_group4, lines_by}
 use Rattle.hayro_ccitt.specs.Repetition.{Turn}
 use Rattle.hayro_ccitt.specs.Rows.{Row, changes}
+use Rattle.hayro_ccitt.specs.Work.{words_at_gap_group4, words_of_move_group4}
+use Rattle.hayro_ccitt.proofs.Work.RunsCount.{WordsCounted, counted_next}
+use Rattle.hayro_ccitt.proofs.Work.WordsPay.{IsPaid, line_2d_paid, shorter_paid, either_shorter}
 use Rattle.hayro_ccitt.proofs.Readings.TurnsAddRows.{Adds, move_group4_adds}
 use Rattle.hayro_ccitt.proofs.Readings.TurnsMoveOn.{left, move_group4_shrinks}
 use Rattle.hayro_ccitt.proofs.Readings.RunsOverRows.{RowByRow, ReadsRow, Leaves, Between, between_ends, row_fails, comes_next, held_between-more, meaning_after-more}
@@ -46,6 +49,24 @@ module _ (settings : DecodeSettings) (so_far : Progress) (has_eols : Bool) (here
   pub next_group4 : (taken : Row) (rest : Bits) → row ≡ Ok (taken, rest) → move_group4 settings so_far ≡ Turn.next (with_row so_far taken rest)
   next_group4 taken rest is = turn ∙ ap (add_row_group4 so_far) is
 
+-- a row of Group 4 that is read pays for the bits that it took
+pub row_paid_group4 : (settings : DecodeSettings) → 0 < settings.columns → (reference : Row) (here rest : Bits) (taken : Row)
+    → row_group4 settings (line_2d settings.strict settings.columns reference here) ≡ Ok (taken, rest)
+    → IsPaid here rest (found_2d settings.strict settings.columns reference here)
+row_paid_group4 settings wide reference here rest taken is = by (line_2d settings.strict settings.columns reference here) refl is
+  where
+    rest_length : Result (Row × Bits) DecodeError → ℕ
+    rest_length (Ok x) = length x.1
+    rest_length (Err fault) = 0
+
+    by : (line : Line) → line_2d settings.strict settings.columns reference here ≡ line → row_group4 settings line ≡ Ok (taken, rest)
+        → IsPaid here rest (found_2d settings.strict settings.columns reference here)
+    by (Line.whole whole behind) e given =
+        let behind_is : length (cond settings.rows_are_byte_aligned (aligned behind) behind) ≡ length rest = ap rest_length given in
+        shorter_paid here behind rest (found_2d settings.strict settings.columns reference here) (line_2d_paid settings.strict settings.columns reference here whole behind wide e)
+        (omega (arith, behind_is, either_shorter settings.rows_are_byte_aligned behind))
+    by (Line.broken front fault) e given = absurd cc
+
 -- ---- A turn of the driver, between two rows
 
 -- a row of Group 4 is read and handed over, where these bits stand
@@ -79,13 +100,20 @@ module _ {M : Type 0} (settings : DecodeSettings) (wide : 0 < settings.columns) 
       end held (over_group4 settings so_far (Ok rest) gap) refl refl (ap (λ (h : Held). h.has_eols) (sym between.held)) rest refl
 
   module _ (on : over ≡ false) (now_held : Held) (same_held : now_held ≡ held) (now_width : ℕ) (same_width : now_width ≡ width) (after : SinkState M) (new : Held) (left_over : Bits) where
-    gap : gap_group4 settings (length so_far.rows) so_far.has_eols so_far.rest ≡ Gap.line_at so_far.has_eols rest
+    pub gap : gap_group4 settings (length so_far.rows) so_far.has_eols so_far.rest ≡ Gap.line_at so_far.has_eols rest
     gap = gap_is ∙ ap (λ (b : Bool). gap_said (Ok b) so_far.has_eols rest) on
 
     abbrev line : Line
     line = line_group4 settings so_far rest
 
-    takes_is : (answer : Result (Unit {0}) DecodeError) → TakesRowGroup4 (step_of now_width) now after now_held rest new answer left_over
+    -- the words that its line finds
+    abbrev words : List Bits
+    words = found_2d settings.strict settings.columns (row_before settings.columns so_far.rows) rest
+
+    pub words_are : length (words_from_2d now_held rest) ≡ length words
+    words_are = ap (λ (h : Held). length (words_from_2d h rest)) (same_held ∙ between.held)
+
+    pub takes_is : (answer : Result (Unit {0}) DecodeError) → TakesRowGroup4 (step_of now_width) now after now_held rest new answer left_over
         → TakesOneRow line (row_group4 settings line) step now after held new answer left_over
     takes_is answer takes =
         let wider : TakesRowGroup4 step now after held rest new answer left_over = subst (λ (h : Held). TakesRowGroup4 step now after h rest new answer left_over) same_held
@@ -106,11 +134,11 @@ module _ {M : Type 0} (settings : DecodeSettings) (wide : 0 < settings.columns) 
       abbrev next : Progress
       next = with_row so_far taken.taken left_over
 
-      goes_on : move_group4 settings so_far ≡ Turn.next next
+      pub goes_on : move_group4 settings so_far ≡ Turn.next next
       goes_on = next_group4 settings so_far so_far.has_eols rest gap taken.taken left_over taken.is
 
       -- a row that is taken leads to the next gap
-      pub next_between : Between (move_group4 settings) (lines_of_move_group4 settings) left (start_group4 bits) settings step before after new left_over
+      abbrev pub next_between : Between (move_group4 settings) (lines_of_move_group4 settings) left (start_group4 bits) settings step before after new left_over
       next_between = record {
         so_far = next;
         comes = comes_next (move_group4 settings) (lines_of_move_group4 settings) left (by_rows_group4 settings wide) (start_group4 bits) refl so_far between.comes
@@ -128,3 +156,14 @@ module _ {M : Type 0} (settings : DecodeSettings) (wide : 0 < settings.columns) 
       -- and less is left
       pub next_shorter : length left_over < length here
       next_shorter = let less = move_group4_shrinks settings wide so_far next goes_on in omega (arith, less, ap length between.here)
+
+      -- its words pay for the bits that it took
+      pub next_paid : IsPaid rest left_over words
+      next_paid = row_paid_group4 settings wide (row_before settings.columns so_far.rows) rest left_over taken.taken taken.is
+
+      -- and where they are counted, those of all rows are
+      pub next_counted : (begun ticks then : ℕ) → WordsCounted (move_group4 settings) (words_of_move_group4 settings) left (start_group4 bits) so_far begun ticks
+          → ticks + length words ≤ then → WordsCounted (move_group4 settings) (words_of_move_group4 settings) left (start_group4 bits) next begun then
+      next_counted begun ticks then counted at_least =
+          counted_next (move_group4 settings) (words_of_move_group4 settings) left (by_rows_group4 settings wide) (start_group4 bits) refl so_far begun ticks counted words next then
+          (ap (words_at_gap_group4 settings so_far) gap) goes_on (omega (arith, length-append so_far.rows (taken.taken ∷ []))) at_least

@@ -132,7 +132,7 @@ module _ {A : Type 0} (move : Progress → Move) (gives : Progress → List A) (
         by (Turn.done end) p = p
 
     module _ (line : A) (reads : gives so_far ≡ line ∷ []) where
-      lines_on : drop (length so_far.rows) all_lines ≡ line ∷ gathered_after (lines move gives left) (move so_far)
+      pub lines_on : drop (length so_far.rows) all_lines ≡ line ∷ gathered_after (lines move gives left) (move so_far)
       lines_on =
           comes.follow ∙ gathered_turn move gives left by_rows.shrinks so_far
           ∙ ap (λ (x : List A). x ++ gathered_after (lines move gives left) (move so_far)) reads

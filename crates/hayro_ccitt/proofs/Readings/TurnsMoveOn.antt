@@ -142,7 +142,7 @@ eols_some_counts [] rest e = absurd cc
 eols_some_counts (bit ∷ here) rest e = rw (eols-some (length here) (bit ∷ here) rest e) (omega (arith, one_more-count (eols (length here) rest)))
 
 -- a tag is passed, or nothing
-past_tag_shorter : (here : Bits) → length (past_tag here) ≤ length here
+pub past_tag_shorter : (here : Bits) → length (past_tag here) ≤ length here
 past_tag_shorter [] = omega arith
 past_tag_shorter (false ∷ here) = omega arith
 past_tag_shorter (true ∷ here) = by (after_eol 0 here) refl
@@ -161,7 +161,7 @@ pub eols_with_tags-none : (most : ℕ) (here : Bits) → after_eol 0 here ≡ No
 eols_with_tags-none zero here e = refl
 eols_with_tags-none (suc most) here e = rw (e, eols_with_tags) refl
 
-eols_with_tags_shorter : (most : ℕ) (here : Bits) → length (eols_with_tags most here).1 ≤ length here
+pub eols_with_tags_shorter : (most : ℕ) (here : Bits) → length (eols_with_tags most here).1 ≤ length here
 eols_with_tags_shorter zero here = omega arith
 eols_with_tags_shorter (suc most) here = by (λ rest. eols_with_tags_shorter most rest) (after_eol 0 here) refl
   where
@@ -196,7 +196,7 @@ last_tag_count (count, true ∷ here) = by (leb 6 count)
     by true = refl
     by false = refl
 
-last_tag_shorter : (found : ℕ × Bits) → length (pass_last_tag found).1 ≤ length found.1
+pub last_tag_shorter : (found : ℕ × Bits) → length (pass_last_tag found).1 ≤ length found.1
 last_tag_shorter (count, []) = omega arith
 last_tag_shorter (count, false ∷ here) = omega arith
 last_tag_shorter (count, true ∷ here) = by (leb 6 count)

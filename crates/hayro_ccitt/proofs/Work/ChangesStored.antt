@@ -17,7 +17,7 @@ use Rattle.hayro_ccitt.specs.CodeReading.{read_code}
 use Rattle.hayro_ccitt.specs.Lines.{Line, Pen, Drawing, start, turn_behind, words_behind, unless_fault, mode_here, place_from, draw_run, draw_mode, draw_1d, draw_2d, line_1d, line_2d, found_1d, found_2d, line_found, ◌>>=◌}
 use Rattle.hayro_ccitt.specs.PlainReading.{line_by}
 use Rattle.hayro_ccitt.specs.Repetition.{Turn, repeated, gathered}
-use Rattle.hayro_ccitt.specs.Rows.{Row, changes, is_black, opposite, b1, b2, right_of, paint, last_pixel, repaired}
+use Rattle.hayro_ccitt.specs.Rows.{Row, changes, is_black, opposite, b1, b2, right_of, paint, last_pixel, repaired, white_row}
 use Rattle.hayro_ccitt.specs.Runs.{run_from}
 use Rattle.hayro_ccitt.specs.Ticks.{word_found, run_found}
 use Rattle.hayro_ccitt.proofs.CodeWords.ReadRuns.{chosen, run_shorter}
@@ -41,9 +41,12 @@ one_at_most false place none is = omega (arith, ap length is)
 count_painted : (front : Row) (n : ℕ) (color : Bool) → count (front ++ replicate n color) ≤ suc (count front)
 count_painted front zero color = rw (append-nil front) (omega arith)
 count_painted front (suc n) color =
-    omega (arith, ap length (changes_from-append 0 false front (color ∷ replicate n color)),
-    length-append (changes_from 0 false front) (changes_from (0 + length front) (last_pixel false front) (color ∷ replicate n color)),
-    one_at_most (beq (last_pixel false front) color) (0 + length front) (changes_from (suc (0 + length front)) color (replicate n color)) (changes_from-same (suc (0 + length front)) n color))
+    omega (
+      arith,
+      ap length (changes_from-append 0 false front (color ∷ replicate n color)),
+      length-append (changes_from 0 false front) (changes_from (0 + length front) (last_pixel false front) (color ∷ replicate n color)),
+      one_at_most (beq (last_pixel false front) color) (0 + length front) (changes_from (suc (0 + length front)) color (replicate n color)) (changes_from-same (suc (0 + length front)) n color),
+    )
 
 count_paint : (strict : Bool) (columns : ℕ) (front : Row) (color : Color) (n : ℕ) (new : Row) → paint strict columns front color n ≡ Ok new → count new ≤ suc (count front)
 count_paint strict columns front color n new e = elim (chosen (strict && ltb (columns - length front) n) _ _ _ e) [
@@ -207,3 +210,7 @@ changes_found encoding strict columns reference here =
 pub changes_repaired : (columns : ℕ) (front : Row) → length (changes (repaired columns front)) ≤ suc (length (changes front))
 changes_repaired columns front =
     omega (arith, count_painted front (columns - length front) false, ap length (changes-recursive (repaired columns front)), ap length (changes-recursive front))
+
+-- a white row has none
+pub changes_white : (columns : ℕ) → length (changes (white_row columns)) ≡ 0
+changes_white columns = ap length (changes-recursive (white_row columns) ∙ changes_from-same 0 columns false)

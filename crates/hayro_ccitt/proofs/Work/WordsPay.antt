@@ -1,14 +1,14 @@
 -- What the words that a line finds say of the bits that it took: they pay for what it counts.
-use Rattle.std.proofs.Common.{◌≡◌, ℕ, suc, ◌+◌, ◌<◌, ◌≤◌, Bool, true, false, List, [], ◌∷◌, ◌++◌, length, replicate, drop, refl, sym, ap, ◌∙◌, subst, arith, append_assoc, inl, inr}
+use Rattle.std.proofs.Common.{◌≡◌, ℕ, suc, ◌+◌, ◌%◌, cond, ◌<◌, ◌≤◌, Bool, true, false, List, [], ◌∷◌, ◌++◌, length, replicate, drop, refl, sym, ap, ◌∙◌, subst, arith, append_assoc, inl, inr}
 use Rattle.std.proofs.lemmas.Bool.{false≢true, cases_lt}
-use Rattle.std.proofs.lemmas.List.{length-append}
+use Rattle.std.proofs.lemmas.List.{length-append, length-drop}
 use Rattle.hayro_ccitt.specs.declared.error.DecodeError.{DecodeError}
 use Rattle.hayro_ccitt.specs.declared.settings.EncodingMode.{EncodingMode}
 use Rattle.hayro_ccitt.specs.declared.settings.EncodingMode.TheVariants.{Group4, Group3_1D, Group3_2D}
 use Rattle.hayro_ccitt.specs.Bits.{Bits}
 use Rattle.hayro_ccitt.specs.Laws.{IsWord, AreWords, joined}
 use Rattle.hayro_ccitt.specs.Lines.{Line, found_1d, found_2d, line_1d, line_2d, line_found}
-use Rattle.hayro_ccitt.specs.PlainReading.{line_by}
+use Rattle.hayro_ccitt.specs.PlainReading.{line_by, aligned}
 use Rattle.hayro_ccitt.specs.Rows.{Row}
 use Rattle.hayro_ccitt.specs.Ticks.{looked}
 use Rattle.hayro_ccitt.proofs.BitReading.ZerosInWords.{holds_a_one, word_one, no_eleven_in, prefix_of_prefix}
@@ -64,6 +64,16 @@ pub record IsPaid (here rest : Bits) (found : List Bits) : Type 0 where
   pub some : 0 < length found
   pub words : length found + length rest ≤ length here
   pub zeros : looked here + length rest ≤ length here
+
+-- what was taken further on is paid as well
+pub shorter_paid : (here rest further : Bits) (found : List Bits) → IsPaid here rest found → length further ≤ length rest → IsPaid here further found
+shorter_paid here rest further found paid le =
+    record { some = paid.some; words = omega (arith, paid.words, le); zeros = omega (arith, paid.zeros, le) }
+
+-- a whole byte is further on
+pub either_shorter : (aligns : Bool) (rest : Bits) → length (cond aligns (aligned rest) rest) ≤ length rest
+either_shorter true rest = omega (arith, length-drop (length rest % 8) rest)
+either_shorter false rest = omega arith
 
 paid_by : (here rest : Bits) (found : List Bits) → Stands here found rest → length rest < length here → IsPaid here rest found
 paid_by here rest [] stands lt = absurd (omega (arith, lt, ap length stands.place))

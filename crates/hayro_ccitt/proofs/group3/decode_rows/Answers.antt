@@ -1,14 +1,22 @@
-use Rattle.std.proofs.Common.{◌≡◌, ℕ, Bool, true, false, ltb, ◌||◌, drop, length, Ok, refl, sym, ap, ◌∙◌, subst, arith}
+use Rattle.std.proofs.Common.{◌≡◌, ◌≤◌, ◌+◌, ◌*◌, Result, ℕ, Bool, true, false, ltb, ◌||◌, drop, length, Ok, refl, sym, ap, ◌∙◌, subst, arith}
 use Rattle.std.proofs.lemmas.Result.{err_from_is_err_and}
+use Rattle.std.proofs.lemmas.List.{length-drop}
 use Rattle.hayro_ccitt.specs.declared.error.DecodeError.TheVariants.{InvalidCode}
 use Rattle.hayro_ccitt.specs.Answers.{IsFault}
 use Rattle.hayro_ccitt.specs.Bits.{Bits, here}
 use Rattle.hayro_ccitt.specs.EndOfLine.{all_eols}
 use Rattle.hayro_ccitt.specs.Context.{Held}
 use Rattle.hayro_ccitt.specs.PlainReading.{move_group3, lines_of_move_group3, start_group3}
-use Rattle.hayro_ccitt.proofs.Readings.TurnsMoveOn.{left_group3}
+use Rattle.hayro_ccitt.proofs.Readings.TurnsMoveOn.{eols_shorter, left_group3}
 use Rattle.hayro_ccitt.proofs.Readings.RunsOverRows.{comes_first, held_between}
-use Rattle.hayro_ccitt.proofs.Readings.RowsOfGroup3.{by_rows_group3, left_start, fails_group3, misses_group3, ends_group3, next_between_group3, next_shorter_group3}
+use Rattle.hayro_ccitt.proofs.Readings.RowsOfGroup3.{by_rows_group3, left_start, fails_group3, misses_group3, ends_group3, next_between_group3, next_counted_group3, next_paid_group3, next_shorter_group3, last_counted_group3, fails_paid_group3, misses_paid_group3, ends_paid_group3, words_are}
+use Rattle.hayro_ccitt.specs.Work.{words_of_move_group3}
+use Rattle.hayro_ccitt.specs.declared.error.DecodeError.{DecodeError}
+use Rattle.hayro_ccitt.specs.Decoding.{gap_said}
+use Rattle.hayro_ccitt.specs.Rows.{changes}
+use Rattle.hayro_ccitt.proofs.Work.ChangesStored.{changes_white}
+use Rattle.hayro_ccitt.proofs.Work.RunsCount.{counted_ends}
+use Rattle.hayro_ccitt.proofs.Work.EolsPassed.{looked_before}
 use Rattle.hayro_ccitt.proofs.group3.decode_rows.Goals as goal
 
 pub rows-init : goal.rows-init
@@ -28,12 +36,25 @@ rows-init g c =
       },
       c.read_leading_eols.ensures.same_bits,
       refl,
-      omega (arith, c.read_leading_eols.ensures.counts),
+      record {
+        comes = comes_first (move_group3 settings) (words_of_move_group3 settings) left_group3 (by_rows_group3 settings c.requires.columns) (start_group3 settings bits) refl;
+        at_least = omega (arith, c.read_leading_eols.ensures.counts);
+      },
+      omega (
+        arith,
+        c.read_leading_eols.ensures.work,
+        ap (λ (h : Held). length (changes h.reference)) (c.read_leading_eols.ensures.has_eols ∙ fresh),
+        changes_white settings.columns,
+        ap length at,
+        ap length c.read_leading_eols.ensures.rest,
+        eols_shorter (length (here c.args.reader.now)) (here c.args.reader.now),
+        looked_before settings.encoding (here c.read_leading_eols.new.reader),
+      ),
     )
 
 pub read_row-requires-clause-rows : goal.read_row-requires-clause-rows
 read_row-requires-clause-rows g c =
-    let (between, same, width, ticks) = c.rows.invariant in
+    let (between, same, width, words, paid) = c.rows.invariant in
     let settings = c.args.ctx.now.held.settings in
     let bits = c.args.reader.now.bits in
     let taken = ap (λ (h : Held). h.taken) between.held in
@@ -41,7 +62,7 @@ read_row-requires-clause-rows g c =
 
 pub returns-in_err-read_row-clause-reading : goal.returns-in_err-read_row-clause-reading
 returns-in_err-read_row-clause-reading g c =
-    let (between, same, width, ticks) = c.rows.invariant in
+    let (between, same, width, words, paid) = c.rows.invariant in
     let settings = c.args.ctx.now.held.settings in
     let bits = c.args.reader.now.bits in
     let answer = err_from_is_err_and c.from_residual.result c.from_residual.ensures.1 in
@@ -54,7 +75,7 @@ returns-in_err-read_row-clause-reading g c =
 
 pub returns-in_err-read_row-clause-short : goal.returns-in_err-read_row-clause-short
 returns-in_err-read_row-clause-short g c =
-    let (between, same, width, ticks) = c.rows.invariant in
+    let (between, same, width, words, paid) = c.rows.invariant in
     let settings = c.args.ctx.now.held.settings in
     let bits = c.args.reader.now.bits in
     let answer = err_from_is_err_and c.from_residual.result c.from_residual.ensures.1 in
@@ -67,7 +88,7 @@ returns-in_err-read_row-clause-short g c =
 
 pub returns-in_err-check_eob-clause-reading : goal.returns-in_err-check_eob-clause-reading
 returns-in_err-check_eob-clause-reading g c =
-    let (between, same, width, ticks) = c.rows.invariant in
+    let (between, same, width, words, paid) = c.rows.invariant in
     let settings = c.args.ctx.now.held.settings in
     let bits = c.args.reader.now.bits in
     let answer = err_from_is_err_and c.from_residual-in_err-check_eob.result c.from_residual-in_err-check_eob.ensures.1 in
@@ -81,7 +102,7 @@ returns-in_err-check_eob-clause-reading g c =
 
 pub returns-then-branch-clause-reading : goal.returns-then-branch-clause-reading
 returns-then-branch-clause-reading g c =
-    let (between, same, width, ticks) = c.rows.invariant in
+    let (between, same, width, words, paid) = c.rows.invariant in
     let settings = c.args.ctx.now.held.settings in
     let bits = c.args.reader.now.bits in
     let is : c.check_eob.result ≡ Ok true = c.in_ok-check_eob.was ∙ ap (λ (b : Bool). Ok b) c.if-branch.true in
@@ -93,7 +114,7 @@ returns-then-branch-clause-reading g c =
 
 pub rows-smaller : goal.rows-smaller
 rows-smaller g c =
-    let (between, same, width, ticks) = c.rows.invariant in
+    let (between, same, width, words, paid) = c.rows.invariant in
     let settings = c.args.ctx.now.held.settings in
     let bits = c.args.reader.now.bits in
     let is : c.check_eob.result ≡ Ok false = c.in_ok-check_eob.was ∙ ap (λ (b : Bool). Ok b) c.if-branch.false in
@@ -105,7 +126,7 @@ rows-smaller g c =
 
 pub rows-preserved : goal.rows-preserved
 rows-preserved g c =
-    let (between, same, width, ticks) = c.rows.invariant in
+    let (between, same, width, words, paid) = c.rows.invariant in
     let settings = c.args.ctx.now.held.settings in
     let bits = c.args.reader.now.bits in
     let is : c.check_eob.result ≡ Ok false = c.in_ok-check_eob.was ∙ ap (λ (b : Bool). Ok b) c.if-branch.false in
@@ -114,4 +135,85 @@ rows-preserved g c =
     c.rows.ctx.held (here c.rows.reader) between (g.D.Decoder.width c.rows.decoder) width
     (record { meaning = g.D.Decoder.meaning c.read_row.new.decoder; refused = g.D.Decoder.has_refused c.read_row.new.decoder }) c.read_row.new.ctx.held (here c.read_row.new.reader)
     c.in_ok-read_row.ensures.row c.check_eob.new.ctx.held (here c.check_eob.new.reader) c.check_eob.result c.check_eob.ensures.gap c.check_eob.ensures.held is in
-    (next, c.check_eob.ensures.same_bits ∙ c.read_row.ensures.same_bits ∙ same, c.read_row.ensures.width ∙ width, omega (arith, ticks, c.read_row.ensures.counts, c.check_eob.ensures.counts))
+    let within : length (here c.rows.reader) ≤ length bits = omega (arith, length-drop c.rows.reader.place c.rows.reader.bits, ap length same) in
+    let found = words_are settings c.requires.columns bits g.D.Decoder.step (g.D.Decoder.width c.args.decoder.now)
+    (record { meaning = g.D.Decoder.meaning c.args.decoder.now; refused = g.D.Decoder.has_refused c.args.decoder.now }) (record { meaning = g.D.Decoder.meaning c.rows.decoder; refused = g.D.Decoder.has_refused c.rows.decoder })
+    c.rows.ctx.held (here c.rows.reader) between (g.D.Decoder.width c.rows.decoder) width
+    (record { meaning = g.D.Decoder.meaning c.read_row.new.decoder; refused = g.D.Decoder.has_refused c.read_row.new.decoder }) c.read_row.new.ctx.held (here c.read_row.new.reader) in
+    let counted = next_counted_group3 settings c.requires.columns bits g.D.Decoder.step (g.D.Decoder.width c.args.decoder.now)
+    (record { meaning = g.D.Decoder.meaning c.args.decoder.now; refused = g.D.Decoder.has_refused c.args.decoder.now }) (record { meaning = g.D.Decoder.meaning c.rows.decoder; refused = g.D.Decoder.has_refused c.rows.decoder })
+    c.rows.ctx.held (here c.rows.reader) between (g.D.Decoder.width c.rows.decoder) width
+    (record { meaning = g.D.Decoder.meaning c.read_row.new.decoder; refused = g.D.Decoder.has_refused c.read_row.new.decoder }) c.read_row.new.ctx.held (here c.read_row.new.reader)
+    c.in_ok-read_row.ensures.row c.check_eob.new.ctx.held (here c.check_eob.new.reader) c.check_eob.result c.check_eob.ensures.gap c.check_eob.ensures.held is
+    c.args.ctx.now.ticks c.rows.ctx.ticks c.check_eob.new.ctx.ticks words (omega (arith, found, c.in_ok-read_row.ensures.at_least, c.check_eob.ensures.counts)) in
+    let gap = c.check_eob.ensures.gap ∙ ap (λ (a : Result Bool DecodeError). gap_said a c.check_eob.new.ctx.held.has_eols (here c.check_eob.new.reader)) is in
+    let goes_on = next_paid_group3 settings c.requires.columns bits g.D.Decoder.step (g.D.Decoder.width c.args.decoder.now)
+    (record { meaning = g.D.Decoder.meaning c.args.decoder.now; refused = g.D.Decoder.has_refused c.args.decoder.now }) (record { meaning = g.D.Decoder.meaning c.rows.decoder; refused = g.D.Decoder.has_refused c.rows.decoder })
+    c.rows.ctx.held (here c.rows.reader) between (g.D.Decoder.width c.rows.decoder) width
+    (record { meaning = g.D.Decoder.meaning c.read_row.new.decoder; refused = g.D.Decoder.has_refused c.read_row.new.decoder }) c.read_row.new.ctx.held (here c.read_row.new.reader)
+    within c.args.ctx.now.ticks c.rows.ctx.ticks paid c.read_row.new.ctx.ticks c.in_ok-read_row.ensures.at_most c.in_ok-read_row.ensures.row
+    c.check_eob.new.ctx.ticks c.check_eob.new.ctx.held (here c.check_eob.new.reader) gap c.check_eob.ensures.held c.in_ok-read_row.ensures.stored
+    c.in_ok-check_eob.ensures.work c.in_ok-check_eob.ensures.work_given_up in
+    (next, c.check_eob.ensures.same_bits ∙ c.read_row.ensures.same_bits ∙ same, c.read_row.ensures.width ∙ width, counted, goes_on)
+
+pub returns-in_err-read_row-clause-work : goal.returns-in_err-read_row-clause-work
+returns-in_err-read_row-clause-work g c =
+    let (between, same, width, words, paid) = c.rows.invariant in
+    let settings = c.args.ctx.now.held.settings in
+    let bits = c.args.reader.now.bits in
+    let within : length (here c.rows.reader) ≤ length bits = omega (arith, length-drop c.rows.reader.place c.rows.reader.bits, ap length same) in
+    let taken = ap (λ (h : Held). h.taken) c.in_err-read_row.ensures.row.held in
+    counted_ends (move_group3 settings) (words_of_move_group3 settings) left_group3 (by_rows_group3 settings c.requires.columns) (start_group3 settings bits) refl between.so_far
+    c.args.ctx.now.ticks c.rows.ctx.ticks words c.read_row.new.ctx.held.taken c.read_row.new.ctx.ticks (36 * length bits + 14)
+    (taken ∙ ap (λ (h : Held). h.taken) between.held) c.in_err-read_row.ensures.counts
+    (fails_paid_group3 settings c.requires.columns bits g.D.Decoder.step (g.D.Decoder.width c.args.decoder.now)
+    (record { meaning = g.D.Decoder.meaning c.args.decoder.now; refused = g.D.Decoder.has_refused c.args.decoder.now }) (record { meaning = g.D.Decoder.meaning c.rows.decoder; refused = g.D.Decoder.has_refused c.rows.decoder })
+    c.rows.ctx.held (here c.rows.reader) between (g.D.Decoder.width c.rows.decoder) width
+    (record { meaning = g.D.Decoder.meaning c.read_row.new.decoder; refused = g.D.Decoder.has_refused c.read_row.new.decoder }) c.read_row.new.ctx.held (here c.read_row.new.reader)
+    within c.args.ctx.now.ticks c.rows.ctx.ticks paid c.read_row.new.ctx.ticks c.in_err-read_row.ensures.at_most)
+
+pub returns-in_err-check_eob-clause-work : goal.returns-in_err-check_eob-clause-work
+returns-in_err-check_eob-clause-work g c =
+    let (between, same, width, words, paid) = c.rows.invariant in
+    let settings = c.args.ctx.now.held.settings in
+    let bits = c.args.reader.now.bits in
+    let within : length (here c.rows.reader) ≤ length bits = omega (arith, length-drop c.rows.reader.place c.rows.reader.bits, ap length same) in
+    let found = words_are settings c.requires.columns bits g.D.Decoder.step (g.D.Decoder.width c.args.decoder.now)
+    (record { meaning = g.D.Decoder.meaning c.args.decoder.now; refused = g.D.Decoder.has_refused c.args.decoder.now }) (record { meaning = g.D.Decoder.meaning c.rows.decoder; refused = g.D.Decoder.has_refused c.rows.decoder })
+    c.rows.ctx.held (here c.rows.reader) between (g.D.Decoder.width c.rows.decoder) width
+    (record { meaning = g.D.Decoder.meaning c.read_row.new.decoder; refused = g.D.Decoder.has_refused c.read_row.new.decoder }) c.read_row.new.ctx.held (here c.read_row.new.reader) in
+    last_counted_group3 settings c.requires.columns bits g.D.Decoder.step (g.D.Decoder.width c.args.decoder.now)
+    (record { meaning = g.D.Decoder.meaning c.args.decoder.now; refused = g.D.Decoder.has_refused c.args.decoder.now }) (record { meaning = g.D.Decoder.meaning c.rows.decoder; refused = g.D.Decoder.has_refused c.rows.decoder })
+    c.rows.ctx.held (here c.rows.reader) between (g.D.Decoder.width c.rows.decoder) width
+    (record { meaning = g.D.Decoder.meaning c.read_row.new.decoder; refused = g.D.Decoder.has_refused c.read_row.new.decoder }) c.read_row.new.ctx.held (here c.read_row.new.reader)
+    c.in_ok-read_row.ensures.row c.check_eob.new.ctx.held (here c.check_eob.new.reader) c.check_eob.result c.check_eob.ensures.gap c.check_eob.ensures.held
+    c.args.ctx.now.ticks c.rows.ctx.ticks c.check_eob.new.ctx.ticks (36 * length bits + 14) words (omega (arith, found, c.in_ok-read_row.ensures.at_least, c.check_eob.ensures.counts))
+    (misses_paid_group3 settings c.requires.columns bits g.D.Decoder.step (g.D.Decoder.width c.args.decoder.now)
+    (record { meaning = g.D.Decoder.meaning c.args.decoder.now; refused = g.D.Decoder.has_refused c.args.decoder.now }) (record { meaning = g.D.Decoder.meaning c.rows.decoder; refused = g.D.Decoder.has_refused c.rows.decoder })
+    c.rows.ctx.held (here c.rows.reader) between (g.D.Decoder.width c.rows.decoder) width
+    (record { meaning = g.D.Decoder.meaning c.read_row.new.decoder; refused = g.D.Decoder.has_refused c.read_row.new.decoder }) c.read_row.new.ctx.held (here c.read_row.new.reader)
+    within c.args.ctx.now.ticks c.rows.ctx.ticks paid c.read_row.new.ctx.ticks c.in_ok-read_row.ensures.at_most c.in_ok-read_row.ensures.row
+    c.check_eob.new.ctx.ticks c.in_err-check_eob.ensures.work_refused)
+
+pub returns-then-branch-clause-work : goal.returns-then-branch-clause-work
+returns-then-branch-clause-work g c =
+    let (between, same, width, words, paid) = c.rows.invariant in
+    let settings = c.args.ctx.now.held.settings in
+    let bits = c.args.reader.now.bits in
+    let within : length (here c.rows.reader) ≤ length bits = omega (arith, length-drop c.rows.reader.place c.rows.reader.bits, ap length same) in
+    let found = words_are settings c.requires.columns bits g.D.Decoder.step (g.D.Decoder.width c.args.decoder.now)
+    (record { meaning = g.D.Decoder.meaning c.args.decoder.now; refused = g.D.Decoder.has_refused c.args.decoder.now }) (record { meaning = g.D.Decoder.meaning c.rows.decoder; refused = g.D.Decoder.has_refused c.rows.decoder })
+    c.rows.ctx.held (here c.rows.reader) between (g.D.Decoder.width c.rows.decoder) width
+    (record { meaning = g.D.Decoder.meaning c.read_row.new.decoder; refused = g.D.Decoder.has_refused c.read_row.new.decoder }) c.read_row.new.ctx.held (here c.read_row.new.reader) in
+    last_counted_group3 settings c.requires.columns bits g.D.Decoder.step (g.D.Decoder.width c.args.decoder.now)
+    (record { meaning = g.D.Decoder.meaning c.args.decoder.now; refused = g.D.Decoder.has_refused c.args.decoder.now }) (record { meaning = g.D.Decoder.meaning c.rows.decoder; refused = g.D.Decoder.has_refused c.rows.decoder })
+    c.rows.ctx.held (here c.rows.reader) between (g.D.Decoder.width c.rows.decoder) width
+    (record { meaning = g.D.Decoder.meaning c.read_row.new.decoder; refused = g.D.Decoder.has_refused c.read_row.new.decoder }) c.read_row.new.ctx.held (here c.read_row.new.reader)
+    c.in_ok-read_row.ensures.row c.check_eob.new.ctx.held (here c.check_eob.new.reader) c.check_eob.result c.check_eob.ensures.gap c.check_eob.ensures.held
+    c.args.ctx.now.ticks c.rows.ctx.ticks c.check_eob.new.ctx.ticks (36 * length bits + 14) words (omega (arith, found, c.in_ok-read_row.ensures.at_least, c.check_eob.ensures.counts))
+    (ends_paid_group3 settings c.requires.columns bits g.D.Decoder.step (g.D.Decoder.width c.args.decoder.now)
+    (record { meaning = g.D.Decoder.meaning c.args.decoder.now; refused = g.D.Decoder.has_refused c.args.decoder.now }) (record { meaning = g.D.Decoder.meaning c.rows.decoder; refused = g.D.Decoder.has_refused c.rows.decoder })
+    c.rows.ctx.held (here c.rows.reader) between (g.D.Decoder.width c.rows.decoder) width
+    (record { meaning = g.D.Decoder.meaning c.read_row.new.decoder; refused = g.D.Decoder.has_refused c.read_row.new.decoder }) c.read_row.new.ctx.held (here c.read_row.new.reader)
+    within c.args.ctx.now.ticks c.rows.ctx.ticks paid c.read_row.new.ctx.ticks c.in_ok-read_row.ensures.at_most c.in_ok-read_row.ensures.row
+    c.check_eob.new.ctx.ticks (here c.check_eob.new.reader) (c.in_ok-check_eob.ensures.work (c.in_ok-check_eob.ensures.given_up c.if-branch.true)))

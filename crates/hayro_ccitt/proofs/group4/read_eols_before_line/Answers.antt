@@ -10,3 +10,11 @@ returns-then-settings-clause-counts c =
 pub returns-else-settings-clause-counts : goal.returns-else-settings-clause-counts
 returns-else-settings-clause-counts c =
     omega (arith, c.read_eol_if_available.ensures.ticks, c.ticks-else-settings.ensures.value, all_eols_leave c.read_eol_if_available.result (here c.args.reader.now) (here c.read_eol_if_available.new.self) c.read_eol_if_available.ensures.eols)
+
+pub returns-then-settings-clause-forward : goal.returns-then-settings-clause-forward
+returns-then-settings-clause-forward c =
+    eols_leave 2 c.read_eols.result (here c.args.reader.now) (here c.read_eols.new.self) c.read_eols.ensures.eols
+
+pub returns-else-settings-clause-forward : goal.returns-else-settings-clause-forward
+returns-else-settings-clause-forward c =
+    all_eols_leave c.read_eol_if_available.result (here c.args.reader.now) (here c.read_eol_if_available.new.self) c.read_eol_if_available.ensures.eols

@@ -8,10 +8,10 @@ returns-clause-end c =
     rw (c.byte_pos.ensures, ← c.self.view_is) (at_end-drop c.self.inside.«data».now c.self.inside.place)
 
 pub returns-clause-within : goal.returns-clause-within
-returns-clause-within c = rw (← c.self.view_is) (within_bits c.self.inside.«data».now c.self.inside.place c.self.invariant.0)
+returns-clause-within c = rw (← c.self.view_is) (within_bits c.self.inside.«data».now c.self.inside.place (omega (arith, c.self.invariant.within, c.self.invariant.before_end)))
 
 pub returns-clause-whole_bytes : goal.returns-clause-whole_bytes
 returns-clause-whole_bytes c = rw (← c.self.view_is) (omega (arith, length-bits_of c.self.inside.«data».now))
 
 pub returns-clause-fit : goal.returns-clause-fit
-returns-clause-fit c = rw (← c.self.view_is) (omega (arith, length-bits_of c.self.inside.«data».now, c.self.invariant.1))
+returns-clause-fit c = rw (← c.self.view_is) (omega (arith, length-bits_of c.self.inside.«data».now, c.self.invariant.fit))

@@ -1,5 +1,6 @@
+use Rattle.std.proofs.Common.{arith}
 use Rattle.hayro_ccitt.proofs.BitReading.BitPlaces.{within_bits}
 use Rattle.hayro_ccitt.proofs.bit_reader.BitReader.bit_pos.Goals as goal
 
 pub returns-clause-within : goal.returns-clause-within
-returns-clause-within c = rw (← c.self.view_is) (within_bits c.self.inside.«data».now c.self.inside.place c.self.invariant.0)
+returns-clause-within c = rw (← c.self.view_is) (within_bits c.self.inside.«data».now c.self.inside.place (omega (arith, c.self.invariant.within, c.self.invariant.before_end)))

@@ -1,19 +1,30 @@
-use Rattle.std.proofs.Common.{sym, ◌∙◌, arith}
+use Rattle.std.proofs.Common.{◌≡◌, ℕ, ◌+◌, ◌<◌, ◌^◌, Some, get_or, length, min, false, refl, inl, inr, sym, ap, ◌∙◌, arith}
+use Rattle.std.proofs.lemmas.Bool.{cases_lt, false≢true}
+use Rattle.std.proofs.lemmas.Option.{slice_get-get_or}
+use Rattle.std.proofs.lemmas.Result.{err_from_is_err_and}
 use Rattle.hayro_ccitt.specs.Bits.{bits_of}
 use Rattle.hayro_ccitt.proofs.BitReading.BitLists.{length-bits_of}
-use Rattle.hayro_ccitt.proofs.BitReading.BitPlaces.{within_next, past_from_none}
+use Rattle.hayro_ccitt.proofs.BitReading.BitPlaces.{bits_at}
+use Rattle.hayro_ccitt.proofs.BitReading.WindowWords.{top_bit}
 use Rattle.hayro_ccitt.proofs.bit_reader.BitReader.read_bit.Goals as goal
 
-pub invariant_of-self : goal.invariant_of-self
-invariant_of-self c =
-    (within_next c.self.inside.«data».now c.self.inside.place c.in-Some.bit (sym c.bit_at.ensures ∙ c.in-Some.is), c.self.invariant.1)
+pub returns-in_err-consume-clause-unchanged : goal.returns-in_err-consume-clause-unchanged
+returns-in_err-consume-clause-unchanged c =
+    let bits = bits_of c.self.inside.«data».now in
+    let place = c.self.inside.place in
+    let past : length bits < place + 1 = (rw (← c.self.view_is) at c.in_err-consume.ensures.end).0 refl in
+    let stays : min (place + 1) (length bits) ≡ place = omega (arith, past, c.self.invariant.within, c.self.invariant.before_end, length-bits_of c.self.inside.«data».now) in
+    let p = err_from_is_err_and c.from_residual.result c.from_residual.ensures.1 in
+    rw p.1 (c.in_err-consume.ensures.moved ∙ rw (← c.self.view_is) (ap (bits_at bits) stays))
 
-pub returns-in-Some-clause-end : goal.returns-in-Some-clause-end
-returns-in-Some-clause-end c =
-    let next = within_next c.self.inside.«data».now c.self.inside.place c.in-Some.bit (sym c.bit_at.ensures ∙ c.in-Some.is) in
-    rw (← c.self.view_is) (λ e. absurd cc, λ h. absurd (omega (arith, next, length-bits_of c.self.inside.«data».now)))
-
-pub returns-in-None-clause-end : goal.returns-in-None-clause-end
-returns-in-None-clause-end c =
-    let past = past_from_none (bits_of c.self.inside.«data».now) c.self.inside.place (sym c.bit_at.ensures ∙ c.in-None.is) in
-    rw (← c.self.view_is) (λ e. past, λ h. cc)
+pub returns-clause-bit : goal.returns-clause-bit
+returns-clause-bit c =
+    let bits = bits_of c.self.inside.«data».now in
+    let place = c.self.inside.place in
+    let fits : c.self.inside.window < 2 ^ 64 = omega arith in
+    let top = top_bit c.self.inside.window fits in
+    let first : place + 0 ≡ place = omega arith in
+    let ok = rw (← c.self.view_is) at c.in_ok-consume.ensures.end in
+    let there : place < length bits = elim (cases_lt place (length bits)) [ inl lt ↦ lt | inr ge ↦ absurd (false≢true (ok.1 (omega arith))) ] in
+    let bit = c.self.invariant.held 0 (omega (arith, c.self.invariant.within)) ∙ ap (λ (i : ℕ). get_or bits i false) first in
+    (top.0, rw (← c.self.view_is) (slice_get-get_or bits place false there ∙ ap Some (sym bit ∙ top.1)))

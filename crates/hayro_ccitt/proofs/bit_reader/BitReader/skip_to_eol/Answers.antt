@@ -1,8 +1,9 @@
-use Rattle.std.proofs.Common.{◌≡◌, ◌+◌, ◌<◌, length, sym, ap, ◌∙◌, arith}
+use Rattle.std.proofs.Common.{◌≡◌, ◌+◌, ◌<◌, ◌≤◌, Some, refl, length, sym, ap, ◌∙◌, arith}
+use Rattle.std.proofs.lemmas.Bool.{le-leb}
 use Rattle.hayro_ccitt.specs.Bits.{Bits, BitsAt, here}
-use Rattle.hayro_ccitt.specs.EndOfLine.{next_eol}
+use Rattle.hayro_ccitt.specs.EndOfLine.{after_eol, next_eol}
 use Rattle.hayro_ccitt.specs.Ticks.{looked}
-use Rattle.hayro_ccitt.proofs.BitReading.SoughtEols.{next_eol-behind, next_eol-zeros, looked-one, looked-zeros}
+use Rattle.hayro_ccitt.proofs.BitReading.SoughtEols.{next_eol-behind, next_eol-here, next_eol-zeros, looked-one, looked-zeros}
 use Rattle.hayro_ccitt.proofs.bit_reader.BitReader.skip_to_eol.Goals as goal
 
 pub eols-preserved : goal.eols-preserved
@@ -30,3 +31,10 @@ returns-in-None-clause-ticks c =
     let all : looked (here c.eols.reader) ≡ length (here c.eols.reader) = ap looked zeros ∙ looked-zeros c.zero_run-zeros.result.0 ∙ sym (ap length zeros) in
     let same : length (here c.eols.self) ≡ length (here c.args.self.now) = ap (λ (at : BitsAt). length (here at)) c.eols.invariant.0 in
     omega (arith, c.eols.invariant.3, c.zero_run-zeros.ensures.ticks, all, same)
+
+pub returns-in-Some-clause-next : goal.returns-in-Some-clause-next
+returns-in-Some-clause-next c =
+    let now = here c.eols.reader in
+    let enough : 11 ≤ c.zero_run-zeros.result.0 = c.if-zeros-ge11.true in
+    let eol : after_eol 0 now ≡ Some (here c.in-Some.field-0) = (rw c.in-Some.is at c.zero_run-zeros.ensures.eol) ∙ rw (le-leb 11 c.zero_run-zeros.result.0 enough) refl in
+    sym c.eols.invariant.2 ∙ next_eol-here now (here c.in-Some.field-0) eol

@@ -1,54 +1,54 @@
-use Rattle.std.proofs.Common.{◌≡◌, ℕ, suc, ◌+◌, ◌++◌, length, replicate, true, false, refl, sym, ap, ◌∙◌, arith}
-use Rattle.std.proofs.lemmas.List.{append-nil, drop_all}
-use Rattle.hayro_ccitt.specs.Bits.{Bits, here}
+use Rattle.std.proofs.Common.{◌≡◌, ◌-◌, ◌++◌, ◌∷◌, replicate, true, false, refl, sym, ap, ◌∙◌, arith}
+use Rattle.std.proofs.lemmas.List.{append-nil, length-replicate}
+use Rattle.hayro_ccitt.specs.Bits.{Bits, BitsAt, here}
 use Rattle.hayro_ccitt.specs.CodeReading.{leading_zeros}
-use Rattle.hayro_ccitt.specs.Ticks.{looked}
 use Rattle.hayro_ccitt.specs.EndOfLine.{after_eol}
-use Rattle.hayro_ccitt.proofs.BitReading.ZeroRuns.{here_next, zeros_fit, zeros_more, leading_zeros-one, leading_zeros-replicate}
+use Rattle.hayro_ccitt.specs.Ticks.{looked}
+use Rattle.hayro_ccitt.proofs.BitReading.ClonedReaders.{same_clone}
+use Rattle.hayro_ccitt.proofs.BitReading.SoughtEols.{zeros_end, looked-zeros}
+use Rattle.hayro_ccitt.proofs.BitReading.ZeroRuns.{after_eol_run, looked_run, leading_zeros-one, leading_zeros-replicate}
+use Rattle.hayro_ccitt.proofs.BitReading.ZerosPassed.{run_passed, one_passed}
 use Rattle.hayro_ccitt.proofs.bit_reader.BitReader.zero_run.Goals as goal
 
-pub overflow_add-zeros : goal.overflow_add-zeros
-overflow_add-zeros c =
-    let next = here_next c.bits.reader c.read_bit.new.self false (rw c.in-Ok-eq0.field-0-test at c.in-Ok-eq0.ensures.bit.1) c.in-Ok-eq0.ensures.next in
-    omega (arith, zeros_fit c.bits.zeros c.args.self.now (here c.bits.reader) c.bits.invariant.1, ap length next, c.copy-reader.ensures.fit)
+-- zeros alone
+only_zeros : (c : goal.Then-not-is_one) → here c.args.self.now ≡ replicate (c.bit_pos.result - c.bit_pos-2.result) false
+only_zeros c =
+    let same = same_clone c.args.self.now c.unwrap-reader.result (rw c.unwrap-reader.ensures at c.clone.ensures.cases) in
+    let zeros = c.bit_pos.result - c.bit_pos-2.result in
+    run_passed c.args.self.now c.unwrap-reader.result c.pass_zeros-is_one.new.self _ _ same c.if-not-is_one.ensures.zeros c.bit_pos.ensures.place c.bit_pos-2.ensures.place
+    ∙ ap (λ (x : Bits). replicate zeros false ++ x) (c.if-not-is_one.ensures.end refl) ∙ append-nil (replicate zeros false)
 
-pub bits-preserved : goal.bits-preserved
-bits-preserved c =
-    let rest = here c.read_bit.new.self in
-    let next = here_next c.bits.reader c.read_bit.new.self false (rw c.in-Ok-eq0.field-0-test at c.in-Ok-eq0.ensures.bit.1) c.in-Ok-eq0.ensures.next in
-    let more : c.bits.zeros + 1 ≡ suc c.bits.zeros = omega arith in (
-      rw c.in-Ok-eq0.ensures.next c.bits.invariant.0,
-      c.bits.invariant.1 ∙ ap (λ (x : Bits). replicate c.bits.zeros false ++ x) next ∙ zeros_more c.bits.zeros rest,
-      omega (arith, c.bits.invariant.2, ap looked next, c.tick.ensures),
-      ap (λ (k : ℕ). after_eol k rest) more ∙ sym (ap (after_eol c.bits.zeros) next) ∙ c.bits.invariant.3,
-    )
+pub returns-then-not-is_one-clause-zeros : goal.returns-then-not-is_one-clause-zeros
+returns-then-not-is_one-clause-zeros c = sym (ap leading_zeros (only_zeros c) ∙ leading_zeros-replicate _)
 
-pub returns-in-Ok-clause-zeros : goal.returns-in-Ok-clause-zeros
-returns-in-Ok-clause-zeros c =
-    let one : c.in-Ok.field-0 ≡ 1 = omega (arith, c.in-Ok.ensures.bit.0, c.in-Ok.field-0-test.1) in
-    let next = here_next c.bits.reader c.read_bit.new.self true (rw one at c.in-Ok.ensures.bit.1) c.in-Ok.ensures.next in
-    sym (ap leading_zeros (c.bits.invariant.1 ∙ ap (λ (x : Bits). replicate c.bits.zeros false ++ x) next) ∙ leading_zeros-one c.bits.zeros (here c.read_bit.new.self))
+pub returns-then-not-is_one-clause-no_eol : goal.returns-then-not-is_one-clause-no_eol
+returns-then-not-is_one-clause-no_eol c = ap (after_eol 0) (only_zeros c) ∙ zeros_end 0 (c.bit_pos.result - c.bit_pos-2.result)
 
-pub returns-in-Ok-clause-one : goal.returns-in-Ok-clause-one
-returns-in-Ok-clause-one c =
-    let one : c.in-Ok.field-0 ≡ 1 = omega (arith, c.in-Ok.ensures.bit.0, c.in-Ok.field-0-test.1) in
-    let next = here_next c.bits.reader c.read_bit.new.self true (rw one at c.in-Ok.ensures.bit.1) c.in-Ok.ensures.next in
-    (rw c.in-Ok.ensures.next c.bits.invariant.0, c.bits.invariant.1 ∙ ap (λ (x : Bits). replicate c.bits.zeros false ++ x) next)
+pub returns-then-not-is_one-clause-ticks : goal.returns-then-not-is_one-clause-ticks
+returns-then-not-is_one-clause-ticks c =
+    let zeros = c.bit_pos.result - c.bit_pos-2.result in
+    omega (arith, c.tick_times.ensures, ap looked (only_zeros c), looked-zeros zeros, length-replicate zeros false)
 
-pub returns-in-Ok-clause-eol : goal.returns-in-Ok-clause-eol
-returns-in-Ok-clause-eol c =
-    let one : c.in-Ok.field-0 ≡ 1 = omega (arith, c.in-Ok.ensures.bit.0, c.in-Ok.field-0-test.1) in
-    let next = here_next c.bits.reader c.read_bit.new.self true (rw one at c.in-Ok.ensures.bit.1) c.in-Ok.ensures.next in
-    sym c.bits.invariant.3 ∙ ap (after_eol c.bits.zeros) next
+-- zeros and a one
+zeros_and_one : (c : goal.After-consume) → here c.args.self.now ≡ replicate (c.bit_pos.result - c.bit_pos-2.result) false ++ true ∷ here c.consume.new.self
+zeros_and_one c =
+    let same = same_clone c.args.self.now c.unwrap-reader.result (rw c.unwrap-reader.ensures at c.clone.ensures.cases) in
+    let zeros = c.bit_pos.result - c.bit_pos-2.result in
+    run_passed c.args.self.now c.unwrap-reader.result c.pass_zeros-is_one.new.self _ _ same c.if-not-is_one.ensures.zeros c.bit_pos.ensures.place c.bit_pos-2.ensures.place
+    ∙ ap (λ (x : Bits). replicate zeros false ++ x) (one_passed c.pass_zeros-is_one.new.self c.consume.new.self (c.if-not-is_one.ensures.one refl) c.consume.ensures.moved)
 
-pub returns-in-Ok-clause-ticks : goal.returns-in-Ok-clause-ticks
-returns-in-Ok-clause-ticks c =
-    let one : c.in-Ok.field-0 ≡ 1 = omega (arith, c.in-Ok.ensures.bit.0, c.in-Ok.field-0-test.1) in
-    let next = here_next c.bits.reader c.read_bit.new.self true (rw one at c.in-Ok.ensures.bit.1) c.in-Ok.ensures.next in
-    omega (arith, c.bits.invariant.2, ap looked next, c.tick-in-Ok.ensures)
+pub returns-clause-zeros : goal.returns-clause-zeros
+returns-clause-zeros c = sym (ap leading_zeros (zeros_and_one c) ∙ leading_zeros-one _ (here c.consume.new.self))
 
-pub returns-in-Err-clause-zeros : goal.returns-in-Err-clause-zeros
-returns-in-Err-clause-zeros c =
-    let none = drop_all c.bits.reader.place c.bits.reader.bits (c.in-Err.ensures.end.0 refl) in
-    let all = c.bits.invariant.1 ∙ ap (λ (x : Bits). replicate c.bits.zeros false ++ x) none ∙ append-nil (replicate c.bits.zeros false) in
-    sym (ap leading_zeros all ∙ leading_zeros-replicate c.bits.zeros)
+pub returns-clause-one : goal.returns-clause-one
+returns-clause-one c =
+    let same = same_clone c.args.self.now c.unwrap-reader.result (rw c.unwrap-reader.ensures at c.clone.ensures.cases) in
+    (ap (λ (at : BitsAt). at.bits) c.consume.ensures.moved ∙ c.if-not-is_one.ensures.same_bits ∙ ap (λ (at : BitsAt). at.bits) same, zeros_and_one c)
+
+pub returns-clause-eol : goal.returns-clause-eol
+returns-clause-eol c = ap (after_eol 0) (zeros_and_one c) ∙ after_eol_run (c.bit_pos.result - c.bit_pos-2.result) (here c.consume.new.self)
+
+pub returns-clause-ticks : goal.returns-clause-ticks
+returns-clause-ticks c =
+    let zeros = c.bit_pos.result - c.bit_pos-2.result in
+    omega (arith, c.tick_times.ensures, c.tick.ensures, ap looked (zeros_and_one c), looked_run zeros (here c.consume.new.self))

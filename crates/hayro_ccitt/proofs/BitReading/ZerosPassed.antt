@@ -1,0 +1,134 @@
+-- Zeros that are passed by the word.
+use Rattle.std.proofs.Common.{◌≡◌, ◌≢◌, ℕ, zero, suc, ◌+◌, ◌-◌, ◌*◌, ◌/◌, ◌%◌, ◌^◌, ◌<◌, ◌≤◌, true, false, eqb, ◌∷◌, ◌++◌, length, get_or, slice_get, drop, replicate, min, Some, refl, sym, ap, ◌∙◌, append_assoc, arith, inl, inr}
+use lib.Count.{count_leading_zeros}
+use Rattle.std.proofs.lemmas.Bool.{cases_lt, false≢true}
+use Rattle.std.proofs.lemmas.List.{get_or_past, replicate-append-replicate}
+use Rattle.std.proofs.lemmas.Nat.{leading_top, leading_length, leading_le, div-mul-add, pow_pos}
+use Rattle.std.proofs.Math.Nat.{pow-suc, pow-le-pow_right}
+use Rattle.std.proofs.lemmas.Nat.Bits.{bit_at_above}
+use Rattle.std.proofs.lemmas.Option.{slice_get-get_or, slice_get_within}
+use Rattle.hayro_ccitt.specs.Bits.{Bits, BitsAt, here, bit_of}
+use Rattle.hayro_ccitt.proofs.BitReading.BitLists.{drop_some}
+
+-- ---- The zeros at the front of a word.
+-- the bits before the first one are zeros
+word_zeros : (w k : ℕ) → w < 2 ^ 32 → k < count_leading_zeros 32 w → bit_of w (31 - k) ≡ false
+word_zeros w k small h =
+    let top = leading_length 32 w small in
+    ap (λ (b : ℕ). eqb b 1) (bit_at_above w top.0 (31 - k) top.2 (omega (arith, top.1)))
+
+-- a number that isn't zero has a one behind them
+word_one : (w : ℕ) → w < 2 ^ 32 → count_leading_zeros 32 w < 32 → bit_of w (31 - count_leading_zeros 32 w) ≡ true
+word_one w small h =
+    let long = leading_length 32 w small in
+    let some : 0 < w = elim (cases_lt 0 w) [ inl lt ↦ lt | inr none ↦ absurd (no_zeros_left w long.0 none long.3 (omega (arith, long.1))) ] in
+    let top = leading_top 32 w some small in
+    let at : 31 - count_leading_zeros 32 w ≡ top.0 = omega (arith, top.1) in
+    rw at (ap (λ (b : ℕ). eqb (b % 2) 1) (one_times w top.0 top.2 top.3))
+  where
+    -- zero has no bits
+    no_zeros_left : (w m : ℕ) → w ≤ 0 → 2 ^ m ≤ 2 * w + 1 → 0 < m → ⊥
+    no_zeros_left w zero none le lt = absurd (omega arith)
+    no_zeros_left w (suc m) none le lt = let e : 2 ^ suc m ≡ 2 ^ m * 2 = pow-suc 2 m in let some = pow_pos m in absurd (omega (arith, e, some))
+
+    -- a number below twice a power has it once
+    one_times : (w j : ℕ) → 2 ^ j ≤ w → w < 2 ^ suc j → w / 2 ^ j ≡ 1
+    one_times w j le lt =
+        let e : 2 ^ suc j ≡ 2 ^ j * 2 = pow-suc 2 j in
+        let rest : w - 2 ^ j < 2 ^ j = omega (arith, e) in
+        let whole : w ≡ 1 * 2 ^ j + (w - 2 ^ j) = omega arith in
+        ap (λ (n : ℕ). n / 2 ^ j) whole ∙ div-mul-add 1 (2 ^ j) (w - 2 ^ j) rest
+
+-- ---- Zeros from a place on.
+zeros_here : (bits : Bits) (place n : ℕ) → ((k : ℕ) → k < n → get_or bits (place + k) false ≡ false) → place + n ≤ length bits
+    → drop place bits ≡ replicate n false ++ drop (place + n) bits
+zeros_here bits place zero none h = let e : place + 0 ≡ place = omega arith in rw e refl
+zeros_here bits place (suc n) none h =
+    let first : place ≡ place + 0 = omega arith in
+    let there : slice_get bits place ≡ Some false =
+    slice_get-get_or bits place false (omega arith) ∙ ap Some (ap (λ (i : ℕ). get_or bits i false) first ∙ none 0 (omega arith)) in
+    let at : (k : ℕ) → place + 1 + k ≡ place + suc k = λ k. omega arith in
+    let more = zeros_here bits (place + 1) n (λ k lt. ap (λ (i : ℕ). get_or bits i false) (at k) ∙ none (suc k) (omega (arith, lt))) (omega arith) in
+    drop_some bits place false there ∙ ap (λ (x : Bits). false ∷ x) more ∙ ap (λ (i : ℕ). false ∷ (replicate n false ++ drop i bits)) (at n)
+
+-- zeros, and then more
+zeros_on : (first then rest : Bits) (a b : ℕ) → first ≡ replicate a false ++ then → then ≡ replicate b false ++ rest → first ≡ replicate (a + b) false ++ rest
+zeros_on first then rest a b e h =
+    e ∙ ap (λ (x : Bits). replicate a false ++ x) h ∙ sym (append_assoc (replicate a false) (replicate b false) rest)
+    ∙ ap (λ (x : Bits). x ++ rest) (replicate-append-replicate a b false)
+
+-- a word holds the next 32 bits
+abbrev Holds : ℕ → BitsAt → Type 0
+Holds w at = (k : ℕ) → k < 32 → bit_of w (31 - k) ≡ get_or at.bits (at.place + k) false
+
+-- The zeros at the front of the word are passed, up to the end at most, behind zeros that were passed before.
+pub word_passed : (start now next : BitsAt) (w : ℕ) → w < 2 ^ 32 → Holds w now → now.place ≤ next.place
+    → next ≡ record now { place = min (now.place + count_leading_zeros 32 w) (length now.bits) } → start.place ≤ now.place
+    → here start ≡ replicate (now.place - start.place) false ++ here now → here start ≡ replicate (next.place - start.place) false ++ here next
+word_passed start now next w small held forward e on before =
+    let at : next.place ≡ min (now.place + count_leading_zeros 32 w) (length now.bits) = ap (λ (x : BitsAt). x.place) e in
+    let same : now.bits ≡ next.bits = sym (ap (λ (x : BitsAt). x.bits) e) in
+    let few = leading_le 32 w in
+    let n = next.place - now.place in
+    let place : now.place + n ≡ next.place = omega arith in
+    let passed = zeros_here now.bits now.place n (λ k lt. sym (held k (omega (arith, lt, few))) ∙ word_zeros w k small (omega (arith, lt))) (omega arith) in
+    let sum : now.place - start.place + n ≡ next.place - start.place = omega arith in
+    zeros_on (here start) (here now) (drop (now.place + n) now.bits) (now.place - start.place) n before passed
+    ∙ ap (λ (k : ℕ). replicate k false ++ drop (now.place + n) now.bits) sum
+    ∙ ap (λ (i : ℕ). replicate (next.place - start.place) false ++ drop i now.bits) place
+    ∙ ap (λ (x : Bits). replicate (next.place - start.place) false ++ drop next.place x) same
+
+-- where they are fewer than 32 a one follows
+one_ahead : (now : BitsAt) (w : ℕ) → w < 2 ^ 32 → Holds w now → count_leading_zeros 32 w < 32 → slice_get now.bits (now.place + count_leading_zeros 32 w) ≡ Some true
+one_ahead now w small held few =
+    let at = now.place + count_leading_zeros 32 w in
+    let one : get_or now.bits at false ≡ true = sym (held (count_leading_zeros 32 w) few) ∙ word_one w small few in
+    let within : at < length now.bits = elim (cases_lt at (length now.bits)) [
+      | inl lt ↦ lt
+      | inr past ↦ absurd (false≢true (sym (get_or_past now.bits at false past) ∙ one))
+    ] in
+    slice_get-get_or now.bits at false within ∙ ap Some one
+
+-- and the reader stands at it
+pub one_follows : (now next : BitsAt) (w : ℕ) → w < 2 ^ 32 → Holds w now → next ≡ record now { place = min (now.place + count_leading_zeros 32 w) (length now.bits) }
+    → count_leading_zeros 32 w < 32 → slice_get next.bits next.place ≡ Some true
+one_follows now next w small held e few =
+    let one = one_ahead now w small held few in
+    let within = slice_get_within now.bits (now.place + count_leading_zeros 32 w) true one in
+    let place : min (now.place + count_leading_zeros 32 w) (length now.bits) ≡ now.place + count_leading_zeros 32 w = omega (arith, within) in
+    ap (λ (x : BitsAt). slice_get x.bits x.place) e ∙ ap (λ (i : ℕ). slice_get now.bits i) place ∙ one
+
+-- ---- A copy of a reader that passed zeros, and a one behind them.
+pub run_passed : (old copy new : BitsAt) (to from : ℕ) → copy ≡ old → here copy ≡ replicate (new.place - copy.place) false ++ here new → to ≡ new.place → from ≡ old.place
+    → here old ≡ replicate (to - from) false ++ here new
+run_passed old copy new to from same passed e h =
+    let n : new.place - copy.place ≡ to - from = omega (arith, e, h, ap (λ (at : BitsAt). at.place) same) in
+    sym (ap here same) ∙ passed ∙ ap (λ (k : ℕ). replicate k false ++ here new) n
+
+pub one_passed : (at next : BitsAt) → slice_get at.bits at.place ≡ Some true → next ≡ record at { place = min (at.place + 1) (length at.bits) } → here at ≡ true ∷ here next
+one_passed at next one e =
+    let within = slice_get_within at.bits at.place true one in
+    let place : at.place + 1 ≡ min (at.place + 1) (length at.bits) = omega (arith, within) in
+    drop_some at.bits at.place true one ∙ ap (λ (i : ℕ). true ∷ drop i at.bits) place ∙ ap (λ (x : BitsAt). true ∷ here x) (sym e)
+
+-- ---- A one that is near.
+-- the zeros of the word, and the one behind them
+pub run_ahead : (at : BitsAt) (w : ℕ) → w < 2 ^ 32 → Holds w at → count_leading_zeros 32 w < 32
+    → here at ≡ replicate (count_leading_zeros 32 w) false ++ true ∷ drop (at.place + count_leading_zeros 32 w + 1) at.bits
+run_ahead at w small held few =
+    let n = count_leading_zeros 32 w in
+    let one = one_ahead at w small held few in
+    let within = slice_get_within at.bits (at.place + n) true one in
+    zeros_here at.bits at.place n (λ k lt. sym (held k (omega (arith, lt, few))) ∙ word_zeros w k small lt) (omega (arith, within))
+    ∙ ap (λ (x : Bits). replicate n false ++ x) (drop_some at.bits (at.place + n) true one)
+
+-- a one among the first eleven bits of a word
+pub near_one : (w : ℕ) → w < 2 ^ 32 → w / 2 ^ 21 ≢ 0 → count_leading_zeros 32 w < 11
+near_one w small some = elim (cases_lt (count_leading_zeros 32 w) 11) [
+  | inl lt ↦ lt
+  | inr ge ↦
+      let long = leading_length 32 w small in
+      let room : 2 ^ long.0 ≤ 2 ^ 21 = pow-le-pow_right {n = 2} (omega arith) {i = long.0} {j = 21} (omega (arith, long.1, ge)) in
+      let none : w / 2 ^ 21 ≡ 0 = omega (arith, room, long.2) in
+      absurd (some none)
+]

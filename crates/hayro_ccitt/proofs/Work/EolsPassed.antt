@@ -1,0 +1,299 @@
+-- The EOLs that are passed where a line follows, and the bits that are looked at ahead of it.
+use Rattle.std.proofs.Common.{◌≡◌, ℕ, suc, ◌+◌, ◌-◌, ◌*◌, ◌≤◌, Bool, true, false, not, ◌&&◌, ◌||◌, eqb, leb, [], ◌∷◌, ◌++◌, length, replicate, drop}
+use Rattle.std.proofs.Common.{Option, Some, None, Result, Ok, Err, refl, sym, ap, ◌∙◌, subst, arith, ◌⊎◌, inl, inr}
+use Rattle.std.proofs.lemmas.Bool.{and_parts, or_parts, false≢true}
+use Rattle.std.proofs.lemmas.List.{length-append, length-replicate, replicate-append-replicate}
+use Rattle.hayro_ccitt.specs.declared.error.DecodeError.{DecodeError}
+use Rattle.hayro_ccitt.specs.declared.error.DecodeError.TheVariants.{InvalidCode}
+use Rattle.hayro_ccitt.specs.declared.settings.EncodingMode.{EncodingMode}
+use Rattle.hayro_ccitt.specs.declared.settings.EncodingMode.TheVariants.{Group4, Group3_1D, Group3_2D}
+use Rattle.hayro_ccitt.specs.declared.settings.DecodeSettings.{DecodeSettings}
+use Rattle.hayro_ccitt.specs.Bits.{Bits}
+use Rattle.hayro_ccitt.specs.EndOfLine.{after_eol, all_eols, next_eol, past_tag, eols_with_tags, eols, pass_last_tag, tagged_eols}
+use Rattle.hayro_ccitt.specs.PlainReading.{Gap, at_end, limit_met, eols_by, eols_group3, behind_eols_group3, from_next_eol, gap_group3}
+use Rattle.hayro_ccitt.specs.Ticks.{looked, looked_ahead}
+use Rattle.hayro_ccitt.proofs.BitReading.ZeroRuns.{looked_eol}
+use Rattle.hayro_ccitt.proofs.CodeWords.ReadRuns.{chosen}
+use Rattle.hayro_ccitt.proofs.DamagedLines.LineTails.{after_eol_is}
+use Rattle.hayro_ccitt.proofs.DamagedLines.PastEol.{all_eols-none}
+use Rattle.hayro_ccitt.proofs.Readings.TurnsMoveOn.{length-one_more, eols_shorter, eols-some, eols_with_tags-some, eols_with_tags-none, eols_with_tags_shorter, past_tag_shorter, last_tag_shorter, eols_group3_counted, eols_group3_some, next_eol_found}
+
+-- ---- An EOL that stands here or further on
+
+-- an EOL stands here or further on, perhaps behind fill, and ends where `after` begins
+pub record EolWithin (here after : Bits) : Type 0 where
+  pub fill : Bits
+  pub place : here ≡ fill ++ replicate 11 false ++ true ∷ after
+
+-- an EOL that stands here
+pub eol_within : (here after : Bits) → after_eol 0 here ≡ Some after → EolWithin here after
+eol_within here after e =
+    let is = after_eol_is 0 here after e in
+    let more : ℕ = is.0 - 11 in
+    let sum : is.0 ≡ more + 11 = omega (arith, is.2) in
+    let fill : replicate is.0 false ≡ replicate more false ++ replicate 11 false = ap (λ (n : ℕ). replicate n false) sum ∙ sym (replicate-append-replicate more 11 false) in
+    record { fill = replicate more false; place = is.1 ∙ ap (λ (bits : Bits). bits ++ true ∷ after) fill }
+
+within_further : (bit : Bool) (here after : Bits) → EolWithin here after → EolWithin (bit ∷ here) after
+within_further bit here after eol = record { fill = bit ∷ eol.fill; place = ap (λ (x : Bits). bit ∷ x) eol.place }
+
+-- the next EOL stands here or further on
+pub next_eol_within : (here found : Bits) → next_eol here ≡ Some found → (after : Bits) × (after_eol 0 found ≡ Some after) × EolWithin here after
+next_eol_within [] found e = absurd cc
+next_eol_within (bit ∷ here) found e = by (λ f. next_eol_within here found f) (after_eol 0 (bit ∷ here)) refl
+  where
+    by : (next_eol here ≡ Some found → (after : Bits) × (after_eol 0 found ≡ Some after) × EolWithin here after) → (o : Option Bits)
+        → after_eol 0 (bit ∷ here) ≡ o → (after : Bits) × (after_eol 0 found ≡ Some after) × EolWithin (bit ∷ here) after
+    by on None is =
+        let f : next_eol here ≡ Some found = rw (is, next_eol) at e in
+        let more = on f in
+        (more.0, more.1, within_further bit here more.0 more.2)
+    by on (Some after) is =
+        let f : ◌≡◌ {A = Option Bits} (Some (bit ∷ here)) (Some found) = rw (is, next_eol) at e in
+        let same : bit ∷ here ≡ found = cc in
+        (after, subst (λ (x : Bits). after_eol 0 x ≡ Some after) same is, eol_within (bit ∷ here) after is)
+
+-- the bits up to the end of an EOL
+pub length-within : (here after : Bits) (eol : EolWithin here after) → length here ≡ length eol.fill + 12 + length after
+length-within here after eol =
+    omega (arith, ap length eol.place, length-append (eol.fill ++ replicate 11 false) (true ∷ after), length-append eol.fill (replicate 11 false), length-replicate 11 false)
+
+-- ---- EOLs that are counted
+
+-- counting EOLs leaves at most the bits that were there
+pub eols_group3_shorter : (settings : DecodeSettings) (here : Bits) → length (eols_group3 settings here).1 ≤ length here
+eols_group3_shorter settings here = (eols_group3_counted settings here).0
+
+all_eols_past : (here after : Bits) → after_eol 0 here ≡ Some after → length (all_eols here).1 ≤ length after
+all_eols_past [] after e = absurd cc
+all_eols_past (bit ∷ here) after e =
+    rw (eols-some (length here) (bit ∷ here) after e) (omega (arith, length-one_more (eols (length here) after), eols_shorter (length here) after))
+
+tagged_eols_past : (here after : Bits) → after_eol 0 here ≡ Some after → length (tagged_eols here).1 ≤ length after
+tagged_eols_past [] after e = absurd cc
+tagged_eols_past (bit ∷ here) after e =
+    let found : ℕ × Bits = eols_with_tags (length here) (past_tag after) in
+    let passed : length (eols_with_tags (length (bit ∷ here)) (bit ∷ here)).1 ≤ length after
+    = rw (eols_with_tags-some (length here) (bit ∷ here) after e) (omega (
+      arith,
+      length-one_more found,
+      eols_with_tags_shorter (length here) (past_tag after),
+      past_tag_shorter after,
+    )) in
+    omega (arith, last_tag_shorter (eols_with_tags (length (bit ∷ here)) (bit ∷ here)), passed)
+
+-- where an EOL stands, counting passes it
+pub eols_group3_past : (settings : DecodeSettings) (here after : Bits) → after_eol 0 here ≡ Some after → length (eols_group3 settings here).1 ≤ length after
+eols_group3_past settings here after e = by settings.encoding
+  where
+    by : (encoding : EncodingMode) → length (eols_by encoding here).1 ≤ length after
+    by Group3_1D = all_eols_past here after e
+    by Group3_2D = tagged_eols_past here after e
+    by Group4 = all_eols_past here after e
+
+tagged_eols-none : (here : Bits) → after_eol 0 here ≡ None → tagged_eols here ≡ (0, here)
+tagged_eols-none here e = rw (eols_with_tags-none (length here) here e, tagged_eols) (by here)
+  where
+    by : (here : Bits) → pass_last_tag (0, here) ≡ (0, here)
+    by [] = refl
+    by (false ∷ here) = refl
+    by (true ∷ here) = refl
+
+-- where no EOL stands, none is counted
+pub eols_group3-none : (settings : DecodeSettings) (here : Bits) → after_eol 0 here ≡ None → eols_group3 settings here ≡ (0, here)
+eols_group3-none settings here e = by settings.encoding
+  where
+    by : (encoding : EncodingMode) → eols_by encoding here ≡ (0, here)
+    by Group3_1D = all_eols-none here e
+    by Group3_2D = tagged_eols-none here e
+    by Group4 = all_eols-none here e
+
+-- where none is counted, the place stays
+pub eols_group3_stay : (settings : DecodeSettings) (here rest : Bits) → eols_group3 settings here ≡ (0, rest) → rest ≡ here
+eols_group3_stay settings here rest is = by (after_eol 0 here) refl
+  where
+    by : (o : Option Bits) → after_eol 0 here ≡ o → rest ≡ here
+    by None e = sym (ap (λ (found : ℕ × Bits). found.1) (sym (eols_group3-none settings here e) ∙ is))
+    by (Some after) e = absurd (omega (arith, eols_group3_some settings here after e, ap (λ (found : ℕ × Bits). found.0) is))
+
+-- ---- A line that stands behind a row
+
+lines_same : (h k : Bool) (here rest : Bits) → ◌≡◌ {A = Gap} (Gap.line_at h here) (Gap.line_at k rest) → (h ≡ k) × (here ≡ rest)
+lines_same h k here rest e = (cc, cc)
+
+over_no_line : (outcome : Result Bits DecodeError) (h : Bool) (rest : Bits) → ◌≡◌ {A = Gap} (Gap.over outcome) (Gap.line_at h rest) → ⊥
+over_no_line outcome h rest e = cc
+
+-- a line stands behind EOLs neither at the limit nor at the end
+behind_line : (settings : DecodeSettings) (taken : ℕ) (h k : Bool) (found : ℕ × Bits) (rest : Bits)
+    → behind_eols_group3 settings taken h found ≡ Gap.line_at k rest
+    → (h ≡ k) × (found.1 ≡ rest) × (limit_met settings taken ≡ false) × (at_end found.1 ≡ false)
+behind_line settings taken h k (count, here) rest e =
+    elim (chosen (((settings.end_of_block && leb 6 count) || limit_met settings taken) || at_end here) _ _ _ e) [
+      | inl a ↦ absurd (over_no_line (Ok here) k rest a.1)
+      | inr a ↦
+          let open_end = or_parts ((settings.end_of_block && leb 6 count) || limit_met settings taken) (at_end here) a.0 in
+          let open_limit = or_parts (settings.end_of_block && leb 6 count) (limit_met settings taken) open_end.0 in
+          let same = lines_same h k here rest a.1 in
+          (same.0, same.1, open_limit.1, open_end.1)
+    ]
+
+-- The line stands behind the EOLs that stand here.
+record AfterEols (settings : DecodeSettings) (taken : ℕ) (h k : Bool) (here rest : Bits) : Type 0 where
+  unsought : (((eqb (eols_group3 settings here).0 0 && h) && not (limit_met settings taken)) && not (at_end here)) ≡ false
+  flag : h ≡ k
+  place : (eols_group3 settings here).1 ≡ rest
+  open_limit : limit_met settings taken ≡ false
+  open_end : at_end (eols_group3 settings here).1 ≡ false
+
+-- The line stands behind the next EOL, which was sought.
+record AfterNextEol (settings : DecodeSettings) (h k : Bool) (here rest : Bits) : Type 0 where
+  sought : h ≡ true
+  kept : k ≡ true
+  found : Bits
+  next : next_eol here ≡ Some found
+  place : (eols_group3 settings found).1 ≡ rest
+
+-- No EOL is left, and the line stands here.
+record GivenUp (h k : Bool) (here rest : Bits) : Type 0 where
+  sought : h ≡ true
+  given_up : k ≡ false
+  place : here ≡ rest
+
+-- the ways in which a line stands behind a row
+line_behind : (settings : DecodeSettings) (taken : ℕ) (h k : Bool) (here rest : Bits) → gap_group3 settings taken h here ≡ Gap.line_at k rest
+    → AfterEols settings taken h k here rest ⊎ (AfterNextEol settings h k here rest ⊎ GivenUp h k here rest)
+line_behind settings taken h k here rest e =
+    elim (chosen (((eqb (eols_group3 settings here).0 0 && h) && not (limit_met settings taken)) && not (at_end here)) _ _ _ e) [
+      | inl a ↦
+          let b = (and_parts ((eqb (eols_group3 settings here).0 0 && h) && not (limit_met settings taken)) (not (at_end here)) a.0).0 in
+          let c = (and_parts (eqb (eols_group3 settings here).0 0 && h) (not (limit_met settings taken)) b).0 in
+          let sought = (and_parts (eqb (eols_group3 settings here).0 0) h c).1 in
+          elim (chosen settings.strict _ _ _ a.1) [
+            | inl b ↦ absurd (over_no_line (Err InvalidCode) k rest b.1)
+            | inr b ↦ inr (by sought (next_eol here) refl b.1)
+          ]
+      | inr a ↦
+          let is = behind_line settings taken h k (eols_group3 settings here) rest a.1 in
+          inl (record { unsought = a.0; flag = is.0; place = is.1; open_limit = is.2; open_end = is.3 })
+    ]
+  where
+    by : h ≡ true → (o : Option Bits) → next_eol here ≡ o → from_next_eol settings taken here o ≡ Gap.line_at k rest
+        → AfterNextEol settings h k here rest ⊎ GivenUp h k here rest
+    by sought (Some found) next f =
+        let is = behind_line settings taken true k (eols_group3 settings found) rest f in
+        inl (record { sought = sought; kept = sym is.0; found = found; next = next; place = is.1 })
+    by sought None next f =
+        let same = lines_same false k here rest f in
+        inr (record { sought = sought; given_up = sym same.0; place = same.1 })
+
+-- where EOLs are still sought, one stood here or further on, and the line begins behind it
+pub line_past_eol : (settings : DecodeSettings) (taken : ℕ) (here rest : Bits) → gap_group3 settings taken true here ≡ Gap.line_at true rest
+    → (after : Bits) × EolWithin here after × (length rest ≤ length after)
+line_past_eol settings taken here rest e = elim (line_behind settings taken true true here rest e) [
+  | inl is ↦ by is (after_eol 0 here) refl
+  | inr (inl is) ↦
+      let eol = next_eol_within here is.found is.next in
+      (eol.0, eol.2, subst (λ (x : Bits). length x ≤ length eol.0) is.place (eols_group3_past settings is.found eol.0 eol.1))
+  | inr (inr is) ↦ absurd (false≢true (sym is.given_up))
+]
+  where
+    by : AfterEols settings taken true true here rest → (o : Option Bits) → after_eol 0 here ≡ o
+        → (after : Bits) × EolWithin here after × (length rest ≤ length after)
+    by is (Some after) f =
+        (after, eol_within here after f, subst (λ (x : Bits). length x ≤ length after) is.place (eols_group3_past settings here after f))
+    by is None f =
+        let none = eols_group3-none settings here f in
+        let open_end : at_end here ≡ false = let g = is.open_end in rw none at g in
+        let seeks : (((eqb (eols_group3 settings here).0 0 && true) && not (limit_met settings taken)) && not (at_end here)) ≡ true
+        = rw (none, is.open_limit, open_end) refl in
+        absurd (false≢true (sym is.unsought ∙ seeks))
+
+-- where EOLs are given up, the line stands here
+pub line_given_up : (settings : DecodeSettings) (taken : ℕ) (here rest : Bits) → gap_group3 settings taken true here ≡ Gap.line_at false rest → rest ≡ here
+line_given_up settings taken here rest e = elim (line_behind settings taken true false here rest e) [
+  | inl is ↦ absurd (false≢true (sym is.flag))
+  | inr (inl is) ↦ absurd (false≢true is.kept)
+  | inr (inr is) ↦ sym is.place
+]
+
+-- a line that stands behind a row begins there or further on
+pub line_behind_shorter : (settings : DecodeSettings) (taken : ℕ) (h k : Bool) (here rest : Bits) → gap_group3 settings taken h here ≡ Gap.line_at k rest
+    → length rest ≤ length here
+line_behind_shorter settings taken h k here rest e = elim (line_behind settings taken h k here rest e) [
+  | inl is ↦ omega (arith, ap length is.place, eols_group3_shorter settings here)
+  | inr (inl is) ↦ omega (arith, ap length is.place, eols_group3_shorter settings is.found, (next_eol_found here is.found is.next).0)
+  | inr (inr is) ↦ omega (arith, ap length is.place)
+]
+
+-- without EOLs none are sought
+pub line_without_eols : (settings : DecodeSettings) (taken : ℕ) (k : Bool) (here rest : Bits) → gap_group3 settings taken false here ≡ Gap.line_at k rest
+    → (k ≡ false) × (length rest ≤ length here)
+line_without_eols settings taken k here rest e = (
+  elim (line_behind settings taken false k here rest e) [
+    | inl is ↦ sym is.flag
+    | inr (inl is) ↦ absurd (false≢true is.sought)
+    | inr (inr is) ↦ is.given_up
+  ],
+  line_behind_shorter settings taken false k here rest e,
+)
+
+-- ---- What is looked at ahead
+
+-- no more than the bits here are looked at
+pub looked_most : (here : Bits) → looked here ≤ length here
+looked_most [] = omega arith
+looked_most (false ∷ here) = omega (arith, looked_most here)
+looked_most (true ∷ here) = omega arith
+
+-- behind the first bit at most one bit less is looked at
+pub looked_later : (here : Bits) → looked here ≤ suc (looked (drop 1 here))
+looked_later [] = omega arith
+looked_later (false ∷ here) = omega arith
+looked_later (true ∷ here) = omega arith
+
+-- no bit behind a one is looked at
+looked_to_one : (before after : Bits) → looked (before ++ true ∷ after) + length after ≤ length (before ++ true ∷ after)
+looked_to_one [] after = omega arith
+looked_to_one (false ∷ before) after = omega (arith, looked_to_one before after)
+looked_to_one (true ∷ before) after = omega (arith, length-append before (true ∷ after))
+
+length-later : (here : Bits) → length (drop 1 here) ≤ length here
+length-later [] = omega arith
+length-later (bit ∷ here) = omega arith
+
+-- a count of zeros looks at no more than one bit besides what stands ahead
+pub looked_before : (encoding : EncodingMode) (here : Bits) → looked here ≤ suc (looked_ahead encoding here)
+looked_before Group3_2D here = looked_later here
+looked_before Group3_1D here = omega arith
+looked_before Group4 here = omega arith
+
+-- no more than the bits here are looked at ahead
+pub looked_ahead_most : (encoding : EncodingMode) (here : Bits) → looked_ahead encoding here ≤ length here
+looked_ahead_most Group3_2D here = omega (arith, looked_most (drop 1 here), length-later here)
+looked_ahead_most Group3_1D here = looked_most here
+looked_ahead_most Group4 here = looked_most here
+
+-- where an EOL stands here or further on, no bit behind it is looked at
+looked_to_eol : (here after : Bits) → EolWithin here after → (looked here + length after ≤ length here) × (looked (drop 1 here) + length after ≤ length here)
+looked_to_eol here after eol = rw eol.place (by eol.fill)
+  where
+    by : (fill : Bits) → (looked (fill ++ replicate 11 false ++ true ∷ after) + length after ≤ length (fill ++ replicate 11 false ++ true ∷ after))
+        × (looked (drop 1 (fill ++ replicate 11 false ++ true ∷ after)) + length after ≤ length (fill ++ replicate 11 false ++ true ∷ after))
+    by [] = (looked_to_one (replicate 11 false) after, omega (arith, looked_to_one (replicate 10 false) after))
+    by (bit ∷ fill) =
+        (looked_to_one (bit ∷ fill ++ replicate 11 false) after, omega (arith, looked_to_one (fill ++ replicate 11 false) after))
+
+-- Where the next EOL is found and counted, no bit behind it is looked at: not where none stood before, and not where it
+-- was found.
+pub sought_looks : (settings : DecodeSettings) (here found : Bits) → next_eol here ≡ Some found
+    → looked here + looked found + 2 * length (eols_group3 settings found).1 ≤ length here + length found
+sought_looks settings here found next =
+    let eol = next_eol_within here found next in
+    omega (arith, (looked_to_eol here eol.0 eol.2).0, looked_eol 0 found eol.0 eol.1, eols_group3_past settings found eol.0 eol.1)
+
+-- where an EOL stands here or further on, no bit behind it is looked at ahead
+pub looked_ahead_to_eol : (encoding : EncodingMode) (here after : Bits) → EolWithin here after → looked_ahead encoding here + length after ≤ length here
+looked_ahead_to_eol Group3_2D here after eol = (looked_to_eol here after eol).1
+looked_ahead_to_eol Group3_1D here after eol = (looked_to_eol here after eol).0
+looked_ahead_to_eol Group4 here after eol = (looked_to_eol here after eol).0

@@ -1,0 +1,119 @@
+//! The reader's calls on data of each length from 0 to 17 bytes, beside a plain list of its bits.
+
+use hayro_ccitt::DecodeError::UnexpectedEof;
+use hayro_ccitt::bit_reader::BitReader;
+use hayro_ccitt::bits_fit;
+use hayro_ccitt::codes::Ticks;
+use std::test::Fail;
+
+const DATA: [u8; 17] = [
+    0xC9, 0x0F, 0xDA, 0xA2, 0x21, 0x68, 0xC2, 0x34, 0xC4, 0xC6, 0x62, 0x8B, 0x80, 0xDC, 0x1C, 0xD1,
+    0x29,
+];
+
+/// The bits of the data.
+const DIGITS: &str = "1100100100001111110110101010001000100001011010001100001000110100\
+    1100010011000110011000101000101110000000110111000001110011010001\
+    00101001";
+
+/// The first 32 of some bits, written as digits, as a number; zeros where there are fewer.
+fn first_32(bits: &[u8]) -> u32 {
+    let mut number = 0;
+    for place in 0..32usize {
+        let is_one = bits.get(place) == Some(&b'1');
+        number = number << 1 | u32::from(is_one);
+    }
+    number
+}
+
+/// By each number of bits to the end, and twice past it.
+#[test]
+fn consumes_as_a_list_of_bits(rt: HostRuntime) {
+    for length in 0..=17usize {
+        let data = &DATA[..length];
+        let bits = DIGITS.as_bytes().get(..8 * length).unwrap_or(&[]);
+        assert!(rt; bits_fit(data));
+        for n in 0..=32usize {
+            let mut reader = BitReader::new(data);
+            let mut rest = bits;
+            for _ in 0..8 * length / n.max(1) + 2 {
+                assert_eq!(rt; reader.peek_u32(), first_32(rest), "{n} of {data:?}");
+                let answer = if n <= rest.len() {
+                    Ok(())
+                } else {
+                    Err(UnexpectedEof)
+                };
+                rest = rest.get(n..).unwrap_or(&[]);
+                assert_eq!(rt; reader.consume(n), answer, "{n} of {data:?}");
+                let place = bits.len().checked_sub(rest.len());
+                assert_eq!(rt; Some(reader.bit_pos()), place, "{n} of {data:?}");
+            }
+        }
+    }
+}
+
+/// From each place a clone reads a bit, one moves to a whole byte, and the zeros are counted.
+#[test]
+fn reads_on_as_a_list_of_bits(rt: HostRuntime) -> std::result::Result<(), Fail> {
+    let mut ticks = Ticks::new();
+    for length in 0..=17usize {
+        let data = &DATA[..length];
+        let bits = DIGITS.as_bytes().get(..8 * length).unwrap_or(&[]);
+        assert!(rt; bits_fit(data));
+        let mut reader = BitReader::new(data);
+        for place in 0..=8 * length {
+            let rest = bits.get(place..).unwrap_or(&[]);
+            let bit = rest.first().map(|digit| u32::from(*digit == b'1'));
+            let mut next = reader.clone()?;
+            assert_eq!(rt;
+                next.read_bit(),
+                bit.ok_or(UnexpectedEof),
+                "{place} of {data:?}"
+            );
+            let behind = rest.get(1..).unwrap_or(&[]);
+            assert_eq!(rt; next.peek_u32(), first_32(behind), "{place} of {data:?}");
+            let mut whole = reader.clone()?;
+            whole.align();
+            assert_eq!(rt;
+                whole.bit_pos(),
+                place.div_ceil(8) * 8,
+                "{place} of {data:?}"
+            );
+            let aligned = bits.get(place.div_ceil(8) * 8..).unwrap_or(&[]);
+            assert_eq!(rt; whole.peek_u32(), first_32(aligned), "{place} of {data:?}");
+            let zeros = rest.iter().take_while(|digit| **digit == b'0').count();
+            assert_eq!(rt; reader.zero_run(&mut ticks).0, zeros, "{place} of {data:?}");
+            assert_eq!(rt;
+                reader.consume(1).is_ok(),
+                bit.is_some(),
+                "{place} of {data:?}"
+            );
+        }
+    }
+    Ok(())
+}
+
+/// Zeros of each number in 17 bytes, with a one behind them, and without.
+#[test]
+fn counts_zeros(rt: HostRuntime) {
+    let mut ticks = Ticks::new();
+    for zeros in 0..136usize {
+        let mut data = [0; 17];
+        data[zeros / 8] = 0x80 >> (zeros % 8);
+        assert!(rt; bits_fit(&data));
+        let (count, after) = BitReader::new(&data).zero_run(&mut ticks);
+        assert_eq!(rt;
+            (count, after.map(|after| after.bit_pos())),
+            (zeros, Some(zeros + 1))
+        );
+    }
+    for length in 0..=17usize {
+        let data = &[0; 17][..length];
+        assert!(rt; bits_fit(data));
+        let (count, after) = BitReader::new(data).zero_run(&mut ticks);
+        assert!(rt;
+            count == 8 * length && after.is_none(),
+            "{length} zero bytes"
+        );
+    }
+}
