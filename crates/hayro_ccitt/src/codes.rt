@@ -1,6 +1,6 @@
 //! Colours, modes, and the code words and EOLs of the data.
 
-ghost use Rattle.std.specs.Prelude.{◌≡◌, ℕ, ◌+◌, ◌-◌, ◌*◌, ◌<◌, ◌≤◌, ◌==◌, ◌↔◌, ◌++◌, ◌∷◌, IsTrue, IfSome, IfNone, IfErr, MatchResult, Ok, Err, Some, None, true, false, length, replicate, nat_le, if◌then◌else◌, drop, [], slice_get, option_map, is_some, min};
+ghost use Rattle.std.specs.Prelude.{◌≡◌, ℕ, ◌+◌, ◌-◌, ◌*◌, ◌<◌, ◌≤◌, ◌==◌, ◌↔◌, ◌++◌, ◌∷◌, IsTrue, IfSome, IfNone, IfErr, MatchResult, Ok, Err, Some, None, true, false, length, replicate, nat_le, if◌then◌else◌, drop, [], slice_get, is_some, min};
 ghost use Rattle.std.specs.Borrow.{ftrue};
 ghost use Rattle.hayro_ccitt.specs.Answers.{IsFault};
 ghost use Rattle.hayro_ccitt.specs.Bits.{here};

@@ -7,8 +7,8 @@ mod bit_reads;
 mod calls_of_group3;
 mod group3;
 mod local_bodies;
-mod most_work;
 mod look_ups;
+mod most_work;
 
 use hayro_ccitt::DecodeError::{InvalidCode, OutOfMemory, Overflow, Refused, UnexpectedEof};
 use hayro_ccitt::bit_reader::BitReader;
