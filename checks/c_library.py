@@ -161,4 +161,30 @@ def calls_on_known_cases():
     print(f"  {cases} cases measured, {seen} calls that write, {refused} with too little room")
 
 
-CHECKS = [example_on_strips, calls_on_known_cases]
+def example_without_memory():
+    """Each allocation of the example refused in turn: it says so, and the picture is that of the rows before. A buffer of the C
+    library may be refused without harm."""
+    build()
+    seen = 0
+    whole = (0, b"P4\n8 2\n\x18\x18", b"")
+    ended = [(2, picture, b"strip_to_pbm: out of memory\n") for picture in (b"", b"P4\n8 0\n", b"P4\n8 1\n\x18")]
+    with tempfile.TemporaryDirectory() as folder:
+        example = compiled(f"{folder}/strip_to_pbm", "examples/strip_to_pbm.c", "c/heap.c", LIBRARY)
+        shim = f"{folder}/refuse.so"
+        subprocess.run(["gcc", "-shared", "-fPIC", "-o", shim, "checks/refuse.c", "-ldl"], check=True)
+        for number in range(1, 100):
+            refused = {**os.environ, "LD_PRELOAD": shim, "REFUSE": str(number)}
+            done = subprocess.run([example, "g4", "8", "2", "-"], input=b"\x31\xf8", capture_output=True, env=refused, check=False, timeout=60)
+            answer = (done.returncode, done.stdout, done.stderr.replace(b"refused\n", b"", 1))
+            if b"refused\n" not in done.stderr:
+                assert answer == whole, answer
+                break
+            assert answer == whole or answer in ended, answer
+            seen += answer in ended
+        else:
+            raise AssertionError("it never ran without a refusal")
+    assert seen > 1
+    print(f"  {seen} allocations refused in turn")
+
+
+CHECKS = [example_on_strips, calls_on_known_cases, example_without_memory]
