@@ -81,16 +81,6 @@ fn word_at(data: &[u8], byte: usize) -> u64
     }
 }
 
-/// The bit at a place of some bytes, None past their end.
-fn bit_at(data: &[u8], place: usize) -> Option<bool>
-    ensures { result ≡ slice_get (bits_of «data».now) place }
-{
-    match data.get(place / 8) {
-        None => None,
-        Some(byte) => Some((*byte >> (7 - place % 8)) & 1 == 1),
-    }
-}
-
 impl<'a> BitReader<'a> {
     /// A reader at the first bit.
     pub fn new(data: &'a [u8]) -> BitReader<'a>
@@ -213,28 +203,11 @@ impl<'a> BitReader<'a> {
         self.place
     }
 
-    /// The bit so many places on, None past the end.
-    pub(crate) fn bit_ahead(&self, ahead: usize) -> Option<bool>
-        requires { ahead < 64 }
-        ensures { result ≡ slice_get self.now.bits (self.now.place + ahead) }
-    {
-        bit_at(self.data, self.place + ahead)
-    }
-
     /// The number of bits from the place on.
     pub(crate) fn bits_left(&self) -> usize
         ensures { result ≡ length (here self.now) }
     {
         self.data.len() * 8 - self.place
-    }
-
-    /// Passes so many bits, where they are there.
-    pub(crate) fn pass(&mut self, width: u8)
-        requires { width ≤ length (here self.old) }
-        ensures rest { here self.new ≡ drop width (here self.old) }
-        ensures same_bits { self.new.bits ≡ self.old.bits }
-    {
-        *self = BitReader::starting_at(self.data, self.place + usize::from(width));
     }
 
     /// The same bits at the same place.

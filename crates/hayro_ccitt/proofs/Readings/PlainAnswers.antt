@@ -114,13 +114,13 @@ module _ {M : Type 0} (settings : DecodeSettings) (bytes : List ℕ) (step : M �
       )
 
 -- what a driver leaves is known of its settings and bits, whatever they are called
-pub driver_left : {M : Type 0} (given settings : DecodeSettings) (read bits : Bits) (step : M → List ℕ → M) (before after : SinkState M) (held : Held) (answer : Result Bits DecodeError)
-    → given ≡ settings → read ≡ bits
+pub driver_left : {M : Type 0} (given settings : DecodeSettings) (read whole : Bits) (step : M → List ℕ → M) (before after : SinkState M) (held : Held) (answer : Result Bits DecodeError)
+    → given ≡ settings → read ≡ whole
     → TakesRows (end_of given read).rows (end_of given read).outcome (end_of given read).has_eols step before after held answer
     → StopsShort (end_of given read).rows (lines_by given.encoding given read) before after held answer
-    → TakesRows (end_of settings bits).rows (end_of settings bits).outcome (end_of settings bits).has_eols step before after held answer
-    × StopsShort (end_of settings bits).rows (lines_by settings.encoding settings bits) before after held answer
-driver_left given settings read bits step before after held answer same same_bits takes short =
+    → TakesRows (end_of settings whole).rows (end_of settings whole).outcome (end_of settings whole).has_eols step before after held answer
+    × StopsShort (end_of settings whole).rows (lines_by settings.encoding settings whole) before after held answer
+driver_left given settings read whole step before after held answer same same_bits takes short =
     subst (λ (b : Bits). TakesRows (end_of settings b).rows (end_of settings b).outcome (end_of settings b).has_eols step before after held answer
     × StopsShort (end_of settings b).rows (lines_by settings.encoding settings b) before after held answer) same_bits
     (subst (λ (s : DecodeSettings). TakesRows (end_of s read).rows (end_of s read).outcome (end_of s read).has_eols step before after held answer
