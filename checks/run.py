@@ -7,6 +7,8 @@ import traceback
 os.chdir(os.path.join(os.path.dirname(os.path.abspath(__file__)), ".."))
 sys.dont_write_bytecode = True
 
+import c_library  # noqa: E402
+import cost  # noqa: E402
 import program  # noqa: E402
 import repository  # noqa: E402
 
@@ -29,7 +31,7 @@ def build():
 def main():
     passed = failed = 0
     build()
-    for check in repository.CHECKS + program.CHECKS:
+    for check in repository.CHECKS + program.CHECKS + c_library.CHECKS + cost.CHECKS:
         try:
             check()
             passed += 1

@@ -3,6 +3,8 @@ pub mod ChosenWords
 pub mod Elements
 pub mod ModesWritten
 pub mod PackedRows
+pub mod PaintedRows
+pub mod PaintedWords
 pub mod RoundTrip
 pub mod RowLists
 pub mod RunsWritten

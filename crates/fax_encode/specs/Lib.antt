@@ -2,5 +2,6 @@ pub mod Chosen
 pub mod Coding
 pub mod Laws
 pub mod Packed
+pub mod Painting
 pub mod Refusals
 pub mod Writing

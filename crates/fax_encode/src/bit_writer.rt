@@ -118,20 +118,4 @@ impl BitWriter {
     {
         self.bytes
     }
-
-    /// Keeps so many of the first bytes.
-    pub fn truncate(&mut self, length: usize)
-        ensures { self.new ≡ record { bytes = take length self.old.bytes; rest = [] } }
-    {
-        self.bytes.truncate(length);
-        self.pending = 0;
-        self.count = 0;
-    }
-
-    /// Asks for memory for so many more bytes. What was written stays.
-    pub fn reserve(&mut self, bytes: usize) -> Result<(), AllocError>
-        ensures { self.new ≡ self.old }
-    {
-        self.bytes.reserve(bytes)
-    }
 }

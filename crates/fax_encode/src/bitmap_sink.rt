@@ -5,7 +5,7 @@ ghost use Rattle.hayro_ccitt.specs.Bits.{bits_of};
 ghost use Rattle.hayro_ccitt.specs.Rows.{AreChanges, pixels};
 ghost use Rattle.fax_encode.specs.Chosen.{filled_up};
 
-use crate::bit_writer::BitWriter;
+use crate::painting::paint_row;
 use hayro_ccitt::{DecodeError, Decoder};
 use std::alloc::{AllocError, Global};
 use std::marker::Model;
@@ -15,7 +15,6 @@ use std::marker::Model;
 #[derive(Drop)]
 pub struct BitmapSink {
     bytes: Vec<u8>,
-    row: BitWriter,
     columns: u32,
     has_refused: bool,
 }
@@ -28,25 +27,6 @@ impl Model for BitmapSink {
     ghost view = { λ s. record { bytes = s.bytes.items; columns = s.columns; has_refused = s.has_refused } };
 }
 
-/// Paints a row, and nothing else, into a writer: runs of equal pixels, and zeros up to a whole byte. It asks for all
-/// of its memory first.
-fn paint(row: &mut BitWriter, columns: u32, changes: &[u32]) -> Result<(), AllocError>
-    requires { AreChanges columns changes.now }
-    ensures { OnOk result (bits_of row.new.bytes ≡ filled_up (pixels columns changes.now)) }
-{
-    row.truncate(0);
-    row.reserve((columns as usize).div_ceil(8))?;
-    let mut is_black = false;
-    let mut place = 0;
-    for change in changes {
-        row.put_same(is_black, (*change - place) as usize)?;
-        place = *change;
-        is_black = !is_black;
-    }
-    row.put_same(is_black, (columns - place) as usize)?;
-    row.fill_up()
-}
-
 impl BitmapSink {
     ghost use Rattle.std.specs.Prelude.{◌≡◌, [], false};
 
@@ -56,7 +36,6 @@ impl BitmapSink {
     {
         BitmapSink {
             bytes: Vec::new(alloc),
-            row: BitWriter::new(alloc),
             columns,
             has_refused: false,
         }
@@ -69,7 +48,7 @@ impl BitmapSink {
         self.bytes.as_slice()
     }
 
-    /// Adds a row. It asks for memory first; where there is none, the bytes stay.
+    /// Adds a row. It asks for its memory first; where there is none, the bytes stay.
     fn add_row(&mut self, changes: &[u32]) -> Result<(), AllocError>
         requires { AreChanges self.old.columns changes.now }
         ensures added { OnOk result (bits_of self.new.bytes
@@ -78,9 +57,11 @@ impl BitmapSink {
         ensures columns { self.new.columns ≡ self.old.columns }
         ensures has_refused { self.new.has_refused ≡ self.old.has_refused }
     {
-        self.bytes.reserve((self.columns as usize).div_ceil(8))?;
-        paint(&mut self.row, self.columns, changes)?;
-        self.bytes.extend_from_slice(self.row.bytes())
+        let start = self.bytes.len();
+        let end = start + (self.columns as usize).div_ceil(8);
+        self.bytes.resize(end, 0)?;
+        paint_row(&mut self.bytes[start..end], self.columns, changes);
+        Ok(())
     }
 }
 

@@ -7,6 +7,7 @@ mod error;
 mod group3;
 mod group4;
 pub mod laws;
+mod painting;
 mod round_trip;
 mod rows;
 mod runs;
@@ -16,6 +17,7 @@ pub use bitmap_sink::BitmapSink;
 pub use error::EncodeError;
 pub use group3::encode_1d;
 pub use group4::encode_g4;
+pub use painting::paint_row;
 pub use round_trip::bitmap_by_group4;
 
 #[cfg(test)]

@@ -1,7 +1,7 @@
 //! What no clause says: that memory is there, and that the bytes are those of the standards. They were worked out from
 //! T.4 and T.6, apart from the encoder.
 
-use crate::{BitmapSink, EncodeError, bitmap_by_group4, encode_1d, encode_g4};
+use crate::{BitmapSink, EncodeError, bitmap_by_group4, encode_1d, encode_g4, paint_row};
 use hayro_ccitt::{DecodeError, Decoder};
 use std::alloc::{AllocError, AllocGlobal, Global};
 use std::process::Abort;
@@ -177,6 +177,26 @@ fn bitmaps(rt: HostRuntime) -> Result<(), Fail> {
     let taken: Result<(), DecodeError> = sink.push_row(&[7]);
     assert_eq!(&rt; taken, Ok(()));
     assert_eq!(&rt; sink.bytes(), [0x01u8].as_slice());
+    Ok(())
+}
+
+#[test]
+fn paints_over_words(rt: HostRuntime) -> Result<(), Fail> {
+    let mut row = [0x55u8; 18];
+    paint_row(&mut row, 140, &[3, 64, 65, 128]);
+    let mut painted = [0xFFu8; 18];
+    painted[0] = 0x1F;
+    painted[8] = 0x7F;
+    painted[16] = 0x00;
+    painted[17] = 0x00;
+    assert_eq!(&rt; row, painted);
+    paint_row(&mut row, 140, &[139]);
+    let mut last = [0u8; 18];
+    last[17] = 0x10;
+    assert_eq!(&rt; row, last);
+    let mut eight = [0x55u8; 8];
+    paint_row(&mut eight, 64, &[0]);
+    assert_eq!(&rt; eight, [0xFFu8; 8]);
     Ok(())
 }
 

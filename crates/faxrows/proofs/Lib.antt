@@ -1,5 +1,3 @@
 pub mod Examples
-pub mod LineWidths
 pub mod PackedRuns
-pub mod RowWidths
 pub mod Texts

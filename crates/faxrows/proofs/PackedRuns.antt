@@ -14,7 +14,7 @@ use Rattle.fax_encode.specs.Chosen.{filled_up}
 use Rattle.fax_encode.specs.Packed.{packed, Bitmap}
 use Rattle.fax_encode.proofs.PackedRows.{packs}
 use Rattle.faxrows.specs.Runs.{Outcome}
-use Rattle.faxrows.proofs.RowWidths.{HaveWidth, plain_width}
+use Rattle.hayro_ccitt.proofs.Readings.RowWidths.{HaveWidth, plain_width}
 use Rattle.faxrows.proofs.Texts.{Takes}
 
 -- rows of the width are added as their pixels

@@ -2,6 +2,7 @@ pub mod CountedLines
 pub mod Drawings
 pub mod DrawnLines
 pub mod FullRows
+pub mod LineWidths
 pub mod LinesLeaveBits
 pub mod ReadLines
 pub mod UnreadRows

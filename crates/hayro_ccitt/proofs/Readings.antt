@@ -2,6 +2,7 @@ pub mod Gathered
 pub mod Limits
 pub mod PlainAnswers
 pub mod Repeated
+pub mod RowWidths
 pub mod RowsAndGaps
 pub mod RowsOfGroup3
 pub mod RowsOfGroup4

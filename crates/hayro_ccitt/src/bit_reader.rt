@@ -1,6 +1,6 @@
 //! The bits of a slice of bytes, read from the front.
 
-ghost use Rattle.std.specs.Prelude.{◌≡◌, ◌+◌, ◌-◌, ◌*◌, ◌/◌, ◌%◌, ◌^◌, ◌<◌, ◌≤◌, ◌==◌, ◌↔◌, ℕ, length, min, drop, false, slice_get, slice_index, get_or, Some, IfOk, OnOk, OnErr, IsErr, IsOkUnless};
+ghost use Rattle.std.specs.Prelude.{◌≡◌, ◌+◌, ◌-◌, ◌*◌, ◌/◌, ◌%◌, ◌^◌, ◌<◌, ◌≤◌, ◌==◌, ◌↔◌, ℕ, length, min, false, slice_get, slice_index, get_or, Some, IfOk, OnOk, OnErr, IsErr, IsOkUnless};
 ghost use Rattle.hayro_ccitt.specs.Bits.{BitsAt, BitsFit, bits_of, bit_of, here};
 ghost use Rattle.hayro_ccitt.specs.PlainReading.{at_end, aligned};
 

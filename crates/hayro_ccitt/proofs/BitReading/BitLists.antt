@@ -1,9 +1,7 @@
 -- Where the bits of bytes lie.
-use Rattle.std.proofs.Common.{◌≡◌, ℕ, zero, suc, ◌+◌, ◌-◌, ◌*◌, ◌/◌, ◌%◌, ◌^◌, ◌<◌, ◌≤◌, eqb, List, [], ◌∷◌, length, get_or, drop, Some, None, bit_and, refl, sym, ap, ◌∙◌, arith}
+use Rattle.std.proofs.Common.{◌≡◌, ℕ, zero, suc, ◌+◌, ◌-◌, ◌*◌, ◌<◌, List, [], ◌∷◌, length, get_or, drop, Some, refl, ap, arith}
 use Rattle.std.specs.Prelude.{slice_get}
-use Rattle.std.proofs.lemmas.Nat.Bits.{shr_and_one}
 use Rattle.hayro_ccitt.specs.Bits.{bit_of, bits_of, low_bits}
-use Rattle.std.proofs.lemmas.Option.{slice_get_past}
 
 pub length-bits_of : (bytes : List ℕ) → length (bits_of bytes) ≡ 8 * length bytes
 length-bits_of [] = refl
@@ -33,14 +31,3 @@ drop_some (y ∷ xs) (suc i) x h = let k : suc i + 1 ≡ suc (i + 1) = omega ari
 pub length-low_bits : (width n : ℕ) → length (low_bits width n) ≡ width
 length-low_bits zero n = refl
 length-low_bits (suc width) n = ap suc (length-low_bits width n)
-
--- what a shift and a mask read
-pub bit_there : (bytes : List ℕ) (place byte : ℕ) → place / 8 < length bytes → byte ≡ get_or bytes (place / 8) 0 → Some (eqb (bit_and (byte / 2 ^ (7 - place % 8)) 1) 1) ≡ slice_get (bits_of bytes) place
-bit_there bytes place byte h e =
-    let lt : place % 8 < 8 = omega arith in
-    let at : place ≡ 8 * (place / 8) + place % 8 = omega arith in
-    let found = slice_get-bits_of bytes (place / 8) (place % 8) h lt in
-    rw (shr_and_one byte (7 - place % 8), e) (sym (ap (λ (i : ℕ). slice_get (bits_of bytes) i) at ∙ found))
-
-pub bit_past : (bytes : List ℕ) (place : ℕ) → length bytes ≤ place / 8 → None ≡ slice_get (bits_of bytes) place
-bit_past bytes place h = sym (slice_get_past (bits_of bytes) place (omega (arith, length-bits_of bytes)))

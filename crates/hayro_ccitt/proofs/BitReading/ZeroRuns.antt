@@ -3,7 +3,6 @@ use Rattle.std.proofs.Common.{◌≡◌, ℕ, zero, suc, ◌+◌, ◌-◌, ◌<�
 use Rattle.std.proofs.Common.{Some, None, refl, sym, ap, ◌∙◌, subst, arith, inl, inr}
 use Rattle.std.specs.Prelude.{slice_get}
 use Rattle.std.proofs.lemmas.Bool.{eqb-true}
-use Rattle.std.proofs.lemmas.List.{length-append, length-replicate, length-drop}
 use Rattle.hayro_ccitt.specs.Bits.{Bits, BitsAt, here}
 use Rattle.hayro_ccitt.specs.CodeReading.{leading_zeros}
 use Rattle.hayro_ccitt.specs.EndOfLine.{after_eol, one_more, eols}
@@ -11,13 +10,6 @@ use Rattle.hayro_ccitt.specs.Ticks.{looked}
 use Rattle.hayro_ccitt.proofs.BitReading.BitLists.{drop_some}
 use Rattle.hayro_ccitt.proofs.CodeWords.ReadRuns.{chosen}
 use Rattle.hayro_ccitt.proofs.Readings.TurnsMoveOn.{after_eol_shorter, length-one_more, one_more-count}
-
--- a zero behind zeros is one more of them
-pub zeros_more : (n : ℕ) (bits : Bits) → replicate n false ++ (false ∷ bits) ≡ replicate (n + 1) false ++ bits
-zeros_more zero bits = refl
-zeros_more (suc n) bits =
-    let m : suc n + 1 ≡ suc (n + 1) = omega arith in
-    ap (λ (x : Bits). false ∷ x) (zeros_more n bits) ∙ sym (ap (λ (k : ℕ). replicate k false ++ bits) m)
 
 pub leading_zeros-one : (n : ℕ) (bits : Bits) → leading_zeros (replicate n false ++ (true ∷ bits)) ≡ n
 leading_zeros-one zero bits = refl
@@ -112,8 +104,3 @@ eols_look_on here rest count e = by (eqb count (length here)) refl
 pub here_next : (old new : BitsAt) (bit : Bool) → slice_get old.bits old.place ≡ Some bit → new ≡ record old { place = old.place + 1 }
     → here old ≡ bit ∷ here new
 here_next old new bit h e = rw e (drop_some old.bits old.place bit h)
-
--- zeros here are no more than the bits
-pub zeros_fit : (n : ℕ) (at : BitsAt) (rest : Bits) → here at ≡ replicate n false ++ rest → n + length rest ≤ length at.bits
-zeros_fit n at rest e =
-    omega (arith, ap length e, length-append (replicate n false) rest, length-replicate n false, length-drop at.place at.bits)

@@ -18,7 +18,7 @@ use Rattle.hayro_ccitt.proofs.DrawingLines.FullRows.{IsFull, line_2d_full, line_
 use Rattle.hayro_ccitt.proofs.Readings.Repeated.{repeated_keeps}
 use Rattle.hayro_ccitt.proofs.Readings.RowsAndGaps.{add_row, line_at_group4, after_whole-is, after_damage-is, move_group4-is}
 use Rattle.hayro_ccitt.proofs.Readings.TurnsAddRows.{Keeps, after_row_keeps}
-use Rattle.faxrows.proofs.LineWidths.{line_2d_within, line_by_within}
+use Rattle.hayro_ccitt.proofs.DrawingLines.LineWidths.{line_2d_within, line_by_within}
 
 -- all rows have a width
 abbrev pub HaveWidth : ℕ → List Row → Type 0

@@ -1,0 +1,82 @@
+/* One decoding of a strip, for callgrind to count its instructions:
+ *
+ *   driver DECODER ENCODING COLUMNS ROWS FLAGS FILE
+ *
+ * DECODER is `rows` or `packed` (this library), `tiff-packed` (with -DWITH_TIFF), `crate-rows` or `crate-packed` (with
+ * -DWITH_CRATE). It prints the status, the rows, the changes where they are told, and a sum over the picture. Callgrind is
+ * given --toggle-collect=measured. */
+#include "../c/hayro_ccitt.h"
+#include <stdio.h>
+#include <stdlib.h>
+#include <string.h>
+
+uint32_t crate_measure(const uint8_t *, size_t, const hayro_ccitt_settings *, hayro_ccitt_outcome *);
+uint32_t crate_decode_packed(const uint8_t *, size_t, const hayro_ccitt_settings *, uint8_t *, size_t, hayro_ccitt_outcome *);
+void *tiff_of_strip(const uint8_t *data, size_t length, const hayro_ccitt_settings *settings);
+uint32_t tiff_decode_packed(void *tiff, uint8_t *bitmap, size_t length);
+
+static const char *decoder;
+static uint8_t *data, *bitmap;
+static size_t length, room;
+static hayro_ccitt_settings settings;
+static hayro_ccitt_outcome outcome;
+#ifdef WITH_TIFF
+static void *tiff;
+#endif
+
+static int is(const char *name) { return !strcmp(decoder, name); }
+
+__attribute__((noinline)) static uint32_t measured(void)
+{
+    if (is("rows"))
+        return hayro_ccitt_measure(data, length, &settings, &outcome);
+    if (is("packed"))
+        return hayro_ccitt_decode_packed(data, length, &settings, bitmap, room, &outcome);
+#ifdef WITH_TIFF
+    if (is("tiff-packed"))
+        return tiff_decode_packed(tiff, bitmap, room);
+#endif
+#ifdef WITH_CRATE
+    if (is("crate-rows"))
+        return crate_measure(data, length, &settings, &outcome);
+    if (is("crate-packed"))
+        return crate_decode_packed(data, length, &settings, bitmap, room, &outcome);
+#endif
+    exit(4);
+}
+
+static uint8_t *contents(const char *name)
+{
+    FILE *file = fopen(name, "rb");
+    if (!file || fseek(file, 0, SEEK_END))
+        exit(3);
+    length = ftell(file);
+    rewind(file);
+    uint8_t *bytes = malloc(length + 1);
+    if (!bytes || fread(bytes, 1, length, file) != length)
+        exit(3);
+    fclose(file);
+    return bytes;
+}
+
+int main(int count, char **words)
+{
+    if (count != 7)
+        return 2;
+    decoder = words[1];
+    settings = (hayro_ccitt_settings){strtoul(words[3], NULL, 10), strtoul(words[4], NULL, 10), strtoul(words[2], NULL, 10),
+                                      strtoul(words[5], NULL, 10)};
+    data = contents(words[6]);
+    if (strstr(decoder, "packed"))
+        room = ((size_t)settings.columns + 7) / 8 * settings.rows;
+    bitmap = calloc(1, room + 1);
+#ifdef WITH_TIFF
+    tiff = tiff_of_strip(data, length, &settings);
+#endif
+    uint32_t status = measured();
+    uint64_t sum = 0;
+    for (size_t at = 0; at < room; at++)
+        sum = sum * 31 + bitmap[at];
+    printf("%u %lu %lu %016lx\n", status, (unsigned long)outcome.rows, (unsigned long)outcome.changes, (unsigned long)sum);
+    return 0;
+}

@@ -1,0 +1,164 @@
+"""Checks of the library for C: the example on real strips, and each call on cases with known answers."""
+import ctypes
+import os
+import subprocess
+import tempfile
+
+import program
+
+CRATE = "crates/hayro_ccitt_c"
+LIBRARY = f"{CRATE}/out/libhayro_ccitt_c.a"
+MODES = ["g4", "1d", "2d"]
+LETTERS = "blas"
+# how many bytes or numbers behind the lent ones have to stay
+GUARD = 16
+ANSWERS = {
+    "error: unexpected end of input": 1,
+    "error: invalid CCITT code sequence": 2,
+    "error: arithmetic overflow in position calculation": 3,
+}
+
+
+class Settings(ctypes.Structure):
+    _fields_ = [(name, ctypes.c_uint32) for name in ("columns", "rows", "encoding", "flags")]
+
+
+class Outcome(ctypes.Structure):
+    _fields_ = [(name, ctypes.c_uint64) for name in ("rows", "changes", "bytes_read")]
+
+    def told(self):
+        return self.rows, self.changes, self.bytes_read
+
+
+def settings_of(mode, columns, rows, flags):
+    return Settings(int(columns), int(rows), MODES.index(mode), sum(1 << LETTERS.index(letter) for letter in flags if letter != "-"))
+
+
+def build():
+    """The static library, proved and built."""
+    done = subprocess.run(["rt", "lib"], cwd=CRATE, capture_output=True, text=True, check=False)
+    assert done.returncode == 0 and os.path.exists(LIBRARY), done.stdout[-2000:] + done.stderr[-2000:]
+
+
+def compiled(out, *words):
+    command = ["gcc", "-O2", "-Wall", "-Wextra", "-Werror", "-std=c11", "-o", out, *words]
+    subprocess.run(command, check=True)
+    return out
+
+
+def example_on_strips():
+    """The C program gives each strip's picture, with each of its settings."""
+    build()
+    strips = runs = size = 0
+    with tempfile.TemporaryDirectory() as folder:
+        example = compiled(f"{folder}/strip_to_pbm", "examples/strip_to_pbm.c", "c/heap.c", LIBRARY)
+        with open("corpus/manifest.tsv", encoding="utf-8") as file:
+            lines = [line.rstrip("\n").split("\t") for line in file if not line.startswith("#")]
+        for name, strip, mode, columns, rows, settings, picture, first, *_ in lines:
+            width = (int(columns) + 7) // 8
+            with open(f"corpus/{strip}", "rb") as file:
+                data = file.read()
+            with open(f"corpus/{picture}", "rb") as file:
+                packed = file.read()[int(first) * width : (int(first) + int(rows)) * width]
+            expected = f"P4\n{columns} {rows}\n".encode() + packed
+            for setting in settings.split(","):
+                limit, flags = setting.split(":")
+                done = subprocess.run([example, mode, columns, limit, flags], input=data, capture_output=True, check=False, timeout=60)
+                assert (done.returncode, done.stdout, done.stderr) == (0, expected, b""), f"{name} {setting}: {done.stderr!r}"
+                runs += 1
+                size += len(packed)
+            strips += 1
+        fault = subprocess.run([example, "g4", "8", "0", "-"], input=b"\x80", capture_output=True, check=False, timeout=60)
+        assert (fault.returncode, fault.stdout) == (1, b"P4\n8 1\n\x00"), fault
+        other = subprocess.run([example, "3d", "8", "0", "-"], input=b"\x80", capture_output=True, check=False, timeout=60)
+        assert (other.returncode, other.stdout) == (2, b""), other
+    assert strips > 0
+    print(f"  {strips} strips, {runs} runs, {size} bytes of pictures compared")
+
+
+def loaded(folder):
+    """The library in this process."""
+    path = compiled(f"{folder}/library.so", "-shared", "-fPIC", "c/heap.c", "-Wl,--whole-archive", LIBRARY, "-Wl,--no-whole-archive")
+    return ctypes.CDLL(path)
+
+
+def called(call, data, settings, *memory):
+    """What a call answers and tells, on memory of these items, a guard behind it."""
+    outcome = Outcome(7, 7, 7)
+    source = (ctypes.c_uint8 * (len(data) + 1)).from_buffer_copy(data + b"\0")
+    lent = [word for items in memory for word in (items, ctypes.c_size_t(len(items) - GUARD))]
+    answer = call(source, ctypes.c_size_t(len(data)), ctypes.byref(settings), *lent, ctypes.byref(outcome))
+    return answer, outcome.told()
+
+
+def bytes_lent(count):
+    return (ctypes.c_uint8 * (count + GUARD))(*[0xA5] * (count + GUARD))
+
+
+def numbers_lent(count):
+    return (ctypes.c_uint32 * (count + GUARD))(*[0xA5A5A5A5] * (count + GUARD))
+
+
+def packed_row(columns, changes):
+    ends = [*changes, columns] if len(changes) % 2 else changes
+    width = (columns + 7) // 8
+    bits = 0
+    for start, end in zip(ends[::2], ends[1::2]):
+        bits |= (1 << (8 * width - start)) - (1 << (8 * width - end))
+    return bits.to_bytes(width, "big")
+
+
+def calls_on_known_cases():
+    """Each call on each case: the answer, what it tells, what it writes, and that it writes nothing else; then with one byte
+    or number less than the rows take."""
+    build()
+    cases = seen = refused = 0
+    with tempfile.TemporaryDirectory() as folder:
+        library = loaded(folder)
+        with open("corpus/cases.tsv", encoding="utf-8") as file:
+            lines = [line.rstrip("\n").split("\t") for line in file if not line.startswith("#")]
+        for words, text, expected in lines:
+            data, settings = program.bytes_of(text), settings_of(*words.split())
+            *rows, last = expected.split("/")
+            rows = [[int(number) for number in row.split()[1:]] for row in rows]
+            changes = sum(map(len, rows))
+            answer = ANSWERS.get(last, 0)
+            told = (len(rows), changes, 0 if answer else int(last.split()[1]))
+            assert called(library.hayro_ccitt_measure, data, settings) == (answer, told), words + text
+            cases += 1
+            lists = [number for row in rows for number in (len(row), *row)]
+            memory = numbers_lent(len(lists))
+            assert called(library.hayro_ccitt_decode_changes, data, settings, memory) == (answer, told), words + text
+            assert list(memory) == lists + [0xA5A5A5A5] * GUARD, words + text
+            seen += 1
+            width = (settings.columns + 7) // 8
+            if width * len(rows) < 1 << 20:
+                picture = b"".join(packed_row(settings.columns, row) for row in rows)
+                memory = bytes_lent(len(picture))
+                assert called(library.hayro_ccitt_decode_packed, data, settings, memory) == (answer, told), words + text
+                assert bytes(memory) == picture + b"\xa5" * GUARD, words + text
+                seen += 1
+                if picture:
+                    memory = bytes_lent(len(picture) - 1)
+                    less = (len(rows) - 1, changes - len(rows[-1]), 0)
+                    assert called(library.hayro_ccitt_decode_packed, data, settings, memory) == (5, less), words + text
+                    assert bytes(memory) == picture[: width * less[0]] + b"\xa5" * (width - 1 + GUARD), words + text
+                    refused += 1
+            if lists:
+                memory = numbers_lent(len(lists) - 1)
+                less = (len(rows) - 1, changes - len(rows[-1]), 0)
+                kept = len(lists) - 1 - len(rows[-1])
+                assert called(library.hayro_ccitt_decode_changes, data, settings, memory) == (5, less), words + text
+                assert list(memory) == lists[:kept] + [0xA5A5A5A5] * (len(rows[-1]) + GUARD), words + text
+                refused += 1
+        for settings in [Settings(8, 0, 3, 0), Settings(8, 0, 0, 16), Settings(8, 0, 2, 1 << 31)]:
+            memory = bytes_lent(8)
+            assert called(library.hayro_ccitt_measure, b"\x80", settings) == (6, (0, 0, 0))
+            assert called(library.hayro_ccitt_decode_packed, b"\x80", settings, memory) == (6, (0, 0, 0))
+            assert called(library.hayro_ccitt_decode_changes, b"\x80", settings, numbers_lent(8)) == (6, (0, 0, 0))
+            assert set(memory) == {0xA5}
+    assert cases > 0 and seen > cases
+    print(f"  {cases} cases measured, {seen} calls that write, {refused} with too little room")
+
+
+CHECKS = [example_on_strips, calls_on_known_cases]

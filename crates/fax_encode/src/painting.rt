@@ -1,0 +1,113 @@
+//! Painting rows: a row's changes become packed pixels, 64 at a time.
+
+ghost use Rattle.std.specs.Prelude.{◌≡◌, ◌+◌, ◌-◌, ◌*◌, ◌/◌, ◌%◌, ◌<◌, ◌≤◌, ◌++◌, not, length, replicate, take};
+ghost use Rattle.hayro_ccitt.specs.Bits.{Bits, bits_of, bits_of_byte, low_bits};
+ghost use Rattle.hayro_ccitt.specs.Rows.{AreChanges, pixels};
+ghost use Rattle.fax_encode.specs.Chosen.{filled_up};
+ghost use Rattle.fax_encode.specs.Painting.{under, StandsAt};
+
+/// Where painting has come to.
+#[derive(Copy, Clone)]
+struct Brush {
+    /// The byte of the row at which the word begins, a multiple of eight. Those before it are painted.
+    start: usize,
+    /// 64 pixels from there on, the leftmost in the highest bit. All behind the last change have its colour.
+    word: u64,
+    /// Whether that colour is black.
+    is_black: bool,
+}
+
+/// A word of pixels of one colour.
+#[inline(always)]
+fn plain_word(is_black: bool) -> u64
+    ensures { low_bits 64 result ≡ replicate 64 is_black }
+{
+    if is_black { u64::MAX } else { 0 }
+}
+
+/// A byte of pixels of one colour.
+#[inline(always)]
+fn plain_byte(is_black: bool) -> u8
+    ensures { bits_of_byte result ≡ replicate 8 is_black }
+{
+    if is_black { 255 } else { 0 }
+}
+
+/// Moves to the word of a place, and writes the words before it.
+#[inline(always)]
+fn move_to(row: &mut [u8], brush: Brush, place: u32) -> Brush
+    requires begun { brush.start % 8 ≡ 0 }
+    requires right { 8 * brush.start ≤ place }
+    requires within { place ≤ 8 * length row.old }
+    ensures stands { StandsAt result place }
+    ensures right { brush.start ≤ result.start }
+    ensures color { result.is_black ≡ brush.is_black }
+    ensures painted { under result row.new
+        ≡ under brush row.old ++ replicate (8 * (result.start - brush.start)) brush.is_black }
+    ensures length { length row.new ≡ length row.old }
+{
+    let start = place as usize / 64 * 8;
+    if start == brush.start {
+        return brush;
+    }
+    let behind = brush.start + 8;
+    row[brush.start..behind].copy_from_slice(&brush.word.to_be_bytes());
+    if behind < start {
+        row[behind..start].fill(plain_byte(brush.is_black));
+    }
+    Brush {
+        start,
+        word: plain_word(brush.is_black),
+        is_black: brush.is_black,
+    }
+}
+
+/// Turns the colour from a place of the word on.
+#[inline(always)]
+fn turned(brush: Brush, place: u32) -> Brush
+    requires stands { StandsAt brush place }
+    ensures start { result.start ≡ brush.start }
+    ensures color { result.is_black ≡ not brush.is_black }
+    ensures word { (front : Bits) → length front ≡ place - 8 * brush.start
+        → low_bits 64 brush.word ≡ front ++ replicate (64 - length front) brush.is_black
+        → low_bits 64 result.word ≡ front ++ replicate (64 - length front) (not brush.is_black) }
+{
+    Brush {
+        start: brush.start,
+        word: brush.word ^ u64::MAX >> (place % 64),
+        is_black: !brush.is_black,
+    }
+}
+
+/// Writes what of the word the row has room for.
+fn finish(row: &mut [u8], brush: Brush)
+    requires begun { brush.start ≤ length row.old }
+    requires last { length row.old ≤ brush.start + 8 }
+    ensures { bits_of row.new ≡ take (8 * length row.old) (under brush row.old) }
+{
+    let length = row.len() - brush.start;
+    row[brush.start..].copy_from_slice(&brush.word.to_be_bytes()[..length]);
+}
+
+/// Paints a row: one bit a pixel, 1 for black, the leftmost pixel in each byte's highest bit, and zeros up to the end of
+/// the last byte. It takes time in proportion to the bytes and the changes.
+pub fn paint_row(row: &mut [u8], columns: u32, changes: &[u32])
+    requires changes { AreChanges columns changes.now }
+    requires room { length row.old ≡ (columns + 7) / 8 }
+    ensures painted { bits_of row.new ≡ filled_up (pixels columns changes.now) }
+{
+    let mut brush = Brush {
+        start: 0,
+        word: 0,
+        is_black: false,
+    };
+    for change in changes {
+        let at = move_to(row, brush, *change);
+        brush = turned(at, *change);
+    }
+    let mut at = move_to(row, brush, columns);
+    if at.is_black {
+        at = turned(at, columns);
+    }
+    finish(row, at);
+}

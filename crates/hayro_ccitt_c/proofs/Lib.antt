@@ -1,0 +1,3 @@
+pub mod ListedMemory
+pub mod PackedMemory
+pub mod Reporting

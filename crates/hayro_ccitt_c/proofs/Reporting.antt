@@ -1,0 +1,62 @@
+-- What C is told, from what decoding answers.
+use Rattle.std.proofs.Common.{◌≡◌, ◌≤◌, ◌+◌, min, ℕ, List, [], ◌∷◌, length, map, refl, ap, subst, ◌∙◌, Ok, Err, Option, Some, None, IfSome, inl, inr, arith}
+use Rattle.hayro_ccitt.specs.declared.error.DecodeError.TheVariants.{UnexpectedEof, InvalidCode, Overflow, OutOfMemory, Refused}
+use Rattle.hayro_ccitt.specs.declared.error.DecodeError.{DecodeError}
+use Rattle.hayro_ccitt.specs.declared.settings.DecodeSettings.{DecodeSettings}
+use Rattle.std.specs.Prelude.{Result}
+use Rattle.std.specs.List.{fold}
+use Rattle.hayro_ccitt.specs.Answers.{meaning_after}
+use Rattle.hayro_ccitt.specs.Rows.{Row, changes}
+use Rattle.hayro_ccitt.specs.Context.{Held}
+use Rattle.hayro_ccitt.specs.Decoding.{SinkState, TakesRows, StopsShort}
+use Rattle.hayro_ccitt.specs.PlainReading.{plain, lines_of}
+use Rattle.hayro_ccitt_c.specs.Packing.{counted}
+use Rattle.hayro_ccitt_c.specs.Reports.{EndsAfter, IsReport}
+
+-- decoding ends as it may after the rows that were taken
+pub ends_after : {M : Type 0} (step : M → List ℕ → M) (settings : DecodeSettings) (input : List ℕ) (before after : SinkState M) (held : Held) (answer : Result ℕ DecodeError)
+    → TakesRows (plain settings input).rows (plain settings input).outcome (plain settings input).has_eols step before after held answer
+    → StopsShort (plain settings input).rows (lines_of settings input) before after held answer → EndsAfter settings input held.taken answer
+ends_after step settings input before after held (Ok n) takes short = (takes.all, takes.ok)
+ends_after step settings input before after held (Err UnexpectedEof) takes short = (takes.all tt, takes.fault tt)
+ends_after step settings input before after held (Err InvalidCode) takes short = (takes.all tt, takes.fault tt)
+ends_after step settings input before after held (Err Overflow) takes short = (takes.all tt, takes.fault tt)
+ends_after step settings input before after held (Err OutOfMemory) takes short = (takes.taken, inr (short.memory refl))
+ends_after step settings input before after held (Err Refused) takes short = short.refused refl
+
+-- where there is no memory to begin, nothing is taken
+pub no_memory : (settings : DecodeSettings) (input : List ℕ) → IsReport settings input 4 0 0
+no_memory settings input = record { answer = Err OutOfMemory; ends = (omega arith, inl refl); status_is = refl; bytes_are = refl }
+
+-- a fact of the settings that C means
+pub on_meant : (meant : Option DecodeSettings) (settings : DecodeSettings) (P : DecodeSettings → Type 0) → meant ≡ Some settings → P settings → IfSome meant P
+on_meant None settings P e p = cc
+on_meant (Some s) settings P e p = let same : settings ≡ s = cc in subst P same p
+
+-- so many rows are there
+pub taken_within : (settings : DecodeSettings) (input : List ℕ) (taken : ℕ) (answer : Result ℕ DecodeError) → EndsAfter settings input taken answer
+    → taken ≤ length (plain settings input).rows
+taken_within settings input taken (Ok n) ends = omega (arith, ends.0)
+taken_within settings input taken (Err UnexpectedEof) ends = omega (arith, ends.0)
+taken_within settings input taken (Err InvalidCode) ends = omega (arith, ends.0)
+taken_within settings input taken (Err Overflow) ends = omega (arith, ends.0)
+taken_within settings input taken (Err OutOfMemory) ends = ends.0
+taken_within settings input taken (Err Refused) ends = omega (arith, ends)
+
+-- ---- counting changes
+-- what passes the limit stays there
+pub at_once : (count more : ℕ) → counted (min count 18446744073709551615) more ≡ min (count + more) 18446744073709551615
+at_once count more = omega arith
+
+-- the step of the sink that counts them
+abbrev pub counts : ℕ → List ℕ → ℕ
+counts count row = counted count (length row)
+
+-- the sum of numbers behind a first one
+abbrev pub sum_from : ℕ → List Row → ℕ
+sum_from count rows = fold (λ n m. n + m) count (map (λ row. length (changes row)) rows)
+
+pub changes_counted : (count : ℕ) (rows : List Row) → meaning_after counts (min count 18446744073709551615) rows ≡ min (sum_from count rows) 18446744073709551615
+changes_counted count [] = refl
+changes_counted count (row ∷ rows) =
+    ap (λ n. meaning_after counts n rows) (at_once count (length (changes row))) ∙ changes_counted (count + length (changes row)) rows

@@ -1,0 +1,4 @@
+pub mod Listing
+pub mod Packing
+pub mod Reports
+pub mod Settings

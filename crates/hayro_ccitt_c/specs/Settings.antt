@@ -1,0 +1,34 @@
+-- The settings that C means.
+use Rattle.std.specs.Prelude.{ℕ, ◌/◌, ◌%◌, ◌==◌, nat_lt, Bool, Option, Some, None, option_map, if◌then◌else◌}
+use Rattle.hayro_ccitt.specs.declared.settings.EncodingMode.{EncodingMode}
+use Rattle.hayro_ccitt.specs.declared.settings.EncodingMode.TheVariants.{Group4, Group3_1D, Group3_2D}
+use Rattle.hayro_ccitt.specs.declared.settings.DecodeSettings.{DecodeSettings}
+use Rattle.hayro_ccitt_c.specs.declared.settings.Settings.{Settings}
+
+-- the encoding that a number stands for
+abbrev pub encoding_of : ℕ → Option EncodingMode
+encoding_of n =
+    if n == 0 then Some Group4
+    else if n == 1 then Some Group3_1D
+    else if n == 2 then Some Group3_2D
+    else None
+
+-- whether a sum of flags has this one: 1, 2, 4 or 8
+abbrev pub has_flag : ℕ → ℕ → Bool
+has_flag flags flag = flags / flag % 2 == 1
+
+-- the settings with this encoding
+abbrev pub settings_with : Settings → EncodingMode → DecodeSettings
+settings_with s encoding = record {
+  columns = s.columns;
+  rows = s.rows;
+  end_of_block = has_flag s.flags 1;
+  end_of_line = has_flag s.flags 2;
+  rows_are_byte_aligned = has_flag s.flags 4;
+  encoding = encoding;
+  strict = has_flag s.flags 8;
+}
+
+-- the settings that C means, or none: an encoding or a flag that isn't known
+abbrev pub settings_of : Settings → Option DecodeSettings
+settings_of s = if nat_lt s.flags 16 then option_map (settings_with s) (encoding_of s.encoding) else None

@@ -1,0 +1,57 @@
+//! Counting changes, and a sink that does nothing else.
+
+ghost use Rattle.std.specs.Prelude.{◌≡◌, length};
+ghost use Rattle.hayro_ccitt_c.specs.Packing.{counted};
+
+use hayro_ccitt::Decoder;
+
+/// A row's changes counted with those before, as far as 64 bits hold their number.
+pub(crate) fn counted(count: u64, changes: &[u32]) -> u64
+    ensures { result ≡ counted count (length changes.now) }
+{
+    count.saturating_add(changes.len() as u64)
+}
+
+/// The number of the changes of the rows that were taken.
+#[derive(Drop)]
+pub(crate) struct ChangeCount {
+    changes: u64,
+}
+
+impl ChangeCount {
+    ghost use Rattle.std.specs.Prelude.{◌≡◌};
+
+    /// No row was taken yet.
+    pub(crate) fn new() -> ChangeCount
+        ensures { result ≡ record { changes = 0 } }
+    {
+        ChangeCount { changes: 0 }
+    }
+
+    /// The number of changes.
+    pub(crate) fn changes(&self) -> u64
+        ensures { result ≡ self.now.changes }
+    {
+        self.changes
+    }
+}
+
+impl Decoder for ChangeCount {
+    ghost use Rattle.std.specs.Prelude.{ℕ, length, false};
+    ghost use Rattle.hayro_ccitt_c.specs.Packing.{counted};
+
+    ghost Meaning = { ℕ };
+
+    ghost meaning = { λ sink. sink.changes };
+
+    ghost step = { λ _ count row. counted count (length row) };
+
+    ghost width = { λ _. 4294967295 };
+
+    ghost has_refused = { λ _. false };
+
+    fn push_row(&mut self, changes: &[u32]) -> hayro_ccitt::Result<()> {
+        self.changes = counted(self.changes, changes);
+        Ok(())
+    }
+}

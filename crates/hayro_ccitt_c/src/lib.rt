@@ -1,0 +1,145 @@
+//! The decoder for callers in C, and in other languages that call C. `c/hayro_ccitt.h` declares what is exported here.
+//!
+//! Each call decodes strips of bytes from strangers: it never reads or writes outside the memory that it is handed, and
+//! all memory that it asks for is let go when it returns.
+#![tactic(auto)]
+
+ghost use Rattle.std.specs.Prelude.{◌≡◌, ◌≢◌, ◌<◌, ◌≤◌, ◌+◌, ◌*◌, ◌⊎◌, None, length};
+ghost use Rattle.hayro_ccitt.specs.Bits.{BitsFit};
+ghost use Rattle.hayro_ccitt_c.specs.Packing.{bytes_of_row};
+ghost use Rattle.hayro_ccitt_c.specs.Reports.{OnSettings, IsReport, changes_taken, ArePacked, AreListed, numbers_taken};
+ghost use Rattle.hayro_ccitt_c.specs.Settings.{settings_of};
+
+mod change_count;
+mod listed_rows;
+mod packed_rows;
+mod report;
+mod settings;
+
+use change_count::ChangeCount;
+use hayro_ccitt::bits_fit;
+use listed_rows::ListedRows;
+use packed_rows::PackedRows;
+pub use report::Outcome;
+use report::{decoded, untaken};
+pub use settings::Settings;
+use settings::settings_of;
+use std::alloc::Global;
+
+/// Counts the rows of the data and their changes, and writes nothing down.
+///
+/// `outcome` holds the number of rows, of their changes, and of the bytes read if the status is 0, else 0. A status of 6 says
+/// that the data is too long or the settings are none; no row is refused.
+#[unsafe(no_mangle)]
+pub extern "C" fn hayro_ccitt_measure(
+    alloc: Global,
+    data: &[u8],
+    settings: &Settings,
+    outcome: &mut Outcome,
+) -> u32
+    ensures report { OnSettings (settings_of settings.now) «data».now (λ s.
+        IsReport s «data».now result outcome.new.rows outcome.new.bytes_read) }
+    ensures changes { OnSettings (settings_of settings.now) «data».now (λ s.
+        outcome.new.changes ≡ changes_taken s «data».now outcome.new.rows) }
+    ensures never_refused { result ≢ 5 }
+    ensures untaken { (settings_of settings.now ≡ None) ⊎ (¬ (BitsFit «data».now))
+        → (result ≡ 6) × (outcome.new ≡ record { rows = 0; changes = 0; bytes_read = 0 }) }
+{
+    if !bits_fit(data) {
+        return untaken(outcome);
+    }
+    let Some(meant) = settings_of(settings) else {
+        return untaken(outcome);
+    };
+    let mut count = ChangeCount::new();
+    let report = decoded(alloc, data, meant, &mut count);
+    *outcome = Outcome {
+        rows: report.rows,
+        changes: count.changes(),
+        bytes_read: report.bytes_read,
+    };
+    report.status
+}
+
+/// Packs the rows of the data into `bitmap`, one below the other: a row takes (columns + 7) / 8 bytes, the leftmost pixel in
+/// a byte's highest bit, 1 for black, and zeros behind the row up to a whole byte. What lies behind the last row stays.
+///
+/// `outcome` holds the number of rows, of their changes, and of the bytes read if the status is 0, else 0. A status of 5 says
+/// that there is no room for the next row; 6, that the data is too long or the settings are none.
+#[unsafe(no_mangle)]
+pub extern "C" fn hayro_ccitt_decode_packed(
+    alloc: Global,
+    data: &[u8],
+    settings: &Settings,
+    bitmap: &mut [u8],
+    outcome: &mut Outcome,
+) -> u32
+    ensures report { OnSettings (settings_of settings.now) «data».now (λ s.
+        IsReport s «data».now result outcome.new.rows outcome.new.bytes_read) }
+    ensures changes { OnSettings (settings_of settings.now) «data».now (λ s.
+        outcome.new.changes ≡ changes_taken s «data».now outcome.new.rows) }
+    ensures packed { OnSettings (settings_of settings.now) «data».now (λ s.
+        ArePacked s «data».now outcome.new.rows bitmap.old bitmap.new) }
+    ensures refused { result ≡ 5 → OnSettings (settings_of settings.now) «data».now (λ s.
+        length bitmap.new < (outcome.new.rows + 1) * bytes_of_row s.columns) }
+    ensures untaken { (settings_of settings.now ≡ None) ⊎ (¬ (BitsFit «data».now))
+        → (result ≡ 6) × (outcome.new ≡ record { rows = 0; changes = 0; bytes_read = 0 })
+        × (bitmap.new ≡ bitmap.old) }
+{
+    if !bits_fit(data) {
+        return untaken(outcome);
+    }
+    let Some(meant) = settings_of(settings) else {
+        return untaken(outcome);
+    };
+    let mut rows = PackedRows::new(bitmap, meant.columns);
+    let report = decoded(alloc, data, meant, &mut rows);
+    *outcome = Outcome {
+        rows: report.rows,
+        changes: rows.changes(),
+        bytes_read: report.bytes_read,
+    };
+    report.status
+}
+
+/// Lists the changes of the rows of the data in `lists`, one row behind the other: of each row the number of its changes, and
+/// then the places at which its colour changes, white first, ascending. What lies behind the last row stays.
+///
+/// `outcome` holds the number of rows, of their changes, and of the bytes read if the status is 0, else 0. A status of 5 says
+/// that there is no room for the next row, and comes only where fewer than columns + 1 numbers are left; 6, that the data is
+/// too long or the settings are none.
+#[unsafe(no_mangle)]
+pub extern "C" fn hayro_ccitt_decode_changes(
+    alloc: Global,
+    data: &[u8],
+    settings: &Settings,
+    lists: &mut [u32],
+    outcome: &mut Outcome,
+) -> u32
+    ensures report { OnSettings (settings_of settings.now) «data».now (λ s.
+        IsReport s «data».now result outcome.new.rows outcome.new.bytes_read) }
+    ensures changes { OnSettings (settings_of settings.now) «data».now (λ s.
+        outcome.new.changes ≡ changes_taken s «data».now outcome.new.rows) }
+    ensures listed { OnSettings (settings_of settings.now) «data».now (λ s.
+        AreListed s «data».now outcome.new.rows lists.old lists.new) }
+    ensures refused { result ≡ 5 → OnSettings (settings_of settings.now) «data».now (λ s.
+        length lists.new ≤ numbers_taken s «data».now outcome.new.rows + s.columns) }
+    ensures untaken { (settings_of settings.now ≡ None) ⊎ (¬ (BitsFit «data».now))
+        → (result ≡ 6) × (outcome.new ≡ record { rows = 0; changes = 0; bytes_read = 0 })
+        × (lists.new ≡ lists.old) }
+{
+    if !bits_fit(data) {
+        return untaken(outcome);
+    }
+    let Some(meant) = settings_of(settings) else {
+        return untaken(outcome);
+    };
+    let mut rows = ListedRows::new(lists, meant.columns);
+    let report = decoded(alloc, data, meant, &mut rows);
+    *outcome = Outcome {
+        rows: report.rows,
+        changes: rows.changes(),
+        bytes_read: report.bytes_read,
+    };
+    report.status
+}

@@ -1,0 +1,84 @@
+//! A sink that lists changes in the caller's memory.
+
+ghost use Rattle.std.specs.Prelude.{◌≡◌, ◌+◌, ◌<◌, ◌≤◌, true, length};
+
+use crate::change_count::counted;
+use hayro_ccitt::{DecodeError, Decoder};
+
+/// Rows in lent memory, one behind the other: of each row the number of its changes, and then the changes. A row that
+/// doesn't fit is refused.
+#[derive(Drop)]
+pub(crate) struct ListedRows<'a> {
+    lists: &'a mut [u32],
+    /// How many numbers the rows take so far.
+    end: usize,
+    columns: u32,
+    changes: u64,
+    has_refused: bool,
+    ghost within: { end ≤ length lists.now },
+    ghost full: { has_refused ≡ true → length lists.now ≤ end + columns },
+}
+
+impl<'a> ListedRows<'a> {
+    ghost use Rattle.std.specs.Prelude.{◌≡◌, false};
+
+    /// No row was taken yet.
+    pub(crate) fn new(lists: &'a mut [u32], columns: u32) -> ListedRows<'a>
+        ensures same_reference { result.lists.ghost_name ≡ lists.entry.ghost_name }
+        ensures numbers { result.lists.now ≡ lists.old }
+        ensures end { result.end ≡ 0 }
+        ensures columns { result.columns ≡ columns }
+        ensures changes { result.changes ≡ 0 }
+        ensures has_refused { result.has_refused ≡ false }
+    {
+        ListedRows {
+            lists,
+            end: 0,
+            columns,
+            changes: 0,
+            has_refused: false,
+        }
+    }
+
+    /// The number of the changes of the rows that were taken.
+    pub(crate) fn changes(&self) -> u64
+        ensures { result ≡ self.now.changes }
+    {
+        self.changes
+    }
+}
+
+impl Decoder for ListedRows<'_> {
+    ghost use Rattle.std.specs.Prelude.{take, drop};
+    ghost use Rattle.hayro_ccitt_c.specs.Listing.{Listing, with_listed};
+
+    ghost Meaning = { Listing };
+
+    ghost meaning = { λ sink. record {
+      end = sink.end;
+      numbers = take sink.end sink.lists.now;
+      rest = drop sink.end sink.lists.now;
+      changes = sink.changes;
+      name = sink.lists.ghost_name;
+    } };
+
+    ghost step = { λ _ before row. with_listed before row };
+
+    ghost width = { λ sink. sink.columns };
+
+    ghost has_refused = { λ sink. sink.has_refused };
+
+    fn push_row(&mut self, changes: &[u32]) -> hayro_ccitt::Result<()> {
+        if self.lists.len() - self.end <= changes.len() {
+            self.has_refused = true;
+            return Err(DecodeError::Refused);
+        }
+        let begin = self.end + 1;
+        let end = begin + changes.len();
+        self.lists[self.end] = changes.len() as u32;
+        self.lists[begin..end].copy_from_slice(changes);
+        self.end = end;
+        self.changes = counted(self.changes, changes);
+        Ok(())
+    }
+}

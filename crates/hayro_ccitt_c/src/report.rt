@@ -1,0 +1,100 @@
+//! What C is told of a decoding.
+
+ghost use Rattle.std.specs.Prelude.{◌≡◌, ◌≢◌, ◌≤◌, ◌<◌, ℕ, List, take, true};
+ghost use Rattle.hayro_ccitt.specs.Answers.{meaning_after};
+ghost use Rattle.hayro_ccitt.specs.Bits.{BitsFit};
+ghost use Rattle.hayro_ccitt.specs.PlainReading.{plain};
+ghost use Rattle.hayro_ccitt_c.specs.Reports.{IsReport, status_of, bytes_read_of};
+
+use hayro_ccitt::{DecodeError, DecodeSettings, Decoder, DecoderContext, Result, decode};
+use std::alloc::Global;
+
+/// What a call fills in for C.
+#[repr(C)]
+#[derive(Copy, Clone)]
+pub struct Outcome {
+    /// The number of rows that were taken.
+    pub rows: u64,
+    /// The number of their changes.
+    pub changes: u64,
+    /// The number of bytes read where the status is 0, else 0.
+    pub bytes_read: u64,
+}
+
+/// How a decoding ended.
+#[derive(Copy, Clone)]
+pub(crate) struct Report {
+    /// What the call answers.
+    pub status: u32,
+    /// The number of rows that the sink took.
+    pub rows: u64,
+    /// The number of bytes read where the status is 0, else 0.
+    pub bytes_read: u64,
+}
+
+/// The status of data or settings that aren't taken. The outcome is all zeros.
+pub(crate) fn untaken(outcome: &mut Outcome) -> u32
+    ensures status { result ≡ 6 }
+    ensures outcome { outcome.new ≡ record { rows = 0; changes = 0; bytes_read = 0 } }
+{
+    *outcome = Outcome {
+        rows: 0,
+        changes: 0,
+        bytes_read: 0,
+    };
+    6
+}
+
+/// The status of an answer.
+fn status_of(answer: &Result<usize>) -> u32
+    ensures { result ≡ status_of answer.now }
+{
+    match answer {
+        Ok(_) => 0,
+        Err(DecodeError::UnexpectedEof) => 1,
+        Err(DecodeError::InvalidCode) => 2,
+        Err(DecodeError::Overflow) => 3,
+        Err(DecodeError::OutOfMemory) => 4,
+        Err(DecodeError::Refused) => 5,
+    }
+}
+
+/// The number of bytes that an answer says were read.
+fn bytes_read_of(answer: &Result<usize>) -> u64
+    ensures { result ≡ bytes_read_of answer.now }
+{
+    match answer {
+        Ok(count) => *count as u64,
+        Err(_) => 0,
+    }
+}
+
+/// Decodes into a sink.
+pub(crate) fn decoded<D: Decoder>(
+    alloc: Global,
+    data: &[u8],
+    settings: DecodeSettings,
+    sink: &mut D,
+) -> Report
+    requires fit { BitsFit «data».now }
+    requires width { settings.columns ≤ D.width sink.old }
+    ensures report { IsReport settings «data».now result.status result.rows result.bytes_read }
+    ensures meaning { D.meaning sink.new ≡ meaning_after (D.step (D.width sink.old)) (D.meaning sink.old)
+        (take result.rows (plain settings «data».now).rows) }
+    ensures width { D.width sink.new ≡ D.width sink.old }
+    ensures flag { result.status ≡ 5 → D.has_refused sink.new ≡ true }
+{
+    let Ok(mut ctx) = DecoderContext::new(alloc, settings) else {
+        return Report {
+            status: 4,
+            rows: 0,
+            bytes_read: 0,
+        };
+    };
+    let answer = decode(data, sink, &mut ctx);
+    Report {
+        status: status_of(&answer),
+        rows: ctx.decoded_rows(),
+        bytes_read: bytes_read_of(&answer),
+    }
+}

@@ -1,0 +1,53 @@
+//! What C writes of the settings, and which settings that are.
+
+ghost use Rattle.std.specs.Prelude.{◌≡◌, ◌≤◌, IfSome};
+ghost use Rattle.hayro_ccitt.specs.Settings.{AreSettings};
+ghost use Rattle.hayro_ccitt_c.specs.Settings.{settings_of, encoding_of};
+
+use hayro_ccitt::{DecodeSettings, EncodingMode};
+
+/// What decoding goes by, as C writes it.
+#[repr(C)]
+#[derive(Copy, Clone)]
+pub struct Settings {
+    /// The width of the image in pixels.
+    pub columns: u32,
+    /// The largest number of rows that are decoded; 0 is no limit.
+    pub rows: u32,
+    /// 0 for Group 4, 1 for Group 3 in one dimension, 2 for Group 3 in two.
+    pub encoding: u32,
+    /// A sum: 1 where EOFB or RTC may end the data, 2 where EOLs stand between the lines, 4 where rows are aligned to
+    /// whole bytes, 8 for a strict reading.
+    pub flags: u32,
+}
+
+/// The encoding that a number stands for.
+fn encoding_of(number: u32) -> Option<EncodingMode>
+    ensures { result ≡ encoding_of number }
+{
+    match number {
+        0 => Some(EncodingMode::Group4),
+        1 => Some(EncodingMode::Group3_1D),
+        2 => Some(EncodingMode::Group3_2D),
+        _ => None,
+    }
+}
+
+/// The settings that C means, or nothing where it means none: an encoding or a flag that isn't known.
+pub(crate) fn settings_of(settings: &Settings) -> Option<DecodeSettings>
+    ensures meant { result ≡ settings_of settings.now }
+{
+    if settings.flags >= 16 {
+        return None;
+    }
+    let encoding = encoding_of(settings.encoding)?;
+    Some(DecodeSettings {
+        columns: settings.columns,
+        rows: settings.rows,
+        end_of_block: settings.flags % 2 == 1,
+        end_of_line: settings.flags / 2 % 2 == 1,
+        rows_are_byte_aligned: settings.flags / 4 % 2 == 1,
+        encoding,
+        strict: settings.flags / 8 % 2 == 1,
+    })
+}
