@@ -107,6 +107,7 @@ impl Ticks {
 
 /// The mode whose word begins these seven bits, None where no word does, and the number of bits that tell so: those of
 /// the word, or one more than the bits that agree with any.
+#[inline(always)]
 fn mode_of(bits: u32) -> (Option<Mode>, usize)
     requires { bits < 128 }
     ensures told { result ≡ mode_told (seven_bits bits) }
@@ -138,6 +139,7 @@ fn mode_of(bits: u32) -> (Option<Mode>, usize)
 
 impl<'a> BitReader<'a> {
     /// The entry of the next thirteen bits, padded with zeros, in the look-up of a colour.
+    #[inline(always)]
     fn look_up(&self, color: Color, tables: &Tables) -> u16
         ensures { result ≡ entry_of (codes_of color) (padded 13 (here self.now)) }
     {
@@ -149,6 +151,7 @@ impl<'a> BitReader<'a> {
     }
 
     /// Reads a word of a colour's list, which is one tick.
+    #[inline(always)]
     fn decode_word(&mut self, color: Color, tables: &Tables, ticks: &mut Ticks) -> Result<u16>
         ensures word { MatchResult result
             (λ n. read_code (codes_of color) (here self.old) ≡ Ok (n, here self.new))

@@ -301,6 +301,7 @@ impl DecoderContext {
     /// front is empty, the colour is white and one more row was taken. Where the sink refuses, the context and
     /// the sink's meaning are as before. It takes no memory.
     #[tactic(auto, using(crate::proofs::PixelRows::ChangesAndPixels::front_fits))]
+    #[inline(always)]
     pub fn next_line<D: Decoder>(&mut self, decoder: &mut D) -> Result<()>
         requires width { self.old.held.settings.columns ≤ D.width decoder.old }
         requires rows { self.old.held.taken + 1 < 2 ^ 64 }
@@ -326,6 +327,7 @@ impl DecoderContext {
     }
 
     /// Reads a run of the present colour, paints it and turns the colour.
+    #[inline(always)]
     fn draw_run(&mut self, reader: &mut BitReader<'_>) -> Result<()>
         ensures step { DrawsStep (step_of_run self.old.held (here reader.old))
             result (pen_of self.new.held (here reader.new)) }

@@ -16,6 +16,7 @@ use crate::rows::{limit_met, take_row};
 use crate::{Decoder, EncodingMode, Result};
 
 /// Reads the EOLs before a line, at most the two of EOFB with `end_of_block`, and answers how many there were.
+#[inline(always)]
 fn read_eols_before_line(ctx: &mut DecoderContext, reader: &mut BitReader<'_>) -> usize
     ensures eols { eols_group4 ctx.old.held.settings (here reader.old) ≡ (result, here reader.new) }
     ensures same_bits { reader.new.bits ≡ reader.old.bits }
@@ -34,6 +35,7 @@ fn read_eols_before_line(ctx: &mut DecoderContext, reader: &mut BitReader<'_>) -
 
 /// Whether the image ends before a line, where so many EOLs were read: at EOFB, at the row limit or at the end of
 /// the data.
+#[inline(always)]
 fn is_over(ctx: &DecoderContext, reader: &BitReader<'_>, count: usize) -> bool
     ensures over { result ≡ is_over_group4 ctx.now.held.settings ctx.now.held.taken (count, here reader.now) }
     ensures fit { length reader.now.bits + 64 < 2 ^ 64 }
@@ -45,6 +47,7 @@ fn is_over(ctx: &DecoderContext, reader: &BitReader<'_>, count: usize) -> bool
 }
 
 /// Reads the EOLs before a line, and answers whether the image ends there.
+#[inline(always)]
 fn before_line(ctx: &mut DecoderContext, reader: &mut BitReader<'_>) -> bool
     ensures gap { gap_group4 ctx.old.held.settings ctx.old.held.taken ctx.old.held.has_eols (here reader.old)
         ≡ gap_said (Ok result) ctx.old.held.has_eols (here reader.new) }
@@ -61,6 +64,7 @@ fn before_line(ctx: &mut DecoderContext, reader: &mut BitReader<'_>) -> bool
 }
 
 /// Reads a line and hands its row over. The errors are those of the line, and `Refused` where the sink refuses.
+#[inline(always)]
 fn read_row<D: Decoder>(
     ctx: &mut DecoderContext,
     reader: &mut BitReader<'_>,

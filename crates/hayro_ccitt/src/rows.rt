@@ -30,6 +30,7 @@ fn align_row(ctx: &DecoderContext, reader: &mut BitReader<'_>)
 
 /// Hands a full row over to the sink, and moves to where the next line, or its EOL, begins. Its only refusal is
 /// `Refused`: then the context, the place and the sink's meaning are as before.
+#[inline(always)]
 pub(crate) fn take_row<D: Decoder>(
     ctx: &mut DecoderContext,
     reader: &mut BitReader<'_>,

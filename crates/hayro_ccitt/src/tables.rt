@@ -259,7 +259,7 @@ pub fn arrays_are_the_lists()
     ensures lookup_invalid { LOOKUP_INVALID ≡ 4095 }
 {}
 
-/// The number of bits of the longest code word, by which whole words will be looked up.
+/// The number of bits of the longest code word, by which run codes are looked up.
 pub const LOOKUP_BITS: u32 = 13;
 
 /// The run length that stands in a look-up where no code word does.
@@ -293,6 +293,7 @@ impl Model for Lookup {
 
 impl Lookup {
     /// The entry for thirteen bits, None from 8192 on.
+    #[inline(always)]
     pub fn entry(&self, index: usize) -> Option<u16>
         ensures value { result ≡ slice_get self.now index }
         ensures past { IsNone result ↔ (8192 ≤ index) }
@@ -400,6 +401,7 @@ impl Tables {
     }
 
     /// The look-up of a colour.
+    #[inline(always)]
     pub fn lookup(&self, color: Color) -> &Lookup
         ensures value { result.now ≡ entries_of color self.now }
         ensures entries { AreEntries (codes_of color) result.now }
