@@ -10,6 +10,7 @@ use crate::{DecodeError, Result};
 /// The index of b1 among the changes of a reference row, where so many pixels are painted and the next ones have
 /// this colour; b2 is the next change. `passed` is how many changes are known not to be right of a0; afterwards it
 /// is how many there are. Each change that is looked at is a tick, and those that are known are not looked at.
+#[inline(always)]
 pub fn b1_index(
     changes: &[u32],
     painted: u32,
@@ -47,6 +48,7 @@ pub fn b1_index(
 }
 
 /// The change of an index, or the row's end where there is none.
+#[inline(always)]
 pub fn change_or_end(changes: &[u32], index: usize, columns: u32) -> u32
     ensures { result ≡ get_or changes.now index columns }
 {
@@ -55,6 +57,7 @@ pub fn change_or_end(changes: &[u32], index: usize, columns: u32) -> u32
 
 /// Adds so many pixels of a colour to the changes of a front, of which so many are painted. A change is stored
 /// only where the last pixel has another colour. After a refusal nothing is changed.
+#[inline(always)]
 pub fn append_pixels(changes: &mut Vec<u32>, painted: u32, color: Color, count: u32) -> Result<()>
     requires { AreChanges painted changes.old.items }
     ensures lawful { OnOk result (AreChanges (painted + count) changes.new.items) }

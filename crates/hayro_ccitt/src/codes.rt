@@ -175,6 +175,7 @@ impl<'a> BitReader<'a> {
     /// Reads a run of a colour: make-up words and one terminating word (T.4 section 4.1.1). Each word that is
     /// looked for is a tick. `UnexpectedEof` where the data ends inside a word, `InvalidCode` where none
     /// stands, `Overflow` where the sum passes 32 bits; where the reader then stands isn't said.
+    #[inline(always)]
     pub fn decode_run(&mut self, color: Color, tables: &Tables, ticks: &mut Ticks) -> Result<u32>
         ensures run { MatchResult result
             (λ n. read_run color (here self.old) ≡ Ok (n, here self.new))
@@ -197,6 +198,7 @@ impl<'a> BitReader<'a> {
 
     /// Reads a mode of a two-dimensional line (T.4 table 4, T.6 table 1), which is one tick. `UnexpectedEof`
     /// where the data ends inside a word, `InvalidCode` where none stands.
+    #[inline(always)]
     pub fn decode_mode(&mut self, ticks: &mut Ticks) -> Result<Mode>
         ensures mode { MatchResult result
             (λ m. read_code mode_codes (here self.old) ≡ Ok (m, here self.new))

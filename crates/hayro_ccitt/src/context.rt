@@ -131,6 +131,7 @@ impl DecoderContext {
     }
 
     /// Empties the front and sets the colour to white, as each line begins.
+    #[inline(always)]
     fn begin_line(&mut self)
         ensures frame { self.new ≡ record self.old { held = redrawn self.old.held [] Color.White; passed = 0 } }
     {
@@ -141,6 +142,7 @@ impl DecoderContext {
     }
 
     /// Turns the present colour.
+    #[inline(always)]
     fn turn_color(&mut self)
         ensures frame { self.new ≡ record self.old
             { held = redrawn self.old.held self.old.held.front (opposite self.old.held.color) } }
@@ -151,6 +153,7 @@ impl DecoderContext {
     /// Paints so many pixels of the present colour at the end of the front. More than the row has room for are
     /// cut off at its end; in strict data they are `InvalidCode`. `OutOfMemory` comes only where a change is
     /// stored, so where the colour of the last pixel differs. After a refusal nothing is changed.
+    #[inline(always)]
     pub fn push_pixels(&mut self, count: u32) -> Result<()>
         ensures painted { OnOk result (painted_front self.old.held count ≡ Ok self.new.held.front) }
         ensures frame { OnOk result (self.new ≡ record self.old
@@ -161,18 +164,14 @@ impl DecoderContext {
         ensures only { IfErr result (λ e. (e ≡ DecodeError.InvalidCode) ⊎ (e ≡ DecodeError.OutOfMemory)) }
         ensures unchanged { OnErr result (self.new ≡ self.old) }
     {
-        let room = self.settings.columns - self.pixels_decoded;
-        if count > room && self.settings.strict {
+        let painted = self.pixels_decoded;
+        let room = self.settings.columns - painted;
+        let fitting = count.min(room);
+        if fitting < count && self.settings.strict {
             return Err(DecodeError::InvalidCode);
         }
-        let count = count.min(room);
-        append_pixels(
-            &mut self.coding_changes,
-            self.pixels_decoded,
-            self.color,
-            count,
-        )?;
-        self.pixels_decoded += count;
+        append_pixels(&mut self.coding_changes, painted, self.color, fitting)?;
+        self.pixels_decoded = painted + fitting;
         Ok(())
     }
 
@@ -198,6 +197,7 @@ impl DecoderContext {
     }
 
     /// The number of pixels painted.
+    #[inline(always)]
     fn pixels_painted(&self) -> u32
         ensures { result ≡ length self.now.held.front }
     {
@@ -205,6 +205,7 @@ impl DecoderContext {
     }
 
     /// Whether the row has all its pixels.
+    #[inline(always)]
     fn is_full(&self) -> bool
         ensures { IsTrue result ↔ (self.now.held.settings.columns ≤ length self.now.held.front) }
     {
@@ -213,6 +214,7 @@ impl DecoderContext {
 
     /// The index of b1 among the changing elements of the reference row; that of b2 is the next (T.4 section
     /// 4.2.1.1).
+    #[inline(always)]
     fn b1_place(&mut self) -> usize
         ensures b1 { b1 self.old.held.reference (right_of self.old.held.front) self.old.held.color
             ≡ get_or (changes self.old.held.reference) result self.old.held.settings.columns }
@@ -239,6 +241,7 @@ impl DecoderContext {
     }
 
     /// The changing element of the reference row with this index, or the row's end where there is none.
+    #[inline(always)]
     fn reference_change(&self, index: usize) -> u32
         ensures { result ≡ get_or (changes self.now.held.reference) index self.now.held.settings.columns }
     {
@@ -247,6 +250,7 @@ impl DecoderContext {
 
     /// b1, the first changing element of the reference row right of a0 that turns the present colour to the
     /// other one, or the row's end (T.4 section 4.2.1.1). It takes no memory.
+    #[inline(always)]
     pub fn b1(&mut self) -> u32
         ensures value { result ≡ b1 self.old.held.reference (right_of self.old.held.front) self.old.held.color }
         ensures edge { length self.old.held.reference ≡ self.old.held.settings.columns }
@@ -265,6 +269,7 @@ impl DecoderContext {
 
     /// b2, the next changing element of the reference row after b1, or the row's end (T.4 section 4.2.1.1). It is
     /// not left of where the front ends, and takes no memory.
+    #[inline(always)]
     pub fn b2(&mut self) -> u32
         ensures value { result ≡ b2 self.old.held.reference (right_of self.old.held.front) self.old.held.color }
         ensures edge { length self.old.held.reference ≡ self.old.held.settings.columns }
@@ -347,6 +352,7 @@ impl DecoderContext {
     }
 
     /// Draws what a mode says (T.4 section 4.2.1.3).
+    #[inline(always)]
     fn draw_mode(&mut self, mode: Mode, reader: &mut BitReader<'_>) -> Result<()>
         ensures step { DrawsStep (step_of_mode self.old.held (here reader.old) mode)
             result (pen_of self.new.held (here reader.new)) }
@@ -388,6 +394,7 @@ impl DecoderContext {
 /// Decodes a one-dimensional line, whatever front stood (T.4 section 4.1.1). After an error of the data the front is
 /// what was painted until then. `OutOfMemory` comes only while a change is stored: the front that stands then is a
 /// prefix of the line's row, where the next pixel differs from the last one. All else of the context stands.
+#[inline(never)]
 pub fn decode_1d_line(ctx: &mut DecoderContext, reader: &mut BitReader<'_>) -> Result<()>
     ensures line { DrawsLine (line_from_1d ctx.old.held (here reader.old))
         result ctx.new.held.front (here reader.new) }
@@ -411,6 +418,7 @@ pub fn decode_1d_line(ctx: &mut DecoderContext, reader: &mut BitReader<'_>) -> R
 /// section 2.2). After an error of the data the front is what was painted until then. `OutOfMemory` comes only
 /// while a change is stored: the front that stands then is a prefix of the line's row, where the next pixel differs
 /// from the last one. All else of the context stands.
+#[inline(always)]
 pub fn decode_2d_line(ctx: &mut DecoderContext, reader: &mut BitReader<'_>) -> Result<()>
     ensures line { DrawsLine (line_from_2d ctx.old.held (here reader.old))
         result ctx.new.held.front (here reader.new) }
