@@ -275,6 +275,25 @@ impl<'a> BitReader<'a> {
         true
     }
 
+    /// Passes an EOL with its fill that stands here (T.4 sections 4.1.2 and 4.1.3), and answers whether one does. Each
+    /// bit that is looked at is a tick.
+    #[inline(never)]
+    fn pass_eol(&mut self, ticks: &mut Ticks) -> bool
+        ensures eol { after_eol 0 (here self.old) ≡ (if result then Some (here self.new) else None) }
+        ensures unchanged { result ≡ false → self.new ≡ self.old }
+        ensures same_bits { self.new.bits ≡ self.old.bits }
+        ensures ticks { ticks.new ≡ ticks.old + looked (here self.old) }
+    {
+        let (zeros, after) = self.zero_run(ticks);
+        match after {
+            Some(after) if zeros >= 11 => {
+                *self = after;
+                true
+            }
+            _ => false,
+        }
+    }
+
     /// Reads EOLs in a row, each with its fill (T.4 sections 4.1.2 and 4.1.3), at most so many, and answers how
     /// many there were. It never fails. Each bit that is looked at is a tick.
     pub fn read_eols(&mut self, max: usize, ticks: &mut Ticks) -> usize
@@ -285,13 +304,8 @@ impl<'a> BitReader<'a> {
     {
         let mut count = 0;
         'eols: while count < max {
-            if self.is_near_one(ticks) {
+            if self.is_near_one(ticks) || !self.pass_eol(ticks) {
                 return count;
-            }
-            let (zeros, after) = self.zero_run(ticks);
-            match after {
-                Some(after) if zeros >= 11 => *self = after,
-                _ => return count,
             }
             count += 1;
         }
