@@ -203,13 +203,6 @@ impl<'a> BitReader<'a> {
         self.place
     }
 
-    /// The number of bits from the place on.
-    pub(crate) fn bits_left(&self) -> usize
-        ensures { result ≡ length (here self.now) }
-    {
-        self.data.len() * 8 - self.place
-    }
-
     /// The same bits at the same place.
     pub(crate) fn copy(&self) -> BitReader<'a>
         ensures value { result ≡ self.now }

@@ -320,8 +320,11 @@ impl<'a> BitReader<'a> {
         ensures ticks { ticks.new + length (here self.new)
             ≡ ticks.old + length (here self.old) + looked (here self.new) }
     {
-        // an EOL takes more than one bit
-        self.read_eols(self.bits_left(), ticks)
+        if self.at_end() {
+            return 0;
+        }
+        // An EOL takes more than one bit, so that there are fewer.
+        self.read_eols(usize::MAX, ticks)
     }
 
     /// Moves to the start of the zeros of the next EOL at or after here (T.4 sections 4.1.2 and 4.1.3), without
@@ -410,10 +413,8 @@ impl<'a> BitReader<'a> {
             ≤ ticks.old + 2 * length (here self.old) + looked_at_tag (here self.new) + looked (here self.new) }
         ensures none { result ≡ 0 → ticks.new ≡ ticks.old + looked (here self.old) }
     {
-        // an EOL takes more than one bit
-        let most = self.bits_left();
         let mut count = 0;
-        'eols: while count < most {
+        'eols: while !self.at_end() {
             if self.read_eols(1, ticks) == 0 {
                 return count;
             }

@@ -5,7 +5,7 @@ use Rattle.std.specs.Prelude.{slice_get}
 use Rattle.std.proofs.lemmas.Bool.{eqb-true}
 use Rattle.hayro_ccitt.specs.Bits.{Bits, BitsAt, here}
 use Rattle.hayro_ccitt.specs.CodeReading.{leading_zeros}
-use Rattle.hayro_ccitt.specs.EndOfLine.{after_eol, one_more, eols}
+use Rattle.hayro_ccitt.specs.EndOfLine.{after_eol, one_more, eols, all_eols}
 use Rattle.hayro_ccitt.specs.Ticks.{looked}
 use Rattle.hayro_ccitt.proofs.BitReading.BitLists.{drop_some}
 use Rattle.hayro_ccitt.proofs.CodeWords.ReadRuns.{chosen}
@@ -84,20 +84,36 @@ eols_fewer (suc most) here = by (λ rest. eols_fewer most rest) (after_eol 0 her
     by on None e = rw (e, eols) (omega arith)
     by on (Some rest) e = rw (e, eols) (omega (arith, length-one_more (eols most rest), one_more-count (eols most rest), on rest, after_eol_shorter 0 here rest e))
 
--- at the end no bit is looked at
-pub looked-none : (here : Bits) → length here ≡ 0 → looked here ≡ 0
-looked-none [] e = refl
-looked-none (b ∷ here) e = absurd (omega (arith, e))
-
--- where as many EOLs as bits are looked for, the bits after the last are looked at
-pub eols_look_on : (here rest : Bits) (count : ℕ) → eols (length here) here ≡ (count, rest) → cond (eqb count (length here)) 0 (looked rest) ≡ looked rest
-eols_look_on here rest count e = by (eqb count (length here)) refl
+-- where at least as many EOLs as bits are looked for, all are
+pub eols_enough : (most : ℕ) (here : Bits) → length here ≤ most → eols most here ≡ all_eols here
+eols_enough most here le = alike most (length here) here le (omega arith)
   where
-    by : (b : Bool) → eqb count (length here) ≡ b → cond b 0 (looked rest) ≡ looked rest
+    none : (most : ℕ) → eols most [] ≡ (0, [])
+    none zero = refl
+    none (suc most) = refl
+    alike : (most others : ℕ) (here : Bits) → length here ≤ most → length here ≤ others → eols most here ≡ eols others here
+    alike most others [] le le1 = none most ∙ sym (none others)
+    alike zero others (bit ∷ here) le le1 = absurd (omega (arith, le))
+    alike (suc most) zero (bit ∷ here) le le1 = absurd (omega (arith, le1))
+    alike (suc most) (suc others) (bit ∷ here) le le1 = by (λ rest. alike most others rest) (after_eol 0 (bit ∷ here)) refl
+      where
+        by : ((rest : Bits) → length rest ≤ most → length rest ≤ others → eols most rest ≡ eols others rest) → (o : Option Bits)
+            → after_eol 0 (bit ∷ here) ≡ o → eols (suc most) (bit ∷ here) ≡ eols (suc others) (bit ∷ here)
+        by on None e = rw (e, eols) refl
+        by on (Some rest) e =
+            let shorter = after_eol_shorter 0 (bit ∷ here) rest e in
+            rw (e, eols) (ap one_more (on rest (omega (arith, le, shorter)) (omega (arith, le1, shorter))))
+
+-- where more EOLs than bits are looked for, the bits after the last are looked at
+pub eols_look_on : (most : ℕ) (here rest : Bits) (count : ℕ) → length here < most → eols most here ≡ (count, rest)
+    → cond (eqb count most) 0 (looked rest) ≡ looked rest
+eols_look_on most here rest count lt e = by (eqb count most) refl
+  where
+    by : (b : Bool) → eqb count most ≡ b → cond b 0 (looked rest) ≡ looked rest
     by false h = refl
     by true h =
-        let counts : count + length rest ≤ length here = subst (λ (found : ℕ × Bits). found.0 + length found.1 ≤ length here) e (eols_fewer (length here) here) in
-        sym (looked-none rest (omega (arith, counts, eqb-true count (length here) h)))
+        let counts : count + length rest ≤ length here = subst (λ (found : ℕ × Bits). found.0 + length found.1 ≤ length here) e (eols_fewer most here) in
+        absurd (omega (arith, counts, lt, eqb-true count most h))
 
 -- ---- A bit read.
 -- a bit that stands at the place is the first here

@@ -1,6 +1,7 @@
-use Rattle.std.proofs.Common.{◌≡◌, ℕ, ◌+◌, ◌*◌, ◌<◌, length, ◌∙◌, arith}
+use Rattle.std.proofs.Common.{◌≡◌, ℕ, ◌+◌, ◌*◌, ◌<◌, length, ap, ◌∙◌, arith}
 use Rattle.hayro_ccitt.specs.Bits.{here}
 use Rattle.hayro_ccitt.proofs.BitReading.TaggedEols.{one_eol_read, tagged_stepped, tagged_looks}
+use Rattle.hayro_ccitt.proofs.Readings.TurnsMoveOn.{after_eol_shorter, past_tag_shorter}
 use Rattle.hayro_ccitt.proofs.bit_reader.BitReader.read_eols_with_tags.Goals as goal
 
 pub eols-preserved : goal.eols-preserved
@@ -18,9 +19,16 @@ eols-preserved c =
     c.pass_tag.ensures.ticks in (
       c.pass_tag.ensures.same_bits ∙ c.read_eols.ensures.same_bits ∙ c.eols.invariant.0,
       omega (arith, looks.1, c.eols.invariant.1),
-      tagged_stepped c.bits_left-most.result c.eols.count (here c.args.self.now) now after rest c.eols.invariant.2 one.0 c.pass_tag.ensures.rest
-          c.eols-test.true,
+      tagged_stepped (length (here c.args.self.now)) c.eols.count (here c.args.self.now) now after rest c.eols.invariant.2 one.0 c.pass_tag.ensures.rest
+          (omega (arith, looks.1, c.eols.invariant.1)),
       omega (arith, looks.0, c.eols.invariant.3),
       looks.2 c.eols.invariant.4,
       λ zero. absurd (omega (arith, zero)),
     )
+
+pub eols-smaller : goal.eols-smaller
+eols-smaller c =
+    let now = here c.eols.self in
+    let after = here c.read_eols.new.self in
+    let one = (one_eol_read now after c.read_eols.result c.read_eols.ensures.eols).0 (omega (arith, c.if-read_eols-eq0.false)) in
+    omega (arith, after_eol_shorter 0 now after one.0, past_tag_shorter after, ap length c.pass_tag.ensures.rest)

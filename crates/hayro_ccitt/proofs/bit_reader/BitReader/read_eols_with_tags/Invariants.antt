@@ -8,11 +8,11 @@ abbrev pub invariant-eols : goal.invariant-eols
 invariant-eols l =
     (l.self.bits ≡ l.fn.self.bits)
     × (l.count + length (here l.self) ≤ length (here l.fn.self))
-    × (eols_with_tags l.most (here l.fn.self)
-    ≡ (l.count + (eols_with_tags (l.most - l.count) (here l.self)).0, (eols_with_tags (l.most - l.count) (here l.self)).1))
+    × (eols_with_tags (length (here l.fn.self)) (here l.fn.self)
+    ≡ (l.count + (eols_with_tags (length (here l.fn.self) - l.count) (here l.self)).0, (eols_with_tags (length (here l.fn.self) - l.count) (here l.self)).1))
     × (l.fn.ticks + length (here l.fn.self) ≤ l.ticks + length (here l.self))
     × (l.ticks + 2 * length (here l.self) ≤ l.fn.ticks + 2 * length (here l.fn.self) + looked_before (here l.self))
     × (l.count ≡ 0 → (l.ticks ≡ l.fn.ticks) × (l.self ≡ l.fn.self))
 
 abbrev pub decreases-eols : goal.decreases-eols
-decreases-eols l = l.most - l.count
+decreases-eols l = length (here l.self)
