@@ -1,10 +1,8 @@
 -- The words that a line finds, step by step.
-use Rattle.std.proofs.Common.{◌≡◌, ℕ, suc, ◌+◌, ◌*◌, ◌<◌, ◌≤◌, Bool, true, false, cond, leb, List, [], ◌++◌, length, Result, Ok, Err, refl, sym, ap, subst, ◌∙◌, arith}
+use Rattle.std.proofs.Common.{◌≡◌, ℕ, ◌+◌, ◌*◌, ◌<◌, ◌≤◌, Bool, true, false, cond, leb, List, [], ◌++◌, length, Result, Ok, Err, refl, sym, ap, subst, ◌∙◌, arith}
 use Rattle.std.proofs.lemmas.Bool.{false≢true, lt-leb, le-leb}
 use Rattle.std.proofs.lemmas.List.{length-append, append-nil}
-use Rattle.hayro_ccitt.specs.declared.codes.Color.{Color}
 use Rattle.hayro_ccitt.specs.declared.codes.Mode.{Mode}
-use Rattle.hayro_ccitt.specs.declared.codes.Mode.TheVariants.{Pass, Horizontal, Vertical}
 use Rattle.hayro_ccitt.specs.declared.error.DecodeError.{DecodeError}
 use Rattle.hayro_ccitt.specs.Bits.{Bits}
 use Rattle.hayro_ccitt.specs.Lines.{Line, Pen, turn_behind, words_behind, unless_fault, painted, draw_run, draw_mode, draw_1d, draw_2d, words_drawn}
@@ -19,7 +17,7 @@ use Rattle.hayro_ccitt.proofs.DrawingLines.ReadLines.{left, step_1d_shrinks, ste
 use Rattle.hayro_ccitt.proofs.CodeWords.RunWords.{one_word}
 use Rattle.hayro_ccitt.proofs.Readings.Gathered.{gathered_turn}
 use Rattle.hayro_ccitt.specs.Repetition.{Turn}
-use Rattle.hayro_ccitt.specs.Rows.{Row, opposite, paint}
+use Rattle.hayro_ccitt.specs.Rows.{Row, paint}
 use Rattle.hayro_ccitt.specs.Runs.{run_from}
 use Rattle.hayro_ccitt.specs.Ticks.{run_found, word_found}
 

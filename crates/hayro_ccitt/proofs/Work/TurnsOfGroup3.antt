@@ -1,18 +1,18 @@
 -- What a turn of Group 3 counts is paid by the bits that it passes, or by giving up EOLs, which is done once.
-use Rattle.std.proofs.Common.{◌≡◌, ◌≢◌, ℕ, suc, ◌+◌, ◌*◌, ◌<◌, ◌≤◌, Bool, true, false, not, ◌&&◌, ◌||◌, cond, List, [], ◌∷◌, length, drop, Result, Ok, Err, refl, sym, ap, ◌∙◌, subst, arith}
+use Rattle.std.proofs.Common.{◌≡◌, ◌≢◌, ℕ, ◌+◌, ◌*◌, ◌<◌, ◌≤◌, Bool, true, false, not, ◌&&◌, ◌||◌, cond, [], ◌∷◌, length, Result, Ok, Err, refl, sym, ap, ◌∙◌, subst, arith}
 use Rattle.std.proofs.lemmas.Bool.{false≢true}
 use Rattle.hayro_ccitt.specs.declared.error.DecodeError.{DecodeError}
 use Rattle.hayro_ccitt.specs.declared.settings.DecodeSettings.{DecodeSettings}
 use Rattle.hayro_ccitt.specs.declared.settings.EncodingMode.{EncodingMode}
 use Rattle.hayro_ccitt.specs.declared.settings.EncodingMode.TheVariants.{Group4, Group3_1D, Group3_2D}
 use Rattle.hayro_ccitt.specs.Bits.{Bits}
-use Rattle.hayro_ccitt.specs.Lines.{Line, line_found, found_1d, found_2d}
+use Rattle.hayro_ccitt.specs.Lines.{Line, line_found}
 use Rattle.hayro_ccitt.specs.PlainReading.{Gap, aligned, behind_row, gap_group3, line_by, line_at_group3, row_group3}
 use Rattle.hayro_ccitt.specs.Rows.{Row, repaired}
-use Rattle.hayro_ccitt.specs.Ticks.{looked, looked_ahead}
+use Rattle.hayro_ccitt.specs.Ticks.{looked_ahead}
 use Rattle.hayro_ccitt.specs.Work.{found_at_group3}
-use Rattle.hayro_ccitt.proofs.Work.EolsPassed.{EolWithin, length-within, line_past_eol, line_given_up, line_behind_shorter, line_without_eols, looked_ahead_most, looked_ahead_to_eol}
-use Rattle.hayro_ccitt.proofs.Work.WordsPay.{IsPaid, line_1d_paid, line_2d_paid, either_shorter, found_within, found_before_eol}
+use Rattle.hayro_ccitt.proofs.Work.EolsPassed.{length-within, line_past_eol, line_given_up, line_behind_shorter, line_without_eols, looked_ahead_most, looked_ahead_to_eol}
+use Rattle.hayro_ccitt.proofs.Work.WordsPay.{line_1d_paid, line_2d_paid, either_shorter, found_within, found_before_eol}
 
 -- ---- What a line and its row pay
 

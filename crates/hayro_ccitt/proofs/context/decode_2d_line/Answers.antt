@@ -2,7 +2,7 @@ use Rattle.std.proofs.Common.{◌≡◌, length, Result, Err, subst, ap, sym, ar
 use Rattle.std.proofs.lemmas.Result.{err_from_is_err_and}
 use Rattle.hayro_ccitt.specs.declared.codes.Mode.{Mode}
 use Rattle.hayro_ccitt.specs.declared.error.DecodeError.{DecodeError}
-use Rattle.hayro_ccitt.specs.Answers.{IsFault, DrawsLine, DrawsStep, OnAnswer, Step, pen_of, step_of_mode, words_of_mode}
+use Rattle.hayro_ccitt.specs.Answers.{IsFault, DrawsLine, DrawsStep, Step, pen_of, step_of_mode, words_of_mode}
 use Rattle.hayro_ccitt.specs.Rows.{changes}
 use Rattle.hayro_ccitt.proofs.DrawingLines.CountedLines.{found_2d_from, found_after, counted_by_mode, none_after_fault}
 use Rattle.hayro_ccitt.specs.Bits.{Bits, here}

@@ -1,7 +1,6 @@
-use Rattle.std.proofs.Common.{◌≡◌, ◌+◌, ◌*◌, ◌≤◌, length}
+use Rattle.std.proofs.Common.{length}
 use Rattle.hayro_ccitt.specs.Answers.{pen_of, words_from_2d}
-use Rattle.hayro_ccitt.specs.Bits.{Bits, here}
-use Rattle.hayro_ccitt.specs.Context.{Held}
+use Rattle.hayro_ccitt.specs.Bits.{here}
 use Rattle.hayro_ccitt.specs.Rows.{changes}
 use Rattle.hayro_ccitt.proofs.DrawingLines.CountedLines.{IsCountedSoFar, found_2d_from}
 use Rattle.hayro_ccitt.proofs.DrawingLines.Drawings.{step_2d}

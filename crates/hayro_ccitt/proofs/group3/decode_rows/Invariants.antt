@@ -1,4 +1,4 @@
-use Rattle.std.proofs.Common.{◌≡◌, ◌≤◌, suc, cond, length}
+use Rattle.std.proofs.Common.{◌≡◌, suc, cond, length}
 use Rattle.hayro_ccitt.specs.Bits.{here}
 use Rattle.hayro_ccitt.specs.PlainReading.{move_group3, lines_of_move_group3, start_group3}
 use Rattle.hayro_ccitt.specs.Rows.{changes}

@@ -1,4 +1,4 @@
-use Rattle.std.proofs.Common.{◌+◌, ◌≤◌, length, ap, subst, arith, ◌∙◌}
+use Rattle.std.proofs.Common.{◌≤◌, length, ap, subst, arith, ◌∙◌}
 use Rattle.std.proofs.lemmas.Result.{err_from_is_err_and, on_ok_weaker}
 use Rattle.hayro_ccitt.specs.Answers.{front_of}
 use Rattle.hayro_ccitt.specs.Lines.{Line}

@@ -1,7 +1,7 @@
-use Rattle.std.proofs.Common.{◌≡◌, ◌<◌, Some, None, ◌∙◌, refl, arith}
+use Rattle.std.proofs.Common.{◌≡◌, Some, ◌∙◌, arith}
 use Rattle.hayro_ccitt.specs.Bits.{here}
 use Rattle.hayro_ccitt.specs.EndOfLine.{after_eol}
-use Rattle.hayro_ccitt.proofs.BitReading.ZeroRuns.{looked_eol, eols_stepped, eols_over}
+use Rattle.hayro_ccitt.proofs.BitReading.ZeroRuns.{looked_eol, eols_stepped}
 use Rattle.hayro_ccitt.proofs.bit_reader.BitReader.read_eols.Goals as goal
 
 pub eols-preserved : goal.eols-preserved
