@@ -1,0 +1,71 @@
+//! Each case of `corpus/cases.tsv`: the rows, the answer and the count of bytes.
+
+use hayro_ccitt::{DecodeSettings, Decoder, DecoderContext, EncodingMode, decode};
+use std::fs;
+
+/// The rows as `faxrows` writes them.
+#[derive(Default)]
+struct Text(Vec<String>);
+
+impl Decoder for Text {
+    fn push_row(&mut self, changes: &[u32]) {
+        let words: String = changes.iter().map(|place| format!(" {place}")).collect();
+        self.0.push(format!("r{words}"));
+    }
+}
+
+/// Bytes in hexadecimal, parts of which may be repeated: `80+0010*3`.
+fn bytes_of(text: &str) -> Vec<u8> {
+    let parts = text.split('+').filter(|part| *part != "-");
+    parts
+        .flat_map(|part| {
+            let (digits, times) = part.split_once('*').unwrap_or((part, "1"));
+            let bytes = (0..digits.len())
+                .step_by(2)
+                .map(|place| u8::from_str_radix(&digits[place..place + 2], 16).unwrap());
+            bytes.collect::<Vec<u8>>().repeat(times.parse().unwrap())
+        })
+        .collect()
+}
+
+fn settings_of(words: &str) -> DecodeSettings {
+    let words: Vec<&str> = words.split(' ').collect();
+    DecodeSettings {
+        columns: words[1].parse().unwrap(),
+        rows: words[2].parse().unwrap(),
+        end_of_block: words[3].contains('b'),
+        end_of_line: words[3].contains('l'),
+        rows_are_byte_aligned: words[3].contains('a'),
+        encoding: match words[0] {
+            "g4" => EncodingMode::Group4,
+            "1d" => EncodingMode::Group3_1D,
+            _ => EncodingMode::Group3_2D,
+        },
+        strict: words[3].contains('s'),
+    }
+}
+
+#[test]
+fn known_cases() {
+    let cases = fs::read_to_string("../../corpus/cases.tsv").unwrap();
+    let mut seen = 0;
+    for line in cases.lines().filter(|line| !line.starts_with('#')) {
+        let [words, data, expected] = line.split('\t').collect::<Vec<_>>()[..] else {
+            panic!("{line}")
+        };
+        let mut context = DecoderContext::new(settings_of(words));
+        // A context that decoded before decodes as a new one.
+        for _ in 0..2 {
+            let mut text = Text::default();
+            let answer = decode(&bytes_of(data), &mut text, &mut context);
+            text.0.push(match answer {
+                Ok(count) => format!("ok {count}"),
+                Err(error) => format!("error: {error}"),
+            });
+            assert_eq!(text.0.join("/"), expected, "{words} {data}");
+        }
+        seen += 1;
+    }
+    assert!(seen > 1000);
+    println!("{seen} cases");
+}
