@@ -11,6 +11,7 @@ import c_library  # noqa: E402
 import cost  # noqa: E402
 import program  # noqa: E402
 import repository  # noqa: E402
+import users  # noqa: E402
 
 
 def build():
@@ -31,7 +32,7 @@ def build():
 def main():
     passed = failed = 0
     build()
-    for check in repository.CHECKS + program.CHECKS + c_library.CHECKS + cost.CHECKS:
+    for check in repository.CHECKS + program.CHECKS + c_library.CHECKS + users.CHECKS + cost.CHECKS:
         try:
             check()
             passed += 1

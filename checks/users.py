@@ -1,0 +1,116 @@
+"""Checks of what users are shown: the commands of docs/USING.md, and the Cargo package. What a tool that isn't installed is
+needed for is left out, and said so."""
+import itertools
+import os
+import re
+import shutil
+import subprocess
+import tempfile
+
+import c_library
+import program
+
+PAGE = "docs/USING.md"
+# Tools that a command may need and that needn't be here.
+TOOLS = ["ppm2tiff", "tiffcp", "tiffdump", "gs", "img2pdf", "pdfimages", "strings"]
+PACKAGE = "bindings/rust"
+
+
+def commands(page):
+    """Each command of a page's blocks, and the text below it."""
+    with open(page, encoding="utf-8") as file:
+        blocks = re.findall(r"^```\n(\$ .*?)^```$", file.read(), re.MULTILINE | re.DOTALL)
+    for block in blocks:
+        for part in re.split(r"^\$ ", block, flags=re.MULTILINE)[1:]:
+            first, *rest = part.splitlines(keepends=True)
+            more = sum(1 for _ in itertools.takewhile(lambda line: line.startswith("> "), rest))
+            yield "".join([first, *(line[2:] for line in rest[:more])]), "".join(rest[more:])
+
+
+def outcomes(page):
+    """Each command, the text below it, and what it prints: None where it is left out, for want of a tool or of a file that one
+    that was left out would have made."""
+    with tempfile.TemporaryDirectory() as folder:
+        for name in ("c", "corpus", "crates", "examples"):
+            os.symlink(os.path.abspath(name), f"{folder}/{name}")
+        os.mkdir(f"{folder}/out")
+        lost = set()
+        for command, text in commands(page):
+            files = set(re.findall(r"out/[\w.-]+", command.replace("crates/faxrows/out/", "")))
+            missing = [tool for tool in TOOLS if re.search(rf"\b{tool}\b", command) and not shutil.which(tool)]
+            if missing or files & lost:
+                lost |= {name for name in files if not os.path.exists(f"{folder}/{name}")}
+                yield command, text, None
+                continue
+            done = subprocess.run(
+                ["bash", "-c", command], cwd=folder, stdout=subprocess.PIPE, stderr=subprocess.STDOUT, check=False, timeout=120
+            )
+            yield command, text, done.stdout.decode(errors="replace")
+
+
+def commands_of_the_page():
+    """Each command prints what stands below it."""
+    if not os.path.exists(program.PROGRAM):
+        raise AssertionError("faxrows isn't built")
+    run = 0
+    left_out = []
+    for command, text, printed in outcomes(PAGE):
+        if printed is None:
+            left_out.append(command)
+            continue
+        assert printed == text, f"{command}\nprints\n{printed}and not\n{text}"
+        run += 1
+    assert run > 0
+    absent = [tool for tool in TOOLS if not shutil.which(tool)]
+    print(f"  {run} commands run; {len(left_out)} left out" + (f", without {', '.join(absent)}" if absent else ""))
+
+
+def manifest():
+    with open("corpus/manifest.tsv", encoding="utf-8") as file:
+        return [line.rstrip("\n").split("\t") for line in file if not line.startswith("#")]
+
+
+def damaged(data):
+    """The data with a byte of it inverted, at three places, and cut short."""
+    for part in (1, 2, 3):
+        place = len(data) * part // 4
+        yield data[:place] + bytes([data[place] ^ 0xFF]) + data[place + 1 :]
+    yield data[: len(data) // 2]
+
+
+def the_cargo_package():
+    """Its cases, and its example against the C program: on each strip with its first settings, whole and damaged."""
+    if not shutil.which("cargo"):
+        print("  left out, without cargo")
+        return
+    c_library.build()
+    same = 0
+    with tempfile.TemporaryDirectory() as folder:
+        cargo = {**os.environ, "CARGO_TARGET_DIR": f"{folder}/target"}
+        for words in (["test", "--release", "--offline", "-q"], ["build", "--release", "--offline", "-q", "--example", "strip_to_pbm"]):
+            done = subprocess.run(["cargo", *words], cwd=PACKAGE, env=cargo, capture_output=True, text=True, check=False)
+            assert done.returncode == 0, done.stdout[-2000:] + done.stderr[-2000:]
+        example = f"{folder}/target/release/examples/strip_to_pbm"
+        in_c = c_library.compiled(f"{folder}/strip_to_pbm", "examples/strip_to_pbm.c", "c/heap.c", c_library.LIBRARY)
+        for name, strip, mode, columns, _, settings, *_ in manifest():
+            with open(f"corpus/{strip}", "rb") as file:
+                data = file.read()
+            limit, flags = settings.split(",")[0].split(":")
+            for bytes_in in (data, *damaged(data)):
+                done = [
+                    subprocess.run([tool, mode, columns, limit, flags], input=bytes_in, capture_output=True, check=False, timeout=60)
+                    for tool in (example, in_c)
+                ]
+                answers = [(one.returncode, one.stdout) for one in done]
+                assert answers[0] == answers[1], f"{name} {limit}:{flags}: {done[0].stderr!r}, {done[1].stderr!r}"
+                same += 1
+    assert same > 0
+    print(f"  the stored cases, and {same} runs as in C")
+
+
+CHECKS = [commands_of_the_page, the_cargo_package]
+
+if __name__ == "__main__":
+    for check in CHECKS:
+        check()
+        print(f"{check.__name__}: ok")
