@@ -96,6 +96,18 @@ def nothing_is_unsafe():
     assert not found, found
 
 
+def rust_is_unsafe_in_one_file_only():
+    """The Cargo package calls C from one file, and says above each such block why it may."""
+    name = "bindings/rust/src/c.rs"
+    found = [place for place, line in lines_of_code(".rs", "//") if re.search(r"\bunsafe\s*(\{|extern|fn|impl)", line)]
+    others = [place for place in found if not place.startswith(("bench/", f"{name}:"))]
+    assert not others, others
+    with open(name, encoding="utf-8") as file:
+        text = file.read()
+    blocks = len(re.findall(r"\bunsafe\b", re.sub(r"//.*", "", text)))
+    assert blocks == text.count("// SAFETY: ") == 3, blocks
+
+
 CHECKS = [
     handles_are_none,
     two_proofs_by_hand,
@@ -104,4 +116,5 @@ CHECKS = [
     readme_names_the_kit,
     no_proof_has_a_hole,
     nothing_is_unsafe,
+    rust_is_unsafe_in_one_file_only,
 ]
