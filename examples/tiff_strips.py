@@ -57,18 +57,20 @@ def main(path, pictures=None):
             tags.get(tag, (usual,))[0]
             for tag, usual in ((COMPRESSION, 1), (FILL_ORDER, 1), (PHOTOMETRIC, 0), (T4_OPTIONS, 0), (T6_OPTIONS, 0))
         )
-        if compression not in (2, 3, 4) or (t4_options | t6_options) & 2 or STRIP_OFFSETS not in tags:
+        if compression not in (2, 3, 4) or (t4_options | t6_options) & 2 or not {STRIP_OFFSETS, STRIP_BYTE_COUNTS} <= tags.keys():
             print(f"page {page}: not read: compression {compression}, or tiles, or uncompressed mode")
             continue
         columns, rows = tags[WIDTH][0], tags[LENGTH][0]
-        limit = min(tags.get(ROWS_PER_STRIP, (rows,))[0], rows)
+        limit = min(tags.get(ROWS_PER_STRIP, (rows,))[0], rows) or rows
         mode, flags = mode_and_flags(compression, t4_options)
         picture = b""
         for strip, (start, length) in enumerate(zip(tags[STRIP_OFFSETS], tags[STRIP_BYTE_COUNTS])):
+            here = min(limit, rows - strip * limit)
+            if here < 1:
+                break  # 0 rows would be no limit
             data = file[start : start + length]
             if fill_order == 2:
                 data = data.translate(REVERSED)
-            here = min(limit, rows - strip * limit)
             size = (columns + 7) // 8 * here
             words = [mode, str(columns), str(here), flags]
             done = subprocess.run([FAXROWS, "-o", *words], input=data, capture_output=True, check=False)
@@ -78,8 +80,9 @@ def main(path, pictures=None):
                 status = 1
             print(f"page {page} strip {strip}: {length} bytes at {start}: {' '.join(words)}: {answer}")
             picture += done.stdout.ljust(size, b"\0")  # what is missing is white
+        picture = picture.ljust((columns + 7) // 8 * rows, b"\0")
         if photometric == 1:
-            picture = picture.translate(INVERTED)  # the file calls a code's black pixel white
+            picture = picture.translate(INVERTED)  # what is encoded as black is white; padding turns too
         if pictures:
             with open(f"{pictures}-{page}.pbm", "wb") as out:
                 out.write(b"P4\n%d %d\n" % (columns, rows) + picture)
