@@ -34,12 +34,13 @@ def outcomes(page):
         for name in ("c", "corpus", "crates", "examples"):
             os.symlink(os.path.abspath(name), f"{folder}/{name}")
         os.mkdir(f"{folder}/out")
-        lost = set()
+        lost = []  # files, and fronts of the names of several
         for command, text in commands(page):
-            files = set(re.findall(r"out/[\w.-]+", command.replace("crates/faxrows/out/", "")))
-            missing = [tool for tool in TOOLS if re.search(rf"\b{tool}\b", command) and not shutil.which(tool)]
-            if missing or files & lost:
-                lost |= {name for name in files if not os.path.exists(f"{folder}/{name}")}
+            files = re.findall(r"out/[\w.-]+", command.replace("crates/faxrows/out/", ""))
+            absent = [name for name in files if not os.path.exists(f"{folder}/{name}")]
+            missing = [tool for tool in TOOLS if re.search(rf"(^|[|;&(]) *{tool} ", command) and not shutil.which(tool)]
+            if missing or any(name.startswith(tuple(lost)) for name in absent):
+                lost += absent
                 yield command, text, None
                 continue
             done = subprocess.run(
