@@ -35,9 +35,7 @@ def each_read_and_write():
                     assert run(all_words, data, WRITE_BYTES=most, READ_BYTES=2) == whole, all_words
                 # the text is written in two pieces: the rows, and the last line
                 pieces = [text] if bitmap else [text[: -len(last) - 1], text[-len(last) - 1 :]]
-                written = [piece[:end] for piece in pieces for end in range(len(piece))]
                 fronts = [b"".join(pieces[:k]) + piece[:end] for k, piece in enumerate(pieces) for end in range(len(piece))]
-                assert len(written) == len(text)
                 for number, front in enumerate(fronts, 1):
                     for failing in ("WRITE_FAILS", "WRITE_TAKES_NONE"):
                         answer = run(all_words, data, WRITE_BYTES=1, **{failing: number})

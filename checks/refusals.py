@@ -140,7 +140,7 @@ def each_row_refused():
     seen = 0
     with tempfile.TemporaryDirectory() as folder:
         library = called.Library(folder)
-        known = [(words, data, rows, last) for words, data, rows, last in DATA]
+        known = list(DATA)
         for words, text, expected in called.lines_of("cases.tsv"):
             *rows, last = expected.split("/")
             known.append((words, program.bytes_of(text), [[int(number) for number in row.split()[1:]] for row in rows], last))
@@ -193,7 +193,7 @@ def white_data():
 
 
 def white_data_takes_none():
-    """White data asks for the two look-ups and for nothing else, in each call and in the program."""
+    """Each call on white data asks for the two look-ups and for nothing else."""
     c_library.build()
     seen = rows = 0
     with tempfile.TemporaryDirectory() as folder:
@@ -215,45 +215,62 @@ def white_data_takes_none():
             assert library.calls.requests_seen() == LOOK_UPS, words
             seen += 1
             rows += len(white)
-        refuse = shim(folder, "refuse")
-
-        def allocations(words, data):
-            done = program.run(words.split(), data, env={**os.environ, "LD_PRELOAD": refuse, "COUNT": "1"})
-            return int(done.stderr.split()[-2])
-
-        # words that are none end a run before anything but them is fetched; other settings take the look-ups, data one buffer
-        # for the input, and rows one for the text
-        for bitmap in ("", "-o "):
-            base = allocations(bitmap + "g4 8 0 x", b"")
-            assert allocations(bitmap + "g4 8 0 -", b"") == base + LOOK_UPS
-            assert allocations(bitmap + "g4 0 0 -", b"\x80") == base + LOOK_UPS + 1
-            assert allocations(bitmap + "g4 8 0 s", b"\x00") == base + LOOK_UPS + 1
-            for mode, data in (("g4", b"\x80"), ("1d", b"\x98"), ("2d", b"\xcc")):
-                for columns in (1, 8) if mode == "g4" else (8,):
-                    assert allocations(f"{bitmap}{mode} {columns} 1 -", data) == base + LOOK_UPS + 2, mode
-            assert bitmap or allocations("g4 4294967295 1 -", b"\x80") >= base + LOOK_UPS + 2
+    assert seen > 0 and rows > 0
     print(f"  {seen} calls on white data, {rows} rows: {LOOK_UPS} requests each")
 
 
+# Words, data, and how many allocations a run takes besides those that fetch its words: none where the words are bad; the look-ups;
+# one buffer for the input, and one for the text or the bitmap of a row.
+ALLOCATIONS = [
+    ("g4 8 0 x", "", 0),
+    ("g4 8 0 -", "", LOOK_UPS),
+    ("g4 0 0 -", "80", LOOK_UPS + 1),
+    ("g4 8 0 s", "00", LOOK_UPS + 1),
+    ("g4 1 1 -", "80", LOOK_UPS + 2),
+    ("g4 8 1 -", "80", LOOK_UPS + 2),
+    ("1d 8 1 -", "98", LOOK_UPS + 2),
+    ("2d 8 1 -", "CC", LOOK_UPS + 2),
+    ("2d 8 1 -", "40", LOOK_UPS + 2),
+]
+
+
+def allocations_of_the_program():
+    """A run on white data takes the look-ups, and memory for its input and for what it writes: a sink without rows takes none."""
+    runs = 0
+    with tempfile.TemporaryDirectory() as folder:
+        counted = {**os.environ, "LD_PRELOAD": shim(folder, "refuse"), "COUNT": "1"}
+
+        def allocations(words, data):
+            return int(program.run(words.split(), bytes.fromhex(data), env=counted).stderr.split()[-2])
+
+        for bitmap in ("", "-o "):
+            words_alone = allocations(bitmap + "g4 8 0 x", "")
+            for words, data, more in ALLOCATIONS:
+                assert allocations(bitmap + words, data) == words_alone + more, (bitmap, words, data)
+                runs += 1
+    print(f"  {runs} runs with exact numbers of allocations")
+
+
 def in_little_memory():
-    """Rows of 4294967295 columns in 64 MB of memory, in each mode, by the program; and by the library in less."""
+    """Rows of 4294967295 columns, in each mode: by the library in 128 kB, and some by the program where it has 64 MB."""
     c_library.build()
-    runs = most = 0
+    calls = runs = most = 0
     with tempfile.TemporaryDirectory() as folder:
         library = called.Library(folder)
         for shape, words, text, expected in called.lines_of("hostile.tsv"):
-            if shape != "the type's end" or "4294967295" != words.split()[1]:
+            if shape != "the type's end" or int(words.split()[1]) != RIGHT_EDGE:
                 continue
             data = program.bytes_of(text)
             library.refuse(0)
             assert library.answer(called.settings_of(words), data) == expected
             most = max(most, library.calls.bytes_asked())
-            if runs % 4 == 0 or "*" in text:
+            if calls % 4 == 0 or "*" in text:
                 done = program.run(words.split(), data, preexec_fn=limit_memory)
                 assert called.text_of(done) == expected, (words, text)
-            runs += 1
+                runs += 1
+            calls += 1
     assert runs > 0 and most < 1 << 17, most
-    print(f"  {runs} data, at most {most} bytes asked for by a call")
+    print(f"  {calls} calls, at most {most} bytes asked for by one, and {runs} runs of the program")
 
 
 def limit_memory():
@@ -265,5 +282,6 @@ CHECKS = [
     each_request_of_the_program,
     each_row_refused,
     white_data_takes_none,
+    allocations_of_the_program,
     in_little_memory,
 ]
