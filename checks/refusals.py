@@ -14,7 +14,7 @@ WHITE_8, WHITE_ROW = "10011", "001" + "10011" + "0000110111"
 # a row of 8 pixels with the changes 3 and 5, one-dimensional and as horizontal mode
 LINE, HORIZONTAL = "1000" + "11" + "1000", "001" + "1000" + "11" + "1"
 ALTERNATE = "000111" + "010"
-RIGHT_EDGE = 4294967295
+WIDEST = 4294967295
 LOOK_UPS = 2
 LIMIT = 64 << 20
 
@@ -173,7 +173,7 @@ def each_row_refused():
 
 def white_data():
     """Settings and data that paint no black pixel: rows of every mode, EOLs, damaged lines, faults, wide rows."""
-    for columns in (1, 8, 4096, RIGHT_EDGE):
+    for columns in (1, 8, 4096, WIDEST):
         yield f"g4 {columns} 0 -", packed_bits(COPY * 800)
         yield f"g4 {columns} 0 -", packed_bits(PASS * 80 + COPY * 3 + PASS)
         yield f"g4 {columns} 0 a", b"\x80" * 300
@@ -258,7 +258,7 @@ def in_little_memory():
     with tempfile.TemporaryDirectory() as folder:
         library = called.Library(folder)
         for shape, words, text, expected in called.lines_of("hostile.tsv"):
-            if shape != "the type's end" or int(words.split()[1]) != RIGHT_EDGE:
+            if shape != "the type's end" or int(words.split()[1]) != WIDEST:
                 continue
             data = program.bytes_of(text)
             library.refuse(0)
