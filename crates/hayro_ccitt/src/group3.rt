@@ -61,6 +61,7 @@ fn read_eols(ctx: &mut DecoderContext, reader: &mut BitReader<'_>) -> usize
     ensures same_bits { reader.new.bits ≡ reader.old.bits }
     ensures held { ctx.new.held ≡ ctx.old.held }
     ensures counts { ctx.old.ticks ≤ ctx.new.ticks }
+    ensures at_least { ctx.old.ticks + length (here reader.old) ≤ ctx.new.ticks + length (here reader.new) }
     ensures work { ctx.new.ticks + 2 * length (here reader.new) ≤ ctx.old.ticks + 2 * length (here reader.old) + 3
         + looked_ahead ctx.old.held.settings.encoding (here reader.new) }
     ensures work_none { result ≡ 0 → ctx.new.ticks ≡ ctx.old.ticks + looked (here reader.old) }
@@ -98,12 +99,13 @@ pub fn check_eob(ctx: &mut DecoderContext, reader: &mut BitReader<'_>) -> Result
     ensures only_strict { OnErr result (ctx.old.held.settings.strict ≡ true) }
     ensures same_bits { reader.new.bits ≡ reader.old.bits }
     ensures counts { ctx.old.ticks ≤ ctx.new.ticks }
+    ensures at_least { OnOk result (ctx.old.ticks + length (here reader.old) ≤ ctx.new.ticks + length (here reader.new)) }
     ensures work { OnOk result (ctx.new.held.has_eols ≡ ctx.old.held.has_eols
         → ctx.new.ticks + 4 * length (here reader.new) ≤ ctx.old.ticks + 4 * length (here reader.old) + 3
         + looked_ahead ctx.old.held.settings.encoding (here reader.new)) }
     ensures work_given_up { OnOk result (ctx.new.held.has_eols ≢ ctx.old.held.has_eols
         → ctx.new.ticks ≤ ctx.old.ticks + 2 * length (here reader.old)) }
-    ensures work_refused { OnErr result (ctx.new.ticks ≤ ctx.old.ticks + length (here reader.old)) }
+    ensures work_refused { OnErr result (ctx.new.ticks ≡ ctx.old.ticks + looked (here reader.old)) }
 {
     let count = read_eols(ctx, reader);
     if count > 0 || !ctx.has_eols() || limit_met(ctx) || reader.at_end() {
@@ -285,7 +287,7 @@ pub fn decode_1d<D: Decoder>(
     ensures work { CountsRun (words_by EncodingMode.Group3_1D ctx.old.held.settings reader.old.bits) ctx.new.held.taken
         ctx.old.ticks ctx.new.ticks (most_counted EncodingMode.Group3_1D (length reader.old.bits)) }
 {
-    decode_rows(ctx, reader, decoder)
+    decode_rows(ctx, reader, decoder) // No line has a tag.
 }
 
 /// Decodes the rows of two-dimensional data of Group 3 (T.4 section 4.2), each behind its tag, until RTC (with
@@ -318,5 +320,5 @@ pub fn decode_2d<D: Decoder>(
     ensures work { CountsRun (words_by EncodingMode.Group3_2D ctx.old.held.settings reader.old.bits) ctx.new.held.taken
         ctx.old.ticks ctx.new.ticks (most_counted EncodingMode.Group3_2D (length reader.old.bits)) }
 {
-    decode_rows(ctx, reader, decoder)
+    decode_rows(ctx, reader, decoder) // Each line has its tag.
 }

@@ -101,6 +101,7 @@ fn line_ends_before(data: &[u8], ctx: &mut DecoderContext, from: usize, end: usi
         → HasBlack (front_of (line_1d false ctx.old.held.settings.columns (drop from (bits_of «data».now)))) }
     ensures only_memory { IsOkUnless result DecodeError.OutOfMemory }
     ensures settings { ctx.new.held.settings ≡ ctx.old.held.settings }
+    ensures counts { ctx.old.ticks ≤ ctx.new.ticks }
 {
     ctx.reset();
     let mut reader = BitReader::starting_at(data, from);
@@ -126,6 +127,7 @@ pub fn body_is_local(data: &[u8], ctx: &mut DecoderContext, from: usize, to: usi
         → HasBlack (front_of (line_1d false ctx.old.held.settings.columns (drop from (bits_of «data».now)))) }
     ensures only_memory { IsOkUnless result DecodeError.OutOfMemory }
     ensures settings { ctx.new.held.settings ≡ ctx.old.held.settings }
+    ensures counts { ctx.old.ticks ≤ ctx.new.ticks }
 {
     if !is_lenient_1d(ctx.settings()) || from > to || to > data.len() * 8 {
         return Ok(false);

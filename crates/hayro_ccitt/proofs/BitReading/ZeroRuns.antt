@@ -91,6 +91,7 @@ eols_enough most here le = alike most (length here) here le (omega arith)
     none : (most : ℕ) → eols most [] ≡ (0, [])
     none zero = refl
     none (suc most) = refl
+
     alike : (most others : ℕ) (here : Bits) → length here ≤ most → length here ≤ others → eols most here ≡ eols others here
     alike most others [] le le1 = none most ∙ sym (none others)
     alike zero others (bit ∷ here) le le1 = absurd (omega (arith, le))

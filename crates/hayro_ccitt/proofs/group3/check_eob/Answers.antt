@@ -19,7 +19,7 @@ returns-then-count-gt0-clause-work c = λ kept.
 pub returns-then-settings-clause-work_refused : goal.returns-then-settings-clause-work_refused
 returns-then-settings-clause-work_refused c =
     let none : c.read_eols-count.result ≡ 0 = omega (arith, c.if-count-gt0.false) in
-    omega (arith, c.read_eols-count.ensures.work_none none, looked_most (here c.args.reader.now))
+    omega (arith, c.read_eols-count.ensures.work_none none)
 
 pub returns-then-not-skip_to_eol-clause-work_given_up : goal.returns-then-not-skip_to_eol-clause-work_given_up
 returns-then-not-skip_to_eol-clause-work_given_up c = λ given_up.
@@ -70,3 +70,16 @@ returns-clause-counts c =
     let left = (next_eol_found (here c.read_eols-count.new.reader) (here c.skip_to_eol.new.self)
     (c.skip_to_eol.ensures.next ∙ ap (λ (b : Bool). cond {A = Option Bits} b (Some (here c.skip_to_eol.new.self)) None) c.if-not-skip_to_eol.false)).0 in
     omega (arith, c.read_eols-count.ensures.counts, c.read_eols-count-2.ensures.counts, c.ticks.ensures.value, c.skip_to_eol.ensures.ticks, left)
+
+pub returns-clause-at_least : goal.returns-clause-at_least
+returns-clause-at_least c =
+    let none : c.read_eols-count.result ≡ 0 = omega (arith, c.if-count-gt0.false) in
+    let found = here c.skip_to_eol.new.self in
+    omega (
+      arith,
+      c.read_eols-count.ensures.at_least,
+      c.ticks.ensures.value,
+      c.skip_to_eol.ensures.ticks,
+      ap (λ (b : Bool). cond b (looked found) (length found)) c.if-not-skip_to_eol.false,
+      c.read_eols-count-2.ensures.at_least,
+    )

@@ -16,7 +16,7 @@ use Rattle.hayro_ccitt.specs.Decoding.{gap_said}
 use Rattle.hayro_ccitt.specs.Rows.{changes}
 use Rattle.hayro_ccitt.proofs.Work.ChangesStored.{changes_white}
 use Rattle.hayro_ccitt.proofs.Work.RunsCount.{counted_ends}
-use Rattle.hayro_ccitt.proofs.Work.EolsPassed.{looked_before}
+use Rattle.hayro_ccitt.proofs.Work.EolsPassed.{looked_before, looked_most}
 use Rattle.hayro_ccitt.proofs.group3.decode_rows.Goals as goal
 
 pub rows-init : goal.rows-init
@@ -193,7 +193,7 @@ returns-in_err-check_eob-clause-work g c =
     c.rows.ctx.held (here c.rows.reader) between (g.D.Decoder.width c.rows.decoder) width
     (record { meaning = g.D.Decoder.meaning c.read_row.new.decoder; refused = g.D.Decoder.has_refused c.read_row.new.decoder }) c.read_row.new.ctx.held (here c.read_row.new.reader)
     within c.args.ctx.now.ticks c.rows.ctx.ticks paid c.read_row.new.ctx.ticks c.in_ok-read_row.ensures.at_most c.in_ok-read_row.ensures.row
-    c.check_eob.new.ctx.ticks c.in_err-check_eob.ensures.work_refused)
+    c.check_eob.new.ctx.ticks (omega (arith, c.in_err-check_eob.ensures.work_refused, looked_most (here c.read_row.new.reader))))
 
 pub returns-then-branch-clause-work : goal.returns-then-branch-clause-work
 returns-then-branch-clause-work g c =

@@ -43,6 +43,7 @@ returns-in-Group3_1D c =
       same_bits = c.read_eol_if_available.ensures.same_bits;
       held = refl;
       counts = omega (arith, counted, from, left);
+      at_least = omega (arith, counted, from);
       work = omega (arith, counted, from, left, ahead);
       work_none = λ none.
           let stays = eols_group3_stay c.args.ctx.now.held.settings now rest (eols ∙ ap (λ (n : ℕ). (n, rest)) none) in

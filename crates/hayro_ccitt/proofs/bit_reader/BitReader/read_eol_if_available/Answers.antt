@@ -18,5 +18,9 @@ returns-clause-eols c =
 
 pub returns-clause-ticks : goal.returns-clause-ticks
 returns-clause-ticks c =
-    omega (arith, c.read_eols.ensures.ticks, eols_look_on max (here c.args.self.now) (here c.read_eols.new.self) c.read_eols.result
-    (few c.args.self.now c.at_end.ensures.fit) c.read_eols.ensures.eols)
+    omega (
+      arith,
+      c.read_eols.ensures.ticks,
+      eols_look_on max (here c.args.self.now) (here c.read_eols.new.self) c.read_eols.result
+          (few c.args.self.now c.at_end.ensures.fit) c.read_eols.ensures.eols,
+    )
