@@ -76,9 +76,9 @@ def example_on_strips():
     print(f"  {strips} strips, {runs} runs, {size} bytes of pictures compared")
 
 
-def loaded(folder):
-    """The library in this process."""
-    path = compiled(f"{folder}/library.so", "-shared", "-fPIC", "c/heap.c", "-Wl,--whole-archive", LIBRARY, "-Wl,--no-whole-archive")
+def loaded(folder, heap="c/heap.c"):
+    """The library in this process, on this memory."""
+    path = compiled(f"{folder}/library.so", "-shared", "-fPIC", heap, "-Wl,--whole-archive", LIBRARY, "-Wl,--no-whole-archive")
     return ctypes.CDLL(path)
 
 

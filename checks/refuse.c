@@ -1,7 +1,8 @@
 /* Loaded before a program, this refuses its N-th allocation, N being the variable REFUSE, and says on standard
-   error whether that many came. */
+   error whether that many came. Where there is a variable COUNT it says at the end how many came. */
 #define _GNU_SOURCE
 #include <dlfcn.h>
+#include <stdio.h>
 #include <stdlib.h>
 #include <unistd.h>
 
@@ -12,9 +13,16 @@ static int refuses(void) {
         const char *text = getenv("REFUSE");
         wanted = text ? atol(text) : 0;
     }
-    if (wanted == 0 || ++seen != wanted) return 0;
+    if (++seen != wanted) return 0;
     if (write(2, "refused\n", 8) < 0) _exit(99);
     return 1;
+}
+
+__attribute__((destructor)) static void say_count(void) {
+    char text[32];
+    if (!getenv("COUNT")) return;
+    int length = snprintf(text, sizeof text, "%ld allocations\n", seen);
+    if (write(2, text, (size_t)length) < 0) _exit(99);
 }
 
 void *malloc(size_t size) {

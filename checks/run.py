@@ -9,7 +9,11 @@ sys.dont_write_bytecode = True
 
 import c_library  # noqa: E402
 import cost  # noqa: E402
+import cuts  # noqa: E402
+import devices  # noqa: E402
+import hostile  # noqa: E402
 import program  # noqa: E402
+import refusals  # noqa: E402
 import repository  # noqa: E402
 import users  # noqa: E402
 
@@ -32,7 +36,8 @@ def build():
 def main():
     passed = failed = 0
     build()
-    for check in repository.CHECKS + program.CHECKS + c_library.CHECKS + users.CHECKS + cost.CHECKS:
+    checks = [repository, program, c_library, refusals, devices, cuts, hostile, users, cost]
+    for check in [check for module in checks for check in module.CHECKS]:
         try:
             check()
             passed += 1

@@ -1,0 +1,45 @@
+/* The memory of libhayro_ccitt_c.a, counted: how often it was asked for and for how many bytes, how many blocks are held, and
+   one request, if any, that is refused. */
+#include <stdbool.h>
+#include <stddef.h>
+#include <stdint.h>
+#include <stdlib.h>
+
+typedef struct {
+    bool ok;
+    void *block;
+} tried;
+
+static uint64_t refused, requests, bytes, blocks;
+
+/* From now on the request of this number is refused, and no other; 0: none. */
+void refuse_request(uint64_t number) { refused = number; requests = bytes = 0; }
+uint64_t requests_seen(void) { return requests; }
+uint64_t bytes_asked(void) { return bytes; }
+uint64_t blocks_held(void) { return blocks; }
+
+static bool refuses(size_t size) {
+    bytes += size;
+    return ++requests == refused;
+}
+
+static tried tried_block(void *block) {
+    static max_align_t nowhere;
+    return block ? (tried){true, block} : (tried){false, &nowhere};
+}
+
+tried rattle_alloc(size_t size, size_t align) {
+    void *block = refuses(size) ? NULL : malloc(size ? size : align);
+    blocks += block != NULL;
+    return tried_block(block);
+}
+
+tried rattle_realloc(void *block, size_t kept, size_t size, size_t align) {
+    (void)kept;
+    return tried_block(refuses(size) ? NULL : realloc(block, size ? size : align));
+}
+
+void rattle_dealloc(void *block) {
+    blocks--;
+    free(block);
+}

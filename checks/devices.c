@@ -1,0 +1,68 @@
+/* Loaded before a program, this makes standard input and output devices of a certain kind. With READ_BYTES or WRITE_BYTES a call
+   reads or takes at most so many bytes; with READ_FAILS or WRITE_FAILS the call of this number fails; with WRITE_TAKES_NONE the
+   call of this number takes nothing. A device that is asked again after that says so on standard error. */
+#define _GNU_SOURCE
+#include <dlfcn.h>
+#include <errno.h>
+#include <stdlib.h>
+#include <unistd.h>
+
+typedef struct {
+    long calls;
+    int has_failed;
+} device;
+
+static device input, output;
+
+static long number(const char *name) {
+    const char *text = getenv(name);
+    return text ? atol(text) : 0;
+}
+
+static size_t at_most(size_t count, const char *name) {
+    long most = number(name);
+    return most > 0 && (size_t)most < count ? (size_t)most : count;
+}
+
+static ssize_t real_write(int file, const void *bytes, size_t count) {
+    static ssize_t (*real)(int, const void *, size_t);
+    if (!real) real = (ssize_t (*)(int, const void *, size_t))dlsym(RTLD_NEXT, "write");
+    return real(file, bytes, count);
+}
+
+/* Whether the call of this number is the one that is named. */
+static int is_named(device *device, const char *name) {
+    if (device->calls != number(name)) return 0;
+    device->has_failed = 1;
+    return 1;
+}
+
+static void count_call(device *device) {
+    device->calls++;
+    if (device->has_failed && real_write(2, "asked again\n", 12) < 0) _exit(99);
+}
+
+ssize_t read(int file, void *bytes, size_t count) {
+    static ssize_t (*real)(int, void *, size_t);
+    if (!real) real = (ssize_t (*)(int, void *, size_t))dlsym(RTLD_NEXT, "read");
+    if (file != 0) return real(file, bytes, count);
+    count_call(&input);
+    if (is_named(&input, "READ_FAILS")) {
+        errno = EIO;
+        return -1;
+    }
+    return real(file, bytes, at_most(count, "READ_BYTES"));
+}
+
+ssize_t write(int file, const void *bytes, size_t count) {
+    if (file != 1) return real_write(file, bytes, count);
+    count_call(&output);
+    if (is_named(&output, "WRITE_FAILS")) {
+        errno = EIO;
+        return -1;
+    }
+    if (is_named(&output, "WRITE_TAKES_NONE")) return 0;
+    return real_write(file, bytes, at_most(count, "WRITE_BYTES"));
+}
+
+ssize_t __write(int file, const void *bytes, size_t count) { return write(file, bytes, count); }

@@ -1,0 +1,66 @@
+"""Checks of readers and writers that fail, are slow, or never end."""
+import os
+import subprocess
+import tempfile
+
+import program
+import refusals
+
+CANNOT_READ, CANNOT_WRITE = b"faxrows: cannot read\n", b"faxrows: cannot write\n"
+
+
+def each_read_and_write():
+    """A reader of one byte at a time, and one that fails at each of its reads; writers that take one byte or three at a time, that
+    fail at each write, and that take nothing there. None is asked again after it failed."""
+    readers = writers = 0
+    with tempfile.TemporaryDirectory() as folder:
+        devices = refusals.shim(folder, "devices")
+
+        def run(words, data, **device):
+            variables = {name: str(value) for name, value in device.items()}
+            done = program.run(words.split(), data, env={**os.environ, "LD_PRELOAD": devices, **variables})
+            return done.returncode, done.stdout, done.stderr
+
+        for words, data, rows, last in refusals.DATA[:3]:
+            for bitmap in ("", "-o "):
+                text = refusals.picture_of(8, rows) if bitmap else refusals.text_of(rows, last)
+                whole, all_words = (0, text, b""), bitmap + words
+                assert run(all_words, data) == whole, all_words
+                assert run(all_words, data, READ_BYTES=1) == whole, all_words
+                for number in range(1, len(data) + 2):
+                    assert run(all_words, data, READ_BYTES=1, READ_FAILS=number) == (3, b"", CANNOT_READ), (all_words, number)
+                    readers += 1
+                assert run(all_words, data, READ_BYTES=1, READ_FAILS=len(data) + 2) == whole, "it reads after the end"
+                for most in (1, 3):
+                    assert run(all_words, data, WRITE_BYTES=most, READ_BYTES=2) == whole, all_words
+                # the text is written in two pieces: the rows, and the last line
+                pieces = [text] if bitmap else [text[: -len(last) - 1], text[-len(last) - 1 :]]
+                fronts = [b"".join(pieces[:k]) + piece[:end] for k, piece in enumerate(pieces) for end in range(len(piece))]
+                for number, front in enumerate(fronts, 1):
+                    for failing in ("WRITE_FAILS", "WRITE_TAKES_NONE"):
+                        answer = run(all_words, data, WRITE_BYTES=1, **{failing: number})
+                        assert answer == (3, front, CANNOT_WRITE), (all_words, failing, number, answer)
+                        writers += 1
+                for number, front in enumerate([b"".join(pieces[:k]) for k in range(len(pieces))], 1):
+                    for failing in ("WRITE_FAILS", "WRITE_TAKES_NONE"):
+                        assert run(all_words, data, **{failing: number}) == (3, front, CANNOT_WRITE), (all_words, failing, number)
+                        writers += 1
+                assert run(all_words, data, WRITE_BYTES=1, WRITE_FAILS=len(text) + 1) == whole, "it writes after the end"
+    assert readers > 0 and writers > 0
+    print(f"  {readers} readers and {writers} writers that fail")
+
+
+def readers_without_end():
+    """Input without an end, in 64 MB of memory: want of memory, and nothing is written."""
+    runs = 0
+    for words in ("g4 8 0 -", "1d 8 1 l", "2d 4294967295 0 bls", "-o g4 8 1 -"):
+        with open("/dev/zero", "rb") as zeros:
+            done = subprocess.run(
+                [program.PROGRAM, *words.split()], stdin=zeros, capture_output=True, preexec_fn=refusals.limit_memory, timeout=60, check=False
+            )
+        assert (done.returncode, done.stdout, done.stderr) == (3, b"", b"faxrows: out of memory\n"), (words, done)
+        runs += 1
+    print(f"  {runs} readers without end")
+
+
+CHECKS = [each_read_and_write, readers_without_end]

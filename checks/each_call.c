@@ -1,0 +1,51 @@
+/* Decodes cases, a line each on standard input: encoding, columns, rows, flags, as hayro_ccitt.h numbers them, and the data in
+   hexadecimal, `-` for none. Each call is made, on blocks that are exactly as long as they have to be, so that a tool for memory
+   sees each byte that is touched beyond. Of each case a line is written: the status, the bytes read, and the lists. */
+#include <stdio.h>
+#include <stdlib.h>
+#include <string.h>
+
+#include "../c/hayro_ccitt.h"
+
+static void *block(size_t size) {
+    void *made = malloc(size ? size : 1);
+    if (!made) exit(2);
+    return made;
+}
+
+static void each_call(const uint8_t *data, size_t length, const hayro_ccitt_settings *settings) {
+    hayro_ccitt_outcome measured, listed, packed;
+    uint32_t status = hayro_ccitt_measure(data, length, settings, &measured);
+    size_t numbers = measured.rows + measured.changes;
+    uint32_t *lists = block(4 * numbers);
+    if (hayro_ccitt_decode_changes(data, length, settings, lists, numbers, &listed) != status) exit(3);
+    if (memcmp(&measured, &listed, sizeof measured) != 0) exit(4);
+    size_t size = (settings->columns + 7ULL) / 8 * measured.rows;
+    if (size < 1 << 20) {
+        uint8_t *bitmap = block(size);
+        if (hayro_ccitt_decode_packed(data, length, settings, bitmap, size, &packed) != status) exit(5);
+        if (memcmp(&measured, &packed, sizeof measured) != 0) exit(6);
+        free(bitmap);
+    }
+    printf("%u %llu", status, (unsigned long long)measured.bytes_read);
+    for (size_t k = 0; k < numbers; k++) printf(" %u", lists[k]);
+    printf("\n");
+    free(lists);
+}
+
+int main(void) {
+    static char hex[1 << 16];
+    hayro_ccitt_settings settings;
+    while (scanf("%u %u %u %u %65535s", &settings.encoding, &settings.columns, &settings.rows, &settings.flags, hex) == 5) {
+        size_t length = strcmp(hex, "-") == 0 ? 0 : strlen(hex) / 2;
+        uint8_t *data = block(length);
+        for (size_t k = 0; k < length; k++) {
+            unsigned byte;
+            if (sscanf(hex + 2 * k, "%2x", &byte) != 1) return 7;
+            data[k] = (uint8_t)byte;
+        }
+        each_call(data, length, &settings);
+        free(data);
+    }
+    return 0;
+}

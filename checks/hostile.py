@@ -1,0 +1,79 @@
+"""Checks on small data of each shape that has broken fax decoders, and at the type's end: the answers were worked out by an
+independent model."""
+import collections
+import shutil
+import subprocess
+import tempfile
+
+import c_library
+import called
+import program
+
+# each so manieth case is decoded under valgrind, by the library and by the program
+IN_LIBRARY, IN_PROGRAM = 5, 180
+VALGRIND = ["valgrind", "-q", "--error-exitcode=99", "--leak-check=full", "--show-leak-kinds=all", "--errors-for-leak-kinds=all"]
+
+
+def hostile_cases():
+    """Each case, by the library and by the program."""
+    c_library.build()
+    shapes = collections.Counter()
+    with tempfile.TemporaryDirectory() as folder:
+        library = called.Library(folder)
+        for shape, words, text, expected in called.lines_of("hostile.tsv"):
+            data = program.bytes_of(text)
+            assert library.answer(called.settings_of(words), data) == expected, f"{words} {text}"
+            assert called.run(words, data) == expected, f"{words} {text}"
+            shapes[shape] += 1
+    assert len(shapes) == 9, shapes
+    for shape, count in shapes.items():
+        print(f"  {shape}: {count} cases")
+
+
+def numbered(words, text):
+    """A case as a line that `each_call.c` reads."""
+    settings = called.settings_of(words)
+    return f"{settings.encoding} {settings.columns} {settings.rows} {settings.flags} {text}\n"
+
+
+def answer_of(words):
+    """The program's text of a line that `each_call.c` writes: status, bytes read, lists."""
+    status, bytes_read, *numbers = map(int, words.split())
+    lines = []
+    while numbers:
+        count, *numbers = numbers
+        lines.append(" ".join(["r", *map(str, numbers[:count])]))
+        numbers = numbers[count:]
+    return "/".join([*lines, called.TEXTS[status] if status else f"ok {bytes_read}"])
+
+
+def without_errors_of_memory():
+    """A part of the cases under valgrind: no error, and no block that is left."""
+    if not shutil.which("valgrind"):
+        print("  skipped: there is no valgrind")
+        return
+    c_library.build()
+    cases = [case[1:] for case in called.lines_of("hostile.tsv") if "*" not in case[2]]
+    with tempfile.TemporaryDirectory() as folder:
+        driver = c_library.compiled(f"{folder}/each_call", "checks/each_call.c", "c/heap.c", c_library.LIBRARY)
+        chosen = cases[::IN_LIBRARY]
+        lines = "".join(numbered(words, text) for words, text, _ in chosen)
+        done = subprocess.run([*VALGRIND, driver], input=lines, capture_output=True, text=True, check=False, timeout=600)
+        assert (done.returncode, done.stderr) == (0, ""), (done.returncode, done.stderr[-2000:])
+        answers = [answer_of(line) for line in done.stdout.splitlines()]
+        assert answers == [expected for _, _, expected in chosen], "other answers"
+    runs = 0
+    for words, text, expected in cases[::IN_PROGRAM]:
+        for bitmap in ([], ["-o"]):
+            command = [*VALGRIND, program.PROGRAM, *bitmap, *words.split()]
+            if bitmap and int(words.split()[1]) > 1 << 20:
+                continue
+            done = subprocess.run(command, input=program.bytes_of(text), capture_output=True, check=False, timeout=60)
+            assert done.returncode in (0, 1) and b"==" not in done.stderr, (words, text, done)
+            assert bitmap or called.text_of(done) == expected, (words, text, done)
+            runs += 1
+    assert chosen and runs
+    print(f"  {len(chosen)} cases by each call of the library, {runs} runs of the program")
+
+
+CHECKS = [hostile_cases, without_errors_of_memory]
