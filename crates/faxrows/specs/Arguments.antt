@@ -1,5 +1,5 @@
 -- What the words of a call mean: a mode, the columns, the rows, and flags.
-use Rattle.std.specs.Prelude.{ℕ, Bool, ◌&&◌, ◌||◌, List, [], ◌∷◌, length, count_by, nat_lt, nat_le, ◌==◌, Option, Some, None, option_and_then, if◌then◌else◌, codes, bytes_eq}
+use Rattle.std.specs.Prelude.{ℕ, Bool, false, ◌&&◌, ◌||◌, List, [], ◌∷◌, length, count_by, nat_lt, nat_le, ◌==◌, Option, Some, None, option_and_then, if◌then◌else◌, codes, bytes_eq}
 use Rattle.std.specs.List.{list_all}
 use Rattle.std.specs.Char.{is_ascii_digit}
 use Rattle.std.specs.Str.Parse.{digits_value}
@@ -72,3 +72,8 @@ settings_of_four mode columns rows flags = do
 abbrev pub settings_of_words : List (List ℕ) → Option DecodeSettings
 settings_of_words (mode ∷ columns ∷ rows ∷ flags ∷ []) = settings_of_four mode columns rows flags
 settings_of_words _ = None
+
+-- the first word asks for a bitmap in place of text
+abbrev pub asks_for_bitmap : List (List ℕ) → Bool
+asks_for_bitmap [] = false
+asks_for_bitmap (word ∷ words) = bytes_eq word (codes "-o")

@@ -5,7 +5,8 @@
 //! or letters: `b` for an end of block, `l` for ends of line, `a` for aligned rows, `s` for a strict reading.
 #![tactic(auto)]
 
-ghost use Rattle.std.specs.Prelude.{◌<◌, IsTrue, length};
+ghost use Rattle.std.specs.Prelude.{◌≡◌, ◌<◌, IsTrue, length, map, string_bytes};
+ghost use Rattle.faxrows.specs.Arguments.{asks_for_bitmap};
 
 mod arguments;
 pub mod device;
@@ -58,7 +59,8 @@ fn run_words(rt: &HostRuntime) -> Result<u8, RunFault> {
 
 /// Whether the first word asks for a bitmap.
 fn has_bitmap_word(words: &[String]) -> bool
-    ensures { IsTrue result → 0 < length words.now }
+    ensures asked { result ≡ asks_for_bitmap (map string_bytes words.now) }
+    ensures some { IsTrue result → 0 < length words.now }
 {
     !words.is_empty() && words[0].as_str() == "-o"
 }
