@@ -7,6 +7,7 @@ pub mod PeekedBits
 pub mod SoughtEols
 pub mod TablesAgree
 pub mod TaggedEols
+pub mod TurnedBytes
 pub mod WindowWords
 pub mod WordRanges
 pub mod ZeroRuns

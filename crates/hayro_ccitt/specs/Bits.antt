@@ -1,6 +1,8 @@
 -- The bits of the data.
 use Rattle.std.specs.Prelude.{◌+◌, ◌*◌, ◌<◌, length, ℕ, zero, suc, drop, Bool, List, [], ◌∷◌, ◌^◌, ◌/◌, ◌%◌, ◌==◌, ◌≡◌, ◌++◌}
 use Rattle.std.specs.List.{flat_map}
+use Rattle.hayro_ccitt.specs.declared.bit_reader.BitOrder.{BitOrder}
+use Rattle.hayro_ccitt.specs.declared.bit_reader.BitOrder.TheVariants.{HighestFirst, LowestFirst}
 
 -- ---- glue: bits in bytes, and places among bits
 
@@ -12,13 +14,27 @@ Bits = List Bool
 abbrev pub bit_of : ℕ → ℕ → Bool
 bit_of n k = (n / 2 ^ k) % 2 == 1
 
--- the eight bits of a byte, the highest first
-abbrev pub bits_of_byte : ℕ → Bits
-bits_of_byte n = bit_of n 7 ∷ bit_of n 6 ∷ bit_of n 5 ∷ bit_of n 4 ∷ bit_of n 3 ∷ bit_of n 2 ∷ bit_of n 1 ∷ bit_of n 0 ∷ []
+-- the eight bits of a byte, its highest or its lowest first: T.4 and T.6 speak of bits alone, and files and modems hold them
+-- in bytes of either order
+abbrev pub bits_of_byte : BitOrder → ℕ → Bits
+bits_of_byte HighestFirst n = bit_of n 7 ∷ bit_of n 6 ∷ bit_of n 5 ∷ bit_of n 4 ∷ bit_of n 3 ∷ bit_of n 2 ∷ bit_of n 1 ∷ bit_of n 0 ∷ []
+bits_of_byte LowestFirst n = bit_of n 0 ∷ bit_of n 1 ∷ bit_of n 2 ∷ bit_of n 3 ∷ bit_of n 4 ∷ bit_of n 5 ∷ bit_of n 6 ∷ bit_of n 7 ∷ []
 
--- the bits of the data, each byte's highest first
+-- the bits of bytes, each byte's in this order
+abbrev pub bits_in : BitOrder → List ℕ → Bits
+bits_in order bytes = flat_map (bits_of_byte order) bytes
+
+-- the bits of bytes, each byte's highest first
 abbrev pub bits_of : List ℕ → Bits
-bits_of bytes = flat_map bits_of_byte bytes
+bits_of bytes = bits_in HighestFirst bytes
+
+-- the bits of bytes, each byte's lowest first
+abbrev pub low_first_bits_of : List ℕ → Bits
+low_first_bits_of bytes = bits_in LowestFirst bytes
+
+-- so many bits as whole bytes have
+abbrev pub AreWholeBytes : Bits → Type 0
+AreWholeBytes bits = length bits % 8 ≡ 0
 
 -- the lowest bits of a number, so many of them, the highest first
 abbrev pub low_bits : ℕ → ℕ → Bits

@@ -1,5 +1,5 @@
 -- The laws of the plain reading.
-use Rattle.std.specs.Prelude.{◌≡◌, ◌≢◌, ℕ, ◌+◌, ◌-◌, ◌/◌, ◌^◌, ◌<◌, Bool, true, false, not, ◌&&◌, ◌||◌, nat_le, ◌⊎◌, Ok, IsOk}
+use Rattle.std.specs.Prelude.{◌≡◌, ◌≢◌, ℕ, ◌+◌, ◌-◌, ◌*◌, ◌/◌, ◌^◌, ◌<◌, Bool, true, false, not, ◌&&◌, ◌||◌, nat_le, ◌⊎◌, Ok, IsOk}
 use Rattle.std.specs.Prelude.{List, [], ◌∷◌, ◌++◌, length, take, replicate, reverse, All}
 use Rattle.std.specs.List.{list_all, list_any}
 use Rattle.hayro_ccitt.specs.declared.codes.Color.{Color}
@@ -7,7 +7,9 @@ use Rattle.hayro_ccitt.specs.declared.codes.Mode.{Mode}
 use Rattle.hayro_ccitt.specs.declared.settings.EncodingMode.{EncodingMode}
 use Rattle.hayro_ccitt.specs.declared.settings.EncodingMode.TheVariants.{Group4}
 use Rattle.hayro_ccitt.specs.declared.settings.DecodeSettings.{DecodeSettings}
-use Rattle.hayro_ccitt.specs.Bits.{Bits, bits_of, IsPrefix}
+use Rattle.hayro_ccitt.specs.declared.bit_reader.BitOrder.{BitOrder}
+use Rattle.hayro_ccitt.specs.declared.bit_reader.BitOrder.TheVariants.{HighestFirst, LowestFirst}
+use Rattle.hayro_ccitt.specs.Bits.{Bits, bits_of_byte, bits_in, AreWholeBytes, IsPrefix}
 use Rattle.hayro_ccitt.specs.CodeLists.{Code, mode_codes}
 use Rattle.hayro_ccitt.specs.CodeReading.{Has, leading_zeros, PrefixFree}
 use Rattle.hayro_ccitt.specs.Runs.{codes_of}
@@ -100,65 +102,65 @@ limited limit settings = record settings { rows = limit }
 
 -- The strict reading's rows are the first of the lenient one's; where it ends without a fault, both answer the same.
 abbrev pub StrictThenLenient : Type 0
-StrictThenLenient = (settings : DecodeSettings) (bytes : List ℕ) → AreSettings settings
-    → IsPrefix (plain (strictly settings) bytes).rows (plain (leniently settings) bytes).rows
-    × (IsOk (plain (strictly settings) bytes).outcome → plain (strictly settings) bytes ≡ plain (leniently settings) bytes)
+StrictThenLenient = (settings : DecodeSettings) (whole : Bits) → AreSettings settings
+    → IsPrefix (plain (strictly settings) whole).rows (plain (leniently settings) whole).rows
+    × (IsOk (plain (strictly settings) whole).outcome → plain (strictly settings) whole ≡ plain (leniently settings) whole)
 
 -- With a limit the rows are as many of the first as it allows; with so many rows the reading ends without a fault.
 abbrev pub RowLimit : Type 0
-RowLimit = (settings : DecodeSettings) (limit : ℕ) (bytes : List ℕ) → AreSettings settings → 0 < limit → limit < 2 ^ 32
-    → ((plain (limited limit settings) bytes).rows ≡ take limit (plain (limited 0 settings) bytes).rows)
-    × (length (plain (limited limit settings) bytes).rows ≡ limit → IsOk (plain (limited limit settings) bytes).outcome)
+RowLimit = (settings : DecodeSettings) (limit : ℕ) (whole : Bits) → AreSettings settings → 0 < limit → limit < 2 ^ 32
+    → ((plain (limited limit settings) whole).rows ≡ take limit (plain (limited 0 settings) whole).rows)
+    × (length (plain (limited limit settings) whole).rows ≡ limit → IsOk (plain (limited limit settings) whole).outcome)
 
 -- ---- pictures
 
--- glue: the reading of some bytes gives these rows, without a fault
-abbrev pub Gives : DecodeSettings → List ℕ → List Row → Type 0
-Gives settings bytes rows = ((plain settings bytes).rows ≡ rows) × IsOk (plain settings bytes).outcome
+-- glue: the reading of some data gives these rows, without a fault
+abbrev pub Gives : DecodeSettings → Bits → List Row → Type 0
+Gives settings whole rows = ((plain settings whole).rows ≡ rows) × IsOk (plain settings whole).outcome
 
 -- A T.6 picture closed by EOFB gives its rows, whatever follows. The count is the end of EOFB, rounded up to a byte
 -- (T.6, 2.4.1.1).
 abbrev pub ReadsPictureT6 : Type 0
-ReadsPictureT6 = (settings : DecodeSettings) (rows : List Row) (bits : Bits) (bytes : List ℕ) → AreSettings settings
-    → BeginsWithPictureT6 settings rows bits (bits_of bytes)
-    → plain settings bytes ≡ record { rows = rows; outcome = Ok ((length bits + 7) / 8); has_eols = false }
+ReadsPictureT6 = (settings : DecodeSettings) (rows : List Row) (bits whole : Bits) → AreSettings settings → AreWholeBytes whole
+    → BeginsWithPictureT6 settings rows bits whole
+    → plain settings whole ≡ record { rows = rows; outcome = Ok ((length bits + 7) / 8); has_eols = false }
 
 -- A T.4 picture closed by RTC gives its rows, whatever follows. The count is the end of the EOLs that stand where the
 -- last line ends, rounded up to a byte (T.4, 4.1.4 and 4.2.4).
 abbrev pub ReadsPictureT4 : Type 0
-ReadsPictureT4 = (settings : DecodeSettings) (rows : List Row) (bits behind : Bits) (bytes : List ℕ) → AreSettings settings
-    → BeginsWithPictureT4 settings rows bits behind (bits_of bytes)
-    → plain settings bytes ≡ record {
+ReadsPictureT4 = (settings : DecodeSettings) (rows : List Row) (bits behind whole : Bits) → AreSettings settings
+    → BeginsWithPictureT4 settings rows bits behind whole
+    → plain settings whole ≡ record {
       rows = rows;
-      outcome = Ok ((length (bits_of bytes) - length (eols_group3 settings behind).1 + 7) / 8);
+      outcome = Ok ((length whole - length (eols_group3 settings behind).1 + 7) / 8);
       has_eols = true;
     }
 
 -- A closed picture of any kind gives its rows and its count, whatever follows (T.4, 4.1.4 and 4.2.4; T.6, 2.4.1.1).
 abbrev pub ReadsClosedPictures : Type 0
-ReadsClosedPictures = (settings : DecodeSettings) (rows : List Row) (count : ℕ) (bytes : List ℕ) → AreSettings settings
-    → IsClosedPicture settings rows count (bits_of bytes)
-    → ((plain settings bytes).rows ≡ rows) × ((plain settings bytes).outcome ≡ Ok count)
+ReadsClosedPictures = (settings : DecodeSettings) (rows : List Row) (count : ℕ) (whole : Bits) → AreSettings settings → AreWholeBytes whole
+    → IsClosedPicture settings rows count whole
+    → ((plain settings whole).rows ≡ rows) × ((plain settings whole).outcome ≡ Ok count)
 
 -- Lines of T.6 without EOFB are a picture too, where the limit is as many rows (T.6, 2.2).
 abbrev pub ReadsLimitedRowsT6 : Type 0
-ReadsLimitedRowsT6 = (settings : DecodeSettings) (rows : List Row) (bits : Bits) (bytes : List ℕ) → AreSettings settings
-    → BeginsWithRowsT6 settings rows bits (bits_of bytes) → Gives settings bytes rows
+ReadsLimitedRowsT6 = (settings : DecodeSettings) (rows : List Row) (bits whole : Bits) → AreSettings settings → AreWholeBytes whole
+    → BeginsWithRowsT6 settings rows bits whole → Gives settings whole rows
 
 -- So are lines of T.4 without EOLs, where none are looked for (T.4, 4.1.1 and 4.2.1).
 abbrev pub ReadsLimitedRowsT4 : Type 0
-ReadsLimitedRowsT4 = (settings : DecodeSettings) (rows : List Row) (bits : Bits) (bytes : List ℕ) → AreSettings settings
-    → BeginsWithRowsT4 settings rows bits (bits_of bytes) → Gives settings bytes rows
+ReadsLimitedRowsT4 = (settings : DecodeSettings) (rows : List Row) (bits whole : Bits) → AreSettings settings → AreWholeBytes whole
+    → BeginsWithRowsT4 settings rows bits whole → Gives settings whole rows
 
 -- So are lines of T.4 with EOLs and without RTC (T.4, 4.1.2).
 abbrev pub ReadsLimitedPictureT4 : Type 0
-ReadsLimitedPictureT4 = (settings : DecodeSettings) (rows : List Row) (bits : Bits) (bytes : List ℕ) → AreSettings settings
-    → BeginsWithRowsAndEolsT4 settings rows bits (bits_of bytes) → Gives settings bytes rows
+ReadsLimitedPictureT4 = (settings : DecodeSettings) (rows : List Row) (bits whole : Bits) → AreSettings settings
+    → BeginsWithRowsAndEolsT4 settings rows bits whole → Gives settings whole rows
 
 -- Lines of any kind give their rows, where the limit is as many rows (T.4, 4.1.1, 4.1.2 and 4.2.1; T.6, 2.2).
 abbrev pub ReadsLimitedPictures : Type 0
-ReadsLimitedPictures = (settings : DecodeSettings) (rows : List Row) (bytes : List ℕ) → AreSettings settings
-    → IsLimitedPicture settings rows (bits_of bytes) → Gives settings bytes rows
+ReadsLimitedPictures = (settings : DecodeSettings) (rows : List Row) (whole : Bits) → AreSettings settings → AreWholeBytes whole
+    → IsLimitedPicture settings rows whole → Gives settings whole rows
 
 -- Every picture has encodings: as T.6, as T.4 with an EOL before each line, and as lines alone (T.4, 4.1.1, 4.1.4, 4.2.1
 -- and 4.2.4; T.6, 2.2 and 2.4.1.1).
@@ -168,9 +170,17 @@ EveryPictureHasAnEncoding = (columns : ℕ) (rows : List Row) → IsPicture colu
     × ((encoding : EncodingMode) → 0 < length rows → (bits : Bits) × PictureT4 encoding columns rows bits)
     × ((encoding : EncodingMode) (aligned : Bool) → (bits : Bits) × EncodesRows encoding aligned (white_row columns) rows bits)
 
--- glue: any bits are the first of some bytes
+-- glue: any bits are the first of some bytes, in either order
 abbrev pub BytesBeginWithAnyBits : Type 0
-BytesBeginWithAnyBits = (bits : Bits) → (bytes : List ℕ) × All (λ byte. byte < 256) bytes × IsPrefix bits (bits_of bytes)
+BytesBeginWithAnyBits = (order : BitOrder) (bits : Bits) → (bytes : List ℕ) × All (λ byte. byte < 256) bytes × IsPrefix bits (bits_in order bytes)
+
+-- glue: the bits of bytes are whole bytes, in either order
+abbrev pub BitsOfBytesAreWhole : Type 0
+BitsOfBytesAreWhole = (order : BitOrder) (bytes : List ℕ) → AreWholeBytes (bits_in order bytes)
+
+-- glue: with the lowest bit first each byte's bits are those with the highest first, reversed
+abbrev pub OrdersMirror : Type 0
+OrdersMirror = (byte : ℕ) → bits_of_byte LowestFirst byte ≡ reverse (bits_of_byte HighestFirst byte)
 
 -- ---- one picture
 
@@ -192,15 +202,15 @@ ComesToEofb settings bits = (last : Progress) × Reaches (move_group4 settings) 
 
 -- Where T.6 data were read up to their EOFB, data with the same bytes so far are read the same (T.6, 2.4.1.1).
 abbrev pub AfterEofb : Type 0
-AfterEofb = (settings : DecodeSettings) (one two : List ℕ) (count : ℕ) → AreSettings settings
-    → settings.encoding ≡ Group4 → settings.end_of_block ≡ true → ComesToEofb settings (bits_of one)
-    → (plain settings one).outcome ≡ Ok count → take count two ≡ take count one → plain settings two ≡ plain settings one
+AfterEofb = (settings : DecodeSettings) (one two : Bits) (count : ℕ) → AreSettings settings → AreWholeBytes one → AreWholeBytes two
+    → settings.encoding ≡ Group4 → settings.end_of_block ≡ true → ComesToEofb settings one
+    → (plain settings one).outcome ≡ Ok count → take (8 * count) two ≡ take (8 * count) one → plain settings two ≡ plain settings one
 
 -- A T.6 picture comes to its EOFB (T.6, 2.4.1.1).
 abbrev pub PicturesComeToEofb : Type 0
-PicturesComeToEofb = (settings : DecodeSettings) (rows : List Row) (bits more : Bits) (bytes : List ℕ) → AreSettings settings
-    → Allows settings (length rows) → PictureT6 settings.columns settings.rows_are_byte_aligned rows bits
-    → bits_of bytes ≡ bits ++ more → ComesToEofb settings (bits_of bytes)
+PicturesComeToEofb = (settings : DecodeSettings) (rows : List Row) (bits more : Bits) → AreSettings settings
+    → AreWholeBytes (bits ++ more) → Allows settings (length rows) → PictureT6 settings.columns settings.rows_are_byte_aligned rows bits
+    → ComesToEofb settings (bits ++ more)
 
 -- ---- rows and their changes
 

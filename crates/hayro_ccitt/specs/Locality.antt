@@ -1,11 +1,11 @@
 -- One-dimensional lenient data with EOLs: lines by EOLs, and how far damage reaches.
-use Rattle.std.specs.Prelude.{◌≡◌, ◌≢◌, ℕ, suc, ◌+◌, ◌-◌, ◌<◌, ◌≤◌, nat_le, ◌⊎◌, ◌↔◌, Some, None, is_some, Result, Ok, Err}
+use Rattle.std.specs.Prelude.{◌≡◌, ◌≢◌, ℕ, suc, ◌+◌, ◌*◌, ◌-◌, ◌<◌, ◌≤◌, nat_le, ◌⊎◌, ◌↔◌, Some, None, is_some, Result, Ok, Err}
 use Rattle.std.specs.Prelude.{Bool, true, false, not, ◌&&◌, if◌then◌else◌}
 use Rattle.std.specs.Prelude.{List, [], ◌∷◌, ◌++◌, length, take, drop, replicate, map, set, All, Contains}
 use Rattle.hayro_ccitt.specs.declared.error.DecodeError.{DecodeError}
 use Rattle.hayro_ccitt.specs.declared.settings.EncodingMode.TheVariants.{Group3_1D}
 use Rattle.hayro_ccitt.specs.declared.settings.DecodeSettings.{DecodeSettings}
-use Rattle.hayro_ccitt.specs.Bits.{Bits, bits_of, IsPrefix}
+use Rattle.hayro_ccitt.specs.Bits.{Bits, AreWholeBytes, IsPrefix}
 use Rattle.hayro_ccitt.specs.Repetition.{Reaches}
 use Rattle.hayro_ccitt.specs.Rows.{Row, repaired}
 use Rattle.hayro_ccitt.specs.Lines.{Line, line_1d}
@@ -75,11 +75,11 @@ Descends (here ∷ rest) = All (λ other. length other < length here) rest × De
 -- If each line, where it is whole, ends before the last twelve bits of the next EOL, the first rows are those of the lines
 -- that begin behind EOLs, in order (T.4, 4.1.2).
 abbrev pub LinesByEols : Type 0
-LinesByEols = (settings : DecodeSettings) (bytes : List ℕ) → AreSettings settings
+LinesByEols = (settings : DecodeSettings) (bits : Bits) → AreSettings settings
     → settings.encoding ≡ Group3_1D → settings.strict ≡ false → settings.end_of_block ≡ false → settings.rows ≡ 0 → 0 < settings.columns
-    → (settings.end_of_line ≡ true) ⊎ IsEolAt (bits_of bytes)
-    → All (StaysBefore settings.columns) (starts (bits_of bytes))
-    → IsPrefix (map (row_at settings.columns) (starts (bits_of bytes))) (plain settings bytes).rows
+    → (settings.end_of_line ≡ true) ⊎ IsEolAt bits
+    → All (StaysBefore settings.columns) (starts bits)
+    → IsPrefix (map (row_at settings.columns) (starts bits)) (plain settings bits).rows
 
 -- The starts are these places, in order (T.4, 4.1.2).
 abbrev pub StartsAre : Type 0
@@ -123,21 +123,21 @@ ComesToLine settings bits place index = (so_far : Progress)
     × (so_far.rest ≡ drop place bits) × (length so_far.rows ≡ index)
 
 -- the rows of two data are equal, but for at most the one whose line begins at a place in both (T.4, 4.1.2)
-abbrev pub OneRowDiffers : DecodeSettings → List ℕ → List ℕ → ℕ → List Row → List Row → Type 0
+abbrev pub OneRowDiffers : DecodeSettings → Bits → Bits → ℕ → List Row → List Row → Type 0
 OneRowDiffers settings one two from rows others = (others ≡ rows)
     ⊎ ((index : ℕ) × (row : Row)
-    × ComesToLine settings (bits_of one) from index × ComesToLine settings (bits_of two) from index × (others ≡ set rows index row))
+    × ComesToLine settings one from index × ComesToLine settings two from index × (others ≡ set rows index row))
 
 -- glue: the reading of some data, which had this outcome, ended without a fault, at this place among the bits, with this
 -- count of bytes
-pub record EndsAt (settings : DecodeSettings) (bytes : List ℕ) (outcome : Result ℕ DecodeError) (place count : ℕ) : Type 0 where
+pub record EndsAt (settings : DecodeSettings) (bits : Bits) (outcome : Result ℕ DecodeError) (place count : ℕ) : Type 0 where
   pub rest : Bits
-  pub ends : (end_of settings (bits_of bytes)).outcome ≡ Ok rest
-  pub place_is : place + length rest ≡ length (bits_of bytes)
+  pub ends : (end_of settings bits).outcome ≡ Ok rest
+  pub place_is : place + length rest ≡ length bits
   pub count_is : outcome ≡ Ok count
 
 -- How the readings of two data end that differ in the line at a place alone; the first gave these rows (T.4, 4.1.2).
-pub data EndAlike (settings : DecodeSettings) (one two : List ℕ) (from : ℕ) (rows : List Row) (outcome other : Result ℕ DecodeError) : Type 0 where
+pub data EndAlike (settings : DecodeSettings) (one two : Bits) (from : ℕ) (rows : List Row) (outcome other : Result ℕ DecodeError) : Type 0 where
   -- both with the same fault
   faults : (fault : DecodeError) → outcome ≡ Err fault → other ≡ Err fault → EndAlike settings one two from rows outcome other
   -- both at once, without columns
@@ -147,31 +147,31 @@ pub data EndAlike (settings : DecodeSettings) (one two : List ℕ) (from : ℕ) 
       → EndAlike settings one two from rows outcome other
   -- both behind the line's beginning, as many bytes before the end of their data
   past : (place place2 count count2 : ℕ) → from < place → from < place2
-      → EndsAt settings one outcome place count → EndsAt settings two other place2 count2 → count + length two ≡ count2 + length one
+      → EndsAt settings one outcome place count → EndsAt settings two other place2 count2 → 8 * count + length two ≡ 8 * count2 + length one
       → EndAlike settings one two from rows outcome other
   -- both at the limit, which the row of this very line meets, wherever the line ends
   at_limit : (index place place2 count count2 : ℕ)
-      → ComesToLine settings (bits_of one) from index → ComesToLine settings (bits_of two) from index
+      → ComesToLine settings one from index → ComesToLine settings two from index
       → settings.rows ≡ suc index → length rows ≡ suc index → from ≤ place → from ≤ place2
       → EndsAt settings one outcome place count → EndsAt settings two other place2 count2
       → EndAlike settings one two from rows outcome other
 
 -- Two data differ within one body alone, which is local in both; and EOLs are sought from the front on (T.4, 4.1.2).
-pub record DifferInOneBody (settings : DecodeSettings) (one two : List ℕ) (from to to2 : ℕ) : Type 0 where
-  pub before : take from (bits_of one) ≡ take from (bits_of two)
-  pub behind : drop to (bits_of one) ≡ drop to2 (bits_of two)
-  pub body : IsLocal settings (bits_of one) from to
-  pub other : IsLocal settings (bits_of two) from to2
-  pub sought : (settings.end_of_line ≡ true) ⊎ ((end : ℕ) × (end ≤ from) × IsEol (bits_of one) 0 end)
+pub record DifferInOneBody (settings : DecodeSettings) (one two : Bits) (from to to2 : ℕ) : Type 0 where
+  pub before : take from one ≡ take from two
+  pub behind : drop to one ≡ drop to2 two
+  pub body : IsLocal settings one from to
+  pub other : IsLocal settings two from to2
+  pub sought : (settings.end_of_line ≡ true) ⊎ ((end : ℕ) × (end ≤ from) × IsEol one 0 end)
 
 -- Some data were read as these rows, with this outcome. Whatever stands in the place of one local body, all rows but at
 -- most the one of this body are those of the other data's plain reading, and both end alike (T.4, 4.1.2).
-abbrev pub DamageStaysInRow : DecodeSettings → List ℕ → List Row → Result ℕ DecodeError → Type 0
-DamageStaysInRow settings one rows outcome = (two : List ℕ) (from to to2 : ℕ) → DifferInOneBody settings one two from to to2
+abbrev pub DamageStaysInRow : DecodeSettings → Bits → List Row → Result ℕ DecodeError → Type 0
+DamageStaysInRow settings one rows outcome = (two : Bits) (from to to2 : ℕ) → AreWholeBytes two → DifferInOneBody settings one two from to to2
     → OneRowDiffers settings one two from rows (plain settings two).rows
     × EndAlike settings one two from rows outcome (plain settings two).outcome
 
 -- The plain reading is such a one (T.4, 4.1.2).
 abbrev pub Locality : Type 0
-Locality = (settings : DecodeSettings) (bytes : List ℕ) → AreSettings settings
-    → DamageStaysInRow settings bytes (plain settings bytes).rows (plain settings bytes).outcome
+Locality = (settings : DecodeSettings) (bits : Bits) → AreSettings settings → AreWholeBytes bits
+    → DamageStaysInRow settings bits (plain settings bits).rows (plain settings bits).outcome

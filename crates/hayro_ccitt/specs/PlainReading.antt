@@ -5,7 +5,7 @@ use Rattle.hayro_ccitt.specs.declared.error.DecodeError.TheVariants.{UnexpectedE
 use Rattle.hayro_ccitt.specs.declared.settings.EncodingMode.{EncodingMode}
 use Rattle.hayro_ccitt.specs.declared.settings.EncodingMode.TheVariants.{Group4, Group3_1D, Group3_2D}
 use Rattle.hayro_ccitt.specs.declared.settings.DecodeSettings.{DecodeSettings}
-use Rattle.hayro_ccitt.specs.Bits.{Bits, bits_of}
+use Rattle.hayro_ccitt.specs.Bits.{Bits}
 use Rattle.hayro_ccitt.specs.Repetition.{Turn, repeated, gathered}
 use Rattle.hayro_ccitt.specs.Rows.{Row, white_row, repaired}
 use Rattle.hayro_ccitt.specs.Lines.{Line, line_1d, line_2d}
@@ -254,10 +254,9 @@ whole_reading bits end = record { rows = end.rows; outcome = bytes_before bits e
 abbrev pub nothing_read : Reading
 nothing_read = record { rows = []; outcome = Ok 0; has_eols = false }
 
--- The plain reading of some bytes: without columns nothing is read.
-abbrev pub plain : DecodeSettings → List ℕ → Reading
-plain settings bytes =
-    if settings.columns == 0 then nothing_read else whole_reading (bits_of bytes) (end_of settings (bits_of bytes))
+-- The plain reading of the bits of some data: without columns nothing is read.
+abbrev pub plain : DecodeSettings → Bits → Reading
+plain settings bits = if settings.columns == 0 then nothing_read else whole_reading bits (end_of settings bits)
 
 -- ---- glue: the lines that are read, at most one a turn
 
@@ -286,5 +285,5 @@ lines_by Group3_1D settings bits = gathered_from (move_group3 settings) (lines_o
 lines_by Group3_2D settings bits = gathered_from (move_group3 settings) (lines_of_move_group3 settings) (start_group3 settings bits)
 
 -- The lines that the plain reading reads, in order. The line of an index is read when so many rows stand.
-abbrev pub lines_of : DecodeSettings → List ℕ → List Line
-lines_of settings bytes = if settings.columns == 0 then [] else lines_by settings.encoding settings (bits_of bytes)
+abbrev pub lines_of : DecodeSettings → Bits → List Line
+lines_of settings bits = if settings.columns == 0 then [] else lines_by settings.encoding settings bits

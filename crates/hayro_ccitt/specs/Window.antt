@@ -1,7 +1,14 @@
 -- The window of a reader over its data. No reader of contracts has to believe this: the code is proved to keep it so.
-use Rattle.std.specs.Prelude.{◌≡◌, ℕ, ◌+◌, ◌-◌, ◌*◌, ◌<◌, ◌≤◌, false, length, get_or}
-use Rattle.hayro_ccitt.specs.Bits.{BitsFit, bit_of, bits_of}
+use Rattle.std.specs.Prelude.{◌≡◌, ℕ, ◌+◌, ◌-◌, ◌*◌, ◌/◌, ◌%◌, ◌<◌, ◌≤◌, false, length, get_or}
+use Rattle.hayro_ccitt.specs.Bits.{BitsFit, bit_of, bits_in}
+use Rattle.hayro_ccitt.specs.declared.bit_reader.BitOrder.{BitOrder}
+use Rattle.hayro_ccitt.specs.declared.bit_reader.BitOrder.TheVariants.{HighestFirst, LowestFirst}
 use Rattle.hayro_ccitt.specs.declared.bit_reader.BitReader.TheInside.{Inside}
+
+-- where the bit of an index stands in a word of eight bytes, counted from the highest
+abbrev pub place_in_word : BitOrder → ℕ → ℕ
+place_in_word HighestFirst k = k
+place_in_word LowestFirst k = 8 * (k / 8) + (7 - k % 8)
 
 -- The window holds the bits from the place on, the first in the highest position: those up to 32 behind the limit, zeros
 -- past the end. The place is at most the limit, so that they are the next 32 at least.
@@ -10,4 +17,4 @@ pub record IsFilled (r : Inside) : Type 0 where
   pub within : r.place ≤ r.limit
   pub before_end : r.limit ≤ 8 * length r.«data».now
   pub near : r.limit ≤ r.place + 32
-  pub held : (k : ℕ) → k < r.limit + 32 - r.place → bit_of r.window (63 - k) ≡ get_or (bits_of r.«data».now) (r.place + k) false
+  pub held : (k : ℕ) → k < r.limit + 32 - r.place → bit_of r.window (63 - k) ≡ get_or (bits_in r.order r.«data».now) (r.place + k) false

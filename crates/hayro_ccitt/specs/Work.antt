@@ -3,7 +3,7 @@ use Rattle.std.specs.Prelude.{ℕ, ◌+◌, ◌*◌, ◌≤◌, List, [], ◌∷
 use Rattle.hayro_ccitt.specs.declared.settings.DecodeSettings.{DecodeSettings}
 use Rattle.hayro_ccitt.specs.declared.settings.EncodingMode.{EncodingMode}
 use Rattle.hayro_ccitt.specs.declared.settings.EncodingMode.TheVariants.{Group4, Group3_1D, Group3_2D}
-use Rattle.hayro_ccitt.specs.Bits.{Bits, bits_of}
+use Rattle.hayro_ccitt.specs.Bits.{Bits}
 use Rattle.hayro_ccitt.specs.Lines.{found_2d, line_found}
 use Rattle.hayro_ccitt.specs.PlainReading.{Progress, Gap, row_before, gap_group4, move_group4, move_group3, start_group4, start_group3, gathered_from}
 use Rattle.hayro_ccitt.specs.Rows.{Row}
@@ -36,8 +36,8 @@ words_by Group3_1D settings bits = gathered_from (move_group3 settings) (words_o
 words_by Group3_2D settings bits = gathered_from (move_group3 settings) (words_of_move_group3 settings) (start_group3 settings bits)
 
 -- The words that the lines of the plain reading find, in the order of `lines_of`.
-abbrev pub words_of : DecodeSettings → List ℕ → List (List Bits)
-words_of settings bytes = if settings.columns == 0 then [] else words_by settings.encoding settings (bits_of bytes)
+abbrev pub words_of : DecodeSettings → Bits → List (List Bits)
+words_of settings bits = if settings.columns == 0 then [] else words_by settings.encoding settings bits
 
 -- ---- glue: how much is counted
 
@@ -54,7 +54,7 @@ most_counted Group3_2D bits = 36 * bits + 14
 
 -- What decoding counts: each word that the lines of the rows taken find; and no more than 128 ticks a bit and 256 more, in
 -- Group 4 no more than 22 a bit and one, in Group 3 no more than 36 a bit and 14.
-pub record CountsWork (settings : DecodeSettings) (bytes : List ℕ) (taken ticks : ℕ) : Type 0 where
-  pub words : sum_by length (take taken (words_of settings bytes)) ≤ ticks
-  pub bound : ticks ≤ 128 * length (bits_of bytes) + 256
-  pub closer : ticks ≤ most_counted settings.encoding (length (bits_of bytes))
+pub record CountsWork (settings : DecodeSettings) (bits : Bits) (taken ticks : ℕ) : Type 0 where
+  pub words : sum_by length (take taken (words_of settings bits)) ≤ ticks
+  pub bound : ticks ≤ 128 * length bits + 256
+  pub closer : ticks ≤ most_counted settings.encoding (length bits)

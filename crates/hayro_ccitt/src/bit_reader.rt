@@ -1,13 +1,24 @@
 //! The bits of a slice of bytes, read from the front.
 
 ghost use Rattle.std.specs.Prelude.{◌≡◌, ◌+◌, ◌-◌, ◌*◌, ◌/◌, ◌%◌, ◌^◌, ◌<◌, ◌≤◌, ◌==◌, ◌↔◌, ℕ, length, min, false, slice_get, slice_index, get_or, Some, IfOk, OnOk, OnErr, IsErr, IsOkUnless};
-ghost use Rattle.hayro_ccitt.specs.Bits.{BitsAt, BitsFit, bits_of, bit_of, here};
+ghost use Rattle.hayro_ccitt.specs.Bits.{AreWholeBytes, BitsAt, BitsFit, bits_of, low_first_bits_of, bits_in, bit_of, here};
 ghost use Rattle.hayro_ccitt.specs.PlainReading.{at_end, aligned};
+ghost use Rattle.hayro_ccitt.specs.Window.{place_in_word};
 
 use crate::{DecodeError, Result};
 use std::marker::Model;
 
-/// The bits of some bytes, each byte's highest first, and a place among them.
+/// Which bit of a byte comes first. T.4 and T.6 speak of bits alone; PDF has the highest first, TIFF says it by FillOrder,
+/// and most fax modems have the lowest first.
+#[derive(Copy, Clone, Debug, PartialEq, Eq)]
+pub enum BitOrder {
+    /// From the highest bit to the lowest (FillOrder 1).
+    HighestFirst,
+    /// From the lowest bit to the highest (FillOrder 2).
+    LowestFirst,
+}
+
+/// The bits of some bytes, in either order, and a place among them.
 ///
 /// The next bits stand in a window, the first in its highest position, zeros past the end: all that are at most 32
 /// behind the limit. The place never passes the limit, so that the window has the next 32 at least.
@@ -17,29 +28,52 @@ pub struct BitReader<'a> {
     place: usize,
     limit: usize,
     window: u64,
+    order: BitOrder,
 }
 
 impl<'a> Model for BitReader<'a> {
-    ghost use Rattle.hayro_ccitt.specs.Bits.{BitsAt, bits_of};
+    ghost use Rattle.hayro_ccitt.specs.Bits.{BitsAt, bits_in};
 
     ghost Value = { BitsAt };
 
     ghost use Rattle.hayro_ccitt.specs.Window.{IsFilled};
 
-    ghost view = { λ r. record { bits = bits_of r.data.now; place = r.place } };
+    ghost view = { λ r. record { bits = bits_in r.order r.data.now; place = r.place } };
 
     ghost invariant = { IsFilled };
 }
 
+/// Each byte of a word with its bits in the other order.
+#[inline(always)]
+fn bytes_turned(word: u64) -> u64
+    ensures { (k : ℕ) → k < 64 → bit_of result k ≡ bit_of word (8 * (k / 8) + (7 - k % 8)) }
+{
+    let nibbles = (word >> 4) & 0x0F0F_0F0F_0F0F_0F0F | (word & 0x0F0F_0F0F_0F0F_0F0F) << 4;
+    let pairs = (nibbles >> 2) & 0x3333_3333_3333_3333 | (nibbles & 0x3333_3333_3333_3333) << 2;
+    (pairs >> 1) & 0x5555_5555_5555_5555 | (pairs & 0x5555_5555_5555_5555) << 1
+}
+
+/// The bits of a word of eight bytes, the first in the highest position.
+#[inline(always)]
+fn in_order(word: u64, order: BitOrder) -> u64
+    ensures { (k : ℕ) → k < 64 → bit_of result (63 - k) ≡ bit_of word (63 - place_in_word order k) }
+{
+    match order {
+        BitOrder::HighestFirst => word,
+        BitOrder::LowestFirst => bytes_turned(word),
+    }
+}
+
 /// The bits of the eight bytes at the front, the first in the highest position.
 #[inline(always)]
-fn whole_word(bytes: &[u8]) -> u64
+fn whole_word(bytes: &[u8], order: BitOrder) -> u64
     requires { 8 ≤ length bytes.now }
-    ensures { (k : ℕ) → k < 64 → bit_of result (63 - k) ≡ get_or (bits_of bytes.now) k false }
+    ensures { (k : ℕ) → k < 64 → bit_of result (63 - k) ≡ get_or (bits_in order bytes.now) k false }
 {
-    u64::from_be_bytes([
+    let word = u64::from_be_bytes([
         bytes[0], bytes[1], bytes[2], bytes[3], bytes[4], bytes[5], bytes[6], bytes[7],
-    ])
+    ]);
+    in_order(word, order)
 }
 
 /// The byte at an index, 0 past the end.
@@ -52,10 +86,10 @@ fn byte_or_zero(bytes: &[u8], index: usize) -> u8
 /// The bits of the last bytes, fewer than eight, the first in the highest position, with zeros behind them.
 #[cold]
 #[inline(never)]
-fn last_word(bytes: &[u8]) -> u64
-    ensures { (k : ℕ) → k < 64 → bit_of result (63 - k) ≡ get_or (bits_of bytes.now) k false }
+fn last_word(bytes: &[u8], order: BitOrder) -> u64
+    ensures { (k : ℕ) → k < 64 → bit_of result (63 - k) ≡ get_or (bits_in order bytes.now) k false }
 {
-    u64::from_be_bytes([
+    let word = u64::from_be_bytes([
         byte_or_zero(bytes, 0),
         byte_or_zero(bytes, 1),
         byte_or_zero(bytes, 2),
@@ -64,25 +98,26 @@ fn last_word(bytes: &[u8]) -> u64
         byte_or_zero(bytes, 5),
         byte_or_zero(bytes, 6),
         byte_or_zero(bytes, 7),
-    ])
+    ]);
+    in_order(word, order)
 }
 
 /// The 64 bits from a byte on, the first in the highest position, with zeros past the end.
 #[inline(always)]
-fn word_at(data: &[u8], byte: usize) -> u64
+fn word_at(data: &[u8], order: BitOrder, byte: usize) -> u64
     requires { byte ≤ length «data».now }
-    ensures { (k : ℕ) → k < 64 → bit_of result (63 - k) ≡ get_or (bits_of «data».now) (8 * byte + k) false }
+    ensures { (k : ℕ) → k < 64 → bit_of result (63 - k) ≡ get_or (bits_in order «data».now) (8 * byte + k) false }
 {
     let rest = &data[byte..];
     if rest.len() >= 8 {
-        whole_word(rest)
+        whole_word(rest, order)
     } else {
-        last_word(rest)
+        last_word(rest, order)
     }
 }
 
 impl<'a> BitReader<'a> {
-    /// A reader at the first bit.
+    /// A reader at the first bit, with each byte's highest bit first.
     pub fn new(data: &'a [u8]) -> BitReader<'a>
         requires { BitsFit «data».now }
         ensures { result ≡ record { bits = bits_of «data».now; place = 0 } }
@@ -90,19 +125,37 @@ impl<'a> BitReader<'a> {
         BitReader::starting_at(data, 0)
     }
 
-    /// A reader at a place among the bits.
-    #[inline(always)]
+    /// A reader at the first bit, with each byte's lowest bit first.
+    pub fn new_low_first(data: &'a [u8]) -> BitReader<'a>
+        requires { BitsFit «data».now }
+        ensures { result ≡ record { bits = low_first_bits_of «data».now; place = 0 } }
+    {
+        BitReader::at_place(data, BitOrder::LowestFirst, 0)
+    }
+
+    /// A reader at a place among the bits, with each byte's highest bit first.
     pub(crate) fn starting_at(data: &'a [u8], place: usize) -> BitReader<'a>
         requires fit { BitsFit «data».now }
         requires within { place ≤ 8 * length «data».now }
         ensures { result ≡ record { bits = bits_of «data».now; place = place } }
+    {
+        BitReader::at_place(data, BitOrder::HighestFirst, place)
+    }
+
+    /// A reader at a place among the bits.
+    #[inline(always)]
+    fn at_place(data: &'a [u8], order: BitOrder, place: usize) -> BitReader<'a>
+        requires fit { BitsFit «data».now }
+        requires within { place ≤ 8 * length «data».now }
+        ensures { result ≡ record { bits = bits_in order «data».now; place = place } }
     {
         let byte = place / 8;
         BitReader {
             data,
             place,
             limit: (byte * 8 + 32).min(data.len() * 8),
-            window: word_at(data, byte) << (place % 8),
+            window: word_at(data, order, byte) << (place % 8),
+            order,
         }
     }
 
@@ -163,7 +216,7 @@ impl<'a> BitReader<'a> {
             self.window = 0;
             return Err(DecodeError::UnexpectedEof);
         }
-        *self = BitReader::starting_at(self.data, next);
+        *self = BitReader::at_place(self.data, self.order, next);
         Ok(())
     }
 
@@ -182,7 +235,7 @@ impl<'a> BitReader<'a> {
     pub fn at_end(&self) -> bool
         ensures end { result ≡ at_end (here self.now) }
         ensures within { self.now.place ≤ length self.now.bits }
-        ensures whole_bytes { length self.now.bits % 8 ≡ 0 }
+        ensures whole_bytes { AreWholeBytes self.now.bits }
         ensures fit { length self.now.bits + 64 < 2 ^ 64 }
     {
         self.byte_pos() >= self.data.len()
@@ -213,6 +266,7 @@ impl<'a> BitReader<'a> {
             place: self.place,
             limit: self.limit,
             window: self.window,
+            order: self.order,
         }
     }
 }

@@ -9,7 +9,7 @@ ghost use Rattle.hayro_ccitt.specs.Laws.{each_word, has_few_zeros, Synchronised,
 ghost use Rattle.hayro_ccitt.specs.Laws.{ReadsClosedPictures, ReadsLimitedPictures};
 ghost use Rattle.hayro_ccitt.specs.Laws.{ReadsPictureT6, ReadsLimitedRowsT6, ReadsPictureT4, ReadsLimitedPictureT4, ReadsLimitedRowsT4};
 ghost use Rattle.hayro_ccitt.specs.Laws.{AfterEofb, PicturesComeToEofb, OnePictureT6, OnePictureT4};
-ghost use Rattle.hayro_ccitt.specs.Laws.{EveryPictureHasAnEncoding, BytesBeginWithAnyBits, RowsOfChanges, ChangesOfRows};
+ghost use Rattle.hayro_ccitt.specs.Laws.{EveryPictureHasAnEncoding, BytesBeginWithAnyBits, BitsOfBytesAreWhole, OrdersMirror, RowsOfChanges, ChangesOfRows};
 ghost use Rattle.hayro_ccitt.specs.Locality.{LinesByEols, StartsAre, Locality, LocalByTests};
 
 /// Code words hold few zeros. Each word of a run has at most seven at its front and three at its end, each word of a
@@ -105,8 +105,14 @@ pub fn changes_are_rows()
     ensures changes { ChangesOfRows }
 {}
 
+/// The laws speak of bits. Those of bytes are whole bytes, in either order, and the orders mirror each other in each byte.
+pub fn bits_of_bytes()
+    ensures whole { BitsOfBytesAreWhole }
+    ensures mirrored { OrdersMirror }
+{}
+
 /// Every picture with a column has a T.6 encoding, and with a row a T.4 encoding of each kind, and bytes begin with any
-/// bits: the laws about encodings are about all pictures.
+/// bits, in either order: the laws about encodings are about all pictures.
 pub fn every_picture_has_an_encoding()
     ensures bits { EveryPictureHasAnEncoding }
     ensures bytes { BytesBeginWithAnyBits }

@@ -4,9 +4,9 @@
 //! a [`Decoder`].
 #![tactic(auto)]
 
-ghost use Rattle.std.specs.Prelude.{◌≡◌, ◌<◌, ◌≤◌, ◌↔◌, ◌⊎◌, ℕ, List, Bool, true, false, OnOk, OnErr, IfOk, Ok, IsOk, IsOkUnless, IsTrue, length, take};
+ghost use Rattle.std.specs.Prelude.{◌≡◌, ◌*◌, ◌<◌, ◌≤◌, ◌↔◌, ◌⊎◌, ℕ, List, Bool, true, false, OnOk, OnErr, IfOk, Ok, IsOk, IsOkUnless, IsTrue, length, take};
 ghost use Rattle.hayro_ccitt.specs.Answers.{OnAnswer, meaning_after};
-ghost use Rattle.hayro_ccitt.specs.Bits.{BitsFit, bits_of, here};
+ghost use Rattle.hayro_ccitt.specs.Bits.{AreWholeBytes, BitsFit, bits_of, low_first_bits_of, here};
 ghost use Rattle.hayro_ccitt.specs.Context.{fresh};
 ghost use Rattle.hayro_ccitt.specs.Decoding.{TakesRows, StopsShort, leaving};
 ghost use Rattle.hayro_ccitt.specs.Locality.{DamageStaysInRow};
@@ -108,8 +108,51 @@ fn decode_rows<D: Decoder>(
     }
 }
 
-/// Decodes an image: hands its rows to the sink, and answers how many bytes were read. The context is reset
-/// first, so what it decoded before doesn't matter.
+/// Decodes the image whose bits a reader has from its start on, in whichever order its bytes hold them.
+fn decode_bits<D: Decoder>(
+    reader: &mut BitReader<'_>,
+    decoder: &mut D,
+    ctx: &mut DecoderContext,
+) -> Result<usize>
+    requires start { reader.old.place ≡ 0 }
+    requires whole { AreWholeBytes reader.old.bits }
+    requires width { ctx.old.held.settings.columns ≤ D.width decoder.old }
+    ensures width { D.width decoder.new ≡ D.width decoder.old }
+    ensures settings { ctx.new.held.settings ≡ ctx.old.held.settings }
+    ensures reading { TakesRows (plain ctx.old.held.settings reader.old.bits).rows
+        (plain ctx.old.held.settings reader.old.bits).outcome (plain ctx.old.held.settings reader.old.bits).has_eols
+        (D.step (D.width decoder.old))
+        (record { meaning = D.meaning decoder.old; refused = D.has_refused decoder.old })
+        (record { meaning = D.meaning decoder.new; refused = D.has_refused decoder.new }) ctx.new.held result }
+    ensures within { IfOk result (λ n. 8 * n ≤ length reader.old.bits) }
+    ensures no_eols { (ctx.old.held.settings.encoding ≡ EncodingMode.Group4) ⊎ (ctx.old.held.settings.columns ≡ 0)
+        → ctx.new.held.has_eols ≡ false }
+    ensures short { StopsShort (plain ctx.old.held.settings reader.old.bits).rows
+        (lines_of ctx.old.held.settings reader.old.bits)
+        (record { meaning = D.meaning decoder.old; refused = D.has_refused decoder.old })
+        (record { meaning = D.meaning decoder.new; refused = D.has_refused decoder.new }) ctx.new.held result }
+    ensures closed { (rows : List Row) (count : ℕ)
+        → IsClosedPicture ctx.old.held.settings rows count reader.old.bits
+        → OnAnswer result ((result ≡ Ok count)
+        × (D.meaning decoder.new ≡ meaning_after (D.step (D.width decoder.old)) (D.meaning decoder.old) rows)) }
+    ensures limited { (rows : List Row) → IsLimitedPicture ctx.old.held.settings rows reader.old.bits
+        → OnAnswer result (IsOk result
+        × (D.meaning decoder.new ≡ meaning_after (D.step (D.width decoder.old)) (D.meaning decoder.old) rows)) }
+    ensures damage { OnAnswer result (DamageStaysInRow ctx.old.held.settings reader.old.bits
+        (take ctx.new.held.taken (plain ctx.old.held.settings reader.old.bits).rows) result) }
+    ensures work { CountsWork ctx.old.held.settings reader.old.bits ctx.new.held.taken ctx.new.ticks }
+{
+    ctx.restart();
+    if ctx.settings().columns == 0 {
+        return Ok(0);
+    }
+    decode_rows(ctx, reader, decoder)?;
+    reader.align();
+    Ok(reader.byte_pos())
+}
+
+/// Decodes an image: hands its rows to the sink, and answers how many bytes were read. Each byte's
+/// highest bit comes first. The context is reset first, so what it decoded before doesn't matter.
 ///
 /// `UnexpectedEof`, `InvalidCode` and `Overflow` say that the data is at fault; the rows before stand.
 /// `OutOfMemory` comes only while a change of a row is stored, so in a line that paints a black pixel, and
@@ -122,8 +165,8 @@ pub fn decode<D: Decoder>(data: &[u8], decoder: &mut D, ctx: &mut DecoderContext
     ensures settings { ctx.new.held.settings ≡ ctx.old.held.settings }
 
     // The rows, the outcome and the count are those of the plain reading.
-    ensures reading { TakesRows (plain ctx.old.held.settings «data».now).rows
-        (plain ctx.old.held.settings «data».now).outcome (plain ctx.old.held.settings «data».now).has_eols
+    ensures reading { TakesRows (plain ctx.old.held.settings (bits_of «data».now)).rows
+        (plain ctx.old.held.settings (bits_of «data».now)).outcome (plain ctx.old.held.settings (bits_of «data».now)).has_eols
         (D.step (D.width decoder.old))
         (record { meaning = D.meaning decoder.old; refused = D.has_refused decoder.old })
         (record { meaning = D.meaning decoder.new; refused = D.has_refused decoder.new }) ctx.new.held result }
@@ -132,7 +175,7 @@ pub fn decode<D: Decoder>(data: &[u8], decoder: &mut D, ctx: &mut DecoderContext
         → ctx.new.held.has_eols ≡ false }
 
     // Fewer rows are taken only where memory is wanted for a black pixel, or the sink refuses a row.
-    ensures short { StopsShort (plain ctx.old.held.settings «data».now).rows (lines_of ctx.old.held.settings «data».now)
+    ensures short { StopsShort (plain ctx.old.held.settings (bits_of «data».now)).rows (lines_of ctx.old.held.settings (bits_of «data».now))
         (record { meaning = D.meaning decoder.old; refused = D.has_refused decoder.old })
         (record { meaning = D.meaning decoder.new; refused = D.has_refused decoder.new }) ctx.new.held result }
 
@@ -148,18 +191,61 @@ pub fn decode<D: Decoder>(data: &[u8], decoder: &mut D, ctx: &mut DecoderContext
         × (D.meaning decoder.new ≡ meaning_after (D.step (D.width decoder.old)) (D.meaning decoder.old) rows)) }
 
     // In lenient one-dimensional data with EOLs a change inside one line's body changes that row alone.
-    ensures damage { OnAnswer result (DamageStaysInRow ctx.old.held.settings «data».now
-        (take ctx.new.held.taken (plain ctx.old.held.settings «data».now).rows) result) }
+    ensures damage { OnAnswer result (DamageStaysInRow ctx.old.held.settings (bits_of «data».now)
+        (take ctx.new.held.taken (plain ctx.old.held.settings (bits_of «data».now)).rows) result) }
 
     // It counts at least the words of the rows taken, and at most 128 ticks a bit and 256 more.
-    ensures work { CountsWork ctx.old.held.settings «data».now ctx.new.held.taken ctx.new.ticks }
+    ensures work { CountsWork ctx.old.held.settings (bits_of «data».now) ctx.new.held.taken ctx.new.ticks }
 {
-    ctx.restart();
-    if ctx.settings().columns == 0 {
-        return Ok(0);
-    }
-    let mut reader = BitReader::new(data);
-    decode_rows(ctx, &mut reader, decoder)?;
-    reader.align();
-    Ok(reader.byte_pos())
+    decode_bits(&mut BitReader::new(data), decoder, ctx)
+}
+
+/// Decodes an image as [`decode`] does, but with each byte's lowest bit first: TIFF's FillOrder 2, and what most fax modems
+/// hold. The data need not be reversed before.
+///
+/// Rows, answers and refusals are those of [`decode`] over these bits.
+pub fn decode_low_first<D: Decoder>(
+    data: &[u8],
+    decoder: &mut D,
+    ctx: &mut DecoderContext,
+) -> Result<usize>
+    requires fit { BitsFit «data».now }
+    requires width { ctx.old.held.settings.columns ≤ D.width decoder.old }
+    ensures width { D.width decoder.new ≡ D.width decoder.old }
+    ensures settings { ctx.new.held.settings ≡ ctx.old.held.settings }
+
+    // The rows, the outcome and the count are those of the plain reading.
+    ensures reading { TakesRows (plain ctx.old.held.settings (low_first_bits_of «data».now)).rows
+        (plain ctx.old.held.settings (low_first_bits_of «data».now)).outcome (plain ctx.old.held.settings (low_first_bits_of «data».now)).has_eols
+        (D.step (D.width decoder.old))
+        (record { meaning = D.meaning decoder.old; refused = D.has_refused decoder.old })
+        (record { meaning = D.meaning decoder.new; refused = D.has_refused decoder.new }) ctx.new.held result }
+    ensures within { IfOk result (λ n. n ≤ length «data».now) }
+    ensures no_eols { (ctx.old.held.settings.encoding ≡ EncodingMode.Group4) ⊎ (ctx.old.held.settings.columns ≡ 0)
+        → ctx.new.held.has_eols ≡ false }
+
+    // Fewer rows are taken only where memory is wanted for a black pixel, or the sink refuses a row.
+    ensures short { StopsShort (plain ctx.old.held.settings (low_first_bits_of «data».now)).rows (lines_of ctx.old.held.settings (low_first_bits_of «data».now))
+        (record { meaning = D.meaning decoder.old; refused = D.has_refused decoder.old })
+        (record { meaning = D.meaning decoder.new; refused = D.has_refused decoder.new }) ctx.new.held result }
+
+    // A T.6 encoding closed by EOFB, or a T.4 one closed by RTC, gives its picture, whatever follows it.
+    ensures closed { (rows : List Row) (count : ℕ)
+        → IsClosedPicture ctx.old.held.settings rows count (low_first_bits_of «data».now)
+        → OnAnswer result ((result ≡ Ok count)
+        × (D.meaning decoder.new ≡ meaning_after (D.step (D.width decoder.old)) (D.meaning decoder.old) rows)) }
+
+    // So do as many lines as the limit.
+    ensures limited { (rows : List Row) → IsLimitedPicture ctx.old.held.settings rows (low_first_bits_of «data».now)
+        → OnAnswer result (IsOk result
+        × (D.meaning decoder.new ≡ meaning_after (D.step (D.width decoder.old)) (D.meaning decoder.old) rows)) }
+
+    // In lenient one-dimensional data with EOLs a change inside one line's body changes that row alone.
+    ensures damage { OnAnswer result (DamageStaysInRow ctx.old.held.settings (low_first_bits_of «data».now)
+        (take ctx.new.held.taken (plain ctx.old.held.settings (low_first_bits_of «data».now)).rows) result) }
+
+    // It counts at least the words of the rows taken, and at most 128 ticks a bit and 256 more.
+    ensures work { CountsWork ctx.old.held.settings (low_first_bits_of «data».now) ctx.new.held.taken ctx.new.ticks }
+{
+    decode_bits(&mut BitReader::new_low_first(data), decoder, ctx)
 }

@@ -1,26 +1,62 @@
 -- Where the bits of bytes lie.
-use Rattle.std.proofs.Common.{◌≡◌, ℕ, zero, suc, ◌+◌, ◌-◌, ◌*◌, ◌<◌, List, [], ◌∷◌, length, get_or, drop, Some, refl, ap, arith}
+use Rattle.std.proofs.Common.{◌≡◌, ℕ, zero, suc, ◌+◌, ◌-◌, ◌*◌, ◌<◌, List, [], ◌∷◌, ◌++◌, length, get_or, drop, Some, refl, ap, ◌∙◌, arith}
 use Rattle.std.specs.Prelude.{slice_get}
-use Rattle.hayro_ccitt.specs.Bits.{bit_of, bits_of, low_bits}
+use Rattle.hayro_ccitt.specs.declared.bit_reader.BitOrder.{BitOrder}
+use Rattle.hayro_ccitt.specs.declared.bit_reader.BitOrder.TheVariants.{HighestFirst, LowestFirst}
+use Rattle.hayro_ccitt.specs.Bits.{Bits, AreWholeBytes, bit_of, bits_of_byte, bits_in, bits_of, low_bits}
+
+pub length-bits_in : (order : BitOrder) (bytes : List ℕ) → length (bits_in order bytes) ≡ 8 * length bytes
+length-bits_in order [] = refl
+length-bits_in HighestFirst (b ∷ bytes) = omega (arith, length-bits_in HighestFirst bytes)
+length-bits_in LowestFirst (b ∷ bytes) = omega (arith, length-bits_in LowestFirst bytes)
 
 pub length-bits_of : (bytes : List ℕ) → length (bits_of bytes) ≡ 8 * length bytes
-length-bits_of [] = refl
-length-bits_of (b ∷ bytes) = omega (arith, length-bits_of bytes)
+length-bits_of bytes = length-bits_in HighestFirst bytes
 
-pub slice_get-bits_of : (bytes : List ℕ) (q r : ℕ) → q < length bytes → r < 8 → slice_get (bits_of bytes) (8 * q + r) ≡ Some (bit_of (get_or bytes q 0) (7 - r))
-slice_get-bits_of [] q r h k = absurd (omega arith)
-slice_get-bits_of (b ∷ bytes) zero zero h k = refl
-slice_get-bits_of (b ∷ bytes) zero (suc zero) h k = refl
-slice_get-bits_of (b ∷ bytes) zero (suc (suc zero)) h k = refl
-slice_get-bits_of (b ∷ bytes) zero (suc (suc (suc zero))) h k = refl
-slice_get-bits_of (b ∷ bytes) zero (suc (suc (suc (suc zero)))) h k = refl
-slice_get-bits_of (b ∷ bytes) zero (suc (suc (suc (suc (suc zero))))) h k = refl
-slice_get-bits_of (b ∷ bytes) zero (suc (suc (suc (suc (suc (suc zero)))))) h k = refl
-slice_get-bits_of (b ∷ bytes) zero (suc (suc (suc (suc (suc (suc (suc zero))))))) h k = refl
-slice_get-bits_of (b ∷ bytes) zero (suc (suc (suc (suc (suc (suc (suc (suc r)))))))) h k = absurd (omega arith)
-slice_get-bits_of (b ∷ bytes) (suc q) r h k =
+-- bytes are whole
+pub bits_are_whole : (order : BitOrder) (bytes : List ℕ) → AreWholeBytes (bits_in order bytes)
+bits_are_whole order bytes = omega (arith, length-bits_in order bytes)
+
+-- where the bit of an index stands in a byte
+abbrev pub place_in_byte : BitOrder → ℕ → ℕ
+place_in_byte HighestFirst r = 7 - r
+place_in_byte LowestFirst r = r
+
+-- the bits of the first byte
+bit_of_first : (order : BitOrder) (b : ℕ) (rest : Bits) (r : ℕ) → r < 8 → slice_get (bits_of_byte order b ++ rest) r ≡ Some (bit_of b (place_in_byte order r))
+bit_of_first HighestFirst b rest zero k = refl
+bit_of_first HighestFirst b rest (suc zero) k = refl
+bit_of_first HighestFirst b rest (suc (suc zero)) k = refl
+bit_of_first HighestFirst b rest (suc (suc (suc zero))) k = refl
+bit_of_first HighestFirst b rest (suc (suc (suc (suc zero)))) k = refl
+bit_of_first HighestFirst b rest (suc (suc (suc (suc (suc zero))))) k = refl
+bit_of_first HighestFirst b rest (suc (suc (suc (suc (suc (suc zero)))))) k = refl
+bit_of_first HighestFirst b rest (suc (suc (suc (suc (suc (suc (suc zero))))))) k = refl
+bit_of_first LowestFirst b rest zero k = refl
+bit_of_first LowestFirst b rest (suc zero) k = refl
+bit_of_first LowestFirst b rest (suc (suc zero)) k = refl
+bit_of_first LowestFirst b rest (suc (suc (suc zero))) k = refl
+bit_of_first LowestFirst b rest (suc (suc (suc (suc zero)))) k = refl
+bit_of_first LowestFirst b rest (suc (suc (suc (suc (suc zero))))) k = refl
+bit_of_first LowestFirst b rest (suc (suc (suc (suc (suc (suc zero)))))) k = refl
+bit_of_first LowestFirst b rest (suc (suc (suc (suc (suc (suc (suc zero))))))) k = refl
+bit_of_first order b rest (suc (suc (suc (suc (suc (suc (suc (suc r)))))))) k = absurd (omega arith)
+
+-- the bits behind the first byte
+bits_behind : (order : BitOrder) (b : ℕ) (bytes : List ℕ) (i : ℕ)
+    → slice_get (bits_in order (b ∷ bytes)) (suc (suc (suc (suc (suc (suc (suc (suc i)))))))) ≡ slice_get (bits_in order bytes) i
+bits_behind HighestFirst b bytes i = refl
+bits_behind LowestFirst b bytes i = refl
+
+pub slice_get-bits_in : (order : BitOrder) (bytes : List ℕ) (q r : ℕ) → q < length bytes → r < 8
+    → slice_get (bits_in order bytes) (8 * q + r) ≡ Some (bit_of (get_or bytes q 0) (place_in_byte order r))
+slice_get-bits_in order [] q r h k = absurd (omega arith)
+slice_get-bits_in order (b ∷ bytes) zero r h k =
+    let i : 8 * zero + r ≡ r = omega arith in
+    rw i (bit_of_first order b (bits_in order bytes) r k)
+slice_get-bits_in order (b ∷ bytes) (suc q) r h k =
     let i : 8 * suc q + r ≡ suc (suc (suc (suc (suc (suc (suc (suc (8 * q + r)))))))) = omega arith in
-    rw i (slice_get-bits_of bytes q r (omega arith) k)
+    rw i (bits_behind order b bytes (8 * q + r) ∙ slice_get-bits_in order bytes q r (omega arith) k)
 
 -- the bits from a place on begin with the bit there
 pub drop_some : {A : Type 0} (xs : List A) (i : ℕ) (x : A) → slice_get xs i ≡ Some x → drop i xs ≡ x ∷ drop (i + 1) xs

@@ -2,17 +2,18 @@
 use Rattle.std.proofs.Common.{◌≡◌, ℕ, zero, suc, ◌+◌, ◌-◌, ◌*◌, ◌/◌, ◌%◌, ◌<◌, ◌≤◌, inl, inr, true, false, leb, List, [], ◌∷◌, length, drop, min, refl, sym, ◌∙◌, arith}
 use Rattle.std.proofs.lemmas.Bool.{cases_lt, le-leb, lt-leb}
 use Rattle.std.proofs.lemmas.List.{length-drop, drop-drop}
-use Rattle.hayro_ccitt.specs.Bits.{Bits, BitsAt, bits_of, here}
+use Rattle.hayro_ccitt.specs.declared.bit_reader.BitOrder.{BitOrder}
+use Rattle.hayro_ccitt.specs.Bits.{Bits, BitsAt, bits_in, here}
 use Rattle.hayro_ccitt.specs.PlainReading.{at_end, aligned}
-use Rattle.hayro_ccitt.proofs.BitReading.BitLists.{length-bits_of}
+use Rattle.hayro_ccitt.proofs.BitReading.BitLists.{length-bits_in}
 
 -- these bits, at a place
 abbrev pub bits_at : Bits → ℕ → BitsAt
 bits_at bits place = record { bits = bits; place = place }
 
 -- a place of the bytes is a place of their bits
-pub within_bits : (bytes : List ℕ) (place : ℕ) → place ≤ 8 * length bytes → place ≤ length (bits_of bytes)
-within_bits bytes place h = omega (arith, length-bits_of bytes)
+pub within_bits : (order : BitOrder) (bytes : List ℕ) (place : ℕ) → place ≤ 8 * length bytes → place ≤ length (bits_in order bytes)
+within_bits order bytes place h = omega (arith, length-bits_in order bytes)
 
 -- past its end nothing of a list is left
 at_end_past : (xs : Bits) (i : ℕ) → length xs ≤ i → at_end (drop i xs) ≡ true
@@ -28,18 +29,18 @@ at_end_before (x ∷ xs) zero h = refl
 at_end_before (x ∷ xs) (suc i) h = at_end_before xs i (omega arith)
 
 -- no bit is left where all bytes are passed
-pub at_end-drop : (bytes : List ℕ) (place : ℕ) → leb (length bytes) (place / 8) ≡ at_end (drop place (bits_of bytes))
-at_end-drop bytes place = elim (cases_lt place (8 * length bytes)) [
-  | inl lt ↦ lt-leb _ _ (omega arith) ∙ sym (at_end_before (bits_of bytes) place (omega (arith, length-bits_of bytes)))
-  | inr ge ↦ le-leb _ _ (omega arith) ∙ sym (at_end_past (bits_of bytes) place (omega (arith, length-bits_of bytes)))
+pub at_end-drop : (order : BitOrder) (bytes : List ℕ) (place : ℕ) → leb (length bytes) (place / 8) ≡ at_end (drop place (bits_in order bytes))
+at_end-drop order bytes place = elim (cases_lt place (8 * length bytes)) [
+  | inl lt ↦ lt-leb _ _ (omega arith) ∙ sym (at_end_before (bits_in order bytes) place (omega (arith, length-bits_in order bytes)))
+  | inr ge ↦ le-leb _ _ (omega arith) ∙ sym (at_end_past (bits_in order bytes) place (omega (arith, length-bits_in order bytes)))
 ]
 
 -- the next whole byte leaves whole bytes
-pub aligned-drop : (bytes : List ℕ) (place next : ℕ) → place ≤ 8 * length bytes → next ≡ place + (8 * length bytes - place) % 8
-    → drop next (bits_of bytes) ≡ aligned (drop place (bits_of bytes))
-aligned-drop bytes place next h e =
-    let left : length (drop place (bits_of bytes)) ≡ 8 * length bytes - place = omega (arith, length-bits_of bytes, length-drop place (bits_of bytes)) in
-    rw (left, drop-drop ((8 * length bytes - place) % 8) place (bits_of bytes), e) refl
+pub aligned-drop : (order : BitOrder) (bytes : List ℕ) (place next : ℕ) → place ≤ 8 * length bytes → next ≡ place + (8 * length bytes - place) % 8
+    → drop next (bits_in order bytes) ≡ aligned (drop place (bits_in order bytes))
+aligned-drop order bytes place next h e =
+    let left : length (drop place (bits_in order bytes)) ≡ 8 * length bytes - place = omega (arith, length-bits_in order bytes, length-drop place (bits_in order bytes)) in
+    rw (left, drop-drop ((8 * length bytes - place) % 8) place (bits_in order bytes), e) refl
 
 -- ---- So many bits from the place on, where they are there and where they aren't.
 pub bits_missing : (at : BitsAt) (n k : ℕ) → n ≡ k → 0 < k → length at.bits < at.place + n → length (here at) < k

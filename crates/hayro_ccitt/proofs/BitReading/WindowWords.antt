@@ -7,28 +7,31 @@ use Rattle.std.proofs.lemmas.List.{get_or-drop, get_or_past}
 use Rattle.std.proofs.lemmas.Nat.{pow-add}
 use Rattle.std.proofs.lemmas.Nat.Bits.{bit_at-zero, bit_at_cat_low, bit_at_cat_high}
 use Rattle.std.proofs.lemmas.Option.{slice_get-get_or}
-use Rattle.hayro_ccitt.specs.Bits.{Bits, bit_of, bits_of}
-use Rattle.hayro_ccitt.proofs.BitReading.BitLists.{length-bits_of, slice_get-bits_of}
+use Rattle.hayro_ccitt.specs.declared.bit_reader.BitOrder.{BitOrder}
+use Rattle.hayro_ccitt.specs.declared.bit_reader.BitOrder.TheVariants.{HighestFirst, LowestFirst}
+use Rattle.hayro_ccitt.specs.Bits.{Bits, bit_of, bits_of, bits_in}
+use Rattle.hayro_ccitt.specs.Window.{place_in_word}
+use Rattle.hayro_ccitt.proofs.BitReading.BitLists.{length-bits_in, place_in_byte, slice_get-bits_in}
 
 -- the bit at a place, and a zero past the end
-pub get_or-bits_of : (bytes : List ℕ) (n : ℕ) → get_or (bits_of bytes) n false ≡ bit_of (get_or bytes (n / 8) 0) (7 - n % 8)
-get_or-bits_of bytes n = elim (cases_lt n (8 * length bytes)) [
+pub get_or-bits_in : (order : BitOrder) (bytes : List ℕ) (n : ℕ) → get_or (bits_in order bytes) n false ≡ bit_of (get_or bytes (n / 8) 0) (place_in_byte order (n % 8))
+get_or-bits_in order bytes n = elim (cases_lt n (8 * length bytes)) [
   | inl inside ↦
       let e : n ≡ 8 * (n / 8) + n % 8 = omega arith in
-      let there = slice_get-bits_of bytes (n / 8) (n % 8) (omega arith) (omega arith) in
-      let found = slice_get-get_or (bits_of bytes) n false (omega (arith, length-bits_of bytes)) in
-      let again = ap (λ (m : ℕ). slice_get (bits_of bytes) m) e ∙ there in cc
+      let there = slice_get-bits_in order bytes (n / 8) (n % 8) (omega arith) (omega arith) in
+      let found = slice_get-get_or (bits_in order bytes) n false (omega (arith, length-bits_in order bytes)) in
+      let again = ap (λ (m : ℕ). slice_get (bits_in order bytes) m) e ∙ there in cc
   | inr past ↦
       let zero_byte : get_or bytes (n / 8) 0 ≡ 0 = get_or_past bytes (n / 8) 0 (omega arith) in
-      get_or_past (bits_of bytes) n false (omega (arith, length-bits_of bytes)) ∙ sym (rw zero_byte (ap (λ (b : ℕ). eqb b 1) (bit_at-zero (7 - n % 8))))
+      get_or_past (bits_in order bytes) n false (omega (arith, length-bits_in order bytes)) ∙ sym (rw zero_byte (ap (λ (b : ℕ). eqb b 1) (bit_at-zero (place_in_byte order (n % 8)))))
 ]
 
 -- the bits from a byte on
-pub bits_of-drop : (bytes : List ℕ) (b n : ℕ) → get_or (bits_of (drop b bytes)) n false ≡ get_or (bits_of bytes) (8 * b + n) false
-bits_of-drop bytes b n =
+pub bits_in-drop : (order : BitOrder) (bytes : List ℕ) (b n : ℕ) → get_or (bits_in order (drop b bytes)) n false ≡ get_or (bits_in order bytes) (8 * b + n) false
+bits_in-drop order bytes b n =
     let byte : (8 * b + n) / 8 ≡ b + n / 8 = omega arith in
     let bit : (8 * b + n) % 8 ≡ n % 8 = omega arith in
-    rw (get_or-bits_of (drop b bytes) n, get_or-bits_of bytes (8 * b + n), get_or-drop b bytes (n / 8) 0, byte, bit) refl
+    rw (get_or-bits_in order (drop b bytes) n, get_or-bits_in order bytes (8 * b + n), get_or-drop b bytes (n / 8) 0, byte, bit) refl
 
 -- ---- A word that is read from bytes.
 abbrev pub IsBytes : List ℕ → Type 0
@@ -85,17 +88,27 @@ from_be_bytes-onto : (bytes : List ℕ) → from_be_bytes w64 bytes ≡ onto 0 (
 from_be_bytes-onto bytes = omega arith
 
 -- the bits of a word, the highest first, are those of its bytes
-pub word_bit : (bytes : List ℕ) (k : ℕ) → IsBytes bytes → k < 64 → bit_of (from_be_bytes w64 bytes) (63 - k) ≡ get_or (bits_of bytes) k false
+word_bit : (bytes : List ℕ) (k : ℕ) → IsBytes bytes → k < 64 → bit_of (from_be_bytes w64 bytes) (63 - k) ≡ get_or (bits_of bytes) k false
 word_bit bytes k fits h =
     let at : 63 - k ≡ 8 * (8 - 1 - k / 8) + (7 - k % 8) = omega arith in
     let byte : k / 8 < 8 = omega arith in
     rw (from_be_bytes-onto bytes, at)
     (ap (λ (b : ℕ). eqb b 1) (bit_from_end (eight bytes) 0 (k / 8) (k % 8) (eight_fit bytes fits) byte (omega arith)
-    ∙ ap (λ (b : ℕ). bit_at b (7 - k % 8)) (eight_at bytes (k / 8) byte)) ∙ sym (get_or-bits_of bytes k))
+    ∙ ap (λ (b : ℕ). bit_at b (7 - k % 8)) (eight_at bytes (k / 8) byte)) ∙ sym (get_or-bits_in HighestFirst bytes k))
+
+-- and in either order where it is so arranged
+pub ordered_bit : (order : BitOrder) (bytes : List ℕ) (w k : ℕ) → bit_of w (63 - k) ≡ bit_of (from_be_bytes w64 bytes) (63 - place_in_word order k) → IsBytes bytes → k < 64
+    → bit_of w (63 - k) ≡ get_or (bits_in order bytes) k false
+ordered_bit HighestFirst bytes w k is fits h = is ∙ word_bit bytes k fits h
+ordered_bit LowestFirst bytes w k is fits h =
+    let place : ℕ = 8 * (k / 8) + (7 - k % 8) in
+    let byte : place / 8 ≡ k / 8 = omega arith in
+    let bit : 7 - place % 8 ≡ k % 8 = omega arith in
+    is ∙ word_bit bytes place fits (omega arith) ∙ get_or-bits_in HighestFirst bytes place ∙ rw (byte, bit) (sym (get_or-bits_in LowestFirst bytes k))
 
 -- ---- A window that is moved.
 -- a bit below the top of a word is one of its own, whatever stands above
-bit_at-mod : (w i : ℕ) → i < 64 → bit_at (w % 2 ^ 64) i ≡ bit_at w i
+pub bit_at-mod : (w i : ℕ) → i < 64 → bit_at (w % 2 ^ 64) i ≡ bit_at w i
 bit_at-mod w i h =
     let whole : w ≡ w / 2 ^ 64 * 2 ^ 64 + w % 2 ^ 64 = omega arith in
     sym (ap (λ (v : ℕ). bit_at v i) whole ∙ bit_at_cat_low (w / 2 ^ 64) 64 (w % 2 ^ 64) i h)
@@ -124,11 +137,11 @@ holds_on bits place n most w le held k h =
     shifted_bit w n k (omega arith) ∙ held (n + k) h ∙ ap (λ (i : ℕ). get_or bits i false) at
 
 -- a word from a byte on, shifted to a place in that byte
-pub filled : (bytes : List ℕ) (place w : ℕ) → ((k : ℕ) → k < 64 → bit_of w (63 - k) ≡ get_or (bits_of bytes) (8 * (place / 8) + k) false)
-    → (k : ℕ) → place % 8 + k < 64 → bit_of (w * 2 ^ (place % 8) % 2 ^ 64) (63 - k) ≡ get_or (bits_of bytes) (place + k) false
-filled bytes place w held k h =
+pub filled : (order : BitOrder) (bytes : List ℕ) (place w : ℕ) → ((k : ℕ) → k < 64 → bit_of w (63 - k) ≡ get_or (bits_in order bytes) (8 * (place / 8) + k) false)
+    → (k : ℕ) → place % 8 + k < 64 → bit_of (w * 2 ^ (place % 8) % 2 ^ 64) (63 - k) ≡ get_or (bits_in order bytes) (place + k) false
+filled order bytes place w held k h =
     let at : 8 * (place / 8) + place % 8 + k ≡ place + k = omega arith in
-    holds_on (bits_of bytes) (8 * (place / 8)) (place % 8) 64 w (omega arith) held k h ∙ ap (λ (i : ℕ). get_or (bits_of bytes) i false) at
+    holds_on (bits_in order bytes) (8 * (place / 8)) (place % 8) 64 w (omega arith) held k h ∙ ap (λ (i : ℕ). get_or (bits_in order bytes) i false) at
 
 -- the highest bit of a window, as a number
 pub top_bit : (w : ℕ) → w < 2 ^ 64 → (w / 2 ^ 63 ≤ 1) × (bit_of w 63 ≡ eqb (w / 2 ^ 63) 1)
@@ -137,6 +150,6 @@ top_bit w h =
     (omega arith, ap (λ (n : ℕ). eqb n 1) low)
 
 -- at the end the bits are zeros
-pub none_held : (bytes : List ℕ) (end k : ℕ) → 8 * length bytes ≤ end → bit_of 0 (63 - k) ≡ get_or (bits_of bytes) (end + k) false
-none_held bytes end k h =
-    ap (λ (b : ℕ). eqb b 1) (bit_at-zero (63 - k)) ∙ sym (get_or_past (bits_of bytes) (end + k) false (omega (arith, h, length-bits_of bytes)))
+pub none_held : (order : BitOrder) (bytes : List ℕ) (end k : ℕ) → 8 * length bytes ≤ end → bit_of 0 (63 - k) ≡ get_or (bits_in order bytes) (end + k) false
+none_held order bytes end k h =
+    ap (λ (b : ℕ). eqb b 1) (bit_at-zero (63 - k)) ∙ sym (get_or_past (bits_in order bytes) (end + k) false (omega (arith, h, length-bits_in order bytes)))

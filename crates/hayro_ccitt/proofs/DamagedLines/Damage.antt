@@ -1,5 +1,5 @@
 -- Damage to one line changes its row alone.
-use Rattle.std.proofs.Common.{◌≡◌, ℕ, suc, ◌+◌, ◌-◌, ◌/◌, ◌<◌, ◌≤◌, Bool, true, false, ◌||◌, eqb, ltb, List, [], ◌∷◌, ◌++◌, length, take, drop}
+use Rattle.std.proofs.Common.{◌≡◌, ℕ, suc, ◌+◌, ◌-◌, ◌*◌, ◌/◌, ◌<◌, ◌≤◌, Bool, true, false, ◌||◌, eqb, ltb, List, [], ◌∷◌, ◌++◌, length, take, drop}
 use Rattle.std.proofs.Common.{replicate, set, Option, Some, None, Result, Ok, Err, refl, sym, ap, subst, ◌∙◌, append_assoc, arith, ◌⊎◌, inl, inr}
 use Rattle.std.proofs.lemmas.Bool.{cases_lt, cases_eq, eq-eqb, ne_eqb, or_right, cond-true, cond-false}
 use Rattle.std.proofs.lemmas.List.{length-append, length-take-le, length-drop, take-append-drop, append_cancel_right, replicate-append-replicate}
@@ -13,7 +13,7 @@ use Rattle.hayro_ccitt.specs.declared.settings.DecodeSettings.{DecodeSettings}
 use Rattle.hayro_ccitt.specs.Answers.{OnAnswer}
 use Rattle.hayro_ccitt.specs.Context.{Held}
 use Rattle.hayro_ccitt.specs.Decoding.{SinkState, TakesRows}
-use Rattle.hayro_ccitt.specs.Bits.{Bits, bits_of}
+use Rattle.hayro_ccitt.specs.Bits.{Bits, AreWholeBytes}
 use Rattle.hayro_ccitt.specs.Settings.{AreSettings}
 use Rattle.hayro_ccitt.specs.Repetition.{repeated, Reaches}
 use Rattle.hayro_ccitt.specs.Rows.{Row}
@@ -21,7 +21,6 @@ use Rattle.hayro_ccitt.specs.EndOfLine.{after_eol, all_eols}
 use Rattle.hayro_ccitt.specs.PlainReading.{Progress, Ending, start_group3, move_group3, plain_group3, end_by, end_of, bytes_before, plain, Reading, nothing_read, whole_reading}
 use Rattle.hayro_ccitt.specs.Locality.{IsEol, IsLocal, ComesToLine, OneRowDiffers, EndsAt, EndAlike, DamageStaysInRow, Locality}
 use Rattle.hayro_ccitt.proofs.Readings.Repeated.{reached_follows}
-use Rattle.hayro_ccitt.proofs.BitReading.BitLists.{length-bits_of}
 use Rattle.hayro_ccitt.proofs.Readings.TurnsMoveOn.{left_group3, left_group3_below, move_group3_shrinks}
 use Rattle.hayro_ccitt.proofs.DamagedLines.PastEol.{all_eols-none}
 use Rattle.hayro_ccitt.proofs.DamagedLines.SoughtTurns.{sought}
@@ -36,36 +35,36 @@ use Rattle.hayro_ccitt.proofs.DamagedLines.LineTails.{after_eol_is, is_tail}
 count_at : (bits : Bits) (rest : Bits) (place : ℕ) → place + length rest ≡ length bits → bytes_before bits (Ok rest) ≡ Ok ((place + 7) / 8)
 count_at bits rest place e = let sum : length bits - length rest ≡ place = omega (arith, e) in ap (λ (n : ℕ). Ok ((n + 7) / 8)) sum
 
-module _ (settings : DecodeSettings) (wide : 0 < settings.columns) (one two : List ℕ) (from : ℕ) (x y after : Bits)
-    (length_one : length (bits_of one) ≡ from + length x) (length_two : length (bits_of two) ≡ from + length y)
-    (x_is : x ≡ drop from (bits_of one)) (y_is : y ≡ drop from (bits_of two)) (tail_x : IsTail settings.columns after x) (tail_y : IsTail settings.columns after y) where
+module _ (settings : DecodeSettings) (wide : 0 < settings.columns) (one two : Bits) (from : ℕ) (x y after : Bits) (whole_one : AreWholeBytes one) (whole_two : AreWholeBytes two)
+    (length_one : length one ≡ from + length x) (length_two : length two ≡ from + length y)
+    (x_is : x ≡ drop from one) (y_is : y ≡ drop from two) (tail_x : IsTail settings.columns after x) (tail_y : IsTail settings.columns after y) where
   -- the ends of both readings
   abbrev end_one : Ending
-  end_one = end_of settings (bits_of one)
+  end_one = end_of settings one
 
   -- the end of the other
   abbrev end_two : Ending
-  end_two = end_of settings (bits_of two)
+  end_two = end_of settings two
 
-  plain_is : (bytes : List ℕ) → plain settings bytes ≡ whole_reading (bits_of bytes) (end_of settings (bits_of bytes))
-  plain_is bytes = cond-false (eqb settings.columns 0) _ _ (ne_eqb settings.columns 0 (λ e. absurd (omega (arith, e, wide))))
+  plain_is : (bits : Bits) → plain settings bits ≡ whole_reading bits (end_of settings bits)
+  plain_is bits = cond-false (eqb settings.columns 0) _ _ (ne_eqb settings.columns 0 (λ e. absurd (omega (arith, e, wide))))
 
-  rows_of : (bytes : List ℕ) → (plain settings bytes).rows ≡ (end_of settings (bits_of bytes)).rows
-  rows_of bytes = ap (λ (a : Reading). a.rows) (plain_is bytes)
+  rows_of : (bits : Bits) → (plain settings bits).rows ≡ (end_of settings bits).rows
+  rows_of bits = ap (λ (a : Reading). a.rows) (plain_is bits)
 
-  outcome_of : (bytes : List ℕ) (r : Result Bits DecodeError) → (end_of settings (bits_of bytes)).outcome ≡ r
-      → (plain settings bytes).outcome ≡ bytes_before (bits_of bytes) r
-  outcome_of bytes r e = ap (λ (a : Reading). a.outcome) (plain_is bytes) ∙ ap (bytes_before (bits_of bytes)) e
+  outcome_of : (bits : Bits) (r : Result Bits DecodeError) → (end_of settings bits).outcome ≡ r
+      → (plain settings bits).outcome ≡ bytes_before bits r
+  outcome_of bits r e = ap (λ (a : Reading). a.outcome) (plain_is bits) ∙ ap (bytes_before bits) e
 
   -- in both readings the line is read when these rows stand
   abbrev Begins : List Row → Type 0
-  Begins rows = Reaches (move_group3 settings) (start_group3 settings (bits_of one)) (sought rows x)
-      × Reaches (move_group3 settings) (start_group3 settings (bits_of two)) (sought rows y)
+  Begins rows = Reaches (move_group3 settings) (start_group3 settings one) (sought rows x)
+      × Reaches (move_group3 settings) (start_group3 settings two) (sought rows y)
 
-  comes_one : (rows : List Row) → Begins rows → ComesToLine settings (bits_of one) from (length rows)
+  comes_one : (rows : List Row) → Begins rows → ComesToLine settings one from (length rows)
   comes_one rows begins = (sought rows x, begins.0, x_is, refl)
 
-  comes_two : (rows : List Row) → Begins rows → ComesToLine settings (bits_of two) from (length rows)
+  comes_two : (rows : List Row) → Begins rows → ComesToLine settings two from (length rows)
   comes_two rows begins = (sought rows y, begins.1, y_is, refl)
 
   -- what the law says of both answers
@@ -85,9 +84,9 @@ module _ (settings : DecodeSettings) (wide : 0 < settings.columns) (one two : Li
         rows_of two ∙ f ∙ sym (ap (λ (l : List Row). set l (length before) b) (rows_of one ∙ e) ∙ set_at before a more b (length before) refl),
       )
 
-  ends_at : (bytes : List ℕ) (rest : Bits) (place : ℕ) → (end_of settings (bits_of bytes)).outcome ≡ Ok rest
-      → place + length rest ≡ length (bits_of bytes) → EndsAt settings bytes (plain settings bytes).outcome place ((place + 7) / 8)
-  ends_at bytes rest place e at = record { rest = rest; ends = e; place_is = at; count_is = outcome_of bytes (Ok rest) e ∙ count_at (bits_of bytes) rest place at }
+  ends_at : (bits : Bits) (rest : Bits) (place : ℕ) → (end_of settings bits).outcome ≡ Ok rest
+      → place + length rest ≡ length bits → EndsAt settings bits (plain settings bits).outcome place ((place + 7) / 8)
+  ends_at bits rest place e at = record { rest = rest; ends = e; place_is = at; count_is = outcome_of bits (Ok rest) e ∙ count_at bits rest place at }
 
   shorter_x : length after < length x
   shorter_x = past_shorter 0 x after tail_x.next
@@ -101,8 +100,8 @@ module _ (settings : DecodeSettings) (wide : 0 < settings.columns) (one two : Li
       (rows_differ rows, EndAlike.faults fault (outcome_of one (Err fault) e) (outcome_of two (Err fault) f))
   answers_alike (EndsAlike.early bits short e f rows) =
       let place : ℕ = from - (length bits + 1) in
-      let at_one : place + length (bits ++ true ∷ x) ≡ length (bits_of one) = omega (arith, short, length-append bits (true ∷ x), length_one) in
-      let at_two : place + length (bits ++ true ∷ y) ≡ length (bits_of two) = omega (arith, short, length-append bits (true ∷ y), length_two) in (
+      let at_one : place + length (bits ++ true ∷ x) ≡ length one = omega (arith, short, length-append bits (true ∷ x), length_one) in
+      let at_two : place + length (bits ++ true ∷ y) ≡ length two = omega (arith, short, length-append bits (true ∷ y), length_two) in (
         rows_differ (inl rows),
         EndAlike.before place ((place + 7) / 8) (omega arith) (ends_at one (bits ++ true ∷ x) place e at_one)
             (ends_at two (bits ++ true ∷ y) place f at_two),
@@ -112,20 +111,20 @@ module _ (settings : DecodeSettings) (wide : 0 < settings.columns) (one two : Li
     EndAlike.before from ((from + 7) / 8) (omega arith) (ends_at one x from e (sym length_one)) (ends_at two y from f (sym length_two)),
   )
   answers_alike (EndsAlike.later rest short e f rows) =
-      let place : ℕ = length (bits_of one) - length rest in
-      let place2 : ℕ = length (bits_of two) - length rest in
-      let at_one : place + length rest ≡ length (bits_of one) = omega (arith, short, shorter_x, length_one) in
-      let at_two : place2 + length rest ≡ length (bits_of two) = omega (arith, short, shorter_y, length_two) in
-      let counts : (place + 7) / 8 + length two ≡ (place2 + 7) / 8 + length one = omega (arith, at_one, at_two, length-bits_of one, length-bits_of two) in (
+      let place : ℕ = length one - length rest in
+      let place2 : ℕ = length two - length rest in
+      let at_one : place + length rest ≡ length one = omega (arith, short, shorter_x, length_one) in
+      let at_two : place2 + length rest ≡ length two = omega (arith, short, shorter_y, length_two) in
+      let counts : 8 * ((place + 7) / 8) + length two ≡ 8 * ((place2 + 7) / 8) + length one = omega (arith, at_one, at_two, whole_one, whole_two) in (
         rows_differ rows,
         EndAlike.past place place2 ((place + 7) / 8) ((place2 + 7) / 8) (omega (arith, short, shorter_x, length_one))
             (omega (arith, short, shorter_y, length_two)) (ends_at one rest place e at_one) (ends_at two rest place2 f at_two) counts,
       )
   answers_alike (EndsAlike.limit before a b u v begins is r q e f le le2) =
-      let place : ℕ = length (bits_of one) - length u in
-      let place2 : ℕ = length (bits_of two) - length v in
-      let at_one : place + length u ≡ length (bits_of one) = omega (arith, le, length_one) in
-      let at_two : place2 + length v ≡ length (bits_of two) = omega (arith, le2, length_two) in (
+      let place : ℕ = length one - length u in
+      let place2 : ℕ = length two - length v in
+      let at_one : place + length u ≡ length one = omega (arith, le, length_one) in
+      let at_two : place2 + length v ≡ length two = omega (arith, le2, length_two) in (
         rows_differ (inr (before, a, b, [], r, q, begins)),
         EndAlike.at_limit (length before) place place2 ((place + 7) / 8) ((place2 + 7) / 8) (comes_one before begins) (comes_two before begins) is
             (ap length (rows_of one ∙ r) ∙ length-append before (a ∷ []) ∙ omega arith) (omega (arith, le, length_one)) (omega (arith, le2, length_two))
@@ -239,16 +238,16 @@ module _ (settings : DecodeSettings) (one two : Bits) (from : ℕ) (after : Bits
 
 -- the law
 pub locality : Locality
-locality settings one are two from to to2 differ = by (cases_eq settings.columns 0)
+locality settings one are whole_one two from to to2 whole_two differ = by (cases_eq settings.columns 0)
   where
-    local_one : IsLocal settings (bits_of one) from to
+    local_one : IsLocal settings one from to
     local_one = differ.body
 
-    local_two : IsLocal settings (bits_of two) from to2
+    local_two : IsLocal settings two from to2
     local_two = differ.other
 
-    no_columns : settings.columns ≡ 0 → (bytes : List ℕ) → plain settings bytes ≡ nothing_read
-    no_columns e bytes = cond-true (eqb settings.columns 0) _ _ (eq-eqb settings.columns 0 e)
+    no_columns : settings.columns ≡ 0 → (bits : Bits) → plain settings bits ≡ nothing_read
+    no_columns e bits = cond-true (eqb settings.columns 0) _ _ (eq-eqb settings.columns 0 e)
 
     same_after : local_two.closes.0 ≡ local_one.closes.0
     same_after =
@@ -256,11 +255,11 @@ locality settings one are two from to to2 differ = by (cases_eq settings.columns
         ∙ local_one.closes.1 in
         cc
 
-    tail_one : IsTail settings.columns local_one.closes.0 (drop from (bits_of one))
-    tail_one = is_tail settings (bits_of one) from to local_one
+    tail_one : IsTail settings.columns local_one.closes.0 (drop from one)
+    tail_one = is_tail settings one from to local_one
 
-    tail_two : IsTail settings.columns local_one.closes.0 (drop from (bits_of two))
-    tail_two = subst (λ (a : Bits). IsTail settings.columns a (drop from (bits_of two))) same_after (is_tail settings (bits_of two) from to2 local_two)
+    tail_two : IsTail settings.columns local_one.closes.0 (drop from two)
+    tail_two = subst (λ (a : Bits). IsTail settings.columns a (drop from two)) same_after (is_tail settings two from to2 local_two)
 
     by : (settings.columns ≡ 0) ⊎ (settings.columns ≡ 0 → ⊥)
         → OneRowDiffers settings one two from (plain settings one).rows (plain settings two).rows
@@ -271,34 +270,34 @@ locality settings one are two from to to2 differ = by (cases_eq settings.columns
     )
     by (inr e) =
         let wide : 0 < settings.columns = elim (cases_lt 0 settings.columns) [ inl lt ↦ lt | inr ge ↦ absurd (e (omega arith)) ] in
-        let fits_one : from ≤ length (bits_of one) = omega (arith, local_one.order, local_one.within) in
-        let fits_two : from ≤ length (bits_of two) = omega (arith, local_two.order, local_two.within) in
-        let firsts = begin settings (bits_of one) (bits_of two) from local_one.closes.0 fits_one differ.before tail_one tail_two local_one.starts differ.sought in
-        let ends = ends_alike settings (bits_of one)
-        (bits_of two) from local_one.closes.0 fits_one differ.before tail_one tail_two local_one.encoding local_one.lenient wide firsts in
-        answers_alike settings wide one two from (drop from (bits_of one)) (drop from (bits_of two)) local_one.closes.0
-        (omega (arith, fits_one, length-drop from (bits_of one))) (omega (arith, fits_two, length-drop from (bits_of two))) refl refl tail_one tail_two ends
+        let fits_one : from ≤ length one = omega (arith, local_one.order, local_one.within) in
+        let fits_two : from ≤ length two = omega (arith, local_two.order, local_two.within) in
+        let firsts = begin settings one two from local_one.closes.0 fits_one differ.before tail_one tail_two local_one.starts differ.sought in
+        let ends = ends_alike settings one
+        two from local_one.closes.0 fits_one differ.before tail_one tail_two local_one.encoding local_one.lenient wide firsts in
+        answers_alike settings wide one two from (drop from one) (drop from two) local_one.closes.0 whole_one whole_two
+        (omega (arith, fits_one, length-drop from one)) (omega (arith, fits_two, length-drop from two)) refl refl tail_one tail_two ends
 
 -- a run that gave the rows and the outcome of the plain reading has what the law says
-pub damage_stays : (settings : DecodeSettings) (bytes : List ℕ) (rows : List Row) (outcome : Result ℕ DecodeError) → AreSettings settings
-    → rows ≡ (plain settings bytes).rows → outcome ≡ (plain settings bytes).outcome → DamageStaysInRow settings bytes rows outcome
-damage_stays settings bytes rows outcome are rows_are outcome_is = rw (rows_are, outcome_is) (locality settings bytes are)
+pub damage_stays : (settings : DecodeSettings) (bits : Bits) (rows : List Row) (outcome : Result ℕ DecodeError) → AreSettings settings → AreWholeBytes bits
+    → rows ≡ (plain settings bits).rows → outcome ≡ (plain settings bits).outcome → DamageStaysInRow settings bits rows outcome
+damage_stays settings bits rows outcome are whole rows_are outcome_is = rw (rows_are, outcome_is) (locality settings bits are whole)
 
 -- a run that takes the rows of the plain reading and ends as it does has it of the rows that it took
-pub damage_stays_taken : {M : Type 0} (settings : DecodeSettings) (bytes : List ℕ) (sought : Bool) (step : M → List ℕ → M) (before after : SinkState M)
-    (held : Held) (answer : Result ℕ DecodeError) → AreSettings settings
-    → TakesRows (plain settings bytes).rows (plain settings bytes).outcome sought step before after held answer
-    → OnAnswer answer (DamageStaysInRow settings bytes (take held.taken (plain settings bytes).rows) answer)
-damage_stays_taken settings bytes sought step before after held answer are takes = by answer takes
+pub damage_stays_taken : {M : Type 0} (settings : DecodeSettings) (bits : Bits) (sought : Bool) (step : M → List ℕ → M) (before after : SinkState M)
+    (held : Held) (answer : Result ℕ DecodeError) → AreSettings settings → AreWholeBytes bits
+    → TakesRows (plain settings bits).rows (plain settings bits).outcome sought step before after held answer
+    → OnAnswer answer (DamageStaysInRow settings bits (take held.taken (plain settings bits).rows) answer)
+damage_stays_taken settings bits sought step before after held answer are whole takes = by answer takes
   where
     rows : List Row
-    rows = (plain settings bytes).rows
+    rows = (plain settings bits).rows
 
     all_taken : held.taken ≡ length rows → take held.taken rows ≡ rows
     all_taken all = ap (λ (n : ℕ). take n rows) all ∙ take-length rows
 
-    by : (r : Result ℕ DecodeError) → TakesRows rows (plain settings bytes).outcome sought step before after held r
-        → OnAnswer r (DamageStaysInRow settings bytes (take held.taken rows) r)
-    by (Ok n) takes = damage_stays settings bytes (take held.taken rows) (Ok n) are (all_taken takes.all) (sym takes.ok)
+    by : (r : Result ℕ DecodeError) → TakesRows rows (plain settings bits).outcome sought step before after held r
+        → OnAnswer r (DamageStaysInRow settings bits (take held.taken rows) r)
+    by (Ok n) takes = damage_stays settings bits (take held.taken rows) (Ok n) are whole (all_taken takes.all) (sym takes.ok)
     by (Err e) takes = λ fault.
-        damage_stays settings bytes (take held.taken rows) (Err e) are (all_taken (takes.all fault)) (sym (takes.fault fault))
+        damage_stays settings bits (take held.taken rows) (Err e) are whole (all_taken (takes.all fault)) (sym (takes.fault fault))

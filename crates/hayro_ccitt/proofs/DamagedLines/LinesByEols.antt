@@ -9,7 +9,7 @@ use Rattle.hayro_ccitt.specs.declared.error.DecodeError.TheVariants.{UnexpectedE
 use Rattle.hayro_ccitt.specs.declared.settings.EncodingMode.{EncodingMode}
 use Rattle.hayro_ccitt.specs.declared.settings.EncodingMode.TheVariants.{Group3_1D}
 use Rattle.hayro_ccitt.specs.declared.settings.DecodeSettings.{DecodeSettings}
-use Rattle.hayro_ccitt.specs.Bits.{Bits, bits_of, IsPrefix}
+use Rattle.hayro_ccitt.specs.Bits.{Bits, IsPrefix}
 use Rattle.hayro_ccitt.specs.Repetition.{Turn, repeated}
 use Rattle.hayro_ccitt.specs.Rows.{Row}
 use Rattle.hayro_ccitt.specs.Lines.{Line, line_1d}
@@ -198,8 +198,7 @@ seeks bits end_of_line (inr e) = or_left (ltb 0 (all_eols bits).0) end_of_line (
 
 -- the law
 pub lines_by_eols : LinesByEols
-lines_by_eols settings bytes are encoding lenient no_block unlimited wide sought_by stay =
-    let bits : Bits = bits_of bytes in
+lines_by_eols settings bits are encoding lenient no_block unlimited wide sought_by stay =
     let columns : eqb settings.columns 0 ≡ false = ne_eqb settings.columns 0 (λ e. absurd (omega (arith, e, wide))) in
     let first : Progress = record { rows = []; has_eols = ltb 0 (all_eols bits).0 || settings.end_of_line; rest = (all_eols bits).1 } in
     let first_is : first ≡ sought [] (all_eols bits).1

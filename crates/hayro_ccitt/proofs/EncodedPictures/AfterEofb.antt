@@ -1,13 +1,12 @@
 -- What follows EOFB changes nothing.
-use Rattle.std.proofs.Common.{◌≡◌, ℕ, zero, suc, ◌+◌, ◌-◌, ◌*◌, ◌/◌, ◌%◌, ◌<◌, ◌≤◌, Bool, true, false, cond, ◌&&◌, ◌||◌, eqb, leb, List, [], ◌∷◌}
+use Rattle.std.proofs.Common.{◌≡◌, ℕ, zero, suc, ◌+◌, ◌-◌, ◌*◌, ◌/◌, ◌%◌, ◌<◌, Bool, true, false, cond, ◌&&◌, ◌||◌, eqb, leb, [], ◌∷◌}
 use Rattle.std.proofs.Common.{◌++◌, length, take, drop, Option, Some, None, Result, Ok, refl, sym, ap, subst, ◌∙◌, append_assoc, arith, ◌⊎◌, inl, inr}
 use Rattle.std.proofs.lemmas.Bool.{or_parts, or_from, cond-true, cond-false, cases_lt, eq-eqb}
 use Rattle.std.proofs.lemmas.List.{length-append, length-take-le, take-append-drop, drop_at}
-use Rattle.std.proofs.lemmas.Grind.{flat_map-append}
 use Rattle.hayro_ccitt.specs.declared.error.DecodeError.{DecodeError}
 use Rattle.hayro_ccitt.specs.declared.settings.EncodingMode.TheVariants.{Group4}
 use Rattle.hayro_ccitt.specs.declared.settings.DecodeSettings.{DecodeSettings}
-use Rattle.hayro_ccitt.specs.Bits.{Bits, bits_of_byte, bits_of}
+use Rattle.hayro_ccitt.specs.Bits.{Bits, AreWholeBytes}
 use Rattle.hayro_ccitt.specs.Repetition.{Turn, Reaches}
 use Rattle.hayro_ccitt.specs.Lines.{Line, line_2d}
 use Rattle.hayro_ccitt.specs.EndOfLine.{after_eol, one_more, eols, all_eols}
@@ -16,7 +15,6 @@ use Rattle.hayro_ccitt.specs.Laws.{AfterEofb}
 use Rattle.hayro_ccitt.proofs.Readings.TurnsMoveOn.{eols-none, next_is, not_next}
 use Rattle.hayro_ccitt.proofs.Readings.Repeated.{after_turn}
 use Rattle.hayro_ccitt.proofs.CodeWords.ReadRuns.{chosen}
-use Rattle.hayro_ccitt.proofs.BitReading.BitLists.{length-bits_of}
 use Rattle.hayro_ccitt.proofs.BitReading.ZerosInWords.{prefix_of_prefix}
 use Rattle.hayro_ccitt.proofs.DrawingLines.WhatFollows.{line_2d_found}
 use Rattle.hayro_ccitt.proofs.EncodedPictures.PicturesT6.{IsLineStart, mode_starts, goes, goes_is, between, move_group4_eofb, late_group4, end_of_goes, plain_ends}
@@ -167,54 +165,49 @@ module _ (settings : DecodeSettings) (block : settings.end_of_block ≡ true) (w
             ∙ ap (after_turn (goes settings late)) (one.again (on.0 ++ more) same) ∙ on.2 more e,
       )
 
--- ---- Over bytes.
+-- ---- Over whole data.
 closed_plain : (settings : DecodeSettings) (last : Progress) (w rest : Bits) → settings.encoding ≡ Group4 → 0 < settings.columns
     → ((more : Bits) → length more % 8 ≡ length rest % 8
     → goes settings late_group4 (between [] (w ++ more)) ≡ record { rows = last.rows; has_eols = last.has_eols; outcome = Ok more })
-    → (bytes : List ℕ) (more : Bits) → bits_of bytes ≡ w ++ more → length more % 8 ≡ length rest % 8
-    → plain settings bytes ≡ record { rows = last.rows; outcome = Ok ((length w + 7) / 8); has_eols = last.has_eols }
-closed_plain settings last w rest four wide ends bytes more is whole =
+    → (stream more : Bits) → stream ≡ w ++ more → length more % 8 ≡ length rest % 8
+    → plain settings stream ≡ record { rows = last.rows; outcome = Ok ((length w + 7) / 8); has_eols = last.has_eols }
+closed_plain settings last w rest four wide ends stream more is whole =
     let end : Ending = record { rows = last.rows; has_eols = last.has_eols; outcome = Ok more } in
-    let here : end_of settings (bits_of bytes) ≡ end = ap (end_of settings) is ∙ end_of_goes settings (w ++ more) four wide ∙ ends more whole in
-    let n : (length (bits_of bytes) - length more + 7) / 8 ≡ (length w + 7) / 8 = omega (arith, ap length is, length-append w more) in
-    plain_ends settings bytes end more wide here refl ∙ ap {B = Reading} (λ (k : ℕ). record { rows = last.rows; outcome = Ok k; has_eols = last.has_eols }) n
-
-bits_cut : (bytes : List ℕ) (n : ℕ) → bits_of bytes ≡ bits_of (take n bytes) ++ bits_of (drop n bytes)
-bits_cut bytes n = ap bits_of (sym (take-append-drop n bytes)) ∙ flat_map-append bits_of_byte (take n bytes) (drop n bytes)
+    let here : end_of settings stream ≡ end = ap (end_of settings) is ∙ end_of_goes settings (w ++ more) four wide ∙ ends more whole in
+    let n : (length stream - length more + 7) / 8 ≡ (length w + 7) / 8 = omega (arith, ap length is, length-append w more) in
+    plain_ends settings stream end more wide here refl ∙ ap {B = Reading} (λ (k : ℕ). record { rows = last.rows; outcome = Ok k; has_eols = last.has_eols }) n
 
 -- data with the same bytes begin with the same bits, and go on with whole bytes as far
-same_front : (one two : List ℕ) (count : ℕ) (w rest : Bits) → bits_of one ≡ w ++ rest → (length w + 7) / 8 ≡ count → take count two ≡ take count one
-    → (more : Bits) × (bits_of two ≡ w ++ more) × (length more % 8 ≡ length rest % 8)
-same_front one two count w rest is count_is same =
-    let len1 : 8 * length one ≡ length w + length rest = sym (length-bits_of one) ∙ ap length is ∙ length-append w rest in
-    let head : Bits = bits_of (take count one) in
-    let within : count ≤ length one = omega (arith, count_is, len1) in
-    let head_len : length head ≡ 8 * count = length-bits_of (take count one) ∙ ap (λ (k : ℕ). 8 * k) (length-take-le count one within) in
-    let front = prefix_of_prefix w rest head (bits_of (drop count one)) (sym (bits_cut one count) ∙ is) (omega (arith, head_len, count_is)) in
-    let more : Bits = front.0 ++ bits_of (drop count two) in
-    let two_is : bits_of two ≡ w ++ more
-    = bits_cut two count ∙ ap (λ (x : List ℕ). bits_of x ++ bits_of (drop count two)) same ∙ ap (λ (x : Bits). x ++ bits_of (drop count two)) front.1
-    ∙ append_assoc w front.0 (bits_of (drop count two)) in
-    let len2 : 8 * length two ≡ length w + length more = sym (length-bits_of two) ∙ ap length two_is ∙ length-append w more in
-    (more, two_is, omega (arith, len1, len2))
+same_front : (one two : Bits) (count : ℕ) (w rest : Bits) → AreWholeBytes one → AreWholeBytes two → one ≡ w ++ rest → (length w + 7) / 8 ≡ count
+    → take (8 * count) two ≡ take (8 * count) one → (more : Bits) × (two ≡ w ++ more) × (length more % 8 ≡ length rest % 8)
+same_front one two count w rest whole_one whole_two is count_is same =
+    let len1 : length one ≡ length w + length rest = ap length is ∙ length-append w rest in
+    let head : Bits = take (8 * count) one in
+    let head_len : length head ≡ 8 * count = length-take-le (8 * count) one (omega (arith, count_is, len1, whole_one)) in
+    let front = prefix_of_prefix w rest head (drop (8 * count) one) (take-append-drop (8 * count) one ∙ is) (omega (arith, head_len, count_is)) in
+    let more : Bits = front.0 ++ drop (8 * count) two in
+    let two_is : two ≡ w ++ more
+    = sym (take-append-drop (8 * count) two) ∙ ap (λ (x : Bits). x ++ drop (8 * count) two) (same ∙ front.1) ∙ append_assoc w front.0 (drop (8 * count) two) in
+    let len2 : length two ≡ length w + length more = ap length two_is ∙ length-append w more in
+    (more, two_is, omega (arith, len1, len2, whole_one, whole_two))
 
 -- without columns nothing is read
-plain_no_columns : (settings : DecodeSettings) (bytes : List ℕ) → settings.columns ≡ 0 → plain settings bytes ≡ nothing_read
-plain_no_columns settings bytes none = cond-true (eqb settings.columns 0) nothing_read
-    (whole_reading (bits_of bytes) (end_of settings (bits_of bytes))) (eq-eqb settings.columns 0 none)
+plain_no_columns : (settings : DecodeSettings) (stream : Bits) → settings.columns ≡ 0 → plain settings stream ≡ nothing_read
+plain_no_columns settings stream none = cond-true (eqb settings.columns 0) nothing_read
+    (whole_reading stream (end_of settings stream)) (eq-eqb settings.columns 0 none)
 
 -- the law
 pub after_eofb : AfterEofb
-after_eofb settings one two count are four block comes counted same = elim (cases_lt 0 settings.columns) [
+after_eofb settings one two count are whole_one whole_two four block comes counted same = elim (cases_lt 0 settings.columns) [
   | inr none ↦ plain_no_columns settings two (omega arith) ∙ sym (plain_no_columns settings one (omega arith))
   | inl wide ↦
       let rest : Bits = (eols 2 comes.0.rest).1 in
       let closes : eols 2 comes.0.rest ≡ (2, rest) = ap (λ (n : ℕ). (n, rest)) comes.2 in
-      let found = closed_found settings block wide late_group4 (between [] (bits_of one)) comes.0 rest comes.1 closes in
+      let found = closed_found settings block wide late_group4 (between [] one) comes.0 rest comes.1 closes in
       let first : plain settings one ≡ record { rows = comes.0.rows; outcome = Ok ((length found.0 + 7) / 8); has_eols = comes.0.has_eols }
       = closed_plain settings comes.0 found.0 rest four wide found.2 one rest found.1 refl in
       let count_is : (length found.0 + 7) / 8 ≡ count = let f : ◌≡◌ {A = Result ℕ DecodeError} (Ok ((length found.0 + 7) / 8)) (Ok count)
       = sym (ap (λ (a : Reading). a.outcome) first) ∙ counted in cc in
-      let front = same_front one two count found.0 rest found.1 count_is same in
+      let front = same_front one two count found.0 rest whole_one whole_two found.1 count_is same in
       closed_plain settings comes.0 found.0 rest four wide found.2 two front.0 front.1 front.2 ∙ sym first
 ]

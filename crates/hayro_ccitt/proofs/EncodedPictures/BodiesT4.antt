@@ -17,7 +17,6 @@ use Rattle.hayro_ccitt.specs.PlainReading.{after_line_group3, move_group3, endin
 use Rattle.hayro_ccitt.specs.Encodings.{IsPicture, EncodesRows}
 use Rattle.hayro_ccitt.specs.Laws.{ReadsLimitedRowsT4}
 use Rattle.hayro_ccitt.proofs.Readings.TurnsMoveOn.{eols-none, eols_with_tags-none}
-use Rattle.hayro_ccitt.proofs.BitReading.BitLists.{length-bits_of}
 use Rattle.hayro_ccitt.proofs.EncodedPictures.PicturesT4.{Matches, matches_itself, eols_group3_one, eols_group3_two, line_t4_again, line_t4_starts, end_of_three}
 use Rattle.hayro_ccitt.proofs.Readings.Repeated.{after_turn}
 use Rattle.hayro_ccitt.proofs.EncodedPictures.PicturesT6.{IsLineStart, not_met, row_before_push, plain_ends, fill, aligned_again, aligned_on}
@@ -186,12 +185,12 @@ module _ (settings : DecodeSettings) (wide : 0 < settings.columns) (small : sett
 
 -- the law
 pub limited_rows_t4 : ReadsLimitedRowsT4
-limited_rows_t4 settings rows bits bytes are begins =
+limited_rows_t4 settings rows bits stream are all begins =
     let wide : 0 < settings.columns = begins.picture.0 in
     let more : Bits = begins.begins.0 in
     let found : Bits = (eols_group3 settings more).1 in
-    let whole : length (bits ++ more) % 8 ≡ 0 = omega (arith, length-bits_of bytes, ap length begins.begins.1) in
+    let whole : length (bits ++ more) % 8 ≡ 0 = omega (arith, all, ap length begins.begins.1) in
     let ends = rows_t4_end settings wide (omega (arith, are.columns)) settings.encoding rows bits more (matches_itself settings begins.encoding)
     begins.end_of_line begins.limit begins.some begins.picture (λ e. whole) begins.lines in
-    let e = plain_ends settings bytes (ends_without rows found) found wide (ap (end_of settings) begins.begins.1 ∙ ends) refl in
+    let e = plain_ends settings stream (ends_without rows found) found wide (ap (end_of settings) begins.begins.1 ∙ ends) refl in
     (ap (λ (a : Reading). a.rows) e, rw e refl)

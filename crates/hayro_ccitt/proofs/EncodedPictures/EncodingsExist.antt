@@ -1,15 +1,17 @@
 -- Every picture has encodings.
-use Rattle.std.proofs.Common.{◌≡◌, ℕ, zero, suc, ◌+◌, ◌-◌, ◌*◌, ◌/◌, ◌%◌, ◌^◌, ◌<◌, ◌≤◌, Bool, true, false, cond, eqb, List, [], ◌∷◌, ◌++◌}
+use Rattle.std.proofs.Common.{reverse, ◌≡◌, ℕ, zero, suc, ◌+◌, ◌-◌, ◌*◌, ◌/◌, ◌%◌, ◌^◌, ◌<◌, ◌≤◌, Bool, true, false, cond, eqb, List, [], ◌∷◌, ◌++◌}
 use Rattle.std.proofs.Common.{length, replicate, Option, Some, None, is_some, refl, sym, ap, subst, ◌∙◌, arith, ◌⊎◌, inl, inr}
 use Rattle.std.specs.Prelude.{All}
 use Rattle.std.proofs.lemmas.Bool.{agree_below_at, eqb-true, false≢true, cases_lt}
 use Rattle.std.proofs.lemmas.List.Elements.{All-head, All-tail, All-cons}
-use Rattle.std.proofs.lemmas.List.{length-append, length-replicate}
+use Rattle.std.proofs.lemmas.List.{length-reverse, reverse-reverse, length-append, length-replicate}
 use Rattle.std.proofs.lemmas.Nat.Bits.{bit_at_cat_low, bit_at_cat_high}
 use Rattle.std.specs.Int.{bit_at}
 use Rattle.hayro_ccitt.specs.declared.codes.Color.{Color}
 use Rattle.hayro_ccitt.specs.declared.codes.Color.TheVariants.{White, Black}
-use Rattle.hayro_ccitt.specs.Bits.{Bits, bit_of, bits_of_byte, bits_of, low_bits}
+use Rattle.hayro_ccitt.specs.declared.bit_reader.BitOrder.{BitOrder}
+use Rattle.hayro_ccitt.specs.declared.bit_reader.BitOrder.TheVariants.{HighestFirst, LowestFirst}
+use Rattle.hayro_ccitt.specs.Bits.{Bits, bit_of, bits_of_byte, bits_in, low_bits}
 use Rattle.hayro_ccitt.specs.CodeLists.{Code}
 use Rattle.hayro_ccitt.specs.CodeReading.{Has}
 use Rattle.hayro_ccitt.specs.Rows.{Row, is_black, opposite, a1, a2}
@@ -222,28 +224,44 @@ cut zero bits le = ([], bits, refl, refl)
 cut (suc n) [] le = absurd (omega arith)
 cut (suc n) (bit ∷ bits) le = let f = cut n bits (omega arith) in (bit ∷ f.0, f.1, ap (λ (b : Bits). bit ∷ b) f.2, ap suc f.3)
 
+-- these bits, the highest first
+abbrev highest_first : BitOrder → Bits → Bits
+highest_first HighestFirst front = front
+highest_first LowestFirst front = reverse front
+
+length-highest_first : (order : BitOrder) (front : Bits) → length (highest_first order front) ≡ length front
+length-highest_first HighestFirst front = refl
+length-highest_first LowestFirst front = length-reverse front
+
 -- the byte whose bits these are
-byte_of : (front : Bits) → length front ≡ 8 → bits_of_byte (value front) ≡ front
-byte_of front eight = subst (λ (n : ℕ). low_bits n (value front) ≡ front) eight (low_bits_value front)
+byte_of : (order : BitOrder) (front : Bits) → length front ≡ 8 → bits_of_byte order (value (highest_first order front)) ≡ front
+byte_of HighestFirst front eight = subst (λ (n : ℕ). low_bits n (value front) ≡ front) eight (low_bits_value front)
+byte_of LowestFirst front eight =
+    let back : Bits = reverse front in
+    let it : bits_of_byte HighestFirst (value back) ≡ back
+    = subst (λ (n : ℕ). low_bits n (value back) ≡ back) (length-reverse front ∙ eight) (low_bits_value back) in
+    let other : bits_of_byte LowestFirst (value back) ≡ reverse (bits_of_byte HighestFirst (value back)) = refl in
+    other ∙ ap reverse it ∙ reverse-reverse front
 
 -- one byte more
-bits_more : (front rest bits : Bits) (byte : ℕ) (bytes : List ℕ) → bits_of_byte byte ≡ front → bits_of bytes ≡ rest → bits ≡ front ++ rest
-    → bits_of (byte ∷ bytes) ≡ bits
-bits_more front rest bits byte bytes one more is = ap (λ (b : Bits). b ++ bits_of bytes) one ∙ ap (λ (b : Bits). front ++ b) more ∙ sym is
+bits_more : (order : BitOrder) (front rest bits : Bits) (byte : ℕ) (bytes : List ℕ) → bits_of_byte order byte ≡ front → bits_in order bytes ≡ rest → bits ≡ front ++ rest
+    → bits_in order (byte ∷ bytes) ≡ bits
+bits_more order front rest bits byte bytes one more is = ap (λ (b : Bits). b ++ bits_in order bytes) one ∙ ap (λ (b : Bits). front ++ b) more ∙ sym is
 
-bytes_of : (n : ℕ) (bits : Bits) → length bits ≡ 8 * n → (bytes : List ℕ) × All (λ byte. byte < 256) bytes × (bits_of bytes ≡ bits)
-bytes_of zero [] e = ([], (λ k d lt. absurd (omega arith)), refl)
-bytes_of zero (bit ∷ bits) e = absurd (omega arith)
-bytes_of (suc n) bits e =
+bytes_of : (order : BitOrder) (n : ℕ) (bits : Bits) → length bits ≡ 8 * n → (bytes : List ℕ) × All (λ byte. byte < 256) bytes × (bits_in order bytes ≡ bits)
+bytes_of order zero [] e = ([], (λ k d lt. absurd (omega arith)), refl)
+bytes_of order zero (bit ∷ bits) e = absurd (omega arith)
+bytes_of order (suc n) bits e =
     let f = cut 8 bits (omega (arith, e)) in
-    let on = bytes_of n f.1 (omega (arith, e, ap length f.2, length-append f.0 f.1, f.3)) in
-    let small : value f.0 < 256 = subst (λ (k : ℕ). value f.0 < 2 ^ k) f.3 (value_below f.0) in
-    (value f.0 ∷ on.0, All-cons (λ byte. byte < 256) (value f.0) on.0 small on.1, bits_more f.0 f.1 bits (value f.0) on.0 (byte_of f.0 f.3) on.2 f.2)
+    let on = bytes_of order n f.1 (omega (arith, e, ap length f.2, length-append f.0 f.1, f.3)) in
+    let first : Bits = highest_first order f.0 in
+    let small : value first < 256 = subst (λ (k : ℕ). value first < 2 ^ k) (length-highest_first order f.0 ∙ f.3) (value_below first) in
+    (value first ∷ on.0, All-cons (λ byte. byte < 256) (value first) on.0 small on.1, bits_more order f.0 f.1 bits (value first) on.0 (byte_of order f.0 f.3) on.2 f.2)
 
 -- the law
 pub bytes_begin_with_any_bits : BytesBeginWithAnyBits
-bytes_begin_with_any_bits bits =
+bytes_begin_with_any_bits order bits =
     let missing : ℕ = 7 - (length bits + 7) % 8 in
     let more : Bits = replicate missing false in
-    let whole = bytes_of ((length bits + 7) / 8) (bits ++ more) (omega (arith, length-append bits more, length-replicate missing false)) in
+    let whole = bytes_of order ((length bits + 7) / 8) (bits ++ more) (omega (arith, length-append bits more, length-replicate missing false)) in
     (whole.0, whole.1, (more, whole.2))

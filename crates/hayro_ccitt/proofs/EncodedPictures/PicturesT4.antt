@@ -11,7 +11,7 @@ use Rattle.hayro_ccitt.specs.declared.error.DecodeError.TheVariants.{UnexpectedE
 use Rattle.hayro_ccitt.specs.declared.settings.EncodingMode.{EncodingMode}
 use Rattle.hayro_ccitt.specs.declared.settings.EncodingMode.TheVariants.{Group3_1D, Group3_2D, Group4}
 use Rattle.hayro_ccitt.specs.declared.settings.DecodeSettings.{DecodeSettings}
-use Rattle.hayro_ccitt.specs.Bits.{Bits, bits_of}
+use Rattle.hayro_ccitt.specs.Bits.{Bits}
 use Rattle.hayro_ccitt.specs.CodeLists.{mode_codes}
 use Rattle.hayro_ccitt.specs.Repetition.{Turn, repeated}
 use Rattle.hayro_ccitt.specs.Rows.{Row}
@@ -395,29 +395,29 @@ module _ (settings : DecodeSettings) (wide : 0 < settings.columns) (small : sett
       (not_from_false (eqb settings.rows 0) (ne_eqb settings.rows 0 (λ e. absurd (omega arith)))) (eq-eqb settings.rows (length rows) limit) in
       lines_t4_end encoding rows lines more (eols_group3 settings more).1 matches some is_picture are (inr (omega arith)) (limit_stops rows more met)
 
--- ---- Over bytes.
+-- ---- Over whole data.
 pub closed_picture_t4 : ReadsPictureT4
-closed_picture_t4 settings rows bits behind bytes are begins =
+closed_picture_t4 settings rows bits behind stream are begins =
     let wide : 0 < settings.columns = begins.picture.0 in
     let closing : Bits = begins.closing.0 in
     let more : Bits = begins.closing.2.0 in
     let found : Bits = (eols_group3 settings behind).1 in
-    let is : bits_of bytes ≡ bits ++ (closing ++ more) = begins.begins ∙ ap (λ (x : Bits). bits ++ x) begins.closing.2.1 in
+    let is : stream ≡ bits ++ (closing ++ more) = begins.begins ∙ ap (λ (x : Bits). bits ++ x) begins.closing.2.1 in
     let matches : Matches settings.encoding settings = matches_itself settings begins.encoding in
     let ends : end_of settings (bits ++ (closing ++ more)) ≡ ends_well rows found
     = closed_t4_end settings wide (omega (arith, are.columns)) settings.encoding rows bits closing more matches begins.end_of_block begins.some begins.picture
     begins.lines begins.closing.1 begins.limit ∙ ap (λ (x : Bits). ends_well rows (eols_group3 settings x).1) (sym begins.closing.2.1) in
-    plain_ends settings bytes (ends_well rows found) found wide (ap (end_of settings) is ∙ ends) refl
+    plain_ends settings stream (ends_well rows found) found wide (ap (end_of settings) is ∙ ends) refl
 
 -- the law
 pub limited_picture_t4 : ReadsLimitedPictureT4
-limited_picture_t4 settings rows bits bytes are begins =
+limited_picture_t4 settings rows bits stream are begins =
     let wide : 0 < settings.columns = begins.picture.0 in
     let more : Bits = begins.begins.0 in
     let found : Bits = (eols_group3 settings more).1 in
     let ends = limited_t4_end settings wide (omega (arith, are.columns)) settings.encoding rows bits more (matches_itself settings begins.encoding)
     begins.limit begins.some begins.picture begins.lines in
-    let e = plain_ends settings bytes (ends_well rows found) found wide (ap (end_of settings) begins.begins.1 ∙ ends) refl in
+    let e = plain_ends settings stream (ends_well rows found) found wide (ap (end_of settings) begins.begins.1 ∙ ends) refl in
     (ap (λ (a : Reading). a.rows) e, rw e refl)
 
 -- ---- One beginning, one picture.

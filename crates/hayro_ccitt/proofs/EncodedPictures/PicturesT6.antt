@@ -14,7 +14,7 @@ use Rattle.hayro_ccitt.specs.declared.error.DecodeError.TheVariants.{UnexpectedE
 use Rattle.hayro_ccitt.specs.declared.settings.EncodingMode.TheVariants.{Group4}
 use Rattle.hayro_ccitt.specs.declared.settings.EncodingMode.{EncodingMode}
 use Rattle.hayro_ccitt.specs.declared.settings.DecodeSettings.{DecodeSettings}
-use Rattle.hayro_ccitt.specs.Bits.{Bits, bits_of}
+use Rattle.hayro_ccitt.specs.Bits.{Bits, AreWholeBytes}
 use Rattle.hayro_ccitt.specs.CodeLists.{mode_codes}
 use Rattle.hayro_ccitt.specs.CodeReading.{Has}
 use Rattle.hayro_ccitt.specs.Repetition.{Turn, repeated, Reaches}
@@ -28,7 +28,6 @@ use Rattle.hayro_ccitt.specs.Laws.{each_word, ComesToEofb, PicturesComeToEofb, R
 use Rattle.hayro_ccitt.specs.Encodings.{EncodesLine2D, padding, EncodesRows, eol, IsPicture, PictureT6}
 use Rattle.hayro_ccitt.proofs.Readings.Repeated.{after_turn, repeated_turn, repeated_same}
 use Rattle.hayro_ccitt.proofs.BitReading.ZerosInWords.{each_word_at}
-use Rattle.hayro_ccitt.proofs.BitReading.BitLists.{length-bits_of}
 use Rattle.hayro_ccitt.proofs.Readings.TurnsMoveOn.{left, move_group4_shrinks, eols-none}
 use Rattle.hayro_ccitt.proofs.EncodedPictures.EncodedLines.{line_2d_again}
 use Rattle.hayro_ccitt.proofs.Readings.RowsAndGaps.{line_at_group4, move_group4-is}
@@ -297,58 +296,41 @@ rows_t6_end settings rows body more four small some limit whole is lines =
     ∙ ap (after_turn (goes settings late_group4)) (move_group4_limit settings (between rows more) met) in
     end_of_goes settings (body ++ more) four wide ∙ read ∙ last
 
--- ---- Over bytes.
-pub plain_ends : (settings : DecodeSettings) (bytes : List ℕ) (end : Ending) (rest : Bits) → 0 < settings.columns
-    → end_of settings (bits_of bytes) ≡ end → end.outcome ≡ Ok rest → plain settings bytes ≡ record { rows = end.rows; outcome = Ok ((length (bits_of bytes) - length rest + 7) / 8); has_eols = end.has_eols }
-plain_ends settings bytes end rest wide e outcome =
-    cond-false (eqb settings.columns 0) nothing_read (whole_reading (bits_of bytes) (end_of settings (bits_of bytes)))
+-- ---- Over whole data.
+pub plain_ends : (settings : DecodeSettings) (stream : Bits) (end : Ending) (rest : Bits) → 0 < settings.columns
+    → end_of settings stream ≡ end → end.outcome ≡ Ok rest → plain settings stream ≡ record { rows = end.rows; outcome = Ok ((length stream - length rest + 7) / 8); has_eols = end.has_eols }
+plain_ends settings stream end rest wide e outcome =
+    cond-false (eqb settings.columns 0) nothing_read (whole_reading stream (end_of settings stream))
     (ne_eqb settings.columns 0 (λ z. absurd (omega arith)))
-    ∙ ap (whole_reading (bits_of bytes)) e
-    ∙ ap (λ (x : Result Bits DecodeError). whole_reading (bits_of bytes) (record end { outcome = x })) outcome
-
--- over bytes: a picture closed by EOFB
-pub picture_t6_plain : (settings : DecodeSettings) (rows : List Row) (bits more : Bits) (bytes : List ℕ) → settings.encoding ≡ Group4
-    → settings.end_of_block ≡ true → settings.columns ≤ 4294967295 → Allows settings (length rows)
-    → PictureT6 settings.columns settings.rows_are_byte_aligned rows bits → bits_of bytes ≡ bits ++ more
-    → plain settings bytes ≡ record { rows = rows; outcome = Ok ((length bits + 7) / 8); has_eols = false }
-picture_t6_plain settings rows bits more bytes four block small limit pic is =
-    let n : length (bits_of bytes) ≡ length bits + length more = ap length is ∙ length-append bits more in
-    let eight = length-bits_of bytes in
-    let whole : length (bits ++ more) % 8 ≡ 0 = omega (arith, eight, ap length is) in
-    let count : (length (bits_of bytes) - length more + 7) / 8 ≡ (length bits + 7) / 8 = omega (arith, n) in
-    plain_ends settings bytes (ended rows more) more pic.1.0
-    (ap (end_of settings) is ∙ picture_t6_end settings rows bits more four block small limit (λ e. whole) pic) refl
-    ∙ ap {B = Reading} (λ (k : ℕ). record { rows = rows; outcome = Ok k; has_eols = false }) count
-
--- over bytes: lines up to the limit
-pub rows_t6_plain : (settings : DecodeSettings) (rows : List Row) (body more : Bits) (bytes : List ℕ) → settings.encoding ≡ Group4
-    → settings.columns ≤ 4294967295 → 0 < length rows → settings.rows ≡ length rows → IsPicture settings.columns rows
-    → EncodesRows Group4 settings.rows_are_byte_aligned (replicate settings.columns false) rows body → bits_of bytes ≡ body ++ more
-    → plain settings bytes ≡ record { rows = rows; outcome = Ok ((length (bits_of bytes) - length (eols_group4 settings more).1 + 7) / 8); has_eols = false }
-rows_t6_plain settings rows body more bytes four small some limit is_picture lines is =
-    let eight = length-bits_of bytes in
-    let whole : length (body ++ more) % 8 ≡ 0 = omega (arith, eight, ap length is) in
-    plain_ends settings bytes (ended rows (eols_group4 settings more).1) (eols_group4 settings more).1 is_picture.0
-    (ap (end_of settings) is ∙ rows_t6_end settings rows body more four small some limit (λ e. whole) is_picture lines) refl
+    ∙ ap (whole_reading stream) e
+    ∙ ap (λ (x : Result Bits DecodeError). whole_reading stream (record end { outcome = x })) outcome
 
 -- the law
 pub closed_picture_t6 : ReadsPictureT6
-closed_picture_t6 settings rows bits bytes are begins =
-    picture_t6_plain settings rows bits begins.begins.0 bytes begins.encoding begins.end_of_block (omega (arith, are.columns)) begins.limit begins.picture
-    begins.begins.1
+closed_picture_t6 settings rows bits stream are all begins =
+    let more : Bits = begins.begins.0 in
+    let is : stream ≡ bits ++ more = begins.begins.1 in
+    let whole : AreWholeBytes (bits ++ more) = subst AreWholeBytes is all in
+    let count : (length stream - length more + 7) / 8 ≡ (length bits + 7) / 8 = omega (arith, ap length is, length-append bits more) in
+    plain_ends settings stream (ended rows more) more begins.picture.1.0
+    (ap (end_of settings) is
+    ∙ picture_t6_end settings rows bits more begins.encoding begins.end_of_block (omega (arith, are.columns)) begins.limit (λ e. whole) begins.picture) refl
+    ∙ ap {B = Reading} (λ (k : ℕ). record { rows = rows; outcome = Ok k; has_eols = false }) count
 
 -- the law
 pub limited_rows_t6 : ReadsLimitedRowsT6
-limited_rows_t6 settings rows bits bytes are begins =
-    let e = rows_t6_plain settings rows bits begins.begins.0 bytes begins.encoding (omega (arith, are.columns)) begins.some begins.limit begins.picture
-    begins.lines begins.begins.1 in
+limited_rows_t6 settings rows bits stream are all begins =
+    let more : Bits = begins.begins.0 in
+    let found : Bits = (eols_group4 settings more).1 in
+    let whole : AreWholeBytes (bits ++ more) = subst AreWholeBytes begins.begins.1 all in
+    let e = plain_ends settings stream (ended rows found) found begins.picture.0 (ap (end_of settings) begins.begins.1
+    ∙ rows_t6_end settings rows bits more begins.encoding (omega (arith, are.columns)) begins.some begins.limit (λ e. whole) begins.picture begins.lines) refl in
     (ap (λ (a : Reading). a.rows) e, rw e refl)
 
--- over bytes: a picture comes to its EOFB
+-- a picture comes to its EOFB
 pub pictures_come_to_eofb : PicturesComeToEofb
-pictures_come_to_eofb settings rows bits more bytes are limit picture is =
-    let whole : length (bits ++ more) % 8 ≡ 0 = omega (arith, length-bits_of bytes, ap length is) in
-    subst (ComesToEofb settings) (sym is) (picture_t6_comes settings rows bits more (omega (arith, are.columns)) limit (λ e. whole) picture)
+pictures_come_to_eofb settings rows bits more are whole limit picture =
+    picture_t6_comes settings rows bits more (omega (arith, are.columns)) limit (λ e. whole) picture
 
 -- ---- One beginning, one picture.
 pub one_picture_t6 : OnePictureT6

@@ -10,7 +10,7 @@ use Rattle.hayro_ccitt.specs.declared.error.DecodeError.TheVariants.{UnexpectedE
 use Rattle.hayro_ccitt.specs.declared.settings.DecodeSettings.{DecodeSettings}
 use Rattle.hayro_ccitt.specs.declared.settings.EncodingMode.{EncodingMode}
 use Rattle.hayro_ccitt.specs.declared.settings.EncodingMode.TheVariants.{Group4, Group3_1D, Group3_2D}
-use Rattle.hayro_ccitt.specs.Bits.{Bits, bits_of, IsPrefix}
+use Rattle.hayro_ccitt.specs.Bits.{Bits, IsPrefix}
 use Rattle.hayro_ccitt.specs.Repetition.{Turn, repeated}
 use Rattle.hayro_ccitt.specs.Rows.{Row}
 use Rattle.hayro_ccitt.specs.Lines.{Line, line_2d}
@@ -221,13 +221,13 @@ ok_bytes bits (Err fault) ok = absurd (false≢true ok)
 
 -- the law
 pub row_limit : RowLimit
-row_limit settings limit bytes are some small = elim (cases_eq settings.columns 0) [
+row_limit settings limit bits are some small = elim (cases_eq settings.columns 0) [
   | inl none ↦
       let no_columns : eqb settings.columns 0 ≡ true = eq-eqb settings.columns 0 none in
       rw no_columns (sym (take_all limit [] (omega arith)), λ full. absurd (omega (arith, full, some)))
   | inr not_none ↦
       let wide : 0 < settings.columns = elim (cases_lt 0 settings.columns) [ inl lt ↦ lt | inr ge ↦ absurd (not_none (omega arith)) ] in
       let columns : eqb settings.columns 0 ≡ false = ne_eqb settings.columns 0 not_none in
-      let cut = cut_end settings limit some wide settings.encoding (bits_of bytes) in
-      rw columns (cut.0, λ full. ok_bytes (bits_of bytes) (end_by settings.encoding (record settings { rows = limit }) (bits_of bytes)).outcome (cut.1 full))
+      let cut = cut_end settings limit some wide settings.encoding bits in
+      rw columns (cut.0, λ full. ok_bytes bits (end_by settings.encoding (record settings { rows = limit }) bits).outcome (cut.1 full))
 ]

@@ -1,12 +1,12 @@
--- What decoding leaves of bytes, where it is known what a driver leaves of their bits.
-use Rattle.std.proofs.Common.{◌≡◌, ◌≢◌, ℕ, ◌+◌, ◌-◌, ◌/◌, ◌≤◌, Bool, true, false, eqb, List, [], length, take, drop, Result, Ok, Err, refl, sym, ap, subst, ◌∙◌, arith}
+-- What decoding leaves of whole data, where it is known what a driver leaves of its bits.
+use Rattle.std.proofs.Common.{◌≡◌, ◌≢◌, ℕ, ◌+◌, ◌-◌, ◌*◌, ◌/◌, ◌≤◌, IfOk, Bool, true, false, eqb, List, [], length, take, drop, Result, Ok, Err, refl, sym, ap, subst, ◌∙◌, arith}
 use Rattle.std.proofs.lemmas.Bool.{cond-true, cond-false, eqb-true, eq-eqb}
 use Rattle.std.proofs.lemmas.List.{length-drop}
 use Rattle.hayro_ccitt.specs.declared.error.DecodeError.{DecodeError}
 use Rattle.hayro_ccitt.specs.declared.error.DecodeError.TheVariants.{OutOfMemory, Refused}
 use Rattle.hayro_ccitt.specs.declared.settings.DecodeSettings.{DecodeSettings}
 use Rattle.hayro_ccitt.specs.Answers.{meaning_after}
-use Rattle.hayro_ccitt.specs.Bits.{Bits, bits_of}
+use Rattle.hayro_ccitt.specs.Bits.{Bits}
 use Rattle.hayro_ccitt.specs.Context.{Held, fresh}
 use Rattle.hayro_ccitt.specs.Decoding.{SinkState, TakesRows, StopsShort}
 use Rattle.hayro_ccitt.specs.Lines.{Line}
@@ -21,10 +21,10 @@ some_columns n some = by (eqb n 0) refl
     by false e = refl
 
 -- what is known of an answer, as the clauses of `decode` say it
-abbrev pub Decodes : {M : Type 0} → DecodeSettings → List ℕ → (M → List ℕ → M) → SinkState M → SinkState M → Held → Result ℕ DecodeError → Type 0
-Decodes settings bytes step before after held answer =
-    TakesRows (plain settings bytes).rows (plain settings bytes).outcome (plain settings bytes).has_eols step before after held answer
-    × StopsShort (plain settings bytes).rows (lines_of settings bytes) before after held answer
+abbrev pub Decodes : {M : Type 0} → DecodeSettings → Bits → (M → List ℕ → M) → SinkState M → SinkState M → Held → Result ℕ DecodeError → Type 0
+Decodes settings bits step before after held answer =
+    TakesRows (plain settings bits).rows (plain settings bits).outcome (plain settings bits).has_eols step before after held answer
+    × StopsShort (plain settings bits).rows (lines_of settings bits) before after held answer
 
 -- the same, where the reading and its lines are known
 abbrev Leaves : {M : Type 0} → Reading → List Line → (M → List ℕ → M) → SinkState M → SinkState M → Held → Result ℕ DecodeError → Type 0
@@ -32,38 +32,40 @@ Leaves reading lines step before after held answer =
     TakesRows reading.rows reading.outcome reading.has_eols step before after held answer × StopsShort reading.rows lines before after held answer
 
 -- the bits before a place, in whole bytes
-bytes_before-place : (bytes : List ℕ) (place : ℕ) → place ≤ length (bits_of bytes) → bytes_before (bits_of bytes) (Ok (drop place (bits_of bytes))) ≡ Ok ((place + 7) / 8)
-bytes_before-place bytes place within =
-    let taken : length (bits_of bytes) - length (drop place (bits_of bytes)) ≡ place = omega (arith, length-drop place (bits_of bytes), within) in
+bytes_before-place : (bits : Bits) (place : ℕ) → place ≤ length bits → bytes_before bits (Ok (drop place bits)) ≡ Ok ((place + 7) / 8)
+bytes_before-place bits place within =
+    let taken : length bits - length (drop place bits) ≡ place = omega (arith, length-drop place bits, within) in
     ap {B = Result ℕ DecodeError} (λ (n : ℕ). Ok ((n + 7) / 8)) taken
 
-module _ {M : Type 0} (settings : DecodeSettings) (bytes : List ℕ) (step : M → List ℕ → M) (before after : SinkState M) (held : Held) where
-  module _ (some : settings.columns ≢ 0) where
-    abbrev bits : Bits
-    bits = bits_of bytes
+-- a count of bytes within so many bits is within so many bytes
+pub whole_bytes_within : (answer : Result ℕ DecodeError) (bits bytes : ℕ) → bits ≡ 8 * bytes → IfOk answer (λ n. 8 * n ≤ bits) → IfOk answer (λ n. n ≤ bytes)
+whole_bytes_within (Ok n) bits bytes e within = omega (arith, e, within)
+whole_bytes_within (Err fault) bits bytes e within = tt
 
+module _ {M : Type 0} (settings : DecodeSettings) (bits : Bits) (step : M → List ℕ → M) (before after : SinkState M) (held : Held) where
+  module _ (some : settings.columns ≢ 0) where
     abbrev end : Ending
     end = end_of settings bits
 
     abbrev lines : List Line
     lines = lines_by settings.encoding settings bits
 
-    known : (answer : Result ℕ DecodeError) → Leaves (whole_reading bits end) lines step before after held answer → Decodes settings bytes step before after held answer
+    known : (answer : Result ℕ DecodeError) → Leaves (whole_reading bits end) lines step before after held answer → Decodes settings bits step before after held answer
     known answer leaves =
-        let reading : plain settings bytes ≡ whole_reading bits end = cond-false (eqb settings.columns 0) _ _ (some_columns settings.columns some) in
-        let all : lines_of settings bytes ≡ lines = cond-false (eqb settings.columns 0) _ _ (some_columns settings.columns some) in
-        subst (λ (r : Reading). Leaves r (lines_of settings bytes) step before after held answer) (sym reading)
+        let reading : plain settings bits ≡ whole_reading bits end = cond-false (eqb settings.columns 0) _ _ (some_columns settings.columns some) in
+        let all : lines_of settings bits ≡ lines = cond-false (eqb settings.columns 0) _ _ (some_columns settings.columns some) in
+        subst (λ (r : Reading). Leaves r (lines_of settings bits) step before after held answer) (sym reading)
         (subst (λ (ls : List Line). Leaves (whole_reading bits end) ls step before after held answer) (sym all) leaves)
 
     -- where the driver ended well at a place
     pub decodes_well : (place : ℕ) → place ≤ length bits → TakesRows end.rows end.outcome end.has_eols step before after held (Ok (drop place bits))
-        → StopsShort {A = Bits} end.rows lines before after held (Ok (drop place bits)) → Decodes settings bytes step before after held (Ok ((place + 7) / 8))
+        → StopsShort {A = Bits} end.rows lines before after held (Ok (drop place bits)) → Decodes settings bits step before after held (Ok ((place + 7) / 8))
     decodes_well place within takes short = known (Ok ((place + 7) / 8)) (
       record {
         taken = takes.taken;
         meaning = takes.meaning;
         all = takes.all;
-        ok = ap (bytes_before bits) takes.ok ∙ bytes_before-place bytes place within;
+        ok = ap (bytes_before bits) takes.ok ∙ bytes_before-place bits place within;
         fault = tt;
         has_eols = takes.has_eols;
       },
@@ -72,7 +74,7 @@ module _ {M : Type 0} (settings : DecodeSettings) (bytes : List ℕ) (step : M �
 
     -- where it ended with an error
     pub decodes_badly : (error : DecodeError) → TakesRows end.rows end.outcome end.has_eols step before after held (Err error)
-        → StopsShort {A = Bits} end.rows lines before after held (Err error) → Decodes settings bytes step before after held (Err error)
+        → StopsShort {A = Bits} end.rows lines before after held (Err error) → Decodes settings bits step before after held (Err error)
     decodes_badly error takes short = known (Err error) (
       record {
         taken = takes.taken;
@@ -97,11 +99,11 @@ module _ {M : Type 0} (settings : DecodeSettings) (bytes : List ℕ) (step : M �
         back e f is = let it : e ≡ f = cc in ap {B = Result ℕ DecodeError} (λ (x : DecodeError). Err x) it
 
   -- without columns nothing is read
-  pub decodes_nothing : settings.columns ≡ 0 → after ≡ before → held ≡ fresh settings → Decodes settings bytes step before after held (Ok 0)
+  pub decodes_nothing : settings.columns ≡ 0 → after ≡ before → held ≡ fresh settings → Decodes settings bits step before after held (Ok 0)
   decodes_nothing none same is =
-      let reading : plain settings bytes ≡ nothing_read = cond-true (eqb settings.columns 0) _ _ (eq-eqb settings.columns 0 none) in
+      let reading : plain settings bits ≡ nothing_read = cond-true (eqb settings.columns 0) _ _ (eq-eqb settings.columns 0 none) in
       let taken : held.taken ≡ 0 = ap (λ (h : Held). h.taken) is in
-      subst (λ (r : Reading). Leaves r (lines_of settings bytes) step before after held (Ok 0)) (sym reading) (
+      subst (λ (r : Reading). Leaves r (lines_of settings bits) step before after held (Ok 0)) (sym reading) (
         record {
           taken = omega (arith, taken);
           meaning = ap (λ (s : SinkState M). s.meaning) same ∙ ap (λ (n : ℕ). meaning_after step before.meaning (take n [])) (sym taken);
@@ -128,26 +130,26 @@ driver_left given settings read whole step before after held answer same same_bi
 
 -- ---- What a driver left, as what `decode` leaves
 
-module _ {M : Type 0} (given settings : DecodeSettings) (read : Bits) (bytes : List ℕ) (same : given ≡ settings) (same_bits : read ≡ bits_of bytes) (some : given.columns ≢ 0)
+module _ {M : Type 0} (given settings : DecodeSettings) (read whole : Bits) (same : given ≡ settings) (same_bits : read ≡ whole) (some : given.columns ≢ 0)
     (step : M → List ℕ → M) (before after : SinkState M) (held : Held) where
   abbrev columns : settings.columns ≢ 0
   columns = subst (λ (s : DecodeSettings). s.columns ≢ 0) same some
 
   -- where the driver failed
   pub left_badly : (error : DecodeError) → TakesRows (end_of given read).rows (end_of given read).outcome (end_of given read).has_eols step before after held (Err error)
-      → StopsShort {A = Bits} (end_of given read).rows (lines_by given.encoding given read) before after held (Err error) → Decodes settings bytes step before after held (Err error)
+      → StopsShort {A = Bits} (end_of given read).rows (lines_by given.encoding given read) before after held (Err error) → Decodes settings whole step before after held (Err error)
   left_badly error takes short =
-      let left = driver_left given settings read (bits_of bytes) step before after held (Err error) same same_bits takes short in
-      decodes_badly settings bytes step before after held columns error left.0 left.1
+      let left = driver_left given settings read whole step before after held (Err error) same same_bits takes short in
+      decodes_badly settings whole step before after held columns error left.0 left.1
 
   -- where it ended well at a place, and so many bytes lie before that
   pub left_well : (place : ℕ) (bits : Bits) (count : ℕ) → bits ≡ read → place ≤ length bits → (place + 7) / 8 ≡ count
       → TakesRows (end_of given read).rows (end_of given read).outcome (end_of given read).has_eols step before after held (Ok (drop place bits))
       → StopsShort {A = Bits} (end_of given read).rows (lines_by given.encoding given read) before after held (Ok (drop place bits))
-      → Decodes settings bytes step before after held (Ok count)
+      → Decodes settings whole step before after held (Ok count)
   left_well place bits count are within counted takes short =
-      let left = driver_left given settings read (bits_of bytes) step before after held (Ok (drop place bits)) same same_bits takes short in
-      let moved = subst (λ (x : Bits). TakesRows (end_of settings (bits_of bytes)).rows (end_of settings (bits_of bytes)).outcome (end_of settings (bits_of bytes)).has_eols step before after held (Ok (drop place x))
-      × StopsShort {A = Bits} (end_of settings (bits_of bytes)).rows (lines_by settings.encoding settings (bits_of bytes)) before after held (Ok (drop place x))) (are ∙ same_bits) left in
-      subst (λ (n : ℕ). Decodes settings bytes step before after held (Ok n)) counted
-      (decodes_well settings bytes step before after held columns place (omega (arith, within, ap length (are ∙ same_bits))) moved.0 moved.1)
+      let left = driver_left given settings read whole step before after held (Ok (drop place bits)) same same_bits takes short in
+      let moved = subst (λ (x : Bits). TakesRows (end_of settings whole).rows (end_of settings whole).outcome (end_of settings whole).has_eols step before after held (Ok (drop place x))
+      × StopsShort {A = Bits} (end_of settings whole).rows (lines_by settings.encoding settings whole) before after held (Ok (drop place x))) (are ∙ same_bits) left in
+      subst (λ (n : ℕ). Decodes settings whole step before after held (Ok n)) counted
+      (decodes_well settings whole step before after held columns place (omega (arith, within, ap length (are ∙ same_bits))) moved.0 moved.1)

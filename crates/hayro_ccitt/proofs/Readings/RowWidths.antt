@@ -8,7 +8,7 @@ use Rattle.hayro_ccitt.specs.declared.settings.DecodeSettings.{DecodeSettings}
 use Rattle.hayro_ccitt.specs.declared.settings.EncodingMode.{EncodingMode}
 use Rattle.hayro_ccitt.specs.declared.settings.EncodingMode.TheVariants.{Group4, Group3_1D, Group3_2D}
 use Rattle.hayro_ccitt.specs.Answers.{front_of}
-use Rattle.hayro_ccitt.specs.Bits.{Bits, bits_of}
+use Rattle.hayro_ccitt.specs.Bits.{Bits}
 use Rattle.hayro_ccitt.specs.Repetition.{Turn}
 use Rattle.hayro_ccitt.specs.Rows.{Row, repaired}
 use Rattle.hayro_ccitt.specs.Lines.{Line}
@@ -102,9 +102,9 @@ module _ (settings : DecodeSettings) where
   end_by_width Group3_2D bits = ending_width (move_group3 settings) move_group3_width (start_group3 settings bits) none
 
   -- each row has the width
-  pub plain_width : (input : List ℕ) → HaveWidth settings.columns (plain settings input).rows
+  pub plain_width : (input : Bits) → HaveWidth settings.columns (plain settings input).rows
   plain_width input = by (eqb settings.columns 0)
     where
-      by : (b : Bool) → HaveWidth settings.columns (cond b nothing_read (whole_reading (bits_of input) (end_of settings (bits_of input)))).rows
+      by : (b : Bool) → HaveWidth settings.columns (cond b nothing_read (whole_reading input (end_of settings input))).rows
       by true = none
-      by false = end_by_width settings.encoding (bits_of input)
+      by false = end_by_width settings.encoding input

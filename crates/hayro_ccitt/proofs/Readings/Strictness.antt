@@ -12,7 +12,7 @@ use Rattle.hayro_ccitt.specs.declared.error.DecodeError.TheVariants.{InvalidCode
 use Rattle.hayro_ccitt.specs.declared.settings.DecodeSettings.{DecodeSettings}
 use Rattle.hayro_ccitt.specs.declared.settings.EncodingMode.{EncodingMode}
 use Rattle.hayro_ccitt.specs.declared.settings.EncodingMode.TheVariants.{Group4, Group3_1D, Group3_2D}
-use Rattle.hayro_ccitt.specs.Bits.{Bits, bits_of, IsPrefix}
+use Rattle.hayro_ccitt.specs.Bits.{Bits, IsPrefix}
 use Rattle.hayro_ccitt.specs.CodeLists.{mode_codes}
 use Rattle.hayro_ccitt.specs.CodeReading.{read_code}
 use Rattle.hayro_ccitt.specs.Repetition.{Turn, repeated}
@@ -259,17 +259,17 @@ ok_outcome bits (Err fault) ok = absurd (false≢true ok)
 
 -- the law
 pub strict_then_lenient : StrictThenLenient
-strict_then_lenient settings bytes are = elim (cases_eq settings.columns 0) [
+strict_then_lenient settings bits are = elim (cases_eq settings.columns 0) [
   | inl none ↦
       let no_columns : eqb settings.columns 0 ≡ true = eq-eqb settings.columns 0 none in
       rw no_columns (([], refl), λ ok. refl)
   | inr not_none ↦
       let wide : 0 < settings.columns = elim (cases_lt 0 settings.columns) [ inl lt ↦ lt | inr ge ↦ absurd (not_none (omega arith)) ] in
       let columns : eqb settings.columns 0 ≡ false = ne_eqb settings.columns 0 not_none in
-      let both = precedes settings wide settings.encoding (bits_of bytes) in
+      let both = precedes settings wide settings.encoding bits in
       rw columns (
         both.0,
-        λ ok. ap (whole_reading (bits_of bytes))
-            (both.1 (ok_outcome (bits_of bytes) (end_by settings.encoding (record settings { strict = true }) (bits_of bytes)).outcome ok)),
+        λ ok. ap (whole_reading bits)
+            (both.1 (ok_outcome bits (end_by settings.encoding (record settings { strict = true }) bits).outcome ok)),
       )
 ]

@@ -1,5 +1,6 @@
-use Rattle.hayro_ccitt.proofs.BitReading.WindowWords.{word_bit}
+use Rattle.hayro_ccitt.proofs.BitReading.WindowWords.{ordered_bit}
 use Rattle.hayro_ccitt.proofs.bit_reader.whole_word.Goals as goal
 
 pub returns : goal.returns
-returns c k h = rw c.from_be_bytes.ensures (word_bit c.args.bytes.now k (λ i. (c.type_inv.bytes i).fits) h)
+returns c k h =
+    ordered_bit c.args.order c.args.bytes.now c.in_order.result k (rw (← c.from_be_bytes-word.ensures) (c.in_order.ensures k h)) (λ i. (c.type_inv.bytes i).fits) h

@@ -3,4 +3,4 @@ use Rattle.hayro_ccitt.proofs.BitReading.BitPlaces.{within_bits}
 use Rattle.hayro_ccitt.proofs.bit_reader.BitReader.bit_pos.Goals as goal
 
 pub returns-clause-within : goal.returns-clause-within
-returns-clause-within c = rw (← c.self.view_is) (within_bits c.self.inside.«data».now c.self.inside.place (omega (arith, c.self.invariant.within, c.self.invariant.before_end)))
+returns-clause-within c = rw (← c.self.view_is) (within_bits c.self.inside.order c.self.inside.«data».now c.self.inside.place (omega (arith, c.self.invariant.within, c.self.invariant.before_end)))

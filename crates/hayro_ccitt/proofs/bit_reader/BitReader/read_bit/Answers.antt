@@ -2,24 +2,24 @@ use Rattle.std.proofs.Common.{◌≡◌, ℕ, ◌+◌, ◌<◌, ◌^◌, Some, g
 use Rattle.std.proofs.lemmas.Bool.{cases_lt, false≢true}
 use Rattle.std.proofs.lemmas.Option.{slice_get-get_or}
 use Rattle.std.proofs.lemmas.Result.{err_from_is_err_and}
-use Rattle.hayro_ccitt.specs.Bits.{bits_of}
-use Rattle.hayro_ccitt.proofs.BitReading.BitLists.{length-bits_of}
+use Rattle.hayro_ccitt.specs.Bits.{bits_in}
+use Rattle.hayro_ccitt.proofs.BitReading.BitLists.{length-bits_in}
 use Rattle.hayro_ccitt.proofs.BitReading.BitPlaces.{bits_at}
 use Rattle.hayro_ccitt.proofs.BitReading.WindowWords.{top_bit}
 use Rattle.hayro_ccitt.proofs.bit_reader.BitReader.read_bit.Goals as goal
 
 pub returns-in_err-consume-clause-unchanged : goal.returns-in_err-consume-clause-unchanged
 returns-in_err-consume-clause-unchanged c =
-    let bits = bits_of c.self.inside.«data».now in
+    let bits = bits_in c.self.inside.order c.self.inside.«data».now in
     let place = c.self.inside.place in
     let past : length bits < place + 1 = (rw (← c.self.view_is) at c.in_err-consume.ensures.end).0 refl in
-    let stays : min (place + 1) (length bits) ≡ place = omega (arith, past, c.self.invariant.within, c.self.invariant.before_end, length-bits_of c.self.inside.«data».now) in
+    let stays : min (place + 1) (length bits) ≡ place = omega (arith, past, c.self.invariant.within, c.self.invariant.before_end, length-bits_in c.self.inside.order c.self.inside.«data».now) in
     let p = err_from_is_err_and c.from_residual.result c.from_residual.ensures.1 in
     rw p.1 (c.in_err-consume.ensures.moved ∙ rw (← c.self.view_is) (ap (bits_at bits) stays))
 
 pub returns-clause-bit : goal.returns-clause-bit
 returns-clause-bit c =
-    let bits = bits_of c.self.inside.«data».now in
+    let bits = bits_in c.self.inside.order c.self.inside.«data».now in
     let place = c.self.inside.place in
     let fits : c.self.inside.window < 2 ^ 64 = omega arith in
     let top = top_bit c.self.inside.window fits in

@@ -1,6 +1,6 @@
 use Rattle.std.proofs.Common.{◌≡◌, ◌*◌, length, min, ap, ◌∙◌, arith}
-use Rattle.hayro_ccitt.specs.Bits.{bits_of}
-use Rattle.hayro_ccitt.proofs.BitReading.BitLists.{length-bits_of}
+use Rattle.hayro_ccitt.specs.Bits.{bits_in}
+use Rattle.hayro_ccitt.proofs.BitReading.BitLists.{length-bits_in}
 use Rattle.hayro_ccitt.proofs.BitReading.BitPlaces.{bits_at}
 use Rattle.hayro_ccitt.proofs.BitReading.WindowWords.{none_held}
 use Rattle.hayro_ccitt.proofs.bit_reader.BitReader.refill.Goals as goal
@@ -11,25 +11,25 @@ invariant_of-self c = record {
   within = omega arith;
   before_end = omega arith;
   near = omega arith;
-  held = λ k h. none_held c.self.inside.«data».now _ k (omega (arith, c.if-next-end.true));
+  held = λ k h. none_held c.self.inside.order c.self.inside.«data».now _ k (omega (arith, c.if-next-end.true));
 }
 
 pub returns-then-next-end-clause-moved : goal.returns-then-next-end-clause-moved
 returns-then-next-end-clause-moved c =
-    let bits = bits_of c.self.inside.«data».now in
-    let e : length c.self.inside.«data».now * 8 ≡ min c.args.next (length bits) = omega (arith, c.if-next-end.true, length-bits_of c.self.inside.«data».now) in
+    let bits = bits_in c.self.inside.order c.self.inside.«data».now in
+    let e : length c.self.inside.«data».now * 8 ≡ min c.args.next (length bits) = omega (arith, c.if-next-end.true, length-bits_in c.self.inside.order c.self.inside.«data».now) in
     rw (← c.self.view_is) (ap (bits_at bits) e)
 
 pub returns-then-next-end-clause-end : goal.returns-then-next-end-clause-end
 returns-then-next-end-clause-end c =
-    rw (← c.self.view_is) (λ e. omega (arith, c.if-next-end.true, length-bits_of c.self.inside.«data».now), λ h. cc)
+    rw (← c.self.view_is) (λ e. omega (arith, c.if-next-end.true, length-bits_in c.self.inside.order c.self.inside.«data».now), λ h. cc)
 
 pub returns-clause-moved : goal.returns-clause-moved
 returns-clause-moved c =
-    let bits = bits_of c.self.inside.«data».now in
-    let e : c.args.next ≡ min c.args.next (length bits) = omega (arith, c.if-next-end.false, length-bits_of c.self.inside.«data».now) in
-    c.self-2.view_is ∙ c.starting_at.ensures ∙ rw (← c.self.view_is) (ap (bits_at bits) e)
+    let bits = bits_in c.self.inside.order c.self.inside.«data».now in
+    let e : c.args.next ≡ min c.args.next (length bits) = omega (arith, c.if-next-end.false, length-bits_in c.self.inside.order c.self.inside.«data».now) in
+    c.self-2.view_is ∙ c.at_place.ensures ∙ rw (← c.self.view_is) (ap (bits_at bits) e)
 
 pub returns-clause-end : goal.returns-clause-end
 returns-clause-end c =
-    rw (← c.self.view_is) (λ e. absurd cc, λ h. absurd (omega (arith, h, c.if-next-end.false, length-bits_of c.self.inside.«data».now)))
+    rw (← c.self.view_is) (λ e. absurd cc, λ h. absurd (omega (arith, h, c.if-next-end.false, length-bits_in c.self.inside.order c.self.inside.«data».now)))

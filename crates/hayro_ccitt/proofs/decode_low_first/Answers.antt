@@ -1,0 +1,23 @@
+use Rattle.std.proofs.Common.{ap, length, ◌∙◌}
+use Rattle.hayro_ccitt.specs.declared.bit_reader.BitOrder.TheVariants.{LowestFirst}
+use Rattle.hayro_ccitt.specs.Bits.{BitsAt}
+use Rattle.hayro_ccitt.proofs.BitReading.BitLists.{length-bits_in, bits_are_whole}
+use Rattle.hayro_ccitt.proofs.Readings.PlainAnswers.{whole_bytes_within}
+use Rattle.hayro_ccitt.proofs.decode_low_first.Goals as goal
+
+pub decode_bits-requires-clause-whole : goal.decode_bits-requires-clause-whole
+decode_bits-requires-clause-whole g c = rw (ap (λ (at : BitsAt). at.bits) c.new_low_first.ensures) (bits_are_whole LowestFirst c.args.«data».now)
+
+pub returns-clause-within : goal.returns-clause-within
+returns-clause-within g c =
+    whole_bytes_within c.decode_bits.result (length c.new_low_first.result.bits) (length c.args.«data».now)
+    (ap (λ (at : BitsAt). length at.bits) c.new_low_first.ensures ∙ length-bits_in LowestFirst c.args.«data».now) c.decode_bits.ensures.within
+
+pub returns-clause-closed : goal.returns-clause-closed
+returns-clause-closed g c = rw (← ap (λ (at : BitsAt). at.bits) c.new_low_first.ensures) c.decode_bits.ensures.closed
+
+pub returns-clause-limited : goal.returns-clause-limited
+returns-clause-limited g c = rw (← ap (λ (at : BitsAt). at.bits) c.new_low_first.ensures) c.decode_bits.ensures.limited
+
+pub returns-clause-damage : goal.returns-clause-damage
+returns-clause-damage g c = rw (← ap (λ (at : BitsAt). at.bits) c.new_low_first.ensures) c.decode_bits.ensures.damage
