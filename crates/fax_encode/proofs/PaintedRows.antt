@@ -5,6 +5,7 @@ use Rattle.std.proofs.lemmas.List.{append-nil, length-append, length-replicate, 
 use Rattle.std.proofs.Math.Seq.{take-append-add}
 use Rattle.std.proofs.lemmas.Slice.{take-put_mid}
 use borrow.Rule.Slice.PartMut.{put_mid}
+use Rattle.hayro_ccitt.specs.declared.bit_reader.BitOrder.TheVariants.{HighestFirst}
 use Rattle.hayro_ccitt.specs.Bits.{Bits, bits_of, bits_of_byte, low_bits}
 use Rattle.hayro_ccitt.specs.Rows.{Row, AscendFrom, AreChanges, pixels, pixels_from}
 use Rattle.hayro_ccitt.proofs.BitReading.BitLists.{length-bits_of}
@@ -18,7 +19,7 @@ use Rattle.hayro_ccitt.specs.declared.codes.Color.TheVariants.{White}
 
 -- ---- moving to another word
 -- bytes of one colour
-bits_of_plain : (byte n : ℕ) (color : Bool) → bits_of_byte byte ≡ replicate 8 color → bits_of (replicate n byte) ≡ replicate (8 * n) color
+bits_of_plain : (byte n : ℕ) (color : Bool) → bits_of_byte HighestFirst byte ≡ replicate 8 color → bits_of (replicate n byte) ≡ replicate (8 * n) color
 bits_of_plain byte zero color plain = refl
 bits_of_plain byte (suc n) color plain =
     let sum : 8 + 8 * n ≡ 8 * suc n = omega arith in
@@ -44,13 +45,13 @@ module _ (start count next word : ℕ) (old now now' bytes : List ℕ) (color : 
   word_written =
       let behind : start + 8 ≡ start + length bytes = omega arith in
       ap (λ (row : List ℕ). bits_of (take (start + 8) row)) put ∙ ap bits_of (take-put_mid start count old bytes (start + 8) behind (omega arith))
-      ∙ flat_map-append bits_of_byte (take start old) bytes ∙ ap (λ (b : Bits). bits_of (take start old) ++ b) spelled
+      ∙ flat_map-append (bits_of_byte HighestFirst) (take start old) bytes ∙ ap (λ (b : Bits). bits_of (take start old) ++ b) spelled
 
   length-now : length now ≡ length old
   length-now = ap length put ∙ length-put_mid start count old bytes (omega arith) (omega arith)
 
   -- bytes of the colour follow
-  pub filled_in : (byte : ℕ) (fill : List ℕ) → start + 8 < next → bits_of_byte byte ≡ replicate 8 color → now' ≡ put_mid (start + 8) (next - (start + 8)) now fill
+  pub filled_in : (byte : ℕ) (fill : List ℕ) → start + 8 < next → bits_of_byte HighestFirst byte ≡ replicate 8 color → now' ≡ put_mid (start + 8) (next - (start + 8)) now fill
       → next ≤ length old → fill ≡ replicate (length (take (next - (start + 8)) (drop (start + 8) now))) byte
       → bits_of (take next now') ≡ (bits_of (take start old) ++ low_bits 64 word) ++ replicate (8 * (next - (start + 8))) color
   filled_in byte fill lt plain put' room filled =
@@ -61,7 +62,7 @@ module _ (start count next word : ℕ) (old now now' bytes : List ℕ) (color : 
       let long : length fill ≡ more = ap length is ∙ length-replicate more byte in
       let behind : next ≡ (start + 8) + length fill = omega arith in
       ap (λ (row : List ℕ). bits_of (take next row)) put' ∙ ap bits_of (take-put_mid (start + 8) more now fill next behind (omega (arith, length-now)))
-      ∙ flat_map-append bits_of_byte (take (start + 8) now) fill
+      ∙ flat_map-append (bits_of_byte HighestFirst) (take (start + 8) now) fill
       ∙ ap (λ (b : Bits). b ++ bits_of fill) word_written
       ∙ ap (λ (b : Bits). (bits_of (take start old) ++ low_bits 64 word) ++ b) (ap bits_of is ∙ bits_of_plain byte more color plain)
 
@@ -245,7 +246,7 @@ finished start row row' bytes word within last eight spelled put =
     let split : 8 * length row ≡ length (bits_of head) + 8 * count = omega arith in
     let all : row' ≡ head ++ part
     = sym (take_all (length row) row' (omega arith)) ∙ ap (take (length row)) put ∙ take-put_mid start count row part (length row) (omega arith) within in
-    ap bits_of all ∙ flat_map-append bits_of_byte head part
+    ap bits_of all ∙ flat_map-append (bits_of_byte HighestFirst) head part
     ∙ ap (λ (b : Bits). bits_of head ++ b) (bits_of-take count bytes ∙ ap (take (8 * count)) spelled)
     ∙ sym (take-append-add (bits_of head) (low_bits 64 word) (8 * count)) ∙ sym (ap (λ (n : ℕ). take n (bits_of head ++ low_bits 64 word)) split)
 

@@ -3,6 +3,7 @@ use Rattle.std.proofs.Common.{◌≡◌, ℕ, zero, suc, ◌+◌, ◌-◌, ◌*�
 use Rattle.std.specs.Int.{bit_at, to_be_bytes, w64}
 use Rattle.std.specs.Int.RustNames.{bit_xor}
 use Rattle.std.proofs.lemmas.Nat.Bits.{bit_at_xor, bit_at_ones, bit_at_ones_above, bit_at-lt}
+use Rattle.hayro_ccitt.specs.declared.bit_reader.BitOrder.TheVariants.{HighestFirst}
 use Rattle.hayro_ccitt.specs.Bits.{Bits, bit_of, bits_of, bits_of_byte, low_bits}
 use Rattle.fax_encode.proofs.WrittenBits.{low_bits_split, low_bits_mod}
 
@@ -10,7 +11,7 @@ use Rattle.fax_encode.proofs.WrittenBits.{low_bits_split, low_bits_mod}
 -- one byte of a number, before the bytes below it
 byte_before : (k n byte : ℕ) (bytes : List ℕ) → byte ≡ (n / 2 ^ k) % 256 → bits_of bytes ≡ low_bits k n → bits_of (byte ∷ bytes) ≡ low_bits (8 + k) n
 byte_before k n byte bytes is e =
-    ap (λ (b : Bits). bits_of_byte byte ++ b) e
+    ap (λ (b : Bits). bits_of_byte HighestFirst byte ++ b) e
     ∙ ap (λ (b : Bits). b ++ low_bits k n) (ap (low_bits 8) is ∙ low_bits_mod 8 8 (n / 2 ^ k) (omega arith)) ∙ sym (low_bits_split 8 k n)
 
 pub bits_of_word : (n : ℕ) → bits_of (to_be_bytes w64 n) ≡ low_bits 64 n
@@ -35,7 +36,7 @@ bits_of-take zero bytes = refl
 bits_of-take (suc k) [] = sym (take_none (8 * suc k))
 bits_of-take (suc k) (byte ∷ bytes) =
     let n : 8 * suc k ≡ suc (suc (suc (suc (suc (suc (suc (suc (8 * k)))))))) = omega arith in
-    ap (λ (b : Bits). bits_of_byte byte ++ b) (bits_of-take k bytes) ∙ sym (ap (λ (m : ℕ). take m (bits_of (byte ∷ bytes))) n)
+    ap (λ (b : Bits). bits_of_byte HighestFirst byte ++ b) (bits_of-take k bytes) ∙ sym (ap (λ (m : ℕ). take m (bits_of (byte ∷ bytes))) n)
 
 -- ---- turning the colour
 -- a bit that is turned

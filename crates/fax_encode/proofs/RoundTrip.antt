@@ -4,6 +4,7 @@ use Rattle.std.specs.Prelude.{All, Ok}
 use Rattle.std.proofs.lemmas.List.{length-append, length-replicate, length-map}
 use Rattle.std.proofs.lemmas.List.Elements.{All-head, All-tail, All-cons, All-nil}
 use Rattle.hayro_ccitt.specs.declared.settings.DecodeSettings.{DecodeSettings}
+use Rattle.hayro_ccitt.specs.declared.bit_reader.BitOrder.TheVariants.{HighestFirst}
 use Rattle.hayro_ccitt.specs.Bits.{Bits, bits_of}
 use Rattle.hayro_ccitt.specs.Rows.{Row, AreChanges, pixels, white_row}
 use Rattle.hayro_ccitt.specs.EndOfLine.{after_eol, eols, all_eols}
@@ -12,7 +13,7 @@ use Rattle.hayro_ccitt.specs.Pictures.{BeginsWithPictureT6, BeginsWithPictureT4}
 use Rattle.hayro_ccitt.specs.declared.settings.EncodingMode.{EncodingMode}
 use Rattle.hayro_ccitt.specs.Settings.{AreSettings}
 use Rattle.hayro_ccitt.specs.PlainReading.{eols_group3}
-use Rattle.hayro_ccitt.proofs.BitReading.BitLists.{length-bits_of}
+use Rattle.hayro_ccitt.proofs.BitReading.BitLists.{length-bits_of, bits_are_whole}
 use Rattle.hayro_ccitt.proofs.PixelRows.ChangesAndPixels.{length-pixels}
 use Rattle.hayro_ccitt.proofs.Readings.TurnsMoveOn.{eols-none}
 use Rattle.hayro_ccitt.proofs.EncodedPictures.PicturesT6.{closed_picture_t6}
@@ -48,7 +49,7 @@ round_trip_t6 settings columns lists bytes wide small are to_end group4 e =
       picture = subst (λ (n : ℕ). PictureT6 n settings.rows_are_byte_aligned rows bits) (sym to_end.columns_are) picture;
       begins = (padding (length bits), e);
     } in
-    closed_picture_t6 settings rows bits bytes (settings_are settings columns small to_end) begins
+    closed_picture_t6 settings rows bits (bits_of bytes) (settings_are settings columns small to_end) (bits_are_whole HighestFirst bytes) begins
     ∙ ap (λ (n : ℕ). record { rows = rows; outcome = Ok n; has_eols = false }) (whole_bytes bits bytes e)
 
 -- ---- T.4
@@ -95,5 +96,5 @@ round_trip_t4 settings columns lists bytes wide small some are to_end group3 e =
     let count : (length (bits_of bytes) - length (eols_group3 settings (return_to_control ++ more)).1 + 7) / 8 ≡ length bytes
     = ap (λ (m : Bits). (length (bits_of bytes) - length m + 7) / 8) left
     ∙ (let k : (length (bits_of bytes) - length more + 7) / 8 ≡ length bytes = omega (arith, length-bits_of bytes, length-replicate n false) in k) in
-    closed_picture_t4 settings rows lines (return_to_control ++ more) bytes (settings_are settings columns small to_end) begins
+    closed_picture_t4 settings rows lines (return_to_control ++ more) (bits_of bytes) (settings_are settings columns small to_end) begins
     ∙ ap (λ (n : ℕ). record { rows = rows; outcome = Ok n; has_eols = true }) count

@@ -10,6 +10,7 @@ use Rattle.hayro_ccitt.specs.Encodings.{padding}
 use Rattle.fax_encode.specs.Writing.{Written, all_bits}
 use Rattle.fax_encode.specs.Chosen.{filled_up}
 use Rattle.hayro_ccitt.proofs.BitReading.BitLists.{length-bits_of, length-low_bits}
+use Rattle.hayro_ccitt.specs.declared.bit_reader.BitOrder.TheVariants.{HighestFirst}
 use Rattle.hayro_ccitt.specs.Bits.{Bits, bit_of, bits_of, bits_of_byte, low_bits}
 
 same_bit : (m n j k : ℕ) → bit_at m j ≡ bit_at n k → bit_of m j ≡ bit_of n k
@@ -55,12 +56,12 @@ low_bits_split width k n =
     ∙ low_bits_cat width k (n / 2 ^ k) (n % 2 ^ k) (remainder n (2 ^ k) (power_positive k))
     ∙ ap (λ (b : Bits). low_bits width (n / 2 ^ k) ++ b) (low_bits_mod k k n (omega arith))
 
-byte_is_low_bits : (n : ℕ) → bits_of_byte n ≡ low_bits 8 n
+byte_is_low_bits : (n : ℕ) → bits_of_byte HighestFirst n ≡ low_bits 8 n
 byte_is_low_bits n = refl
 
 -- one byte more
 pub bits_of-push : (bytes : List ℕ) (byte : ℕ) → bits_of (bytes ++ byte ∷ []) ≡ bits_of bytes ++ low_bits 8 byte
-bits_of-push bytes byte = flat_map-append bits_of_byte bytes (byte ∷ []) ∙ ap (λ (b : Bits). bits_of bytes ++ b) (append-nil (bits_of_byte byte) ∙ byte_is_low_bits byte)
+bits_of-push bytes byte = flat_map-append (bits_of_byte HighestFirst) bytes (byte ∷ []) ∙ ap (λ (b : Bits). bits_of bytes ++ b) (append-nil (bits_of_byte HighestFirst byte) ∙ byte_is_low_bits byte)
 
 -- the highest eight of some bits go to the bytes
 pub push_byte : (bytes : List ℕ) (count left n byte : ℕ) → count ≡ 8 + left → byte ≡ (n / 2 ^ left) % 256
@@ -157,7 +158,7 @@ bits_of_full : (bit : Bool) (k : ℕ) → bits_of (replicate k (byte_full_of bit
 bits_of_full bit zero = refl
 bits_of_full bit (suc k) =
     let n : 8 * suc k ≡ 8 + 8 * k = omega arith in
-    ap (λ (b : Bits). bits_of_byte (byte_full_of bit) ++ b) (bits_of_full bit k)
+    ap (λ (b : Bits). bits_of_byte HighestFirst (byte_full_of bit) ++ b) (bits_of_full bit k)
     ∙ ap (λ (b : Bits). b ++ replicate (8 * k) bit) (byte_is_low_bits (byte_full_of bit) ∙ same_low_bits bit 8 (omega arith))
     ∙ replicate-append-replicate 8 (8 * k) bit ∙ ap (λ (m : ℕ). replicate m bit) (sym n)
 
@@ -183,7 +184,7 @@ filled_on bit old pushed new waiting count n full byte m k few below enough full
     = ap bits_of pushed-is ∙ bits_of-push old byte ∙ ap (λ (b : Bits). bits_of old ++ b) behind in
     let last : low_bits rest full ≡ replicate rest bit = ap (low_bits rest) full-is ∙ same_low_bits bit rest (omega arith) in
     let new_bits : bits_of new ≡ (bits_of old ++ (low_bits count waiting ++ replicate room bit)) ++ replicate (8 * whole) bit
-    = ap bits_of there ∙ flat_map-append bits_of_byte pushed (replicate whole (byte_full_of bit))
+    = ap bits_of there ∙ flat_map-append (bits_of_byte HighestFirst) pushed (replicate whole (byte_full_of bit))
     ∙ ap (λ (b : Bits). b ++ bits_of (replicate whole (byte_full_of bit))) pushed_bits
     ∙ ap (λ (b : Bits). (bits_of old ++ (low_bits count waiting ++ replicate room bit)) ++ b) (bits_of_full bit whole) in
     let tail : replicate room bit ++ (replicate (8 * whole) bit ++ replicate rest bit) ≡ replicate n bit

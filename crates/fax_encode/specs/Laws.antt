@@ -26,11 +26,11 @@ abbrev pub RoundTripT6 : Type 0
 RoundTripT6 = (settings : DecodeSettings) (columns : ℕ) (lists : List (List ℕ)) (bytes : List ℕ)
     → 0 < columns → columns < 2 ^ 32 → AreRows columns lists → ReadToTheEnd settings columns → settings.encoding ≡ Group4
     → bits_of bytes ≡ filled_up (chosen_t6 columns settings.rows_are_byte_aligned (rows_of columns lists))
-    → plain settings bytes ≡ record { rows = rows_of columns lists; outcome = Ok (length bytes); has_eols = false }
+    → plain settings (bits_of bytes) ≡ record { rows = rows_of columns lists; outcome = Ok (length bytes); has_eols = false }
 
 -- Bytes of the chosen T.4 picture are read as its rows, all of them.
 abbrev pub RoundTripT4 : Type 0
 RoundTripT4 = (settings : DecodeSettings) (columns : ℕ) (lists : List (List ℕ)) (bytes : List ℕ)
     → 0 < columns → columns < 2 ^ 32 → 0 < length lists → AreRows columns lists → ReadToTheEnd settings columns → settings.encoding ≡ Group3_1D
     → bits_of bytes ≡ filled_up (chosen_t4 (rows_of columns lists))
-    → plain settings bytes ≡ record { rows = rows_of columns lists; outcome = Ok (length bytes); has_eols = true }
+    → plain settings (bits_of bytes) ≡ record { rows = rows_of columns lists; outcome = Ok (length bytes); has_eols = true }

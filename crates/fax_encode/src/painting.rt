@@ -1,6 +1,7 @@
 //! Painting rows: a row's changes become packed pixels, 64 at a time.
 
 ghost use Rattle.std.specs.Prelude.{◌≡◌, ◌+◌, ◌-◌, ◌*◌, ◌/◌, ◌%◌, ◌<◌, ◌≤◌, ◌++◌, not, length, replicate, take};
+ghost use Rattle.hayro_ccitt.specs.declared.bit_reader.BitOrder.TheVariants.{HighestFirst};
 ghost use Rattle.hayro_ccitt.specs.Bits.{Bits, bits_of, bits_of_byte, low_bits};
 ghost use Rattle.hayro_ccitt.specs.Rows.{AreChanges, pixels};
 ghost use Rattle.fax_encode.specs.Chosen.{filled_up};
@@ -28,7 +29,7 @@ fn plain_word(is_black: bool) -> u64
 /// A byte of pixels of one colour.
 #[inline(always)]
 fn plain_byte(is_black: bool) -> u8
-    ensures { bits_of_byte result ≡ replicate 8 is_black }
+    ensures { bits_of_byte HighestFirst result ≡ replicate 8 is_black }
 {
     if is_black { 255 } else { 0 }
 }

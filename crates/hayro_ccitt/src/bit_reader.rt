@@ -89,7 +89,7 @@ fn byte_or_zero(bytes: &[u8], index: usize) -> u8
 fn last_word(bytes: &[u8], order: BitOrder) -> u64
     ensures { (k : ℕ) → k < 64 → bit_of result (63 - k) ≡ get_or (bits_in order bytes.now) k false }
 {
-    let word = u64::from_be_bytes([
+    let last = u64::from_be_bytes([
         byte_or_zero(bytes, 0),
         byte_or_zero(bytes, 1),
         byte_or_zero(bytes, 2),
@@ -99,7 +99,7 @@ fn last_word(bytes: &[u8], order: BitOrder) -> u64
         byte_or_zero(bytes, 6),
         byte_or_zero(bytes, 7),
     ]);
-    in_order(word, order)
+    in_order(last, order)
 }
 
 /// The 64 bits from a byte on, the first in the highest position, with zeros past the end.
