@@ -5,6 +5,7 @@ use Rattle.std.proofs.lemmas.Slice.{take-put_mid, drop-put_mid}
 use borrow.Rule.Slice.PartMut.{put_mid}
 use Rattle.hayro_ccitt.specs.declared.settings.DecodeSettings.{DecodeSettings}
 use Rattle.hayro_ccitt.specs.Answers.{meaning_after}
+use Rattle.hayro_ccitt.specs.Bits.{Bits}
 use Rattle.hayro_ccitt.specs.PlainReading.{plain}
 use Rattle.hayro_ccitt.specs.Rows.{Row, AscendFrom, changes}
 use Rattle.hayro_ccitt_c.specs.Listing.{Listing, with_listed, listed, listed_row}
@@ -75,17 +76,17 @@ rows_listed before (row ∷ rows) =
     }
 
 -- ---- what the caller's memory holds, where it was lent to a sink that took the first rows
-pub record HoldsLists (settings : DecodeSettings) (input : List ℕ) (taken : ℕ) (before after : List ℕ) (start final : Listing) : Type 0 where
-  pub end : final.end ≡ numbers_taken settings input taken
-  pub changes : final.changes ≡ changes_taken settings input taken
-  pub listed : AreListed settings input taken before after
+pub record HoldsLists (settings : DecodeSettings) (bits : Bits) (taken : ℕ) (before after : List ℕ) (start final : Listing) : Type 0 where
+  pub end : final.end ≡ numbers_taken settings bits taken
+  pub changes : final.changes ≡ changes_taken settings bits taken
+  pub listed : AreListed settings bits taken before after
   pub name : start.name ≡ final.name
 
-pub holds_lists : (settings : DecodeSettings) (input : List ℕ) (taken : ℕ) (start final : Listing) (before after : List ℕ) → start.end ≡ 0 → start.numbers ≡ []
+pub holds_lists : (settings : DecodeSettings) (bits : Bits) (taken : ℕ) (start final : Listing) (before after : List ℕ) → start.end ≡ 0 → start.numbers ≡ []
     → start.rest ≡ before → start.changes ≡ 0 → take final.end after ≡ final.numbers → drop final.end after ≡ final.rest
-    → final ≡ meaning_after with_listed start (take taken (plain settings input).rows) → HoldsLists settings input taken before after start final
-holds_lists settings input taken start final before after begun empty whole uncounted numbers rest meaning =
-    let rows : List Row = take taken (plain settings input).rows in
+    → final ≡ meaning_after with_listed start (take taken (plain settings bits).rows) → HoldsLists settings bits taken before after start final
+holds_lists settings bits taken start final before after begun empty whole uncounted numbers rest meaning =
+    let rows : List Row = take taken (plain settings bits).rows in
     let has : HasListed rows start final = subst (HasListed rows start) (sym meaning) (rows_listed start rows) in
     let end : final.end ≡ length (listed rows) = omega (arith, has.end) in
     record {

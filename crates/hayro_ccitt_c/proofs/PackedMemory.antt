@@ -7,6 +7,7 @@ use Rattle.std.proofs.lemmas.Slice.{take-put_mid, drop-put_mid}
 use borrow.Rule.Slice.PartMut.{put_mid}
 use Rattle.hayro_ccitt.specs.declared.settings.DecodeSettings.{DecodeSettings}
 use Rattle.hayro_ccitt.specs.Answers.{meaning_after}
+use Rattle.hayro_ccitt.specs.declared.bit_reader.BitOrder.TheVariants.{HighestFirst}
 use Rattle.hayro_ccitt.specs.Bits.{Bits, bits_of, bits_of_byte}
 use Rattle.hayro_ccitt.specs.Rows.{Row, pixels, changes}
 use Rattle.fax_encode.specs.Chosen.{filled_up}
@@ -28,7 +29,7 @@ packed_more columns end bytes list bitmap row is room within same painted =
     let behind : end + bytes ≡ end + length row = omega arith in
     let reach : end + (end + bytes - end) ≤ end + bytes = omega arith in
     let part : length row ≡ end + bytes - end = omega arith in (
-      ap bits_of (take-put_mid end (end + bytes - end) bitmap row (end + bytes) behind within) ∙ flat_map-append bits_of_byte (take end bitmap) row
+      ap bits_of (take-put_mid end (end + bytes - end) bitmap row (end + bytes) behind within) ∙ flat_map-append (bits_of_byte HighestFirst) (take end bitmap) row
           ∙ ap (λ (b : Bits). bits_of (take end bitmap) ++ b) painted,
       drop-put_mid end (end + bytes - end) bitmap row (end + bytes) reach within part
           ∙ sym (drop-drop (bytes_of_row columns) end bitmap ∙ ap (λ (n : ℕ). drop (end + n) bitmap) (sym is)),
@@ -82,40 +83,40 @@ rows_packed columns before (row ∷ rows) have =
     }
 
 -- ---- what the caller's memory holds, where it was lent to a sink that took the first rows
-pub record IsLent (settings : DecodeSettings) (input : List ℕ) (taken : ℕ) (before after : List ℕ) (final : Packing) : Type 0 where
+pub record IsLent (settings : DecodeSettings) (read : Bits) (taken : ℕ) (before after : List ℕ) (final : Packing) : Type 0 where
   pub end : final.end ≡ taken * bytes_of_row settings.columns
-  pub changes : final.changes ≡ changes_taken settings input taken
-  pub packed : ArePacked settings input taken before after
+  pub changes : final.changes ≡ changes_taken settings read taken
+  pub packed : ArePacked settings read taken before after
 
-module _ (settings : DecodeSettings) (input : List ℕ) (taken columns : ℕ) (start final : Packing) (before after : List ℕ) (wide : columns ≡ settings.columns) (begun : start.end ≡ 0)
+module _ (settings : DecodeSettings) (read : Bits) (taken columns : ℕ) (start final : Packing) (before after : List ℕ) (wide : columns ≡ settings.columns) (begun : start.end ≡ 0)
     (empty : start.bits ≡ []) (whole : start.rest ≡ before) (uncounted : start.changes ≡ 0) (bits : bits_of (take final.end after) ≡ final.bits) (rest : drop final.end after ≡ final.rest)
-    (within : final.end ≤ length after) (enough : taken ≤ length (plain settings input).rows)
-    (meaning : final ≡ meaning_after (with_packed columns) start (take taken (plain settings input).rows)) where
-  has_packed : HasPacked columns (take taken (plain settings input).rows) start final
+    (within : final.end ≤ length after) (enough : taken ≤ length (plain settings read).rows)
+    (meaning : final ≡ meaning_after (with_packed columns) start (take taken (plain settings read).rows)) where
+  has_packed : HasPacked columns (take taken (plain settings read).rows) start final
   has_packed =
-      subst (HasPacked columns (take taken (plain settings input).rows) start) (sym meaning)
-      (rows_packed columns start (take taken (plain settings input).rows)
-      (All-take (λ r. length r ≡ columns) taken (plain settings input).rows (subst (λ (n : ℕ). HaveWidth n (plain settings input).rows) (sym wide) (plain_width settings input))))
+      subst (HasPacked columns (take taken (plain settings read).rows) start) (sym meaning)
+      (rows_packed columns start (take taken (plain settings read).rows)
+      (All-take (λ r. length r ≡ columns) taken (plain settings read).rows (subst (λ (n : ℕ). HaveWidth n (plain settings read).rows) (sym wide) (plain_width settings read))))
 
   pub same_name : start.name ≡ final.name
   same_name = sym has_packed.name
 
-  count : length (take taken (plain settings input).rows) ≡ taken
-  count = omega (arith, length-take taken (plain settings input).rows)
+  count : length (take taken (plain settings read).rows) ≡ taken
+  count = omega (arith, length-take taken (plain settings read).rows)
 
-  bytes : length (take taken (plain settings input).rows) * bytes_of_row columns ≡ taken * bytes_of_row settings.columns
+  bytes : length (take taken (plain settings read).rows) * bytes_of_row columns ≡ taken * bytes_of_row settings.columns
   bytes = ap (λ (n : ℕ). n * bytes_of_row columns) count ∙ ap (λ (n : ℕ). taken * bytes_of_row n) wide
 
   end_is : final.end ≡ taken * bytes_of_row settings.columns
   end_is = omega (arith, has_packed.end, bytes)
 
-  pub is_lent : IsLent settings input taken before after final
+  pub is_lent : IsLent settings read taken before after final
   is_lent = record {
     end = end_is;
-    changes = has_packed.changes ∙ ap (λ (n : ℕ). meaning_after counts n (take taken (plain settings input).rows)) uncounted
-        ∙ changes_counted 0 (take taken (plain settings input).rows);
+    changes = has_packed.changes ∙ ap (λ (n : ℕ). meaning_after counts n (take taken (plain settings read).rows)) uncounted
+        ∙ changes_counted 0 (take taken (plain settings read).rows);
     packed = record {
-      rows = ap (λ (n : ℕ). bits_of (take n after)) (sym end_is) ∙ bits ∙ has_packed.bits ∙ ap (λ (b : Bits). b ++ packed (take taken (plain settings input).rows)) empty;
+      rows = ap (λ (n : ℕ). bits_of (take n after)) (sym end_is) ∙ bits ∙ has_packed.bits ∙ ap (λ (b : Bits). b ++ packed (take taken (plain settings read).rows)) empty;
       rest = ap (λ (n : ℕ). drop n after) (sym end_is) ∙ rest ∙ has_packed.rest ∙ ap (λ (n : ℕ). drop n start.rest) bytes
           ∙ ap (drop (taken * bytes_of_row settings.columns)) whole;
       room = subst (λ (n : ℕ). n ≤ length after) end_is within;

@@ -6,6 +6,7 @@ use Rattle.hayro_ccitt.specs.declared.settings.DecodeSettings.{DecodeSettings}
 use Rattle.std.specs.Prelude.{Result}
 use Rattle.std.specs.List.{fold}
 use Rattle.hayro_ccitt.specs.Answers.{meaning_after}
+use Rattle.hayro_ccitt.specs.Bits.{Bits}
 use Rattle.hayro_ccitt.specs.Rows.{Row, changes}
 use Rattle.hayro_ccitt.specs.Context.{Held}
 use Rattle.hayro_ccitt.specs.Decoding.{SinkState, TakesRows, StopsShort}
@@ -14,19 +15,19 @@ use Rattle.hayro_ccitt_c.specs.Packing.{counted}
 use Rattle.hayro_ccitt_c.specs.Reports.{EndsAfter, IsReport}
 
 -- decoding ends as it may after the rows that were taken
-pub ends_after : {M : Type 0} (step : M → List ℕ → M) (settings : DecodeSettings) (input : List ℕ) (before after : SinkState M) (held : Held) (answer : Result ℕ DecodeError)
-    → TakesRows (plain settings input).rows (plain settings input).outcome (plain settings input).has_eols step before after held answer
-    → StopsShort (plain settings input).rows (lines_of settings input) before after held answer → EndsAfter settings input held.taken answer
-ends_after step settings input before after held (Ok n) takes short = (takes.all, takes.ok)
-ends_after step settings input before after held (Err UnexpectedEof) takes short = (takes.all tt, takes.fault tt)
-ends_after step settings input before after held (Err InvalidCode) takes short = (takes.all tt, takes.fault tt)
-ends_after step settings input before after held (Err Overflow) takes short = (takes.all tt, takes.fault tt)
-ends_after step settings input before after held (Err OutOfMemory) takes short = (takes.taken, inr (short.memory refl))
-ends_after step settings input before after held (Err Refused) takes short = short.refused refl
+pub ends_after : {M : Type 0} (step : M → List ℕ → M) (settings : DecodeSettings) (bits : Bits) (before after : SinkState M) (held : Held) (answer : Result ℕ DecodeError)
+    → TakesRows (plain settings bits).rows (plain settings bits).outcome (plain settings bits).has_eols step before after held answer
+    → StopsShort (plain settings bits).rows (lines_of settings bits) before after held answer → EndsAfter settings bits held.taken answer
+ends_after step settings bits before after held (Ok n) takes short = (takes.all, takes.ok)
+ends_after step settings bits before after held (Err UnexpectedEof) takes short = (takes.all tt, takes.fault tt)
+ends_after step settings bits before after held (Err InvalidCode) takes short = (takes.all tt, takes.fault tt)
+ends_after step settings bits before after held (Err Overflow) takes short = (takes.all tt, takes.fault tt)
+ends_after step settings bits before after held (Err OutOfMemory) takes short = (takes.taken, inr (short.memory refl))
+ends_after step settings bits before after held (Err Refused) takes short = short.refused refl
 
 -- where there is no memory to begin, nothing is taken
-pub no_memory : (settings : DecodeSettings) (input : List ℕ) → IsReport settings input 4 0 0
-no_memory settings input = record { answer = Err OutOfMemory; ends = (omega arith, inl refl); status_is = refl; bytes_are = refl }
+pub no_memory : (settings : DecodeSettings) (bits : Bits) → IsReport settings bits 4 0 0
+no_memory settings bits = record { answer = Err OutOfMemory; ends = (omega arith, inl refl); status_is = refl; bytes_are = refl }
 
 -- a fact of the settings that C means
 pub on_meant : (meant : Option DecodeSettings) (settings : DecodeSettings) (P : DecodeSettings → Type 0) → meant ≡ Some settings → P settings → IfSome meant P
@@ -34,14 +35,14 @@ on_meant None settings P e p = cc
 on_meant (Some s) settings P e p = let same : settings ≡ s = cc in subst P same p
 
 -- so many rows are there
-pub taken_within : (settings : DecodeSettings) (input : List ℕ) (taken : ℕ) (answer : Result ℕ DecodeError) → EndsAfter settings input taken answer
-    → taken ≤ length (plain settings input).rows
-taken_within settings input taken (Ok n) ends = omega (arith, ends.0)
-taken_within settings input taken (Err UnexpectedEof) ends = omega (arith, ends.0)
-taken_within settings input taken (Err InvalidCode) ends = omega (arith, ends.0)
-taken_within settings input taken (Err Overflow) ends = omega (arith, ends.0)
-taken_within settings input taken (Err OutOfMemory) ends = ends.0
-taken_within settings input taken (Err Refused) ends = omega (arith, ends)
+pub taken_within : (settings : DecodeSettings) (bits : Bits) (taken : ℕ) (answer : Result ℕ DecodeError) → EndsAfter settings bits taken answer
+    → taken ≤ length (plain settings bits).rows
+taken_within settings bits taken (Ok n) ends = omega (arith, ends.0)
+taken_within settings bits taken (Err UnexpectedEof) ends = omega (arith, ends.0)
+taken_within settings bits taken (Err InvalidCode) ends = omega (arith, ends.0)
+taken_within settings bits taken (Err Overflow) ends = omega (arith, ends.0)
+taken_within settings bits taken (Err OutOfMemory) ends = ends.0
+taken_within settings bits taken (Err Refused) ends = omega (arith, ends)
 
 -- ---- counting changes
 -- what passes the limit stays there

@@ -4,12 +4,14 @@ use Rattle.hayro_ccitt.specs.declared.error.DecodeError.{DecodeError}
 use Rattle.hayro_ccitt.specs.declared.error.DecodeError.TheVariants.{UnexpectedEof, InvalidCode, Overflow, OutOfMemory, Refused}
 use Rattle.hayro_ccitt.specs.declared.settings.DecodeSettings.{DecodeSettings}
 use Rattle.hayro_ccitt.specs.Answers.{PaintsBlack}
-use Rattle.hayro_ccitt.specs.Bits.{BitsFit, bits_of}
+use Rattle.hayro_ccitt.specs.Bits.{Bits, BitsFit, bits_of, bits_in}
 use Rattle.hayro_ccitt.specs.PlainReading.{plain, lines_of}
 use Rattle.hayro_ccitt.specs.Rows.{changes}
 use Rattle.fax_encode.specs.Packed.{packed}
 use Rattle.hayro_ccitt_c.specs.Packing.{bytes_of_row}
 use Rattle.hayro_ccitt_c.specs.Listing.{listed}
+use Rattle.hayro_ccitt_c.specs.Settings.{settings_of, order_of}
+use Rattle.hayro_ccitt_c.specs.declared.settings.Settings.{Settings}
 
 -- the status of an answer
 abbrev pub status_of : Result ℕ DecodeError → ℕ
@@ -27,40 +29,41 @@ bytes_read_of (Err error) = 0
 
 -- Decoding may end so when so many rows were taken: with all of them, as the plain reading does; for want of memory,
 -- before it begins or while a line that paints black is read; or because the next row was refused.
-abbrev pub EndsAfter : DecodeSettings → List ℕ → ℕ → Result ℕ DecodeError → Type 0
-EndsAfter settings input taken (Ok count) = (taken ≡ length (plain settings input).rows) × ((plain settings input).outcome ≡ Ok count)
-EndsAfter settings input taken (Err UnexpectedEof) = (taken ≡ length (plain settings input).rows) × ((plain settings input).outcome ≡ Err UnexpectedEof)
-EndsAfter settings input taken (Err InvalidCode) = (taken ≡ length (plain settings input).rows) × ((plain settings input).outcome ≡ Err InvalidCode)
-EndsAfter settings input taken (Err Overflow) = (taken ≡ length (plain settings input).rows) × ((plain settings input).outcome ≡ Err Overflow)
-EndsAfter settings input taken (Err OutOfMemory) = (taken ≤ length (plain settings input).rows) × ((taken ≡ 0) ⊎ PaintsBlack (lines_of settings input) taken)
-EndsAfter settings input taken (Err Refused) = taken < length (plain settings input).rows
+abbrev pub EndsAfter : DecodeSettings → Bits → ℕ → Result ℕ DecodeError → Type 0
+EndsAfter settings bits taken (Ok count) = (taken ≡ length (plain settings bits).rows) × ((plain settings bits).outcome ≡ Ok count)
+EndsAfter settings bits taken (Err UnexpectedEof) = (taken ≡ length (plain settings bits).rows) × ((plain settings bits).outcome ≡ Err UnexpectedEof)
+EndsAfter settings bits taken (Err InvalidCode) = (taken ≡ length (plain settings bits).rows) × ((plain settings bits).outcome ≡ Err InvalidCode)
+EndsAfter settings bits taken (Err Overflow) = (taken ≡ length (plain settings bits).rows) × ((plain settings bits).outcome ≡ Err Overflow)
+EndsAfter settings bits taken (Err OutOfMemory) = (taken ≤ length (plain settings bits).rows) × ((taken ≡ 0) ⊎ PaintsBlack (lines_of settings bits) taken)
+EndsAfter settings bits taken (Err Refused) = taken < length (plain settings bits).rows
 
 -- what C is told: a status, the number of rows that were taken, and the number of bytes read
-pub record IsReport (settings : DecodeSettings) (input : List ℕ) (status rows bytes_read : ℕ) : Type 0 where
+pub record IsReport (settings : DecodeSettings) (bits : Bits) (status rows bytes_read : ℕ) : Type 0 where
   pub answer : Result ℕ DecodeError
-  pub ends : EndsAfter settings input rows answer
+  pub ends : EndsAfter settings bits rows answer
   pub status_is : status ≡ status_of answer
   pub bytes_are : bytes_read ≡ bytes_read_of answer
 
 -- the number of the changes of the first so many rows, as far as 64 bits hold it
-abbrev pub changes_taken : DecodeSettings → List ℕ → ℕ → ℕ
-changes_taken settings input taken = min (sum (map (λ row. length (changes row)) (take taken (plain settings input).rows))) 18446744073709551615
+abbrev pub changes_taken : DecodeSettings → Bits → ℕ → ℕ
+changes_taken settings bits taken = min (sum (map (λ row. length (changes row)) (take taken (plain settings bits).rows))) 18446744073709551615
 
--- a fact on the settings that C means, where it means some, and the data isn't too long
-abbrev pub OnSettings : Option DecodeSettings → List ℕ → (DecodeSettings → Type 0) → Type 0
-OnSettings meant input P = BitsFit input → IfSome meant P
+-- a fact on the settings that C means, where it means some, and on the bits of the data in the order that C means, where it
+-- isn't too long
+abbrev pub OnSettings : Settings → List ℕ → (DecodeSettings → Bits → Type 0) → Type 0
+OnSettings settings input P = BitsFit input → IfSome (settings_of settings) (λ s. P s (bits_in (order_of settings) input))
 
 -- Packed rows stand at the front of the caller's memory, the first so many, and what lies behind them is as it was.
-pub record ArePacked (settings : DecodeSettings) (input : List ℕ) (taken : ℕ) (before after : List ℕ) : Type 0 where
-  pub rows : bits_of (take (taken * bytes_of_row settings.columns) after) ≡ packed (take taken (plain settings input).rows)
+pub record ArePacked (settings : DecodeSettings) (bits : Bits) (taken : ℕ) (before after : List ℕ) : Type 0 where
+  pub rows : bits_of (take (taken * bytes_of_row settings.columns) after) ≡ packed (take taken (plain settings bits).rows)
   pub rest : drop (taken * bytes_of_row settings.columns) after ≡ drop (taken * bytes_of_row settings.columns) before
   pub room : taken * bytes_of_row settings.columns ≤ length after
 
 -- how many numbers the lists of the first so many rows take
-abbrev pub numbers_taken : DecodeSettings → List ℕ → ℕ → ℕ
-numbers_taken settings input taken = length (listed (take taken (plain settings input).rows))
+abbrev pub numbers_taken : DecodeSettings → Bits → ℕ → ℕ
+numbers_taken settings bits taken = length (listed (take taken (plain settings bits).rows))
 
 -- Lists of rows stand at the front of the caller's memory, the first so many, and what lies behind them is as it was.
-pub record AreListed (settings : DecodeSettings) (input : List ℕ) (taken : ℕ) (before after : List ℕ) : Type 0 where
-  pub rows : take (numbers_taken settings input taken) after ≡ listed (take taken (plain settings input).rows)
-  pub rest : drop (numbers_taken settings input taken) after ≡ drop (numbers_taken settings input taken) before
+pub record AreListed (settings : DecodeSettings) (bits : Bits) (taken : ℕ) (before after : List ℕ) : Type 0 where
+  pub rows : take (numbers_taken settings bits taken) after ≡ listed (take taken (plain settings bits).rows)
+  pub rest : drop (numbers_taken settings bits taken) after ≡ drop (numbers_taken settings bits taken) before

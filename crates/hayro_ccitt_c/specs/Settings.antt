@@ -1,5 +1,7 @@
 -- The settings that C means.
 use Rattle.std.specs.Prelude.{ℕ, ◌/◌, ◌%◌, ◌==◌, nat_lt, Bool, Option, Some, None, option_map, if◌then◌else◌}
+use Rattle.hayro_ccitt.specs.declared.bit_reader.BitOrder.{BitOrder}
+use Rattle.hayro_ccitt.specs.declared.bit_reader.BitOrder.TheVariants.{HighestFirst, LowestFirst}
 use Rattle.hayro_ccitt.specs.declared.settings.EncodingMode.{EncodingMode}
 use Rattle.hayro_ccitt.specs.declared.settings.EncodingMode.TheVariants.{Group4, Group3_1D, Group3_2D}
 use Rattle.hayro_ccitt.specs.declared.settings.DecodeSettings.{DecodeSettings}
@@ -13,7 +15,7 @@ encoding_of n =
     else if n == 2 then Some Group3_2D
     else None
 
--- whether a sum of flags has this one: 1, 2, 4 or 8
+-- whether a sum of flags has this one: 1, 2, 4, 8 or 16
 abbrev pub has_flag : ℕ → ℕ → Bool
 has_flag flags flag = flags / flag % 2 == 1
 
@@ -29,6 +31,10 @@ settings_with s encoding = record {
   strict = has_flag s.flags 8;
 }
 
+-- the order of the bits in each byte that C means
+abbrev pub order_of : Settings → BitOrder
+order_of s = if has_flag s.flags 16 then LowestFirst else HighestFirst
+
 -- the settings that C means, or none: an encoding or a flag that isn't known
 abbrev pub settings_of : Settings → Option DecodeSettings
-settings_of s = if nat_lt s.flags 16 then option_map (settings_with s) (encoding_of s.encoding) else None
+settings_of s = if nat_lt s.flags 32 then option_map (settings_with s) (encoding_of s.encoding) else None

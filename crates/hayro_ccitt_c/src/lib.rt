@@ -23,7 +23,7 @@ use packed_rows::PackedRows;
 pub use report::Outcome;
 use report::{decoded, untaken};
 pub use settings::Settings;
-use settings::settings_of;
+use settings::{order_of, settings_of};
 use std::alloc::Global;
 
 /// Counts the rows of the data and their changes, and writes nothing down.
@@ -37,10 +37,10 @@ pub extern "C" fn hayro_ccitt_measure(
     settings: &Settings,
     outcome: &mut Outcome,
 ) -> u32
-    ensures report { OnSettings (settings_of settings.now) «data».now (λ s.
-        IsReport s «data».now result outcome.new.rows outcome.new.bytes_read) }
-    ensures changes { OnSettings (settings_of settings.now) «data».now (λ s.
-        outcome.new.changes ≡ changes_taken s «data».now outcome.new.rows) }
+    ensures report { OnSettings settings.now «data».now (λ s bits.
+        IsReport s bits result outcome.new.rows outcome.new.bytes_read) }
+    ensures changes { OnSettings settings.now «data».now (λ s bits.
+        outcome.new.changes ≡ changes_taken s bits outcome.new.rows) }
     ensures never_refused { result ≢ 5 }
     ensures untaken { (settings_of settings.now ≡ None) ⊎ (¬ (BitsFit «data».now))
         → (result ≡ 6) × (outcome.new ≡ record { rows = 0; changes = 0; bytes_read = 0 }) }
@@ -52,7 +52,7 @@ pub extern "C" fn hayro_ccitt_measure(
         return untaken(outcome);
     };
     let mut count = ChangeCount::new();
-    let report = decoded(alloc, data, meant, &mut count);
+    let report = decoded(alloc, data, order_of(settings), meant, &mut count);
     *outcome = Outcome {
         rows: report.rows,
         changes: count.changes(),
@@ -74,13 +74,13 @@ pub extern "C" fn hayro_ccitt_decode_packed(
     bitmap: &mut [u8],
     outcome: &mut Outcome,
 ) -> u32
-    ensures report { OnSettings (settings_of settings.now) «data».now (λ s.
-        IsReport s «data».now result outcome.new.rows outcome.new.bytes_read) }
-    ensures changes { OnSettings (settings_of settings.now) «data».now (λ s.
-        outcome.new.changes ≡ changes_taken s «data».now outcome.new.rows) }
-    ensures packed { OnSettings (settings_of settings.now) «data».now (λ s.
-        ArePacked s «data».now outcome.new.rows bitmap.old bitmap.new) }
-    ensures refused { result ≡ 5 → OnSettings (settings_of settings.now) «data».now (λ s.
+    ensures report { OnSettings settings.now «data».now (λ s bits.
+        IsReport s bits result outcome.new.rows outcome.new.bytes_read) }
+    ensures changes { OnSettings settings.now «data».now (λ s bits.
+        outcome.new.changes ≡ changes_taken s bits outcome.new.rows) }
+    ensures packed { OnSettings settings.now «data».now (λ s bits.
+        ArePacked s bits outcome.new.rows bitmap.old bitmap.new) }
+    ensures refused { result ≡ 5 → OnSettings settings.now «data».now (λ s bits.
         length bitmap.new < (outcome.new.rows + 1) * bytes_of_row s.columns) }
     ensures untaken { (settings_of settings.now ≡ None) ⊎ (¬ (BitsFit «data».now))
         → (result ≡ 6) × (outcome.new ≡ record { rows = 0; changes = 0; bytes_read = 0 })
@@ -93,7 +93,7 @@ pub extern "C" fn hayro_ccitt_decode_packed(
         return untaken(outcome);
     };
     let mut rows = PackedRows::new(bitmap, meant.columns);
-    let report = decoded(alloc, data, meant, &mut rows);
+    let report = decoded(alloc, data, order_of(settings), meant, &mut rows);
     *outcome = Outcome {
         rows: report.rows,
         changes: rows.changes(),
@@ -116,14 +116,14 @@ pub extern "C" fn hayro_ccitt_decode_changes(
     lists: &mut [u32],
     outcome: &mut Outcome,
 ) -> u32
-    ensures report { OnSettings (settings_of settings.now) «data».now (λ s.
-        IsReport s «data».now result outcome.new.rows outcome.new.bytes_read) }
-    ensures changes { OnSettings (settings_of settings.now) «data».now (λ s.
-        outcome.new.changes ≡ changes_taken s «data».now outcome.new.rows) }
-    ensures listed { OnSettings (settings_of settings.now) «data».now (λ s.
-        AreListed s «data».now outcome.new.rows lists.old lists.new) }
-    ensures refused { result ≡ 5 → OnSettings (settings_of settings.now) «data».now (λ s.
-        length lists.new ≤ numbers_taken s «data».now outcome.new.rows + s.columns) }
+    ensures report { OnSettings settings.now «data».now (λ s bits.
+        IsReport s bits result outcome.new.rows outcome.new.bytes_read) }
+    ensures changes { OnSettings settings.now «data».now (λ s bits.
+        outcome.new.changes ≡ changes_taken s bits outcome.new.rows) }
+    ensures listed { OnSettings settings.now «data».now (λ s bits.
+        AreListed s bits outcome.new.rows lists.old lists.new) }
+    ensures refused { result ≡ 5 → OnSettings settings.now «data».now (λ s bits.
+        length lists.new ≤ numbers_taken s bits outcome.new.rows + s.columns) }
     ensures untaken { (settings_of settings.now ≡ None) ⊎ (¬ (BitsFit «data».now))
         → (result ≡ 6) × (outcome.new ≡ record { rows = 0; changes = 0; bytes_read = 0 })
         × (lists.new ≡ lists.old) }
@@ -135,7 +135,7 @@ pub extern "C" fn hayro_ccitt_decode_changes(
         return untaken(outcome);
     };
     let mut rows = ListedRows::new(lists, meant.columns);
-    let report = decoded(alloc, data, meant, &mut rows);
+    let report = decoded(alloc, data, order_of(settings), meant, &mut rows);
     *outcome = Outcome {
         rows: report.rows,
         changes: rows.changes(),

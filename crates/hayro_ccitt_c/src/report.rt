@@ -2,11 +2,14 @@
 
 ghost use Rattle.std.specs.Prelude.{◌≡◌, ◌≢◌, ◌≤◌, ◌<◌, ℕ, List, take, true};
 ghost use Rattle.hayro_ccitt.specs.Answers.{meaning_after};
-ghost use Rattle.hayro_ccitt.specs.Bits.{BitsFit};
+ghost use Rattle.hayro_ccitt.specs.Bits.{BitsFit, bits_in};
 ghost use Rattle.hayro_ccitt.specs.PlainReading.{plain};
 ghost use Rattle.hayro_ccitt_c.specs.Reports.{IsReport, status_of, bytes_read_of};
 
-use hayro_ccitt::{DecodeError, DecodeSettings, Decoder, DecoderContext, Result, decode};
+use hayro_ccitt::bit_reader::BitOrder;
+use hayro_ccitt::{
+    DecodeError, DecodeSettings, Decoder, DecoderContext, Result, decode, decode_low_first,
+};
 use std::alloc::Global;
 
 /// What a call fills in for C.
@@ -73,14 +76,15 @@ fn bytes_read_of(answer: &Result<usize>) -> u64
 pub(crate) fn decoded<D: Decoder>(
     alloc: Global,
     data: &[u8],
+    order: BitOrder,
     settings: DecodeSettings,
     sink: &mut D,
 ) -> Report
     requires fit { BitsFit «data».now }
     requires width { settings.columns ≤ D.width sink.old }
-    ensures report { IsReport settings «data».now result.status result.rows result.bytes_read }
+    ensures report { IsReport settings (bits_in order «data».now) result.status result.rows result.bytes_read }
     ensures meaning { D.meaning sink.new ≡ meaning_after (D.step (D.width sink.old)) (D.meaning sink.old)
-        (take result.rows (plain settings «data».now).rows) }
+        (take result.rows (plain settings (bits_in order «data».now)).rows) }
     ensures width { D.width sink.new ≡ D.width sink.old }
     ensures flag { result.status ≡ 5 → D.has_refused sink.new ≡ true }
 {
@@ -91,7 +95,10 @@ pub(crate) fn decoded<D: Decoder>(
             bytes_read: 0,
         };
     };
-    let answer = decode(data, sink, &mut ctx);
+    let answer = match order {
+        BitOrder::HighestFirst => decode(data, sink, &mut ctx),
+        BitOrder::LowestFirst => decode_low_first(data, sink, &mut ctx),
+    };
     Report {
         status: status_of(&answer),
         rows: ctx.decoded_rows(),

@@ -2,8 +2,9 @@
 
 ghost use Rattle.std.specs.Prelude.{◌≡◌, ◌≤◌, IfSome};
 ghost use Rattle.hayro_ccitt.specs.Settings.{AreSettings};
-ghost use Rattle.hayro_ccitt_c.specs.Settings.{settings_of, encoding_of};
+ghost use Rattle.hayro_ccitt_c.specs.Settings.{settings_of, encoding_of, order_of};
 
+use hayro_ccitt::bit_reader::BitOrder;
 use hayro_ccitt::{DecodeSettings, EncodingMode};
 
 /// What decoding goes by, as C writes it.
@@ -17,7 +18,7 @@ pub struct Settings {
     /// 0 for Group 4, 1 for Group 3 in one dimension, 2 for Group 3 in two.
     pub encoding: u32,
     /// A sum: 1 where EOFB or RTC may end the data, 2 where EOLs stand between the lines, 4 where rows are aligned to
-    /// whole bytes, 8 for a strict reading.
+    /// whole bytes, 8 for a strict reading, 16 where each byte's lowest bit comes first.
     pub flags: u32,
 }
 
@@ -33,11 +34,22 @@ fn encoding_of(number: u32) -> Option<EncodingMode>
     }
 }
 
+/// The order of the bits in each byte that C means.
+pub(crate) fn order_of(settings: &Settings) -> BitOrder
+    ensures { result ≡ order_of settings.now }
+{
+    if settings.flags / 16 % 2 == 1 {
+        BitOrder::LowestFirst
+    } else {
+        BitOrder::HighestFirst
+    }
+}
+
 /// The settings that C means, or nothing where it means none: an encoding or a flag that isn't known.
 pub(crate) fn settings_of(settings: &Settings) -> Option<DecodeSettings>
     ensures meant { result ≡ settings_of settings.now }
 {
-    if settings.flags >= 16 {
+    if settings.flags >= 32 {
         return None;
     }
     let encoding = encoding_of(settings.encoding)?;
