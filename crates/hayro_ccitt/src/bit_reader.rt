@@ -103,7 +103,6 @@ fn last_word(bytes: &[u8], order: BitOrder) -> u64
 }
 
 /// The 64 bits from a byte on, the first in the highest position, with zeros past the end.
-#[inline(always)]
 fn word_at(data: &[u8], order: BitOrder, byte: usize) -> u64
     requires { byte ≤ length «data».now }
     ensures { (k : ℕ) → k < 64 → bit_of result (63 - k) ≡ get_or (bits_in order «data».now) (8 * byte + k) false }
@@ -143,7 +142,7 @@ impl<'a> BitReader<'a> {
     }
 
     /// A reader at a place among the bits.
-    #[inline(always)]
+    #[inline(never)]
     fn at_place(data: &'a [u8], order: BitOrder, place: usize) -> BitReader<'a>
         requires fit { BitsFit «data».now }
         requires within { place ≤ 8 * length «data».now }
@@ -209,6 +208,13 @@ impl<'a> BitReader<'a> {
         ensures end { IsErr result ↔ (length self.old.bits < next) }
         ensures only_end { IsOkUnless result DecodeError.UnexpectedEof }
     {
+        let byte = next / 8;
+        if byte + 8 <= self.data.len() {
+            self.place = next;
+            self.limit = byte * 8 + 32;
+            self.window = whole_word(&self.data[byte..], self.order) << (next % 8);
+            return Ok(());
+        }
         let end = self.data.len() * 8;
         if next > end {
             self.place = end;

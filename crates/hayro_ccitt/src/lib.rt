@@ -109,6 +109,7 @@ fn decode_rows<D: Decoder>(
 }
 
 /// Decodes the image whose bits a reader has from its start on, in whichever order its bytes hold them.
+#[inline(always)]
 fn decode_bits<D: Decoder>(
     reader: &mut BitReader<'_>,
     decoder: &mut D,
