@@ -1,5 +1,5 @@
 -- The examples.
-use Rattle.std.proofs.Common.{◌≡◌, ℕ, ◌+◌, ◌≤◌, true, false, [], ◌∷◌, length, Result, Ok, Err, refl, sym, ap, subst, ◌∙◌, arith, ◌⊎◌, inl, inr}
+use Rattle.std.proofs.Common.{◌≡◌, ◌*◌, ℕ, ◌+◌, ◌≤◌, true, false, [], ◌∷◌, length, Result, Ok, Err, refl, sym, ap, subst, ◌∙◌, arith, ◌⊎◌, inl, inr}
 use Rattle.std.specs.Prelude.{pos, negsuc}
 use Rattle.std.proofs.lemmas.List.Elements.{All-cons}
 use Rattle.hayro_ccitt.specs.declared.codes.Color.TheVariants.{White}
@@ -205,7 +205,7 @@ limit_behind rows count count2 (EndAlike.before place n le one two) =
     let place_is : place + length one.rest ≡ 56 = one.place_is in
     absurd (omega (arith, le, end, place_is))
 limit_behind rows count count2 (EndAlike.past place place2 n n2 lt lt2 one two counts) =
-    let sum : n + 16 ≡ n2 + 7 = counts in
+    let sum : 8 * n + 128 ≡ 8 * n2 + 56 = counts in
     omega (arith, sum, count_is count n one.count_is, count_is count2 n2 two.count_is)
 limit_behind rows count count2 (EndAlike.at_limit index place place2 n n2 comes comes2 limit many le le2 one two) =
     let second : index ≡ 2 = omega (arith, limit) in

@@ -6,7 +6,7 @@ use Rattle.hayro_ccitt.specs.declared.error.DecodeError.{DecodeError}
 use Rattle.hayro_ccitt.specs.declared.settings.EncodingMode.{EncodingMode}
 use Rattle.hayro_ccitt.specs.declared.settings.EncodingMode.TheVariants.{Group4, Group3_1D, Group3_2D}
 use Rattle.hayro_ccitt.specs.declared.settings.DecodeSettings.{DecodeSettings}
-use Rattle.hayro_ccitt.specs.Bits.{bits_of}
+use Rattle.hayro_ccitt.specs.Bits.{bits_of, low_first_bits_of}
 use Rattle.hayro_ccitt.specs.Rows.{Row, changes, pixels, white_row}
 use Rattle.hayro_ccitt.specs.Encodings.{EncodesRows, PictureT4}
 use Rattle.hayro_ccitt.specs.Locality.{IsLocal, EndAlike}
@@ -58,7 +58,12 @@ group3_2d = settings_with Group3_2D
 
 -- the plain reading of a text of bytes, with its rows as changes
 abbrev pub reading_of : DecodeSettings → String → List (List ℕ) × Result ℕ DecodeError
-reading_of settings text = (map changes (plain settings (hex text)).rows, (plain settings (hex text)).outcome)
+reading_of settings text = (map changes (plain settings (bits_of (hex text))).rows, (plain settings (bits_of (hex text))).outcome)
+
+-- the same with each byte's lowest bit first
+abbrev pub low_first_reading_of : DecodeSettings → String → List (List ℕ) × Result ℕ DecodeError
+low_first_reading_of settings text =
+    (map changes (plain settings (low_first_bits_of (hex text))).rows, (plain settings (low_first_bits_of (hex text))).outcome)
 
 -- ---- Encodings
 
@@ -117,4 +122,4 @@ ReadsDamage = (reading_of with_eols three_rows ≡ ([] ∷ (3 ∷ 5 ∷ []) ∷ 
 -- where a later row than the body's meets the limit, `EndAlike` fixes the counts: they differ by as much as the lengths
 abbrev pub LimitBehindTheBody : Type 0
 LimitBehindTheBody = (rows : List Row) (count count2 : ℕ)
-    → EndAlike (group3_1d 8 3 "l") (hex three_rows) (hex words_added) 29 rows (Ok count) (Ok count2) → count + 16 ≡ count2 + 7
+    → EndAlike (group3_1d 8 3 "l") (bits_of (hex three_rows)) (bits_of (hex words_added)) 29 rows (Ok count) (Ok count2) → count + 16 ≡ count2 + 7

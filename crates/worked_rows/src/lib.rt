@@ -5,7 +5,7 @@
 #![tactic(auto)]
 
 ghost use Rattle.std.specs.Prelude.{◌≡◌, [], ◌∷◌, Ok, Err};
-ghost use Rattle.worked_rows.specs.Examples.{reading_of, group4, group3_1d, group3_2d};
+ghost use Rattle.worked_rows.specs.Examples.{reading_of, low_first_reading_of, group4, group3_1d, group3_2d};
 ghost use Rattle.worked_rows.specs.Examples.{EncodesTwoLines, EncodesTaggedRows, HaveLocalBodies, ReadsDamage, LimitBehindTheBody};
 
 use hayro_ccitt::DecodeError;
@@ -39,6 +39,14 @@ pub fn group4_examples()
     ensures block_end_alone { reading_of (group4 8 0 "b") "001001" ≡ ([], Ok 3) }
     ensures six_zeros_in_a_mode_s_place { reading_of (group4 8 1 "") "00" ≡ ([], Err DecodeError.InvalidCode) }
     ensures two_aligned_rows { reading_of (group4 8 2 "a") "31C0E0" ≡ (((3 ∷ 5 ∷ []) ∷ (3 ∷ 5 ∷ []) ∷ []), Ok 3) }
+{}
+
+/// The lowest bit of each byte first (FillOrder 2).
+pub fn low_first_examples()
+    ensures one_row { low_first_reading_of (group4 8 1 "") "8C03" ≡ (((3 ∷ 5 ∷ []) ∷ []), Ok 2) }
+    ensures what_follows_the_block_is_not_read { low_first_reading_of (group4 8 0 "b") "01100001000880" ≡ (([] ∷ []), Ok 4) }
+    ensures return_to_control { low_first_reading_of (group3_1d 8 0 "b") "009801100001100001100001" ≡ (([] ∷ []), Ok 12) }
+    ensures cut_in_a_black_word { low_first_reading_of (group4 8 1 "") "8C" ≡ ([], Err DecodeError.UnexpectedEof) }
 {}
 
 /// Group 3, one-dimensional (T.4 section 4.1).

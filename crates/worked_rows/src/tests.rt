@@ -17,7 +17,7 @@ use hayro_ccitt::context::{decode_1d_line, decode_2d_line};
 use hayro_ccitt::tables::Tables;
 use hayro_ccitt::{
     DecodeError, DecodeSettings, Decoder, DecoderContext, EncodingMode, Result, bits_fit, decode,
-    group4,
+    decode_low_first, group4,
 };
 use std::alloc::{AllocError, AllocGlobal, Global};
 use std::process::Abort;
@@ -123,7 +123,17 @@ fn has_rows(rt: &impl Abort, sink: &Limited, rows: &[&[u32]], data: &[u8]) {
     }
 }
 
-/// Decodes in a context, and compares the rows and the answer.
+/// The bytes with their bits in the other order.
+fn mirrored(rt: &(impl Abort + AllocGlobal), data: &[u8]) -> Vec<u8> {
+    let mut bytes = Vec::new(rt.alloc());
+    for byte in data {
+        assert!(rt; bytes.push(byte.reverse_bits()).is_ok());
+    }
+    bytes
+}
+
+/// Decodes in a context, with the highest bit first and then mirrored with the lowest, and compares the rows and the
+/// answers.
 fn decodes_in(
     rt: &(impl Abort + AllocGlobal),
     ctx: &mut DecoderContext,
@@ -147,6 +157,15 @@ fn decodes_in(
         rows.len() as u64,
         "decoded_rows of {front:?}"
     );
+    let low_first = mirrored(rt, data);
+    assert!(rt; bits_fit(&low_first));
+    let mut sink = sink_of(rt.alloc(), ctx.settings().columns, usize::MAX);
+    assert_eq!(rt;
+        decode_low_first(&low_first, &mut sink, ctx),
+        answer,
+        "the answer of {front:?}, mirrored"
+    );
+    has_rows(rt, &sink, rows, front);
 }
 
 /// Decodes in a context of its own, and compares the rows and the answer.
