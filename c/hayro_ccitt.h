@@ -29,6 +29,7 @@ enum {
     HAYRO_CCITT_END_OF_LINE = 2,  /* EOLs stand between the lines of Group 3 */
     HAYRO_CCITT_ALIGNED_ROWS = 4, /* each row is padded up to a whole byte */
     HAYRO_CCITT_STRICT = 8,       /* data that breaks a rule is refused rather than decoded as well as possible */
+    HAYRO_CCITT_LOW_FIRST = 16,   /* each byte's lowest bit comes first (TIFF's FillOrder 2), else its highest */
 };
 
 typedef struct {

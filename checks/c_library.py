@@ -9,7 +9,9 @@ import program
 CRATE = "crates/hayro_ccitt_c"
 LIBRARY = f"{CRATE}/out/libhayro_ccitt_c.a"
 MODES = ["g4", "1d", "2d"]
-LETTERS = "blas"
+LETTERS = "blasr"
+# each byte with its bits in the other order
+MIRRORED = bytes(int(f"{byte:08b}"[::-1], 2) for byte in range(256))
 # how many bytes or numbers behind the lent ones have to stay
 GUARD = 16
 ANSWERS = {
@@ -125,12 +127,18 @@ def calls_on_known_cases():
             answer = ANSWERS.get(last, 0)
             told = (len(rows), changes, 0 if answer else int(last.split()[1]))
             assert called(library.hayro_ccitt_measure, data, settings) == (answer, told), words + text
+            mirrored, low_first = data.translate(MIRRORED), settings_of(*words.split())
+            low_first.flags += 16
+            assert called(library.hayro_ccitt_measure, mirrored, low_first) == (answer, told), words + text
             cases += 1
             lists = [number for row in rows for number in (len(row), *row)]
             memory = numbers_lent(len(lists))
             assert called(library.hayro_ccitt_decode_changes, data, settings, memory) == (answer, told), words + text
             assert list(memory) == lists + [0xA5A5A5A5] * GUARD, words + text
-            seen += 1
+            memory = numbers_lent(len(lists))
+            assert called(library.hayro_ccitt_decode_changes, mirrored, low_first, memory) == (answer, told), words + text
+            assert list(memory) == lists + [0xA5A5A5A5] * GUARD, words + text
+            seen += 2
             width = (settings.columns + 7) // 8
             if width * len(rows) < 1 << 20:
                 picture = b"".join(packed_row(settings.columns, row) for row in rows)
@@ -151,7 +159,7 @@ def calls_on_known_cases():
                 assert called(library.hayro_ccitt_decode_changes, data, settings, memory) == (5, less), words + text
                 assert list(memory) == lists[:kept] + [0xA5A5A5A5] * (len(rows[-1]) + GUARD), words + text
                 refused += 1
-        for settings in [Settings(8, 0, 3, 0), Settings(8, 0, 0, 16), Settings(8, 0, 2, 1 << 31)]:
+        for settings in [Settings(8, 0, 3, 0), Settings(8, 0, 0, 32), Settings(8, 0, 2, 1 << 31)]:
             memory = bytes_lent(8)
             assert called(library.hayro_ccitt_measure, b"\x80", settings) == (6, (0, 0, 0))
             assert called(library.hayro_ccitt_decode_packed, b"\x80", settings, memory) == (6, (0, 0, 0))

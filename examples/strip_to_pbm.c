@@ -3,8 +3,9 @@
  *   strip_to_pbm MODE COLUMNS ROWS FLAGS < strip > picture.pbm
  *
  * MODE is g4, 1d or 2d. ROWS is the largest number of rows, 0 for no limit. FLAGS is - or letters: b (EOFB or RTC may end the
- * data), l (EOLs stand between the lines), a (rows are aligned to bytes), s (strict). The status is 0 where the data is
- * decoded, 1 where it is at fault, after the rows before the fault, and 2 for other words, or want of memory. */
+ * data), l (EOLs stand between the lines), a (rows are aligned to bytes), s (strict), r (each byte's lowest bit comes first).
+ * The status is 0 where the data is decoded, 1 where it is at fault, after the rows before the fault, and 2 for other words, or
+ * want of memory. */
 #include "../c/hayro_ccitt.h"
 #include <stdio.h>
 #include <stdlib.h>
@@ -30,7 +31,7 @@ static uint8_t *read_all(size_t *length)
 
 static int read_words(char **words, hayro_ccitt_settings *settings)
 {
-    static const char *modes[] = {"g4", "1d", "2d"}, letters[] = "blas";
+    static const char *modes[] = {"g4", "1d", "2d"}, letters[] = "blasr";
     uint32_t mode = 0;
     while (mode < 3 && strcmp(words[0], modes[mode]))
         mode++;
