@@ -85,9 +85,13 @@ on_input None input P same p = tt
 on_input (Some xs) input P same p = subst P same p
 
 -- a fact of the settings and the bits of a run is one of what is known of them
-pub on_known : (meant : Option Arguments) (arguments : Arguments) (known : Option (List ℕ)) (input : List ℕ) (P : DecodeSettings → Bits → Type 0)
-    → meant ≡ Some arguments → IfSome known (λ xs. input ≡ xs) → P arguments.settings (bits_in arguments.order input) → OnKnown meant known P
-on_known None arguments known input P e same p = cc
-on_known (Some meant) arguments known input P e same p =
+pub on_known : (meant : Option Arguments) (arguments : Arguments) (settings : DecodeSettings) (known : Option (List ℕ)) (input : List ℕ)
+    (P : DecodeSettings → Bits → Type 0)
+    → meant ≡ Some arguments → settings ≡ arguments.settings → IfSome known (λ xs. input ≡ xs) → P settings (bits_in arguments.order input)
+    → OnKnown meant known P
+on_known None arguments settings known input P e kept same p = cc
+on_known (Some meant) arguments settings known input P e kept same p =
     let same_arguments : arguments ≡ meant = cc in
-    on_input known input (λ xs. P meant.settings (bits_in meant.order xs)) same (subst (λ (a : Arguments). P a.settings (bits_in a.order input)) same_arguments p)
+    let of_arguments : P arguments.settings (bits_in arguments.order input) = subst (λ (s : DecodeSettings). P s (bits_in arguments.order input)) kept p in
+    on_input known input (λ xs. P meant.settings (bits_in meant.order xs)) same
+    (subst (λ (a : Arguments). P a.settings (bits_in a.order input)) same_arguments of_arguments)

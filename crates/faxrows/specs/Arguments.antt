@@ -76,8 +76,8 @@ arguments_of_four mode columns rows flags = do
   width ← number_of columns
   limit ← number_of rows
   if are_flags flags
-    then Some (record { settings = settings_with encoding width limit flags; order = order_with flags })
-    else None
+      then Some (record { settings = settings_with encoding width limit flags; order = order_with flags })
+      else None
 
 -- the settings and the order that the words of a call mean, if they mean any
 abbrev pub arguments_of_words : List (List ℕ) → Option Arguments

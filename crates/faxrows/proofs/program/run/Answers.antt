@@ -15,7 +15,7 @@ use Rattle.faxrows.proofs.program.run.Goals as goal
 module _ (g : Over) (c : goal.After-drop-input-2 g) where
   -- the settings that the words mean
   abbrev settings : DecodeSettings
-  settings = c.in-Some.arguments.settings
+  settings = c.in-Ok.ctx.held.settings
 
   -- the bits of what was read, in the order that the words mean
   abbrev bits : Bits
@@ -43,7 +43,7 @@ module _ (g : Over) (c : goal.After-drop-input-2 g) where
   -- a fact of what was decoded is one of what is known
   known : (P : DecodeSettings → Bits → Type 0) → P settings bits
       → OnKnown (arguments_of_words (map string_bytes c.args.words.now)) (g.R.Read.remaining c.args.reader.now.0) P
-  known P holds = on_known _ _ _ _ P (search rules) (search rules) holds
+  known P holds = on_known _ c.in-Some.arguments settings _ c.as_slice.result.now P (search rules) (search rules) (search rules) holds
 
 pub returns-clause-good : goal.returns-clause-good
 returns-clause-good g c = λ e.
