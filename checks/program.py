@@ -11,6 +11,16 @@ def run(words, data, **more):
     return subprocess.run([PROGRAM, *words], input=data, capture_output=True, check=False, timeout=60, **more)
 
 
+TURNED = bytes(int(f"{byte:08b}"[::-1], 2) for byte in range(256))
+
+
+def in_both_orders(mode, columns, limit, flags, data):
+    """The words and the data, and those by which the data with each byte turned round is the same: with `r`, or without."""
+    letters = flags.replace("-", "").replace("r", "")
+    other = letters + "r" if "r" not in flags else letters or "-"
+    return [([mode, columns, limit, flags], data), ([mode, columns, limit, other], data.translate(TURNED))]
+
+
 def row_text(picture, columns, row):
     """A row of a packed picture, 1 for black, as a line of the program."""
     width = (columns + 7) // 8
@@ -21,7 +31,8 @@ def row_text(picture, columns, row):
 
 
 def real_strips():
-    """Each strip gives exactly the picture that it was made from, with each of its settings."""
+    """Each strip gives exactly the picture that it was made from, with each of its settings; with the first ones also where each
+    byte is turned round."""
     strips = runs_seen = rows_seen = changes_seen = 0
     with open("corpus/manifest.tsv", encoding="utf-8") as file:
         lines = [line.rstrip("\n").split("\t") for line in file if not line.startswith("#")]
@@ -33,13 +44,17 @@ def real_strips():
         expected = [row_text(packed, int(columns), int(first) + row) for row in range(int(rows))]
         for setting in runs.split(","):
             limit, flags = setting.split(":")
-            done = run([mode, columns, limit, flags], data)
+            here, there = in_both_orders(mode, columns, limit, flags, data)
+            done = run(*here)
             text = done.stdout.decode().splitlines()
             assert text[:-1] == [line for line, _ in expected], f"{name} {setting}: other rows"
             assert re.fullmatch(r"ok \d+", text[-1]) and done.returncode == 0, f"{name} {setting}: {text[-1]}"
             assert done.stderr == b"", f"{name} {setting}: {done.stderr!r} on standard error"
             if limit == "0" and end != "-":
                 assert text[-1] == f"ok {end}", f"{name} {setting}: {text[-1]}, not {end}"
+            if setting == runs.split(",")[0]:
+                turned = run(*there)
+                assert (turned.returncode, turned.stdout, turned.stderr) == (0, done.stdout, b""), f"{name} {setting}: in the other order"
             runs_seen += 1
             rows_seen += len(expected)
             changes_seen += sum(count for _, count in expected)
@@ -57,21 +72,23 @@ def bytes_of(text):
 
 
 def known_cases():
-    """Small data of every kind, with the answers of the standard's rules worked out apart from this program."""
+    """Small data of every kind, with the answers of the standard's rules worked out apart from this program; and the same with
+    each byte turned round."""
     seen = 0
     with open("corpus/cases.tsv", encoding="utf-8") as file:
         for line in file:
             if line.startswith("#"):
                 continue
             settings, data, answer = line.rstrip("\n").split("\t")
-            done = run(settings.split(), bytes_of(data))
-            text = done.stdout.decode()
-            assert text == answer.replace("/", "\n") + "\n", f"{settings} {data}: {text!r}, not {answer}"
-            assert done.stderr == b"", f"{settings} {data}: {done.stderr!r} on standard error"
-            assert done.returncode == (0 if answer.split("/")[-1].startswith("ok") else 1), settings
+            for words, read in in_both_orders(*settings.split(), bytes_of(data)):
+                done = run(words, read)
+                text = done.stdout.decode()
+                assert text == answer.replace("/", "\n") + "\n", f"{words} {data}: {text!r}, not {answer}"
+                assert done.stderr == b"", f"{words} {data}: {done.stderr!r} on standard error"
+                assert done.returncode == (0 if answer.split("/")[-1].startswith("ok") else 1), words
             seen += 1
     assert seen > 0
-    print(f"  {seen} cases")
+    print(f"  {seen} cases, each in both orders of bits")
 
 
 # Words and data, and what the program writes and answers: 0 for ok, 1 for a fault of the data, 2 for other words.
@@ -83,6 +100,13 @@ RUNS = [
     ("1d 8 0 l", "0019800C700033", b"r\nr 3 5\nr\nok 7\n", 0),
     ("1d 8 0 s", "001980", b"r\nerror: invalid CCITT code sequence\n", 1),
     ("2d 8 1 sal", "CC", b"r\nok 1\n", 0),
+    ("g4 8 1 r", "8C03", b"r 3 5\nok 2\n", 0),
+    ("g4 8 1 r", "31C0", b"r\nok 1\n", 0),
+    ("g4 8 1 -", "8C03", b"r\nok 1\n", 0),
+    ("1d 8 0 sr", "009801", b"r\nerror: invalid CCITT code sequence\n", 1),
+    ("g4 8 1 rr", "8C03", b"", 2),
+    ("g4 8 1 rbr", "8C03", b"", 2),
+    ("g4 8 1 R", "8C03", b"", 2),
     ("", "31C0", b"", 2),
     ("g4 8 1", "31C0", b"", 2),
     ("g4 8 1 - -", "31C0", b"", 2),
@@ -104,6 +128,9 @@ def statuses():
 BITMAPS = [
     ("-o g4 8 0 b", "31C0040040", b"\x18", b"", 0),
     ("-o g4 8 0 -", "80", b"\x00", b"faxrows: invalid CCITT code sequence\n", 1),
+    ("-o g4 8 1 r", "8C03", b"\x18", b"", 0),
+    ("-o g4 8 1 r", "31C0", b"\x00", b"", 0),
+    ("-o g4 8 1 rr", "8C03", b"", b"faxrows: bad arguments\n", 2),
     ("-o", "31C0", b"", b"faxrows: bad arguments\n", 2),
     ("-o -o g4 8 1 -", "31C0", b"", b"faxrows: bad arguments\n", 2),
 ]

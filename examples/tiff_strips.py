@@ -14,7 +14,6 @@ FAXROWS = os.path.join(os.path.dirname(os.path.abspath(__file__)), "../crates/fa
 SIZES = {1: "B", 3: "H", 4: "I"}  # BYTE, SHORT, LONG
 WIDTH, LENGTH, COMPRESSION, PHOTOMETRIC, FILL_ORDER = 256, 257, 259, 262, 266
 STRIP_OFFSETS, ROWS_PER_STRIP, STRIP_BYTE_COUNTS, T4_OPTIONS, T6_OPTIONS = 273, 278, 279, 292, 293
-REVERSED = bytes(int(f"{byte:08b}"[::-1], 2) for byte in range(256))
 INVERTED = bytes(255 - byte for byte in range(256))
 
 
@@ -39,13 +38,17 @@ def pages(file):
         (place,) = struct.unpack_from(order + "I", file, place + 2 + 12 * count)
 
 
-def mode_and_flags(compression, t4_options):
-    """The words of `faxrows` for a compression."""
+def mode_and_flags(compression, t4_options, fill_order):
+    """The words of `faxrows` for a compression and an order of bits."""
     if compression == 2:
-        return "1d", "a"  # no EOLs; each row begins at a byte
-    if compression == 3:
-        return ("2d" if t4_options & 1 else "1d"), "-"  # an EOL before each row, which is found; no RTC
-    return "g4", "b"  # EOFB may end a strip
+        mode, letters = "1d", "a"  # no EOLs; each row begins at a byte
+    elif compression == 3:
+        mode, letters = ("2d" if t4_options & 1 else "1d"), ""  # an EOL before each row, which is found; no RTC
+    else:
+        mode, letters = "g4", "b"  # EOFB may end a strip
+    if fill_order == 2:
+        letters += "r"  # the lowest bit of each byte first
+    return mode, letters or "-"
 
 
 def main(path, pictures=None):
@@ -62,15 +65,13 @@ def main(path, pictures=None):
             continue
         columns, rows = tags[WIDTH][0], tags[LENGTH][0]
         limit = min(tags.get(ROWS_PER_STRIP, (rows,))[0], rows) or rows
-        mode, flags = mode_and_flags(compression, t4_options)
+        mode, flags = mode_and_flags(compression, t4_options, fill_order)
         picture = b""
         for strip, (start, length) in enumerate(zip(tags[STRIP_OFFSETS], tags[STRIP_BYTE_COUNTS])):
             here = min(limit, rows - strip * limit)
             if here < 1:
                 break  # 0 rows would be no limit
             data = file[start : start + length]
-            if fill_order == 2:
-                data = data.translate(REVERSED)
             size = (columns + 7) // 8 * here
             words = [mode, str(columns), str(here), flags]
             done = subprocess.run([FAXROWS, "-o", *words], input=data, capture_output=True, check=False)

@@ -4,45 +4,69 @@ use Rattle.std.specs.Prelude.{codes}
 use Rattle.std.specs.Fmt.{digits}
 use Rattle.hayro_ccitt.specs.declared.error.DecodeError.TheVariants.{InvalidCode}
 use Rattle.hayro_ccitt.specs.declared.settings.EncodingMode.TheVariants.{Group4, Group3_1D, Group3_2D}
-use Rattle.faxrows.specs.Arguments.{settings_of_words}
+use Rattle.hayro_ccitt.specs.declared.bit_reader.BitOrder.TheVariants.{HighestFirst, LowestFirst}
+use Rattle.faxrows.specs.Arguments.{arguments_of_words}
 use Rattle.faxrows.specs.Text.{text_of}
 
 -- leading zeros are allowed, and `-` is no flag
-plain_words : settings_of_words (codes "g4" ∷ codes "0000000008" ∷ codes "1" ∷ codes "-" ∷ [])
-    ≡ Some (record { columns = 8; rows = 1; end_of_block = false; end_of_line = false; rows_are_byte_aligned = false; encoding = Group4; strict = false })
+plain_words : arguments_of_words (codes "g4" ∷ codes "0000000008" ∷ codes "1" ∷ codes "-" ∷ [])
+    ≡ Some (record {
+      settings = record { columns = 8; rows = 1; end_of_block = false; end_of_line = false; rows_are_byte_aligned = false; encoding = Group4; strict = false };
+      order = HighestFirst;
+    })
 plain_words = refl
 
 -- the greatest number, and flags in any order
-flags : settings_of_words (codes "g4" ∷ codes "4294967295" ∷ codes "0" ∷ codes "sab" ∷ [])
-    ≡ Some (record { columns = 4294967295; rows = 0; end_of_block = true; end_of_line = false; rows_are_byte_aligned = true; encoding = Group4; strict = true })
+flags : arguments_of_words (codes "g4" ∷ codes "4294967295" ∷ codes "0" ∷ codes "sab" ∷ [])
+    ≡ Some (record {
+      settings = record { columns = 4294967295; rows = 0; end_of_block = true; end_of_line = false; rows_are_byte_aligned = true; encoding = Group4; strict = true };
+      order = HighestFirst;
+    })
 flags = refl
 
 -- a mode of Group 3
-one_dimension : settings_of_words (codes "1d" ∷ codes "8" ∷ codes "0" ∷ codes "l" ∷ [])
-    ≡ Some (record { columns = 8; rows = 0; end_of_block = false; end_of_line = true; rows_are_byte_aligned = false; encoding = Group3_1D; strict = false })
+one_dimension : arguments_of_words (codes "1d" ∷ codes "8" ∷ codes "0" ∷ codes "l" ∷ [])
+    ≡ Some (record {
+      settings = record { columns = 8; rows = 0; end_of_block = false; end_of_line = true; rows_are_byte_aligned = false; encoding = Group3_1D; strict = false };
+      order = HighestFirst;
+    })
 one_dimension = refl
 
-two_dimensions : settings_of_words (codes "2d" ∷ codes "8" ∷ codes "1" ∷ codes "sal" ∷ [])
-    ≡ Some (record { columns = 8; rows = 1; end_of_block = false; end_of_line = true; rows_are_byte_aligned = true; encoding = Group3_2D; strict = true })
+two_dimensions : arguments_of_words (codes "2d" ∷ codes "8" ∷ codes "1" ∷ codes "sal" ∷ [])
+    ≡ Some (record {
+      settings = record { columns = 8; rows = 1; end_of_block = false; end_of_line = true; rows_are_byte_aligned = true; encoding = Group3_2D; strict = true };
+      order = HighestFirst;
+    })
 two_dimensions = refl
 
--- a number too large, a number too long, a letter twice, no flag, another mode, a word too many
-too_large : settings_of_words (codes "g4" ∷ codes "4294967296" ∷ codes "1" ∷ codes "-" ∷ []) ≡ None
+-- r asks for the lowest bit of each byte first, and is no setting
+lowest_first : arguments_of_words (codes "g4" ∷ codes "8" ∷ codes "1" ∷ codes "br" ∷ [])
+    ≡ Some (record {
+      settings = record { columns = 8; rows = 1; end_of_block = true; end_of_line = false; rows_are_byte_aligned = false; encoding = Group4; strict = false };
+      order = LowestFirst;
+    })
+lowest_first = refl
+
+-- a number too large, a number too long, a letter twice, r twice, no flag, another mode, a word too many
+too_large : arguments_of_words (codes "g4" ∷ codes "4294967296" ∷ codes "1" ∷ codes "-" ∷ []) ≡ None
 too_large = refl
 
-too_long : settings_of_words (codes "g4" ∷ codes "00000000008" ∷ codes "1" ∷ codes "-" ∷ []) ≡ None
+too_long : arguments_of_words (codes "g4" ∷ codes "00000000008" ∷ codes "1" ∷ codes "-" ∷ []) ≡ None
 too_long = refl
 
-letter_twice : settings_of_words (codes "g4" ∷ codes "8" ∷ codes "1" ∷ codes "bsb" ∷ []) ≡ None
+letter_twice : arguments_of_words (codes "g4" ∷ codes "8" ∷ codes "1" ∷ codes "bsb" ∷ []) ≡ None
 letter_twice = refl
 
-no_flag : settings_of_words (codes "g4" ∷ codes "8" ∷ codes "1" ∷ codes "" ∷ []) ≡ None
+order_twice : arguments_of_words (codes "g4" ∷ codes "8" ∷ codes "1" ∷ codes "rr" ∷ []) ≡ None
+order_twice = refl
+
+no_flag : arguments_of_words (codes "g4" ∷ codes "8" ∷ codes "1" ∷ codes "" ∷ []) ≡ None
 no_flag = refl
 
-another_mode : settings_of_words (codes "3d" ∷ codes "8" ∷ codes "1" ∷ codes "-" ∷ []) ≡ None
+another_mode : arguments_of_words (codes "3d" ∷ codes "8" ∷ codes "1" ∷ codes "-" ∷ []) ≡ None
 another_mode = refl
 
-a_word_too_many : settings_of_words (codes "g4" ∷ codes "8" ∷ codes "1" ∷ codes "-" ∷ codes "-" ∷ []) ≡ None
+a_word_too_many : arguments_of_words (codes "g4" ∷ codes "8" ∷ codes "1" ∷ codes "-" ∷ codes "-" ∷ []) ≡ None
 a_word_too_many = refl
 
 -- two rows, one of them white, and a good outcome

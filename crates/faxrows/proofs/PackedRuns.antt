@@ -27,12 +27,12 @@ meaning_of_rows columns bits (row ∷ rows) have =
     ∙ append_assoc bits (filled_up row) (packed rows)
 
 -- the bits of a bitmap that began empty are packed of the rows that were taken
-pub sink_bits : (settings : DecodeSettings) (input : List ℕ) (empty : Bitmap) (after : SinkState Bits) (held : Held) (outcome : Outcome)
+pub sink_bits : (settings : DecodeSettings) (bits : Bits) (empty : Bitmap) (after : SinkState Bits) (held : Held) (outcome : Outcome)
     → empty ≡ record { bytes = []; columns = settings.columns; has_refused = false }
-    → Takes (packs empty.columns) settings input (record { meaning = bits_of empty.bytes; refused = empty.has_refused }) after held outcome
-    → after.meaning ≡ packed (take held.taken (plain settings input).rows)
-sink_bits settings input empty after held outcome is takes =
-    let rows : List Row = take held.taken (plain settings input).rows in
+    → Takes (packs empty.columns) settings bits (record { meaning = bits_of empty.bytes; refused = empty.has_refused }) after held outcome
+    → after.meaning ≡ packed (take held.taken (plain settings bits).rows)
+sink_bits settings bits empty after held outcome is takes =
+    let rows : List Row = take held.taken (plain settings bits).rows in
     takes.meaning
     ∙ ap (λ (b : Bitmap). meaning_after (packs b.columns) (bits_of b.bytes) rows) is
-    ∙ meaning_of_rows settings.columns [] rows (All-take (λ r. length r ≡ settings.columns) held.taken (plain settings input).rows (plain_width settings input))
+    ∙ meaning_of_rows settings.columns [] rows (All-take (λ r. length r ≡ settings.columns) held.taken (plain settings bits).rows (plain_width settings bits))

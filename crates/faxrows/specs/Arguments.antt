@@ -6,6 +6,9 @@ use Rattle.std.specs.Str.Parse.{digits_value}
 use Rattle.hayro_ccitt.specs.declared.settings.EncodingMode.{EncodingMode}
 use Rattle.hayro_ccitt.specs.declared.settings.EncodingMode.TheVariants.{Group4, Group3_1D, Group3_2D}
 use Rattle.hayro_ccitt.specs.declared.settings.DecodeSettings.{DecodeSettings}
+use Rattle.hayro_ccitt.specs.declared.bit_reader.BitOrder.{BitOrder}
+use Rattle.hayro_ccitt.specs.declared.bit_reader.BitOrder.TheVariants.{HighestFirst, LowestFirst}
+use Rattle.faxrows.specs.declared.arguments.Arguments.{Arguments}
 
 -- what follows where there is a value
 infixl 10 ◌>>=◌
@@ -32,13 +35,15 @@ number_of word = if are_digits word && nat_le (digits_value 10 word) 4294967295 
 abbrev pub times : ℕ → List ℕ → ℕ
 times letter word = count_by (λ byte. byte == letter) word
 
--- the letters that stand for flags: b, l, a and s
+-- the letters that stand for flags: b, l, a, s and r
 abbrev pub is_flag : ℕ → Bool
-is_flag letter = (letter == 98) || (letter == 108) || (letter == 97) || (letter == 115)
+is_flag letter = (letter == 98) || (letter == 108) || (letter == 97) || (letter == 115) || (letter == 114)
 
 -- no letter that stands for a flag stands twice
 abbrev pub are_apart : List ℕ → Bool
-are_apart word = nat_le (times 98 word) 1 && nat_le (times 108 word) 1 && nat_le (times 97 word) 1 && nat_le (times 115 word) 1
+are_apart word =
+    nat_le (times 98 word) 1 && nat_le (times 108 word) 1 && nat_le (times 97 word) 1 && nat_le (times 115 word) 1
+    && nat_le (times 114 word) 1
 
 -- a word of flags is `-`, or one or more letters that stand for flags, none of them twice
 abbrev pub are_flags : List ℕ → Bool
@@ -60,18 +65,24 @@ settings_with encoding columns rows flags = record {
   strict = has_flag 115 flags;
 }
 
--- the settings that four words mean
-abbrev pub settings_of_four : List ℕ → List ℕ → List ℕ → List ℕ → Option DecodeSettings
-settings_of_four mode columns rows flags = do
+-- the order of bits that flags ask for: with r the lowest bit of each byte first, else the highest
+abbrev pub order_with : List ℕ → BitOrder
+order_with flags = if has_flag 114 flags then LowestFirst else HighestFirst
+
+-- the settings and the order that four words mean
+abbrev pub arguments_of_four : List ℕ → List ℕ → List ℕ → List ℕ → Option Arguments
+arguments_of_four mode columns rows flags = do
   encoding ← mode_of mode
   width ← number_of columns
   limit ← number_of rows
-  if are_flags flags then Some (settings_with encoding width limit flags) else None
+  if are_flags flags
+      then Some (record { settings = settings_with encoding width limit flags; order = order_with flags })
+      else None
 
--- the settings that the words of a call mean, if they mean any
-abbrev pub settings_of_words : List (List ℕ) → Option DecodeSettings
-settings_of_words (mode ∷ columns ∷ rows ∷ flags ∷ []) = settings_of_four mode columns rows flags
-settings_of_words _ = None
+-- the settings and the order that the words of a call mean, if they mean any
+abbrev pub arguments_of_words : List (List ℕ) → Option Arguments
+arguments_of_words (mode ∷ columns ∷ rows ∷ flags ∷ []) = arguments_of_four mode columns rows flags
+arguments_of_words _ = None
 
 -- the first word asks for a bitmap in place of text
 abbrev pub asks_for_bitmap : List (List ℕ) → Bool

@@ -2,7 +2,7 @@
 use Rattle.std.specs.Prelude.{◌≡◌, ℕ, List, take, Result, Ok, Err}
 use Rattle.hayro_ccitt.specs.declared.error.DecodeError.{DecodeError}
 use Rattle.hayro_ccitt.specs.declared.settings.DecodeSettings.{DecodeSettings}
-use Rattle.hayro_ccitt.specs.Bits.{bits_of}
+use Rattle.hayro_ccitt.specs.Bits.{Bits, bits_of}
 use Rattle.hayro_ccitt.specs.PlainReading.{plain}
 use Rattle.fax_encode.specs.Packed.{packed}
 use Rattle.faxrows.specs.Runs.{Outcome, EndsAfter}
@@ -14,7 +14,7 @@ answer_of (Err error) = Err error
 
 -- Bytes are packed of some data, with this answer: their bits are those of the first so many rows of the plain reading,
 -- and the decoding may end so when so many rows were taken.
-abbrev pub IsPackedOf : DecodeSettings → List ℕ → Result (Unit {0}) DecodeError → List ℕ → Type 0
-IsPackedOf settings input answer bytes =
-    (taken : ℕ) × (outcome : Outcome) × EndsAfter settings input taken outcome × (answer ≡ answer_of outcome)
-    × (bits_of bytes ≡ packed (take taken (plain settings input).rows))
+abbrev pub IsPackedOf : DecodeSettings → Bits → Result (Unit {0}) DecodeError → List ℕ → Type 0
+IsPackedOf settings bits answer bytes =
+    (taken : ℕ) × (outcome : Outcome) × EndsAfter settings bits taken outcome × (answer ≡ answer_of outcome)
+    × (bits_of bytes ≡ packed (take taken (plain settings bits).rows))

@@ -4,9 +4,11 @@ use Rattle.std.specs.Io.KnownBytes.{Consumes}
 use Rattle.hayro_ccitt.specs.declared.error.DecodeError.{DecodeError}
 use Rattle.hayro_ccitt.specs.declared.error.DecodeError.TheVariants.{UnexpectedEof, InvalidCode, Overflow, OutOfMemory, Refused}
 use Rattle.hayro_ccitt.specs.declared.settings.DecodeSettings.{DecodeSettings}
+use Rattle.hayro_ccitt.specs.Bits.{Bits, bits_in}
 use Rattle.hayro_ccitt.specs.Rows.{changes}
 use Rattle.hayro_ccitt.specs.PlainReading.{plain, lines_of}
 use Rattle.hayro_ccitt.specs.Answers.{PaintsBlack}
+use Rattle.faxrows.specs.declared.arguments.Arguments.{Arguments}
 use Rattle.faxrows.specs.declared.program.Done.{Done}
 use Rattle.faxrows.specs.declared.program.Done.TheVariants.{Good, Faulty, Memory}
 use Rattle.faxrows.specs.Text.{text_of}
@@ -16,16 +18,16 @@ abbrev pub Outcome : Type 0
 Outcome = Result ℕ DecodeError
 
 -- the rows of some data, as their changes
-abbrev pub rows_of : DecodeSettings → List ℕ → List (List ℕ)
-rows_of settings input = map changes (plain settings input).rows
+abbrev pub rows_of : DecodeSettings → Bits → List (List ℕ)
+rows_of settings bits = map changes (plain settings bits).rows
 
 -- how the reading of some data ends
-abbrev pub outcome_of : DecodeSettings → List ℕ → Outcome
-outcome_of settings input = (plain settings input).outcome
+abbrev pub outcome_of : DecodeSettings → Bits → Outcome
+outcome_of settings bits = (plain settings bits).outcome
 
 -- all that is written of some data
-abbrev pub whole_text : DecodeSettings → List ℕ → List ℕ
-whole_text settings input = text_of (rows_of settings input) (outcome_of settings input)
+abbrev pub whole_text : DecodeSettings → Bits → List ℕ
+whole_text settings bits = text_of (rows_of settings bits) (outcome_of settings bits)
 
 -- how a run ends that wrote this outcome
 abbrev pub done_of : Outcome → Done
@@ -37,27 +39,27 @@ done_of (Err OutOfMemory) = Memory
 done_of (Err Refused) = Memory
 
 -- what is written of some data where so many rows were taken, and how it ended
-abbrev pub text_after : DecodeSettings → List ℕ → ℕ → Outcome → List ℕ
-text_after settings input taken outcome = text_of (take taken (rows_of settings input)) outcome
+abbrev pub text_after : DecodeSettings → Bits → ℕ → Outcome → List ℕ
+text_after settings bits taken outcome = text_of (take taken (rows_of settings bits)) outcome
 
 -- Decoding may end so when so many rows were taken: with all of them, as the plain reading does; for want of memory
 -- while a line that paints black is read; or because the next row was refused.
-abbrev pub EndsAfter : DecodeSettings → List ℕ → ℕ → Outcome → Type 0
-EndsAfter settings input taken (Ok count) = (taken ≡ length (rows_of settings input)) × (outcome_of settings input ≡ Ok count)
-EndsAfter settings input taken (Err UnexpectedEof) = (taken ≡ length (rows_of settings input)) × (outcome_of settings input ≡ Err UnexpectedEof)
-EndsAfter settings input taken (Err InvalidCode) = (taken ≡ length (rows_of settings input)) × (outcome_of settings input ≡ Err InvalidCode)
-EndsAfter settings input taken (Err Overflow) = (taken ≡ length (rows_of settings input)) × (outcome_of settings input ≡ Err Overflow)
-EndsAfter settings input taken (Err OutOfMemory) = (taken ≤ length (rows_of settings input)) × PaintsBlack (lines_of settings input) taken
-EndsAfter settings input taken (Err Refused) = taken < length (rows_of settings input)
+abbrev pub EndsAfter : DecodeSettings → Bits → ℕ → Outcome → Type 0
+EndsAfter settings bits taken (Ok count) = (taken ≡ length (rows_of settings bits)) × (outcome_of settings bits ≡ Ok count)
+EndsAfter settings bits taken (Err UnexpectedEof) = (taken ≡ length (rows_of settings bits)) × (outcome_of settings bits ≡ Err UnexpectedEof)
+EndsAfter settings bits taken (Err InvalidCode) = (taken ≡ length (rows_of settings bits)) × (outcome_of settings bits ≡ Err InvalidCode)
+EndsAfter settings bits taken (Err Overflow) = (taken ≡ length (rows_of settings bits)) × (outcome_of settings bits ≡ Err Overflow)
+EndsAfter settings bits taken (Err OutOfMemory) = (taken ≤ length (rows_of settings bits)) × PaintsBlack (lines_of settings bits) taken
+EndsAfter settings bits taken (Err Refused) = taken < length (rows_of settings bits)
 
 -- the lines of the rows that were taken, and then of the want of memory or of the refusal that ended the decoding there
-abbrev pub IsTextOfWant : DecodeSettings → List ℕ → List ℕ → Type 0
-IsTextOfWant settings input text =
-    (taken : ℕ) × (outcome : Outcome) × EndsAfter settings input taken outcome × (done_of outcome ≡ Memory) × (text ≡ text_after settings input taken outcome)
+abbrev pub IsTextOfWant : DecodeSettings → Bits → List ℕ → Type 0
+IsTextOfWant settings bits text =
+    (taken : ℕ) × (outcome : Outcome) × EndsAfter settings bits taken outcome × (done_of outcome ≡ Memory) × (text ≡ text_after settings bits taken outcome)
 
--- a fact on the settings that words mean, and the bytes that a reader tells
-abbrev pub OnKnown : Option DecodeSettings → Option (List ℕ) → (DecodeSettings → List ℕ → Type 0) → Type 0
-OnKnown settings known P = IfSome settings (λ s. IfSome known (λ input. P s input))
+-- a fact on the settings that words mean, and the bits of the bytes that a reader tells, in the order that the words mean
+abbrev pub OnKnown : Option Arguments → Option (List ℕ) → (DecodeSettings → Bits → Type 0) → Type 0
+OnKnown arguments known P = IfSome arguments (λ meant. IfSome known (λ input. P meant.settings (bits_in meant.order input)))
 
 -- bytes were read that a fact holds of, where a reader tells what it had and what is left
 abbrev pub WasRead : Option (List ℕ) → Option (List ℕ) → (List ℕ → Type 0) → Type 0

@@ -1,15 +1,25 @@
-//! The words of a call, and the settings that they mean.
+//! The words of a call, and what they mean.
 
 ghost use Rattle.std.specs.Prelude.{◌≡◌, map, string_bytes};
 ghost use Rattle.std.specs.Char.{is_ascii_digit};
 ghost use Rattle.std.specs.List.{list_all};
-ghost use Rattle.faxrows.specs.Arguments.{settings_of_words, mode_of, number_of, are_digits, are_flags, times, has_flag, is_flag, are_apart};
+ghost use Rattle.faxrows.specs.Arguments.{arguments_of_words, order_with, mode_of, number_of, are_digits, are_flags, times, has_flag, is_flag, are_apart};
 
+use hayro_ccitt::bit_reader::BitOrder;
 use hayro_ccitt::{DecodeSettings, EncodingMode};
 
-/// The settings that the words of a call mean: a mode, the columns, the rows and the flags.
-pub fn settings_of(words: &[String]) -> Option<DecodeSettings>
-    ensures { result ≡ settings_of_words (map string_bytes words.now) }
+/// What the words of a call mean.
+#[derive(Debug, Clone, Copy)]
+pub struct Arguments {
+    /// How the data is decoded.
+    pub settings: DecodeSettings,
+    /// Which bit of each byte comes first.
+    pub order: BitOrder,
+}
+
+/// What the words of a call mean: a mode, the columns, the rows and the flags.
+pub fn arguments_of(words: &[String]) -> Option<Arguments>
+    ensures { result ≡ arguments_of_words (map string_bytes words.now) }
 {
     let [mode, columns, rows, flags] = words else {
         return None;
@@ -21,7 +31,7 @@ pub fn settings_of(words: &[String]) -> Option<DecodeSettings>
     if !are_flags(flags) {
         return None;
     }
-    Some(DecodeSettings {
+    let settings = DecodeSettings {
         columns,
         rows,
         end_of_block: has_flag(flags, b'b'),
@@ -29,7 +39,22 @@ pub fn settings_of(words: &[String]) -> Option<DecodeSettings>
         rows_are_byte_aligned: has_flag(flags, b'a'),
         encoding,
         strict: has_flag(flags, b's'),
+    };
+    Some(Arguments {
+        settings,
+        order: order_with(flags),
     })
+}
+
+/// The order of bits that the flags ask for.
+fn order_with(flags: &[u8]) -> BitOrder
+    ensures { result ≡ order_with flags.now }
+{
+    if has_flag(flags, b'r') {
+        BitOrder::LowestFirst
+    } else {
+        BitOrder::HighestFirst
+    }
 }
 
 /// The encoding that a word names.
@@ -75,7 +100,7 @@ fn times(word: &[u8], letter: u8) -> usize
     word.iter().filter(|byte| **byte == letter).count()
 }
 
-/// Whether a word is `-`, or one or more of the letters b, l, a and s, none of them twice.
+/// Whether a word is `-`, or one or more of the letters b, l, a, s and r, none of them twice.
 fn are_flags(word: &[u8]) -> bool
     ensures { result ≡ are_flags word.now }
 {
@@ -88,7 +113,7 @@ fn are_letters(word: &[u8]) -> bool
     ensures { result ≡ list_all is_flag word.now }
 {
     word.iter()
-        .all(|byte| matches!(*byte, b'b' | b'l' | b'a' | b's'))
+        .all(|byte| matches!(*byte, b'b' | b'l' | b'a' | b's' | b'r'))
 }
 
 /// Whether no letter that stands for a flag stands twice in a word.
@@ -99,6 +124,7 @@ fn are_apart(word: &[u8]) -> bool
         && times(word, b'l') <= 1
         && times(word, b'a') <= 1
         && times(word, b's') <= 1
+        && times(word, b'r') <= 1
 }
 
 /// Whether a letter stands in a word.

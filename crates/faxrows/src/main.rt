@@ -2,13 +2,15 @@
 //!
 //! It is called as `faxrows MODE COLUMNS ROWS FLAGS`, or as `faxrows -o MODE COLUMNS ROWS FLAGS` to write the rows as a
 //! bitmap of one bit a pixel. The mode is `g4`, `1d` or `2d`, columns and rows are decimal numbers, and the flags are `-`
-//! or letters: `b` for an end of block, `l` for ends of line, `a` for aligned rows, `s` for a strict reading.
+//! or letters: `b` for an end of block, `l` for ends of line, `a` for aligned rows, `s` for a strict reading, `r` for
+//! the lowest bit of each byte first.
 #![tactic(auto)]
 
 ghost use Rattle.std.specs.Prelude.{◌≡◌, ◌<◌, IsTrue, length, map, string_bytes};
 ghost use Rattle.faxrows.specs.Arguments.{asks_for_bitmap};
 
 mod arguments;
+mod decoding;
 pub mod device;
 mod digits;
 mod last_line;

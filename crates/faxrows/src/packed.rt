@@ -2,21 +2,24 @@
 
 ghost use Rattle.std.specs.Prelude.{◌≡◌, ◌≤◌, ◌↔◌, ◌≢◌, IfOk, IfErr, OnOk, OnErr, IfSome, true, false, map, string_bytes, None, Ok, Err, List, ℕ};
 ghost use Rattle.std.specs.Io.KnownBytes.{Appends, IsAtEnd};
-ghost use Rattle.hayro_ccitt.specs.Bits.{BitsFit};
-ghost use Rattle.faxrows.specs.Arguments.{settings_of_words};
+ghost use Rattle.hayro_ccitt.specs.Bits.{BitsFit, bits_in};
+ghost use Rattle.faxrows.specs.Arguments.{arguments_of_words};
 ghost use Rattle.faxrows.specs.Runs.{OnKnown, WasRead};
 ghost use Rattle.faxrows.specs.PackedRuns.{IsPackedOf, answer_of};
 
-use crate::arguments::settings_of;
+use crate::arguments::arguments_of;
+use crate::decoding::decode_in;
 use crate::device::Device;
 use crate::program::{RunFault, read_all, write_all};
 use fax_encode::BitmapSink;
-use hayro_ccitt::{DecodeError, DecoderContext, decode};
+use hayro_ccitt::bit_reader::BitOrder;
+use hayro_ccitt::{DecodeError, DecoderContext};
 use std::alloc::Global;
 use std::io::{Read, Write};
 
-/// Reads all that the reader has, decodes it with the settings that the words mean, and writes the rows as a bitmap: one
-/// bit a pixel, 1 for black, the leftmost pixel in each byte's highest bit, and zeros after each row up to a whole byte.
+/// Reads all that the reader has, decodes it with the settings and in the order of bits that the words mean, and writes
+/// the rows as a bitmap: one bit a pixel, 1 for black, the leftmost pixel in each byte's highest bit, and zeros after each
+/// row up to a whole byte.
 /// The inner answer says how the decoding ended.
 ///
 /// Where the data is at fault, the rows before the fault were written; with `OutOfMemory` and `Refused` the rows that
@@ -28,12 +31,12 @@ pub fn run_packed<R: Read, W: Write>(
     writer: &mut Device<W>,
 ) -> std::result::Result<std::result::Result<(), DecodeError>, RunFault>
     ensures bad_arguments { (result ≡ Err RunFault.BadArguments)
-        ↔ (settings_of_words (map string_bytes words.now) ≡ None) }
+        ↔ (arguments_of_words (map string_bytes words.now) ≡ None) }
     ensures unread { result ≡ Err RunFault.BadArguments → reader.new ≡ reader.old }
     ensures unwritten { IfErr result (λ fault. fault ≢ RunFault.Write → writer.new ≡ writer.old) }
     ensures packed { IfOk result (λ answer.
-        OnKnown (settings_of_words (map string_bytes words.now)) (R.remaining reader.old.0) (λ settings input.
-        (bytes : List ℕ) × IsPackedOf settings input answer bytes
+        OnKnown (arguments_of_words (map string_bytes words.now)) (R.remaining reader.old.0) (λ settings bits.
+        (bytes : List ℕ) × IsPackedOf settings bits answer bytes
         × Appends (W.contents writer.old.0) (W.contents writer.new.0) bytes)) }
     ensures drained { IfOk result (λ _. IsAtEnd (R.remaining reader.new.0)) }
     ensures fit { IfOk result (λ _. IfSome (R.remaining reader.old.0) BitsFit) }
@@ -45,34 +48,35 @@ pub fn run_packed<R: Read, W: Write>(
     ensures read { reader.old.1 ≡ false → ((result ≡ Err RunFault.Read) ↔ (reader.new.1 ≡ true)) }
     ensures write { writer.old.1 ≡ false → ((result ≡ Err RunFault.Write) ↔ (writer.new.1 ≡ true)) }
 {
-    let Some(settings) = settings_of(words) else {
+    let Some(arguments) = arguments_of(words) else {
         return Err(RunFault::BadArguments);
     };
     let input = read_all(alloc, reader)?;
-    let Ok(mut ctx) = DecoderContext::new(alloc, settings) else {
+    let Ok(mut ctx) = DecoderContext::new(alloc, arguments.settings) else {
         return Err(RunFault::Memory);
     };
-    write_packed(alloc, input.as_slice(), &mut ctx, writer)
+    write_packed(alloc, input.as_slice(), arguments.order, &mut ctx, writer)
 }
 
-/// Decodes bytes, writes the bitmap of the rows that were taken, and answers how the decoding ended. It fails only where
-/// the writer does.
+/// Decodes bytes whose bits come in this order, writes the bitmap of the rows that were taken, and answers how the
+/// decoding ended. It fails only where the writer does.
 fn write_packed<W: Write>(
     alloc: Global,
     input: &[u8],
+    order: BitOrder,
     ctx: &mut DecoderContext,
     writer: &mut Device<W>,
 ) -> std::result::Result<std::result::Result<(), DecodeError>, RunFault>
     requires fit { BitsFit input.now }
     ensures written { IfOk result (λ answer. (bytes : List ℕ)
-        × IsPackedOf ctx.old.held.settings input.now answer bytes
+        × IsPackedOf ctx.old.held.settings (bits_in order input.now) answer bytes
         × Appends (W.contents writer.old.0) (W.contents writer.new.0) bytes) }
     ensures flag { OnOk result (writer.new.1 ≡ writer.old.1) }
     ensures failed { OnErr result (writer.new.1 ≡ true) }
     ensures only { IfErr result (λ fault. fault ≡ RunFault.Write) }
 {
     let mut sink = BitmapSink::new(alloc, ctx.settings().columns);
-    let outcome = decode(input, &mut sink, ctx);
+    let outcome = decode_in(order, input, &mut sink, ctx);
     let bytes = sink.bytes();
     write_all(writer, bytes)?;
     Ok(answer_of(&outcome))

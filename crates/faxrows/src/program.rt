@@ -2,16 +2,18 @@
 
 ghost use Rattle.std.specs.Prelude.{◌≡◌, ◌≤◌, ◌↔◌, ◌≢◌, IfOk, IfErr, OnOk, OnErr, IfSome, IsOk, IsErr, true, false, map, string_bytes, None, Ok, Err, List, ℕ};
 ghost use Rattle.std.specs.Io.KnownBytes.{Appends, IsAtEnd};
-ghost use Rattle.hayro_ccitt.specs.Bits.{BitsFit};
-ghost use Rattle.faxrows.specs.Arguments.{settings_of_words};
+ghost use Rattle.hayro_ccitt.specs.Bits.{BitsFit, bits_in};
+ghost use Rattle.faxrows.specs.Arguments.{arguments_of_words};
 ghost use Rattle.faxrows.specs.Text.{line_of_outcome};
 ghost use Rattle.faxrows.specs.Runs.{Outcome, OnKnown, EndsAfter, IsTextOfWant, whole_text, text_after, outcome_of, done_of, WasRead};
 
-use crate::arguments::settings_of;
+use crate::arguments::arguments_of;
+use crate::decoding::decode_in;
 use crate::device::Device;
 use crate::last_line::{ROOM, error_line, put_ok};
 use crate::text_sink::TextSink;
-use hayro_ccitt::{DecodeError, DecoderContext, decode};
+use hayro_ccitt::bit_reader::BitOrder;
+use hayro_ccitt::{DecodeError, DecoderContext};
 use std::alloc::Global;
 use std::fmt;
 use std::io::{Read, Write};
@@ -30,7 +32,7 @@ pub enum Done {
 /// Why a run ended without its text.
 #[derive(Debug, Clone, Copy, PartialEq, Eq)]
 pub enum RunFault {
-    /// The words mean no settings. Nothing was read or written.
+    /// The words mean nothing. Nothing was read or written.
     BadArguments,
     /// The reader failed. Nothing was written.
     Read,
@@ -61,8 +63,8 @@ impl fmt::Display for RunFault {
     }
 }
 
-/// Reads all that the reader has, decodes it with the settings that the words mean, and writes a line for each
-/// row, and then a line that says how the decoding ended.
+/// Reads all that the reader has, decodes it with the settings and in the order of bits that the words mean, and
+/// writes a line for each row, and then a line that says how the decoding ended.
 pub fn run<R: Read, W: Write>(
     alloc: Global,
     words: &[String],
@@ -70,24 +72,24 @@ pub fn run<R: Read, W: Write>(
     writer: &mut Device<W>,
 ) -> std::result::Result<Done, RunFault>
     ensures bad_arguments { (result ≡ Err RunFault.BadArguments)
-        ↔ (settings_of_words (map string_bytes words.now) ≡ None) }
+        ↔ (arguments_of_words (map string_bytes words.now) ≡ None) }
     ensures unread { result ≡ Err RunFault.BadArguments → reader.new ≡ reader.old }
     ensures unwritten { IfErr result (λ fault. fault ≢ RunFault.Write → writer.new ≡ writer.old) }
     ensures good { result ≡ Ok Done.Good
-        → OnKnown (settings_of_words (map string_bytes words.now)) (R.remaining reader.old.0) (λ settings input.
-        Appends (W.contents writer.old.0) (W.contents writer.new.0) (whole_text settings input)) }
+        → OnKnown (arguments_of_words (map string_bytes words.now)) (R.remaining reader.old.0) (λ settings bits.
+        Appends (W.contents writer.old.0) (W.contents writer.new.0) (whole_text settings bits)) }
     ensures good_outcome { result ≡ Ok Done.Good
-        → OnKnown (settings_of_words (map string_bytes words.now)) (R.remaining reader.old.0) (λ settings input.
-        IsOk (outcome_of settings input)) }
+        → OnKnown (arguments_of_words (map string_bytes words.now)) (R.remaining reader.old.0) (λ settings bits.
+        IsOk (outcome_of settings bits)) }
     ensures faulty { result ≡ Ok Done.Faulty
-        → OnKnown (settings_of_words (map string_bytes words.now)) (R.remaining reader.old.0) (λ settings input.
-        Appends (W.contents writer.old.0) (W.contents writer.new.0) (whole_text settings input)) }
+        → OnKnown (arguments_of_words (map string_bytes words.now)) (R.remaining reader.old.0) (λ settings bits.
+        Appends (W.contents writer.old.0) (W.contents writer.new.0) (whole_text settings bits)) }
     ensures faulty_outcome { result ≡ Ok Done.Faulty
-        → OnKnown (settings_of_words (map string_bytes words.now)) (R.remaining reader.old.0) (λ settings input.
-        IsErr (outcome_of settings input)) }
+        → OnKnown (arguments_of_words (map string_bytes words.now)) (R.remaining reader.old.0) (λ settings bits.
+        IsErr (outcome_of settings bits)) }
     ensures memory { result ≡ Ok Done.Memory
-        → OnKnown (settings_of_words (map string_bytes words.now)) (R.remaining reader.old.0) (λ settings input.
-        (text : List ℕ) × IsTextOfWant settings input text
+        → OnKnown (arguments_of_words (map string_bytes words.now)) (R.remaining reader.old.0) (λ settings bits.
+        (text : List ℕ) × IsTextOfWant settings bits text
         × Appends (W.contents writer.old.0) (W.contents writer.new.0) text) }
     ensures drained { IfOk result (λ _. IsAtEnd (R.remaining reader.new.0)) }
     ensures fit { IfOk result (λ _. IfSome (R.remaining reader.old.0) BitsFit) }
@@ -99,37 +101,38 @@ pub fn run<R: Read, W: Write>(
     ensures read { reader.old.1 ≡ false → ((result ≡ Err RunFault.Read) ↔ (reader.new.1 ≡ true)) }
     ensures write { writer.old.1 ≡ false → ((result ≡ Err RunFault.Write) ↔ (writer.new.1 ≡ true)) }
 {
-    let Some(settings) = settings_of(words) else {
+    let Some(arguments) = arguments_of(words) else {
         return Err(RunFault::BadArguments);
     };
     let input = read_all(alloc, reader)?;
-    let Ok(mut ctx) = DecoderContext::new(alloc, settings) else {
+    let Ok(mut ctx) = DecoderContext::new(alloc, arguments.settings) else {
         return Err(RunFault::Memory);
     };
-    write_decoded(alloc, input.as_slice(), &mut ctx, writer)
+    write_decoded(alloc, input.as_slice(), arguments.order, &mut ctx, writer)
 }
 
-/// Decodes bytes, and writes a line for each row that was taken, and then how the decoding ended. It fails only
-/// where the writer does.
+/// Decodes bytes whose bits come in this order, and writes a line for each row that was taken, and then how the
+/// decoding ended. It fails only where the writer does.
 fn write_decoded<W: Write>(
     alloc: Global,
     input: &[u8],
+    order: BitOrder,
     ctx: &mut DecoderContext,
     writer: &mut Device<W>,
 ) -> std::result::Result<Done, RunFault>
     requires fit { BitsFit input.now }
     requires columns { ctx.old.held.settings.columns ≤ 4294967295 }
     ensures written { IfOk result (λ done. (outcome : Outcome)
-        × EndsAfter ctx.old.held.settings input.now ctx.new.held.taken outcome
+        × EndsAfter ctx.old.held.settings (bits_in order input.now) ctx.new.held.taken outcome
         × (done ≡ done_of outcome)
         × Appends (W.contents writer.old.0) (W.contents writer.new.0)
-        (text_after ctx.old.held.settings input.now ctx.new.held.taken outcome)) }
+        (text_after ctx.old.held.settings (bits_in order input.now) ctx.new.held.taken outcome)) }
     ensures flag { OnOk result (writer.new.1 ≡ writer.old.1) }
     ensures failed { OnErr result (writer.new.1 ≡ true) }
     ensures only { IfErr result (λ fault. fault ≡ RunFault.Write) }
 {
     let mut sink = TextSink::new(alloc);
-    let outcome = decode(input, &mut sink, ctx);
+    let outcome = decode_in(order, input, &mut sink, ctx);
     let lines = sink.text();
     write_all(writer, lines)?;
     write_last_line(writer, &outcome)?;

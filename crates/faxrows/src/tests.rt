@@ -177,6 +177,24 @@ fn writes_rows_and_the_outcome(rt: HostRuntime) -> Result<(), Fail> {
         ),
         ("2d 8 1 sal", [0xCC].as_slice(), Done::Good, "r\nok 1\n"),
         (
+            "g4 8 1 r",
+            [0x8C, 0x03].as_slice(),
+            Done::Good,
+            "r 3 5\nok 2\n",
+        ),
+        (
+            "1d 8 0 rl",
+            [0x00, 0x98, 0x01, 0x30, 0x0E, 0x00, 0xCC].as_slice(),
+            Done::Good,
+            "r\nr 3 5\nr\nok 7\n",
+        ),
+        (
+            "g4 8 0 sr",
+            [0x04].as_slice(),
+            Done::Faulty,
+            "error: unexpected end of input\n",
+        ),
+        (
             "g4 8 0 -",
             [0x80].as_slice(),
             Done::Faulty,
@@ -197,12 +215,31 @@ fn writes_rows_and_the_outcome(rt: HostRuntime) -> Result<(), Fail> {
 }
 
 #[test]
+fn writes_a_bitmap_in_either_order(rt: HostRuntime) -> Result<(), Fail> {
+    for (line, input) in [
+        ("g4 8 1 -", [0x31, 0xC0].as_slice()),
+        ("g4 8 1 r", [0x8C, 0x03].as_slice()),
+    ] {
+        let words = words_of(rt.alloc(), line)?;
+        let mut reader = Device::new(input);
+        let mut writer = Device::new(Vec::new(rt.alloc()));
+        let answer = run_packed(rt.alloc(), words.as_slice(), &mut reader, &mut writer);
+        let written: Vec<u8> = writer.into_inner();
+        assert_eq!(rt; answer, Ok(Ok(())), "at {line}");
+        assert_eq!(rt; written.as_slice(), [0x18].as_slice(), "at {line}");
+    }
+    Ok(())
+}
+
+#[test]
 fn knows_good_words(rt: HostRuntime) -> Result<(), Fail> {
     for line in [
         "g4 8 2 asbl",
         "g4 8 2 blas",
         "g4 8 2 b",
         "g4 8 2 sa",
+        "g4 8 2 r",
+        "g4 8 2 brals",
         "1d 8 2 -",
         "2d 8 2 bls",
         "g4 4294967295 1 -",
@@ -238,7 +275,9 @@ fn knows_bad_words(rt: HostRuntime) -> Result<(), Fail> {
         "g4 8 1 bb",
         "g4 8 1 bsb",
         "g4 8 1 x",
-        "g4 8 1 r",
+        "g4 8 1 rr",
+        "g4 8 1 rbr",
+        "g4 8 1 R",
         "g4 8 1 bx",
         "g4 8 1 b-",
         "g4 8 1 --",

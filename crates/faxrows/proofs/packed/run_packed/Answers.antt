@@ -3,6 +3,7 @@ use Rattle.std.proofs.lemmas.Result.{IfOk-weaker}
 use Rattle.std.specs.Io.KnownBytes.{Appends}
 use Rattle.hayro_ccitt.specs.declared.error.DecodeError.{DecodeError}
 use Rattle.hayro_ccitt.specs.declared.settings.DecodeSettings.{DecodeSettings}
+use Rattle.hayro_ccitt.specs.Bits.{Bits}
 use Rattle.faxrows.specs.PackedRuns.{IsPackedOf}
 use Rattle.faxrows.proofs.Texts.{on_known}
 use Rattle.faxrows.proofs.packed.run_packed.Given.{Over}
@@ -10,11 +11,11 @@ use Rattle.faxrows.proofs.packed.run_packed.Goals as goal
 
 module _ (g : Over) (c : goal.After-drop-input-2 g) where
   -- bytes were written that are packed of some data, with this answer
-  abbrev Wrote : Result (Unit {0}) DecodeError → DecodeSettings → List ℕ → Type 0
-  Wrote answer settings input =
-      (bytes : List ℕ) × IsPackedOf settings input answer bytes
+  abbrev Wrote : Result (Unit {0}) DecodeError → DecodeSettings → Bits → Type 0
+  Wrote answer settings bits =
+      (bytes : List ℕ) × IsPackedOf settings bits answer bytes
       × Appends (g.W.Write.contents c.args.writer.now.0) (g.W.Write.contents c.write_packed.new.writer.0) bytes
 
 pub returns-clause-packed : goal.returns-clause-packed
 returns-clause-packed g c =
-    IfOk-weaker c.write_packed.result _ _ (λ answer wrote. on_known _ c.in-Ok.ctx.held.settings _ c.as_slice.result.now (Wrote g c answer) (search rules) (search rules) wrote) c.write_packed.ensures.written
+    IfOk-weaker c.write_packed.result _ _ (λ answer wrote. on_known _ c.in-Some.arguments c.in-Ok.ctx.held.settings _ c.as_slice.result.now (Wrote g c answer) (search rules) (search rules) (search rules) wrote) c.write_packed.ensures.written

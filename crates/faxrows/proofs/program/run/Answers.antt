@@ -3,9 +3,10 @@ use Rattle.std.specs.Prelude.{IsOk, IsErr, map, string_bytes}
 use Rattle.std.specs.Io.KnownBytes.{Appends}
 use Rattle.std.proofs.lemmas.Result.{IfOk-at_ok}
 use Rattle.hayro_ccitt.specs.declared.settings.DecodeSettings.{DecodeSettings}
+use Rattle.hayro_ccitt.specs.Bits.{Bits, bits_in}
 use Rattle.faxrows.specs.declared.program.Done.{Done}
 use Rattle.faxrows.specs.declared.program.Done.TheVariants.{Good, Faulty, Memory}
-use Rattle.faxrows.specs.Arguments.{settings_of_words}
+use Rattle.faxrows.specs.Arguments.{arguments_of_words}
 use Rattle.faxrows.specs.Runs.{Outcome, EndsAfter, OnKnown, IsTextOfWant, done_of, outcome_of, text_after, whole_text}
 use Rattle.faxrows.proofs.Texts.{text_of_good, text_of_faulty, on_known}
 use Rattle.faxrows.proofs.program.run.Given.{Over}
@@ -16,9 +17,9 @@ module _ (g : Over) (c : goal.After-drop-input-2 g) where
   abbrev settings : DecodeSettings
   settings = c.in-Ok.ctx.held.settings
 
-  -- what was read
-  abbrev input : List ℕ
-  input = c.as_slice.result.now
+  -- the bits of what was read, in the order that the words mean
+  abbrev bits : Bits
+  bits = bits_in c.in-Some.arguments.order c.as_slice.result.now
 
   -- how many rows were taken
   abbrev taken : ℕ
@@ -32,39 +33,39 @@ module _ (g : Over) (c : goal.After-drop-input-2 g) where
   abbrev Written : Done → Type 0
   Written done =
       (outcome : Outcome)
-      × EndsAfter settings input taken outcome
+      × EndsAfter settings bits taken outcome
       × (done ≡ done_of outcome)
-      × Grew (text_after settings input taken outcome)
+      × Grew (text_after settings bits taken outcome)
 
   written : (done : Done) → c.write_decoded.result ≡ Ok done → Written done
   written done e = IfOk-at_ok Written e c.write_decoded.ensures.written
 
   -- a fact of what was decoded is one of what is known
-  known : (P : DecodeSettings → List ℕ → Type 0) → P settings input
-      → OnKnown (settings_of_words (map string_bytes c.args.words.now)) (g.R.Read.remaining c.args.reader.now.0) P
-  known P holds = on_known _ _ _ _ P (search rules) (search rules) holds
+  known : (P : DecodeSettings → Bits → Type 0) → P settings bits
+      → OnKnown (arguments_of_words (map string_bytes c.args.words.now)) (g.R.Read.remaining c.args.reader.now.0) P
+  known P holds = on_known _ c.in-Some.arguments settings _ c.as_slice.result.now P (search rules) (search rules) (search rules) holds
 
 pub returns-clause-good : goal.returns-clause-good
 returns-clause-good g c = λ e.
     let (outcome, ends, same, grew) = written g c Good e in
-    known g c (λ s xs. Grew g c (whole_text s xs)) (subst (Grew g c) (text_of_good (settings g c) (input g c) (taken g c) outcome ends (sym same)).0 grew)
+    known g c (λ s b. Grew g c (whole_text s b)) (subst (Grew g c) (text_of_good (settings g c) (bits g c) (taken g c) outcome ends (sym same)).0 grew)
 
 pub returns-clause-good_outcome : goal.returns-clause-good_outcome
 returns-clause-good_outcome g c = λ e.
     let (outcome, ends, same, grew) = written g c Good e in
-    known g c (λ s xs. IsOk (outcome_of s xs)) (text_of_good (settings g c) (input g c) (taken g c) outcome ends (sym same)).1
+    known g c (λ s b. IsOk (outcome_of s b)) (text_of_good (settings g c) (bits g c) (taken g c) outcome ends (sym same)).1
 
 pub returns-clause-faulty : goal.returns-clause-faulty
 returns-clause-faulty g c = λ e.
     let (outcome, ends, same, grew) = written g c Faulty e in
-    known g c (λ s xs. Grew g c (whole_text s xs)) (subst (Grew g c) (text_of_faulty (settings g c) (input g c) (taken g c) outcome ends (sym same)).0 grew)
+    known g c (λ s b. Grew g c (whole_text s b)) (subst (Grew g c) (text_of_faulty (settings g c) (bits g c) (taken g c) outcome ends (sym same)).0 grew)
 
 pub returns-clause-faulty_outcome : goal.returns-clause-faulty_outcome
 returns-clause-faulty_outcome g c = λ e.
     let (outcome, ends, same, grew) = written g c Faulty e in
-    known g c (λ s xs. IsErr (outcome_of s xs)) (text_of_faulty (settings g c) (input g c) (taken g c) outcome ends (sym same)).1
+    known g c (λ s b. IsErr (outcome_of s b)) (text_of_faulty (settings g c) (bits g c) (taken g c) outcome ends (sym same)).1
 
 pub returns-clause-memory : goal.returns-clause-memory
 returns-clause-memory g c = λ e.
     let (outcome, ends, same, grew) = written g c Memory e in
-    known g c (λ s xs. (text : List ℕ) × IsTextOfWant s xs text × Grew g c text) (_, (_, outcome, ends, sym same, refl), grew)
+    known g c (λ s b. (text : List ℕ) × IsTextOfWant s b text × Grew g c text) (_, (_, outcome, ends, sym same, refl), grew)

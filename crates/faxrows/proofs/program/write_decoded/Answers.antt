@@ -1,5 +1,6 @@
 use Rattle.std.proofs.Common.{rules, ◌≡◌, ◌++◌, List, ℕ, subst, take, ◌∙◌}
 use Rattle.std.specs.Io.KnownBytes.{Appends}
+use Rattle.hayro_ccitt.specs.Bits.{Bits, bits_in}
 use Rattle.std.proofs.KnownBytes.{Appends-trans}
 use Rattle.faxrows.specs.Runs.{rows_of}
 use Rattle.faxrows.specs.Text.{lines_of_rows, line_of_outcome}
@@ -8,24 +9,28 @@ use Rattle.faxrows.proofs.program.write_decoded.Given.{Over}
 use Rattle.faxrows.proofs.program.write_decoded.Goals as goal
 
 module _ (g : Over) (c : goal.After-drop-sink-inside-2 g) where
+  -- the bits of the bytes
+  abbrev bits : Bits
+  bits = bits_in c.args.order c.args.input.now
+
   -- what the writer holds grew by a text
   abbrev Grew : List ℕ → Type 0
   Grew text = Appends (g.W.Write.contents c.args.writer.now.0) (g.W.Write.contents c.write_last_line.new.writer.0) text
 
   -- the sink's text and then the last line were written
-  grew : Grew (c.text-lines.result.now ++ line_of_outcome c.decode-outcome.result)
+  grew : Grew (c.text-lines.result.now ++ line_of_outcome c.decode_in-outcome.result)
   grew =
       Appends-trans (g.W.Write.contents c.args.writer.now.0) (g.W.Write.contents c.write_all.new.writer.0) (g.W.Write.contents c.write_last_line.new.writer.0)
-      c.text-lines.result.now (line_of_outcome c.decode-outcome.result) (search rules) (search rules)
+      c.text-lines.result.now (line_of_outcome c.decode_in-outcome.result) (search rules) (search rules)
 
   -- the sink's text is the lines of the rows that were taken
-  lines : c.text-lines.result.now ≡ lines_of_rows (take c.decode-outcome.new.ctx.held.taken (rows_of c.args.ctx.now.held.settings c.args.input.now))
-  lines = c.text-lines.ensures ∙ sink_text c.args.ctx.now.held.settings c.args.input.now _ _ _ _ (search rules) c.decode-outcome.ensures.reading
+  lines : c.text-lines.result.now ≡ lines_of_rows (take c.decode_in-outcome.new.ctx.held.taken (rows_of c.args.ctx.now.held.settings bits))
+  lines = c.text-lines.ensures ∙ sink_text c.args.ctx.now.held.settings bits _ _ _ _ (search rules) c.decode_in-outcome.ensures.reading
 
 pub returns-clause-written : goal.returns-clause-written
 returns-clause-written g c = (
-  c.decode-outcome.result,
-  ends_after _ c.args.ctx.now.held.settings c.args.input.now _ _ _ _ c.decode-outcome.ensures.reading c.decode-outcome.ensures.short,
+  c.decode_in-outcome.result,
+  ends_after _ c.args.ctx.now.held.settings (bits g c) _ _ _ _ c.decode_in-outcome.ensures.reading c.decode_in-outcome.ensures.short,
   c.done_of.ensures,
-  subst (λ text. Grew g c (text ++ line_of_outcome c.decode-outcome.result)) (lines g c) (grew g c),
+  subst (λ text. Grew g c (text ++ line_of_outcome c.decode_in-outcome.result)) (lines g c) (grew g c),
 )
