@@ -128,7 +128,7 @@ def calls_on_known_cases():
             told = (len(rows), changes, 0 if answer else int(last.split()[1]))
             assert called(library.hayro_ccitt_measure, data, settings) == (answer, told), words + text
             mirrored, low_first = data.translate(MIRRORED), settings_of(*words.split())
-            low_first.flags += 16
+            low_first.flags ^= 16
             assert called(library.hayro_ccitt_measure, mirrored, low_first) == (answer, told), words + text
             cases += 1
             lists = [number for row in rows for number in (len(row), *row)]

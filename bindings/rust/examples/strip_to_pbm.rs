@@ -3,10 +3,12 @@
 //!     cargo run --example strip_to_pbm -- MODE COLUMNS ROWS FLAGS < strip > picture.pbm
 //!
 //! MODE is g4, 1d or 2d. ROWS is the largest number of rows, 0 for no limit. FLAGS is - or letters: b (EOFB or RTC may end
-//! the data), l (EOLs stand between the lines), a (rows are aligned to bytes), s (strict). The status is 0 where the data
+//! the data), l (EOLs stand between the lines), a (rows are aligned to bytes), s (strict), r (lowest bit first). The status is 0 where the data
 //! is decoded, 1 where it is at fault, after the rows before the fault, and 2 for other words.
 
-use hayro_ccitt::{DecodeSettings, Decoder, DecoderContext, EncodingMode, decode};
+use hayro_ccitt::{
+    DecodeSettings, Decoder, DecoderContext, EncodingMode, decode, decode_low_first,
+};
 use std::io::{self, Read, Write};
 use std::process::ExitCode;
 
@@ -50,7 +52,7 @@ fn settings_of(words: &[String]) -> Option<DecodeSettings> {
         },
         strict: flags.contains('s'),
     })
-    .filter(|_| flags.chars().all(|flag| "blas".contains(flag)))
+    .filter(|_| flags.chars().all(|flag| "blasr".contains(flag)))
 }
 
 fn main() -> io::Result<ExitCode> {
@@ -67,7 +69,12 @@ fn main() -> io::Result<ExitCode> {
         rows: 0,
         bytes: Vec::new(),
     };
-    let answer = decode(&data, &mut bitmap, &mut DecoderContext::new(settings));
+    let mut context = DecoderContext::new(settings);
+    let answer = if words[3].contains('r') {
+        decode_low_first(&data, &mut bitmap, &mut context)
+    } else {
+        decode(&data, &mut bitmap, &mut context)
+    };
 
     let mut out = io::stdout().lock();
     write!(out, "P4\n{} {}\n", bitmap.columns, bitmap.rows)?;

@@ -8,6 +8,8 @@ pub(crate) const INVALID_CODE: u32 = 2;
 pub(crate) const OVERFLOW: u32 = 3;
 pub(crate) const OUT_OF_MEMORY: u32 = 4;
 
+const LOW_FIRST: u32 = 16;
+
 /// `hayro_ccitt_settings`.
 #[repr(C)]
 pub(crate) struct Settings {
@@ -37,6 +39,16 @@ impl From<&DecodeSettings> for Settings {
                 .iter()
                 .rev()
                 .fold(0, |sum, flag| sum * 2 + u32::from(*flag)),
+        }
+    }
+}
+
+impl Settings {
+    /// The same, with each byte's lowest bit first.
+    pub(crate) fn low_first(self) -> Self {
+        Self {
+            flags: self.flags | LOW_FIRST,
+            ..self
         }
     }
 }

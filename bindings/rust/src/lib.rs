@@ -26,16 +26,33 @@ use core::fmt;
 /// # Errors
 /// As the variants of [`DecodeError`] say. Where memory ends, the program ends, as with a `Vec`.
 pub fn decode(data: &[u8], decoder: &mut impl Decoder, ctx: &mut DecoderContext) -> Result<usize> {
-    let settings = c::Settings::from(&ctx.settings);
+    decode_by(data, decoder, &c::Settings::from(&ctx.settings))
+}
+
+/// Decodes as [`decode`] does, with the lowest bit of each byte first, as TIFF's FillOrder 2 has it. The Rust crate has no such
+/// call.
+///
+/// # Errors
+/// Those of [`decode`].
+pub fn decode_low_first(
+    data: &[u8],
+    decoder: &mut impl Decoder,
+    ctx: &mut DecoderContext,
+) -> Result<usize> {
+    let settings = c::Settings::from(&ctx.settings).low_first();
+    decode_by(data, decoder, &settings)
+}
+
+fn decode_by(data: &[u8], decoder: &mut impl Decoder, settings: &c::Settings) -> Result<usize> {
     // The rows are counted first, which says how many numbers they take.
-    let (answer, counted) = c::measure(data, &settings);
+    let (answer, counted) = c::measure(data, settings);
     let numbers = numbers_of(&counted);
     let mut lists = Vec::new();
     if answer == c::OUT_OF_MEMORY || lists.try_reserve_exact(numbers).is_err() {
         no_memory(numbers);
     }
     lists.resize(numbers, 0);
-    let (answer, outcome) = c::decode_changes(data, &settings, &mut lists);
+    let (answer, outcome) = c::decode_changes(data, settings, &mut lists);
 
     let mut rest = &lists[..];
     for _ in 0..outcome.rows {

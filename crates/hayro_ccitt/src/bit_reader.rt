@@ -18,15 +18,14 @@ pub enum BitOrder {
     LowestFirst,
 }
 
-/// The bits of some bytes, in either order, and a place among them.
-///
-/// The next bits stand in a window, the first in its highest position, zeros past the end: all that are at most 32
-/// behind the limit. The place never passes the limit, so that the window has the next 32 at least.
+/// The bits of some bytes, in either order, and a place among them, counted in bits from 0. No call takes memory.
 #[derive(Clone, Drop)]
 pub struct BitReader<'a> {
     data: &'a [u8],
     place: usize,
+    /// The place never passes the limit, so that the window has the next 32 bits at least.
     limit: usize,
+    /// The next bits, the first in the highest position, zeros past the end: all that are at most 32 behind the limit.
     window: u64,
     order: BitOrder,
 }
@@ -226,7 +225,7 @@ impl<'a> BitReader<'a> {
         Ok(())
     }
 
-    /// Moves to the next whole byte, if the place is not at one.
+    /// Moves to the start of the next whole byte, if the place is not at one: at most seven bits on.
     pub fn align(&mut self)
         ensures moved { self.new ≡ record self.old { place = (self.old.place + 7) / 8 * 8 } }
         ensures rest { here self.new ≡ aligned (here self.old) }

@@ -56,7 +56,7 @@ pub fn change_or_end(changes: &[u32], index: usize, columns: u32) -> u32
 }
 
 /// Adds so many pixels of a colour to the changes of a front, of which so many are painted. A change is stored
-/// only where the last pixel has another colour. After a refusal nothing is changed.
+/// only where the last pixel has another colour. After an error nothing is changed.
 #[inline(always)]
 pub fn append_pixels(changes: &mut Vec<u32>, painted: u32, color: Color, count: u32) -> Result<()>
     requires { AreChanges painted changes.old.items }

@@ -16,7 +16,9 @@ use std::alloc::Global;
 use std::marker::Model;
 use std::mem;
 
-/// What decoding keeps: one context may decode any number of images, one after another.
+/// What decoding keeps: the settings, the reference row and the coding row (T.4 section 4.2.1.1), how many rows were
+/// taken, and the look-ups of the code words. One context may decode any number of images with the same settings, one
+/// after another.
 #[derive(Drop)]
 pub struct DecoderContext {
     ref_changes: Vec<u32>,
@@ -51,8 +53,12 @@ impl DecoderContext {
     ghost use Rattle.hayro_ccitt.specs.Lending.{LendsTicks};
     ghost use Rattle.hayro_ccitt.specs.Settings.{AreSettings};
 
-    /// A context for images with these settings: a white reference row, nothing painted, no row taken. Its only
-    /// refusal is `OutOfMemory`, and nothing is made then.
+    /// A context for images with these settings: a white reference row, nothing painted, no row taken. All settings are
+    /// taken, 0 and 4294967295 columns too. Its only error is `OutOfMemory`, and nothing is made then.
+    ///
+    /// ```text
+    /// let mut ctx = DecoderContext::new(rt.alloc(), settings)?;
+    /// ```
     pub fn new(alloc: Global, settings: DecodeSettings) -> Result<DecoderContext>
         ensures made { IfOk result (λ ctx. ctx ≡ record { held = fresh settings; passed = 0; ticks = 0 }) }
         ensures only_memory { IsOkUnless result DecodeError.OutOfMemory }
@@ -82,28 +88,30 @@ impl DecoderContext {
         self.settings
     }
 
-    /// The number of rows that were taken since the context was made or last reset.
+    /// The number of rows that the sink took since the context was made or last reset: after
+    /// [`decode`](crate::decode), which resets it, those of that image, also where it answered an error.
     pub fn decoded_rows(&self) -> u64
         ensures { result ≡ self.now.held.taken }
     {
         self.decoded_rows
     }
 
-    /// Whether the data has EOLs between its lines.
+    /// Whether EOLs are sought between the lines of Group 3 (T.4 section 4.1.2): at first where `end_of_line` is set or
+    /// EOLs stand at the front of the data, and no longer once none is left. After Group 4 it is false.
     pub fn has_eols(&self) -> bool
         ensures { result ≡ self.now.held.has_eols }
     {
         self.has_eols
     }
 
-    /// Sets whether the data has EOLs between its lines. All else stands.
+    /// Sets whether EOLs are sought between the lines. All else stands.
     pub fn set_has_eols(&mut self, has_eols: bool)
         ensures frame { self.new ≡ record self.old { held = record self.old.held { has_eols = has_eols } } }
     {
         self.has_eols = has_eols;
     }
 
-    /// Lends the count of work. All else stands.
+    /// Lends the count of work, for calls that count. A program can't read it; contracts see a number. All else stands.
     pub fn ticks(&mut self) -> &mut Ticks
         ensures* writes_back { sem 𝓛 (LendsTicks self.entry result) }
         ensures value { result.now ≡ self.old.ticks }
@@ -152,7 +160,7 @@ impl DecoderContext {
 
     /// Paints so many pixels of the present colour at the end of the front. More than the row has room for are
     /// cut off at its end; in strict data they are `InvalidCode`. `OutOfMemory` comes only where a change is
-    /// stored, so where the colour of the last pixel differs. After a refusal nothing is changed.
+    /// stored, so where the colour of the last pixel differs. After an error nothing is changed.
     #[inline(always)]
     pub fn push_pixels(&mut self, count: u32) -> Result<()>
         ensures painted { OnOk result (painted_front self.old.held count ≡ Ok self.new.held.front) }

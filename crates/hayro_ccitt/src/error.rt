@@ -4,17 +4,17 @@ ghost use Rattle.hayro_ccitt.specs.Texts.{text_of};
 use std::alloc::{AllocError, AllocFailed};
 use std::fmt;
 
-/// Why decoding ended without a count of bytes.
+/// Why decoding ended without a count of bytes. The first three are faults of the data.
 #[derive(Debug, Clone, Copy, PartialEq, Eq)]
 pub enum DecodeError {
     /// The data ends inside a code word, or where a line or a tag bit has to begin.
     UnexpectedEof,
     /// No code word stands at a place, or strict data breaks a rule.
     InvalidCode,
-    /// The length of a run or a place in a row is not a number of 32 bits, or a place is left of the
+    /// A run is 2^32 pixels or longer, or a vertical mode leads to a place of 2^32 or more, below 0, or left of the
     /// pixels painted.
     Overflow,
-    /// There was no memory for a change of a row.
+    /// There was no memory: for a change of a row, or for a new context.
     OutOfMemory,
     /// The sink refused a row.
     Refused,

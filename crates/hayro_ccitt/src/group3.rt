@@ -83,9 +83,9 @@ fn is_over(ctx: &DecoderContext, reader: &BitReader<'_>, count: usize) -> bool
     at_rtc || at_limit || at_end
 }
 
-/// What stands behind a row (T.4 sections 4.1.2 and 4.1.4): counts the EOLs there, and answers whether the image
-/// ends. Where none came although the data has EOLs, the next one is looked for, and where none is left EOLs are
-/// given up; strict data is then at fault, which is `InvalidCode`. It takes no memory. Each bit that is looked at is a
+/// Whether the image ends behind a row (T.4 sections 4.1.2 and 4.1.4): true at RTC, the row limit or the end of the
+/// data. It counts the EOLs there. Where none came although the data has EOLs, the next one is looked for, and where
+/// none is left EOLs are given up; strict data is then at fault, which is `InvalidCode`. It takes no memory. Each bit that is looked at is a
 /// tick: one that is passed at most four times.
 pub fn check_eob(ctx: &mut DecoderContext, reader: &mut BitReader<'_>) -> Result<bool>
     requires encoding { ctx.old.held.settings.encoding ≢ EncodingMode.Group4 }

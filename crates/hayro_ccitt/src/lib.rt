@@ -1,7 +1,12 @@
 //! A decoder for CCITT fax images: ITU-T T.4 (Group 3, one- and two-dimensional) and T.6 (Group 4).
 //!
-//! [`decode`] takes the encoded bytes and a [`DecoderContext`], and hands each row as a list of colour changes to
-//! a [`Decoder`].
+//! [`decode`] takes the encoded bytes and a [`DecoderContext`], made with the [`DecodeSettings`] that belong to them,
+//! and hands each row as a list of colour changes to a [`Decoder`]. It answers how many bytes were read. Data from
+//! strangers does no harm: every call returns, and what is wrong with the data is a [`DecodeError`].
+//!
+//! The modules are the decoder's parts, for drivers of one's own: [`bit_reader`] and [`codes`] read bits, code words
+//! and EOLs, [`context`] draws lines, [`group3`] and [`group4`] run over rows, and [`laws`] states what holds of the
+//! data whatever program reads them.
 #![tactic(auto)]
 
 ghost use Rattle.std.specs.Prelude.{◌≡◌, ◌*◌, ◌<◌, ◌≤◌, ◌↔◌, ◌⊎◌, ℕ, List, Bool, true, false, OnOk, OnErr, IfOk, Ok, IsOk, IsOkUnless, IsTrue, length, take};
@@ -34,7 +39,11 @@ pub use error::{DecodeError, Result};
 pub use locality::body_is_local;
 pub use settings::{DecodeSettings, EncodingMode};
 
-/// A sink for the rows of an image.
+/// A sink for the rows of an image. [`decode`] calls `push_row` once for each row, from the top.
+///
+/// Ghost members say what the sink comes to (`meaning`), and how a row changes that (`step`): what it means after
+/// [`decode`] is its step folded over the rows that were taken. `fax_encode::BitmapSink`, which packs rows, is one to
+/// copy.
 pub trait Decoder {
     /// What the rows that the sink took come to.
     ghost Meaning: { Type 0 };
@@ -45,16 +54,19 @@ pub trait Decoder {
     /// From the width, a meaning and a row's changes to the meaning with that row.
     ghost step: { ℕ → Meaning → List ℕ → Meaning };
 
-    /// The largest number of columns that the sink takes.
+    /// The largest number of columns, in pixels, that the sink takes.
     ghost width: { Self → ℕ };
 
     /// Whether the sink has refused a row.
     ghost has_refused: { Self → Bool };
 
-    /// Takes a row: the places at which its colour changes, in strictly ascending order and each below the
-    /// width. Each row starts white, so the pixels from `changes[0]` up to `changes[1]` are black, those from
-    /// `changes[2]` up to `changes[3]` again, and so on; after an odd number of changes the row ends black. The
-    /// only refusal is `Refused`, and then the sink means what it meant before.
+    /// Takes a row of pixels, given by its changes: the places, counted from 0 at the left, at which the colour
+    /// changes (T.4 section 4.2.1.1), in strictly ascending order and each below the width. Each row starts white, so
+    /// the pixels from `changes[0]` up to `changes[1]` are black, those from `changes[2]` up to `changes[3]` again, and
+    /// so on; after an odd number of changes the row ends black. Its only error is `Refused`, and then the sink means
+    /// what it meant before.
+    ///
+    /// A row of 8 pixels of which 3 and 4 are black is `[3, 5]`; a white one is `[]`, a black one `[0]`.
     fn push_row(&mut self, changes: &[u32]) -> Result<()>
         requires { AreChanges (width self.old) changes.now }
         ensures same_width { width self.new ≡ width self.old }
@@ -65,7 +77,8 @@ pub trait Decoder {
         ensures only_refused { IsOkUnless result DecodeError.Refused };
 }
 
-/// Whether eight times the length and 64 more fit in a `usize`, as [`decode`] requires of its data.
+/// Whether eight times the length and 64 more fit in a `usize`, as [`decode`] requires of its data: whether it has at
+/// most `(usize::MAX - 64) / 8` bytes, which no memory of 64 bits exceeds.
 pub fn bits_fit(data: &[u8]) -> bool
     ensures { IsTrue result ↔ BitsFit «data».now }
 {
@@ -152,13 +165,44 @@ fn decode_bits<D: Decoder>(
     Ok(reader.byte_pos())
 }
 
-/// Decodes an image: hands its rows to the sink, and answers how many bytes were read. Each byte's
-/// highest bit comes first. The context is reset first, so what it decoded before doesn't matter.
+/// Decodes an image: hands its rows to the sink, and answers how many bytes were read, the last one whole. Each byte's
+/// highest bit comes first. The context is reset first, so what it decoded before doesn't matter; after any answer it
+/// may be used again.
 ///
-/// `UnexpectedEof`, `InvalidCode` and `Overflow` say that the data is at fault; the rows before stand.
-/// `OutOfMemory` comes only while a change of a row is stored, so in a line that paints a black pixel, and
-/// `Refused` only where the sink refuses a row.
-/// After any answer the context may be used again.
+/// The image ends at EOFB or RTC with `end_of_block` (T.6 section 2.4.1.1, T.4 section 4.1.4), at the row limit, or at
+/// the end of the data, whichever comes first.
+///
+/// # Errors
+///
+/// - `UnexpectedEof`, `InvalidCode` and `Overflow` say that the data is at fault. All rows before the fault were handed
+///   over. A lenient reading of Group 3 with EOLs repairs a damaged line instead, and goes on at the next EOL (T.4
+///   section 4.1.2).
+/// - `OutOfMemory` comes only while a change of a row is stored, so in a line that paints a black pixel.
+/// - `Refused` comes only where the sink refuses a row.
+///
+/// After the last two the rows handed over are the first of the image's; [`DecoderContext::decoded_rows`] is their
+/// number.
+///
+/// # Example
+///
+/// In Group 4 with 8 columns and `end_of_block` the bytes 31 C0 04 00 40 are 001 1000 11 1, which is horizontal mode, 3
+/// white pixels, 2 black ones and a vertical mode, and then EOFB. The sink takes one row, `[3, 5]`, and the answer is
+/// `Ok(5)`:
+///
+/// ```text
+/// let settings = DecodeSettings {
+///     columns: 8,
+///     rows: 0,
+///     end_of_block: true,
+///     end_of_line: false,
+///     rows_are_byte_aligned: false,
+///     encoding: EncodingMode::Group4,
+///     strict: false,
+/// };
+/// let mut ctx = DecoderContext::new(alloc, settings)?;
+/// let mut sink = BitmapSink::new(alloc, 8);
+/// let count = decode(&[0x31, 0xC0, 0x04, 0x00, 0x40], &mut sink, &mut ctx)?;
+/// ```
 pub fn decode<D: Decoder>(data: &[u8], decoder: &mut D, ctx: &mut DecoderContext) -> Result<usize>
     requires fit { BitsFit «data».now }
     requires width { ctx.old.held.settings.columns ≤ D.width decoder.old }
@@ -204,7 +248,8 @@ pub fn decode<D: Decoder>(data: &[u8], decoder: &mut D, ctx: &mut DecoderContext
 /// Decodes an image as [`decode`] does, but with each byte's lowest bit first: TIFF's FillOrder 2, and what most fax modems
 /// hold. The data need not be reversed before.
 ///
-/// Rows, answers and refusals are those of [`decode`] over these bits.
+/// Rows, answers and errors are those of [`decode`] over these bits. So 8C 03, which is 31 C0 with each byte's bits in
+/// the other order, is the row `[3, 5]` of 8 columns.
 pub fn decode_low_first<D: Decoder>(
     data: &[u8],
     decoder: &mut D,

@@ -262,7 +262,7 @@ pub fn arrays_are_the_lists()
 /// The number of bits of the longest code word, by which run codes are looked up.
 pub const LOOKUP_BITS: u32 = 13;
 
-/// The run length that stands in a look-up where no code word does.
+/// The run length that stands in a look-up where no code word does. No run of the tables is as long: the longest is 2560.
 pub const LOOKUP_INVALID: u16 = 0xFFF;
 
 /// The number of entries of a look-up, one for each thirteen bits.
@@ -350,7 +350,7 @@ fn put_words(entries: &mut Vec<u16>, words: &[(u16, u8, u16)])
     }
 }
 
-/// The look-up of a colour: of its terminating words, its make-up words and the common make-up words. The only refusal
+/// The look-up of a colour: of its terminating words, its make-up words and the common make-up words. The only error
 /// is `OutOfMemory`.
 pub fn build_lookup(
     alloc: Global,
@@ -389,7 +389,7 @@ impl Model for Tables {
 }
 
 impl Tables {
-    /// The tables of both colours. The only refusal is `OutOfMemory`, and nothing is made then.
+    /// The tables of both colours. The only error is `OutOfMemory`, and nothing is made then.
     pub fn new(alloc: Global) -> Result<Tables>
         ensures entries { IfOk result (λ tables. AreOfColors tables) }
         ensures only_memory { IsOkUnless result DecodeError.OutOfMemory }
