@@ -281,7 +281,7 @@ fn every_small_picture(rt: HostRuntime) -> Result<(), Fail> {
 }
 
 /// Names a request for memory: of those from now on the one with this number, from 1, is to be refused. Where
-/// `checks/refuse_named.c` is loaded, as `checks/refusals.py` does, that request alone is refused, and else none is.
+/// `checks/refuse_named.c` is loaded, as `checks/built_tests.py` does, that request alone is refused, and else none is.
 fn refuse_request(alloc: Global, number: usize)
     requires { number < 4096 }
 {

@@ -1,5 +1,5 @@
 //! Memory that is refused. A test names the request that is to be refused; where `checks/refuse_named.c` is loaded
-//! before it, as `checks/refusals.py` does, that request alone is refused, and else none is.
+//! before it, as `checks/built_tests.py` does, that request alone is refused, and else none is.
 
 ghost use Rattle.std.specs.Prelude.{◌≡◌, ◌<◌};
 
@@ -88,7 +88,7 @@ fn decodes_known(
     ensures { ctx.new.held.settings ≡ ctx.old.held.settings }
 {
     assert!(rt; bits_fit(data));
-    let mut sink = sink_for(ctx.settings().columns, rows);
+    let mut sink = sink_for(ctx.settings().columns, &*rows);
     assert_eq!(rt; decode(data, &mut sink, ctx), answer);
     assert_eq!(rt; sink.taken, rows.len());
     assert_eq!(rt; ctx.decoded_rows(), rows.len() as u64);
@@ -108,7 +108,7 @@ fn refuses_each_request(
         let Ok(mut ctx) = DecoderContext::new(rt.alloc(), settings) else {
             panic!(rt; "no memory");
         };
-        let mut sink = sink_for(settings.columns, rows);
+        let mut sink = sink_for(settings.columns, &*rows);
         refuse_request(rt.alloc(), number);
         let found = decode(data, &mut sink, &mut ctx);
         if !was_refused(rt.alloc()) {
@@ -129,7 +129,9 @@ fn refuses_each_row(
     settings: DecodeSettings,
     data: &[u8],
     rows: &[&[u32]],
-    next: (&[u8], &[&[u32]], Result<usize>),
+    next: &[u8],
+    next_rows: &[&[u32]],
+    next_answer: Result<usize>,
 ) {
     assert!(rt; bits_fit(data));
     for count in 0..rows.len() {
@@ -139,7 +141,7 @@ fn refuses_each_row(
         let mut sink = sink_for(settings.columns, &rows[..count]);
         assert_eq!(rt; decode(data, &mut sink, &mut ctx), Err(Refused));
         assert_eq!(rt; (sink.taken, ctx.decoded_rows()), (count, count as u64));
-        decodes_known(rt, &mut ctx, next.0, next.1, next.2);
+        decodes_known(rt, &mut ctx, next, next_rows, next_answer);
     }
 }
 
@@ -170,7 +172,9 @@ fn refused_rows(rt: HostRuntime) -> std::result::Result<(), Fail> {
         settings,
         &copied,
         two,
-        (&[0x31, 0xC6], then_white, Ok(2)),
+        &[0x31, 0xC6],
+        then_white,
+        Ok(2),
     );
 
     let tagged = bytes_of(rt.alloc(), "001C70002E00231C006003001800C0060030")?;
@@ -179,7 +183,7 @@ fn refused_rows(rt: HostRuntime) -> std::result::Result<(), Fail> {
     refuses_each_request(&rt, settings, &tagged, three, Ok(18));
     let white = bytes_of(rt.alloc(), "001CC005001800C006003001800C")?;
     let two_white: &[&[u32]] = &[&[], &[]];
-    refuses_each_row(&rt, settings, &tagged, three, (&white, two_white, Ok(14)));
+    refuses_each_row(&rt, settings, &tagged, three, &white, two_white, Ok(14));
 
     let damaged = bytes_of(rt.alloc(), "0019800C400033")?;
     let repaired: &[&[u32]] = &[&[], &[3, 6], &[]];
@@ -187,7 +191,7 @@ fn refused_rows(rt: HostRuntime) -> std::result::Result<(), Fail> {
     refuses_each_request(&rt, settings, &damaged, repaired, Ok(7));
     let sound = bytes_of(rt.alloc(), "0019800C700033")?;
     let read: &[&[u32]] = &[&[], &[3, 5], &[]];
-    refuses_each_row(&rt, settings, &damaged, repaired, (&sound, read, Ok(7)));
+    refuses_each_row(&rt, settings, &damaged, repaired, &sound, read, Ok(7));
     Ok(())
 }
 
@@ -201,7 +205,7 @@ fn refused_growths_of_a_row(rt: HostRuntime) -> std::result::Result<(), Fail> {
     let data = repeated(rt.alloc(), &[0x23, 0xA2, 0x3A], 1024, &[])?;
     let settings = group_4(4096, 1, "");
     refuses_each_request(&rt, settings, &data, &[&changes], Ok(3072));
-    refuses_each_row(&rt, settings, &data, &[&changes], (&[0x80], &[&[]], Ok(1)));
+    refuses_each_row(&rt, settings, &data, &[&changes], &[0x80], &[&[]], Ok(1));
     Ok(())
 }
 
@@ -255,22 +259,27 @@ fn calls_without_memory(rt: HostRuntime) -> std::result::Result<(), Fail> {
 #[test]
 fn white_rows_without_memory(rt: HostRuntime) -> std::result::Result<(), Fail> {
     let white: [&[u32]; 3] = [&[]; 3];
-    for (settings, digits, count, answer) in [
-        (group_4(8, 3, ""), "E0", 3, Ok(1)),
-        (group_4(u32::MAX, 0, "b"), "80080080", 1, Ok(4)),
-        (group_3_1d(8, 0, "b"), "001980080080080080080080", 1, Ok(12)),
-        (group_3_1d(8, 0, "l"), "0019800C000033", 3, Ok(7)),
+    for (settings, digits, rows, answer) in [
+        (group_4(8, 3, ""), "E0", &white[..], Ok(1)),
+        (group_4(u32::MAX, 0, "b"), "80080080", &white[..1], Ok(4)),
+        (
+            group_3_1d(8, 0, "b"),
+            "001980080080080080080080",
+            &white[..1],
+            Ok(12),
+        ),
+        (group_3_1d(8, 0, "l"), "0019800C000033", &white[..], Ok(7)),
         (
             group_3_2d(8, 0, "b"),
             "001CC005001800C006003001800C",
-            2,
+            &white[..2],
             Ok(14),
         ),
     ] {
         let data = bytes_of(rt.alloc(), digits)?;
         let mut ctx = DecoderContext::new(rt.alloc(), settings)?;
         refuse_request(rt.alloc(), 1);
-        decodes_known(&rt, &mut ctx, &data, &white[..count], answer);
+        decodes_known(&rt, &mut ctx, &data, rows, answer);
         assert!(rt; !was_refused(rt.alloc()), "{digits}");
     }
     Ok(())
