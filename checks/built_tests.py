@@ -20,22 +20,31 @@ NAMED = {
 }
 
 
-def is_newest(program):
-    """Whether a program was built after each file of the crates was written."""
-    if not os.path.exists(program):
+def with_libraries(crate):
+    """A crate and the libraries of the repository below it."""
+    with open("crates.txt", encoding="utf-8") as file:
+        lines = [line.split(":") for line in file if not line.startswith("#")]
+    libraries = next(names.split() for name, names in lines if name.split()[0] == crate)
+    return [crate, *libraries]
+
+
+def is_newest(path, crate):
+    """Whether a file was built after all that it is built from was written."""
+    if not os.path.exists(path):
         return False
-    built = os.path.getmtime(program)
-    for folder, folders, files in os.walk("crates"):
-        folders[:] = [name for name in folders if name not in ("out", "must-fail")]
-        if any(os.path.getmtime(f"{folder}/{name}") > built for name in files):
-            return False
+    built_at = os.path.getmtime(path)
+    for name in with_libraries(crate):
+        for part in ("src", "specs", "proofs"):
+            for folder, _, files in os.walk(f"crates/{name}/{part}"):
+                if any(os.path.getmtime(f"{folder}/{file}") > built_at for file in files):
+                    return False
     return True
 
 
 def built(crate):
     """The tests of a crate as a program. The gate builds them; they are proved and built here where a file is newer."""
     path = f"crates/{crate}/out/{crate}_tests"
-    if not is_newest(path):
+    if not is_newest(path, crate):
         done = subprocess.run(["rt", "test"], cwd=f"crates/{crate}", capture_output=True, text=True, check=False)
         assert done.returncode == 0 and os.path.exists(path), done.stdout[-2000:] + done.stderr[-2000:]
     return path
