@@ -16,8 +16,10 @@ static int was_met;
 
 static int refuses(size_t size) {
     if (size == BASE) {
+        const int met = was_met;
         awaited = 0;
-        return was_met;
+        was_met = 0;
+        return met;
     }
     if (size > BASE && size < BASE + MOST) {
         awaited = size - BASE;
