@@ -7,6 +7,7 @@ import traceback
 os.chdir(os.path.join(os.path.dirname(os.path.abspath(__file__)), ".."))
 sys.dont_write_bytecode = True
 
+import built_tests  # noqa: E402
 import c_library  # noqa: E402
 import cost  # noqa: E402
 import cuts  # noqa: E402
@@ -36,7 +37,7 @@ def build():
 def main():
     passed = failed = 0
     build()
-    checks = [repository, program, c_library, refusals, devices, cuts, hostile, users, cost]
+    checks = [repository, program, built_tests, c_library, refusals, devices, cuts, hostile, users, cost]
     for check in [check for module in checks for check in module.CHECKS]:
         try:
             check()

@@ -15,6 +15,7 @@ use crate::group3::put_eol;
 use crate::rows::first_unlawful;
 use crate::runs::{put_run, put_word};
 use crate::words::{horizontal_word, pass_word, vertical_word};
+use hayro_ccitt::changes::change_or_end;
 use hayro_ccitt::codes::Color;
 use std::alloc::{AllocError, Global};
 
@@ -47,13 +48,6 @@ fn count_left(changes: &[u32], known: usize, from: u64) -> usize
         left += 1;
     }
     left
-}
-
-/// The change of an index, or the row's end where there is none.
-fn change_or_end(changes: &[u32], index: usize, columns: u32) -> u32
-    ensures { result ≡ get_or changes.now index columns }
-{
-    changes.get(index).copied().unwrap_or(columns)
 }
 
 /// a1 and a2 of a row (T.4, section 4.2.1.1).

@@ -1,9 +1,10 @@
 //! What was encoded, decoded into a bitmap.
 
-ghost use Rattle.std.specs.Prelude.{◌≡◌, map, IfOk};
+ghost use Rattle.std.specs.Prelude.{◌≡◌, ◌≢◌, ◌<◌, ◌↔◌, ℕ, map, Err, IfOk};
 ghost use Rattle.hayro_ccitt.specs.Bits.{bits_of};
 ghost use Rattle.fax_encode.specs.Chosen.{rows_of};
 ghost use Rattle.fax_encode.specs.Packed.{packed};
+ghost use Rattle.fax_encode.specs.Refusals.{IsFirstUnlawful};
 
 use crate::{BitmapSink, EncodeError, encode_g4};
 use hayro_ccitt::{DecodeSettings, DecoderContext, EncodingMode, bits_fit, decode};
@@ -17,7 +18,11 @@ pub fn bitmap_by_group4(
     rows: &[Vec<u32>],
     aligned: bool,
 ) -> std::result::Result<BitmapSink, EncodeError>
-    ensures { IfOk result (λ sink. bits_of sink.bytes ≡ packed (rows_of columns (map (λ row. row.items) rows.now))) }
+    ensures no_columns { (result ≡ Err EncodeError.NoColumns) ↔ (columns ≡ 0) }
+    ensures not_a_row { (k : ℕ) → (result ≡ Err (EncodeError.NotARow k))
+        ↔ ((0 < columns) × IsFirstUnlawful columns (map (λ row. row.items) rows.now) k) }
+    ensures no_rows { result ≢ Err EncodeError.NoRows }
+    ensures packed { IfOk result (λ sink. bits_of sink.bytes ≡ packed (rows_of columns (map (λ row. row.items) rows.now))) }
 {
     let encoded = encode_g4(alloc, columns, rows, aligned)?;
     let data = encoded.as_slice();

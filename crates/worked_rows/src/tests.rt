@@ -9,6 +9,7 @@ mod group3;
 mod local_bodies;
 mod look_ups;
 mod most_work;
+mod refused_memory;
 
 use hayro_ccitt::DecodeError::{InvalidCode, OutOfMemory, Overflow, Refused, UnexpectedEof};
 use hayro_ccitt::bit_reader::BitReader;

@@ -1,0 +1,77 @@
+"""Checks of the built tests: those that name a request for memory, on memory that refuses it."""
+import os
+import re
+import subprocess
+import tempfile
+
+# Of each crate the tests that name requests: how often each names one, and how many of them were made, and so refused. All
+# others name none. A test that wants each request refused in turn names one more than there are.
+NAMED = {
+    "fax_encode": {"tests::refused_memory": (18, 15), "tests::sink_without_memory": (1, 0)},
+    "faxrows": {"tests::sink_without_memory": (1, 0)},
+    "worked_rows": {
+        "tests::refused_memory::calls_without_memory": (1, 0),
+        "tests::refused_memory::refused_bodies": (2, 1),
+        "tests::refused_memory::refused_contexts": (3, 2),
+        "tests::refused_memory::refused_growths_of_a_row": (12, 11),
+        "tests::refused_memory::refused_rows": (8, 5),
+        "tests::refused_memory::white_rows_without_memory": (5, 0),
+    },
+}
+
+
+def with_libraries(crate):
+    """A crate and the libraries of the repository below it."""
+    with open("crates.txt", encoding="utf-8") as file:
+        lines = [line.split(":") for line in file if not line.startswith("#")]
+    libraries = next(names.split() for name, names in lines if name.split()[0] == crate)
+    return [crate, *libraries]
+
+
+def is_newest(path, crate):
+    """Whether a file was built after all that it is built from was written."""
+    if not os.path.exists(path):
+        return False
+    built_at = os.path.getmtime(path)
+    for name in with_libraries(crate):
+        for part in ("src", "specs", "proofs"):
+            for folder, _, files in os.walk(f"crates/{name}/{part}"):
+                if any(os.path.getmtime(f"{folder}/{file}") > built_at for file in files):
+                    return False
+    return True
+
+
+def built(crate):
+    """The tests of a crate as a program. The gate builds them; they are proved and built here where a file is newer."""
+    path = f"crates/{crate}/out/{crate}_tests"
+    if not is_newest(path, crate):
+        done = subprocess.run(["rt", "test"], cwd=f"crates/{crate}", capture_output=True, text=True, check=False)
+        assert done.returncode == 0 and os.path.exists(path), done.stdout[-2000:] + done.stderr[-2000:]
+    return path
+
+
+def refused_memory_in_tests():
+    """Each test with the requests that it names refused: it passes, and exactly so many are refused."""
+    seen = refused = 0
+    with tempfile.TemporaryDirectory() as folder:
+        shim = f"{folder}/refuse_named.so"
+        subprocess.run(["gcc", "-shared", "-fPIC", "-o", shim, "checks/refuse_named.c", "-ldl"], check=True)
+        for crate, expected in NAMED.items():
+            tests = built(crate)
+            listed = subprocess.run([tests, "--list"], capture_output=True, text=True, check=True).stdout
+            names = re.findall(r"^(\S+): test$", listed, re.MULTILINE)
+            found = {}
+            for name in names:
+                done = subprocess.run([tests, name], env={**os.environ, "LD_PRELOAD": shim}, capture_output=True, text=True, check=False, timeout=60)
+                assert done.returncode == 0 and "test result: ok" in done.stdout, (crate, name, done.stdout, done.stderr)
+                counts = tuple(map(int, re.fullmatch(r"(\d+) named, (\d+) refused\n", done.stderr).groups()))
+                if counts != (0, 0):
+                    found[name] = counts
+                refused += counts[1]
+                seen += 1
+            assert found == expected, (crate, found)
+    assert refused > 0
+    print(f"  {seen} tests, {refused} requests refused in turn")
+
+
+CHECKS = [refused_memory_in_tests]

@@ -1,0 +1,286 @@
+//! Memory that is refused. A test names the request that is to be refused; where `checks/refuse_named.c` is loaded
+//! before it, as `checks/built_tests.py` does, that request alone is refused, and else none is.
+
+ghost use Rattle.std.specs.Prelude.{◌≡◌, ◌<◌};
+
+use super::{bytes_of, group_3_1d, group_3_2d, group_4, repeated};
+use hayro_ccitt::DecodeError::{OutOfMemory, Refused};
+use hayro_ccitt::bit_reader::BitReader;
+use hayro_ccitt::context::decode_2d_line;
+use hayro_ccitt::{
+    DecodeSettings, Decoder, DecoderContext, Result, bits_fit, body_is_local, decode,
+};
+use std::alloc::{AllocGlobal, Global};
+use std::process::Abort;
+use std::test::Fail;
+
+/// More requests than any call here makes.
+const MANY: usize = 100;
+
+/// Names a request: of those from now on the one with this number, from 1, is to be refused.
+fn refuse_request(alloc: Global, number: usize)
+    requires { number < 4096 }
+{
+    let _ = Vec::<u8>::with_capacity(alloc, (1 << 20) + number);
+}
+
+/// Whether the named request was made, and refused. From now on none is refused.
+fn was_refused(alloc: Global) -> bool {
+    Vec::<u8>::with_capacity(alloc, 1 << 20).is_err()
+}
+
+/// A sink for known rows, which takes no memory. It refuses any other row, and what comes after the last.
+#[derive(Drop)]
+struct Known<'a> {
+    columns: u32,
+    rows: &'a [&'a [u32]],
+    taken: usize,
+    has_refused: bool,
+}
+
+impl Decoder for Known<'_> {
+    ghost use Rattle.std.specs.Prelude.{ℕ, ◌+◌};
+
+    ghost Meaning = { ℕ };
+
+    ghost meaning = { λ s. s.taken };
+
+    ghost step = { λ _ taken _. taken + 1 };
+
+    ghost width = { λ s. s.columns };
+
+    ghost has_refused = { λ s. s.has_refused };
+
+    fn push_row(&mut self, changes: &[u32]) -> Result<()> {
+        match self.rows.get(self.taken) {
+            Some(row) if *row == changes => {
+                self.taken += 1;
+                Ok(())
+            }
+            _ => {
+                self.has_refused = true;
+                Err(Refused)
+            }
+        }
+    }
+}
+
+/// A sink for these rows.
+fn sink_for<'a>(columns: u32, rows: &'a [&'a [u32]]) -> Known<'a>
+    ensures { result.columns ≡ columns }
+{
+    Known {
+        columns,
+        rows,
+        taken: 0,
+        has_refused: false,
+    }
+}
+
+/// Decodes in a context with memory, and compares the rows and the answer.
+fn decodes_known(
+    rt: &impl Abort,
+    ctx: &mut DecoderContext,
+    data: &[u8],
+    rows: &[&[u32]],
+    answer: Result<usize>,
+)
+    ensures { ctx.new.held.settings ≡ ctx.old.held.settings }
+{
+    assert!(rt; bits_fit(data));
+    let mut sink = sink_for(ctx.settings().columns, &*rows);
+    assert_eq!(rt; decode(data, &mut sink, ctx), answer);
+    assert_eq!(rt; sink.taken, rows.len());
+    assert_eq!(rt; ctx.decoded_rows(), rows.len() as u64);
+}
+
+/// Refuses each request of a decoding in turn: it answers want of memory after the first of the rows, and the same
+/// context then decodes the data whole.
+fn refuses_each_request(
+    rt: &(impl Abort + AllocGlobal),
+    settings: DecodeSettings,
+    data: &[u8],
+    rows: &[&[u32]],
+    answer: Result<usize>,
+) {
+    assert!(rt; bits_fit(data));
+    for number in 1..MANY {
+        let Ok(mut ctx) = DecoderContext::new(rt.alloc(), settings) else {
+            panic!(rt; "no memory");
+        };
+        let mut sink = sink_for(settings.columns, &*rows);
+        refuse_request(rt.alloc(), number);
+        let found = decode(data, &mut sink, &mut ctx);
+        if !was_refused(rt.alloc()) {
+            assert_eq!(rt; (found, sink.taken), (answer, rows.len()));
+            return;
+        }
+        assert_eq!(rt; found, Err(OutOfMemory), "request {number}");
+        assert!(rt; sink.taken < rows.len());
+        assert_eq!(rt; ctx.decoded_rows(), sink.taken as u64);
+        decodes_known(rt, &mut ctx, data, rows, answer);
+    }
+    panic!(rt; "each of {MANY} requests was refused");
+}
+
+/// Refuses each row in turn: the same context then decodes other data as a new one does.
+fn refuses_each_row(
+    rt: &(impl Abort + AllocGlobal),
+    settings: DecodeSettings,
+    data: &[u8],
+    rows: &[&[u32]],
+    next: &[u8],
+    next_rows: &[&[u32]],
+    next_answer: Result<usize>,
+) {
+    assert!(rt; bits_fit(data));
+    for count in 0..rows.len() {
+        let Ok(mut ctx) = DecoderContext::new(rt.alloc(), settings) else {
+            panic!(rt; "no memory");
+        };
+        let mut sink = sink_for(settings.columns, &rows[..count]);
+        assert_eq!(rt; decode(data, &mut sink, &mut ctx), Err(Refused));
+        assert_eq!(rt; (sink.taken, ctx.decoded_rows()), (count, count as u64));
+        decodes_known(rt, &mut ctx, next, next_rows, next_answer);
+    }
+}
+
+#[test]
+fn refused_contexts(rt: HostRuntime) {
+    for number in 1..MANY {
+        refuse_request(rt.alloc(), number);
+        let made = DecoderContext::new(rt.alloc(), group_4(8, 2, ""));
+        if !was_refused(rt.alloc()) {
+            assert!(rt; made.is_ok());
+            return;
+        }
+        assert_eq!(rt; made.err(), Some(OutOfMemory), "request {number}");
+    }
+    panic!(rt; "each of {MANY} requests was refused");
+}
+
+/// Two rows, the second a copy; three tagged lines and RTC; three lines, the second damaged.
+#[test]
+fn refused_rows(rt: HostRuntime) -> std::result::Result<(), Fail> {
+    let copied = [0x31, 0xF8];
+    let two: &[&[u32]] = &[&[3, 5], &[3, 5]];
+    let settings = group_4(8, 2, "");
+    refuses_each_request(&rt, settings, &copied, two, Ok(2));
+    let then_white: &[&[u32]] = &[&[3, 5], &[]];
+    refuses_each_row(
+        &rt,
+        settings,
+        &copied,
+        two,
+        &[0x31, 0xC6],
+        then_white,
+        Ok(2),
+    );
+
+    let tagged = bytes_of(rt.alloc(), "001C70002E00231C006003001800C0060030")?;
+    let three: &[&[u32]] = &[&[3, 5], &[3, 5], &[3, 5]];
+    let settings = group_3_2d(8, 0, "b");
+    refuses_each_request(&rt, settings, &tagged, three, Ok(18));
+    let white = bytes_of(rt.alloc(), "001CC005001800C006003001800C")?;
+    let two_white: &[&[u32]] = &[&[], &[]];
+    refuses_each_row(&rt, settings, &tagged, three, &white, two_white, Ok(14));
+
+    let damaged = bytes_of(rt.alloc(), "0019800C400033")?;
+    let repaired: &[&[u32]] = &[&[], &[3, 6], &[]];
+    let settings = group_3_1d(8, 0, "l");
+    refuses_each_request(&rt, settings, &damaged, repaired, Ok(7));
+    let sound = bytes_of(rt.alloc(), "0019800C700033")?;
+    let read: &[&[u32]] = &[&[], &[3, 5], &[]];
+    refuses_each_row(&rt, settings, &damaged, repaired, &sound, read, Ok(7));
+    Ok(())
+}
+
+/// A row of 4095 changes, for which memory is asked again and again.
+#[test]
+fn refused_growths_of_a_row(rt: HostRuntime) -> std::result::Result<(), Fail> {
+    let mut changes = Vec::new(rt.alloc());
+    for place in 1..4096u32 {
+        changes.push(place)?;
+    }
+    let data = repeated(rt.alloc(), &[0x23, 0xA2, 0x3A], 1024, &[])?;
+    let settings = group_4(4096, 1, "");
+    refuses_each_request(&rt, settings, &data, &[&changes], Ok(3072));
+    refuses_each_row(&rt, settings, &data, &[&changes], &[0x80], &[&[]], Ok(1));
+    Ok(())
+}
+
+/// The body of a line with black pixels, and of a white line.
+#[test]
+fn refused_bodies(rt: HostRuntime) -> std::result::Result<(), Fail> {
+    let data = bytes_of(rt.alloc(), "0019800C700033")?;
+    let rows: &[&[u32]] = &[&[], &[3, 5], &[]];
+    assert!(rt; bits_fit(&data));
+    for number in 1..MANY {
+        let mut ctx = DecoderContext::new(rt.alloc(), group_3_1d(8, 0, "l"))?;
+        refuse_request(rt.alloc(), number);
+        assert_eq!(rt; body_is_local(&data, &mut ctx, 12, 17), Ok(true));
+        let found = body_is_local(&data, &mut ctx, 29, 39);
+        if !was_refused(rt.alloc()) {
+            assert_eq!(rt; found, Ok(true));
+            return Ok(());
+        }
+        assert_eq!(rt; found, Err(OutOfMemory), "request {number}");
+        assert_eq!(rt; body_is_local(&data, &mut ctx, 29, 39), Ok(true));
+        decodes_known(&rt, &mut ctx, &data, rows, Ok(7));
+    }
+    panic!(rt; "each of {MANY} requests was refused");
+}
+
+/// The first request is to be refused, and none is made.
+#[test]
+fn calls_without_memory(rt: HostRuntime) -> std::result::Result<(), Fail> {
+    let mut ctx = DecoderContext::new(rt.alloc(), group_4(8, 0, ""))?;
+    let data = [0x31, 0xC0];
+    assert!(rt; bits_fit(&data));
+    assert_eq!(rt;
+        decode_2d_line(&mut ctx, &mut BitReader::new(&data)),
+        Ok(())
+    );
+    let mut sink = sink_for(8, &[&[3, 5], &[]]);
+    refuse_request(rt.alloc(), 1);
+    assert_eq!(rt; ctx.next_line(&mut sink), Ok(()));
+    assert_eq!(rt; (ctx.b1(), ctx.b2()), (3, 5));
+    assert_eq!(rt; ctx.fill_white(), Ok(()));
+    assert_eq!(rt; ctx.next_line(&mut sink), Ok(()));
+    assert_eq!(rt; (ctx.b1(), ctx.b2()), (8, 8));
+    assert_eq!(rt; ctx.next_line(&mut sink), Err(Refused));
+    ctx.reset();
+    assert_eq!(rt; (ctx.decoded_rows(), ctx.has_eols()), (0, false));
+    assert!(rt; !was_refused(rt.alloc()));
+    Ok(())
+}
+
+/// Data that paints no black pixel.
+#[test]
+fn white_rows_without_memory(rt: HostRuntime) -> std::result::Result<(), Fail> {
+    let white: [&[u32]; 3] = [&[]; 3];
+    for (settings, digits, rows, answer) in [
+        (group_4(8, 3, ""), "E0", &white[..], Ok(1)),
+        (group_4(u32::MAX, 0, "b"), "80080080", &white[..1], Ok(4)),
+        (
+            group_3_1d(8, 0, "b"),
+            "001980080080080080080080",
+            &white[..1],
+            Ok(12),
+        ),
+        (group_3_1d(8, 0, "l"), "0019800C000033", &white[..], Ok(7)),
+        (
+            group_3_2d(8, 0, "b"),
+            "001CC005001800C006003001800C",
+            &white[..2],
+            Ok(14),
+        ),
+    ] {
+        let data = bytes_of(rt.alloc(), digits)?;
+        let mut ctx = DecoderContext::new(rt.alloc(), settings)?;
+        refuse_request(rt.alloc(), 1);
+        decodes_known(&rt, &mut ctx, &data, rows, answer);
+        assert!(rt; !was_refused(rt.alloc()), "{digits}");
+    }
+    Ok(())
+}
