@@ -8,5 +8,7 @@ pub mod PaintedWords
 pub mod RoundTrip
 pub mod RowLists
 pub mod RunsWritten
+pub mod ScannedRows
+pub mod ScannedWords
 pub mod WordTables
 pub mod WrittenBits

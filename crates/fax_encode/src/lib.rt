@@ -2,6 +2,7 @@
 #![tactic(auto)]
 
 mod bit_writer;
+mod bitmap_rows;
 mod bitmap_sink;
 mod error;
 mod group3;
@@ -13,6 +14,7 @@ mod rows;
 mod runs;
 mod words;
 
+pub use bitmap_rows::rows_of_bitmap;
 pub use bitmap_sink::BitmapSink;
 pub use error::EncodeError;
 pub use group3::encode_1d;

@@ -1,0 +1,131 @@
+-- Rows of packed pixels, scanned a word at a time.
+use Rattle.std.proofs.Common.{◌≡◌, ℕ, zero, suc, ◌+◌, ◌-◌, ◌*◌, ◌/◌, ◌<◌, ◌≤◌, Bool, true, false, List, [], ◌∷◌, ◌++◌, length, take, drop, replicate, refl, sym, ap, subst, ◌∙◌, arith, append_assoc, take_all, map, add-one}
+use Rattle.std.proofs.lemmas.Grind.{flat_map-append}
+use Rattle.std.proofs.lemmas.List.{append-nil, length-append, length-take, length-drop, length-replicate, take-append-drop, take-append-le, map-append}
+use Rattle.std.proofs.lemmas.List.Elements.{All-push}
+use Rattle.std.proofs.Math.Nat.{div-eq-sub-div, div-eq_of_lt}
+use Rattle.std.proofs.Math.Seq.{take-append-add}
+use Rattle.hayro_ccitt.specs.Bits.{Bits, bit_of, bits_of, bits_of_byte, low_bits}
+use Rattle.hayro_ccitt.specs.Rows.{Row, AreChanges, last_pixel, changes, pixels}
+use Rattle.hayro_ccitt.proofs.BitReading.BitLists.{length-bits_of, length-low_bits}
+use Rattle.hayro_ccitt.proofs.PixelRows.ChangesAndPixels.{changes-recursive, pixels-changes, AreChanges-changes}
+use Rattle.hayro_ccitt.proofs.PixelRows.RowChanges.{changes_from, changes_from-append}
+use Rattle.fax_encode.specs.Chosen.{rows_of}
+use Rattle.fax_encode.specs.Packed.{bytes_of_row, rows_shown, shown}
+use Rattle.fax_encode.specs.Refusals.{AreRows}
+use Rattle.fax_encode.specs.Scanning.{differences, ones_from}
+use Rattle.fax_encode.proofs.ScannedWords.{changes-ones, differences-take, last_of_word}
+
+-- bytes in two parts
+pub bits_of-parts : (n : ℕ) (bytes : List ℕ) → bits_of bytes ≡ bits_of (take n bytes) ++ bits_of (drop n bytes)
+bits_of-parts n bytes = sym (ap bits_of (take-append-drop n bytes)) ∙ flat_map-append bits_of_byte (take n bytes) (drop n bytes)
+
+-- the bits of the first bytes
+pub length-first : (n : ℕ) (bytes : List ℕ) → n ≤ length bytes → length (bits_of (take n bytes)) ≡ 8 * n
+length-first n bytes within = omega (arith, length-bits_of (take n bytes), length-take n bytes)
+
+-- a whole word of pixels is scanned, and more follow
+module _ (start n before word ones : ℕ) (rest : List ℕ) (some : 64 ≤ n) (room : length rest ≡ bytes_of_row n)
+    (word-is : low_bits 64 word ≡ take 64 (bits_of rest ++ replicate 64 false)) (ones-are : low_bits 64 ones ≡ differences (bit_of before 0) (low_bits 64 word)) where
+  abbrev here : Bits
+  here = bits_of (take 8 rest)
+
+  abbrev behind : Bits
+  behind = bits_of (drop 8 rest)
+
+  long : length here ≡ 64
+  long = length-first 8 rest (omega arith)
+
+  word_here : low_bits 64 word ≡ here
+  word_here =
+      let e : 64 ≡ length here + 0 = omega (arith, long) in
+      word-is ∙ ap (λ (b : Bits). take 64 (b ++ replicate 64 false)) (bits_of-parts 8 rest) ∙ ap (take 64) (append_assoc here behind (replicate 64 false))
+      ∙ ap (λ (m : ℕ). take m (here ++ (behind ++ replicate 64 false))) e
+      ∙ take-append-add here (behind ++ replicate 64 false) 0 ∙ append-nil here
+
+  pub word_scanned : changes_from start (bit_of before 0) (take n (bits_of rest))
+      ≡ ones_from start (take 64 (low_bits 64 ones)) ++ changes_from (start + 64) (bit_of word 0) (take (n - 64) behind)
+  word_scanned =
+      let e : n ≡ length here + (n - 64) = omega (arith, long) in
+      let row : take n (bits_of rest) ≡ here ++ take (n - 64) behind
+      = ap (take n) (bits_of-parts 8 rest) ∙ ap (λ (m : ℕ). take m (here ++ behind)) e ∙ take-append-add here behind (n - 64) in
+      let whole : take 64 (low_bits 64 ones) ≡ low_bits 64 ones = take_all 64 (low_bits 64 ones) (omega (arith, length-low_bits 64 ones)) in
+      let first : changes_from start (bit_of before 0) here ≡ ones_from start (take 64 (low_bits 64 ones))
+      = changes-ones start (bit_of before 0) here ∙ ap (λ (b : Bits). ones_from start (differences (bit_of before 0) b)) (sym word_here)
+      ∙ ap (ones_from start) (sym ones-are ∙ sym whole) in
+      let last : last_pixel (bit_of before 0) here ≡ bit_of word 0 = ap (last_pixel (bit_of before 0)) (sym word_here) ∙ last_of_word 63 word (bit_of before 0) in
+      ap (changes_from start (bit_of before 0)) row ∙ changes_from-append start (bit_of before 0) here (take (n - 64) behind)
+      ∙ ap (λ (l : List ℕ). l ++ changes_from (start + length here) (last_pixel (bit_of before 0) here) (take (n - 64) behind)) first
+      ∙ ap (λ (m : ℕ). ones_from start (take 64 (low_bits 64 ones)) ++ changes_from (start + m) (last_pixel (bit_of before 0) here) (take (n - 64) behind)) long
+      ∙ ap (λ (b : Bool). ones_from start (take 64 (low_bits 64 ones)) ++ changes_from (start + 64) b (take (n - 64) behind)) last
+
+-- fewer pixels than a word has are left
+pub last_scanned : (start n before word ones : ℕ) (rest : List ℕ) → n < 64 → length rest ≡ bytes_of_row n
+    → low_bits 64 word ≡ take 64 (bits_of rest ++ replicate 64 false) → low_bits 64 ones ≡ differences (bit_of before 0) (low_bits 64 word)
+    → changes_from start (bit_of before 0) (take n (bits_of rest)) ≡ ones_from start (take n (low_bits 64 ones))
+last_scanned start n before word ones rest few room word-is ones-are =
+    let whole : Bits = bits_of rest ++ replicate 64 false in
+    let enough : 64 ≤ length whole = omega (arith, length-append (bits_of rest) (replicate 64 false), length-replicate 64 false) in
+    let inside : n ≤ length (bits_of rest) = omega (arith, length-bits_of rest) in
+    let reached : n ≤ length (take 64 whole) = omega (arith, length-take 64 whole) in
+    let word_front : take n (low_bits 64 word) ≡ take n (bits_of rest)
+    = ap (take n) word-is ∙ sym (take-append-le n (take 64 whole) (drop 64 whole) reached) ∙ ap (take n) (take-append-drop 64 whole)
+    ∙ take-append-le n (bits_of rest) (replicate 64 false) inside in
+    changes-ones start (bit_of before 0) (take n (bits_of rest)) ∙ ap (λ (b : Row). ones_from start (differences (bit_of before 0) b)) (sym word_front)
+    ∙ ap (ones_from start) (sym (differences-take n (bit_of before 0) (low_bits 64 word)) ∙ ap (take n) (sym ones-are))
+
+-- a row before it is scanned
+pub unscanned : (columns : ℕ) (row : List ℕ) → changes_from 0 false (take (columns - 0) (bits_of row)) ≡ changes (take columns (bits_of row))
+unscanned columns row =
+    let e : columns - 0 ≡ columns = omega arith in
+    ap (λ (n : ℕ). changes_from 0 false (take n (bits_of row))) e ∙ sym (changes-recursive (take columns (bits_of row)))
+
+-- ---- the rows of a bitmap
+-- a row's first pixels are in its own bytes
+pub row_alone : (columns : ℕ) (bytes : List ℕ) → bytes_of_row columns ≤ length bytes
+    → take columns (bits_of (take (bytes_of_row columns) bytes)) ≡ take columns (bits_of bytes)
+row_alone columns bytes within =
+    let w : ℕ = bytes_of_row columns in
+    let long = length-first w bytes within in
+    sym (take-append-le columns (bits_of (take w bytes)) (bits_of (drop w bytes)) (omega arith)) ∙ ap (take columns) (sym (bits_of-parts w bytes))
+
+pub length-row : (columns : ℕ) (bytes : List ℕ) → bytes_of_row columns ≤ length bytes → length (take columns (bits_of bytes)) ≡ columns
+length-row columns bytes within = omega (arith, length-take columns (bits_of bytes), length-bits_of bytes)
+
+-- a whole row stands before those below it
+pub shown-row : (columns : ℕ) (bytes : List ℕ) → 0 < bytes_of_row columns → bytes_of_row columns ≤ length bytes
+    → shown columns bytes ≡ take columns (bits_of bytes) ∷ shown columns (drop (bytes_of_row columns) bytes)
+shown-row columns bytes some within =
+    let w : ℕ = bytes_of_row columns in
+    let more : length bytes / w ≡ suc (length (drop w bytes) / w)
+    = div-eq-sub-div some within ∙ add-one _ ∙ ap (λ (n : ℕ). suc (n / w)) (sym (length-drop w bytes)) in
+    ap (λ (n : ℕ). rows_shown columns n bytes) more
+
+-- and less than a row is none
+pub shown-none : (columns : ℕ) (bytes : List ℕ) → length bytes < bytes_of_row columns → shown columns bytes ≡ []
+shown-none columns bytes few = ap (λ (n : ℕ). rows_shown columns n bytes) (div-eq_of_lt few)
+
+-- the changes of a row of that many pixels stand for it
+pub pixels_of_row : (columns : ℕ) (row : Row) → length row ≡ columns → pixels columns (changes row) ≡ row
+pixels_of_row columns row long = ap (λ (n : ℕ). pixels n (changes row)) (sym long) ∙ pixels-changes row
+
+pub lawful_row : (columns : ℕ) (row : Row) → length row ≡ columns → AreChanges columns (changes row)
+lawful_row columns row long = subst (λ (n : ℕ). AreChanges n (changes row)) long (AreChanges-changes row)
+
+-- the rows that were found, those below them, and one more
+pub one_more : {X : Type 0} (list_of : X → List ℕ) (columns : ℕ) (items items' : List X) (item : X) (row : Row) (below below' all : List Row)
+    → items' ≡ items ++ item ∷ [] → pixels columns (list_of item) ≡ row → below ≡ row ∷ below' → rows_of columns (map list_of items) ++ below ≡ all
+    → rows_of columns (map list_of items') ++ below' ≡ all
+one_more list_of columns items items' item row below below' all more is split found =
+    let lists : map list_of items' ≡ map list_of items ++ list_of item ∷ [] = ap (map list_of) more ∙ map-append list_of items (item ∷ []) in
+    let rows : rows_of columns (map list_of items') ≡ rows_of columns (map list_of items) ++ row ∷ []
+    = ap (rows_of columns) lists ∙ map-append (pixels columns) (map list_of items) (list_of item ∷ [])
+    ∙ ap (λ (r : Row). rows_of columns (map list_of items) ++ r ∷ []) is in
+    ap (λ (l : List Row). l ++ below') rows ∙ append_assoc (rows_of columns (map list_of items)) (row ∷ []) below'
+    ∙ ap (λ (l : List Row). rows_of columns (map list_of items) ++ l) (sym split) ∙ found
+
+pub lawful_more : {X : Type 0} (list_of : X → List ℕ) (columns : ℕ) (items items' : List X) (item : X) → items' ≡ items ++ item ∷ []
+    → AreChanges columns (list_of item) → AreRows columns (map list_of items) → AreRows columns (map list_of items')
+lawful_more list_of columns items items' item more here before =
+    let lists : map list_of items' ≡ map list_of items ++ list_of item ∷ [] = ap (map list_of) more ∙ map-append list_of items (item ∷ []) in
+    subst (AreRows columns) (sym lists) (All-push (AreChanges columns) (map list_of items) (list_of item) before here)
