@@ -1,17 +1,19 @@
 -- Rows of packed pixels, scanned a word at a time.
-use Rattle.std.proofs.Common.{◌≡◌, ℕ, zero, suc, ◌+◌, ◌-◌, ◌*◌, ◌/◌, ◌<◌, ◌≤◌, Bool, true, false, List, [], ◌∷◌, ◌++◌, length, take, drop, replicate, refl, sym, ap, subst, ◌∙◌, arith, append_assoc, take_all, map, add-one}
+use Rattle.std.proofs.Common.{◌≡◌, ℕ, zero, suc, ◌+◌, ◌-◌, ◌*◌, ◌/◌, ◌%◌, ◌<◌, ◌≤◌, Bool, false, List, [], ◌∷◌, ◌++◌, length, take, drop, replicate, refl, sym, ap, subst, ◌∙◌, arith, append_assoc, take_all, map, add-one}
 use Rattle.std.proofs.lemmas.Grind.{flat_map-append}
-use Rattle.std.proofs.lemmas.List.{append-nil, length-append, length-take, length-drop, length-replicate, take-append-drop, take-append-le, map-append}
-use Rattle.std.proofs.lemmas.List.Elements.{All-push}
+use Rattle.std.proofs.lemmas.List.{append-nil, length-append, length-take, length-drop, length-replicate, take-append-drop, take-append-le, take_rest, map-append}
+use Rattle.std.proofs.lemmas.List.Elements.{All-push, All-head, All-tail}
 use Rattle.std.proofs.Math.Nat.{div-eq-sub-div, div-eq_of_lt}
-use Rattle.std.proofs.Math.Seq.{take-append-add}
+use Rattle.std.proofs.Math.Seq.{take-append-add, take-append_seam}
 use Rattle.hayro_ccitt.specs.Bits.{Bits, bit_of, bits_of, bits_of_byte, low_bits}
 use Rattle.hayro_ccitt.specs.Rows.{Row, AreChanges, last_pixel, changes, pixels}
 use Rattle.hayro_ccitt.proofs.BitReading.BitLists.{length-bits_of, length-low_bits}
 use Rattle.hayro_ccitt.proofs.PixelRows.ChangesAndPixels.{changes-recursive, pixels-changes, AreChanges-changes}
 use Rattle.hayro_ccitt.proofs.PixelRows.RowChanges.{changes_from, changes_from-append}
+use Rattle.hayro_ccitt.specs.Encodings.{padding}
 use Rattle.fax_encode.specs.Chosen.{rows_of}
-use Rattle.fax_encode.specs.Packed.{bytes_of_row, rows_shown, shown}
+use Rattle.fax_encode.specs.Laws.{PackedIsShown}
+use Rattle.fax_encode.specs.Packed.{bytes_of_row, packed, rows_shown, shown}
 use Rattle.fax_encode.specs.Refusals.{AreRows}
 use Rattle.fax_encode.specs.Scanning.{differences, ones_from}
 use Rattle.fax_encode.proofs.ScannedWords.{changes-ones, differences-take, last_of_word}
@@ -25,7 +27,7 @@ pub length-first : (n : ℕ) (bytes : List ℕ) → n ≤ length bytes → lengt
 length-first n bytes within = omega (arith, length-bits_of (take n bytes), length-take n bytes)
 
 -- a whole word of pixels is scanned, and more follow
-module _ (start n before word ones : ℕ) (rest : List ℕ) (some : 64 ≤ n) (room : length rest ≡ bytes_of_row n)
+module _ (start n before word ones : ℕ) (rest : List ℕ) (some : 64 ≤ n) (room : bytes_of_row n ≤ length rest)
     (word-is : low_bits 64 word ≡ take 64 (bits_of rest ++ replicate 64 false)) (ones-are : low_bits 64 ones ≡ differences (bit_of before 0) (low_bits 64 word)) where
   abbrev here : Bits
   here = bits_of (take 8 rest)
@@ -60,7 +62,7 @@ module _ (start n before word ones : ℕ) (rest : List ℕ) (some : 64 ≤ n) (r
       ∙ ap (λ (b : Bool). ones_from start (take 64 (low_bits 64 ones)) ++ changes_from (start + 64) b (take (n - 64) behind)) last
 
 -- fewer pixels than a word has are left
-pub last_scanned : (start n before word ones : ℕ) (rest : List ℕ) → n < 64 → length rest ≡ bytes_of_row n
+pub last_scanned : (start n before word ones : ℕ) (rest : List ℕ) → n < 64 → bytes_of_row n ≤ length rest
     → low_bits 64 word ≡ take 64 (bits_of rest ++ replicate 64 false) → low_bits 64 ones ≡ differences (bit_of before 0) (low_bits 64 word)
     → changes_from start (bit_of before 0) (take n (bits_of rest)) ≡ ones_from start (take n (low_bits 64 ones))
 last_scanned start n before word ones rest few room word-is ones-are =
@@ -81,14 +83,6 @@ unscanned columns row =
     ap (λ (n : ℕ). changes_from 0 false (take n (bits_of row))) e ∙ sym (changes-recursive (take columns (bits_of row)))
 
 -- ---- the rows of a bitmap
--- a row's first pixels are in its own bytes
-pub row_alone : (columns : ℕ) (bytes : List ℕ) → bytes_of_row columns ≤ length bytes
-    → take columns (bits_of (take (bytes_of_row columns) bytes)) ≡ take columns (bits_of bytes)
-row_alone columns bytes within =
-    let w : ℕ = bytes_of_row columns in
-    let long = length-first w bytes within in
-    sym (take-append-le columns (bits_of (take w bytes)) (bits_of (drop w bytes)) (omega arith)) ∙ ap (take columns) (sym (bits_of-parts w bytes))
-
 pub length-row : (columns : ℕ) (bytes : List ℕ) → bytes_of_row columns ≤ length bytes → length (take columns (bits_of bytes)) ≡ columns
 length-row columns bytes within = omega (arith, length-take columns (bits_of bytes), length-bits_of bytes)
 
@@ -129,3 +123,46 @@ pub lawful_more : {X : Type 0} (list_of : X → List ℕ) (columns : ℕ) (items
 lawful_more list_of columns items items' item more here before =
     let lists : map list_of items' ≡ map list_of items ++ list_of item ∷ [] = ap (map list_of) more ∙ map-append list_of items (item ∷ []) in
     subst (AreRows columns) (sym lists) (All-push (AreChanges columns) (map list_of items) (list_of item) before here)
+
+-- as many rows as are whole
+pub length-shown : (columns : ℕ) (bytes : List ℕ) → length (shown columns bytes) ≡ length bytes / bytes_of_row columns
+length-shown columns bytes = counted (length bytes / bytes_of_row columns) bytes
+  where
+    counted : (n : ℕ) (rest : List ℕ) → length (rows_shown columns n rest) ≡ n
+    counted zero rest = refl
+    counted (suc n) rest = ap suc (counted n (drop (bytes_of_row columns) rest))
+
+-- a row, and those below it
+pub rows_below : (columns width : ℕ) (rest below : List ℕ) → 0 < columns → width ≡ bytes_of_row columns → width ≤ length rest
+    → below ≡ take (length rest - width) (drop width rest) → shown columns rest ≡ take columns (bits_of rest) ∷ shown columns below
+rows_below columns width rest below some w le is =
+    let same : below ≡ drop (bytes_of_row columns) rest = is ∙ take_rest rest width ∙ ap (λ (n : ℕ). drop n rest) w in
+    shown-row columns rest (omega arith) (omega arith) ∙ ap (λ (l : List ℕ). take columns (bits_of rest) ∷ shown columns l) (sym same)
+
+-- ---- packed rows
+-- two lists whose fronts are as long
+front_same : {A : Type 0} (a b c d : List A) → a ++ b ≡ c ++ d → length a ≡ length c → b ≡ d
+front_same [] b [] d e len = e
+front_same [] b (y ∷ c) d e len = absurd (omega arith)
+front_same (x ∷ a) b [] d e len = absurd (omega arith)
+front_same (x ∷ a) b (y ∷ c) d e len =
+    let rest : a ++ b ≡ c ++ d = cc in
+    let shorter : length a ≡ length c = omega arith in
+    front_same a b c d rest shorter
+
+pub packed_is_shown : PackedIsShown
+packed_is_shown columns [] bitmap are e =
+    shown-none columns bitmap (omega (arith, are.0, ap length e, length-bits_of bitmap))
+packed_is_shown columns (row ∷ rows) bitmap are e =
+    let w : ℕ = bytes_of_row columns in
+    let some : 0 < columns = are.0 in
+    let wide : length row ≡ columns = All-head (λ row. length row ≡ columns) row rows are.1 in
+    let more : Bits = padding (length row) in
+    let filled : length (row ++ more) ≡ 8 * w = omega (arith, length-append row more, length-replicate ((8 - length row % 8) % 8) false) in
+    let within : w ≤ length bitmap = omega (arith, ap length e, length-bits_of bitmap, length-append (row ++ more) (packed rows)) in
+    let below : bits_of (drop w bitmap) ≡ packed rows
+    = front_same (bits_of (take w bitmap)) (bits_of (drop w bitmap)) (row ++ more) (packed rows) (sym (bits_of-parts w bitmap) ∙ e) (length-first w bitmap within ∙ sym filled) in
+    let first : take columns (bits_of bitmap) ≡ row
+    = ap (take columns) (e ∙ append_assoc row more (packed rows)) ∙ ap (λ (n : ℕ). take n (row ++ (more ++ packed rows))) (sym wide) ∙ take-append_seam row (more ++ packed rows) in
+    shown-row columns bitmap (omega arith) within ∙ ap (λ (r : Row). r ∷ shown columns (drop w bitmap)) first
+    ∙ ap (λ (l : List Row). row ∷ l) (packed_is_shown columns rows (drop w bitmap) (some, All-tail (λ row. length row ≡ columns) row rows are.1) below)

@@ -2,7 +2,7 @@
 
 ghost use Rattle.std.specs.Prelude.{◌≡◌, ◌+◌, ◌*◌, ◌^◌, ◌<◌, ◌≤◌, ◌++◌, false, map, length, replicate, take, IfOk, OnOk, slice_index};
 ghost use Rattle.hayro_ccitt.specs.Bits.{bits_of, bit_of, low_bits};
-ghost use Rattle.hayro_ccitt.specs.Rows.{changes};
+ghost use Rattle.hayro_ccitt.specs.Rows.{AreChanges, pixels};
 ghost use Rattle.fax_encode.specs.Chosen.{rows_of};
 ghost use Rattle.fax_encode.specs.Packed.{bytes_of_row, shown};
 ghost use Rattle.fax_encode.specs.Refusals.{AreRows};
@@ -54,12 +54,7 @@ fn turns(before: u64, word: u64) -> u64
 
 /// Adds the places of the ones among the first bits of a word, so many, counted from a first place on.
 #[inline(always)]
-fn push_ones(
-    list: &mut Vec<u32>,
-    first: u32,
-    count: u32,
-    word: u64,
-) -> Result<(), AllocError>
+fn push_ones(list: &mut Vec<u32>, first: u32, count: u32, word: u64) -> Result<(), AllocError>
     requires few { count ≤ 64 }
     requires within { first + count < 2 ^ 32 }
     ensures { OnOk result (list.new.items ≡ list.old.items ++ ones_from first (take count (low_bits 64 word))) }
@@ -74,12 +69,26 @@ fn push_ones(
     Ok(())
 }
 
-/// Adds the changes of a row of packed pixels.
-fn push_changes(list: &mut Vec<u32>, columns: u32, row: &[u8]) -> Result<(), AllocError>
-    requires { length row.now ≡ bytes_of_row columns }
-    ensures { OnOk result (list.new.items ≡ list.old.items ++ changes (take columns (bits_of row.now))) }
+/// The first 64 pixels of bytes, the leftmost in the highest bit, and white ones where there are fewer.
+#[inline(always)]
+fn word_of(bytes: &[u8]) -> u64
+    ensures { low_bits 64 result ≡ take 64 (bits_of bytes.now ++ replicate 64 false) }
 {
-    let mut rest = row;
+    if bytes.len() >= 8 {
+        whole_word(bytes)
+    } else {
+        last_word(bytes)
+    }
+}
+
+/// Makes a list the changes of the first row of a bitmap.
+pub fn scan_row(list: &mut Vec<u32>, columns: u32, bitmap: &[u8]) -> Result<(), AllocError>
+    requires { bytes_of_row columns ≤ length bitmap.now }
+    ensures lawful { OnOk result (AreChanges columns list.new.items) }
+    ensures pixels { OnOk result (pixels columns list.new.items ≡ take columns (bits_of bitmap.now)) }
+{
+    list.clear();
+    let mut rest = bitmap;
     let mut start = 0;
     let mut before = 0;
     while columns - start >= 64 {
@@ -89,7 +98,7 @@ fn push_changes(list: &mut Vec<u32>, columns: u32, row: &[u8]) -> Result<(), All
         start += 64;
         rest = &rest[8..];
     }
-    push_ones(list, start, columns - start, turns(before, last_word(rest)))
+    push_ones(list, start, columns - start, turns(before, word_of(rest)))
 }
 
 /// The rows of a bitmap, as lists of changes. A row takes (columns + 7) / 8 bytes, one bit a pixel, 1 for black, the
@@ -109,11 +118,10 @@ pub fn rows_of_bitmap(
         return Ok(rows);
     }
     let mut rest = bitmap;
-    let mut found = Vec::new(alloc);
+    let mut row = Vec::new(alloc);
     while rest.len() >= width {
-        push_changes(&mut found, columns, &rest[..width])?;
-        rows.push(found.as_slice().to_vec(alloc)?)?;
-        found.clear();
+        scan_row(&mut row, columns, rest)?;
+        rows.push(row.as_slice().to_vec(alloc)?)?;
         rest = &rest[width..];
     }
     Ok(rows)

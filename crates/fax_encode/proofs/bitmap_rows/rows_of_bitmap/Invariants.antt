@@ -1,4 +1,4 @@
-use Rattle.std.proofs.Common.{◌≡◌, ◌++◌, [], length, map}
+use Rattle.std.proofs.Common.{◌≡◌, ◌++◌, length, map}
 use Rattle.fax_encode.specs.Chosen.{rows_of}
 use Rattle.fax_encode.specs.Packed.{shown}
 use Rattle.fax_encode.specs.Refusals.{AreRows}
@@ -7,7 +7,6 @@ use Rattle.fax_encode.proofs.bitmap_rows.rows_of_bitmap.Given as goal
 abbrev pub invariant-loop-rest : goal.invariant-loop-rest
 invariant-loop-rest l = record {
   lawful : AreRows l.columns (map (λ row. row.items) l.rows.items);
-  none_found : l.found.items ≡ [];
   left : rows_of l.columns (map (λ row. row.items) l.rows.items) ++ shown l.columns l.rest ≡ shown l.columns l.bitmap;
 }
 
