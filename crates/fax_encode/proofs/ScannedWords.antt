@@ -119,6 +119,15 @@ pub ones-zeros : (first n : ℕ) → ones_from first (replicate n false) ≡ []
 ones-zeros first zero = refl
 ones-zeros first (suc n) = ones-zeros (suc first) n
 
+-- none in a word of zeros
+pub ones-none : (first count word : ℕ) → word ≡ 0 → ones_from first (take count (low_bits 64 word)) ≡ []
+ones-none first count word none = ap (λ (n : ℕ). ones_from first (take count (low_bits 64 n))) none ∙ among first count 64
+  where
+    among : (start m n : ℕ) → ones_from start (take m (replicate n false)) ≡ []
+    among start zero n = refl
+    among start (suc m) zero = refl
+    among start (suc m) (suc n) = among (suc start) m n
+
 take_zeros : (count z : ℕ) (rest : Bits) → count ≤ z → take count (replicate z false ++ rest) ≡ replicate count false
 take_zeros zero z rest le = refl
 take_zeros (suc count) zero rest le = absurd (omega arith)
@@ -185,15 +194,6 @@ module _ (word ahead count : ℕ) (small : word < 2 ^ 64) (is : ahead ≡ count_
       let at : 63 - ahead ≡ top.0 = omega (arith, top.1) in
       let one : 1 * 2 ^ (63 - ahead) % 2 ^ 64 ≡ 2 ^ top.0 = ap (λ (n : ℕ). 1 * 2 ^ n % 2 ^ 64) at ∙ one_shl top.0 64 (omega (arith, top.1)) in
       omega (arith, one, top.2)
-
-  -- so that less is left
-  pub less_left : (rest : ℕ) → ahead < 64 → rest ≡ word - 1 * 2 ^ (63 - ahead) % 2 ^ 64 → rest < word
-  less_left rest lt less =
-      let top = leading_top 64 word (some_one lt) small in
-      let at : 63 - ahead ≡ top.0 = omega (arith, top.1) in
-      let one : 1 * 2 ^ (63 - ahead) % 2 ^ 64 ≡ 2 ^ top.0 = ap (λ (n : ℕ). 1 * 2 ^ n % 2 ^ 64) at ∙ one_shl top.0 64 (omega (arith, top.1)) in
-      let some = pow_pos top.0 in
-      omega (arith, one, top.2, some)
 
 -- ---- changes
 -- the changes of a row are the ones among its differences

@@ -60,11 +60,13 @@ fn push_ones(list: &mut Vec<u32>, first: u32, count: u32, word: u64) -> Result<(
     ensures { OnOk result (list.new.items ≡ list.old.items ++ ones_from first (take count (low_bits 64 word))) }
 {
     let mut ones = word;
-    let mut ahead = ones.leading_zeros();
-    while ahead < count {
+    while ones != 0 {
+        let ahead = ones.leading_zeros();
+        if ahead >= count {
+            return Ok(());
+        }
         list.push(first + ahead)?;
         ones -= 1 << (63 - ahead);
-        ahead = ones.leading_zeros();
     }
     Ok(())
 }
