@@ -27,30 +27,38 @@ static int read_number(FILE *file, uint32_t *number)
     return digits && value <= UINT32_MAX && isspace(c);
 }
 
-/* The bitmap of the picture, whose rows are as the encoder takes them, or nothing. */
-static uint8_t *read_picture(FILE *file, uint32_t *columns, size_t *length)
+/* Says what went wrong, and which status it is. */
+static int failed(const char *what, int status)
+{
+    fprintf(stderr, "pbm_to_strip: %s\n", what);
+    return status;
+}
+
+/* The bitmap of the picture, whose rows are as the encoder takes them; or a status that isn't 0. */
+static int read_picture(FILE *file, uint32_t *columns, uint8_t **bitmap, size_t *length)
 {
     uint32_t rows;
-    if (getc(file) != 'P' || getc(file) != '4' || !read_number(file, columns) || !read_number(file, &rows))
-        return NULL;
-    size_t width = ((size_t)*columns + 7) / 8, room = 1 << 16;
-    if (rows > (SIZE_MAX / 2) / (width + 1))
-        return NULL;
+    if (!file || getc(file) != 'P' || getc(file) != '4' || !read_number(file, columns) || !read_number(file, &rows))
+        return failed("no PBM picture", 1);
+    size_t width = ((size_t)*columns + 7) / 8, room = 1 << 16, have = 0;
+    if (rows > SIZE_MAX / 4 / (width + 1))
+        return failed("out of memory", 2);
     *length = rows * width;
     /* Memory grows with what is read, whatever the header says. */
-    uint8_t *bitmap = malloc(room);
-    size_t have = 0;
-    while (bitmap) {
+    *bitmap = malloc(room);
+    while (*bitmap) {
         size_t wanted = *length < room ? *length : room;
-        have += fread(bitmap + have, 1, wanted - have, file);
+        have += fread(*bitmap + have, 1, wanted - have, file);
+        if (have < wanted)
+            return failed("the picture ends early", 1);
         if (have == *length)
-            return bitmap;
-        uint8_t *more = have == wanted ? realloc(bitmap, room *= 2) : NULL;
+            return 0;
+        uint8_t *more = realloc(*bitmap, room *= 2);
         if (!more)
-            free(bitmap);
-        bitmap = more;
+            free(*bitmap);
+        *bitmap = more;
     }
-    return NULL;
+    return failed("out of memory", 2);
 }
 
 static int read_words(char **words, fax_encode_settings *settings)
@@ -62,31 +70,24 @@ static int read_words(char **words, fax_encode_settings *settings)
         && !(settings->flags && settings->encoding == FAX_ENCODE_GROUP_3_1D);
 }
 
-/* Says what went wrong, and which status it is. */
-static int failed(const char *what, int status)
-{
-    fprintf(stderr, "pbm_to_strip: %s\n", what);
-    return status;
-}
-
 int main(int count, char **words)
 {
     fax_encode_settings settings;
     fax_encode_outcome outcome;
+    uint8_t *bitmap, *data = NULL, none;
     size_t length;
     if (count < 3 || count > 4 || !read_words(words + 1, &settings)) {
         fprintf(stderr, "usage: pbm_to_strip MODE FLAGS [FILE]\n");
         return 2;
     }
-    FILE *file = count == 4 ? fopen(words[3], "rb") : stdin;
-    uint8_t *bitmap = file ? read_picture(file, &settings.columns, &length) : NULL;
-    if (!bitmap)
-        return failed("no PBM picture", 1);
+    int status = read_picture(count == 4 ? fopen(words[3], "rb") : stdin, &settings.columns, &bitmap, &length);
+    if (status)
+        return status;
 
-    /* A first call into no room at all says how many bytes there are. */
-    uint8_t none;
+    /* A first call, into no room at all, says how many bytes there are. */
     uint32_t answer = fax_encode_bitmap(bitmap, length, &settings, &none, 0, &outcome);
-    uint8_t *data = answer == FAX_ENCODE_REFUSED ? malloc(outcome.bytes) : NULL;
+    if (answer == FAX_ENCODE_REFUSED)
+        data = malloc(outcome.bytes);
     if (data)
         answer = fax_encode_bitmap(bitmap, length, &settings, data, outcome.bytes, &outcome);
     if (answer == FAX_ENCODE_NOT_TAKEN)

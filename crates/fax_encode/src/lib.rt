@@ -25,4 +25,6 @@ pub use painting::paint_row;
 pub use round_trip::{bitmap_by_group3, bitmap_by_group4};
 
 #[cfg(test)]
+mod bitmap_tests;
+#[cfg(test)]
 mod tests;
