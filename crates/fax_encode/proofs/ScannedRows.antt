@@ -1,15 +1,15 @@
 -- Rows of packed pixels, scanned a word at a time.
 use Rattle.std.proofs.Common.{◌≡◌, ℕ, zero, suc, ◌+◌, ◌-◌, ◌*◌, ◌/◌, ◌%◌, ◌<◌, ◌≤◌, Bool, false, List, [], ◌∷◌, ◌++◌, length, take, drop, replicate, refl, sym, ap, subst, ◌∙◌, arith, append_assoc, take_all, map, add-one}
 use Rattle.std.proofs.lemmas.Grind.{flat_map-append}
-use Rattle.std.proofs.lemmas.List.{append-nil, length-append, length-take, length-drop, length-replicate, take-append-drop, take-append-le, take_rest, map-append}
+use Rattle.std.proofs.lemmas.List.{append-nil, length-append, length-take, length-drop, length-replicate, take-append-drop, take-append-le, take_rest, map-append, replicate-append-replicate}
 use Rattle.std.proofs.lemmas.List.Elements.{All-push, All-head, All-tail}
 use Rattle.std.proofs.Math.Nat.{div-eq-sub-div, div-eq_of_lt}
-use Rattle.std.proofs.Math.Seq.{take-append-add, take-append_seam}
+use Rattle.std.proofs.Math.Seq.{take-add, take-append-add, take-append_seam}
 use Rattle.hayro_ccitt.specs.Bits.{Bits, bit_of, bits_of, bits_of_byte, low_bits}
 use Rattle.hayro_ccitt.specs.Rows.{Row, AreChanges, last_pixel, changes, pixels}
 use Rattle.hayro_ccitt.proofs.BitReading.BitLists.{length-bits_of, length-low_bits}
-use Rattle.hayro_ccitt.proofs.PixelRows.ChangesAndPixels.{changes-recursive, pixels-changes, AreChanges-changes}
-use Rattle.hayro_ccitt.proofs.PixelRows.RowChanges.{changes_from, changes_from-append}
+use Rattle.hayro_ccitt.proofs.PixelRows.ChangesAndPixels.{last_pixel-same, changes-recursive, pixels-changes, AreChanges-changes}
+use Rattle.hayro_ccitt.proofs.PixelRows.RowChanges.{changes_from, changes_from-append, changes_from-same}
 use Rattle.hayro_ccitt.specs.Encodings.{padding}
 use Rattle.fax_encode.specs.Chosen.{rows_of}
 use Rattle.fax_encode.specs.Laws.{PackedIsShown}
@@ -60,6 +60,45 @@ module _ (start n before word ones : ℕ) (rest : List ℕ) (some : 64 ≤ n) (r
       ∙ ap (λ (l : List ℕ). l ++ changes_from (start + length here) (last_pixel (bit_of before 0) here) (take (n - 64) behind)) first
       ∙ ap (λ (m : ℕ). ones_from start (take 64 (low_bits 64 ones)) ++ changes_from (start + m) (last_pixel (bit_of before 0) here) (take (n - 64) behind)) long
       ∙ ap (λ (b : Bool). ones_from start (take 64 (low_bits 64 ones)) ++ changes_from (start + 64) b (take (n - 64) behind)) last
+
+-- words of one colour, and one more
+pub plain_more : (count word : ℕ) (color : Bool) (bytes behind : List ℕ) → 8 * count + 8 ≤ length bytes → behind ≡ drop (8 * count) bytes
+    → low_bits 64 word ≡ take 64 (bits_of behind ++ replicate 64 false) → low_bits 64 word ≡ replicate 64 color
+    → bits_of (take (8 * count) bytes) ≡ replicate (64 * count) color → bits_of (take (8 * (count + 1)) bytes) ≡ replicate (64 * (count + 1)) color
+plain_more count word color bytes behind room is word-is plain before =
+    let n : ℕ = 8 * count in
+    let first : List ℕ = take 8 (drop n bytes) in
+    let parts : take (n + 8) bytes ≡ take n bytes ++ first = take-add n 8 bytes in
+    let sum : 8 * (count + 1) ≡ n + 8 = omega arith in
+    let more : 64 * count + 64 ≡ 64 * (count + 1) = omega arith in
+    let long : length (bits_of first) ≡ 64 = length-first 8 (drop n bytes) (omega (arith, length-drop n bytes)) in
+    let rest : Bits = bits_of (drop 8 (drop n bytes)) in
+    let here : bits_of first ≡ low_bits 64 word =
+    sym (word-is ∙ ap (λ (l : List ℕ). take 64 (bits_of l ++ replicate 64 false)) is ∙ ap (λ (b : Bits). take 64 (b ++ replicate 64 false)) (bits_of-parts 8 (drop n bytes))
+    ∙ ap (take 64) (append_assoc (bits_of first) rest (replicate 64 false))
+    ∙ ap (λ (m : ℕ). take m (bits_of first ++ (rest ++ replicate 64 false))) (sym long) ∙ take-append_seam (bits_of first) (rest ++ replicate 64 false)) in
+    ap (λ (m : ℕ). bits_of (take m bytes)) sum ∙ ap bits_of parts ∙ flat_map-append bits_of_byte (take n bytes) first
+    ∙ ap (λ (b : Bits). b ++ bits_of first) before ∙ ap (λ (b : Bits). replicate (64 * count) color ++ b) (here ∙ plain)
+    ∙ replicate-append-replicate (64 * count) 64 color ∙ ap (λ (m : ℕ). replicate m color) more
+
+-- words of the colour before them change nothing
+pub plain_scanned : (start n before words : ℕ) (color : Bool) (rest : List ℕ) → color ≡ bit_of before 0 → 64 * words ≤ n → 8 * words ≤ length rest
+    → bits_of (take (8 * words) rest) ≡ replicate (64 * words) color
+    → changes_from start (bit_of before 0) (take n (bits_of rest)) ≡ changes_from (start + 64 * words) (bit_of before 0) (take (n - 64 * words) (bits_of (drop (8 * words) rest)))
+plain_scanned start n before words color rest is within room plain =
+    let m : ℕ = 64 * words in
+    let b : Bool = bit_of before 0 in
+    let front : Row = replicate m b in
+    let behind : Bits = bits_of (drop (8 * words) rest) in
+    let long : length front ≡ m = length-replicate m b in
+    let split : n ≡ length front + (n - m) = omega arith in
+    let row : take n (bits_of rest) ≡ front ++ take (n - m) behind
+    = ap (take n) (bits_of-parts (8 * words) rest ∙ ap (λ (x : Bits). x ++ behind) (plain ∙ ap (replicate m) is)) ∙ ap (λ (k : ℕ). take k (front ++ behind)) split
+    ∙ take-append-add front behind (n - m) in
+    ap (changes_from start b) row ∙ changes_from-append start b front (take (n - m) behind)
+    ∙ ap (λ (l : List ℕ). l ++ changes_from (start + length front) (last_pixel b front) (take (n - m) behind)) (changes_from-same start m b)
+    ∙ ap (λ (k : ℕ). changes_from (start + k) (last_pixel b front) (take (n - m) behind)) long
+    ∙ ap (λ (c : Bool). changes_from (start + m) c (take (n - m) behind)) (last_pixel-same m b)
 
 -- fewer pixels than a word has are left
 pub last_scanned : (start n before word ones : ℕ) (rest : List ℕ) → n < 64 → bytes_of_row n ≤ length rest

@@ -8,6 +8,7 @@ ghost use Rattle.fax_encode.specs.Packed.{bytes_of_row, shown};
 ghost use Rattle.fax_encode.specs.Refusals.{AreRows};
 ghost use Rattle.fax_encode.specs.Scanning.{differences, ones_from};
 
+use crate::painting::plain_word;
 use std::alloc::{AllocError, Global};
 
 /// The byte at an index, 0 past the end.
@@ -83,6 +84,21 @@ fn word_of(bytes: &[u8]) -> u64
     }
 }
 
+/// How many words of pixels at the front are of one colour, so many at most.
+#[inline(always)]
+fn plain_words(bytes: &[u8], most: usize, is_black: bool) -> usize
+    requires { 8 * most ≤ length bytes.now }
+    ensures within { result ≤ most }
+    ensures plain { bits_of (take (8 * result) bytes.now) ≡ replicate (64 * result) is_black }
+{
+    let plain = plain_word(is_black);
+    let mut count = 0;
+    while count < most && whole_word(&bytes[8 * count..]) == plain {
+        count += 1;
+    }
+    count
+}
+
 /// Makes a list the changes of the first row of a bitmap.
 pub fn scan_row(list: &mut Vec<u32>, columns: u32, bitmap: &[u8]) -> Result<(), AllocError>
     requires { bytes_of_row columns ≤ length bitmap.now }
@@ -94,6 +110,12 @@ pub fn scan_row(list: &mut Vec<u32>, columns: u32, bitmap: &[u8]) -> Result<(), 
     let mut start = 0;
     let mut before = 0;
     while columns - start >= 64 {
+        let plain = plain_words(rest, (columns - start) as usize / 64, before % 2 == 1);
+        if plain > 0 {
+            start += 64 * plain as u32;
+            rest = &rest[8 * plain..];
+            continue;
+        }
         let word = whole_word(rest);
         push_ones(list, start, 64, turns(before, word))?;
         before = word;

@@ -1,4 +1,4 @@
-use Rattle.std.proofs.Common.{◌≡◌, ◌+◌, ◌-◌, ◌<◌, ◌≤◌, ◌++◌, List, ℕ, length, take, drop, sym, ap, subst, ◌∙◌, arith, append_assoc, false}
+use Rattle.std.proofs.Common.{◌≡◌, ◌+◌, ◌-◌, ◌*◌, ◌/◌, ◌%◌, ◌^◌, ◌<◌, ◌≤◌, ◌++◌, nat_eq, List, ℕ, length, take, drop, sym, ap, subst, ◌∙◌, arith, append_assoc, false}
 use Rattle.std.specs.Prelude.{OnOk}
 use Rattle.std.proofs.lemmas.List.{take_rest, length-drop}
 use Rattle.std.proofs.lemmas.Result.{on_ok_weaker}
@@ -6,7 +6,7 @@ use Rattle.hayro_ccitt.specs.Bits.{bits_of, bit_of, low_bits}
 use Rattle.hayro_ccitt.specs.Rows.{Row, AreChanges, changes, pixels}
 use Rattle.hayro_ccitt.proofs.PixelRows.RowChanges.{changes_from}
 use Rattle.fax_encode.specs.Scanning.{ones_from}
-use Rattle.fax_encode.proofs.ScannedRows.{word_scanned, last_scanned, unscanned, length-row, lawful_row, pixels_of_row}
+use Rattle.fax_encode.proofs.ScannedRows.{plain_scanned, word_scanned, last_scanned, unscanned, length-row, lawful_row, pixels_of_row}
 use Rattle.fax_encode.proofs.bitmap_rows.scan_row.Goals.{After-push_ones-2}
 use Rattle.fax_encode.proofs.bitmap_rows.scan_row.Goals as goal
 
@@ -16,6 +16,27 @@ loop-start-init c = record {
   room = omega (arith, c.requires);
   left = ap (λ (l : List ℕ). l ++ changes_from 0 false (take (c.args.columns - 0) (bits_of c.args.bitmap.now))) c.clear.ensures.items ∙ unscanned c.args.columns c.args.bitmap.now;
 }
+
+pub loop-start-preserved-then-plain-gt0 : goal.loop-start-preserved-then-plain-gt0
+loop-start-preserved-then-plain-gt0 c =
+    let start : ℕ = c.loop-start.start in
+    let n : ℕ = c.args.columns - start in
+    let words : ℕ = c.plain_words-plain.result in
+    let rest : List ℕ = c.loop-start.rest.now in
+    let fit : 64 * words ≤ n = omega (arith, c.plain_words-plain.ensures.within) in
+    let room : 8 * words ≤ length rest = omega (arith, c.loop-start.invariant.room) in
+    let more : n - 64 * words ≡ c.args.columns - (start + 64 * words) = omega arith in
+    let behind : take (length rest - 8 * words) (drop (8 * words) rest) ≡ drop (8 * words) rest = take_rest rest (8 * words) in
+    let color : nat_eq (c.loop-start.before % 2) 1 ≡ bit_of c.loop-start.before 0 = ap (λ (b : ℕ). nat_eq b 1) (let e : c.loop-start.before % 2 ≡ c.loop-start.before / 2 ^ 0 % 2 = omega arith in e) in
+    let scanned = plain_scanned start n c.loop-start.before words _ rest color fit room c.plain_words-plain.ensures.plain in
+    let after : ℕ → List ℕ → List ℕ = λ (m : ℕ). λ (l : List ℕ). changes_from (start + 64 * words) (bit_of c.loop-start.before 0) (take m (bits_of l)) in
+    record {
+      within = omega (arith, fit);
+      room = omega (arith, c.loop-start.invariant.room, length-drop (8 * words) rest, ap length behind);
+      left = ap (λ (l : List ℕ). c.loop-start.list.items ++ after (c.args.columns - (start + 64 * words)) l) behind
+          ∙ ap (λ (m : ℕ). c.loop-start.list.items ++ after m (drop (8 * words) rest)) (sym more)
+          ∙ ap (λ (l : List ℕ). c.loop-start.list.items ++ l) (sym scanned) ∙ c.loop-start.invariant.left;
+    }
 
 pub loop-start-preserved : goal.loop-start-preserved
 loop-start-preserved c =
