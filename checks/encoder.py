@@ -2,6 +2,7 @@
 import ctypes
 import os
 import random
+import shutil
 import subprocess
 import tempfile
 
@@ -188,7 +189,45 @@ def beside_libtiff():
     print(f"  {by_it} strips decoded by libtiff, {by_us} of libtiff's decoded; {same} strips of Group 4 are the same bytes")
 
 
-CHECKS = [pictures_come_back, calls_that_encode, encoding_without_memory, beside_libtiff]
+DECODE = """/buffer 65536 string def
+/decode {
+    /align exch def /columns exch def /k exch def /out exch def /in exch def
+    /source in (r) file << /K k /Columns columns /EncodedByteAlign align /BlackIs1 true /EndOfBlock true >> /CCITTFaxDecode filter def
+    /target out (w) file def
+    { source buffer readstring exch target exch writestring not { exit } if } loop
+    target closefile
+} def
+"""
+
+
+def beside_ghostscript():
+    """Our strips decoded by Ghostscript, which has Group 4 with aligned rows too."""
+    if not shutil.which("gs"):
+        print("  left out, without gs")
+        return
+    c_library.build()
+    with tempfile.TemporaryDirectory() as folder:
+        encode, _ = examples(folder)
+        expected, text = [], DECODE
+        for columns, bitmap in pictures():
+            for mode, flags, _ in WAYS:
+                name = f"{folder}/{len(expected)}"
+                with open(name, "wb") as file:
+                    file.write(run(pbm(columns, bitmap), encode, mode, flags).stdout)
+                text += f"({name}) ({name}.bits) {-1 if mode == 'g4' else 0} {columns} {str(flags == 'a').lower()} decode\n"
+                expected.append(bitmap)
+        with open(f"{folder}/decode.ps", "w", encoding="ascii") as file:
+            file.write(text + "quit\n")
+        done = run(b"", "gs", "-q", "-dNODISPLAY", "-dBATCH", "-dNOSAFER", f"{folder}/decode.ps")
+        assert (done.returncode, done.stdout, done.stderr) == (0, b"", b""), done
+        for index, bitmap in enumerate(expected):
+            with open(f"{folder}/{index}.bits", "rb") as file:
+                assert file.read() == bitmap, f"strip {index}"
+    assert expected
+    print(f"  {len(expected)} strips decoded by Ghostscript")
+
+
+CHECKS = [pictures_come_back, calls_that_encode, encoding_without_memory, beside_libtiff, beside_ghostscript]
 
 if __name__ == "__main__":
     for check in CHECKS:
