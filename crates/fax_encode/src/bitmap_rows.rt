@@ -84,7 +84,7 @@ fn word_of(bytes: &[u8]) -> u64
     }
 }
 
-/// How many words of pixels at the front are of one colour, so many at most.
+/// How many words of pixels at the front are of this colour alone, so many at most.
 #[inline(always)]
 fn plain_words(bytes: &[u8], most: usize, is_black: bool) -> usize
     requires { 8 * most ≤ length bytes.now }
