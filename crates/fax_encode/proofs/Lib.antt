@@ -1,3 +1,4 @@
+pub mod BitmapRoundTrip
 pub mod ChosenLines
 pub mod ChosenWords
 pub mod Elements

@@ -39,3 +39,17 @@ RoundTripT4 = (settings : DecodeSettings) (columns : ℕ) (lists : List (List �
 -- A bitmap of packed rows shows those rows.
 abbrev pub PackedIsShown : Type 0
 PackedIsShown = (columns : ℕ) (rows : List Row) (bitmap : List ℕ) → IsPicture columns rows → bits_of bitmap ≡ packed rows → shown columns bitmap ≡ rows
+
+-- Bytes of the chosen T.6 picture of a bitmap are read as the rows that it shows, all of them.
+abbrev pub BitmapRoundTripT6 : Type 0
+BitmapRoundTripT6 = (settings : DecodeSettings) (columns : ℕ) (bitmap bytes : List ℕ)
+    → 0 < columns → columns < 2 ^ 32 → ReadToTheEnd settings columns → settings.encoding ≡ Group4
+    → bits_of bytes ≡ filled_up (chosen_t6 columns settings.rows_are_byte_aligned (shown columns bitmap))
+    → plain settings bytes ≡ record { rows = shown columns bitmap; outcome = Ok (length bytes); has_eols = false }
+
+-- Bytes of the chosen T.4 picture of a bitmap are read as the rows that it shows, all of them.
+abbrev pub BitmapRoundTripT4 : Type 0
+BitmapRoundTripT4 = (settings : DecodeSettings) (columns : ℕ) (bitmap bytes : List ℕ)
+    → 0 < columns → columns < 2 ^ 32 → 0 < length (shown columns bitmap) → ReadToTheEnd settings columns → settings.encoding ≡ Group3_1D
+    → bits_of bytes ≡ filled_up (chosen_t4 (shown columns bitmap))
+    → plain settings bytes ≡ record { rows = shown columns bitmap; outcome = Ok (length bytes); has_eols = true }
