@@ -1,16 +1,39 @@
 /* Decodes cases, a line each on standard input: encoding, columns, rows, flags, as hayro_ccitt.h numbers them, and the data in
    hexadecimal, `-` for none. Each call is made, on blocks that are exactly as long as they have to be, so that a tool for memory
-   sees each byte that is touched beyond. Of each case a line is written: the status, the bytes read, and the lists. */
+   sees each byte that is touched beyond. The rows are encoded again in each way. Of each case a line is written: the status, the
+   bytes read, and the lists. */
 #include <stdio.h>
 #include <stdlib.h>
 #include <string.h>
 
+#include "../c/fax_encode.h"
 #include "../c/hayro_ccitt.h"
 
 static void *block(size_t size) {
     void *made = malloc(size ? size : 1);
     if (!made) exit(2);
     return made;
+}
+
+static void each_encoding(const uint8_t *bitmap, size_t size, uint32_t columns) {
+    static const uint32_t ways[][2] = {
+        {FAX_ENCODE_GROUP_4, 0}, {FAX_ENCODE_GROUP_4, FAX_ENCODE_ALIGNED_ROWS}, {FAX_ENCODE_GROUP_3_1D, 0}};
+    for (size_t way = 0; way < 3; way++) {
+        fax_encode_settings settings = {columns, ways[way][0], ways[way][1]};
+        fax_encode_outcome wanted, encoded;
+        uint8_t *none = block(0);
+        uint32_t status = fax_encode_bitmap(bitmap, size, &settings, none, 0, &wanted);
+        free(none);
+        if (columns == 0 || (size == 0 && way == 2)) {
+            if (status != FAX_ENCODE_NOT_TAKEN) exit(8);
+            continue;
+        }
+        if (status != FAX_ENCODE_REFUSED) exit(9);
+        uint8_t *data = block(wanted.bytes);
+        if (fax_encode_bitmap(bitmap, size, &settings, data, wanted.bytes, &encoded) != FAX_ENCODE_OK) exit(10);
+        if (memcmp(&wanted, &encoded, sizeof wanted) != 0) exit(11);
+        free(data);
+    }
 }
 
 static void each_call(const uint8_t *data, size_t length, const hayro_ccitt_settings *settings) {
@@ -25,6 +48,7 @@ static void each_call(const uint8_t *data, size_t length, const hayro_ccitt_sett
         uint8_t *bitmap = block(size);
         if (hayro_ccitt_decode_packed(data, length, settings, bitmap, size, &packed) != status) exit(5);
         if (memcmp(&measured, &packed, sizeof measured) != 0) exit(6);
+        each_encoding(bitmap, size, settings->columns);
         free(bitmap);
     }
     printf("%u %llu", status, (unsigned long long)measured.bytes_read);

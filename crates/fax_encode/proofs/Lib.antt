@@ -1,12 +1,16 @@
+pub mod BitmapRoundTrip
 pub mod ChosenLines
 pub mod ChosenWords
 pub mod Elements
 pub mod ModesWritten
 pub mod PackedRows
+pub mod PackedRowsT4
 pub mod PaintedRows
 pub mod PaintedWords
 pub mod RoundTrip
 pub mod RowLists
 pub mod RunsWritten
+pub mod ScannedRows
+pub mod ScannedWords
 pub mod WordTables
 pub mod WrittenBits

@@ -115,7 +115,7 @@ pub padded_whole : (aligned : Bool) (drawn after : Bits) → after ≡ drawn ++ 
 padded_whole true drawn after a is = omega (arith, ap length a, length-append drawn (padding (length drawn)), length-replicate ((8 - length drawn % 8) % 8) false)
 padded_whole false drawn after a is = absurd (false≢true is)
 
-lines_first : (aligned : Bool) (reference row : Row) (rows : List Row) → chosen_lines_2d aligned reference (row ∷ rows)
+pub lines_first : (aligned : Bool) (reference row : Row) (rows : List Row) → chosen_lines_2d aligned reference (row ∷ rows)
     ≡ (chosen_line_2d reference row ++ cond aligned (padding (length (chosen_line_2d reference row))) []) ++ chosen_lines_2d aligned row rows
 lines_first aligned reference row rows = refl
 

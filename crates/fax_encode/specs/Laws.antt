@@ -7,6 +7,7 @@ use Rattle.hayro_ccitt.specs.Rows.{Row}
 use Rattle.hayro_ccitt.specs.Encodings.{IsPicture, PictureT6, PictureT4}
 use Rattle.hayro_ccitt.specs.PlainReading.{plain}
 use Rattle.fax_encode.specs.Chosen.{chosen_t6, chosen_t4, filled_up, rows_of}
+use Rattle.fax_encode.specs.Packed.{packed, shown}
 use Rattle.fax_encode.specs.Refusals.{AreRows}
 
 -- what is chosen for a picture is an encoding of it
@@ -34,3 +35,21 @@ RoundTripT4 = (settings : DecodeSettings) (columns : ℕ) (lists : List (List �
     → 0 < columns → columns < 2 ^ 32 → 0 < length lists → AreRows columns lists → ReadToTheEnd settings columns → settings.encoding ≡ Group3_1D
     → bits_of bytes ≡ filled_up (chosen_t4 (rows_of columns lists))
     → plain settings (bits_of bytes) ≡ record { rows = rows_of columns lists; outcome = Ok (length bytes); has_eols = true }
+
+-- A bitmap of packed rows shows those rows.
+abbrev pub PackedIsShown : Type 0
+PackedIsShown = (columns : ℕ) (rows : List Row) (bitmap : List ℕ) → IsPicture columns rows → bits_of bitmap ≡ packed rows → shown columns bitmap ≡ rows
+
+-- Bytes of the chosen T.6 picture of a bitmap are read as the rows that it shows, all of them.
+abbrev pub BitmapRoundTripT6 : Type 0
+BitmapRoundTripT6 = (settings : DecodeSettings) (columns : ℕ) (bitmap bytes : List ℕ)
+    → 0 < columns → columns < 2 ^ 32 → ReadToTheEnd settings columns → settings.encoding ≡ Group4
+    → bits_of bytes ≡ filled_up (chosen_t6 columns settings.rows_are_byte_aligned (shown columns bitmap))
+    → plain settings (bits_of bytes) ≡ record { rows = shown columns bitmap; outcome = Ok (length bytes); has_eols = false }
+
+-- Bytes of the chosen T.4 picture of a bitmap are read as the rows that it shows, all of them.
+abbrev pub BitmapRoundTripT4 : Type 0
+BitmapRoundTripT4 = (settings : DecodeSettings) (columns : ℕ) (bitmap bytes : List ℕ)
+    → 0 < columns → columns < 2 ^ 32 → 0 < length (shown columns bitmap) → ReadToTheEnd settings columns → settings.encoding ≡ Group3_1D
+    → bits_of bytes ≡ filled_up (chosen_t4 (shown columns bitmap))
+    → plain settings (bits_of bytes) ≡ record { rows = shown columns bitmap; outcome = Ok (length bytes); has_eols = true }

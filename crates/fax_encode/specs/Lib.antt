@@ -4,4 +4,5 @@ pub mod Laws
 pub mod Packed
 pub mod Painting
 pub mod Refusals
+pub mod Scanning
 pub mod Writing

@@ -1,12 +1,25 @@
 -- Packed rows: bitmaps of one bit a pixel.
-use Rattle.std.specs.Prelude.{ℕ, Bool, List, flat_map}
-use Rattle.hayro_ccitt.specs.Bits.{Bits}
+use Rattle.std.specs.Prelude.{ℕ, zero, suc, ◌+◌, ◌/◌, Bool, List, [], ◌∷◌, length, take, drop, flat_map}
+use Rattle.hayro_ccitt.specs.Bits.{Bits, bits_of}
 use Rattle.hayro_ccitt.specs.Rows.{Row}
 use Rattle.fax_encode.specs.Chosen.{filled_up}
 
 -- the bits of packed rows: each row's pixels from the left, 1 for black, and zeros up to a whole byte
 abbrev pub packed : List Row → Bits
 packed rows = flat_map filled_up rows
+
+-- how many bytes a row takes
+abbrev pub bytes_of_row : ℕ → ℕ
+bytes_of_row columns = (columns + 7) / 8
+
+-- the first rows that bytes show, so many: of each row its pixels, and not what stands behind them up to a whole byte
+abbrev pub rows_shown : ℕ → ℕ → List ℕ → List Row
+rows_shown columns zero bytes = []
+rows_shown columns (suc n) bytes = take columns (bits_of bytes) ∷ rows_shown columns n (drop (bytes_of_row columns) bytes)
+
+-- the picture that a bitmap shows: as many rows as it has whole ones
+abbrev pub shown : ℕ → List ℕ → List Row
+shown columns bitmap = rows_shown columns (length bitmap / bytes_of_row columns) bitmap
 
 -- the bytes of the rows that a sink took, the width of its rows, and whether it has refused one
 pub record Bitmap : Type 0 where

@@ -35,7 +35,7 @@ fn put_lines(writer: &mut BitWriter, columns: u32, rows: &[Vec<u32>]) -> Result<
 }
 
 /// Writes RTC, which is six EOLs (T.4, section 4.1.4).
-fn put_return_to_control(writer: &mut BitWriter) -> Result<(), AllocError>
+pub fn put_return_to_control(writer: &mut BitWriter) -> Result<(), AllocError>
     ensures { OnOk result (all_bits writer.new ≡ all_bits writer.old ++ return_to_control) }
 {
     put_eol(writer)?;

@@ -151,7 +151,7 @@ fn put_mode(
 }
 
 /// Writes the modes of a row, from the place left of it to its end (T.4, section 4.2.1.3).
-fn put_line(
+pub fn put_line(
     writer: &mut BitWriter,
     columns: u32,
     reference: &[u32],
@@ -175,7 +175,7 @@ fn put_line(
 }
 
 /// Writes zeros up to a whole byte where lines are aligned.
-fn put_padding(writer: &mut BitWriter, aligned: bool) -> Result<(), AllocError>
+pub fn put_padding(writer: &mut BitWriter, aligned: bool) -> Result<(), AllocError>
     ensures { OnOk result (all_bits writer.new ≡ all_bits writer.old
         ++ (if aligned then padding (length (all_bits writer.old)) else [])) }
 {

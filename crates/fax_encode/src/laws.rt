@@ -1,6 +1,6 @@
 //! Laws of the chosen encoding: each is the contract of a function that does nothing.
 
-ghost use Rattle.fax_encode.specs.Laws.{ChosenIsAnEncoding, RoundTripT6, RoundTripT4};
+ghost use Rattle.fax_encode.specs.Laws.{BitmapRoundTripT4, BitmapRoundTripT6, ChosenIsAnEncoding, PackedIsShown, RoundTripT6, RoundTripT4};
 
 /// What is chosen for a picture encodes it: as T.6, closed by EOFB, and as one-dimensional T.4 with an EOL before each
 /// line, closed by RTC.
@@ -12,4 +12,16 @@ pub fn chosen_is_an_encoding()
 pub fn round_trip()
     ensures t6 { RoundTripT6 }
     ensures t4 { RoundTripT4 }
+{}
+
+/// A bitmap of packed rows, with zeros behind each up to a whole byte, shows those rows.
+pub fn packed_is_shown()
+    ensures { PackedIsShown }
+{}
+
+/// The bytes of a bitmap's chosen encoding are read as the rows that it shows, with settings that match: all rows, all
+/// bytes.
+pub fn bitmap_round_trip()
+    ensures t6 { BitmapRoundTripT6 }
+    ensures t4 { BitmapRoundTripT4 }
 {}

@@ -2,6 +2,8 @@
 #![tactic(auto)]
 
 mod bit_writer;
+mod bitmap_encoding;
+mod bitmap_rows;
 mod bitmap_sink;
 mod error;
 mod group3;
@@ -13,12 +15,16 @@ mod rows;
 mod runs;
 mod words;
 
+pub use bitmap_encoding::{encode_bitmap_1d, encode_bitmap_g4};
+pub use bitmap_rows::rows_of_bitmap;
 pub use bitmap_sink::BitmapSink;
 pub use error::EncodeError;
 pub use group3::encode_1d;
 pub use group4::encode_g4;
 pub use painting::paint_row;
-pub use round_trip::bitmap_by_group4;
+pub use round_trip::{bitmap_by_group3, bitmap_by_group4};
 
+#[cfg(test)]
+mod bitmap_tests;
 #[cfg(test)]
 mod tests;

@@ -20,7 +20,7 @@ struct Brush {
 
 /// A word of pixels of one colour.
 #[inline(always)]
-fn plain_word(is_black: bool) -> u64
+pub fn plain_word(is_black: bool) -> u64
     ensures { low_bits 64 result ≡ replicate 64 is_black }
 {
     if is_black { u64::MAX } else { 0 }

@@ -6,7 +6,7 @@ ghost use Rattle.fax_encode.specs.Chosen.{rows_of};
 ghost use Rattle.fax_encode.specs.Packed.{packed};
 ghost use Rattle.fax_encode.specs.Refusals.{IsFirstUnlawful};
 
-use crate::{BitmapSink, EncodeError, encode_g4};
+use crate::{BitmapSink, EncodeError, encode_1d, encode_g4};
 use hayro_ccitt::{DecodeSettings, DecoderContext, EncodingMode, bits_fit, decode};
 use std::alloc::Global;
 
@@ -36,6 +36,39 @@ pub fn bitmap_by_group4(
         end_of_line: false,
         rows_are_byte_aligned: aligned,
         encoding: EncodingMode::Group4,
+        strict: true,
+    };
+    let Ok(mut ctx) = DecoderContext::new(alloc, settings) else {
+        return Err(EncodeError::OutOfMemory);
+    };
+    let mut sink = BitmapSink::new(alloc, columns);
+    match decode(data, &mut sink, &mut ctx) {
+        Ok(_) => Ok(sink),
+        Err(_) => Err(EncodeError::OutOfMemory),
+    }
+}
+
+/// The bitmap of rows, by way of one-dimensional Group 3: they are encoded and decoded again. Each error is one of
+/// [`encode_1d`]; `OutOfMemory` comes also where there was no memory to decode.
+pub fn bitmap_by_group3(
+    alloc: Global,
+    columns: u32,
+    rows: &[Vec<u32>],
+) -> std::result::Result<BitmapSink, EncodeError>
+    ensures { IfOk result (λ sink. bits_of sink.bytes ≡ packed (rows_of columns (map (λ row. row.items) rows.now))) }
+{
+    let encoded = encode_1d(alloc, columns, rows)?;
+    let data = encoded.as_slice();
+    if !bits_fit(data) {
+        return Err(EncodeError::OutOfMemory);
+    }
+    let settings = DecodeSettings {
+        columns,
+        rows: 0,
+        end_of_block: true,
+        end_of_line: true,
+        rows_are_byte_aligned: false,
+        encoding: EncodingMode::Group3_1D,
         strict: true,
     };
     let Ok(mut ctx) = DecoderContext::new(alloc, settings) else {

@@ -1,3 +1,4 @@
+pub mod Encoded
 pub mod ListedMemory
 pub mod PackedMemory
 pub mod Reporting

@@ -1,22 +1,28 @@
-//! The decoder for callers in C, and in other languages that call C. `c/hayro_ccitt.h` declares what is exported here.
+//! The decoder and the encoder for callers in C, and in other languages that call C. `c/hayro_ccitt.h` and
+//! `c/fax_encode.h` declare what is exported here.
 //!
 //! Each call decodes strips of bytes from strangers: it never reads or writes outside the memory that it is handed, and
 //! all memory that it asks for is let go when it returns.
 #![tactic(auto)]
 
-ghost use Rattle.std.specs.Prelude.{◌≡◌, ◌≢◌, ◌<◌, ◌≤◌, ◌+◌, ◌*◌, ◌⊎◌, None, length};
+ghost use Rattle.std.specs.Prelude.{◌≡◌, ◌≢◌, ◌<◌, ◌≤◌, ◌+◌, ◌*◌, ◌⊎◌, ◌↔◌, None, IfSome, length};
 ghost use Rattle.hayro_ccitt.specs.Bits.{BitsFit};
+ghost use Rattle.fax_encode.specs.Packed.{shown};
+ghost use Rattle.hayro_ccitt_c.specs.Encoding.{asked, AreEncoded, HaveNoRoom};
 ghost use Rattle.hayro_ccitt_c.specs.Packing.{bytes_of_row};
 ghost use Rattle.hayro_ccitt_c.specs.Reports.{OnSettings, IsReport, changes_taken, ArePacked, AreListed, numbers_taken};
 ghost use Rattle.hayro_ccitt_c.specs.Settings.{settings_of};
 
 mod change_count;
+mod encoding;
 mod listed_rows;
 mod packed_rows;
 mod report;
 mod settings;
 
 use change_count::ChangeCount;
+use encoding::{Unencoded, encoded};
+pub use encoding::{EncodeOutcome, EncodeSettings};
 use hayro_ccitt::bits_fit;
 use listed_rows::ListedRows;
 use packed_rows::PackedRows;
@@ -142,4 +148,46 @@ pub extern "C" fn hayro_ccitt_decode_changes(
         bytes_read: report.bytes_read,
     };
     report.status
+}
+
+/// Encodes a bitmap into `data`: a row takes (columns + 7) / 8 bytes, the leftmost pixel in a byte's highest bit, 1 for
+/// black, and what stands behind it up to a whole byte is passed over. What lies behind the encoded bytes stays.
+///
+/// `outcome` holds the number of rows and of the encoded bytes if the status is 0 or 5, else 0. A status of 4 says that there
+/// was no memory; 5, that `data` has no room for so many bytes; 6, that the settings are none, or that the bitmap isn't whole
+/// rows, or has none and Group 3 is asked for. With all but 0 `data` stays as it was.
+#[unsafe(no_mangle)]
+pub extern "C" fn fax_encode_bitmap(
+    alloc: Global,
+    bitmap: &[u8],
+    settings: &EncodeSettings,
+    data: &mut [u8],
+    outcome: &mut EncodeOutcome,
+) -> u32
+    ensures statuses { (result ≡ 0) ⊎ (result ≡ 4) ⊎ (result ≡ 5) ⊎ (result ≡ 6) }
+    ensures encoded { result ≡ 0 → IfSome (asked settings.now bitmap.now) (λ bits.
+        AreEncoded bits outcome.new.bytes «data».old «data».new) }
+    ensures refused { result ≡ 5 → IfSome (asked settings.now bitmap.now) (λ bits.
+        HaveNoRoom bits outcome.new.bytes (length «data».new)) }
+    ensures untaken { (result ≡ 6) ↔ (asked settings.now bitmap.now ≡ None) }
+    ensures rows { (result ≡ 0) ⊎ (result ≡ 5) → outcome.new.rows ≡ length (shown settings.now.columns bitmap.now) }
+    ensures kept { result ≢ 0 → «data».new ≡ «data».old }
+    ensures nothing_told { (result ≡ 4) ⊎ (result ≡ 6) → outcome.new ≡ record { rows = 0; bytes = 0 } }
+{
+    *outcome = EncodeOutcome { rows: 0, bytes: 0 };
+    let bytes = match encoded(alloc, bitmap, settings) {
+        Ok(bytes) => bytes,
+        Err(Unencoded::NotTaken) => return 6,
+        Err(Unencoded::OutOfMemory) => return 4,
+    };
+    let length = bytes.len();
+    *outcome = EncodeOutcome {
+        rows: (bitmap.len() / (settings.columns as usize).div_ceil(8)) as u64,
+        bytes: length as u64,
+    };
+    if length > data.len() {
+        return 5;
+    }
+    data[..length].copy_from_slice(bytes.as_slice());
+    0
 }

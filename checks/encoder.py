@@ -1,0 +1,235 @@
+"""Checks of the encoder for callers in C: its example, its call on cases with known answers, and its strips beside libtiff's."""
+import ctypes
+import os
+import random
+import shutil
+import subprocess
+import tempfile
+
+import c_library
+
+# what the example is told, and then its counterpart, with as many rows as there are
+WAYS = [("g4", "-", "b"), ("g4", "a", "ba"), ("1d", "-", "b")]
+# columns, a bitmap, an encoding, flags, and the bytes, worked out from T.4 and T.6
+KNOWN = [
+    (8, "", 0, 0, "001001"),
+    (8, "18", 0, 0, "31c0040040"),
+    (8, "1818", 0, 0, "31f8008008"),
+    (8, "1818", 0, 4, "31c0e0001001"),
+    (8, "1800", 0, 0, "31c6002002"),
+    (8, "ff", 0, 0, "26a280080080"),
+    (8, "00", 1, 0, "001980080080080080080080"),
+    (8, "18", 1, 0, "0018e0004004004004004004"),
+    (2560, "00" * 320, 1, 0, "00101f35001001001001001001"),
+]
+# columns, bytes of a bitmap, an encoding and flags that aren't taken
+UNTAKEN = [(0, 0, 0, 0), (0, 4, 0, 0), (8, 0, 1, 0), (8, 1, 2, 0), (8, 1, 0, 1), (8, 1, 0, 8), (8, 1, 1, 4), (9, 3, 0, 0), (9, 1, 1, 0)]
+OK, REFUSED, NOT_TAKEN = 0, 5, 6
+
+
+class Settings(ctypes.Structure):
+    _fields_ = [(name, ctypes.c_uint32) for name in ("columns", "encoding", "flags")]
+
+
+class Outcome(ctypes.Structure):
+    _fields_ = [(name, ctypes.c_uint64) for name in ("rows", "bytes")]
+
+
+def pictures():
+    """The pictures of the corpus, and small ones of each width up to 70: scattered pixels, and runs."""
+    with open("corpus/manifest.tsv", encoding="utf-8") as file:
+        lines = [line.rstrip("\n").split("\t") for line in file if not line.startswith("#")]
+    for picture, columns in sorted({(line[6], int(line[3])) for line in lines}):
+        with open(f"corpus/{picture}", "rb") as file:
+            yield columns, file.read()
+    chance = random.Random(7)
+    for columns in range(1, 71):
+        for share in (0.5, 0.05):
+            width = (columns + 7) // 8
+            data, pixel = b"", 0
+            for _ in range(5):
+                bits = 0
+                for _ in range(columns):
+                    pixel ^= chance.random() < share
+                    bits = bits << 1 | pixel
+                data += (bits << (8 * width - columns)).to_bytes(width, "big")
+            yield columns, data
+
+
+def pbm(columns, bitmap):
+    return f"P4\n{columns} {len(bitmap) // ((columns + 7) // 8)}\n".encode() + bitmap
+
+
+def run(data, *words):
+    return subprocess.run(words, input=data, capture_output=True, check=False, timeout=60)
+
+
+def examples(folder):
+    return [c_library.compiled(f"{folder}/{name}", f"examples/{name}.c", "c/heap.c", c_library.LIBRARY) for name in ("pbm_to_strip", "strip_to_pbm")]
+
+
+def pictures_come_back():
+    """By the two examples: a picture, its strip, and the picture again; and what is no picture is refused."""
+    c_library.build()
+    seen = size = 0
+    with tempfile.TemporaryDirectory() as folder:
+        encode, decode = examples(folder)
+        for columns, bitmap in pictures():
+            picture = pbm(columns, bitmap)
+            with open(f"{folder}/picture", "wb") as file:
+                file.write(picture)
+            for mode, flags, read in WAYS:
+                strip = run(picture, encode, mode, flags)
+                assert (strip.returncode, strip.stderr) == (0, b""), (columns, mode, strip.stderr)
+                assert run(b"", encode, mode, flags, f"{folder}/picture").stdout == strip.stdout
+                again = run(strip.stdout, decode, mode, str(columns), "0", read)
+                assert (again.returncode, again.stdout, again.stderr) == (0, picture, b""), (columns, mode, flags)
+                seen += 1
+                size += len(strip.stdout)
+        for words, picture, status in [
+            (("g4", "-"), b"P4\n# a comment\n 8\t2\n\x18\x18", 0), (("g4", "-"), b"P4\n8 2\n\x18", 1), (("g4", "-"), b"P5\n8 1\n\x18", 1),
+            (("g4", "-"), b"P4\n8 1", 1), (("g4", "-"), b"P4\n4294967296 1\n", 1), (("1d", "-"), b"P4\n8 0\n", 1), (("g4", "-"), b"P4\n0 8\n", 1),
+            (("g4", "-"), b"P4\n4294967295 4294967295\n\x18", 1), (("2d", "-"), b"P4\n8 1\n\x18", 2), (("1d", "a"), b"P4\n8 1\n\x18", 2), (("g4", "-", "/none"), b"", 1),
+        ]:
+            done = run(picture, encode, *words)
+            assert done.returncode == status and (status == 0) == (done.stderr == b"") and (status == 0) == (done.stdout != b""), (words, picture, done)
+    assert seen > 0
+    print(f"  {seen} strips, {size} bytes of them")
+
+
+def called(library, columns, bitmap, encoding, flags, room):
+    """What the call answers and tells, and its memory, a guard behind it."""
+    settings, outcome, memory = Settings(columns, encoding, flags), Outcome(7, 7), c_library.bytes_lent(room)
+    source = (ctypes.c_uint8 * (len(bitmap) + 1)).from_buffer_copy(bitmap + b"\0")
+    answer = library.fax_encode_bitmap(
+        source, ctypes.c_size_t(len(bitmap)), ctypes.byref(settings), memory, ctypes.c_size_t(room), ctypes.byref(outcome)
+    )
+    return answer, (outcome.rows, outcome.bytes), bytes(memory)
+
+
+def calls_that_encode():
+    """The call on cases with known bytes: with just enough room, with more, and with too little, where nothing is written."""
+    c_library.build()
+    guard = b"\xa5" * c_library.GUARD
+    refused = 0
+    with tempfile.TemporaryDirectory() as folder:
+        library = c_library.loaded(folder)
+        for columns, text, encoding, flags, expected in KNOWN:
+            bitmap, expected = bytes.fromhex(text), bytes.fromhex(expected)
+            told = len(bitmap) // ((columns + 7) // 8), len(expected)
+            assert called(library, columns, bitmap, encoding, flags, len(expected)) == (OK, told, expected + guard), (columns, text)
+            assert called(library, columns, bitmap, encoding, flags, len(expected) + 9) == (OK, told, expected + b"\xa5" * 9 + guard), (columns, text)
+            for room in range(len(expected)):
+                assert called(library, columns, bitmap, encoding, flags, room) == (REFUSED, told, b"\xa5" * room + guard), (columns, text, room)
+                refused += 1
+        # what stands behind a row is passed over
+        assert called(library, 3, b"\x5f\xa0", 0, 0, 16) == called(library, 3, b"\x40\xa0", 0, 0, 16)
+        for columns, size, encoding, flags in UNTAKEN:
+            assert called(library, columns, bytes(size), encoding, flags, 8) == (NOT_TAKEN, (0, 0), b"\xa5" * 8 + guard), (columns, size, encoding, flags)
+    print(f"  {len(KNOWN)} cases, {refused} with too little room, {len(UNTAKEN)} not taken")
+
+
+def encoding_without_memory():
+    """Each allocation of the example refused in turn: it says so, and writes nothing."""
+    c_library.build()
+    seen = 0
+    picture = pbm(8, b"\x18\x18")
+    with tempfile.TemporaryDirectory() as folder:
+        encode, _ = examples(folder)
+        shim = f"{folder}/refuse.so"
+        subprocess.run(["gcc", "-shared", "-fPIC", "-o", shim, "checks/refuse.c", "-ldl"], check=True)
+        for mode in ("g4", "1d"):
+            whole = (0, run(picture, encode, mode, "-").stdout, b"")
+            assert whole[1], mode
+            for number in range(1, 100):
+                refused = {**os.environ, "LD_PRELOAD": shim, "REFUSE": str(number)}
+                done = subprocess.run([encode, mode, "-"], input=picture, capture_output=True, env=refused, check=False, timeout=60)
+                answer = (done.returncode, done.stdout, done.stderr.replace(b"refused\n", b"", 1))
+                if b"refused\n" not in done.stderr:
+                    assert answer == whole, answer
+                    break
+                ended = (2, b"", b"pbm_to_strip: out of memory\n")
+                assert answer in (whole, ended), answer
+                seen += answer == ended
+            else:
+                raise AssertionError("it never ran without a refusal")
+    assert seen > 3
+    print(f"  {seen} allocations refused in turn")
+
+
+def beside_libtiff():
+    """Our strips decoded by libtiff, and libtiff's by ours. It has no Group 4 with aligned rows."""
+    c_library.build()
+    by_it = by_us = same = 0
+    with tempfile.TemporaryDirectory() as folder:
+        tool = f"{folder}/by_libtiff"
+        built = run(b"", "gcc", "-O2", "-Wall", "-Wextra", "-Werror", "-std=c11", "-o", tool, "checks/by_libtiff.c", "-ltiff")
+        if built.returncode:
+            assert b"tiffio.h" in built.stderr, built.stderr
+            print("  left out, without libtiff")
+            return
+        encode, decode = examples(folder)
+        for columns, bitmap in pictures():
+            picture = pbm(columns, bitmap)
+            rows = len(bitmap) // ((columns + 7) // 8)
+            words = (str(columns), str(rows), f"{folder}/tiff")
+            ours = {mode: run(picture, encode, mode, "-").stdout for mode in ("g4", "1d")}
+            for mode, strip in ours.items():
+                done = run(strip, tool, "decode", mode, *words)
+                assert (done.returncode, done.stdout) == (0, bitmap), (columns, mode, done.stderr)
+                by_it += 1
+            for its, mode, flags in (("g4", "g4", "b"), ("1d", "1d", "-"), ("rle", "1d", "a")):
+                strip = run(bitmap, tool, "encode", its, *words)
+                assert strip.returncode == 0, (columns, its, strip.stderr)
+                done = run(strip.stdout, decode, mode, str(columns), str(rows), flags)
+                assert (done.returncode, done.stdout) == (0, picture), (columns, its, done.stderr)
+                by_us += 1
+                same += its == "g4" and strip.stdout == ours["g4"]
+    assert by_it > 0
+    print(f"  {by_it} strips decoded by libtiff, {by_us} of libtiff's decoded; {same} strips of Group 4 are the same bytes")
+
+
+DECODE = """/buffer 65536 string def
+/decode {
+    /align exch def /columns exch def /k exch def /out exch def /in exch def
+    /source in (r) file << /K k /Columns columns /EncodedByteAlign align /BlackIs1 true /EndOfBlock true >> /CCITTFaxDecode filter def
+    /target out (w) file def
+    { source buffer readstring exch target exch writestring not { exit } if } loop
+    target closefile
+} def
+"""
+
+
+def beside_ghostscript():
+    """Our strips decoded by Ghostscript, which has Group 4 with aligned rows too."""
+    if not shutil.which("gs"):
+        print("  left out, without gs")
+        return
+    c_library.build()
+    with tempfile.TemporaryDirectory() as folder:
+        encode, _ = examples(folder)
+        expected, text = [], DECODE
+        for columns, bitmap in pictures():
+            for mode, flags, _ in WAYS:
+                name = f"{folder}/{len(expected)}"
+                with open(name, "wb") as file:
+                    file.write(run(pbm(columns, bitmap), encode, mode, flags).stdout)
+                text += f"({name}) ({name}.bits) {-1 if mode == 'g4' else 0} {columns} {str(flags == 'a').lower()} decode\n"
+                expected.append(bitmap)
+        with open(f"{folder}/decode.ps", "w", encoding="ascii") as file:
+            file.write(text + "quit\n")
+        done = run(b"", "gs", "-q", "-dNODISPLAY", "-dBATCH", "-dNOSAFER", f"{folder}/decode.ps")
+        assert (done.returncode, done.stdout, done.stderr) == (0, b"", b""), done
+        for index, bitmap in enumerate(expected):
+            with open(f"{folder}/{index}.bits", "rb") as file:
+                assert file.read() == bitmap, f"strip {index}"
+    assert expected
+    print(f"  {len(expected)} strips decoded by Ghostscript")
+
+
+CHECKS = [pictures_come_back, calls_that_encode, encoding_without_memory, beside_libtiff, beside_ghostscript]
+
+if __name__ == "__main__":
+    for check in CHECKS:
+        check()
+        print(f"{check.__name__}: ok")

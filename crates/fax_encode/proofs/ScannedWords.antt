@@ -1,0 +1,216 @@
+-- Words of pixels, and where their colour turns.
+use Rattle.std.proofs.Common.{◌≡◌, ℕ, zero, suc, ◌+◌, ◌-◌, ◌*◌, ◌/◌, ◌%◌, ◌^◌, ◌<◌, ◌≤◌, Bool, true, false, not, eqb, List, [], ◌∷◌, ◌++◌, get_or, take, replicate, refl, sym, ap, ◌∙◌, arith, inl, inr}
+use mathlib.Core.Bool.{beq}
+use lib.Count.{count_leading_zeros}
+use Rattle.std.specs.Int.{bit_at, from_be_bytes, w64}
+use Rattle.std.specs.Int.RustNames.{bit_or, bit_xor}
+use Rattle.std.proofs.lemmas.Bool.{cases_lt}
+use Rattle.std.proofs.lemmas.Nat.{pow_pos, be_bytes_8, or_shifted, leading_top, leading_length, div-mul-add, one_shl}
+use Rattle.std.proofs.lemmas.Nat.Bits.{bit_at_xor, bit_at-lt, bit_at-suc, bit_at_above, bit_at_cat_low, bit_at_cat_high}
+use Rattle.std.proofs.Math.Nat.{pow-suc}
+use Rattle.hayro_ccitt.specs.Bits.{Bits, bit_of, bits_of, low_bits}
+use Rattle.hayro_ccitt.specs.Rows.{Row, last_pixel}
+use Rattle.hayro_ccitt.proofs.PixelRows.RowChanges.{changes_from}
+use Rattle.fax_encode.specs.Scanning.{differences, ones_from}
+use Rattle.fax_encode.proofs.PaintedWords.{bits_of_word}
+use Rattle.fax_encode.proofs.WrittenBits.{low_bits_below}
+
+-- ---- the word of eight bytes
+-- the first eight bytes, and zeros past the end
+abbrev pub eight : List ℕ → List ℕ
+eight bytes =
+    get_or bytes 0 0 ∷ get_or bytes 1 0 ∷ get_or bytes 2 0 ∷ get_or bytes 3 0 ∷ get_or bytes 4 0 ∷ get_or bytes 5 0 ∷ get_or bytes 6 0 ∷ get_or bytes 7 0 ∷ []
+
+eight_fit : (bytes : List ℕ) → ((i : ℕ) → get_or bytes i 0 < 256) → (i : ℕ) → get_or (eight bytes) i 0 < 256
+eight_fit bytes fits zero = fits 0
+eight_fit bytes fits (suc zero) = fits 1
+eight_fit bytes fits (suc (suc zero)) = fits 2
+eight_fit bytes fits (suc (suc (suc zero))) = fits 3
+eight_fit bytes fits (suc (suc (suc (suc zero)))) = fits 4
+eight_fit bytes fits (suc (suc (suc (suc (suc zero))))) = fits 5
+eight_fit bytes fits (suc (suc (suc (suc (suc (suc zero)))))) = fits 6
+eight_fit bytes fits (suc (suc (suc (suc (suc (suc (suc zero))))))) = fits 7
+eight_fit bytes fits (suc (suc (suc (suc (suc (suc (suc (suc i)))))))) = omega arith
+
+-- their bits
+bits_of-eight : (bytes : List ℕ) → bits_of (eight bytes) ≡ take 64 (bits_of bytes ++ replicate 64 false)
+bits_of-eight [] = refl
+bits_of-eight (a ∷ []) = refl
+bits_of-eight (a ∷ b ∷ []) = refl
+bits_of-eight (a ∷ b ∷ c ∷ []) = refl
+bits_of-eight (a ∷ b ∷ c ∷ d ∷ []) = refl
+bits_of-eight (a ∷ b ∷ c ∷ d ∷ e ∷ []) = refl
+bits_of-eight (a ∷ b ∷ c ∷ d ∷ e ∷ f ∷ []) = refl
+bits_of-eight (a ∷ b ∷ c ∷ d ∷ e ∷ f ∷ g ∷ []) = refl
+bits_of-eight (a ∷ b ∷ c ∷ d ∷ e ∷ f ∷ g ∷ h ∷ bytes) = refl
+
+pub word_of_bytes : (bytes : List ℕ) (word : ℕ) → ((i : ℕ) → get_or bytes i 0 < 256) → word ≡ from_be_bytes w64 (eight bytes)
+    → low_bits 64 word ≡ take 64 (bits_of bytes ++ replicate 64 false)
+word_of_bytes bytes word fits is =
+    sym (bits_of_word word) ∙ ap bits_of (be_bytes_8 (eight bytes) word refl (eight_fit bytes fits) is) ∙ bits_of-eight bytes
+
+-- ---- where the colour turns
+-- two bits that differ
+differ : (a b : ℕ) → a < 2 → b < 2 → eqb ((a + b) % 2) 1 ≡ not (beq (eqb b 1) (eqb a 1))
+differ zero zero m n = refl
+differ zero (suc zero) m n = refl
+differ (suc zero) zero m n = refl
+differ (suc zero) (suc zero) m n = refl
+differ zero (suc (suc b)) m n = absurd (omega arith)
+differ (suc zero) (suc (suc b)) m n = absurd (omega arith)
+differ (suc (suc a)) b m n = absurd (omega arith)
+
+differs_at : (word left k : ℕ) → bit_of (bit_xor word left) k ≡ not (beq (bit_of left k) (bit_of word k))
+differs_at word left k = ap (λ (b : ℕ). eqb b 1) (bit_at_xor word left k) ∙ differ (bit_at word k) (bit_at left k) (bit_at-lt word k) (bit_at-lt left k)
+
+-- a word beside the same pixels one place to the right
+differences_of : (n word left : ℕ) → ((k : ℕ) → k < n → bit_of left k ≡ bit_of word (suc k))
+    → low_bits (suc n) (bit_xor word left) ≡ differences (bit_of left n) (low_bits (suc n) word)
+differences_of zero word left shifted = ap (λ (b : Bool). b ∷ []) (differs_at word left 0)
+differences_of (suc n) word left shifted =
+    let one : bit_of (bit_xor word left) (suc n) ≡ not (beq (bit_of left (suc n)) (bit_of word (suc n))) = differs_at word left (suc n) in
+    let before : bit_of left n ≡ bit_of word (suc n) = shifted n (omega arith) in
+    let rest : low_bits (suc n) (bit_xor word left) ≡ differences (bit_of word (suc n)) (low_bits (suc n) word)
+    = differences_of n word left (λ k lt. shifted k (omega arith)) ∙ ap (λ (b : Bool). differences b (low_bits (suc n) word)) before in
+    cc
+
+-- the last pixel of the word before stands at the top
+module _ (before word : ℕ) (small : word < 2 ^ 64) where
+  abbrev left : ℕ
+  left = before % 2 * 2 ^ 63 + word / 2
+
+  shifted : bit_or (before * 2 ^ 63 % 2 ^ 64) (word / 2) ≡ left
+  shifted =
+      let top : before * 2 ^ 63 % 2 ^ 64 ≡ before % 2 * 2 ^ 63 = omega arith in
+      ap (λ (n : ℕ). bit_or n (word / 2)) top ∙ or_shifted (before % 2) 63 (word / 2) (omega arith)
+
+  at_top : bit_of left 63 ≡ bit_of before 0
+  at_top =
+      let low : (before % 2) / 2 ^ 0 % 2 ≡ before / 2 ^ 0 % 2 = omega arith in
+      ap (λ (b : ℕ). eqb b 1) (bit_at_cat_high (before % 2) 63 (word / 2) 63 (omega arith) (omega arith) ∙ low)
+
+  below : (k : ℕ) → k < 63 → bit_of left k ≡ bit_of word (suc k)
+  below k lt = ap (λ (b : ℕ). eqb b 1) (bit_at_cat_low (before % 2) 63 (word / 2) k lt ∙ sym (bit_at-suc word k))
+
+  pub turns_of : low_bits 64 (bit_xor word (bit_or (before * 2 ^ 63 % 2 ^ 64) (word / 2))) ≡ differences (bit_of before 0) (low_bits 64 word)
+  turns_of =
+      ap (λ (n : ℕ). low_bits 64 (bit_xor word n)) shifted ∙ differences_of 63 word left below ∙ ap (λ (b : Bool). differences b (low_bits 64 word)) at_top
+
+-- ---- the ones of a word
+-- zeros stand above a number
+zeros_above : (z j n : ℕ) → n < 2 ^ j → low_bits (z + j) n ≡ replicate z false ++ low_bits j n
+zeros_above zero j n lt = let e : zero + j ≡ j = omega arith in ap (λ (m : ℕ). low_bits m n) e
+zeros_above (suc z) j n lt =
+    let e : suc z + j ≡ suc (z + j) = omega arith in
+    let none : bit_of n (z + j) ≡ false = ap (λ (b : ℕ). eqb b 1) (bit_at_above n j (z + j) lt (omega arith)) in
+    let rest = zeros_above z j n lt in
+    ap (λ (m : ℕ). low_bits m n) e ∙ (let both : bit_of n (z + j) ∷ low_bits (z + j) n ≡ false ∷ (replicate z false ++ low_bits j n) = cc in both)
+
+-- a number below twice a power has it once
+one_times : (n j : ℕ) → 2 ^ j ≤ n → n < 2 ^ suc j → n / 2 ^ j ≡ 1
+one_times n j le lt =
+    let e : 2 ^ suc j ≡ 2 ^ j * 2 = pow-suc 2 j in
+    let rest : n - 2 ^ j < 2 ^ j = omega (arith, e) in
+    let whole : n ≡ 1 * 2 ^ j + (n - 2 ^ j) = omega arith in
+    ap (λ (m : ℕ). m / 2 ^ j) whole ∙ div-mul-add 1 (2 ^ j) (n - 2 ^ j) rest
+
+-- no ones among zeros
+pub ones-zeros : (first n : ℕ) → ones_from first (replicate n false) ≡ []
+ones-zeros first zero = refl
+ones-zeros first (suc n) = ones-zeros (suc first) n
+
+-- none in a word of zeros
+pub ones-none : (first count word : ℕ) → word ≡ 0 → ones_from first (take count (low_bits 64 word)) ≡ []
+ones-none first count word none = ap (λ (n : ℕ). ones_from first (take count (low_bits 64 n))) none ∙ among first count 64
+  where
+    among : (start m n : ℕ) → ones_from start (take m (replicate n false)) ≡ []
+    among start zero n = refl
+    among start (suc m) zero = refl
+    among start (suc m) (suc n) = among (suc start) m n
+
+take_zeros : (count z : ℕ) (rest : Bits) → count ≤ z → take count (replicate z false ++ rest) ≡ replicate count false
+take_zeros zero z rest le = refl
+take_zeros (suc count) zero rest le = absurd (omega arith)
+take_zeros (suc count) (suc z) rest le = ap (λ (b : Bits). false ∷ b) (take_zeros count z rest (omega arith))
+
+-- the first one is found behind zeros
+first_one : (first count z : ℕ) (rest : Bits) → z < count
+    → ones_from first (take count (replicate z false ++ true ∷ rest)) ≡ (first + z) ∷ ones_from first (take count (replicate (suc z) false ++ rest))
+first_one first zero z rest lt = absurd (omega arith)
+first_one first (suc count) zero rest lt = let e : first + zero ≡ first = omega arith in ap (λ (n : ℕ). n ∷ ones_from (suc first) (take count rest)) (sym e)
+first_one first (suc count) (suc z) rest lt =
+    let e : suc first + z ≡ first + suc z = omega arith in
+    first_one (suc first) count z rest (omega arith) ∙ ap (λ (n : ℕ). n ∷ ones_from (suc first) (take count (replicate (suc z) false ++ rest))) e
+
+-- the highest one of a word, so many places from its top, is taken away
+module _ (word ahead count : ℕ) (small : word < 2 ^ 64) (is : ahead ≡ count_leading_zeros 64 word) where
+  -- where there is none among the first bits
+  pub no_ones : (first : ℕ) → count ≤ ahead → ones_from first (take count (low_bits 64 word)) ≡ []
+  no_ones first le =
+      let top = leading_length 64 word small in
+      let e : 64 ≡ ahead + top.0 = omega (arith, top.1) in
+      ap (λ (m : ℕ). ones_from first (take count (low_bits m word))) e
+      ∙ ap (λ (b : Bits). ones_from first (take count b)) (zeros_above ahead top.0 word top.2)
+      ∙ ap (ones_from first) (take_zeros count ahead (low_bits top.0 word) le) ∙ ones-zeros first count
+
+  -- a word with a one is some number
+  some_one : ahead < 64 → 0 < word
+  some_one lt =
+      let long = leading_length 64 word small in
+      elim (cases_lt 0 word) [ inl some ↦ some | inr none ↦ absurd (no_zeros_left word long.0 none long.3 (omega (arith, long.1))) ]
+    where
+      -- zero has no bits
+      no_zeros_left : (w m : ℕ) → w ≤ 0 → 2 ^ m ≤ 2 * w + 1 → 0 < m → ⊥
+      no_zeros_left w zero none le lt = absurd (omega arith)
+      no_zeros_left w (suc m) none le lt = let e : 2 ^ suc m ≡ 2 ^ m * 2 = pow-suc 2 m in let some = pow_pos m in absurd (omega (arith, e, some))
+
+  -- where there is one
+  pub one_taken : (first rest : ℕ) → ahead < count → count ≤ 64 → rest ≡ word - 1 * 2 ^ (63 - ahead) % 2 ^ 64
+      → ones_from first (take count (low_bits 64 word)) ≡ (first + ahead) ∷ ones_from first (take count (low_bits 64 rest))
+  one_taken first rest lt few less =
+      let top = leading_top 64 word (some_one (omega arith)) small in
+      let j : ℕ = top.0 in
+      let at : 63 - ahead ≡ j = omega (arith, top.1) in
+      let one : 1 * 2 ^ (63 - ahead) % 2 ^ 64 ≡ 2 ^ j = ap (λ (n : ℕ). 1 * 2 ^ n % 2 ^ 64) at ∙ one_shl j 64 (omega (arith, top.1)) in
+      let twice : 2 ^ suc j ≡ 2 ^ j * 2 = pow-suc 2 j in
+      let small' : rest < 2 ^ j = omega (arith, top.2, top.3) in
+      let whole : word ≡ 1 * 2 ^ j + rest = omega (arith, top.2) in
+      let long : 64 ≡ ahead + suc j = omega (arith, top.1) in
+      let long' : 64 ≡ suc ahead + j = omega (arith, top.1) in
+      let bit : bit_of word j ≡ true = ap (λ (b : ℕ). eqb (b % 2) 1) (one_times word j top.2 top.3) in
+      let low : low_bits j word ≡ low_bits j rest = ap (low_bits j) whole ∙ low_bits_below j 1 j rest (omega arith) in
+      let here : low_bits (suc j) word ≡ true ∷ low_bits j rest = cc in
+      let before : low_bits 64 word ≡ replicate ahead false ++ true ∷ low_bits j rest
+      = ap (λ (m : ℕ). low_bits m word) long ∙ zeros_above ahead (suc j) word top.3 ∙ ap (λ (b : Bits). replicate ahead false ++ b) here in
+      let after : low_bits 64 rest ≡ replicate (suc ahead) false ++ low_bits j rest
+      = ap (λ (m : ℕ). low_bits m rest) long' ∙ zeros_above (suc ahead) j rest small' in
+      ap (λ (b : Bits). ones_from first (take count b)) before ∙ first_one first count ahead (low_bits j rest) lt
+      ∙ ap (λ (b : Bits). (first + ahead) ∷ ones_from first (take count b)) (sym after)
+
+  -- which it has
+  pub one_there : ahead < 64 → 1 * 2 ^ (63 - ahead) % 2 ^ 64 ≤ word
+  one_there lt =
+      let top = leading_top 64 word (some_one lt) small in
+      let at : 63 - ahead ≡ top.0 = omega (arith, top.1) in
+      let one : 1 * 2 ^ (63 - ahead) % 2 ^ 64 ≡ 2 ^ top.0 = ap (λ (n : ℕ). 1 * 2 ^ n % 2 ^ 64) at ∙ one_shl top.0 64 (omega (arith, top.1)) in
+      omega (arith, one, top.2)
+
+-- ---- changes
+-- the changes of a row are the ones among its differences
+pub changes-ones : (place : ℕ) (before : Bool) (row : Row) → changes_from place before row ≡ ones_from place (differences before row)
+changes-ones place before [] = refl
+changes-ones place true (true ∷ row) = changes-ones (suc place) true row
+changes-ones place true (false ∷ row) = ap (λ (l : List ℕ). place ∷ l) (changes-ones (suc place) false row)
+changes-ones place false (true ∷ row) = ap (λ (l : List ℕ). place ∷ l) (changes-ones (suc place) true row)
+changes-ones place false (false ∷ row) = changes-ones (suc place) false row
+
+-- the first of them
+pub differences-take : (n : ℕ) (before : Bool) (row : Row) → take n (differences before row) ≡ differences before (take n row)
+differences-take zero before row = refl
+differences-take (suc n) before [] = refl
+differences-take (suc n) before (pixel ∷ row) = ap (λ (b : Bits). not (beq before pixel) ∷ b) (differences-take n pixel row)
+
+-- the last pixel of a word
+pub last_of_word : (n word : ℕ) (before : Bool) → last_pixel before (low_bits (suc n) word) ≡ bit_of word 0
+last_of_word zero word before = refl
+last_of_word (suc n) word before = last_of_word n word (bit_of word (suc n))

@@ -1,0 +1,152 @@
+//! The rows of a bitmap, as lists of changes: found 64 pixels at a time.
+
+ghost use Rattle.std.specs.Prelude.{◌≡◌, ◌+◌, ◌*◌, ◌^◌, ◌<◌, ◌≤◌, ◌++◌, false, map, length, replicate, take, IfOk, OnOk, slice_index};
+ghost use Rattle.hayro_ccitt.specs.Bits.{bits_of, bit_of, low_bits};
+ghost use Rattle.hayro_ccitt.specs.Rows.{AreChanges, pixels};
+ghost use Rattle.fax_encode.specs.Chosen.{rows_of};
+ghost use Rattle.fax_encode.specs.Packed.{bytes_of_row, shown};
+ghost use Rattle.fax_encode.specs.Refusals.{AreRows};
+ghost use Rattle.fax_encode.specs.Scanning.{differences, ones_from};
+
+use crate::painting::plain_word;
+use std::alloc::{AllocError, Global};
+
+/// The byte at an index, 0 past the end.
+fn byte_or_zero(bytes: &[u8], index: usize) -> u8
+    ensures { result ≡ slice_index bytes.now index }
+{
+    bytes.get(index).copied().unwrap_or(0)
+}
+
+/// The first 64 pixels of eight bytes or more, the leftmost in the highest bit.
+#[inline(always)]
+fn whole_word(bytes: &[u8]) -> u64
+    requires { 8 ≤ length bytes.now }
+    ensures { low_bits 64 result ≡ take 64 (bits_of bytes.now ++ replicate 64 false) }
+{
+    u64::from_be_bytes([
+        bytes[0], bytes[1], bytes[2], bytes[3], bytes[4], bytes[5], bytes[6], bytes[7],
+    ])
+}
+
+/// The pixels of bytes, the first 64, the leftmost in the highest bit, and white ones where there are fewer.
+fn last_word(bytes: &[u8]) -> u64
+    ensures { low_bits 64 result ≡ take 64 (bits_of bytes.now ++ replicate 64 false) }
+{
+    u64::from_be_bytes([
+        byte_or_zero(bytes, 0),
+        byte_or_zero(bytes, 1),
+        byte_or_zero(bytes, 2),
+        byte_or_zero(bytes, 3),
+        byte_or_zero(bytes, 4),
+        byte_or_zero(bytes, 5),
+        byte_or_zero(bytes, 6),
+        byte_or_zero(bytes, 7),
+    ])
+}
+
+/// A one where a pixel differs from the one left of it; left of the first stands the last pixel of the word before.
+#[inline(always)]
+fn turns(before: u64, word: u64) -> u64
+    ensures { low_bits 64 result ≡ differences (bit_of before 0) (low_bits 64 word) }
+{
+    word ^ (before << 63 | word >> 1)
+}
+
+/// Adds the places of the ones among the first bits of a word, so many, counted from a first place on.
+#[inline(always)]
+fn push_ones(list: &mut Vec<u32>, first: u32, count: u32, word: u64) -> Result<(), AllocError>
+    requires few { count ≤ 64 }
+    requires within { first + count < 2 ^ 32 }
+    ensures { OnOk result (list.new.items ≡ list.old.items ++ ones_from first (take count (low_bits 64 word))) }
+{
+    let mut ones = word;
+    while ones != 0 {
+        let ahead = ones.leading_zeros();
+        if ahead >= count {
+            return Ok(());
+        }
+        list.push(first + ahead)?;
+        ones -= 1 << (63 - ahead);
+    }
+    Ok(())
+}
+
+/// The first 64 pixels of bytes, the leftmost in the highest bit, and white ones where there are fewer.
+#[inline(always)]
+fn word_of(bytes: &[u8]) -> u64
+    ensures { low_bits 64 result ≡ take 64 (bits_of bytes.now ++ replicate 64 false) }
+{
+    if bytes.len() >= 8 {
+        whole_word(bytes)
+    } else {
+        last_word(bytes)
+    }
+}
+
+/// How many words of pixels at the front are of this colour alone, so many at most.
+#[inline(always)]
+fn plain_words(bytes: &[u8], most: usize, is_black: bool) -> usize
+    requires { 8 * most ≤ length bytes.now }
+    ensures within { result ≤ most }
+    ensures plain { bits_of (take (8 * result) bytes.now) ≡ replicate (64 * result) is_black }
+{
+    let plain = plain_word(is_black);
+    let mut count = 0;
+    while count < most && whole_word(&bytes[8 * count..]) == plain {
+        count += 1;
+    }
+    count
+}
+
+/// Makes a list the changes of the first row of a bitmap.
+pub fn scan_row(list: &mut Vec<u32>, columns: u32, bitmap: &[u8]) -> Result<(), AllocError>
+    requires { bytes_of_row columns ≤ length bitmap.now }
+    ensures lawful { OnOk result (AreChanges columns list.new.items) }
+    ensures pixels { OnOk result (pixels columns list.new.items ≡ take columns (bits_of bitmap.now)) }
+{
+    list.clear();
+    let mut rest = bitmap;
+    let mut start = 0;
+    let mut before = 0;
+    while columns - start >= 64 {
+        let plain = plain_words(rest, (columns - start) as usize / 64, before % 2 == 1);
+        if plain > 0 {
+            start += 64 * plain as u32;
+            rest = &rest[8 * plain..];
+            continue;
+        }
+        let word = whole_word(rest);
+        push_ones(list, start, 64, turns(before, word))?;
+        before = word;
+        start += 64;
+        rest = &rest[8..];
+    }
+    push_ones(list, start, columns - start, turns(before, word_of(rest)))
+}
+
+/// The rows of a bitmap, as lists of changes. A row takes (columns + 7) / 8 bytes, one bit a pixel, 1 for black, the
+/// leftmost pixel in a byte's highest bit; what stands behind it up to a whole byte is passed over. Bytes behind the last
+/// whole row are no row, and where there are no columns there are no rows.
+pub fn rows_of_bitmap(
+    alloc: Global,
+    columns: u32,
+    bitmap: &[u8],
+) -> Result<Vec<Vec<u32>>, AllocError>
+    ensures lawful { IfOk result (λ rows. AreRows columns (map (λ row. row.items) rows.items)) }
+    ensures pixels { IfOk result (λ rows. rows_of columns (map (λ row. row.items) rows.items) ≡ shown columns bitmap.now) }
+{
+    let mut rows = Vec::new(alloc);
+    let width = (columns as usize).div_ceil(8);
+    if width == 0 {
+        return Ok(rows);
+    }
+    let mut rest = bitmap;
+    let mut row = Vec::new(alloc);
+    while rest.len() >= width {
+        scan_row(&mut row, columns, rest)?;
+        rows.push(row.as_slice().to_vec(alloc)?)?;
+        rest = &rest[width..];
+    }
+    Ok(rows)
+}

@@ -1,0 +1,122 @@
+//! Bitmaps: where the changes of a row are, and that encoding it is encoding them.
+
+use crate::{
+    EncodeError, bitmap_by_group3, encode_1d, encode_bitmap_1d, encode_bitmap_g4, encode_g4,
+    rows_of_bitmap,
+};
+use std::alloc::AllocGlobal;
+use std::process::Abort;
+use std::test::Fail;
+
+/// Finds the rows of a bitmap, and compares them.
+fn shows(
+    rt: &(impl Abort + AllocGlobal),
+    columns: u32,
+    bitmap: &[u8],
+    rows: &[&[u32]],
+) -> Result<(), Fail> {
+    let found = rows_of_bitmap(rt.alloc(), columns, bitmap)?;
+    assert_eq!(rt; found.len(), rows.len(), "rows of {columns} columns");
+    for (row, expected) in found.iter().zip(rows) {
+        assert_eq!(rt; row.as_slice(), *expected, "a row of {columns} columns");
+    }
+    Ok(())
+}
+
+#[test]
+fn rows(rt: HostRuntime) -> Result<(), Fail> {
+    shows(&rt, 8, &[0x18, 0x00, 0xFF], &[&[3, 5], &[], &[0]])?;
+    shows(
+        &rt,
+        20,
+        &[0x7F, 0xFF, 0xC0, 0x00, 0x40, 0x10],
+        &[&[1, 18], &[9, 10, 19]],
+    )?;
+    // What stands behind a row is passed over, and so is a part of one.
+    shows(&rt, 3, &[0x5F, 0xBF], &[&[1, 2], &[0, 1, 2]])?;
+    shows(&rt, 9, &[0x00, 0x80, 0xFF], &[&[8]])?;
+    shows(&rt, 9, &[0xFF], &[])?;
+    shows(&rt, 0, &[0xFF], &[])?;
+    Ok(())
+}
+
+#[test]
+fn rows_over_words(rt: HostRuntime) -> Result<(), Fail> {
+    let mut row = [0u8; 25];
+    row[7] = 0x01;
+    row[8] = 0x80;
+    row[16] = 0xFF;
+    row[24] = 0x01;
+    shows(&rt, 200, &row, &[&[63, 65, 128, 136, 199]])?;
+    shows(&rt, 199, &row, &[&[63, 65, 128, 136]])?;
+    shows(&rt, 64, &row[..8], &[&[63]])?;
+    shows(&rt, 192, &[0xFF; 24], &[&[0]])?;
+    shows(&rt, 65, &[0xFF; 18], &[&[0], &[0]])?;
+    Ok(())
+}
+
+#[test]
+fn as_lists_are_encoded(rt: HostRuntime) -> Result<(), Fail> {
+    let alloc = rt.alloc();
+    for columns in 1..5u32 {
+        for picture in 0..1u16 << (3 * columns) {
+            let mut bitmap = [0u8; 3];
+            for row in 0..3usize {
+                let pixels = ((picture >> (columns * row as u32)) % (1 << columns)) as u8;
+                bitmap[row] = pixels << 4 << (4 - columns);
+            }
+            for length in 1..4usize {
+                let Some(front) = bitmap.get(..length) else {
+                    panic!(&rt; "fewer than {length} rows");
+                };
+                let rows = rows_of_bitmap(alloc, columns, front)?;
+                for aligned in [false, true] {
+                    let Ok(ours) = encode_bitmap_g4(alloc, columns, front, aligned) else {
+                        panic!(&rt; "no Group 4 of {columns} columns");
+                    };
+                    let Ok(theirs) = encode_g4(alloc, columns, rows.as_slice(), aligned) else {
+                        panic!(&rt; "no Group 4 of {columns} columns");
+                    };
+                    assert_eq!(&rt;
+                        ours.as_slice(),
+                        theirs.as_slice(),
+                        "Group 4, {columns} columns"
+                    );
+                }
+                let Ok(ours) = encode_bitmap_1d(alloc, columns, front) else {
+                    panic!(&rt; "no Group 3 of {columns} columns");
+                };
+                let Ok(theirs) = encode_1d(alloc, columns, rows.as_slice()) else {
+                    panic!(&rt; "no Group 3 of {columns} columns");
+                };
+                assert_eq!(&rt;
+                    ours.as_slice(),
+                    theirs.as_slice(),
+                    "Group 3, {columns} columns"
+                );
+                let Ok(sink) = bitmap_by_group3(alloc, columns, rows.as_slice()) else {
+                    panic!(&rt; "no bitmap of {columns} columns");
+                };
+                assert_eq!(&rt; sink.bytes(), front, "by way of Group 3, {columns} columns");
+            }
+        }
+    }
+    Ok(())
+}
+
+#[test]
+fn bitmaps_that_are_refused(rt: HostRuntime) {
+    let alloc = rt.alloc();
+    assert_eq!(&rt;
+        encode_bitmap_g4(alloc, 0, &[0xFF], false).err(),
+        Some(EncodeError::NoColumns)
+    );
+    assert_eq!(&rt;
+        encode_bitmap_1d(alloc, 0, &[]).err(),
+        Some(EncodeError::NoColumns)
+    );
+    assert_eq!(&rt;
+        encode_bitmap_1d(alloc, 9, &[0xFF]).err(),
+        Some(EncodeError::NoRows)
+    );
+}

@@ -1,0 +1,101 @@
+/* Encodes a PBM picture (P4) on standard input, or in a file, as a strip of fax data on standard output:
+ *
+ *   pbm_to_strip MODE FLAGS [FILE] < picture.pbm > strip
+ *
+ * MODE is g4 or 1d. FLAGS is - or a: rows of g4 are aligned to bytes. The status is 0 where the picture is encoded, 1 where it
+ * isn't one, or has no rows or columns to encode, and 2 for other words, or want of memory. */
+#include "../c/fax_encode.h"
+#include <ctype.h>
+#include <stdio.h>
+#include <stdlib.h>
+#include <string.h>
+
+/* A number of the header behind white space and comments, and the one character behind it. */
+static int read_number(FILE *file, uint32_t *number)
+{
+    uint64_t value = 0;
+    int digits = 0, c = getc(file);
+    while (isspace(c) || c == '#') {
+        if (c == '#')
+            while (c != EOF && c != '\n')
+                c = getc(file);
+        c = getc(file);
+    }
+    for (; isdigit(c) && value <= UINT32_MAX; c = getc(file), digits++)
+        value = 10 * value + (uint64_t)(c - '0');
+    *number = (uint32_t)value;
+    return digits && value <= UINT32_MAX && isspace(c);
+}
+
+/* Says what went wrong, and which status it is. */
+static int failed(const char *what, int status)
+{
+    fprintf(stderr, "pbm_to_strip: %s\n", what);
+    return status;
+}
+
+/* The bitmap of the picture, whose rows are as the encoder takes them; or a status that isn't 0. */
+static int read_picture(FILE *file, uint32_t *columns, uint8_t **bitmap, size_t *length)
+{
+    uint32_t rows;
+    if (!file || getc(file) != 'P' || getc(file) != '4' || !read_number(file, columns) || !read_number(file, &rows))
+        return failed("no PBM picture", 1);
+    size_t width = ((size_t)*columns + 7) / 8, room = 1 << 16, have = 0;
+    if (rows > SIZE_MAX / 4 / (width + 1))
+        return failed("out of memory", 2);
+    *length = rows * width;
+    /* Memory grows with what is read, whatever the header says. */
+    *bitmap = malloc(room);
+    while (*bitmap) {
+        size_t wanted = *length < room ? *length : room;
+        have += fread(*bitmap + have, 1, wanted - have, file);
+        if (have < wanted)
+            return failed("the picture ends early", 1);
+        if (have == *length)
+            return 0;
+        uint8_t *more = realloc(*bitmap, room *= 2);
+        if (!more)
+            free(*bitmap);
+        *bitmap = more;
+    }
+    return failed("out of memory", 2);
+}
+
+static int read_words(char **words, fax_encode_settings *settings)
+{
+    *settings = (fax_encode_settings){0, strcmp(words[0], "g4") ? FAX_ENCODE_GROUP_3_1D : FAX_ENCODE_GROUP_4, 0};
+    if (!strcmp(words[1], "a"))
+        settings->flags = FAX_ENCODE_ALIGNED_ROWS;
+    return (!strcmp(words[0], "g4") || !strcmp(words[0], "1d")) && (settings->flags || !strcmp(words[1], "-"))
+        && !(settings->flags && settings->encoding == FAX_ENCODE_GROUP_3_1D);
+}
+
+int main(int count, char **words)
+{
+    fax_encode_settings settings;
+    fax_encode_outcome outcome;
+    uint8_t *bitmap, *data = NULL, none;
+    size_t length;
+    if (count < 3 || count > 4 || !read_words(words + 1, &settings)) {
+        fprintf(stderr, "usage: pbm_to_strip MODE FLAGS [FILE]\n");
+        return 2;
+    }
+    int status = read_picture(count == 4 ? fopen(words[3], "rb") : stdin, &settings.columns, &bitmap, &length);
+    if (status)
+        return status;
+
+    /* A first call, into no room at all, says how many bytes there are. */
+    uint32_t answer = fax_encode_bitmap(bitmap, length, &settings, &none, 0, &outcome);
+    if (answer == FAX_ENCODE_REFUSED)
+        data = malloc(outcome.bytes);
+    if (data)
+        answer = fax_encode_bitmap(bitmap, length, &settings, data, outcome.bytes, &outcome);
+    if (answer == FAX_ENCODE_NOT_TAKEN)
+        return failed("no rows or no columns", 1);
+    if (answer != FAX_ENCODE_OK)
+        return failed("out of memory", 2);
+    int written = fwrite(data, 1, outcome.bytes, stdout) == outcome.bytes && fflush(stdout) == 0;
+    free(data);
+    free(bitmap);
+    return written ? 0 : failed("not written", 2);
+}
