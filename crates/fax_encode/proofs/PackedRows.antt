@@ -60,3 +60,7 @@ pub packed_from : (columns : ℕ) (lists : List (List ℕ)) (empty : Bitmap) (no
     → now ≡ meaning_after (packs empty.columns) (bits_of empty.bytes) (rows_of columns lists) → now ≡ packed (rows_of columns lists)
 packed_from columns lists empty now are is e =
     e ∙ ap (λ (b : Bitmap). meaning_after (packs b.columns) (bits_of b.bytes) (rows_of columns lists)) is ∙ meaning_packed columns [] lists are
+
+-- A refusal is the same whatever was asked for.
+pub same_refusal : {A B E : Type 0} (e f : E) → ◌≡◌ {A = Result A E} (Err e) (Err f) → ◌≡◌ {A = Result B E} (Err e) (Err f)
+same_refusal e f is = let same : e ≡ f = cc in ap Err same

@@ -1,6 +1,6 @@
 //! What was encoded, decoded into a bitmap.
 
-ghost use Rattle.std.specs.Prelude.{◌≡◌, ◌≢◌, ◌<◌, ◌↔◌, ℕ, map, Err, IfOk};
+ghost use Rattle.std.specs.Prelude.{length, ◌≡◌, ◌≢◌, ◌<◌, ◌↔◌, ℕ, map, Err, IfOk};
 ghost use Rattle.hayro_ccitt.specs.Bits.{bits_of};
 ghost use Rattle.fax_encode.specs.Chosen.{rows_of};
 ghost use Rattle.fax_encode.specs.Packed.{packed};
@@ -55,7 +55,12 @@ pub fn bitmap_by_group3(
     columns: u32,
     rows: &[Vec<u32>],
 ) -> std::result::Result<BitmapSink, EncodeError>
-    ensures { IfOk result (λ sink. bits_of sink.bytes ≡ packed (rows_of columns (map (λ row. row.items) rows.now))) }
+    ensures packed { IfOk result (λ sink. bits_of sink.bytes
+        ≡ packed (rows_of columns (map (λ row. row.items) rows.now))) }
+    ensures no_columns { (result ≡ Err EncodeError.NoColumns) ↔ (columns ≡ 0) }
+    ensures no_rows { (result ≡ Err EncodeError.NoRows) ↔ ((0 < columns) × (length rows.now ≡ 0)) }
+    ensures not_a_row { (k : ℕ) → (result ≡ Err (EncodeError.NotARow k))
+        ↔ ((0 < columns) × IsFirstUnlawful columns (map (λ row. row.items) rows.now) k) }
 {
     let encoded = encode_1d(alloc, columns, rows)?;
     let data = encoded.as_slice();

@@ -6,7 +6,7 @@ use Rattle.hayro_ccitt.specs.Bits.{bits_of}
 use Rattle.hayro_ccitt.specs.Context.{Context}
 use Rattle.hayro_ccitt.specs.Pictures.{IsClosedPicture}
 use Rattle.fax_encode.specs.Chosen.{chosen_t6, rows_of}
-use Rattle.fax_encode.proofs.PackedRows.{ReadT6, begins_with_chosen, packed_from}
+use Rattle.fax_encode.proofs.PackedRows.{ReadT6, begins_with_chosen, packed_from, same_refusal}
 use Rattle.fax_encode.proofs.round_trip.bitmap_by_group4.Goals as goal
 
 pub returns-in-Ok-decode-clause-packed : goal.returns-in-Ok-decode-clause-packed
@@ -23,10 +23,6 @@ returns-in-Ok-decode-clause-packed c =
     let begins = begins_with_chosen _ c.args.columns c.args.aligned lists c.as_slice-data.result.now read wide c.in_ok-encoded.ensures.rows stand in
     packed_from c.args.columns lists c.new-sink.result _ c.in_ok-encoded.ensures.rows c.new-sink.ensures
     (c.in-Ok-decode.ensures.closed (rows_of c.args.columns lists) _ (IsClosedPicture.by_eofb (chosen_t6 c.args.columns c.args.aligned (rows_of c.args.columns lists)) begins refl)).1
-
--- A refusal is the same whatever was asked for.
-same_refusal : {A B E : Type 0} (e f : E) → ◌≡◌ {A = Result A E} (Err e) (Err f) → ◌≡◌ {A = Result B E} (Err e) (Err f)
-same_refusal e f is = let same : e ≡ f = cc in ap Err same
 
 pub returns-in_err-encoded-clause-not_a_row : goal.returns-in_err-encoded-clause-not_a_row
 returns-in_err-encoded-clause-not_a_row c =
