@@ -1,0 +1,4 @@
+mod Answers
+mod FirstTaken
+mod RowsTaken
+mod RunsCounted
