@@ -98,6 +98,8 @@ pub fn decode_first_rows<D: Decoder>(
     if first.rows == first.most {
         return Ok(true);
     }
-    answer?;
-    Ok(false)
+    match answer {
+        Ok(_) => Ok(false),
+        Err(error) => Err(error),
+    }
 }

@@ -1,17 +1,24 @@
-use Rattle.std.proofs.Common.{rules, ◌≡◌, ◌+◌, ◌<◌, ◌≤◌, ℕ, IfErr, IsOk, length, take, true, false, ◌-◌, ◌*◌, ◌/◌, ◌%◌, Bool, nat_eq, nat_lt, List, [], ◌∷◌, ◌++◌, slice_index_or, slice_set, bit_and, bit_or, Fits, w8, w32, w64, Bor, MutBor}
-use Rattle.hayro_ccitt.specs.Answers.{IsFault, meaning_after}
-use Rattle.hayro_ccitt.specs.Bits.{BitsFit}
+use Rattle.std.proofs.Common.{refl, sym, subst}
+use Rattle.std.specs.Prelude.{IsOk}
 use Rattle.fax_callers.specs.Readings.{reading_of}
+use Rattle.fax_callers.proofs.FirstTaken.{as_many, fewer}
 use Rattle.fax_callers.proofs.first_rows.decode_first_rows.Goals as goal
 
--- src/first_rows.rt:99:9
 pub returns-then-first-clause-as_many : goal.returns-then-first-clause-as_many
-returns-then-first-clause-as_many g c = ?
+returns-then-first-clause-as_many g c = λ is.
+    as_many (g.D.Decoder.step (g.D.Decoder.width c.args.first.now.sink)) (reading_of c.args.ctx.now.held.settings c.args.«data».now) _ _ _ _ c.requires.begun
+    c.decode-answer.ensures.reading c.if-first.true
 
--- src/first_rows.rt:101:5
-pub returns-in_err-answer-clause-fault : goal.returns-in_err-answer-clause-fault
-returns-in_err-answer-clause-fault g c = ?
+pub returns-in-Ok-clause-fewer : goal.returns-in-Ok-clause-fewer
+returns-in-Ok-clause-fewer g c = λ is.
+    let taken = c.in-Ok.ensures.reading in
+    let few = fewer (g.D.Decoder.step (g.D.Decoder.width c.args.first.now.sink)) (reading_of c.args.ctx.now.held.settings c.args.«data».now) _ _ _ _ c.requires.begun
+        taken c.decode-answer.new.decoder.within c.if-first.false taken.all in
+    (few.0, subst IsOk (sym taken.ok) refl, few.1)
 
--- src/first_rows.rt:72:1
-pub returns-clause-fewer : goal.returns-clause-fewer
-returns-clause-fewer g c = ?
+pub returns-in-Err-clause-fault : goal.returns-in-Err-clause-fault
+returns-in-Err-clause-fault g c = λ fault.
+    let taken = c.in-Err.ensures.reading in
+    let few = fewer (g.D.Decoder.step (g.D.Decoder.width c.args.first.now.sink)) (reading_of c.args.ctx.now.held.settings c.args.«data».now) _ _ _ _ c.requires.begun
+        taken c.decode-answer.new.decoder.within c.if-first.false (taken.all fault) in
+    (few.0, taken.fault fault, few.1)
