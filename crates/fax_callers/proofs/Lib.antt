@@ -1,4 +1,5 @@
 mod Answers
 mod FirstTaken
+mod PagesCut
 mod RowsTaken
 mod RunsCounted

@@ -1,6 +1,6 @@
 //! Pages of Group 4 that stand one behind the other.
 
-ghost use Rattle.std.specs.Prelude.{◌≡◌, ◌≢◌, ◌≤◌, ◌⊎◌, ℕ, List, IfOk, IfErr, length};
+ghost use Rattle.std.specs.Prelude.{◌≡◌, ◌≢◌, ◌≤◌, ◌⊎◌, ℕ, List, IfOk, IfErr, IsOk, length};
 ghost use Rattle.hayro_ccitt.specs.Answers.{OnAnswer, IsFault};
 ghost use Rattle.hayro_ccitt.specs.Bits.{BitsFit, bits_of};
 ghost use Rattle.hayro_ccitt.specs.Pictures.{IsClosedPicture};
@@ -103,7 +103,7 @@ pub fn page_ends(alloc: Global, columns: u32, data: &[u8]) -> Result<Vec<usize>>
 
     // Where the data are closed pages and nothing else, these are cut.
     ensures closed { (ends : List ℕ) → StandAt columns «data».now 0 ends
-        → OnAnswer result (IfOk result (λ found. found.items ≡ ends)) }
+        → OnAnswer result (IsOk result × IfOk result (λ found. found.items ≡ ends)) }
 {
     let mut ctx = DecoderContext::new(alloc, group4_pages(columns))?;
     let mut ends = Vec::new(alloc);
