@@ -1,5 +1,5 @@
 -- What a sink of the first rows means after some rows.
-use Rattle.std.proofs.Common.{◌≡◌, ◌≢◌, ◌<◌, ◌≤◌, ℕ, ◌+◌, List, [], ◌∷◌, length, take, take_all, refl, sym, ap, ◌∙◌, arith, inl, inr}
+use Rattle.std.proofs.Common.{◌≡◌, ◌≢◌, ◌<◌, ◌≤◌, ℕ, ◌+◌, List, [], ◌∷◌, length, min, take, take_all, refl, sym, ap, ◌∙◌, arith, inl, inr}
 use Rattle.std.specs.Prelude.{Result}
 use Rattle.std.proofs.lemmas.List.{length-take}
 use Rattle.hayro_ccitt.specs.declared.error.DecodeError.{DecodeError}
@@ -44,16 +44,28 @@ module _ {M : Type 0} (step : M → List ℕ → M) (reading : Reading) (before 
   meant : after.meaning.meaning ≡ meaning_after step before.meaning.meaning rows
   meant = ap (λ (f : Firsts M). f.meaning) left
 
+  -- what is said of the rows that were taken
+  pub record IsFirst : Type 0 where
+    pub meaning : after.meaning.meaning ≡ meaning_after step before.meaning.meaning (take before.meaning.most reading.rows)
+    pub count : after.meaning.rows ≡ min before.meaning.most (length reading.rows)
+
+  is_first : take held.taken reading.rows ≡ take before.meaning.most reading.rows → held.taken ≡ min before.meaning.most (length reading.rows) → IsFirst
+  is_first same some = record { meaning = meant ∙ ap (λ (rows : List Row). meaning_after step before.meaning.meaning rows) same; count = counted ∙ some }
+
   -- as many were taken as are wanted
-  pub as_many : after.meaning.rows ≡ after.meaning.most
-      → (before.meaning.most ≤ length reading.rows) × (after.meaning.meaning ≡ meaning_after step before.meaning.meaning (take before.meaning.most reading.rows))
+  pub as_many : after.meaning.rows ≡ after.meaning.most → (before.meaning.most ≤ length reading.rows) × IsFirst
   as_many full =
       let same : held.taken ≡ before.meaning.most = omega (arith, counted, most, full) in
-      (omega (arith, same, takes_rows.taken), meant ∙ ap (λ (n : ℕ). meaning_after step before.meaning.meaning (take n reading.rows)) same)
+      (
+        omega (arith, same, takes_rows.taken),
+        is_first (ap (λ (n : ℕ). take n reading.rows) same) (omega (arith, same, takes_rows.taken)),
+      )
 
   -- all were taken, and they are fewer
   pub fewer : after.meaning.rows ≤ after.meaning.most → after.meaning.rows ≢ after.meaning.most → held.taken ≡ length reading.rows
-      → (length reading.rows < before.meaning.most) × (after.meaning.meaning ≡ meaning_after step before.meaning.meaning reading.rows)
+      → (length reading.rows < before.meaning.most) × IsFirst
   fewer within less all =
       let some : after.meaning.rows < after.meaning.most = grind (arith, within, less) in
-      (omega (arith, counted, most, all, some), meant ∙ ap (λ (rows : List Row). meaning_after step before.meaning.meaning rows) (take_all held.taken reading.rows (omega (arith, all))))
+      let few : length reading.rows < before.meaning.most = omega (arith, counted, most, all, some) in
+      let whole = take_all held.taken reading.rows (omega (arith, all)) in
+      (few, is_first (whole ∙ sym (take_all before.meaning.most reading.rows (omega (arith, few)))) (omega (arith, all, few)))

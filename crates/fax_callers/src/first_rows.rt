@@ -1,7 +1,7 @@
 //! The first rows of an image.
 
-ghost use Rattle.std.specs.Prelude.{◌≡◌, ◌+◌, ◌<◌, ◌≤◌, ℕ, IfErr, IsOk, length, take, true, false};
-ghost use Rattle.hayro_ccitt.specs.Answers.{IsFault, meaning_after};
+ghost use Rattle.std.specs.Prelude.{◌≡◌, ◌<◌, ◌≤◌, IfErr, IsOk, length, min, take, true, false};
+ghost use Rattle.hayro_ccitt.specs.Answers.{IsFault, OnAnswer, meaning_after};
 ghost use Rattle.hayro_ccitt.specs.Bits.{BitsFit};
 ghost use Rattle.fax_callers.specs.Readings.{reading_of};
 
@@ -77,20 +77,19 @@ pub fn decode_first_rows<D: Decoder>(
     requires fit { BitsFit «data».now }
     requires width { ctx.old.held.settings.columns ≤ D.width first.old.sink }
     requires begun { first.old.rows ≡ 0 }
-    ensures as_many { result ≡ Ok true
-        → (first.old.most ≤ length (reading_of ctx.old.held.settings «data».now).rows)
-        × (D.meaning first.new.sink ≡ meaning_after (D.step (D.width first.old.sink)) (D.meaning first.old.sink)
+    ensures rows { OnAnswer result (D.meaning first.new.sink
+        ≡ meaning_after (D.step (D.width first.old.sink)) (D.meaning first.old.sink)
         (take first.old.most (reading_of ctx.old.held.settings «data».now).rows)) }
+    ensures count { OnAnswer result (first.new.rows
+        ≡ min first.old.most (length (reading_of ctx.old.held.settings «data».now).rows)) }
+    ensures as_many { result ≡ Ok true
+        → first.old.most ≤ length (reading_of ctx.old.held.settings «data».now).rows }
     ensures fewer { result ≡ Ok false
         → (length (reading_of ctx.old.held.settings «data».now).rows < first.old.most)
-        × IsOk (reading_of ctx.old.held.settings «data».now).outcome
-        × (D.meaning first.new.sink ≡ meaning_after (D.step (D.width first.old.sink)) (D.meaning first.old.sink)
-        (reading_of ctx.old.held.settings «data».now).rows) }
+        × IsOk (reading_of ctx.old.held.settings «data».now).outcome }
     ensures fault { IfErr result (λ e. IsFault e
         → (length (reading_of ctx.old.held.settings «data».now).rows < first.old.most)
-        × ((reading_of ctx.old.held.settings «data».now).outcome ≡ Err e)
-        × (D.meaning first.new.sink ≡ meaning_after (D.step (D.width first.old.sink)) (D.meaning first.old.sink)
-        (reading_of ctx.old.held.settings «data».now).rows)) }
+        × ((reading_of ctx.old.held.settings «data».now).outcome ≡ Err e)) }
     ensures refused { result ≡ Err DecodeError.Refused → D.has_refused first.new.sink ≡ true }
     ensures settings { ctx.new.held.settings ≡ ctx.old.held.settings }
 {
