@@ -1,5 +1,5 @@
 -- What follows from an answer.
-use Rattle.std.proofs.Common.{◌≡◌, ℕ, Ok, Err}
+use Rattle.std.proofs.Common.{Ok, Err}
 use Rattle.std.specs.Prelude.{Result}
 use Rattle.hayro_ccitt.specs.declared.error.DecodeError.{DecodeError}
 use Rattle.hayro_ccitt.specs.Answers.{OnAnswer}

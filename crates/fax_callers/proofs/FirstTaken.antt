@@ -1,5 +1,5 @@
 -- What a sink of the first rows means after some rows.
-use Rattle.std.proofs.Common.{◌≡◌, ◌≢◌, ◌<◌, ◌≤◌, ℕ, ◌+◌, List, [], ◌∷◌, length, min, take, take_all, refl, sym, ap, ◌∙◌, arith, inl, inr}
+use Rattle.std.proofs.Common.{◌≡◌, ◌≢◌, ◌<◌, ◌≤◌, ℕ, ◌+◌, List, [], ◌∷◌, length, min, take, take_all, sym, ap, ◌∙◌, arith}
 use Rattle.std.specs.Prelude.{Result}
 use Rattle.std.proofs.lemmas.List.{length-take}
 use Rattle.hayro_ccitt.specs.declared.error.DecodeError.{DecodeError}

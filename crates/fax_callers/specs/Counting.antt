@@ -1,5 +1,5 @@
 -- Counting black pixels.
-use Rattle.std.specs.Prelude.{ℕ, ◌+◌, List, Bool, true, false, min}
+use Rattle.std.specs.Prelude.{ℕ, List, Bool, true, false, min}
 use Rattle.std.specs.List.{sum_by}
 use Rattle.hayro_ccitt.specs.Rows.{Row}
 
