@@ -55,8 +55,7 @@ module _ {M : Type 0} (step : M → List ℕ → M) (reading : Reading) (before 
   -- as many were taken as are wanted
   pub as_many : after.meaning.rows ≡ after.meaning.most → (before.meaning.most ≤ length reading.rows) × IsFirst
   as_many full =
-      let same : held.taken ≡ before.meaning.most = omega (arith, counted, most, full) in
-      (
+      let same : held.taken ≡ before.meaning.most = omega (arith, counted, most, full) in (
         omega (arith, same, takes_rows.taken),
         is_first (ap (λ (n : ℕ). take n reading.rows) same) (omega (arith, same, takes_rows.taken)),
       )

@@ -55,8 +55,7 @@ module _ (columns : ℕ) (bytes ends : List ℕ) (begin : ℕ) (cut : IsCut colu
         at = end_one_more columns bytes 0 ends begin (begin + count) cut.at (omega arith) within (read ∙ ap Ok size);
         closed = λ all stand.
             let page = begins all left stand in
-            let end : page.0 ≡ begin + count = omega (arith, page.3, takes page.4.0 (page.0 - begin) page.4.1) in
-            (
+            let end : page.0 ≡ begin + count = omega (arith, page.3, takes page.4.0 (page.0 - begin) page.4.1) in (
               page.1,
               page.2 ∙ ap (λ (e : ℕ). ends ++ e ∷ page.1) end ∙ sym (append_assoc ends ((begin + count) ∷ []) page.1),
               subst (λ (e : ℕ). StandAt columns bytes e page.1) end page.5,

@@ -79,5 +79,5 @@ module _ (columns : ℕ) (changes : List ℕ) (index start : ℕ) (is_black : Bo
   last_run over =
       let none : drop index changes ≡ [] = drop_all index changes over in
       let run = ap (λ (l : List ℕ). black_in_row (pixels_from start is_black columns l)) none
-          ∙ (sum_by-replicate number_of_pixel (columns - start) is_black) in
+      ∙ (sum_by-replicate number_of_pixel (columns - start) is_black) in
       omega (arith, run, counted.sum)

@@ -8,7 +8,9 @@ ghost use Rattle.hayro_ccitt.specs.Rows.{Row};
 ghost use Rattle.fax_callers.specs.Readings.{reading_of, EndsAs};
 ghost use Rattle.fax_callers.specs.Pages.{page_settings, page_from, EndAt, StandAt};
 
-use hayro_ccitt::{DecodeError, DecodeSettings, Decoder, DecoderContext, EncodingMode, Result, decode};
+use hayro_ccitt::{
+    DecodeError, DecodeSettings, Decoder, DecoderContext, EncodingMode, Result, decode,
+};
 use std::alloc::Global;
 
 /// A sink that lets each row go.
