@@ -1,4 +1,4 @@
-mod Answers
+mod OnAnswers
 mod FirstTaken
 mod PagesCut
 mod RowsTaken

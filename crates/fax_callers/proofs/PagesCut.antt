@@ -32,17 +32,24 @@ none_cut columns bytes = record { within = omega arith; at = refl; closed = λ a
 abbrev pub TakesBytes : ℕ → List ℕ → ℕ → ℕ → Type 0
 TakesBytes columns bytes begin count = (rows : List Row) (n : ℕ) → IsClosedPicture (page_settings columns) rows n (bits_of (drop begin bytes)) → count ≡ n
 
+-- A closed page begins at a place and ends at the next one, and others follow it.
+record BeginsPage (columns : ℕ) (bytes : List ℕ) (begin : ℕ) (found all : List ℕ) : Type 0 where
+  end : ℕ
+  more : List ℕ
+  are : all ≡ found ++ end ∷ more
+  some : begin < end
+  rows : List Row
+  picture : IsClosedPicture (page_settings columns) rows (end - begin) (bits_of (drop begin bytes))
+  follow : StandAt columns bytes end more
+
 module _ (columns : ℕ) (bytes ends : List ℕ) (begin : ℕ) (cut : IsCut columns bytes ends begin) where
-  -- where something is left, a closed page begins, if the bytes are such pages
-  abbrev Begins : List ℕ → Type 0
-  Begins all = (end : ℕ) × (more : List ℕ) × (all ≡ ends ++ end ∷ more) × (begin < end)
-      × ((rows : List Row) × IsClosedPicture (page_settings columns) rows (end - begin) (bits_of (drop begin bytes))) × StandAt columns bytes end more
-
-  begins_with : (all more : List ℕ) → begin < length bytes → all ≡ ends ++ more → StandAt columns bytes begin more → Begins all
+  begins_with : (all more : List ℕ) → begin < length bytes → all ≡ ends ++ more → StandAt columns bytes begin more → BeginsPage columns bytes begin ends all
   begins_with all [] left are stand = absurd (omega (arith, stand, left))
-  begins_with all (end ∷ more) left are stand = (end, more, are, stand.0, stand.2, stand.3)
+  begins_with all (end ∷ more) left are stand =
+      record { end = end; more = more; are = are; some = stand.0; rows = stand.2.0; picture = stand.2.1; follow = stand.3 }
 
-  begins : (all : List ℕ) → begin < length bytes → StandAt columns bytes 0 all → Begins all
+  -- where something is left, a closed page begins, if the bytes are such pages
+  begins : (all : List ℕ) → begin < length bytes → StandAt columns bytes 0 all → BeginsPage columns bytes begin ends all
   begins all left stand = let rest = cut.closed all stand in begins_with all rest.0 left rest.1 rest.2
 
   -- one page is cut
@@ -55,10 +62,10 @@ module _ (columns : ℕ) (bytes ends : List ℕ) (begin : ℕ) (cut : IsCut colu
         at = end_one_more columns bytes 0 ends begin (begin + count) cut.at (omega arith) within (read ∙ ap Ok size);
         closed = λ all stand.
             let page = begins all left stand in
-            let end : page.0 ≡ begin + count = omega (arith, page.3, takes page.4.0 (page.0 - begin) page.4.1) in (
-              page.1,
-              page.2 ∙ ap (λ (e : ℕ). ends ++ e ∷ page.1) end ∙ sym (append_assoc ends ((begin + count) ∷ []) page.1),
-              subst (λ (e : ℕ). StandAt columns bytes e page.1) end page.5,
+            let end : page.end ≡ begin + count = omega (arith, page.some, takes page.rows (page.end - begin) page.picture) in (
+              page.more,
+              page.are ∙ ap (λ (e : ℕ). ends ++ e ∷ page.more) end ∙ sym (append_assoc ends ((begin + count) ∷ []) page.more),
+              subst (λ (e : ℕ). StandAt columns bytes e page.more) end page.follow,
             );
       }
 
@@ -74,13 +81,13 @@ module _ (columns : ℕ) (bytes ends : List ℕ) (begin : ℕ) (cut : IsCut colu
   pub never_none : begin < length bytes → TakesBytes columns bytes begin 0 → (all : List ℕ) → StandAt columns bytes 0 all → ⊥
   never_none left takes all stand =
       let page = begins all left stand in
-      let none : 0 ≡ page.0 - begin = takes page.4.0 (page.0 - begin) page.4.1 in
-      omega (arith, none, page.3)
+      let none : 0 ≡ page.end - begin = takes page.rows (page.end - begin) page.picture in
+      omega (arith, none, page.some)
 
   -- and none is at fault
   pub never_faulty : begin < length bytes → ((rows : List Row) (n : ℕ) → IsClosedPicture (page_settings columns) rows n (bits_of (drop begin bytes)) → ⊥)
       → (all : List ℕ) → StandAt columns bytes 0 all → ⊥
-  never_faulty left never all stand = let page = begins all left stand in never page.4.0 (page.0 - begin) page.4.1
+  never_faulty left never all stand = let page = begins all left stand in never page.rows (page.end - begin) page.picture
 
 -- an answer that so many bytes were read
 abbrev pub read_bytes : ℕ → Result ℕ DecodeError

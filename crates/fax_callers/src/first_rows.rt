@@ -64,11 +64,14 @@ impl<D: Decoder> Decoder for FirstRows<D> {
     }
 }
 
-/// Decodes the first rows of an image, and answers whether there are as many as are wanted. What stands behind them isn't
-/// read, but for the next row; so it doesn't matter whether it is at fault.
+/// Decodes the first rows of an image, as for a thumbnail, and answers whether there are as many as are wanted. At most one row
+/// more is read; what stands behind the rows that are wanted doesn't matter, a fault neither.
 ///
 /// The errors are those of [`decode`], where they come before so many rows are taken; `Refused` comes only from the sink that
 /// takes them.
+///
+/// In Group 4 with 8 columns the bytes 31 F8 00 80 08 are two rows whose pixels 3 and 4 are black, and EOFB: where one row is
+/// wanted it is taken and the answer is true; where three are, both are taken and the answer is false.
 pub fn decode_first_rows<D: Decoder>(
     data: &[u8],
     first: &mut FirstRows<D>,

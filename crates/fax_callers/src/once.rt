@@ -15,6 +15,9 @@ use std::alloc::Global;
 ///
 /// The errors are those of [`decode`]; `OutOfMemory` comes also where there is no memory for the context, and the sink has
 /// taken nothing then.
+///
+/// In Group 4 with 8 columns the bytes 31 C0 04 00 40 are a row whose pixels 3 and 4 are black, and EOFB: the sink takes the row
+/// with the changes 3 and 5, and the answer is 5.
 pub fn decode_once<D: Decoder>(
     alloc: Global,
     settings: DecodeSettings,

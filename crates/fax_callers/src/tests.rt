@@ -9,7 +9,7 @@ use crate::{
     page_ends, strip_to_bitmap,
 };
 use fax_encode::BitmapSink;
-use hayro_ccitt::DecodeError::{Refused, UnexpectedEof};
+use hayro_ccitt::DecodeError::{OutOfMemory, Refused, UnexpectedEof};
 use hayro_ccitt::{Decoder, DecoderContext, EncodingMode, Result, bits_fit};
 use std::alloc::AllocGlobal;
 use std::process::Abort;
@@ -147,5 +147,33 @@ fn pages(rt: HostRuntime) -> std::result::Result<(), Fail> {
     );
     let cut = page_ends(alloc, 8, &[0x31, 0xC0, 0x04, 0x00, 0x40, 0x31]);
     assert_eq!(&rt; cut.err(), Some(UnexpectedEof));
+    Ok(())
+}
+
+/// Whether an answer is that there is no memory: for the context or a change, or for a row of a bitmap.
+fn wants_memory<T>(answer: &Result<T>) -> bool {
+    matches!(answer, Err(OutOfMemory | Refused))
+}
+
+/// A request that is refused is the answer, and the next call answers in full. `rt try --test --fail-alloc N` refuses the request
+/// of a number; where none is refused, each call answers in full at once.
+#[test]
+fn memory_that_is_refused(rt: HostRuntime) -> std::result::Result<(), Fail> {
+    let alloc = rt.alloc();
+    let mut black = count_black(alloc, group4_pages(8), &TWO_ROWS);
+    if wants_memory(&black) {
+        black = count_black(alloc, group4_pages(8), &TWO_ROWS);
+    }
+    assert_eq!(&rt; black, Ok(4));
+    let mut bitmap = strip_to_bitmap(alloc, group4_pages(8), &TWO_ROWS);
+    if wants_memory(&bitmap) {
+        bitmap = strip_to_bitmap(alloc, group4_pages(8), &TWO_ROWS);
+    }
+    assert_eq!(&rt; bitmap?.as_slice(), [0x18u8, 0x18].as_slice());
+    let mut ends = page_ends(alloc, 8, &TWO_PAGES);
+    if wants_memory(&ends) {
+        ends = page_ends(alloc, 8, &TWO_PAGES);
+    }
+    assert_eq!(&rt; ends?.as_slice(), [5usize, 10].as_slice());
     Ok(())
 }

@@ -1,4 +1,4 @@
-use Rattle.fax_callers.proofs.Answers.{on_answer}
+use Rattle.fax_callers.proofs.OnAnswers.{on_answer}
 use Rattle.fax_callers.proofs.pages.skip_image.Goals as goal
 
 pub returns-clause-closed : goal.returns-clause-closed
