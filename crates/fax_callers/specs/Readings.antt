@@ -9,8 +9,8 @@ use Rattle.hayro_ccitt.specs.PlainReading.{Reading, plain}
 abbrev pub reading_of : DecodeSettings → List ℕ → Reading
 reading_of settings bytes = plain settings bytes
 
--- A call answers without an error where the reading ends so, and with the reading's fault where the data is at fault. Want of
--- memory and a refused row say nothing of the reading.
+-- Where a call answers without an error the reading ends without one, and where it answers a fault of the data the reading ends
+-- with that fault. Want of memory and a refused row say nothing of the reading.
 abbrev pub EndsAs : {T : Type 0} → Result T DecodeError → Result ℕ DecodeError → Type 0
 EndsAs (Ok x) outcome = IsOk outcome
 EndsAs (Err error) outcome = IsFault error → outcome ≡ Err error

@@ -7,8 +7,8 @@ ghost use Rattle.fax_callers.specs.Readings.{reading_of};
 
 use hayro_ccitt::{DecodeError, Decoder, DecoderContext, Result, decode};
 
-/// A sink that hands the first rows on to another one, so many of them at most, and refuses the next: no more is decoded
-/// than is wanted.
+/// A sink that hands the first rows on to another one, so many of them at most, and refuses the next, so that decoding ends
+/// there.
 #[derive(Drop)]
 pub struct FirstRows<D> {
     /// The sink that takes the rows.
