@@ -1,0 +1,5 @@
+mod OnAnswers
+mod FirstTaken
+mod PagesCut
+mod RowsTaken
+mod RunsCounted

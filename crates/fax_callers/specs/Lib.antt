@@ -1,0 +1,4 @@
+pub mod Counting
+pub mod FirstRows
+pub mod Pages
+pub mod Readings

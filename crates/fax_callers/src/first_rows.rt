@@ -1,0 +1,107 @@
+//! The first rows of an image.
+
+ghost use Rattle.std.specs.Prelude.{◌≡◌, ◌<◌, ◌≤◌, IfErr, IsOk, length, min, take, true, false};
+ghost use Rattle.hayro_ccitt.specs.Answers.{IsFault, OnAnswer, meaning_after};
+ghost use Rattle.hayro_ccitt.specs.Bits.{BitsFit};
+ghost use Rattle.fax_callers.specs.Readings.{reading_of};
+
+use hayro_ccitt::{DecodeError, Decoder, DecoderContext, Result, decode};
+
+/// A sink that hands the first rows on to another one, so many of them at most, and refuses the next, so that decoding ends
+/// there.
+#[derive(Drop)]
+pub struct FirstRows<D> {
+    /// The sink that takes the rows.
+    pub sink: D,
+    /// How many rows it took.
+    pub rows: u64,
+    /// How many it takes at most.
+    pub most: u64,
+    has_refused: bool,
+    ghost within: { rows ≤ most },
+    ghost full: { has_refused ≡ true → rows ≡ most },
+}
+
+impl<D> FirstRows<D> {
+    /// The first rows, so many at most, go to this sink.
+    pub fn new(sink: D, most: u64) -> FirstRows<D>
+        ensures sink { result.sink ≡ sink }
+        ensures rows { result.rows ≡ 0 }
+        ensures most { result.most ≡ most }
+        ensures has_refused { result.has_refused ≡ false }
+    {
+        FirstRows {
+            sink,
+            rows: 0,
+            most,
+            has_refused: false,
+        }
+    }
+}
+
+impl<D: Decoder> Decoder for FirstRows<D> {
+    ghost use Rattle.std.specs.Prelude.{◌+◌, ◌||◌};
+    ghost use Rattle.fax_callers.specs.FirstRows.{Firsts};
+
+    ghost Meaning = { Firsts D.Meaning };
+
+    ghost meaning = { λ first. record { meaning = D.meaning first.sink; rows = first.rows; most = first.most } };
+
+    ghost step = { λ width before row. record { meaning = D.step width before.meaning row; rows = before.rows + 1; most = before.most } };
+
+    ghost width = { λ first. D.width first.sink };
+
+    ghost has_refused = { λ first. first.has_refused || D.has_refused first.sink };
+
+    fn push_row(&mut self, changes: &[u32]) -> Result<()> {
+        if self.rows == self.most {
+            self.has_refused = true;
+            return Err(DecodeError::Refused);
+        }
+        self.sink.push_row(changes)?;
+        self.rows += 1;
+        Ok(())
+    }
+}
+
+/// Decodes the first rows of an image, as for a thumbnail, and answers whether there are as many as are wanted. At most one row
+/// more is read; what stands behind the rows that are wanted doesn't matter, a fault neither.
+///
+/// The errors are those of [`decode`], where they come before so many rows are taken; `Refused` comes only from the sink that
+/// takes them.
+///
+/// In Group 4 with 8 columns the bytes 31 F8 00 80 08 are two rows whose pixels 3 and 4 are black, and EOFB: where one row is
+/// wanted it is taken and the answer is true; where three are, both are taken and the answer is false.
+pub fn decode_first_rows<D: Decoder>(
+    data: &[u8],
+    first: &mut FirstRows<D>,
+    ctx: &mut DecoderContext,
+) -> Result<bool>
+    requires fit { BitsFit «data».now }
+    requires width { ctx.old.held.settings.columns ≤ D.width first.old.sink }
+    requires begun { first.old.rows ≡ 0 }
+    ensures rows { OnAnswer result (D.meaning first.new.sink
+        ≡ meaning_after (D.step (D.width first.old.sink)) (D.meaning first.old.sink)
+        (take first.old.most (reading_of ctx.old.held.settings «data».now).rows)) }
+    ensures count { OnAnswer result (first.new.rows
+        ≡ min first.old.most (length (reading_of ctx.old.held.settings «data».now).rows)) }
+    ensures as_many { result ≡ Ok true
+        → first.old.most ≤ length (reading_of ctx.old.held.settings «data».now).rows }
+    ensures fewer { result ≡ Ok false
+        → (length (reading_of ctx.old.held.settings «data».now).rows < first.old.most)
+        × IsOk (reading_of ctx.old.held.settings «data».now).outcome }
+    ensures fault { IfErr result (λ e. IsFault e
+        → (length (reading_of ctx.old.held.settings «data».now).rows < first.old.most)
+        × ((reading_of ctx.old.held.settings «data».now).outcome ≡ Err e)) }
+    ensures refused { result ≡ Err DecodeError.Refused → D.has_refused first.new.sink ≡ true }
+    ensures settings { ctx.new.held.settings ≡ ctx.old.held.settings }
+{
+    let answer = decode(data, first, ctx);
+    if first.rows == first.most {
+        return Ok(true);
+    }
+    match answer {
+        Ok(_) => Ok(false),
+        Err(error) => Err(error),
+    }
+}

@@ -1,0 +1,20 @@
+//! Small callers of the decoder, each with a contract of its own that follows from the decoder's: they count black pixels,
+//! keep the first rows, make a bitmap of a strip, and cut pages that stand one behind the other.
+//!
+//! Each takes data of at most `(usize::MAX - 64) / 8` bytes, as [`hayro_ccitt::decode`] does; [`hayro_ccitt::bits_fit`] tests it.
+#![tactic(auto)]
+
+mod black_pixels;
+mod first_rows;
+mod once;
+mod pages;
+mod strip;
+
+pub use black_pixels::{BlackPixels, count_black};
+pub use first_rows::{FirstRows, decode_first_rows};
+pub use once::decode_once;
+pub use pages::{group4_pages, page_end, page_ends};
+pub use strip::strip_to_bitmap;
+
+#[cfg(test)]
+mod tests;

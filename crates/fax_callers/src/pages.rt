@@ -1,0 +1,122 @@
+//! Pages of Group 4 that stand one behind the other.
+
+ghost use Rattle.std.specs.Prelude.{◌≡◌, ◌≢◌, ◌≤◌, ◌⊎◌, ℕ, List, IfOk, IfErr, IsOk, length};
+ghost use Rattle.hayro_ccitt.specs.Answers.{OnAnswer, IsFault};
+ghost use Rattle.hayro_ccitt.specs.Bits.{BitsFit, bits_of};
+ghost use Rattle.hayro_ccitt.specs.Pictures.{IsClosedPicture};
+ghost use Rattle.hayro_ccitt.specs.Rows.{Row};
+ghost use Rattle.fax_callers.specs.Readings.{reading_of, EndsAs};
+ghost use Rattle.fax_callers.specs.Pages.{page_settings, page_from, EndAt, StandAt};
+
+use hayro_ccitt::{
+    DecodeError, DecodeSettings, Decoder, DecoderContext, EncodingMode, Result, decode,
+};
+use std::alloc::Global;
+
+/// A sink that lets each row go.
+#[derive(Drop)]
+struct NoRows;
+
+impl Decoder for NoRows {
+    ghost use Rattle.std.specs.Prelude.{false};
+
+    ghost Meaning = { Unit {0} };
+
+    ghost meaning = { λ _. tt };
+
+    ghost step = { λ _ _ _. tt };
+
+    ghost width = { λ _. 4294967295 };
+
+    ghost has_refused = { λ _. false };
+
+    fn push_row(&mut self, _changes: &[u32]) -> Result<()> {
+        Ok(())
+    }
+}
+
+/// The settings for pages of Group 4 with so many columns, each closed by EOFB: no limit of rows, no alignment, strict.
+pub fn group4_pages(columns: u32) -> DecodeSettings
+    ensures { result ≡ page_settings columns }
+{
+    DecodeSettings {
+        columns,
+        rows: 0,
+        end_of_block: true,
+        end_of_line: false,
+        rows_are_byte_aligned: false,
+        encoding: EncodingMode::Group4,
+        strict: true,
+    }
+}
+
+/// How many bytes the image takes at the front of the data. Its rows are let go.
+fn skip_image(data: &[u8], ctx: &mut DecoderContext) -> Result<usize>
+    requires fit { BitsFit «data».now }
+    ensures settings { ctx.new.held.settings ≡ ctx.old.held.settings }
+    ensures count { IfOk result (λ n. (reading_of ctx.old.held.settings «data».now).outcome ≡ Ok n) }
+    ensures ended { EndsAs result (reading_of ctx.old.held.settings «data».now).outcome }
+    ensures within { IfOk result (λ n. n ≤ length «data».now) }
+    ensures never_refused { result ≢ Err DecodeError.Refused }
+    ensures closed { (rows : List Row) (count : ℕ)
+        → IsClosedPicture ctx.old.held.settings rows count (bits_of «data».now) → OnAnswer result (result ≡ Ok count) }
+{
+    // A number's range is known once it is read.
+    let _settings = ctx.settings();
+    decode(data, &mut NoRows, ctx)
+}
+
+/// Where the page ends that stands at the front of the data: the number of its bytes, the last one filled up. The next page
+/// begins there.
+///
+/// The errors are those of the decoder: `UnexpectedEof`, `InvalidCode` and `Overflow` where the data is at fault, and
+/// `OutOfMemory` where there is no memory to decode.
+///
+/// With 8 columns the bytes 31 C0 04 00 40 are a row whose pixels 3 and 4 are black, and EOFB: the answer is 5, whatever stands
+/// behind them.
+pub fn page_end(alloc: Global, columns: u32, data: &[u8]) -> Result<usize>
+    requires fit { BitsFit «data».now }
+    ensures count { IfOk result (λ n. page_from columns «data».now 0 ≡ Ok n) }
+    ensures ended { EndsAs result (page_from columns «data».now 0) }
+    ensures within { IfOk result (λ n. n ≤ length «data».now) }
+    ensures never_refused { result ≢ Err DecodeError.Refused }
+
+    // A page closed by EOFB ends where its picture does, whatever follows it.
+    ensures closed { (rows : List Row) (count : ℕ)
+        → IsClosedPicture (page_settings columns) rows count (bits_of «data».now) → OnAnswer result (result ≡ Ok count) }
+{
+    let mut ctx = DecoderContext::new(alloc, group4_pages(columns))?;
+    skip_image(data, &mut ctx)
+}
+
+/// Where the pages end that stand one behind the other in the data, from its front on: each begins where the one before ends.
+/// The walk is over where nothing is left, or where no byte of what is left is read, as with no columns.
+///
+/// The errors are those of [`page_end`], for the first page that has one.
+///
+/// With 8 columns the bytes 31 C0 04 00 40 31 C0 04 00 40 are two pages: the answer is 5 and 10.
+pub fn page_ends(alloc: Global, columns: u32, data: &[u8]) -> Result<Vec<usize>>
+    requires fit { BitsFit «data».now }
+    ensures pages { IfOk result (λ ends. (last : ℕ) × EndAt columns «data».now 0 ends.items last
+        × ((last ≡ length «data».now) ⊎ (page_from columns «data».now last ≡ Ok 0))) }
+    ensures fault { IfErr result (λ e. IsFault e → (ends : List ℕ) × (begin : ℕ) × EndAt columns «data».now 0 ends begin
+        × (page_from columns «data».now begin ≡ Err e)) }
+    ensures never_refused { result ≢ Err DecodeError.Refused }
+
+    // Where the data are closed pages and nothing else, these are cut.
+    ensures closed { (ends : List ℕ) → StandAt columns «data».now 0 ends
+        → OnAnswer result (IsOk result × IfOk result (λ found. found.items ≡ ends)) }
+{
+    let mut ctx = DecoderContext::new(alloc, group4_pages(columns))?;
+    let mut ends = Vec::new(alloc);
+    let mut begin = 0;
+    while begin < data.len() {
+        let count = skip_image(&data[begin..], &mut ctx)?;
+        if count == 0 {
+            break;
+        }
+        begin += count;
+        ends.push(begin)?;
+    }
+    Ok(ends)
+}

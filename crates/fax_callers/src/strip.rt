@@ -1,0 +1,38 @@
+//! A strip's bitmap.
+
+ghost use Rattle.std.specs.Prelude.{◌≡◌, ℕ, List, IfOk, IsOk};
+ghost use Rattle.hayro_ccitt.specs.Answers.{OnAnswer};
+ghost use Rattle.hayro_ccitt.specs.Bits.{BitsFit, bits_of};
+ghost use Rattle.hayro_ccitt.specs.Pictures.{IsClosedPicture};
+ghost use Rattle.hayro_ccitt.specs.Rows.{Row};
+ghost use Rattle.fax_encode.specs.Packed.{packed};
+ghost use Rattle.fax_callers.specs.Readings.{reading_of, EndsAs};
+
+use crate::once::decode_once;
+use fax_encode::BitmapSink;
+use hayro_ccitt::laws::changes_are_rows;
+use hayro_ccitt::{DecodeSettings, Result};
+use std::alloc::Global;
+
+/// The bitmap of a strip, as of a TIFF file: one bit a pixel, 1 for black, the leftmost pixel in each byte's highest bit, and
+/// zeros after each row up to a whole byte.
+///
+/// The errors are those of the decoder: `UnexpectedEof`, `InvalidCode` and `Overflow` where the data is at fault,
+/// `OutOfMemory` where there is no memory to decode or for the answer, and `Refused` where there is none for a row of the
+/// bitmap.
+///
+/// In Group 4 with 8 columns the bytes 31 C0 04 00 40 are a row whose pixels 3 and 4 are black, and EOFB: the bitmap is the
+/// one byte 18.
+pub fn strip_to_bitmap(alloc: Global, settings: DecodeSettings, data: &[u8]) -> Result<Vec<u8>>
+    requires fit { BitsFit «data».now }
+    ensures packed { IfOk result (λ bytes. bits_of bytes.items ≡ packed (reading_of settings «data».now).rows) }
+    ensures ended { EndsAs result (reading_of settings «data».now).outcome }
+    ensures closed { (rows : List Row) (count : ℕ) → IsClosedPicture settings rows count (bits_of «data».now)
+        → OnAnswer result (IsOk result × IfOk result (λ bytes. bits_of bytes.items ≡ packed rows)) }
+{
+    changes_are_rows();
+    let mut sink = BitmapSink::new(alloc, settings.columns);
+    decode_once(alloc, settings, data, &mut sink)?;
+    let bitmap = sink.bytes().to_vec(alloc)?;
+    Ok(bitmap)
+}

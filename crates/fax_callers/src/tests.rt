@@ -1,0 +1,179 @@
+//! What no clause says: that memory is there, and that the answers are those of the standards. The bytes were worked out from
+//! T.6 by hand.
+//!
+//! With 8 columns a row whose pixels 3 and 4 are black is, below a white one, horizontal mode, a white run of 3, a black run of 2
+//! and V0: 001 1000 11 1. Below a row like itself it is three times V0: 111. EOFB is 000000000001 twice.
+
+use crate::{
+    BlackPixels, FirstRows, count_black, decode_first_rows, decode_once, group4_pages, page_end,
+    page_ends, strip_to_bitmap,
+};
+use fax_encode::BitmapSink;
+use hayro_ccitt::DecodeError::{OutOfMemory, Refused, UnexpectedEof};
+use hayro_ccitt::{Decoder, DecoderContext, EncodingMode, Result, bits_fit};
+use std::alloc::AllocGlobal;
+use std::process::Abort;
+use std::test::Fail;
+
+/// One row with the changes 3 and 5, and EOFB.
+const ONE_ROW: [u8; 5] = [0x31, 0xC0, 0x04, 0x00, 0x40];
+
+/// Two rows with the changes 3 and 5, and EOFB.
+const TWO_ROWS: [u8; 5] = [0x31, 0xF8, 0x00, 0x80, 0x08];
+
+/// The page of one row, and behind it that of two.
+const TWO_PAGES: [u8; 10] = [0x31, 0xC0, 0x04, 0x00, 0x40, 0x31, 0xF8, 0x00, 0x80, 0x08];
+
+/// One row with the changes 3 and 5, and behind it the front of another: 001 100.
+const CUT_ROW: [u8; 2] = [0x31, 0xCC];
+
+/// Takes the first rows of 8 columns into a bitmap, and compares the answer, their number and the bitmap.
+fn takes_first(
+    rt: &(impl Abort + AllocGlobal),
+    data: &[u8],
+    most: u64,
+    answer: Result<bool>,
+    bitmap: &[u8],
+) {
+    assert!(rt; bits_fit(data));
+    let Ok(mut ctx) = DecoderContext::new(rt.alloc(), group4_pages(8)) else {
+        panic!(rt; "no memory");
+    };
+    let mut first = FirstRows::new(BitmapSink::new(rt.alloc(), 8), most);
+    assert_eq!(rt;
+        decode_first_rows(data, &mut first, &mut ctx),
+        answer,
+        "at most {most} rows"
+    );
+    assert_eq!(rt; first.rows, bitmap.len() as u64, "at most {most} rows");
+    assert_eq!(rt; first.sink.bytes(), bitmap, "at most {most} rows");
+}
+
+#[test]
+fn settings_of_pages(rt: HostRuntime) {
+    let settings = group4_pages(8);
+    assert_eq!(&rt; (settings.columns, settings.rows), (8, 0));
+    assert_eq!(&rt; settings.encoding, EncodingMode::Group4);
+    assert_eq!(&rt; (settings.end_of_block, settings.strict), (true, true));
+    assert_eq!(&rt;
+        (settings.end_of_line, settings.rows_are_byte_aligned),
+        (false, false)
+    );
+}
+
+#[test]
+fn black_pixels(rt: HostRuntime) {
+    let alloc = rt.alloc();
+    assert_eq!(&rt; count_black(alloc, group4_pages(8), &ONE_ROW), Ok(2));
+    assert_eq!(&rt; count_black(alloc, group4_pages(8), &TWO_ROWS), Ok(4));
+    assert_eq!(&rt;
+        count_black(alloc, group4_pages(8), &CUT_ROW),
+        Err(UnexpectedEof)
+    );
+    let mut sink = BlackPixels::new(8);
+    assert_eq!(&rt;
+        decode_once(alloc, group4_pages(8), &TWO_PAGES, &mut sink),
+        Ok(5)
+    );
+    assert_eq!(&rt; sink.black(), 2);
+    let taken: Result<()> = sink.push_row(&[]);
+    assert_eq!(&rt; (taken, sink.black()), (Ok(()), 2), "a white row");
+    let taken: Result<()> = sink.push_row(&[0]);
+    assert_eq!(&rt; (taken, sink.black()), (Ok(()), 10), "a black row");
+    let taken: Result<()> = sink.push_row(&[0, 1, 7]);
+    assert_eq!(&rt;
+        (taken, sink.black()),
+        (Ok(()), 12),
+        "its first and last pixel"
+    );
+}
+
+#[test]
+fn bitmaps_of_strips(rt: HostRuntime) -> std::result::Result<(), Fail> {
+    let one = strip_to_bitmap(rt.alloc(), group4_pages(8), &ONE_ROW)?;
+    assert_eq!(&rt; one.as_slice(), [0x18u8].as_slice());
+    let two = strip_to_bitmap(rt.alloc(), group4_pages(8), &TWO_ROWS)?;
+    assert_eq!(&rt; two.as_slice(), [0x18u8, 0x18].as_slice());
+    let cut = strip_to_bitmap(rt.alloc(), group4_pages(8), &CUT_ROW);
+    assert_eq!(&rt; cut.err(), Some(UnexpectedEof));
+    Ok(())
+}
+
+#[test]
+fn first_rows(rt: HostRuntime) {
+    takes_first(&rt, &TWO_ROWS, 0, Ok(true), &[]);
+    takes_first(&rt, &TWO_ROWS, 1, Ok(true), &[0x18]);
+    takes_first(&rt, &TWO_ROWS, 2, Ok(true), &[0x18, 0x18]);
+    takes_first(&rt, &TWO_ROWS, 3, Ok(false), &[0x18, 0x18]);
+    takes_first(&rt, &CUT_ROW, 1, Ok(true), &[0x18]);
+    takes_first(&rt, &CUT_ROW, 2, Err(UnexpectedEof), &[0x18]);
+}
+
+#[test]
+fn rows_that_are_refused(rt: HostRuntime) -> std::result::Result<(), Fail> {
+    let mut ctx = DecoderContext::new(rt.alloc(), group4_pages(8))?;
+    let one = FirstRows::new(BitmapSink::new(rt.alloc(), 8), 1);
+    let mut first = FirstRows::new(one, 3);
+    assert_eq!(&rt;
+        decode_first_rows(&TWO_ROWS, &mut first, &mut ctx),
+        Err(Refused)
+    );
+    assert_eq!(&rt; first.sink.sink.bytes(), [0x18u8].as_slice());
+    let mut one = FirstRows::new(BitmapSink::new(rt.alloc(), 8), 1);
+    let answer = decode_once(rt.alloc(), group4_pages(8), &TWO_ROWS, &mut one);
+    assert_eq!(&rt; answer, Err(Refused));
+    Ok(())
+}
+
+#[test]
+fn pages(rt: HostRuntime) -> std::result::Result<(), Fail> {
+    let alloc = rt.alloc();
+    assert_eq!(&rt; page_end(alloc, 8, &ONE_ROW), Ok(5));
+    assert_eq!(&rt; page_end(alloc, 8, &TWO_PAGES), Ok(5));
+    assert_eq!(&rt; page_end(alloc, 8, &CUT_ROW), Err(UnexpectedEof));
+    assert_eq!(&rt;
+        page_ends(alloc, 8, &TWO_PAGES)?.as_slice(),
+        [5usize, 10].as_slice()
+    );
+    assert_eq!(&rt;
+        page_ends(alloc, 8, &[])?.as_slice(),
+        [].as_slice(),
+        "nothing"
+    );
+    assert_eq!(&rt;
+        page_ends(alloc, 0, &ONE_ROW)?.as_slice(),
+        [].as_slice(),
+        "no columns"
+    );
+    let cut = page_ends(alloc, 8, &[0x31, 0xC0, 0x04, 0x00, 0x40, 0x31]);
+    assert_eq!(&rt; cut.err(), Some(UnexpectedEof));
+    Ok(())
+}
+
+/// Whether an answer is that there is no memory: for the context or a change, or for a row of a bitmap.
+fn wants_memory<T>(answer: &Result<T>) -> bool {
+    matches!(answer, Err(OutOfMemory | Refused))
+}
+
+/// A request that is refused is the answer, and the next call answers in full. `rt try --test --fail-alloc N` refuses the request
+/// of a number; where none is refused, each call answers in full at once.
+#[test]
+fn memory_that_is_refused(rt: HostRuntime) -> std::result::Result<(), Fail> {
+    let alloc = rt.alloc();
+    let mut black = count_black(alloc, group4_pages(8), &TWO_ROWS);
+    if wants_memory(&black) {
+        black = count_black(alloc, group4_pages(8), &TWO_ROWS);
+    }
+    assert_eq!(&rt; black, Ok(4));
+    let mut bitmap = strip_to_bitmap(alloc, group4_pages(8), &TWO_ROWS);
+    if wants_memory(&bitmap) {
+        bitmap = strip_to_bitmap(alloc, group4_pages(8), &TWO_ROWS);
+    }
+    assert_eq!(&rt; bitmap?.as_slice(), [0x18u8, 0x18].as_slice());
+    let mut ends = page_ends(alloc, 8, &TWO_PAGES);
+    if wants_memory(&ends) {
+        ends = page_ends(alloc, 8, &TWO_PAGES);
+    }
+    assert_eq!(&rt; ends?.as_slice(), [5usize, 10].as_slice());
+    Ok(())
+}
