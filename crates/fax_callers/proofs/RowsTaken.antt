@@ -7,7 +7,7 @@ use Rattle.std.proofs.lemmas.List.Sums.{sum_by-cons}
 use Rattle.std.proofs.lemmas.List.Elements.{All-head, All-tail}
 use Rattle.hayro_ccitt.specs.declared.settings.DecodeSettings.{DecodeSettings}
 use Rattle.hayro_ccitt.specs.Answers.{meaning_after}
-use Rattle.hayro_ccitt.specs.Bits.{Bits}
+use Rattle.hayro_ccitt.specs.Bits.{bits_of, Bits}
 use Rattle.hayro_ccitt.specs.Laws.{ChangesOfRows}
 use Rattle.hayro_ccitt.specs.Pictures.{IsClosedPicture}
 use Rattle.hayro_ccitt.specs.Rows.{Row, changes, pixels}
@@ -23,7 +23,7 @@ HaveWidth columns rows = All (λ row. length row ≡ columns) rows
 
 -- the rows of a reading have the width of its columns
 pub reading_width : (settings : DecodeSettings) (bytes : List ℕ) → HaveWidth settings.columns (reading_of settings bytes).rows
-reading_width settings bytes = plain_width settings bytes
+reading_width settings bytes = plain_width settings (bits_of bytes)
 
 -- and so have those of a closed picture
 pub picture_width : (settings : DecodeSettings) (rows : List Row) (count : ℕ) (bits : Bits) → IsClosedPicture settings rows count bits → HaveWidth settings.columns rows

@@ -3,11 +3,12 @@ use Rattle.std.specs.Prelude.{◌≡◌, ℕ, List, Result, Ok, Err, IsOk}
 use Rattle.hayro_ccitt.specs.declared.error.DecodeError.{DecodeError}
 use Rattle.hayro_ccitt.specs.declared.settings.DecodeSettings.{DecodeSettings}
 use Rattle.hayro_ccitt.specs.Answers.{IsFault}
+use Rattle.hayro_ccitt.specs.Bits.{bits_of}
 use Rattle.hayro_ccitt.specs.PlainReading.{Reading, plain}
 
--- the plain reading of some bytes
+-- the plain reading of some bytes, each byte's highest bit first
 abbrev pub reading_of : DecodeSettings → List ℕ → Reading
-reading_of settings bytes = plain settings bytes
+reading_of settings bytes = plain settings (bits_of bytes)
 
 -- Where a call answers without an error the reading ends without one, and where it answers a fault of the data the reading ends
 -- with that fault. Want of memory and a refused row say nothing of the reading.
