@@ -18,8 +18,7 @@ use std::alloc::Global;
 /// zeros after each row up to a whole byte.
 ///
 /// The errors are those of the decoder: `UnexpectedEof`, `InvalidCode` and `Overflow` where the data is at fault,
-/// `OutOfMemory` where there is no memory to decode or for the answer, and `Refused` where there is none for a row of the
-/// bitmap.
+/// `OutOfMemory` where there is no memory to decode, and `Refused` where there is none for a row of the bitmap.
 ///
 /// In Group 4 with 8 columns the bytes 31 C0 04 00 40 are a row whose pixels 3 and 4 are black, and EOFB: the bitmap is the
 /// one byte 18.
@@ -33,6 +32,5 @@ pub fn strip_to_bitmap(alloc: Global, settings: DecodeSettings, data: &[u8]) -> 
     changes_are_rows();
     let mut sink = BitmapSink::new(alloc, settings.columns);
     decode_once(alloc, settings, data, &mut sink)?;
-    let bitmap = sink.bytes().to_vec(alloc)?;
-    Ok(bitmap)
+    Ok(sink.into_bytes())
 }

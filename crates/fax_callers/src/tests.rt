@@ -11,7 +11,7 @@ use crate::{
 use fax_encode::BitmapSink;
 use hayro_ccitt::DecodeError::{OutOfMemory, Refused, UnexpectedEof};
 use hayro_ccitt::{Decoder, DecoderContext, EncodingMode, Result, bits_fit};
-use std::alloc::AllocGlobal;
+use std::alloc::{AllocGlobal, Global};
 use std::process::Abort;
 use std::test::Fail;
 
@@ -150,30 +150,53 @@ fn pages(rt: HostRuntime) -> std::result::Result<(), Fail> {
     Ok(())
 }
 
-/// Whether an answer is that there is no memory: for the context or a change, or for a row of a bitmap.
-fn wants_memory<T>(answer: &Result<T>) -> bool {
-    matches!(answer, Err(OutOfMemory | Refused))
+/// Names a request for memory: of those from now on the one with this number, from 1, is to be refused. Where
+/// `checks/refuse_named.c` is loaded, as `checks/built_tests.py` does, that request alone is refused, and else none is.
+fn refuse_request(alloc: Global, number: usize)
+    requires { number < 4096 }
+{
+    let _ = Vec::<u8>::with_capacity(alloc, (1 << 20) + number);
 }
 
-/// A request that is refused is the answer, and the next call answers in full. `rt try --test --fail-alloc N` refuses the request
-/// of a number; where none is refused, each call answers in full at once.
+/// Whether the named request was made, and refused. From now on none is refused.
+fn was_refused(alloc: Global) -> bool {
+    Vec::<u8>::with_capacity(alloc, 1 << 20).is_err()
+}
+
+/// Refuses each request of a call in turn: it answers want of memory, or a row that was refused for it. Answers what it makes
+/// with memory.
+fn refuses_each_request<R: Drop, F: Fn() -> Result<R>>(
+    rt: &(impl Abort + AllocGlobal),
+    call: &F,
+) -> R
+    requires { F.IsAlwaysCallable call.now }
+{
+    for number in 1..100usize {
+        refuse_request(rt.alloc(), number);
+        let answer = call();
+        let was_refused = was_refused(rt.alloc());
+        match answer {
+            Ok(made) if !was_refused => return made,
+            Ok(_) => panic!(rt; "request {number} was refused, and the call succeeded"),
+            Err(error) => {
+                assert!(rt; was_refused, "{error:?} where nothing was refused");
+                assert!(rt;
+                    matches!(error, OutOfMemory | Refused),
+                    "request {number}: {error:?}"
+                );
+            }
+        }
+    }
+    panic!(rt; "each of 99 requests was refused");
+}
+
 #[test]
-fn memory_that_is_refused(rt: HostRuntime) -> std::result::Result<(), Fail> {
+fn refused_memory(rt: HostRuntime) {
     let alloc = rt.alloc();
-    let mut black = count_black(alloc, group4_pages(8), &TWO_ROWS);
-    if wants_memory(&black) {
-        black = count_black(alloc, group4_pages(8), &TWO_ROWS);
-    }
-    assert_eq!(&rt; black, Ok(4));
-    let mut bitmap = strip_to_bitmap(alloc, group4_pages(8), &TWO_ROWS);
-    if wants_memory(&bitmap) {
-        bitmap = strip_to_bitmap(alloc, group4_pages(8), &TWO_ROWS);
-    }
-    assert_eq!(&rt; bitmap?.as_slice(), [0x18u8, 0x18].as_slice());
-    let mut ends = page_ends(alloc, 8, &TWO_PAGES);
-    if wants_memory(&ends) {
-        ends = page_ends(alloc, 8, &TWO_PAGES);
-    }
-    assert_eq!(&rt; ends?.as_slice(), [5usize, 10].as_slice());
-    Ok(())
+    let black = refuses_each_request(&rt, &|| count_black(alloc, group4_pages(8), &TWO_ROWS));
+    assert_eq!(&rt; black, 4);
+    let bitmap = refuses_each_request(&rt, &|| strip_to_bitmap(alloc, group4_pages(8), &TWO_ROWS));
+    assert_eq!(&rt; bitmap.as_slice(), [0x18u8, 0x18].as_slice());
+    let ends = refuses_each_request(&rt, &|| page_ends(alloc, 8, &TWO_PAGES));
+    assert_eq!(&rt; ends.as_slice(), [5usize, 10].as_slice());
 }

@@ -11,7 +11,10 @@ use std::alloc::{AllocError, Global};
 use std::marker::Model;
 
 /// Rows as a bitmap, kept in memory: one bit a pixel, 1 for black, the leftmost pixel in each byte's highest bit, and
-/// zeros after each row up to a whole byte.
+/// zeros after each row up to a whole byte. Row k begins at byte k times (columns + 7) / 8. A row is refused where there is no
+/// memory for it, and those before stay.
+///
+/// A row of 8 pixels of which 3 and 4 are black, `[3, 5]`, is the byte 18.
 #[derive(Drop)]
 pub struct BitmapSink {
     bytes: Vec<u8>,
@@ -46,6 +49,13 @@ impl BitmapSink {
         ensures { result.now ≡ self.now.bytes }
     {
         self.bytes.as_slice()
+    }
+
+    /// The bytes of the rows that were taken, for who keeps them.
+    pub fn into_bytes(self) -> Vec<u8>
+        ensures { result.items ≡ self.bytes }
+    {
+        self.bytes
     }
 
     /// Adds a row. It asks for its memory first; where there is none, the bytes stay.

@@ -224,7 +224,8 @@ fn picture(
 
 /// Encodes rows, given as lists of changes, as Group 4 (T.6): the modes of each row against the row before it, with
 /// zeros up to a whole byte after each where they are `aligned`, and EOFB after the last, with zeros up to a whole
-/// byte. No rows give EOFB alone.
+/// byte. No rows give EOFB alone. With 8 columns and not aligned the one row `[3, 5]` is 31 C0 04 00 40: horizontal mode, 3
+/// white pixels, 2 black ones, a vertical mode, and EOFB (T.6 sections 2.2 and 2.4.1.1).
 ///
 /// `NoColumns` comes where `columns` is 0, else `NotARow` with the index of the first list that is not strictly
 /// ascending and below `columns`, and else `OutOfMemory` where memory was refused; never `NoRows`.

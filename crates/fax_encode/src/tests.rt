@@ -3,7 +3,10 @@
 
 ghost use Rattle.std.specs.Prelude.{◌<◌};
 
-use crate::{BitmapSink, EncodeError, bitmap_by_group4, encode_1d, encode_g4, paint_row};
+use crate::{
+    BitmapSink, EncodeError, bitmap_by_group3, bitmap_by_group4, encode_1d, encode_bitmap_1d,
+    encode_bitmap_g4, encode_g4, paint_row,
+};
 use hayro_ccitt::{
     DecodeError, DecodeSettings, Decoder, DecoderContext, EncodingMode, bits_fit, decode,
 };
@@ -340,6 +343,14 @@ fn refused_memory(rt: HostRuntime) -> Result<(), Fail> {
 
     let sink = refuses_each_request(&rt, &|| bitmap_by_group4(alloc, 8, rows, true));
     assert_eq!(rt; sink.bytes(), [0x18u8; 16].as_slice());
+    let sink = refuses_each_request(&rt, &|| bitmap_by_group3(alloc, 8, rows));
+    assert_eq!(rt; sink.bytes(), [0x18u8; 16].as_slice());
+
+    let bitmap = sink.into_bytes();
+    let again = refuses_each_request(&rt, &|| encode_bitmap_g4(alloc, 8, &bitmap, false));
+    assert_eq!(rt; again.as_slice(), t6.as_slice());
+    let again = refuses_each_request(&rt, &|| encode_bitmap_1d(alloc, 8, &bitmap));
+    assert_eq!(rt; again, t4);
     Ok(())
 }
 

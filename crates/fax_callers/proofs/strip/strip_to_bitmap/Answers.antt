@@ -1,4 +1,4 @@
-use Rattle.std.proofs.Common.{rules, ◌≡◌, List, refl, ap, ◌∙◌}
+use Rattle.std.proofs.Common.{◌≡◌, List, refl, ap, ◌∙◌}
 use Rattle.std.proofs.lemmas.Result.{err_from_is_err_and}
 use Rattle.hayro_ccitt.specs.Answers.{meaning_after}
 use Rattle.hayro_ccitt.specs.Bits.{bits_of}
@@ -8,17 +8,13 @@ use Rattle.fax_callers.specs.Readings.{reading_of}
 use Rattle.fax_callers.proofs.RowsTaken.{HaveWidth, reading_width, picture_width, packs, packs_rows}
 use Rattle.fax_callers.proofs.strip.strip_to_bitmap.Goals as goal
 
-module _ (c : goal.After-drop-sink-inside-2) where
-  -- the copy of the sink's bytes
-  copied : c.in_ok-bitmap.bitmap.items ≡ c.bytes.result.now
-  copied = search rules
-
+module _ (c : goal.After-into_bytes) where
   -- what is packed of rows of the width
   is_packed : (rows : List Row) → HaveWidth c.args.settings.columns rows
       → bits_of c.decode_once.new.sink.bytes ≡ meaning_after (packs c.new-sink.result.columns) (bits_of c.new-sink.result.bytes) rows
-      → bits_of c.in_ok-bitmap.bitmap.items ≡ packed rows
+      → bits_of c.into_bytes.result.items ≡ packed rows
   is_packed rows have is =
-      ap bits_of (copied ∙ c.bytes.ensures) ∙ is ∙ ap (λ (b : Bitmap). meaning_after (packs b.columns) (bits_of b.bytes) rows) c.new-sink.ensures
+      ap bits_of c.into_bytes.ensures ∙ is ∙ ap (λ (b : Bitmap). meaning_after (packs b.columns) (bits_of b.bytes) rows) c.new-sink.ensures
       ∙ packs_rows c.changes_are_rows.ensures.changes c.args.settings.columns rows have
 
 pub returns-clause-packed : goal.returns-clause-packed
