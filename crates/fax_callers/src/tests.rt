@@ -4,6 +4,8 @@
 //! With 8 columns a row whose pixels 3 and 4 are black is, below a white one, horizontal mode, a white run of 3, a black run of 2
 //! and V0: 001 1000 11 1. Below a row like itself it is three times V0: 111. EOFB is 000000000001 twice.
 
+ghost use Rattle.std.specs.Prelude.{◌<◌};
+
 use crate::{
     BlackPixels, FirstRows, count_black, decode_first_rows, decode_once, group4_pages, page_end,
     page_ends, strip_to_bitmap,
