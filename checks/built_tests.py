@@ -7,8 +7,8 @@ import tempfile
 # Of each crate the tests that name requests: how often each names one, and how many of them were made, and so refused. All
 # others name none. A test that wants each request refused in turn names one more than there are.
 NAMED = {
-    "fax_callers": {"tests::refused_memory": (19, 16)},
-    "fax_encode": {"tests::refused_memory": (18, 15), "tests::sink_without_memory": (1, 0)},
+    "fax_callers": {"tests::refused_memory": (17, 14)},
+    "fax_encode": {"tests::refused_memory": (40, 34), "tests::sink_without_memory": (1, 0)},
     "faxrows": {"tests::sink_without_memory": (1, 0)},
     "worked_rows": {
         "tests::refused_memory::calls_without_memory": (1, 0),
