@@ -39,6 +39,8 @@ def outcomes(page):
             files = re.findall(r"out/[\w.-]+", command.replace("crates/faxrows/out/", ""))
             absent = [name for name in files if not os.path.exists(f"{folder}/{name}")]
             missing = [tool for tool in TOOLS if re.search(rf"(^|[|;&(]) *{tool} ", command) and not shutil.which(tool)]
+            if "pdf_pages.py" in command and not shutil.which("pdfimages"):
+                missing.append("pdfimages")
             if missing or any(name.startswith(tuple(lost)) for name in absent):
                 lost += absent
                 yield command, text, None
