@@ -1,4 +1,3 @@
-mod OnAnswers
 mod FirstTaken
 mod PagesCut
 mod RowsTaken

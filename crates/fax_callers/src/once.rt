@@ -39,10 +39,11 @@ pub fn decode_once<D: Decoder>(
     ensures within { IfOk result (λ n. n ≤ length «data».now) }
     ensures refused { result ≡ Err DecodeError.Refused → D.has_refused sink.new ≡ true }
 
-    // A closed picture gives its rows and its count, whatever follows it.
+    // A closed picture gives its count and its rows, whatever follows it.
     ensures closed { (rows : List Row) (count : ℕ) → IsClosedPicture settings rows count (bits_of «data».now)
-        → OnAnswer result ((result ≡ Ok count)
-        × (D.meaning sink.new ≡ meaning_after (D.step (D.width sink.old)) (D.meaning sink.old) rows)) }
+        → OnAnswer result (result ≡ Ok count) }
+    ensures picture { (rows : List Row) (count : ℕ) → IsClosedPicture settings rows count (bits_of «data».now)
+        → OnAnswer result (D.meaning sink.new ≡ meaning_after (D.step (D.width sink.old)) (D.meaning sink.old) rows) }
 {
     let mut ctx = DecoderContext::new(alloc, settings)?;
     decode(data, sink, &mut ctx)

@@ -8,13 +8,13 @@ use Rattle.hayro_ccitt.specs.Bits.{Bits, bits_of}
 use Rattle.hayro_ccitt.specs.Context.{Held}
 use Rattle.hayro_ccitt.specs.Decoding.{SinkState}
 use Rattle.hayro_ccitt.specs.PlainReading.{plain}
-use Rattle.hayro_ccitt.specs.Rows.{Row, changes, pixels}
+use Rattle.hayro_ccitt.specs.Rows.{Row, HaveWidth, changes, pixels}
 use Rattle.hayro_ccitt.proofs.PixelRows.ChangesAndPixels.{pixels-changes}
 use Rattle.fax_encode.specs.Chosen.{filled_up}
 use Rattle.fax_encode.specs.Packed.{packed, Bitmap}
 use Rattle.fax_encode.proofs.PackedRows.{packs}
 use Rattle.faxrows.specs.Runs.{Outcome}
-use Rattle.hayro_ccitt.proofs.Readings.RowWidths.{HaveWidth, plain_width}
+use Rattle.hayro_ccitt.proofs.Readings.RowWidths.{plain_width}
 use Rattle.faxrows.proofs.Texts.{Takes}
 
 -- rows of the width are added as their pixels

@@ -2,8 +2,7 @@
 
 ghost use Rattle.std.specs.Prelude.{◌≡◌, ◌≤◌};
 ghost use Rattle.hayro_ccitt.specs.Bits.{BitsFit, bits_in};
-ghost use Rattle.hayro_ccitt.specs.Decoding.{TakesRows, StopsShort};
-ghost use Rattle.hayro_ccitt.specs.PlainReading.{plain, lines_of};
+ghost use Rattle.hayro_ccitt.specs.Contract.{Decodes};
 
 use hayro_ccitt::bit_reader::BitOrder;
 use hayro_ccitt::{Decoder, DecoderContext, decode, decode_low_first};
@@ -19,15 +18,10 @@ pub(crate) fn decode_in<D: Decoder>(
     requires width { ctx.old.held.settings.columns ≤ D.width sink.old }
     ensures width { D.width sink.new ≡ D.width sink.old }
     ensures settings { ctx.new.held.settings ≡ ctx.old.held.settings }
-    ensures reading { TakesRows (plain ctx.old.held.settings (bits_in order input.now)).rows
-        (plain ctx.old.held.settings (bits_in order input.now)).outcome (plain ctx.old.held.settings (bits_in order input.now)).has_eols
-        (D.step (D.width sink.old))
+    ensures decodes { Decodes ctx.old.held.settings (bits_in order input.now) (D.step (D.width sink.old))
         (record { meaning = D.meaning sink.old; refused = D.has_refused sink.old })
-        (record { meaning = D.meaning sink.new; refused = D.has_refused sink.new }) ctx.new.held result }
-    ensures short { StopsShort (plain ctx.old.held.settings (bits_in order input.now)).rows
-        (lines_of ctx.old.held.settings (bits_in order input.now))
-        (record { meaning = D.meaning sink.old; refused = D.has_refused sink.old })
-        (record { meaning = D.meaning sink.new; refused = D.has_refused sink.new }) ctx.new.held result }
+        (record { meaning = D.meaning sink.new; refused = D.has_refused sink.new })
+        ctx.new.held ctx.new.ticks result }
 {
     match order {
         BitOrder::HighestFirst => decode(input, sink, ctx),

@@ -1,6 +1,7 @@
 pub mod BitReading
 pub mod CodeWords
 pub mod DamagedLines
+pub mod Decoded
 pub mod DrawingLines
 pub mod EncodedPictures
 pub mod PixelRows

@@ -3,3 +3,4 @@ pub mod ChangesAndPixels
 pub mod Painting
 pub mod ReferencePlaces
 pub mod RowChanges
+pub mod StepsOnRows

@@ -1,6 +1,6 @@
 -- Encodings of pictures, from rows to bits: nothing is read here (T.4, 4.1 and 4.2; T.6, 2).
 use Rattle.std.specs.Prelude.{◌≡◌, ◌≢◌, ℕ, zero, suc, ◌+◌, ◌-◌, ◌%◌, ◌<◌, ◌≤◌, ℤ, pos, ◌+ℤ◌, Bool, true, false, if◌then◌else◌, ◌⊎◌}
-use Rattle.std.specs.Prelude.{List, [], ◌∷◌, ◌++◌, length, replicate, All}
+use Rattle.std.specs.Prelude.{List, [], ◌∷◌, ◌++◌, length, replicate}
 use Rattle.hayro_ccitt.specs.declared.codes.Color.{Color}
 use Rattle.hayro_ccitt.specs.declared.codes.Color.TheVariants.{White}
 use Rattle.hayro_ccitt.specs.declared.codes.Mode.TheVariants.{Pass, Horizontal, Vertical}
@@ -8,7 +8,7 @@ use Rattle.hayro_ccitt.specs.Bits.{Bits}
 use Rattle.hayro_ccitt.specs.CodeLists.{mode_codes}
 use Rattle.hayro_ccitt.specs.CodeReading.{Has}
 use Rattle.hayro_ccitt.specs.Runs.{codes_of}
-use Rattle.hayro_ccitt.specs.Rows.{Row, is_black, opposite, b1, b2, a1, a2, white_row}
+use Rattle.hayro_ccitt.specs.Rows.{Row, HaveWidth, is_black, opposite, b1, b2, a1, a2, white_row}
 use Rattle.hayro_ccitt.specs.declared.settings.EncodingMode.TheVariants.{Group4, Group3_1D, Group3_2D}
 use Rattle.hayro_ccitt.specs.declared.settings.EncodingMode.{EncodingMode}
 
@@ -64,9 +64,9 @@ EncodesRows encoding aligned reference (row ∷ rows) bits = (line next : Bits)
 abbrev pub eol : ℕ → Bits
 eol fill = replicate (11 + fill) false ++ true ∷ []
 
--- rows of one width (T.4, 4.1.1)
+-- a picture of so many columns, at least one: rows of that width (T.4, 4.1.1)
 abbrev pub IsPicture : ℕ → List Row → Type 0
-IsPicture columns rows = (0 < columns) × All (λ row. length row ≡ columns) rows
+IsPicture columns rows = (0 < columns) × HaveWidth columns rows
 
 -- a T.6 stream, closed by EOFB, which is two EOLs (T.6, 2.4.1.1)
 abbrev pub PictureT6 : ℕ → Bool → List Row → Bits → Type 0

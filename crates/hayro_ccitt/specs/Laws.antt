@@ -1,7 +1,7 @@
 -- The laws of the plain reading.
 use Rattle.std.specs.Prelude.{◌≡◌, ◌≢◌, ℕ, ◌+◌, ◌-◌, ◌*◌, ◌/◌, ◌^◌, ◌<◌, Bool, true, false, not, ◌&&◌, ◌||◌, nat_le, ◌⊎◌, Ok, IsOk}
 use Rattle.std.specs.Prelude.{List, [], ◌∷◌, ◌++◌, length, take, replicate, reverse, All}
-use Rattle.std.specs.List.{list_all, list_any}
+use Rattle.std.specs.List.{fold, list_all, list_any}
 use Rattle.hayro_ccitt.specs.declared.codes.Color.{Color}
 use Rattle.hayro_ccitt.specs.declared.codes.Mode.{Mode}
 use Rattle.hayro_ccitt.specs.declared.settings.EncodingMode.{EncodingMode}
@@ -9,11 +9,12 @@ use Rattle.hayro_ccitt.specs.declared.settings.EncodingMode.TheVariants.{Group4}
 use Rattle.hayro_ccitt.specs.declared.settings.DecodeSettings.{DecodeSettings}
 use Rattle.hayro_ccitt.specs.declared.bit_reader.BitOrder.{BitOrder}
 use Rattle.hayro_ccitt.specs.declared.bit_reader.BitOrder.TheVariants.{HighestFirst, LowestFirst}
+use Rattle.hayro_ccitt.specs.Answers.{meaning_after}
 use Rattle.hayro_ccitt.specs.Bits.{Bits, bits_of_byte, bits_in, AreWholeBytes, IsPrefix}
 use Rattle.hayro_ccitt.specs.CodeLists.{Code, mode_codes}
 use Rattle.hayro_ccitt.specs.CodeReading.{Has, leading_zeros, PrefixFree}
 use Rattle.hayro_ccitt.specs.Runs.{codes_of}
-use Rattle.hayro_ccitt.specs.Rows.{Row, AreChanges, pixels, changes, white_row}
+use Rattle.hayro_ccitt.specs.Rows.{Row, HaveWidth, AreChanges, pixels, changes, white_row}
 use Rattle.hayro_ccitt.specs.EndOfLine.{eols}
 use Rattle.hayro_ccitt.specs.Encodings.{EncodesRows, IsPicture, PictureT6, PictureT4}
 use Rattle.hayro_ccitt.specs.Pictures.{Allows, BeginsWithPictureT6, BeginsWithPictureT4, IsClosedPicture}
@@ -222,3 +223,9 @@ RowsOfChanges = (width : ℕ) (places : List ℕ) → AreChanges width places
 -- the changes of a row are lawful, and stand for the row (T.4, 4.2.1.1)
 abbrev pub ChangesOfRows : Type 0
 ChangesOfRows = (row : Row) → AreChanges (length row) (changes row) × (pixels (length row) (changes row) ≡ row)
+
+-- Steps on the pixels of a row's changes are steps on the row: over rows of the width a sink that takes the ones comes to
+-- what a fold of the others does (T.4, 4.2.1.1).
+abbrev pub StepsOnRows : Type 0 → Type 0
+StepsOnRows M = (width : ℕ) (step : M → Row → M) (meaning : M) (rows : List Row) → HaveWidth width rows
+    → meaning_after (λ before places. step before (pixels width places)) meaning rows ≡ fold step meaning rows

@@ -4,6 +4,7 @@ pub mod CodeLists
 pub mod CodeReading
 pub mod Context
 pub mod ContextView
+pub mod Contract
 pub mod Decoding
 pub mod Encodings
 pub mod EndOfLine

@@ -1,5 +1,5 @@
 -- Rows of pixels (T.4, 4.2.1).
-use Rattle.std.specs.Prelude.{ℕ, zero, suc, ◌-◌, Bool, true, false, not, ◌&&◌, List, [], ◌∷◌, ◌++◌, length, get_or, replicate, filter, find, unwrap_or, min, nat_le, nat_lt, Result, Ok, Err, if◌then◌else◌, ◌<◌, ◌≤◌}
+use Rattle.std.specs.Prelude.{◌≡◌, ℕ, zero, suc, ◌-◌, Bool, true, false, not, ◌&&◌, List, [], ◌∷◌, ◌++◌, length, get_or, replicate, filter, find, unwrap_or, min, nat_le, nat_lt, Result, Ok, Err, if◌then◌else◌, ◌<◌, ◌≤◌, All}
 use mathlib.Core.Bool.{beq}
 use Rattle.std.specs.List.{range_with_len}
 use Rattle.hayro_ccitt.specs.declared.codes.Color.{Color}
@@ -10,6 +10,10 @@ use Rattle.hayro_ccitt.specs.declared.error.DecodeError.TheVariants.{InvalidCode
 -- the pixels of a row, or of a front of one, from the left: true is black (T.4, 4.1.1)
 abbrev pub Row : Type 0
 Row = List Bool
+
+-- rows of one width: each has so many pixels (T.4, 4.1.1)
+abbrev pub HaveWidth : ℕ → List Row → Type 0
+HaveWidth columns rows = All (λ row. length row ≡ columns) rows
 
 -- a white row, as the row before the first is (T.4, 4.2.1.1)
 abbrev pub white_row : ℕ → Row

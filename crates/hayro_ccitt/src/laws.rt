@@ -9,8 +9,10 @@ ghost use Rattle.hayro_ccitt.specs.Laws.{each_word, has_few_zeros, Synchronised,
 ghost use Rattle.hayro_ccitt.specs.Laws.{ReadsClosedPictures, ReadsLimitedPictures};
 ghost use Rattle.hayro_ccitt.specs.Laws.{ReadsPictureT6, ReadsLimitedRowsT6, ReadsPictureT4, ReadsLimitedPictureT4, ReadsLimitedRowsT4};
 ghost use Rattle.hayro_ccitt.specs.Laws.{AfterEofb, PicturesComeToEofb, OnePictureT6, OnePictureT4};
-ghost use Rattle.hayro_ccitt.specs.Laws.{EveryPictureHasAnEncoding, BytesBeginWithAnyBits, BitsOfBytesAreWhole, OrdersMirror, RowsOfChanges, ChangesOfRows};
+ghost use Rattle.hayro_ccitt.specs.Laws.{EveryPictureHasAnEncoding, BytesBeginWithAnyBits, BitsOfBytesAreWhole, OrdersMirror, RowsOfChanges, ChangesOfRows, StepsOnRows};
 ghost use Rattle.hayro_ccitt.specs.Locality.{LinesByEols, StartsAre, Locality, LocalByTests};
+
+use crate::Decoder;
 
 /// Code words hold few zeros. Each word of a run has at most seven at its front and three at its end, each word of a
 /// mode at most five and one; none has eight in a row, and each holds a one.
@@ -103,6 +105,12 @@ pub fn locality()
 pub fn changes_are_rows()
     ensures pixels { RowsOfChanges }
     ensures changes { ChangesOfRows }
+{}
+
+/// A sink whose step looks at the pixels of a row's changes: rows of its width come to what a fold of the step over these
+/// rows does (T.4 section 4.2.1.1).
+pub fn steps_on_rows<D: Decoder>()
+    ensures { StepsOnRows D.Meaning }
 {}
 
 /// The laws speak of bits. Those of bytes are whole bytes, in either order, and the orders mirror each other in each byte.

@@ -9,16 +9,14 @@
 //! data whatever program reads them.
 #![tactic(auto)]
 
-ghost use Rattle.std.specs.Prelude.{◌≡◌, ◌*◌, ◌<◌, ◌≤◌, ◌↔◌, ◌⊎◌, ℕ, List, Bool, true, false, OnOk, OnErr, IfOk, Ok, IsOk, IsOkUnless, IsTrue, length, take};
-ghost use Rattle.hayro_ccitt.specs.Answers.{OnAnswer, meaning_after};
+ghost use Rattle.std.specs.Prelude.{◌≡◌, ◌*◌, ◌<◌, ◌≤◌, ◌↔◌, ℕ, List, Bool, true, false, OnOk, OnErr, IfOk, IsOkUnless, IsTrue, length};
 ghost use Rattle.hayro_ccitt.specs.Bits.{AreWholeBytes, BitsFit, bits_of, low_first_bits_of, here};
 ghost use Rattle.hayro_ccitt.specs.Context.{fresh};
+ghost use Rattle.hayro_ccitt.specs.Contract.{Decodes};
 ghost use Rattle.hayro_ccitt.specs.Decoding.{TakesRows, StopsShort, leaving};
-ghost use Rattle.hayro_ccitt.specs.Locality.{DamageStaysInRow};
-ghost use Rattle.hayro_ccitt.specs.Pictures.{IsClosedPicture, IsLimitedPicture};
-ghost use Rattle.hayro_ccitt.specs.PlainReading.{plain, end_of, lines_of, lines_by};
-ghost use Rattle.hayro_ccitt.specs.Rows.{Row, AreChanges};
-ghost use Rattle.hayro_ccitt.specs.Work.{CountsRun, CountsWork, words_by, most_counted};
+ghost use Rattle.hayro_ccitt.specs.PlainReading.{end_of, lines_by};
+ghost use Rattle.hayro_ccitt.specs.Rows.{AreChanges};
+ghost use Rattle.hayro_ccitt.specs.Work.{CountsRun, words_by, most_counted};
 
 pub mod bit_reader;
 pub mod changes;
@@ -133,28 +131,11 @@ fn decode_bits<D: Decoder>(
     requires width { ctx.old.held.settings.columns ≤ D.width decoder.old }
     ensures width { D.width decoder.new ≡ D.width decoder.old }
     ensures settings { ctx.new.held.settings ≡ ctx.old.held.settings }
-    ensures reading { TakesRows (plain ctx.old.held.settings reader.old.bits).rows
-        (plain ctx.old.held.settings reader.old.bits).outcome (plain ctx.old.held.settings reader.old.bits).has_eols
-        (D.step (D.width decoder.old))
-        (record { meaning = D.meaning decoder.old; refused = D.has_refused decoder.old })
-        (record { meaning = D.meaning decoder.new; refused = D.has_refused decoder.new }) ctx.new.held result }
     ensures within { IfOk result (λ n. 8 * n ≤ length reader.old.bits) }
-    ensures no_eols { (ctx.old.held.settings.encoding ≡ EncodingMode.Group4) ⊎ (ctx.old.held.settings.columns ≡ 0)
-        → ctx.new.held.has_eols ≡ false }
-    ensures short { StopsShort (plain ctx.old.held.settings reader.old.bits).rows
-        (lines_of ctx.old.held.settings reader.old.bits)
+    ensures decodes { Decodes ctx.old.held.settings reader.old.bits (D.step (D.width decoder.old))
         (record { meaning = D.meaning decoder.old; refused = D.has_refused decoder.old })
-        (record { meaning = D.meaning decoder.new; refused = D.has_refused decoder.new }) ctx.new.held result }
-    ensures closed { (rows : List Row) (count : ℕ)
-        → IsClosedPicture ctx.old.held.settings rows count reader.old.bits
-        → OnAnswer result ((result ≡ Ok count)
-        × (D.meaning decoder.new ≡ meaning_after (D.step (D.width decoder.old)) (D.meaning decoder.old) rows)) }
-    ensures limited { (rows : List Row) → IsLimitedPicture ctx.old.held.settings rows reader.old.bits
-        → OnAnswer result (IsOk result
-        × (D.meaning decoder.new ≡ meaning_after (D.step (D.width decoder.old)) (D.meaning decoder.old) rows)) }
-    ensures damage { OnAnswer result (DamageStaysInRow ctx.old.held.settings reader.old.bits
-        (take ctx.new.held.taken (plain ctx.old.held.settings reader.old.bits).rows) result) }
-    ensures work { CountsWork ctx.old.held.settings reader.old.bits ctx.new.held.taken ctx.new.ticks }
+        (record { meaning = D.meaning decoder.new; refused = D.has_refused decoder.new })
+        ctx.new.held ctx.new.ticks result }
 {
     ctx.restart();
     if ctx.settings().columns == 0 {
@@ -208,39 +189,13 @@ pub fn decode<D: Decoder>(data: &[u8], decoder: &mut D, ctx: &mut DecoderContext
     requires width { ctx.old.held.settings.columns ≤ D.width decoder.old }
     ensures width { D.width decoder.new ≡ D.width decoder.old }
     ensures settings { ctx.new.held.settings ≡ ctx.old.held.settings }
-
-    // The rows, the outcome and the count are those of the plain reading.
-    ensures reading { TakesRows (plain ctx.old.held.settings (bits_of «data».now)).rows
-        (plain ctx.old.held.settings (bits_of «data».now)).outcome (plain ctx.old.held.settings (bits_of «data».now)).has_eols
-        (D.step (D.width decoder.old))
-        (record { meaning = D.meaning decoder.old; refused = D.has_refused decoder.old })
-        (record { meaning = D.meaning decoder.new; refused = D.has_refused decoder.new }) ctx.new.held result }
     ensures within { IfOk result (λ n. n ≤ length «data».now) }
-    ensures no_eols { (ctx.old.held.settings.encoding ≡ EncodingMode.Group4) ⊎ (ctx.old.held.settings.columns ≡ 0)
-        → ctx.new.held.has_eols ≡ false }
 
-    // Fewer rows are taken only where memory is wanted for a black pixel, or the sink refuses a row.
-    ensures short { StopsShort (plain ctx.old.held.settings (bits_of «data».now)).rows (lines_of ctx.old.held.settings (bits_of «data».now))
+    // All that it leaves, field by field in `specs/Contract.antt`: over the bits in this order.
+    ensures decodes { Decodes ctx.old.held.settings (bits_of «data».now) (D.step (D.width decoder.old))
         (record { meaning = D.meaning decoder.old; refused = D.has_refused decoder.old })
-        (record { meaning = D.meaning decoder.new; refused = D.has_refused decoder.new }) ctx.new.held result }
-
-    // A T.6 encoding closed by EOFB, or a T.4 one closed by RTC, gives its picture, whatever follows it.
-    ensures closed { (rows : List Row) (count : ℕ)
-        → IsClosedPicture ctx.old.held.settings rows count (bits_of «data».now)
-        → OnAnswer result ((result ≡ Ok count)
-        × (D.meaning decoder.new ≡ meaning_after (D.step (D.width decoder.old)) (D.meaning decoder.old) rows)) }
-
-    // So do as many lines as the limit.
-    ensures limited { (rows : List Row) → IsLimitedPicture ctx.old.held.settings rows (bits_of «data».now)
-        → OnAnswer result (IsOk result
-        × (D.meaning decoder.new ≡ meaning_after (D.step (D.width decoder.old)) (D.meaning decoder.old) rows)) }
-
-    // In lenient one-dimensional data with EOLs a change inside one line's body changes that row alone.
-    ensures damage { OnAnswer result (DamageStaysInRow ctx.old.held.settings (bits_of «data».now)
-        (take ctx.new.held.taken (plain ctx.old.held.settings (bits_of «data».now)).rows) result) }
-
-    // It counts at least the words of the rows taken, and at most 128 ticks a bit and 256 more.
-    ensures work { CountsWork ctx.old.held.settings (bits_of «data».now) ctx.new.held.taken ctx.new.ticks }
+        (record { meaning = D.meaning decoder.new; refused = D.has_refused decoder.new })
+        ctx.new.held ctx.new.ticks result }
 {
     decode_bits(&mut BitReader::new(data), decoder, ctx)
 }
@@ -259,39 +214,13 @@ pub fn decode_low_first<D: Decoder>(
     requires width { ctx.old.held.settings.columns ≤ D.width decoder.old }
     ensures width { D.width decoder.new ≡ D.width decoder.old }
     ensures settings { ctx.new.held.settings ≡ ctx.old.held.settings }
-
-    // The rows, the outcome and the count are those of the plain reading.
-    ensures reading { TakesRows (plain ctx.old.held.settings (low_first_bits_of «data».now)).rows
-        (plain ctx.old.held.settings (low_first_bits_of «data».now)).outcome (plain ctx.old.held.settings (low_first_bits_of «data».now)).has_eols
-        (D.step (D.width decoder.old))
-        (record { meaning = D.meaning decoder.old; refused = D.has_refused decoder.old })
-        (record { meaning = D.meaning decoder.new; refused = D.has_refused decoder.new }) ctx.new.held result }
     ensures within { IfOk result (λ n. n ≤ length «data».now) }
-    ensures no_eols { (ctx.old.held.settings.encoding ≡ EncodingMode.Group4) ⊎ (ctx.old.held.settings.columns ≡ 0)
-        → ctx.new.held.has_eols ≡ false }
 
-    // Fewer rows are taken only where memory is wanted for a black pixel, or the sink refuses a row.
-    ensures short { StopsShort (plain ctx.old.held.settings (low_first_bits_of «data».now)).rows (lines_of ctx.old.held.settings (low_first_bits_of «data».now))
+    // All that it leaves, field by field in `specs/Contract.antt`: over the bits in this order.
+    ensures decodes { Decodes ctx.old.held.settings (low_first_bits_of «data».now) (D.step (D.width decoder.old))
         (record { meaning = D.meaning decoder.old; refused = D.has_refused decoder.old })
-        (record { meaning = D.meaning decoder.new; refused = D.has_refused decoder.new }) ctx.new.held result }
-
-    // A T.6 encoding closed by EOFB, or a T.4 one closed by RTC, gives its picture, whatever follows it.
-    ensures closed { (rows : List Row) (count : ℕ)
-        → IsClosedPicture ctx.old.held.settings rows count (low_first_bits_of «data».now)
-        → OnAnswer result ((result ≡ Ok count)
-        × (D.meaning decoder.new ≡ meaning_after (D.step (D.width decoder.old)) (D.meaning decoder.old) rows)) }
-
-    // So do as many lines as the limit.
-    ensures limited { (rows : List Row) → IsLimitedPicture ctx.old.held.settings rows (low_first_bits_of «data».now)
-        → OnAnswer result (IsOk result
-        × (D.meaning decoder.new ≡ meaning_after (D.step (D.width decoder.old)) (D.meaning decoder.old) rows)) }
-
-    // In lenient one-dimensional data with EOLs a change inside one line's body changes that row alone.
-    ensures damage { OnAnswer result (DamageStaysInRow ctx.old.held.settings (low_first_bits_of «data».now)
-        (take ctx.new.held.taken (plain ctx.old.held.settings (low_first_bits_of «data».now)).rows) result) }
-
-    // It counts at least the words of the rows taken, and at most 128 ticks a bit and 256 more.
-    ensures work { CountsWork ctx.old.held.settings (low_first_bits_of «data».now) ctx.new.held.taken ctx.new.ticks }
+        (record { meaning = D.meaning decoder.new; refused = D.has_refused decoder.new })
+        ctx.new.held ctx.new.ticks result }
 {
     decode_bits(&mut BitReader::new_low_first(data), decoder, ctx)
 }

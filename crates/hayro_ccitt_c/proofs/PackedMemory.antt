@@ -9,11 +9,11 @@ use Rattle.hayro_ccitt.specs.declared.settings.DecodeSettings.{DecodeSettings}
 use Rattle.hayro_ccitt.specs.Answers.{meaning_after}
 use Rattle.hayro_ccitt.specs.declared.bit_reader.BitOrder.TheVariants.{HighestFirst}
 use Rattle.hayro_ccitt.specs.Bits.{Bits, bits_of, bits_of_byte}
-use Rattle.hayro_ccitt.specs.Rows.{Row, pixels, changes}
+use Rattle.hayro_ccitt.specs.Rows.{Row, HaveWidth, pixels, changes}
 use Rattle.fax_encode.specs.Chosen.{filled_up}
 use Rattle.fax_encode.specs.Packed.{packed}
 use Rattle.hayro_ccitt.proofs.PixelRows.ChangesAndPixels.{pixels-changes}
-use Rattle.hayro_ccitt.proofs.Readings.RowWidths.{HaveWidth, plain_width}
+use Rattle.hayro_ccitt.proofs.Readings.RowWidths.{plain_width}
 use Rattle.hayro_ccitt_c.specs.Packing.{Packing, with_packed, bytes_of_row}
 use Rattle.hayro_ccitt_c.specs.Reports.{changes_taken, ArePacked}
 use Rattle.hayro_ccitt_c.proofs.Reporting.{counts, changes_counted}

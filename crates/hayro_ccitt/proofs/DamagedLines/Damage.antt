@@ -3,16 +3,12 @@ use Rattle.std.proofs.Common.{◌≡◌, ℕ, suc, ◌+◌, ◌-◌, ◌*◌, �
 use Rattle.std.proofs.Common.{replicate, set, Option, Some, None, Result, Ok, Err, refl, sym, ap, subst, ◌∙◌, append_assoc, arith, ◌⊎◌, inl, inr}
 use Rattle.std.proofs.lemmas.Bool.{cases_lt, cases_eq, eq-eqb, ne_eqb, or_right, cond-true, cond-false}
 use Rattle.std.proofs.lemmas.List.{length-append, length-take-le, length-drop, take-append-drop, append_cancel_right, replicate-append-replicate}
-use Rattle.std.proofs.Math.Seq.{take-length}
 use Rattle.std.proofs.lemmas.List.{set_at}
 use Rattle.hayro_ccitt.specs.declared.error.DecodeError.{DecodeError}
 use Rattle.hayro_ccitt.specs.declared.error.DecodeError.TheVariants.{UnexpectedEof}
 use Rattle.hayro_ccitt.specs.declared.settings.EncodingMode.{EncodingMode}
 use Rattle.hayro_ccitt.specs.declared.settings.EncodingMode.TheVariants.{Group3_1D}
 use Rattle.hayro_ccitt.specs.declared.settings.DecodeSettings.{DecodeSettings}
-use Rattle.hayro_ccitt.specs.Answers.{OnAnswer}
-use Rattle.hayro_ccitt.specs.Context.{Held}
-use Rattle.hayro_ccitt.specs.Decoding.{SinkState, TakesRows}
 use Rattle.hayro_ccitt.specs.Bits.{Bits, AreWholeBytes}
 use Rattle.hayro_ccitt.specs.Settings.{AreSettings}
 use Rattle.hayro_ccitt.specs.Repetition.{repeated, Reaches}
@@ -282,22 +278,3 @@ locality settings one are whole_one two from to to2 whole_two differ = by (cases
 pub damage_stays : (settings : DecodeSettings) (bits : Bits) (rows : List Row) (outcome : Result ℕ DecodeError) → AreSettings settings → AreWholeBytes bits
     → rows ≡ (plain settings bits).rows → outcome ≡ (plain settings bits).outcome → DamageStaysInRow settings bits rows outcome
 damage_stays settings bits rows outcome are whole rows_are outcome_is = rw (rows_are, outcome_is) (locality settings bits are whole)
-
--- a run that takes the rows of the plain reading and ends as it does has it of the rows that it took
-pub damage_stays_taken : {M : Type 0} (settings : DecodeSettings) (bits : Bits) (sought : Bool) (step : M → List ℕ → M) (before after : SinkState M)
-    (held : Held) (answer : Result ℕ DecodeError) → AreSettings settings → AreWholeBytes bits
-    → TakesRows (plain settings bits).rows (plain settings bits).outcome sought step before after held answer
-    → OnAnswer answer (DamageStaysInRow settings bits (take held.taken (plain settings bits).rows) answer)
-damage_stays_taken settings bits sought step before after held answer are whole takes = by answer takes
-  where
-    rows : List Row
-    rows = (plain settings bits).rows
-
-    all_taken : held.taken ≡ length rows → take held.taken rows ≡ rows
-    all_taken all = ap (λ (n : ℕ). take n rows) all ∙ take-length rows
-
-    by : (r : Result ℕ DecodeError) → TakesRows rows (plain settings bits).outcome sought step before after held r
-        → OnAnswer r (DamageStaysInRow settings bits (take held.taken rows) r)
-    by (Ok n) takes = damage_stays settings bits (take held.taken rows) (Ok n) are whole (all_taken takes.all) (sym takes.ok)
-    by (Err e) takes = λ fault.
-        damage_stays settings bits (take held.taken rows) (Err e) are whole (all_taken (takes.all fault)) (sym (takes.fault fault))

@@ -20,9 +20,9 @@ some_columns n some = by (eqb n 0) refl
     by true e = absurd (some (eqb-true n 0 e))
     by false e = refl
 
--- what is known of an answer, as the clauses of `decode` say it
-abbrev pub Decodes : {M : Type 0} → DecodeSettings → Bits → (M → List ℕ → M) → SinkState M → SinkState M → Held → Result ℕ DecodeError → Type 0
-Decodes settings bits step before after held answer =
+-- what is known of the rows that were taken and of the answer, as the contract of `decode` says it
+abbrev pub LeavesRows : {M : Type 0} → DecodeSettings → Bits → (M → List ℕ → M) → SinkState M → SinkState M → Held → Result ℕ DecodeError → Type 0
+LeavesRows settings bits step before after held answer =
     TakesRows (plain settings bits).rows (plain settings bits).outcome (plain settings bits).has_eols step before after held answer
     × StopsShort (plain settings bits).rows (lines_of settings bits) before after held answer
 
@@ -50,7 +50,7 @@ module _ {M : Type 0} (settings : DecodeSettings) (bits : Bits) (step : M → Li
     abbrev lines : List Line
     lines = lines_by settings.encoding settings bits
 
-    known : (answer : Result ℕ DecodeError) → Leaves (whole_reading bits end) lines step before after held answer → Decodes settings bits step before after held answer
+    known : (answer : Result ℕ DecodeError) → Leaves (whole_reading bits end) lines step before after held answer → LeavesRows settings bits step before after held answer
     known answer leaves =
         let reading : plain settings bits ≡ whole_reading bits end = cond-false (eqb settings.columns 0) _ _ (some_columns settings.columns some) in
         let all : lines_of settings bits ≡ lines = cond-false (eqb settings.columns 0) _ _ (some_columns settings.columns some) in
@@ -59,7 +59,7 @@ module _ {M : Type 0} (settings : DecodeSettings) (bits : Bits) (step : M → Li
 
     -- where the driver ended well at a place
     pub decodes_well : (place : ℕ) → place ≤ length bits → TakesRows end.rows end.outcome end.has_eols step before after held (Ok (drop place bits))
-        → StopsShort {A = Bits} end.rows lines before after held (Ok (drop place bits)) → Decodes settings bits step before after held (Ok ((place + 7) / 8))
+        → StopsShort {A = Bits} end.rows lines before after held (Ok (drop place bits)) → LeavesRows settings bits step before after held (Ok ((place + 7) / 8))
     decodes_well place within takes short = known (Ok ((place + 7) / 8)) (
       record {
         taken = takes.taken;
@@ -74,7 +74,7 @@ module _ {M : Type 0} (settings : DecodeSettings) (bits : Bits) (step : M → Li
 
     -- where it ended with an error
     pub decodes_badly : (error : DecodeError) → TakesRows end.rows end.outcome end.has_eols step before after held (Err error)
-        → StopsShort {A = Bits} end.rows lines before after held (Err error) → Decodes settings bits step before after held (Err error)
+        → StopsShort {A = Bits} end.rows lines before after held (Err error) → LeavesRows settings bits step before after held (Err error)
     decodes_badly error takes short = known (Err error) (
       record {
         taken = takes.taken;
@@ -99,7 +99,7 @@ module _ {M : Type 0} (settings : DecodeSettings) (bits : Bits) (step : M → Li
         back e f is = let it : e ≡ f = cc in ap {B = Result ℕ DecodeError} (λ (x : DecodeError). Err x) it
 
   -- without columns nothing is read
-  pub decodes_nothing : settings.columns ≡ 0 → after ≡ before → held ≡ fresh settings → Decodes settings bits step before after held (Ok 0)
+  pub decodes_nothing : settings.columns ≡ 0 → after ≡ before → held ≡ fresh settings → LeavesRows settings bits step before after held (Ok 0)
   decodes_nothing none same is =
       let reading : plain settings bits ≡ nothing_read = cond-true (eqb settings.columns 0) _ _ (eq-eqb settings.columns 0 none) in
       let taken : held.taken ≡ 0 = ap (λ (h : Held). h.taken) is in
@@ -137,7 +137,7 @@ module _ {M : Type 0} (given settings : DecodeSettings) (read whole : Bits) (sam
 
   -- where the driver failed
   pub left_badly : (error : DecodeError) → TakesRows (end_of given read).rows (end_of given read).outcome (end_of given read).has_eols step before after held (Err error)
-      → StopsShort {A = Bits} (end_of given read).rows (lines_by given.encoding given read) before after held (Err error) → Decodes settings whole step before after held (Err error)
+      → StopsShort {A = Bits} (end_of given read).rows (lines_by given.encoding given read) before after held (Err error) → LeavesRows settings whole step before after held (Err error)
   left_badly error takes short =
       let left = driver_left given settings read whole step before after held (Err error) same same_bits takes short in
       decodes_badly settings whole step before after held columns error left.0 left.1
@@ -146,10 +146,10 @@ module _ {M : Type 0} (given settings : DecodeSettings) (read whole : Bits) (sam
   pub left_well : (place : ℕ) (bits : Bits) (count : ℕ) → bits ≡ read → place ≤ length bits → (place + 7) / 8 ≡ count
       → TakesRows (end_of given read).rows (end_of given read).outcome (end_of given read).has_eols step before after held (Ok (drop place bits))
       → StopsShort {A = Bits} (end_of given read).rows (lines_by given.encoding given read) before after held (Ok (drop place bits))
-      → Decodes settings whole step before after held (Ok count)
+      → LeavesRows settings whole step before after held (Ok count)
   left_well place bits count are within counted takes short =
       let left = driver_left given settings read whole step before after held (Ok (drop place bits)) same same_bits takes short in
       let moved = subst (λ (x : Bits). TakesRows (end_of settings whole).rows (end_of settings whole).outcome (end_of settings whole).has_eols step before after held (Ok (drop place x))
       × StopsShort {A = Bits} (end_of settings whole).rows (lines_by settings.encoding settings whole) before after held (Ok (drop place x))) (are ∙ same_bits) left in
-      subst (λ (n : ℕ). Decodes settings whole step before after held (Ok n)) counted
+      subst (λ (n : ℕ). LeavesRows settings whole step before after held (Ok n)) counted
       (decodes_well settings whole step before after held columns place (omega (arith, within, ap length (are ∙ same_bits))) moved.0 moved.1)

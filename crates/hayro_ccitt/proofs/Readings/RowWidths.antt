@@ -1,6 +1,5 @@
 -- Each row of the plain reading has the width of its columns.
 use Rattle.std.proofs.Common.{◌≡◌, ◌≤◌, ◌-◌, ℕ, suc, Bool, true, false, cond, not, ◌||◌, eqb, List, [], ◌∷◌, ◌++◌, length, replicate, Ok, Err, sym, subst, arith}
-use Rattle.std.specs.Prelude.{All}
 use Rattle.std.proofs.lemmas.List.{length-append, length-replicate}
 use Rattle.std.proofs.lemmas.List.Elements.{All-append, All-cons, All-nil}
 use Rattle.hayro_ccitt.specs.declared.error.DecodeError.TheVariants.{UnexpectedEof}
@@ -10,7 +9,7 @@ use Rattle.hayro_ccitt.specs.declared.settings.EncodingMode.TheVariants.{Group4,
 use Rattle.hayro_ccitt.specs.Answers.{front_of}
 use Rattle.hayro_ccitt.specs.Bits.{Bits}
 use Rattle.hayro_ccitt.specs.Repetition.{Turn}
-use Rattle.hayro_ccitt.specs.Rows.{Row, repaired}
+use Rattle.hayro_ccitt.specs.Rows.{Row, HaveWidth, repaired}
 use Rattle.hayro_ccitt.specs.Lines.{Line}
 use Rattle.hayro_ccitt.specs.PlainReading.{Progress, Move, plain, end_by, end_of, whole_reading, nothing_read, start_group3, start_group4, ending_from}
 use Rattle.hayro_ccitt.specs.PlainReading.{row_before, ends_with, with_row, behind_row, line_at_group3, line_group4, after_line_group3, after_line_group4, move_group3, move_group4, is_over_group4, eols_group4}
@@ -20,11 +19,7 @@ use Rattle.hayro_ccitt.proofs.Readings.RowsAndGaps.{add_row, line_at_group4, aft
 use Rattle.hayro_ccitt.proofs.Readings.TurnsAddRows.{Keeps, after_row_keeps}
 use Rattle.hayro_ccitt.proofs.DrawingLines.LineWidths.{line_2d_within, line_by_within}
 
--- all rows have a width
-abbrev pub HaveWidth : ℕ → List Row → Type 0
-HaveWidth columns rows = All (λ row. length row ≡ columns) rows
-
--- and those that a turn leaves
+-- the rows that a turn leaves have a width
 abbrev pub LeavesWidth : ℕ → Move → Type 0
 LeavesWidth columns (Turn.next so_far) = HaveWidth columns so_far.rows
 LeavesWidth columns (Turn.done end) = HaveWidth columns end.rows

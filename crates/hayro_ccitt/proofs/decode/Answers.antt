@@ -13,11 +13,5 @@ returns-clause-within g c =
     whole_bytes_within c.decode_bits.result (length c.new.result.bits) (length c.args.«data».now)
     (ap (λ (at : BitsAt). length at.bits) c.new.ensures ∙ length-bits_in HighestFirst c.args.«data».now) c.decode_bits.ensures.within
 
-pub returns-clause-closed : goal.returns-clause-closed
-returns-clause-closed g c = rw (← ap (λ (at : BitsAt). at.bits) c.new.ensures) c.decode_bits.ensures.closed
-
-pub returns-clause-limited : goal.returns-clause-limited
-returns-clause-limited g c = rw (← ap (λ (at : BitsAt). at.bits) c.new.ensures) c.decode_bits.ensures.limited
-
-pub returns-clause-damage : goal.returns-clause-damage
-returns-clause-damage g c = rw (← ap (λ (at : BitsAt). at.bits) c.new.ensures) c.decode_bits.ensures.damage
+pub returns-clause-decodes : goal.returns-clause-decodes
+returns-clause-decodes g c = rw (← ap (λ (at : BitsAt). at.bits) c.new.ensures) c.decode_bits.ensures.decodes

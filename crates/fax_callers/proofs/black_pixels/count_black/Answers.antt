@@ -19,7 +19,7 @@ module _ (c : goal.After-black) where
 pub returns-in_err-decode_once-clause-closed : goal.returns-in_err-decode_once-clause-closed
 returns-in_err-decode_once-clause-closed c = λ rows count is.
     let answer = err_from_is_err_and c.from_residual.result c.from_residual.ensures.1 in
-    rw (answer.1, answer.2) (λ fault. let never = (c.in_err-decode_once.ensures.closed rows count is fault).0 in cc)
+    rw (answer.1, answer.2) (λ fault. let never = c.in_err-decode_once.ensures.closed rows count is fault in cc)
 
 pub returns-clause-counted : goal.returns-clause-counted
 returns-clause-counted c =
@@ -27,4 +27,4 @@ returns-clause-counted c =
 
 pub returns-clause-closed : goal.returns-clause-closed
 returns-clause-closed c = λ rows count is.
-    ap Ok (counted c rows (picture_width c.args.settings rows count (bits_of c.args.«data».now) is) (c.in_ok-decode_once.ensures.closed rows count is).1)
+    ap Ok (counted c rows (picture_width c.args.settings rows count (bits_of c.args.«data».now) is) (c.in_ok-decode_once.ensures.picture rows count is))

@@ -24,8 +24,8 @@ returns-clause-packed c =
 pub returns-in_err-decode_once-clause-closed : goal.returns-in_err-decode_once-clause-closed
 returns-in_err-decode_once-clause-closed c = λ rows count is.
     let answer = err_from_is_err_and c.from_residual.result c.from_residual.ensures.1 in
-    rw (answer.1, answer.2) (λ fault. let never = (c.in_err-decode_once.ensures.closed rows count is fault).0 in cc)
+    rw (answer.1, answer.2) (λ fault. let never = c.in_err-decode_once.ensures.closed rows count is fault in cc)
 
 pub returns-clause-closed : goal.returns-clause-closed
 returns-clause-closed c = λ rows count is.
-    (refl, is_packed c rows (picture_width c.args.settings rows count (bits_of c.args.«data».now) is) (c.in_ok-decode_once.ensures.closed rows count is).1)
+    (refl, is_packed c rows (picture_width c.args.settings rows count (bits_of c.args.«data».now) is) (c.in_ok-decode_once.ensures.picture rows count is))

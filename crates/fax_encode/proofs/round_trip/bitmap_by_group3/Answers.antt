@@ -25,7 +25,7 @@ returns-in-Ok-decode-clause-packed c =
     let read = subst (λ (s : DecodeSettings). ReadT4 s c.args.columns) (sym settings) (record { encoding = refl; end_of_block = refl; no_limit = refl; width = refl }) in
     let stand = ap bits_of c.as_slice-data.ensures.value ∙ c.in_ok-encoded.ensures.encoded in
     let closed = closed_t4 _ c.args.columns lists (bits_of c.as_slice-data.result.now) read wide some c.in_ok-encoded.ensures.rows stand in
-    packed_from c.args.columns lists c.new-sink.result _ c.in_ok-encoded.ensures.rows c.new-sink.ensures (c.in-Ok-decode.ensures.closed (rows_of c.args.columns lists) _ closed).1
+    packed_from c.args.columns lists c.new-sink.result _ c.in_ok-encoded.ensures.rows c.new-sink.ensures (c.in-Ok-decode.ensures.decodes.picture (rows_of c.args.columns lists) _ closed)
 
 pub returns-in_err-encoded-clause-not_a_row : goal.returns-in_err-encoded-clause-not_a_row
 returns-in_err-encoded-clause-not_a_row c =

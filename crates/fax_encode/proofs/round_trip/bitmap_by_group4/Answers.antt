@@ -22,7 +22,7 @@ returns-in-Ok-decode-clause-packed c =
     let stand = ap bits_of c.as_slice-data.ensures.value ∙ c.in_ok-encoded.ensures.encoded in
     let begins = begins_with_chosen _ c.args.columns c.args.aligned lists c.as_slice-data.result.now read wide c.in_ok-encoded.ensures.rows stand in
     packed_from c.args.columns lists c.new-sink.result _ c.in_ok-encoded.ensures.rows c.new-sink.ensures
-    (c.in-Ok-decode.ensures.closed (rows_of c.args.columns lists) _ (IsClosedPicture.by_eofb (chosen_t6 c.args.columns c.args.aligned (rows_of c.args.columns lists)) begins refl)).1
+    (c.in-Ok-decode.ensures.decodes.picture (rows_of c.args.columns lists) _ (IsClosedPicture.by_eofb (chosen_t6 c.args.columns c.args.aligned (rows_of c.args.columns lists)) begins refl))
 
 pub returns-in_err-encoded-clause-not_a_row : goal.returns-in_err-encoded-clause-not_a_row
 returns-in_err-encoded-clause-not_a_row c =

@@ -16,9 +16,9 @@ returns-clause-written g c =
       (
         c.decode_in-outcome.new.ctx.held.taken,
         c.decode_in-outcome.result,
-        ends_after _ settings bits _ _ _ _ c.decode_in-outcome.ensures.reading c.decode_in-outcome.ensures.short,
+        ends_after _ settings bits _ _ _ _ c.decode_in-outcome.ensures.decodes.reading c.decode_in-outcome.ensures.decodes.short,
         c.answer_of.ensures,
-        ap bits_of c.bytes-bytes.ensures ∙ sink_bits settings bits c.new-sink.result _ _ _ empty c.decode_in-outcome.ensures.reading,
+        ap bits_of c.bytes-bytes.ensures ∙ sink_bits settings bits c.new-sink.result _ _ _ empty c.decode_in-outcome.ensures.decodes.reading,
       ),
       search rules,
     )

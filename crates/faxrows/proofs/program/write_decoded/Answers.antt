@@ -25,12 +25,12 @@ module _ (g : Over) (c : goal.After-drop-sink-inside-2 g) where
 
   -- the sink's text is the lines of the rows that were taken
   lines : c.text-lines.result.now ≡ lines_of_rows (take c.decode_in-outcome.new.ctx.held.taken (rows_of c.args.ctx.now.held.settings bits))
-  lines = c.text-lines.ensures ∙ sink_text c.args.ctx.now.held.settings bits _ _ _ _ (search rules) c.decode_in-outcome.ensures.reading
+  lines = c.text-lines.ensures ∙ sink_text c.args.ctx.now.held.settings bits _ _ _ _ (search rules) c.decode_in-outcome.ensures.decodes.reading
 
 pub returns-clause-written : goal.returns-clause-written
 returns-clause-written g c = (
   c.decode_in-outcome.result,
-  ends_after _ c.args.ctx.now.held.settings (bits g c) _ _ _ _ c.decode_in-outcome.ensures.reading c.decode_in-outcome.ensures.short,
+  ends_after _ c.args.ctx.now.held.settings (bits g c) _ _ _ _ c.decode_in-outcome.ensures.decodes.reading c.decode_in-outcome.ensures.decodes.short,
   c.done_of.ensures,
   subst (λ text. Grew g c (text ++ line_of_outcome c.decode_in-outcome.result)) (lines g c) (grew g c),
 )
