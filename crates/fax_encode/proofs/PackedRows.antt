@@ -1,34 +1,30 @@
 -- What a bitmap's sink means after the rows of lists.
 use Rattle.std.proofs.Common.{◌≡◌, ℕ, ◌<◌, Result, Err, Bool, true, false, List, [], ◌∷◌, ◌++◌, length, sym, ap, subst, ◌∙◌, inl, append_assoc}
 use Rattle.std.proofs.lemmas.List.{append-nil}
-use Rattle.std.proofs.lemmas.List.Elements.{All-head, All-tail}
+use Rattle.std.specs.List.{fold}
 use Rattle.hayro_ccitt.specs.declared.settings.EncodingMode.TheVariants.{Group4}
 use Rattle.hayro_ccitt.specs.declared.settings.DecodeSettings.{DecodeSettings}
 use Rattle.hayro_ccitt.specs.Bits.{Bits, bits_of}
-use Rattle.hayro_ccitt.specs.Rows.{Row, AreChanges, pixels}
+use Rattle.hayro_ccitt.specs.Rows.{Row}
 use Rattle.hayro_ccitt.specs.Answers.{meaning_after}
 use Rattle.hayro_ccitt.specs.Encodings.{PictureT6, padding}
 use Rattle.hayro_ccitt.specs.Pictures.{BeginsWithPictureT6}
-use Rattle.hayro_ccitt.proofs.PixelRows.ChangesAndPixels.{changes-pixels}
+use Rattle.hayro_ccitt.proofs.PixelRows.StepsOnRows.{over_rows}
 use Rattle.fax_encode.specs.Chosen.{filled_up, rows_of, chosen_t6}
-use Rattle.fax_encode.specs.Packed.{packed, Bitmap}
+use Rattle.fax_encode.specs.Packed.{packed, with_packed_row, Bitmap}
+use Rattle.fax_encode.specs.Laws.{RowsArePacked}
 use Rattle.fax_encode.specs.Refusals.{AreRows}
 use Rattle.fax_encode.proofs.ChosenLines.{chosen_is_an_encoding}
 use Rattle.fax_encode.proofs.RoundTrip.{widths_of}
 
--- the step of the sink
-abbrev pub packs : ℕ → Bits → List ℕ → Bits
-packs columns bits row = bits ++ filled_up (pixels columns row)
+-- rows are packed one behind the other
+packs_all : (bits : Bits) (rows : List Row) → fold (λ before row. before ++ filled_up row) bits rows ≡ bits ++ packed rows
+packs_all bits [] = sym (append-nil bits)
+packs_all bits (row ∷ rows) = packs_all (bits ++ filled_up row) rows ∙ append_assoc bits (filled_up row) (packed rows)
 
-pub meaning_packed : (columns : ℕ) (bits : Bits) (lists : List (List ℕ)) → AreRows columns lists
-    → meaning_after (packs columns) bits (rows_of columns lists) ≡ bits ++ packed (rows_of columns lists)
-meaning_packed columns bits [] are = sym (append-nil bits)
-meaning_packed columns bits (list ∷ lists) are =
-    let lawful : AreChanges columns list = All-head (AreChanges columns) list lists are in
-    let row : Row = pixels columns list in
-    ap (λ (l : List ℕ). meaning_after (packs columns) (bits ++ filled_up (pixels columns l)) (rows_of columns lists)) (changes-pixels columns list lawful)
-    ∙ meaning_packed columns (bits ++ filled_up row) lists (All-tail (AreChanges columns) list lists are)
-    ∙ append_assoc bits (filled_up row) (packed (rows_of columns lists))
+-- and so are those of the changes that a sink takes
+pub rows_are_packed : RowsArePacked
+rows_are_packed columns bits rows have = over_rows columns (λ before row. before ++ filled_up row) bits rows have ∙ packs_all bits rows
 
 -- the settings that read a T.6 picture of these columns
 pub record ReadT6 (settings : DecodeSettings) (columns : ℕ) (aligned : Bool) : Type 0 where
@@ -57,9 +53,10 @@ begins_with_chosen settings columns aligned lists bytes read wide are e =
 -- a bitmap that began empty
 pub packed_from : (columns : ℕ) (lists : List (List ℕ)) (empty : Bitmap) (now : Bits) → AreRows columns lists
     → empty ≡ record { bytes = []; columns = columns; has_refused = false }
-    → now ≡ meaning_after (packs empty.columns) (bits_of empty.bytes) (rows_of columns lists) → now ≡ packed (rows_of columns lists)
+    → now ≡ meaning_after (with_packed_row empty.columns) (bits_of empty.bytes) (rows_of columns lists) → now ≡ packed (rows_of columns lists)
 packed_from columns lists empty now are is e =
-    e ∙ ap (λ (b : Bitmap). meaning_after (packs b.columns) (bits_of b.bytes) (rows_of columns lists)) is ∙ meaning_packed columns [] lists are
+    e ∙ ap (λ (b : Bitmap). meaning_after (with_packed_row b.columns) (bits_of b.bytes) (rows_of columns lists)) is
+    ∙ rows_are_packed columns [] (rows_of columns lists) (widths_of columns lists are)
 
 -- A refusal is the same whatever was asked for.
 pub same_refusal : {A B E : Type 0} (e f : E) → ◌≡◌ {A = Result A E} (Err e) (Err f) → ◌≡◌ {A = Result B E} (Err e) (Err f)

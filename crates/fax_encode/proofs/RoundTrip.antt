@@ -1,12 +1,12 @@
 -- What was encoded is read again.
 use Rattle.std.proofs.Common.{◌≡◌, ℕ, zero, suc, ◌+◌, ◌-◌, ◌/◌, ◌%◌, ◌^◌, ◌<◌, true, false, List, [], ◌∷◌, ◌++◌, length, replicate, refl, sym, ap, subst, ◌∙◌, arith, inl, append_assoc, None}
-use Rattle.std.specs.Prelude.{All, Ok}
+use Rattle.std.specs.Prelude.{Ok}
 use Rattle.std.proofs.lemmas.List.{length-append, length-replicate, length-map}
 use Rattle.std.proofs.lemmas.List.Elements.{All-head, All-tail, All-cons, All-nil}
 use Rattle.hayro_ccitt.specs.declared.settings.DecodeSettings.{DecodeSettings}
 use Rattle.hayro_ccitt.specs.declared.bit_reader.BitOrder.TheVariants.{HighestFirst}
 use Rattle.hayro_ccitt.specs.Bits.{Bits, bits_of}
-use Rattle.hayro_ccitt.specs.Rows.{Row, AreChanges, pixels, white_row}
+use Rattle.hayro_ccitt.specs.Rows.{HaveWidth, Row, AreChanges, pixels, white_row}
 use Rattle.hayro_ccitt.specs.EndOfLine.{after_eol, eols, all_eols}
 use Rattle.hayro_ccitt.specs.Encodings.{IsPicture, padding, EncodesRowsWithEols, ClosesWithEols, PictureT6}
 use Rattle.hayro_ccitt.specs.Pictures.{BeginsWithPictureT6, BeginsWithPictureT4}
@@ -24,7 +24,7 @@ use Rattle.fax_encode.specs.Laws.{RoundTripT6, RoundTripT4, ReadToTheEnd}
 use Rattle.fax_encode.proofs.ChosenLines.{chosen_is_an_encoding, lines_1d_encode, closes}
 
 -- lawful lists are rows of the width
-pub widths_of : (columns : ℕ) (lists : List (List ℕ)) → AreRows columns lists → All (λ row. length row ≡ columns) (rows_of columns lists)
+pub widths_of : (columns : ℕ) (lists : List (List ℕ)) → AreRows columns lists → HaveWidth columns (rows_of columns lists)
 widths_of columns [] are = All-nil (λ row. length row ≡ columns)
 widths_of columns (list ∷ lists) are = All-cons (λ row. length row ≡ columns) (pixels columns list) (rows_of columns lists)
     (length-pixels columns list (All-head (AreChanges columns) list lists are)) (widths_of columns lists (All-tail (AreChanges columns) list lists are))

@@ -1,13 +1,14 @@
 -- The laws of the chosen encoding.
-use Rattle.std.specs.Prelude.{◌≡◌, ℕ, ◌^◌, ◌<◌, Bool, true, false, List, length, Ok}
+use Rattle.std.specs.Prelude.{◌≡◌, ℕ, ◌^◌, ◌<◌, Bool, true, false, List, ◌++◌, length, Ok}
 use Rattle.hayro_ccitt.specs.declared.settings.EncodingMode.TheVariants.{Group4, Group3_1D}
 use Rattle.hayro_ccitt.specs.declared.settings.DecodeSettings.{DecodeSettings}
-use Rattle.hayro_ccitt.specs.Bits.{bits_of}
-use Rattle.hayro_ccitt.specs.Rows.{Row}
+use Rattle.hayro_ccitt.specs.Answers.{meaning_after}
+use Rattle.hayro_ccitt.specs.Bits.{Bits, bits_of}
+use Rattle.hayro_ccitt.specs.Rows.{Row, HaveWidth}
 use Rattle.hayro_ccitt.specs.Encodings.{IsPicture, PictureT6, PictureT4}
 use Rattle.hayro_ccitt.specs.PlainReading.{plain}
 use Rattle.fax_encode.specs.Chosen.{chosen_t6, chosen_t4, filled_up, rows_of}
-use Rattle.fax_encode.specs.Packed.{packed, shown}
+use Rattle.fax_encode.specs.Packed.{packed, shown, with_packed_row}
 use Rattle.fax_encode.specs.Refusals.{AreRows}
 
 -- what is chosen for a picture is an encoding of it
@@ -35,6 +36,11 @@ RoundTripT4 = (settings : DecodeSettings) (columns : ℕ) (lists : List (List �
     → 0 < columns → columns < 2 ^ 32 → 0 < length lists → AreRows columns lists → ReadToTheEnd settings columns → settings.encoding ≡ Group3_1D
     → bits_of bytes ≡ filled_up (chosen_t4 (rows_of columns lists))
     → plain settings (bits_of bytes) ≡ record { rows = rows_of columns lists; outcome = Ok (length bytes); has_eols = true }
+
+-- Rows of the width that are packed one by one are packed behind what was there.
+abbrev pub RowsArePacked : Type 0
+RowsArePacked = (columns : ℕ) (bits : Bits) (rows : List Row) → HaveWidth columns rows
+    → meaning_after (with_packed_row columns) bits rows ≡ bits ++ packed rows
 
 -- A bitmap of packed rows shows those rows.
 abbrev pub PackedIsShown : Type 0

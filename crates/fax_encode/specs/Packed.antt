@@ -1,12 +1,16 @@
 -- Packed rows: bitmaps of one bit a pixel.
-use Rattle.std.specs.Prelude.{ℕ, zero, suc, ◌+◌, ◌/◌, Bool, List, [], ◌∷◌, length, take, drop, flat_map}
+use Rattle.std.specs.Prelude.{ℕ, zero, suc, ◌+◌, ◌/◌, Bool, List, [], ◌∷◌, ◌++◌, length, take, drop, flat_map}
 use Rattle.hayro_ccitt.specs.Bits.{Bits, bits_of}
-use Rattle.hayro_ccitt.specs.Rows.{Row}
+use Rattle.hayro_ccitt.specs.Rows.{Row, pixels}
 use Rattle.fax_encode.specs.Chosen.{filled_up}
 
 -- the bits of packed rows: each row's pixels from the left, 1 for black, and zeros up to a whole byte
 abbrev pub packed : List Row → Bits
 packed rows = flat_map filled_up rows
+
+-- packed rows, and behind them the row that turns at these places
+abbrev pub with_packed_row : ℕ → Bits → List ℕ → Bits
+with_packed_row columns bits places = bits ++ filled_up (pixels columns places)
 
 -- how many bytes a row takes
 abbrev pub bytes_of_row : ℕ → ℕ

@@ -76,16 +76,14 @@ impl BitmapSink {
 }
 
 impl Decoder for BitmapSink {
-    ghost use Rattle.std.specs.Prelude.{◌++◌};
     ghost use Rattle.hayro_ccitt.specs.Bits.{Bits, bits_of};
-    ghost use Rattle.hayro_ccitt.specs.Rows.{pixels};
-    ghost use Rattle.fax_encode.specs.Chosen.{filled_up};
+    ghost use Rattle.fax_encode.specs.Packed.{with_packed_row};
 
     ghost Meaning = { Bits };
 
     ghost meaning = { λ sink. bits_of sink.bytes };
 
-    ghost step = { λ width bits row. bits ++ filled_up (pixels width row) };
+    ghost step = { with_packed_row };
 
     ghost width = { λ sink. sink.columns };
 

@@ -1,6 +1,6 @@
 //! Laws of the chosen encoding: each is the contract of a function that does nothing.
 
-ghost use Rattle.fax_encode.specs.Laws.{BitmapRoundTripT4, BitmapRoundTripT6, ChosenIsAnEncoding, PackedIsShown, RoundTripT6, RoundTripT4};
+ghost use Rattle.fax_encode.specs.Laws.{BitmapRoundTripT4, BitmapRoundTripT6, ChosenIsAnEncoding, PackedIsShown, RoundTripT6, RoundTripT4, RowsArePacked};
 
 /// What is chosen for a picture encodes it: as T.6, closed by EOFB, and as one-dimensional T.4 with an EOL before each
 /// line, closed by RTC.
@@ -12,6 +12,11 @@ pub fn chosen_is_an_encoding()
 pub fn round_trip()
     ensures t6 { RoundTripT6 }
     ensures t4 { RoundTripT4 }
+{}
+
+/// Rows of its width that [`BitmapSink`](crate::BitmapSink) takes are packed behind those that it has.
+pub fn rows_are_packed()
+    ensures { RowsArePacked }
 {}
 
 /// A bitmap of packed rows, with zeros behind each up to a whole byte, shows those rows.

@@ -12,6 +12,7 @@ use crate::decoding::decode_in;
 use crate::device::Device;
 use crate::program::{RunFault, read_all, write_all};
 use fax_encode::BitmapSink;
+use fax_encode::laws::rows_are_packed;
 use hayro_ccitt::bit_reader::BitOrder;
 use hayro_ccitt::{DecodeError, DecoderContext};
 use std::alloc::Global;
@@ -75,6 +76,7 @@ fn write_packed<W: Write>(
     ensures failed { OnErr result (writer.new.1 ≡ true) }
     ensures only { IfErr result (λ fault. fault ≡ RunFault.Write) }
 {
+    rows_are_packed();
     let mut sink = BitmapSink::new(alloc, ctx.settings().columns);
     let outcome = decode_in(order, input, &mut sink, ctx);
     let bytes = sink.bytes();

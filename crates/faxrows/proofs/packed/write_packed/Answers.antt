@@ -18,7 +18,8 @@ returns-clause-written g c =
         c.decode_in-outcome.result,
         ends_after _ settings bits _ _ _ _ c.decode_in-outcome.ensures.decodes.reading c.decode_in-outcome.ensures.decodes.short,
         c.answer_of.ensures,
-        ap bits_of c.bytes-bytes.ensures ∙ sink_bits settings bits c.new-sink.result _ _ _ empty c.decode_in-outcome.ensures.decodes.reading,
+        ap bits_of c.bytes-bytes.ensures ∙ sink_bits c.rows_are_packed.ensures settings bits c.new-sink.result _ _ _ empty c.decode_in-outcome.ensures.decodes.widths
+            c.decode_in-outcome.ensures.decodes.reading,
       ),
       search rules,
     )
