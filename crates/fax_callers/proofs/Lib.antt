@@ -1,4 +1,3 @@
 mod FirstTaken
 mod PagesCut
-mod RowsTaken
 mod RunsCounted

@@ -1,11 +1,12 @@
--- A row whose black pixels are counted run by run.
+-- Black pixels, counted run by run and row by row.
 use Rattle.std.proofs.Common.{◌≡◌, ℕ, suc, ◌+◌, ◌-◌, ◌*◌, ◌<◌, ◌≤◌, Bool, true, false, not, List, [], ◌∷◌, ◌++◌, length, get_or, drop, replicate, sym, ap, subst, ◌∙◌, arith}
 use Rattle.std.proofs.Math.Seq.{drop-cons}
 use Rattle.std.proofs.lemmas.List.{drop_all}
-use Rattle.std.proofs.lemmas.List.Sums.{sum_by-append}
+use Rattle.std.specs.List.{fold}
+use Rattle.std.proofs.lemmas.List.Sums.{sum_by-append, sum_by-cons}
 use Rattle.std.proofs.lemmas.List.Folds.{sum_by-replicate}
 use Rattle.hayro_ccitt.specs.Rows.{Row, AscendFrom, AreChanges, pixels, pixels_from}
-use Rattle.fax_callers.specs.Counting.{number_of_pixel, black_in_row}
+use Rattle.fax_callers.specs.Counting.{number_of_pixel, black_in_row, black_in, in_64_bits}
 
 -- What is counted so far and what is left make the row's number: a run of this colour began at this place, and the changes
 -- from an index on are left.
@@ -81,3 +82,13 @@ module _ (columns : ℕ) (changes : List ℕ) (index start : ℕ) (is_black : Bo
       let run = ap (λ (l : List ℕ). black_in_row (pixels_from start is_black columns l)) none
       ∙ (sum_by-replicate number_of_pixel (columns - start) is_black) in
       omega (arith, run, counted.sum)
+
+-- ---- all rows
+
+-- rows whose black pixels are counted one after another
+pub counts_all : (n : ℕ) (rows : List Row) → fold (λ before row. in_64_bits (before + black_in_row row)) (in_64_bits n) rows ≡ in_64_bits (n + black_in rows)
+counts_all n [] = omega arith
+counts_all n (row ∷ rows) =
+    let once : in_64_bits (in_64_bits n + black_in_row row) ≡ in_64_bits (n + black_in_row row) = omega arith in
+    let sum : n + black_in_row row + black_in rows ≡ n + black_in (row ∷ rows) = omega (arith, sum_by-cons black_in_row row rows) in
+    ap (λ (m : ℕ). fold (λ before r. in_64_bits (before + black_in_row r)) m rows) once ∙ counts_all (n + black_in_row row) rows ∙ ap in_64_bits sum

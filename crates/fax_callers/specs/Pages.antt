@@ -24,6 +24,11 @@ page_settings columns = record {
 abbrev pub page_from : ℕ → List ℕ → ℕ → Result ℕ DecodeError
 page_from columns bytes place = (reading_of (page_settings columns) (drop place bytes)).outcome
 
+-- a closed page is read up to its end, from whatever place on (T.6, 2.4.1.1)
+abbrev pub ReadsClosedPages : ℕ → Type 0
+ReadsClosedPages columns = (bytes : List ℕ) (place : ℕ) (rows : List Row) (count : ℕ)
+    → IsClosedPicture (page_settings columns) rows count (bits_of (drop place bytes)) → page_from columns bytes place ≡ Ok count
+
 -- Pages end at these places, one after another: what is read from where one begins ends where the next one begins.
 abbrev pub EndAt : ℕ → List ℕ → ℕ → List ℕ → ℕ → Type 0
 EndAt columns bytes begin [] last = begin ≡ last

@@ -9,7 +9,7 @@ ghost use Rattle.fax_callers.specs.Counting.{black_in_row, black_in, in_64_bits}
 ghost use Rattle.fax_callers.specs.Readings.{reading_of, EndsAs};
 
 use crate::once::decode_once;
-use hayro_ccitt::laws::changes_are_rows;
+use hayro_ccitt::laws::steps_on_rows;
 use hayro_ccitt::{DecodeError, DecodeSettings, Decoder, Result};
 use std::alloc::Global;
 use std::marker::Model;
@@ -103,7 +103,7 @@ pub fn count_black(alloc: Global, settings: DecodeSettings, data: &[u8]) -> Resu
     ensures closed { (rows : List Row) (count : ℕ) → IsClosedPicture settings rows count (bits_of «data».now)
         → OnAnswer result (result ≡ Ok (in_64_bits (black_in rows))) }
 {
-    changes_are_rows();
+    steps_on_rows::<BlackPixels>();
     let mut sink = BlackPixels::new(settings.columns);
     decode_once(alloc, settings, data, &mut sink)?;
     Ok(sink.black())

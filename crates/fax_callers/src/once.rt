@@ -4,7 +4,7 @@ ghost use Rattle.std.specs.Prelude.{◌≡◌, ◌≤◌, ℕ, List, IfOk, lengt
 ghost use Rattle.hayro_ccitt.specs.Answers.{OnAnswer, meaning_after};
 ghost use Rattle.hayro_ccitt.specs.Bits.{BitsFit, bits_of};
 ghost use Rattle.hayro_ccitt.specs.Pictures.{IsClosedPicture};
-ghost use Rattle.hayro_ccitt.specs.Rows.{Row};
+ghost use Rattle.hayro_ccitt.specs.Rows.{Row, HaveWidth};
 ghost use Rattle.fax_callers.specs.Readings.{reading_of, EndsAs};
 
 use hayro_ccitt::{DecodeError, DecodeSettings, Decoder, DecoderContext, Result, decode};
@@ -34,16 +34,17 @@ pub fn decode_once<D: Decoder>(
         (take taken (reading_of settings «data».now).rows)) }
     ensures rows { OnAnswer result (D.meaning sink.new
         ≡ meaning_after (D.step (D.width sink.old)) (D.meaning sink.old) (reading_of settings «data».now).rows) }
+    ensures widths { OnAnswer result (HaveWidth settings.columns (reading_of settings «data».now).rows) }
     ensures count { IfOk result (λ n. (reading_of settings «data».now).outcome ≡ Ok n) }
     ensures ended { EndsAs result (reading_of settings «data».now).outcome }
     ensures within { IfOk result (λ n. n ≤ length «data».now) }
     ensures refused { result ≡ Err DecodeError.Refused → D.has_refused sink.new ≡ true }
 
-    // A closed picture gives its count and its rows, whatever follows it.
+    // A closed picture is read as its rows, and the answer is its count, whatever follows it.
     ensures closed { (rows : List Row) (count : ℕ) → IsClosedPicture settings rows count (bits_of «data».now)
         → OnAnswer result (result ≡ Ok count) }
     ensures picture { (rows : List Row) (count : ℕ) → IsClosedPicture settings rows count (bits_of «data».now)
-        → OnAnswer result (D.meaning sink.new ≡ meaning_after (D.step (D.width sink.old)) (D.meaning sink.old) rows) }
+        → OnAnswer result ((reading_of settings «data».now).rows ≡ rows) }
 {
     let mut ctx = DecoderContext::new(alloc, settings)?;
     decode(data, sink, &mut ctx)

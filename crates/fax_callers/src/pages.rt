@@ -1,13 +1,13 @@
 //! Pages of Group 4 that stand one behind the other.
 
-ghost use Rattle.std.specs.Prelude.{◌≡◌, ◌≢◌, ◌≤◌, ◌⊎◌, ℕ, List, IfOk, IfErr, IsOk, length};
+ghost use Rattle.std.specs.Prelude.{◌≡◌, ◌≢◌, ◌≤◌, ◌+◌, ◌⊎◌, ℕ, List, IfOk, IfErr, IsOk, length};
 ghost use Rattle.hayro_ccitt.specs.Answers.{OnAnswer, IsFault};
 ghost use Rattle.hayro_ccitt.specs.Bits.{BitsFit, bits_of};
 ghost use Rattle.hayro_ccitt.specs.Pictures.{IsClosedPicture};
 ghost use Rattle.hayro_ccitt.specs.Rows.{Row};
-ghost use Rattle.fax_callers.specs.Readings.{reading_of, EndsAs};
-ghost use Rattle.fax_callers.specs.Pages.{page_settings, page_from, EndAt, StandAt};
+ghost use Rattle.fax_callers.specs.Pages.{page_settings, page_from, ReadsClosedPages, EndAt, StandAt};
 
+use hayro_ccitt::laws::{bits_of_bytes, pictures};
 use hayro_ccitt::{
     DecodeError, DecodeSettings, Decoder, DecoderContext, EncodingMode, Result, decode,
 };
@@ -50,20 +50,27 @@ pub fn group4_pages(columns: u32) -> DecodeSettings
     }
 }
 
-/// How many bytes the image takes at the front of the data. Its rows are let go.
-fn skip_image(data: &[u8], ctx: &mut DecoderContext) -> Result<usize>
+/// How many bytes the page takes that begins at a place. Its rows are let go.
+fn skip_page(data: &[u8], begin: usize, ctx: &mut DecoderContext) -> Result<usize>
     requires fit { BitsFit «data».now }
+    requires begin { begin ≤ length «data».now }
     ensures settings { ctx.new.held.settings ≡ ctx.old.held.settings }
-    ensures count { IfOk result (λ n. (reading_of ctx.old.held.settings «data».now).outcome ≡ Ok n) }
-    ensures ended { EndsAs result (reading_of ctx.old.held.settings «data».now).outcome }
-    ensures within { IfOk result (λ n. n ≤ length «data».now) }
+    ensures page { (columns : ℕ) → ctx.old.held.settings ≡ page_settings columns
+        → OnAnswer result (result ≡ page_from columns «data».now begin) }
+    ensures within { IfOk result (λ n. begin + n ≤ length «data».now) }
     ensures never_refused { result ≢ Err DecodeError.Refused }
-    ensures closed { (rows : List Row) (count : ℕ)
-        → IsClosedPicture ctx.old.held.settings rows count (bits_of «data».now) → OnAnswer result (result ≡ Ok count) }
 {
     // A number's range is known once it is read.
     let _settings = ctx.settings();
-    decode(data, &mut NoRows, ctx)
+    decode(&data[begin..], &mut NoRows, ctx)
+}
+
+/// A closed page is read up to its end, whatever follows it.
+fn closed_pages(columns: u32)
+    ensures { ReadsClosedPages columns }
+{
+    pictures();
+    bits_of_bytes();
 }
 
 /// Where the page ends that stands at the front of the data: the number of its bytes, the last one filled up. The next page
@@ -76,8 +83,7 @@ fn skip_image(data: &[u8], ctx: &mut DecoderContext) -> Result<usize>
 /// behind them.
 pub fn page_end(alloc: Global, columns: u32, data: &[u8]) -> Result<usize>
     requires fit { BitsFit «data».now }
-    ensures count { IfOk result (λ n. page_from columns «data».now 0 ≡ Ok n) }
-    ensures ended { EndsAs result (page_from columns «data».now 0) }
+    ensures page { OnAnswer result (result ≡ page_from columns «data».now 0) }
     ensures within { IfOk result (λ n. n ≤ length «data».now) }
     ensures never_refused { result ≢ Err DecodeError.Refused }
 
@@ -85,8 +91,9 @@ pub fn page_end(alloc: Global, columns: u32, data: &[u8]) -> Result<usize>
     ensures closed { (rows : List Row) (count : ℕ)
         → IsClosedPicture (page_settings columns) rows count (bits_of «data».now) → OnAnswer result (result ≡ Ok count) }
 {
+    closed_pages(columns);
     let mut ctx = DecoderContext::new(alloc, group4_pages(columns))?;
-    skip_image(data, &mut ctx)
+    skip_page(data, 0, &mut ctx)
 }
 
 /// Where the pages end that stand one behind the other in the data, from its front on: each begins where the one before ends.
@@ -107,11 +114,12 @@ pub fn page_ends(alloc: Global, columns: u32, data: &[u8]) -> Result<Vec<usize>>
     ensures closed { (ends : List ℕ) → StandAt columns «data».now 0 ends
         → OnAnswer result (IsOk result × IfOk result (λ found. found.items ≡ ends)) }
 {
+    closed_pages(columns);
     let mut ctx = DecoderContext::new(alloc, group4_pages(columns))?;
     let mut ends = Vec::new(alloc);
     let mut begin = 0;
     while begin < data.len() {
-        let count = skip_image(&data[begin..], &mut ctx)?;
+        let count = skip_page(data, begin, &mut ctx)?;
         if count == 0 {
             break;
         }

@@ -10,7 +10,7 @@ ghost use Rattle.fax_callers.specs.Readings.{reading_of, EndsAs};
 
 use crate::once::decode_once;
 use fax_encode::BitmapSink;
-use hayro_ccitt::laws::changes_are_rows;
+use fax_encode::laws::rows_are_packed;
 use hayro_ccitt::{DecodeSettings, Result};
 use std::alloc::Global;
 
@@ -29,7 +29,7 @@ pub fn strip_to_bitmap(alloc: Global, settings: DecodeSettings, data: &[u8]) -> 
     ensures closed { (rows : List Row) (count : ℕ) → IsClosedPicture settings rows count (bits_of «data».now)
         → OnAnswer result (IsOk result × IfOk result (λ bytes. bits_of bytes.items ≡ packed rows)) }
 {
-    changes_are_rows();
+    rows_are_packed();
     let mut sink = BitmapSink::new(alloc, settings.columns);
     decode_once(alloc, settings, data, &mut sink)?;
     Ok(sink.into_bytes())
