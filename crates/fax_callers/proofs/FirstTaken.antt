@@ -1,5 +1,5 @@
 -- What a sink of the first rows means after some rows.
-use Rattle.std.proofs.Common.{◌≡◌, ◌≢◌, ◌<◌, ◌≤◌, ℕ, ◌+◌, List, [], ◌∷◌, length, min, take, take_all, sym, ap, ◌∙◌, arith}
+use Rattle.std.proofs.Common.{◌≡◌, ℕ, ◌+◌, List, [], ◌∷◌, length, take, sym, ap, ◌∙◌, arith}
 use Rattle.std.specs.Prelude.{Result}
 use Rattle.std.proofs.lemmas.List.{length-take}
 use Rattle.hayro_ccitt.specs.declared.error.DecodeError.{DecodeError}
@@ -24,47 +24,21 @@ took step meaning n most (row ∷ rows) =
     took step (step meaning (changes row)) (n + 1) most rows
     ∙ ap (λ (k : ℕ). record { meaning = meaning_after step (step meaning (changes row)) rows; rows = k; most = most }) e
 
--- What decoding leaves of a sink of the first rows that had taken none: the rows of a reading that were taken went to the other
--- sink, and they are counted.
-module _ {M : Type 0} (step : M → List ℕ → M) (reading : Reading) (before after : SinkState (Firsts M)) (held : Held) (answer : Result ℕ DecodeError)
-    (begun : before.meaning.rows ≡ 0) (takes_rows : TakesRows reading.rows reading.outcome reading.has_eols (takes step) before after held answer) where
-  -- the rows that were taken
-  abbrev rows : List Row
-  rows = take held.taken reading.rows
+-- a sink of the first rows that had taken none counts those that were taken, and the other sink took them
+pub record IsFirst {M : Type 0} (step : M → List ℕ → M) (reading : Reading) (before after : SinkState (Firsts M)) (held : Held) : Type 0 where
+  pub meaning : after.meaning.meaning ≡ meaning_after step before.meaning.meaning (take after.meaning.rows reading.rows)
+  pub rows : after.meaning.rows ≡ held.taken
+  pub most : after.meaning.most ≡ before.meaning.most
 
-  left : after.meaning ≡ record { meaning = meaning_after step before.meaning.meaning rows; rows = before.meaning.rows + length rows; most = before.meaning.most }
-  left = takes_rows.meaning ∙ took step before.meaning.meaning before.meaning.rows before.meaning.most rows
-
-  counted : after.meaning.rows ≡ held.taken
-  counted = omega (arith, ap (λ (f : Firsts M). f.rows) left, begun, length-take held.taken reading.rows, takes_rows.taken)
-
-  most : after.meaning.most ≡ before.meaning.most
-  most = ap (λ (f : Firsts M). f.most) left
-
-  meant : after.meaning.meaning ≡ meaning_after step before.meaning.meaning rows
-  meant = ap (λ (f : Firsts M). f.meaning) left
-
-  -- what is said of the rows that were taken
-  pub record IsFirst : Type 0 where
-    pub meaning : after.meaning.meaning ≡ meaning_after step before.meaning.meaning (take before.meaning.most reading.rows)
-    pub count : after.meaning.rows ≡ min before.meaning.most (length reading.rows)
-
-  is_first : take held.taken reading.rows ≡ take before.meaning.most reading.rows → held.taken ≡ min before.meaning.most (length reading.rows) → IsFirst
-  is_first same some = record { meaning = meant ∙ ap (λ (rows : List Row). meaning_after step before.meaning.meaning rows) same; count = counted ∙ some }
-
-  -- as many were taken as are wanted
-  pub as_many : after.meaning.rows ≡ after.meaning.most → (before.meaning.most ≤ length reading.rows) × IsFirst
-  as_many full =
-      let same : held.taken ≡ before.meaning.most = omega (arith, counted, most, full) in (
-        omega (arith, same, takes_rows.taken),
-        is_first (ap (λ (n : ℕ). take n reading.rows) same) (omega (arith, same, takes_rows.taken)),
-      )
-
-  -- all were taken, and they are fewer
-  pub fewer : after.meaning.rows ≤ after.meaning.most → after.meaning.rows ≢ after.meaning.most → held.taken ≡ length reading.rows
-      → (length reading.rows < before.meaning.most) × IsFirst
-  fewer within less all =
-      let some : after.meaning.rows < after.meaning.most = grind (arith, within, less) in
-      let few : length reading.rows < before.meaning.most = omega (arith, counted, most, all, some) in
-      let whole = take_all held.taken reading.rows (omega (arith, all)) in
-      (few, is_first (whole ∙ sym (take_all before.meaning.most reading.rows (omega (arith, few)))) (omega (arith, all, few)))
+-- as decoding leaves it
+pub is_first : {M : Type 0} (step : M → List ℕ → M) (reading : Reading) (before after : SinkState (Firsts M)) (held : Held) (answer : Result ℕ DecodeError)
+    → before.meaning.rows ≡ 0 → TakesRows reading.rows reading.outcome reading.has_eols (takes step) before after held answer → IsFirst step reading before after held
+is_first {M} step reading before after held answer begun left =
+    let rows : List Row = take held.taken reading.rows in
+    let is = left.meaning ∙ took step before.meaning.meaning before.meaning.rows before.meaning.most rows in
+    let count : after.meaning.rows ≡ held.taken = omega (arith, ap (λ (f : Firsts M). f.rows) is, begun, length-take held.taken reading.rows, left.taken) in
+    record {
+      meaning = ap (λ (f : Firsts M). f.meaning) is ∙ ap (λ (n : ℕ). meaning_after step before.meaning.meaning (take n reading.rows)) (sym count);
+      rows = count;
+      most = ap (λ (f : Firsts M). f.most) is;
+    }

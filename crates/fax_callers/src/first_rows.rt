@@ -1,9 +1,9 @@
 //! The first rows of an image.
 
-ghost use Rattle.std.specs.Prelude.{◌≡◌, ◌<◌, ◌≤◌, IfErr, IsOk, length, min, take, true, false};
+ghost use Rattle.std.specs.Prelude.{◌≡◌, ◌<◌, ◌≤◌, ◌≢◌, IfErr, IsOk, length, min, take, true, false};
 ghost use Rattle.hayro_ccitt.specs.Answers.{IsFault, OnAnswer, meaning_after};
 ghost use Rattle.hayro_ccitt.specs.Bits.{BitsFit};
-ghost use Rattle.fax_callers.specs.Readings.{reading_of};
+ghost use Rattle.fax_callers.specs.Readings.{reading_of, EndsAs};
 
 use hayro_ccitt::{DecodeError, Decoder, DecoderContext, Result, decode};
 
@@ -64,6 +64,28 @@ impl<D: Decoder> Decoder for FirstRows<D> {
     }
 }
 
+/// Decodes into a sink of first rows that has taken none, up to the row that it refuses.
+fn take_first<D: Decoder>(
+    data: &[u8],
+    first: &mut FirstRows<D>,
+    ctx: &mut DecoderContext,
+) -> Result<usize>
+    requires fit { BitsFit «data».now }
+    requires width { ctx.old.held.settings.columns ≤ D.width first.old.sink }
+    requires begun { first.old.rows ≡ 0 }
+    ensures rows { D.meaning first.new.sink
+        ≡ meaning_after (D.step (D.width first.old.sink)) (D.meaning first.old.sink)
+        (take first.new.rows (reading_of ctx.old.held.settings «data».now).rows) }
+    ensures taken { first.new.rows ≤ length (reading_of ctx.old.held.settings «data».now).rows }
+    ensures all { OnAnswer result (first.new.rows ≡ length (reading_of ctx.old.held.settings «data».now).rows) }
+    ensures ended { EndsAs result (reading_of ctx.old.held.settings «data».now).outcome }
+    ensures most { first.new.most ≡ first.old.most }
+    ensures refused { result ≡ Err DecodeError.Refused → first.new.rows ≢ first.new.most → D.has_refused first.new.sink ≡ true }
+    ensures settings { ctx.new.held.settings ≡ ctx.old.held.settings }
+{
+    decode(data, first, ctx)
+}
+
 /// Decodes the first rows of an image, as for a thumbnail, and answers whether there are as many as are wanted. At most one row
 /// more is read; what stands behind the rows that are wanted doesn't matter, a fault neither.
 ///
@@ -80,9 +102,9 @@ pub fn decode_first_rows<D: Decoder>(
     requires fit { BitsFit «data».now }
     requires width { ctx.old.held.settings.columns ≤ D.width first.old.sink }
     requires begun { first.old.rows ≡ 0 }
-    ensures rows { OnAnswer result (D.meaning first.new.sink
+    ensures rows { D.meaning first.new.sink
         ≡ meaning_after (D.step (D.width first.old.sink)) (D.meaning first.old.sink)
-        (take first.old.most (reading_of ctx.old.held.settings «data».now).rows)) }
+        (take first.new.rows (reading_of ctx.old.held.settings «data».now).rows) }
     ensures count { OnAnswer result (first.new.rows
         ≡ min first.old.most (length (reading_of ctx.old.held.settings «data».now).rows)) }
     ensures as_many { result ≡ Ok true
@@ -96,7 +118,7 @@ pub fn decode_first_rows<D: Decoder>(
     ensures refused { result ≡ Err DecodeError.Refused → D.has_refused first.new.sink ≡ true }
     ensures settings { ctx.new.held.settings ≡ ctx.old.held.settings }
 {
-    let answer = decode(data, first, ctx);
+    let answer = take_first(data, first, ctx);
     if first.rows == first.most {
         return Ok(true);
     }
