@@ -42,6 +42,7 @@ decodes settings bits step before after held ticks answer are whole (takes, shor
       no_eols = no_eols;
       short = short;
       closed = λ rows count picture. on_answer answer (λ e. e.1 ∙ (closed_pictures settings rows count bits are whole picture).1) end;
+      closed_rows = λ rows count picture. (closed_pictures settings rows count bits are whole picture).0;
       picture = λ rows count picture. on_answer answer (λ e. means rows (e.0 ∙ (closed_pictures settings rows count bits are whole picture).0)) end;
       limited = λ rows picture. on_answer answer (λ e. subst IsOk (sym e.1) (limited_pictures settings rows bits are whole picture).1) end;
       limited_picture = λ rows picture. on_answer answer (λ e. means rows (e.0 ∙ (limited_pictures settings rows bits are whole picture).0)) end;

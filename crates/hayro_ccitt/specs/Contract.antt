@@ -27,8 +27,10 @@ pub record Decodes {M : Type 0} (settings : DecodeSettings) (bits : Bits) (step 
   -- Fewer rows are taken only where memory is wanted for a black pixel, or the sink refuses a row (T.4, 4.2.1.1).
   pub short : StopsShort (plain settings bits).rows (lines_of settings bits) before after held answer
   -- Data that begin with a T.6 encoding closed by EOFB, or a T.4 one closed by RTC, are read as its picture, whatever
-  -- follows it: its count is the answer, and its rows go to the sink (T.6, 2.4.1.1; T.4, 4.1.4 and 4.2.4).
+  -- follows it: the answer is its count, the rows are its rows, and the sink means them (T.6, 2.4.1.1; T.4, 4.1.4 and
+  -- 4.2.4).
   pub closed : (rows : List Row) (count : ℕ) → IsClosedPicture settings rows count bits → OnAnswer answer (answer ≡ Ok count)
+  pub closed_rows : (rows : List Row) (count : ℕ) → IsClosedPicture settings rows count bits → (plain settings bits).rows ≡ rows
   pub picture : (rows : List Row) (count : ℕ) → IsClosedPicture settings rows count bits
       → OnAnswer answer (after.meaning ≡ meaning_after step before.meaning rows)
   -- So are as many lines as the limit (T.6, 2.2; T.4, 4.1.1, 4.1.2 and 4.2.1).
