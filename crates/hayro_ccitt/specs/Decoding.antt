@@ -5,10 +5,12 @@ use Rattle.hayro_ccitt.specs.declared.error.DecodeError.{DecodeError}
 use Rattle.hayro_ccitt.specs.declared.error.DecodeError.TheVariants.{OutOfMemory, Refused}
 use Rattle.hayro_ccitt.specs.Answers.{IsFault, OnAnswer, HasBlack, PaintsBlack, front_of, meaning_after}
 use Rattle.hayro_ccitt.specs.Bits.{Bits}
-use Rattle.hayro_ccitt.specs.Context.{Held, redrawn}
+use Rattle.hayro_ccitt.specs.Context.{Context, Held, redrawn}
+use Rattle.hayro_ccitt.specs.declared.settings.EncodingMode.{EncodingMode}
 use Rattle.hayro_ccitt.specs.Lines.{Line}
-use Rattle.hayro_ccitt.specs.PlainReading.{Gap}
+use Rattle.hayro_ccitt.specs.PlainReading.{Gap, end_by, lines_by}
 use Rattle.hayro_ccitt.specs.Rows.{Row, changes}
+use Rattle.hayro_ccitt.specs.Work.{CountsRun, words_by, most_counted}
 
 -- glue: what a sink means, and whether it has refused a row
 pub record SinkState (M : Type 0) : Type 0 where
@@ -34,6 +36,17 @@ pub record StopsShort {M A : Type 0} (rows : List Row) (lines : List Line) (befo
   pub refused : answer ≡ Err Refused → held.taken < length rows
   pub flag : answer ≡ Err Refused → after.refused ≡ true
   pub no_flag : answer ≢ Err Refused → after.refused ≡ before.refused
+
+-- ---- All rows of some bits: the contract of the drivers
+
+-- What a run over the rows of some bits leaves, read in an encoding: the rows that were taken, what comes with fewer, and the
+-- work (T.4, 4.1 and 4.2; T.6, 2.2 and 2.4.1).
+pub record DecodesRows {M : Type 0} (encoding : EncodingMode) (bits : Bits) (step : M → List ℕ → M) (before after : SinkState M) (old new : Context) (answer : Result Bits DecodeError) : Type 0 where
+  pub settings : new.held.settings ≡ old.held.settings
+  pub reading : TakesRows (end_by encoding old.held.settings bits).rows (end_by encoding old.held.settings bits).outcome
+      (end_by encoding old.held.settings bits).has_eols step before after new.held answer
+  pub short : StopsShort (end_by encoding old.held.settings bits).rows (lines_by encoding old.held.settings bits) before after new.held answer
+  pub work : CountsRun (words_by encoding old.held.settings bits) new.held.taken old.ticks new.ticks (most_counted encoding (length bits))
 
 -- ---- One turn: what no reader has to believe, the contracts of private calls
 

@@ -5,12 +5,12 @@ ghost use Rattle.hayro_ccitt.specs.Answers.{DrawsLine, IsFault, IsRepairable, On
 ghost use Rattle.hayro_ccitt.specs.Bits.{here};
 ghost use Rattle.hayro_ccitt.specs.Context.{after_repair, fresh, redrawn};
 ghost use Rattle.hayro_ccitt.specs.EndOfLine.{all_eols};
-ghost use Rattle.hayro_ccitt.specs.Decoding.{TakesRows, StopsShort, TakesOneRow, leaving, gap_said};
-ghost use Rattle.hayro_ccitt.specs.PlainReading.{plain_group3, lines_by, eols_group3, is_over_group3, gap_group3, row_group3, line_by, line_at_group3};
+ghost use Rattle.hayro_ccitt.specs.Decoding.{DecodesRows, TakesOneRow, leaving, gap_said};
+ghost use Rattle.hayro_ccitt.specs.PlainReading.{eols_group3, is_over_group3, gap_group3, row_group3, line_by, line_at_group3};
 ghost use Rattle.hayro_ccitt.specs.Lines.{line_found};
 ghost use Rattle.hayro_ccitt.specs.Rows.{changes};
 ghost use Rattle.hayro_ccitt.specs.Ticks.{looked, looked_ahead};
-ghost use Rattle.hayro_ccitt.specs.Work.{CountsRun, found_at_group3, words_by, most_counted};
+ghost use Rattle.hayro_ccitt.specs.Work.{found_at_group3};
 
 use crate::bit_reader::BitReader;
 use crate::context::{DecoderContext, decode_1d_line, decode_2d_line};
@@ -232,21 +232,11 @@ fn decode_rows<D: Decoder>(
     requires start { reader.old.place ≡ 0 }
     requires width { ctx.old.held.settings.columns ≤ D.width decoder.old }
     ensures width { D.width decoder.new ≡ D.width decoder.old }
-    ensures settings { ctx.new.held.settings ≡ ctx.old.held.settings }
-    ensures reading { TakesRows (plain_group3 ctx.old.held.settings reader.old.bits).rows
-        (plain_group3 ctx.old.held.settings reader.old.bits).outcome
-        (plain_group3 ctx.old.held.settings reader.old.bits).has_eols (D.step (D.width decoder.old))
+    ensures rows { DecodesRows EncodingMode.Group3_1D reader.old.bits (D.step (D.width decoder.old))
         (record { meaning = D.meaning decoder.old; refused = D.has_refused decoder.old })
         (record { meaning = D.meaning decoder.new; refused = D.has_refused decoder.new })
-        ctx.new.held (leaving result (here reader.new)) }
-    ensures short { StopsShort (plain_group3 ctx.old.held.settings reader.old.bits).rows
-        (lines_by EncodingMode.Group3_1D ctx.old.held.settings reader.old.bits)
-        (record { meaning = D.meaning decoder.old; refused = D.has_refused decoder.old })
-        (record { meaning = D.meaning decoder.new; refused = D.has_refused decoder.new })
-        ctx.new.held (leaving result (here reader.new)) }
+        ctx.old ctx.new (leaving result (here reader.new)) }
     ensures same_bits { reader.new.bits ≡ reader.old.bits }
-    ensures work { CountsRun (words_by EncodingMode.Group3_1D ctx.old.held.settings reader.old.bits) ctx.new.held.taken
-        ctx.old.ticks ctx.new.ticks (most_counted EncodingMode.Group3_1D (length reader.old.bits)) }
 {
     read_leading_eols(ctx, reader);
     'rows: loop {
@@ -271,21 +261,11 @@ pub fn decode_1d<D: Decoder>(
     requires start { reader.old.place ≡ 0 }
     requires width { ctx.old.held.settings.columns ≤ D.width decoder.old }
     ensures width { D.width decoder.new ≡ D.width decoder.old }
-    ensures settings { ctx.new.held.settings ≡ ctx.old.held.settings }
-    ensures reading { TakesRows (plain_group3 ctx.old.held.settings reader.old.bits).rows
-        (plain_group3 ctx.old.held.settings reader.old.bits).outcome
-        (plain_group3 ctx.old.held.settings reader.old.bits).has_eols (D.step (D.width decoder.old))
+    ensures rows { DecodesRows EncodingMode.Group3_1D reader.old.bits (D.step (D.width decoder.old))
         (record { meaning = D.meaning decoder.old; refused = D.has_refused decoder.old })
         (record { meaning = D.meaning decoder.new; refused = D.has_refused decoder.new })
-        ctx.new.held (leaving result (here reader.new)) }
-    ensures short { StopsShort (plain_group3 ctx.old.held.settings reader.old.bits).rows
-        (lines_by EncodingMode.Group3_1D ctx.old.held.settings reader.old.bits)
-        (record { meaning = D.meaning decoder.old; refused = D.has_refused decoder.old })
-        (record { meaning = D.meaning decoder.new; refused = D.has_refused decoder.new })
-        ctx.new.held (leaving result (here reader.new)) }
+        ctx.old ctx.new (leaving result (here reader.new)) }
     ensures same_bits { reader.new.bits ≡ reader.old.bits }
-    ensures work { CountsRun (words_by EncodingMode.Group3_1D ctx.old.held.settings reader.old.bits) ctx.new.held.taken
-        ctx.old.ticks ctx.new.ticks (most_counted EncodingMode.Group3_1D (length reader.old.bits)) }
 {
     decode_rows(ctx, reader, decoder) // No line has a tag.
 }
@@ -304,21 +284,11 @@ pub fn decode_2d<D: Decoder>(
     requires start { reader.old.place ≡ 0 }
     requires width { ctx.old.held.settings.columns ≤ D.width decoder.old }
     ensures width { D.width decoder.new ≡ D.width decoder.old }
-    ensures settings { ctx.new.held.settings ≡ ctx.old.held.settings }
-    ensures reading { TakesRows (plain_group3 ctx.old.held.settings reader.old.bits).rows
-        (plain_group3 ctx.old.held.settings reader.old.bits).outcome
-        (plain_group3 ctx.old.held.settings reader.old.bits).has_eols (D.step (D.width decoder.old))
+    ensures rows { DecodesRows EncodingMode.Group3_2D reader.old.bits (D.step (D.width decoder.old))
         (record { meaning = D.meaning decoder.old; refused = D.has_refused decoder.old })
         (record { meaning = D.meaning decoder.new; refused = D.has_refused decoder.new })
-        ctx.new.held (leaving result (here reader.new)) }
-    ensures short { StopsShort (plain_group3 ctx.old.held.settings reader.old.bits).rows
-        (lines_by EncodingMode.Group3_2D ctx.old.held.settings reader.old.bits)
-        (record { meaning = D.meaning decoder.old; refused = D.has_refused decoder.old })
-        (record { meaning = D.meaning decoder.new; refused = D.has_refused decoder.new })
-        ctx.new.held (leaving result (here reader.new)) }
+        ctx.old ctx.new (leaving result (here reader.new)) }
     ensures same_bits { reader.new.bits ≡ reader.old.bits }
-    ensures work { CountsRun (words_by EncodingMode.Group3_2D ctx.old.held.settings reader.old.bits) ctx.new.held.taken
-        ctx.old.ticks ctx.new.ticks (most_counted EncodingMode.Group3_2D (length reader.old.bits)) }
 {
     decode_rows(ctx, reader, decoder) // Each line has its tag.
 }

@@ -4,11 +4,10 @@ ghost use Rattle.std.specs.Prelude.{◌≡◌, ◌<◌, ◌≤◌, ◌+◌, ◌*
 ghost use Rattle.hayro_ccitt.specs.Answers.{line_from_2d, words_from_2d};
 ghost use Rattle.hayro_ccitt.specs.Bits.{here};
 ghost use Rattle.hayro_ccitt.specs.Context.{fresh};
-ghost use Rattle.hayro_ccitt.specs.Decoding.{TakesRows, StopsShort, TakesOneRow, leaving, gap_said};
-ghost use Rattle.hayro_ccitt.specs.PlainReading.{plain_group4, lines_by, eols_group4, is_over_group4, gap_group4, row_group4};
+ghost use Rattle.hayro_ccitt.specs.Decoding.{DecodesRows, TakesOneRow, leaving, gap_said};
+ghost use Rattle.hayro_ccitt.specs.PlainReading.{eols_group4, is_over_group4, gap_group4, row_group4};
 ghost use Rattle.hayro_ccitt.specs.Rows.{changes};
 ghost use Rattle.hayro_ccitt.specs.Ticks.{looked};
-ghost use Rattle.hayro_ccitt.specs.Work.{CountsRun, words_by, most_counted};
 
 use crate::bit_reader::BitReader;
 use crate::context::{DecoderContext, decode_2d_line};
@@ -105,22 +104,12 @@ pub fn decode<D: Decoder>(
     requires start { reader.old.place ≡ 0 }
     requires width { ctx.old.held.settings.columns ≤ D.width decoder.old }
     ensures width { D.width decoder.new ≡ D.width decoder.old }
-    ensures settings { ctx.new.held.settings ≡ ctx.old.held.settings }
-    ensures reading { TakesRows (plain_group4 ctx.old.held.settings reader.old.bits).rows
-        (plain_group4 ctx.old.held.settings reader.old.bits).outcome
-        (plain_group4 ctx.old.held.settings reader.old.bits).has_eols (D.step (D.width decoder.old))
+    ensures rows { DecodesRows EncodingMode.Group4 reader.old.bits (D.step (D.width decoder.old))
         (record { meaning = D.meaning decoder.old; refused = D.has_refused decoder.old })
         (record { meaning = D.meaning decoder.new; refused = D.has_refused decoder.new })
-        ctx.new.held (leaving result (here reader.new)) }
-    ensures short { StopsShort (plain_group4 ctx.old.held.settings reader.old.bits).rows
-        (lines_by EncodingMode.Group4 ctx.old.held.settings reader.old.bits)
-        (record { meaning = D.meaning decoder.old; refused = D.has_refused decoder.old })
-        (record { meaning = D.meaning decoder.new; refused = D.has_refused decoder.new })
-        ctx.new.held (leaving result (here reader.new)) }
+        ctx.old ctx.new (leaving result (here reader.new)) }
     ensures no_eols { ctx.new.held.has_eols ≡ false }
     ensures same_bits { reader.new.bits ≡ reader.old.bits }
-    ensures work { CountsRun (words_by EncodingMode.Group4 ctx.old.held.settings reader.old.bits) ctx.new.held.taken
-        ctx.old.ticks ctx.new.ticks (most_counted EncodingMode.Group4 (length reader.old.bits)) }
 {
     'rows: loop {
         if before_line(ctx, reader) {

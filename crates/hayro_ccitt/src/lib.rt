@@ -13,10 +13,8 @@ ghost use Rattle.std.specs.Prelude.{◌≡◌, ◌*◌, ◌<◌, ◌≤◌, ◌�
 ghost use Rattle.hayro_ccitt.specs.Bits.{AreWholeBytes, BitsFit, bits_of, low_first_bits_of, here};
 ghost use Rattle.hayro_ccitt.specs.Context.{fresh};
 ghost use Rattle.hayro_ccitt.specs.Contract.{Decodes};
-ghost use Rattle.hayro_ccitt.specs.Decoding.{TakesRows, StopsShort, leaving};
-ghost use Rattle.hayro_ccitt.specs.PlainReading.{end_of, lines_by};
+ghost use Rattle.hayro_ccitt.specs.Decoding.{DecodesRows, leaving};
 ghost use Rattle.hayro_ccitt.specs.Rows.{AreChanges};
-ghost use Rattle.hayro_ccitt.specs.Work.{CountsRun, words_by, most_counted};
 
 pub mod bit_reader;
 pub mod changes;
@@ -94,23 +92,12 @@ fn decode_rows<D: Decoder>(
     requires start { reader.old.place ≡ 0 }
     requires width { ctx.old.held.settings.columns ≤ D.width decoder.old }
     ensures width { D.width decoder.new ≡ D.width decoder.old }
-    ensures settings { ctx.new.held.settings ≡ ctx.old.held.settings }
-    ensures reading { TakesRows (end_of ctx.old.held.settings reader.old.bits).rows
-        (end_of ctx.old.held.settings reader.old.bits).outcome (end_of ctx.old.held.settings reader.old.bits).has_eols
-        (D.step (D.width decoder.old))
+    ensures rows { DecodesRows ctx.old.held.settings.encoding reader.old.bits (D.step (D.width decoder.old))
         (record { meaning = D.meaning decoder.old; refused = D.has_refused decoder.old })
         (record { meaning = D.meaning decoder.new; refused = D.has_refused decoder.new })
-        ctx.new.held (leaving result (here reader.new)) }
-    ensures short { StopsShort (end_of ctx.old.held.settings reader.old.bits).rows
-        (lines_by ctx.old.held.settings.encoding ctx.old.held.settings reader.old.bits)
-        (record { meaning = D.meaning decoder.old; refused = D.has_refused decoder.old })
-        (record { meaning = D.meaning decoder.new; refused = D.has_refused decoder.new })
-        ctx.new.held (leaving result (here reader.new)) }
+        ctx.old ctx.new (leaving result (here reader.new)) }
     ensures no_eols { ctx.old.held.settings.encoding ≡ EncodingMode.Group4 → ctx.new.held.has_eols ≡ false }
     ensures same_bits { reader.new.bits ≡ reader.old.bits }
-    ensures work { CountsRun (words_by ctx.old.held.settings.encoding ctx.old.held.settings reader.old.bits)
-        ctx.new.held.taken ctx.old.ticks ctx.new.ticks
-        (most_counted ctx.old.held.settings.encoding (length reader.old.bits)) }
 {
     match ctx.settings().encoding {
         EncodingMode::Group4 => group4::decode(ctx, reader, decoder),

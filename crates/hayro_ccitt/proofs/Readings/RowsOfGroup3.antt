@@ -29,6 +29,10 @@ by_rows_group3 settings wide =
     record { shrinks = move_group3_shrinks settings wide; adds = move_group3_adds settings; below = left_group3_below }
 
 module _ (settings : DecodeSettings) (so_far : Progress) where
+  -- the words that the line of a turn finds
+  abbrev pub words_of_turn : List Bits
+  words_of_turn = found_at_group3 settings (row_before settings.columns so_far.rows) so_far.rest
+
   -- the line of a turn
   abbrev pub line_of_turn : Line
   line_of_turn = line_at_group3 settings (row_before settings.columns so_far.rows) so_far.rest
@@ -65,6 +69,14 @@ TakesRowGroup3 step now after held here new answer rest =
     TakesOneRow (line_at_group3 held.settings held.reference here) (row_group3 held.settings held.has_eols here (line_at_group3 held.settings held.reference here))
     step now after held new answer rest
 
+-- the words of the next line are those of its turn
+pub words_are : {M : Type 0} (settings : DecodeSettings) (bits : Bits) {step : M → List ℕ → M} {before now : SinkState M} {held : Held} {here : Bits}
+    (between : Between (move_group3 settings) (lines_of_move_group3 settings) left_group3 (start_group3 settings bits) settings step before now held here)
+    → length (found_at_group3 held.settings held.reference here) ≡ length (words_of_turn settings between.so_far)
+words_are settings bits {here = here} between =
+    ap (λ (h : Held). length (found_at_group3 h.settings h.reference here)) between.held
+    ∙ ap (λ (x : Bits). length (found_at_group3 settings (row_before settings.columns between.so_far.rows) x)) between.here
+
 module _ {M : Type 0} (settings : DecodeSettings) (wide : 0 < settings.columns) (bits : Bits) (step_of : ℕ → M → List ℕ → M) (width : ℕ) (before now : SinkState M) (held : Held) (here : Bits)
     (between : Between (move_group3 settings) (lines_of_move_group3 settings) left_group3 (start_group3 settings bits) settings (step_of width) before now held here)
     (now_width : ℕ) (same_width : now_width ≡ width) (after : SinkState M) (new : Held) (rest : Bits) where
@@ -76,12 +88,7 @@ module _ {M : Type 0} (settings : DecodeSettings) (wide : 0 < settings.columns) 
 
   -- the words that its line finds
   abbrev words : List Bits
-  words = found_at_group3 settings (row_before settings.columns so_far.rows) so_far.rest
-
-  pub words_are : length (found_at_group3 held.settings held.reference here) ≡ length words
-  words_are =
-      ap (λ (h : Held). length (found_at_group3 h.settings h.reference here)) between.held
-      ∙ ap (λ (x : Bits). length (found_at_group3 settings (row_before settings.columns so_far.rows) x)) between.here
+  words = words_of_turn settings so_far
 
   -- what was taken is what the turn reads
   pub takes_is : (answer : Result (Unit {0}) DecodeError) → TakesRowGroup3 (step_of now_width) now after held here new answer rest

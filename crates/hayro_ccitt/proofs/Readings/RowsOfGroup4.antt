@@ -74,6 +74,13 @@ abbrev pub TakesRowGroup4 : {M : Type 0} → (M → List ℕ → M) → SinkStat
 TakesRowGroup4 step now after held rest new answer left_over =
     TakesOneRow (line_from_2d held rest) (row_group4 held.settings (line_from_2d held rest)) step now after held new answer left_over
 
+-- the words of the next line are those of its turn
+pub words_are : {M : Type 0} (settings : DecodeSettings) (bits : Bits) {step : M → List ℕ → M} {before now : SinkState M} {held : Held} {here : Bits}
+    (between : Between (move_group4 settings) (lines_of_move_group4 settings) left (start_group4 bits) settings step before now held here)
+    {now_held : Held} (rest : Bits) → now_held ≡ held
+    → length (words_from_2d now_held rest) ≡ length (found_2d settings.strict settings.columns (row_before settings.columns between.so_far.rows) rest)
+words_are settings bits between rest same_held = ap (λ (h : Held). length (words_from_2d h rest)) (same_held ∙ between.held)
+
 module _ {M : Type 0} (settings : DecodeSettings) (wide : 0 < settings.columns) (bits : Bits) (step_of : ℕ → M → List ℕ → M) (width : ℕ) (before now : SinkState M) (held : Held) (here : Bits)
     (between : Between (move_group4 settings) (lines_of_move_group4 settings) left (start_group4 bits) settings (step_of width) before now held here)
     (over : Bool) (rest : Bits) (said : gap_group4 held.settings held.taken held.has_eols here ≡ gap_said (Ok over) held.has_eols rest) where
@@ -109,9 +116,6 @@ module _ {M : Type 0} (settings : DecodeSettings) (wide : 0 < settings.columns) 
     -- the words that its line finds
     abbrev words : List Bits
     words = found_2d settings.strict settings.columns (row_before settings.columns so_far.rows) rest
-
-    pub words_are : length (words_from_2d now_held rest) ≡ length words
-    words_are = ap (λ (h : Held). length (words_from_2d h rest)) (same_held ∙ between.held)
 
     pub takes_is : (answer : Result (Unit {0}) DecodeError) → TakesRowGroup4 (step_of now_width) now after now_held rest new answer left_over
         → TakesOneRow line (row_group4 settings line) step now after held new answer left_over

@@ -15,7 +15,7 @@ returns-in_err-decode_rows-clause-decodes g c =
     let some : c.restart.new.self.held.settings.columns ≢ 0 = λ none. c.if-settings-eq0.false (ap (λ (s : DecodeSettings). s.columns) c.settings.ensures.value ∙ none) in
     let answer = err_from_is_err_and c.from_residual.result c.from_residual.ensures.1 in
     let leaves = left_badly c.restart.new.self.held.settings c.args.ctx.now.held.settings c.args.reader.now.bits c.args.reader.now.bits same refl some _ _ _ _ _
-    c.in_err-decode_rows.ensures.reading c.in_err-decode_rows.ensures.short in
+    c.in_err-decode_rows.ensures.rows.reading c.in_err-decode_rows.ensures.rows.short in
     rw (answer.1, answer.2) (decodes c.args.ctx.now.held.settings c.args.reader.now.bits _ _ _ _ _ _ are c.requires.whole leaves (search rules) (search rules))
 
 pub returns-clause-within : goal.returns-clause-within
@@ -33,5 +33,5 @@ returns-clause-decodes g c =
     let bits = ap (λ (at : BitsAt). at.bits) c.align.ensures.moved in
     let leaves = left_well c.restart.new.self.held.settings c.args.ctx.now.held.settings c.args.reader.now.bits c.args.reader.now.bits same refl some _ _ _ _
     c.decode_rows.new.reader.place c.decode_rows.new.reader.bits c.byte_pos.result c.decode_rows.ensures.same_bits
-    (omega (arith, at, c.align.ensures.within, ap length bits)) (omega (arith, c.byte_pos.ensures, at)) c.in_ok-decode_rows.ensures.reading c.in_ok-decode_rows.ensures.short in
+    (omega (arith, at, c.align.ensures.within, ap length bits)) (omega (arith, c.byte_pos.ensures, at)) c.in_ok-decode_rows.ensures.rows.reading c.in_ok-decode_rows.ensures.rows.short in
     decodes c.args.ctx.now.held.settings c.args.reader.now.bits _ _ _ _ _ _ are c.requires.whole leaves (search rules) (search rules)

@@ -1,4 +1,4 @@
-use Rattle.std.proofs.Common.{◌≡◌, ◌≤◌, ◌+◌, ◌*◌, Result, ℕ, Bool, true, false, ltb, ◌||◌, drop, length, Ok, refl, sym, ap, ◌∙◌, subst, arith}
+use Rattle.std.proofs.Common.{rules, ◌≡◌, ◌≤◌, ◌+◌, ◌*◌, Result, ℕ, Bool, true, false, ltb, ◌||◌, drop, length, Ok, refl, sym, ap, ◌∙◌, subst, arith}
 use Rattle.std.proofs.lemmas.Result.{err_from_is_err_and}
 use Rattle.std.proofs.lemmas.List.{length-drop}
 use Rattle.hayro_ccitt.specs.declared.error.DecodeError.TheVariants.{InvalidCode}
@@ -60,68 +60,13 @@ read_row-requires-clause-rows g c =
     let taken = ap (λ (h : Held). h.taken) between.held in
     omega (arith, taken, between.comes.room, left_start settings bits, ap length same)
 
-pub returns-in_err-read_row-clause-reading : goal.returns-in_err-read_row-clause-reading
-returns-in_err-read_row-clause-reading g c =
-    let (between, same, width, words, paid) = c.rows.invariant in
-    let settings = c.args.ctx.now.held.settings in
-    let bits = c.args.reader.now.bits in
-    let answer = err_from_is_err_and c.from_residual.result c.from_residual.ensures.1 in
-    let leaves = fails_group3 settings c.requires.columns bits g.D.Decoder.step (g.D.Decoder.width c.args.decoder.now)
-    (record { meaning = g.D.Decoder.meaning c.args.decoder.now; refused = g.D.Decoder.has_refused c.args.decoder.now }) (record { meaning = g.D.Decoder.meaning c.rows.decoder; refused = g.D.Decoder.has_refused c.rows.decoder })
-    c.rows.ctx.held (here c.rows.reader) between (g.D.Decoder.width c.rows.decoder) width
-    (record { meaning = g.D.Decoder.meaning c.read_row.new.decoder; refused = g.D.Decoder.has_refused c.read_row.new.decoder }) c.read_row.new.ctx.held (here c.read_row.new.reader)
-    c.in_err-read_row.field-0.0 c.in_err-read_row.ensures.row in
-    rw (answer.1, answer.2) leaves.0
-
-pub returns-in_err-read_row-clause-short : goal.returns-in_err-read_row-clause-short
-returns-in_err-read_row-clause-short g c =
-    let (between, same, width, words, paid) = c.rows.invariant in
-    let settings = c.args.ctx.now.held.settings in
-    let bits = c.args.reader.now.bits in
-    let answer = err_from_is_err_and c.from_residual.result c.from_residual.ensures.1 in
-    let leaves = fails_group3 settings c.requires.columns bits g.D.Decoder.step (g.D.Decoder.width c.args.decoder.now)
-    (record { meaning = g.D.Decoder.meaning c.args.decoder.now; refused = g.D.Decoder.has_refused c.args.decoder.now }) (record { meaning = g.D.Decoder.meaning c.rows.decoder; refused = g.D.Decoder.has_refused c.rows.decoder })
-    c.rows.ctx.held (here c.rows.reader) between (g.D.Decoder.width c.rows.decoder) width
-    (record { meaning = g.D.Decoder.meaning c.read_row.new.decoder; refused = g.D.Decoder.has_refused c.read_row.new.decoder }) c.read_row.new.ctx.held (here c.read_row.new.reader)
-    c.in_err-read_row.field-0.0 c.in_err-read_row.ensures.row in
-    rw (answer.1, answer.2) leaves.1
-
-pub returns-in_err-check_eob-clause-reading : goal.returns-in_err-check_eob-clause-reading
-returns-in_err-check_eob-clause-reading g c =
-    let (between, same, width, words, paid) = c.rows.invariant in
-    let settings = c.args.ctx.now.held.settings in
-    let bits = c.args.reader.now.bits in
-    let answer = err_from_is_err_and c.from_residual-in_err-check_eob.result c.from_residual-in_err-check_eob.ensures.1 in
-    let code : c.in_err-check_eob.field-0.0 ≡ InvalidCode = c.in_err-check_eob.ensures.only_code in
-    let leaves = misses_group3 settings c.requires.columns bits g.D.Decoder.step (g.D.Decoder.width c.args.decoder.now)
-    (record { meaning = g.D.Decoder.meaning c.args.decoder.now; refused = g.D.Decoder.has_refused c.args.decoder.now }) (record { meaning = g.D.Decoder.meaning c.rows.decoder; refused = g.D.Decoder.has_refused c.rows.decoder })
-    c.rows.ctx.held (here c.rows.reader) between (g.D.Decoder.width c.rows.decoder) width
-    (record { meaning = g.D.Decoder.meaning c.read_row.new.decoder; refused = g.D.Decoder.has_refused c.read_row.new.decoder }) c.read_row.new.ctx.held (here c.read_row.new.reader)
-    c.in_ok-read_row.ensures.row c.check_eob.new.ctx.held (here c.check_eob.new.reader) c.check_eob.result c.check_eob.ensures.gap c.check_eob.ensures.held c.in_err-check_eob.field-0.0 c.in_err-check_eob.was (subst IsFault (sym code) tt) c.in_err-check_eob.ensures.kept in
-    rw (answer.1, answer.2) leaves.0
-
-pub returns-then-branch-clause-reading : goal.returns-then-branch-clause-reading
-returns-then-branch-clause-reading g c =
-    let (between, same, width, words, paid) = c.rows.invariant in
-    let settings = c.args.ctx.now.held.settings in
-    let bits = c.args.reader.now.bits in
-    let is : c.check_eob.result ≡ Ok true = c.in_ok-check_eob.was ∙ ap (λ (b : Bool). Ok b) c.if-branch.true in
-    (ends_group3 settings c.requires.columns bits g.D.Decoder.step (g.D.Decoder.width c.args.decoder.now)
-    (record { meaning = g.D.Decoder.meaning c.args.decoder.now; refused = g.D.Decoder.has_refused c.args.decoder.now }) (record { meaning = g.D.Decoder.meaning c.rows.decoder; refused = g.D.Decoder.has_refused c.rows.decoder })
-    c.rows.ctx.held (here c.rows.reader) between (g.D.Decoder.width c.rows.decoder) width
-    (record { meaning = g.D.Decoder.meaning c.read_row.new.decoder; refused = g.D.Decoder.has_refused c.read_row.new.decoder }) c.read_row.new.ctx.held (here c.read_row.new.reader)
-    c.in_ok-read_row.ensures.row c.check_eob.new.ctx.held (here c.check_eob.new.reader) c.check_eob.result c.check_eob.ensures.gap c.check_eob.ensures.held is (c.in_ok-check_eob.ensures.given_up c.if-branch.true)).0
-
 pub rows-smaller : goal.rows-smaller
 rows-smaller g c =
     let (between, same, width, words, paid) = c.rows.invariant in
     let settings = c.args.ctx.now.held.settings in
     let bits = c.args.reader.now.bits in
     let is : c.check_eob.result ≡ Ok false = c.in_ok-check_eob.was ∙ ap (λ (b : Bool). Ok b) c.if-branch.false in
-    next_shorter_group3 settings c.requires.columns bits g.D.Decoder.step (g.D.Decoder.width c.args.decoder.now)
-    (record { meaning = g.D.Decoder.meaning c.args.decoder.now; refused = g.D.Decoder.has_refused c.args.decoder.now }) (record { meaning = g.D.Decoder.meaning c.rows.decoder; refused = g.D.Decoder.has_refused c.rows.decoder })
-    c.rows.ctx.held (here c.rows.reader) between (g.D.Decoder.width c.rows.decoder) width
-    (record { meaning = g.D.Decoder.meaning c.read_row.new.decoder; refused = g.D.Decoder.has_refused c.read_row.new.decoder }) c.read_row.new.ctx.held (here c.read_row.new.reader)
+    next_shorter_group3 settings c.requires.columns bits g.D.Decoder.step _ _ _ _ _ between _ width _ _ _
     c.in_ok-read_row.ensures.row c.check_eob.new.ctx.held (here c.check_eob.new.reader) c.check_eob.result c.check_eob.ensures.gap c.check_eob.ensures.held is
 
 pub rows-preserved : goal.rows-preserved
@@ -130,90 +75,86 @@ rows-preserved g c =
     let settings = c.args.ctx.now.held.settings in
     let bits = c.args.reader.now.bits in
     let is : c.check_eob.result ≡ Ok false = c.in_ok-check_eob.was ∙ ap (λ (b : Bool). Ok b) c.if-branch.false in
-    let next = next_between_group3 settings c.requires.columns bits g.D.Decoder.step (g.D.Decoder.width c.args.decoder.now)
-    (record { meaning = g.D.Decoder.meaning c.args.decoder.now; refused = g.D.Decoder.has_refused c.args.decoder.now }) (record { meaning = g.D.Decoder.meaning c.rows.decoder; refused = g.D.Decoder.has_refused c.rows.decoder })
-    c.rows.ctx.held (here c.rows.reader) between (g.D.Decoder.width c.rows.decoder) width
-    (record { meaning = g.D.Decoder.meaning c.read_row.new.decoder; refused = g.D.Decoder.has_refused c.read_row.new.decoder }) c.read_row.new.ctx.held (here c.read_row.new.reader)
+    let next = next_between_group3 settings c.requires.columns bits g.D.Decoder.step _ _ _ _ _ between _ width _ _ _
     c.in_ok-read_row.ensures.row c.check_eob.new.ctx.held (here c.check_eob.new.reader) c.check_eob.result c.check_eob.ensures.gap c.check_eob.ensures.held is in
     let within : length (here c.rows.reader) ≤ length bits = omega (arith, length-drop c.rows.reader.place c.rows.reader.bits, ap length same) in
-    let found = words_are settings c.requires.columns bits g.D.Decoder.step (g.D.Decoder.width c.args.decoder.now)
-    (record { meaning = g.D.Decoder.meaning c.args.decoder.now; refused = g.D.Decoder.has_refused c.args.decoder.now }) (record { meaning = g.D.Decoder.meaning c.rows.decoder; refused = g.D.Decoder.has_refused c.rows.decoder })
-    c.rows.ctx.held (here c.rows.reader) between (g.D.Decoder.width c.rows.decoder) width
-    (record { meaning = g.D.Decoder.meaning c.read_row.new.decoder; refused = g.D.Decoder.has_refused c.read_row.new.decoder }) c.read_row.new.ctx.held (here c.read_row.new.reader) in
-    let counted = next_counted_group3 settings c.requires.columns bits g.D.Decoder.step (g.D.Decoder.width c.args.decoder.now)
-    (record { meaning = g.D.Decoder.meaning c.args.decoder.now; refused = g.D.Decoder.has_refused c.args.decoder.now }) (record { meaning = g.D.Decoder.meaning c.rows.decoder; refused = g.D.Decoder.has_refused c.rows.decoder })
-    c.rows.ctx.held (here c.rows.reader) between (g.D.Decoder.width c.rows.decoder) width
-    (record { meaning = g.D.Decoder.meaning c.read_row.new.decoder; refused = g.D.Decoder.has_refused c.read_row.new.decoder }) c.read_row.new.ctx.held (here c.read_row.new.reader)
+    let found = words_are settings bits between in
+    let counted = next_counted_group3 settings c.requires.columns bits g.D.Decoder.step _ _ _ _ _ between _ width _ _ _
     c.in_ok-read_row.ensures.row c.check_eob.new.ctx.held (here c.check_eob.new.reader) c.check_eob.result c.check_eob.ensures.gap c.check_eob.ensures.held is
     c.args.ctx.now.ticks c.rows.ctx.ticks c.check_eob.new.ctx.ticks words (omega (arith, found, c.in_ok-read_row.ensures.at_least, c.check_eob.ensures.counts)) in
     let gap = c.check_eob.ensures.gap ∙ ap (λ (a : Result Bool DecodeError). gap_said a c.check_eob.new.ctx.held.has_eols (here c.check_eob.new.reader)) is in
-    let goes_on = next_paid_group3 settings c.requires.columns bits g.D.Decoder.step (g.D.Decoder.width c.args.decoder.now)
-    (record { meaning = g.D.Decoder.meaning c.args.decoder.now; refused = g.D.Decoder.has_refused c.args.decoder.now }) (record { meaning = g.D.Decoder.meaning c.rows.decoder; refused = g.D.Decoder.has_refused c.rows.decoder })
-    c.rows.ctx.held (here c.rows.reader) between (g.D.Decoder.width c.rows.decoder) width
-    (record { meaning = g.D.Decoder.meaning c.read_row.new.decoder; refused = g.D.Decoder.has_refused c.read_row.new.decoder }) c.read_row.new.ctx.held (here c.read_row.new.reader)
+    let goes_on = next_paid_group3 settings c.requires.columns bits g.D.Decoder.step _ _ _ _ _ between _ width _ _ _
     within c.args.ctx.now.ticks c.rows.ctx.ticks paid c.read_row.new.ctx.ticks c.in_ok-read_row.ensures.at_most c.in_ok-read_row.ensures.row
     c.check_eob.new.ctx.ticks c.check_eob.new.ctx.held (here c.check_eob.new.reader) gap c.check_eob.ensures.held c.in_ok-read_row.ensures.stored
     c.in_ok-check_eob.ensures.work c.in_ok-check_eob.ensures.work_given_up in
     (next, c.check_eob.ensures.same_bits ∙ c.read_row.ensures.same_bits ∙ same, c.read_row.ensures.width ∙ width, counted, goes_on)
 
-pub returns-in_err-read_row-clause-work : goal.returns-in_err-read_row-clause-work
-returns-in_err-read_row-clause-work g c =
+pub returns-in_err-read_row-clause-rows : goal.returns-in_err-read_row-clause-rows
+returns-in_err-read_row-clause-rows g c =
     let (between, same, width, words, paid) = c.rows.invariant in
     let settings = c.args.ctx.now.held.settings in
     let bits = c.args.reader.now.bits in
+    let answer = err_from_is_err_and c.from_residual.result c.from_residual.ensures.1 in
+    let leaves = fails_group3 settings c.requires.columns bits g.D.Decoder.step _ _ _ _ _ between _ width _ _ _ c.in_err-read_row.field-0.0 c.in_err-read_row.ensures.row in
     let within : length (here c.rows.reader) ≤ length bits = omega (arith, length-drop c.rows.reader.place c.rows.reader.bits, ap length same) in
     let taken = ap (λ (h : Held). h.taken) c.in_err-read_row.ensures.row.held in
-    counted_ends (move_group3 settings) (words_of_move_group3 settings) left_group3 (by_rows_group3 settings c.requires.columns) (start_group3 settings bits) refl between.so_far
-    c.args.ctx.now.ticks c.rows.ctx.ticks words c.read_row.new.ctx.held.taken c.read_row.new.ctx.ticks (36 * length bits + 14)
-    (taken ∙ ap (λ (h : Held). h.taken) between.held) c.in_err-read_row.ensures.counts
-    (fails_paid_group3 settings c.requires.columns bits g.D.Decoder.step (g.D.Decoder.width c.args.decoder.now)
-    (record { meaning = g.D.Decoder.meaning c.args.decoder.now; refused = g.D.Decoder.has_refused c.args.decoder.now }) (record { meaning = g.D.Decoder.meaning c.rows.decoder; refused = g.D.Decoder.has_refused c.rows.decoder })
-    c.rows.ctx.held (here c.rows.reader) between (g.D.Decoder.width c.rows.decoder) width
-    (record { meaning = g.D.Decoder.meaning c.read_row.new.decoder; refused = g.D.Decoder.has_refused c.read_row.new.decoder }) c.read_row.new.ctx.held (here c.read_row.new.reader)
-    within c.args.ctx.now.ticks c.rows.ctx.ticks paid c.read_row.new.ctx.ticks c.in_err-read_row.ensures.at_most)
+    rw (answer.1, answer.2) (
+    record {
+      settings = search rules;
+      reading = leaves.0;
+      short = leaves.1;
+      work = counted_ends (move_group3 settings) (words_of_move_group3 settings) left_group3 (by_rows_group3 settings c.requires.columns) (start_group3 settings bits) refl between.so_far
+          c.args.ctx.now.ticks c.rows.ctx.ticks words c.read_row.new.ctx.held.taken c.read_row.new.ctx.ticks (36 * length bits + 14)
+          (taken ∙ ap (λ (h : Held). h.taken) between.held) c.in_err-read_row.ensures.counts
+          (fails_paid_group3 settings c.requires.columns bits g.D.Decoder.step _ _ _ _ _ between _ width
+          (record { meaning = g.D.Decoder.meaning c.read_row.new.decoder; refused = g.D.Decoder.has_refused c.read_row.new.decoder }) c.read_row.new.ctx.held (here c.read_row.new.reader) within
+          c.args.ctx.now.ticks c.rows.ctx.ticks paid c.read_row.new.ctx.ticks c.in_err-read_row.ensures.at_most);
+    }
+    )
 
-pub returns-in_err-check_eob-clause-work : goal.returns-in_err-check_eob-clause-work
-returns-in_err-check_eob-clause-work g c =
+pub returns-in_err-check_eob-clause-rows : goal.returns-in_err-check_eob-clause-rows
+returns-in_err-check_eob-clause-rows g c =
     let (between, same, width, words, paid) = c.rows.invariant in
     let settings = c.args.ctx.now.held.settings in
     let bits = c.args.reader.now.bits in
+    let answer = err_from_is_err_and c.from_residual-in_err-check_eob.result c.from_residual-in_err-check_eob.ensures.1 in
+    let code : c.in_err-check_eob.field-0.0 ≡ InvalidCode = c.in_err-check_eob.ensures.only_code in
+    let leaves = misses_group3 settings c.requires.columns bits g.D.Decoder.step _ _ _ _ _ between _ width _ _ _
+    c.in_ok-read_row.ensures.row c.check_eob.new.ctx.held (here c.check_eob.new.reader) c.check_eob.result c.check_eob.ensures.gap c.check_eob.ensures.held c.in_err-check_eob.field-0.0 c.in_err-check_eob.was (subst IsFault (sym code) tt) c.in_err-check_eob.ensures.kept in
     let within : length (here c.rows.reader) ≤ length bits = omega (arith, length-drop c.rows.reader.place c.rows.reader.bits, ap length same) in
-    let found = words_are settings c.requires.columns bits g.D.Decoder.step (g.D.Decoder.width c.args.decoder.now)
-    (record { meaning = g.D.Decoder.meaning c.args.decoder.now; refused = g.D.Decoder.has_refused c.args.decoder.now }) (record { meaning = g.D.Decoder.meaning c.rows.decoder; refused = g.D.Decoder.has_refused c.rows.decoder })
-    c.rows.ctx.held (here c.rows.reader) between (g.D.Decoder.width c.rows.decoder) width
-    (record { meaning = g.D.Decoder.meaning c.read_row.new.decoder; refused = g.D.Decoder.has_refused c.read_row.new.decoder }) c.read_row.new.ctx.held (here c.read_row.new.reader) in
-    last_counted_group3 settings c.requires.columns bits g.D.Decoder.step (g.D.Decoder.width c.args.decoder.now)
-    (record { meaning = g.D.Decoder.meaning c.args.decoder.now; refused = g.D.Decoder.has_refused c.args.decoder.now }) (record { meaning = g.D.Decoder.meaning c.rows.decoder; refused = g.D.Decoder.has_refused c.rows.decoder })
-    c.rows.ctx.held (here c.rows.reader) between (g.D.Decoder.width c.rows.decoder) width
-    (record { meaning = g.D.Decoder.meaning c.read_row.new.decoder; refused = g.D.Decoder.has_refused c.read_row.new.decoder }) c.read_row.new.ctx.held (here c.read_row.new.reader)
-    c.in_ok-read_row.ensures.row c.check_eob.new.ctx.held (here c.check_eob.new.reader) c.check_eob.result c.check_eob.ensures.gap c.check_eob.ensures.held
-    c.args.ctx.now.ticks c.rows.ctx.ticks c.check_eob.new.ctx.ticks (36 * length bits + 14) words (omega (arith, found, c.in_ok-read_row.ensures.at_least, c.check_eob.ensures.counts))
-    (misses_paid_group3 settings c.requires.columns bits g.D.Decoder.step (g.D.Decoder.width c.args.decoder.now)
-    (record { meaning = g.D.Decoder.meaning c.args.decoder.now; refused = g.D.Decoder.has_refused c.args.decoder.now }) (record { meaning = g.D.Decoder.meaning c.rows.decoder; refused = g.D.Decoder.has_refused c.rows.decoder })
-    c.rows.ctx.held (here c.rows.reader) between (g.D.Decoder.width c.rows.decoder) width
-    (record { meaning = g.D.Decoder.meaning c.read_row.new.decoder; refused = g.D.Decoder.has_refused c.read_row.new.decoder }) c.read_row.new.ctx.held (here c.read_row.new.reader)
-    within c.args.ctx.now.ticks c.rows.ctx.ticks paid c.read_row.new.ctx.ticks c.in_ok-read_row.ensures.at_most c.in_ok-read_row.ensures.row
-    c.check_eob.new.ctx.ticks (omega (arith, c.in_err-check_eob.ensures.work_refused, looked_most (here c.read_row.new.reader))))
+    let found = words_are settings bits between in
+    rw (answer.1, answer.2) (
+    record {
+      settings = search rules;
+      reading = leaves.0;
+      short = leaves.1;
+      work = last_counted_group3 settings c.requires.columns bits g.D.Decoder.step _ _ _ _ _ between _ width _ _ _
+          c.in_ok-read_row.ensures.row c.check_eob.new.ctx.held (here c.check_eob.new.reader) c.check_eob.result c.check_eob.ensures.gap c.check_eob.ensures.held
+          c.args.ctx.now.ticks c.rows.ctx.ticks c.check_eob.new.ctx.ticks (36 * length bits + 14) words (omega (arith, found, c.in_ok-read_row.ensures.at_least, c.check_eob.ensures.counts))
+          (misses_paid_group3 settings c.requires.columns bits g.D.Decoder.step _ _ _ _ _ between _ width _ _ _
+          within c.args.ctx.now.ticks c.rows.ctx.ticks paid c.read_row.new.ctx.ticks c.in_ok-read_row.ensures.at_most c.in_ok-read_row.ensures.row
+          c.check_eob.new.ctx.ticks (omega (arith, c.in_err-check_eob.ensures.work_refused, looked_most (here c.read_row.new.reader))));
+    }
+    )
 
-pub returns-then-branch-clause-work : goal.returns-then-branch-clause-work
-returns-then-branch-clause-work g c =
+pub returns-then-branch-clause-rows : goal.returns-then-branch-clause-rows
+returns-then-branch-clause-rows g c =
     let (between, same, width, words, paid) = c.rows.invariant in
     let settings = c.args.ctx.now.held.settings in
     let bits = c.args.reader.now.bits in
+    let is : c.check_eob.result ≡ Ok true = c.in_ok-check_eob.was ∙ ap (λ (b : Bool). Ok b) c.if-branch.true in
+    let leaves = ends_group3 settings c.requires.columns bits g.D.Decoder.step _ _ _ _ _ between _ width _ _ _
+    c.in_ok-read_row.ensures.row c.check_eob.new.ctx.held (here c.check_eob.new.reader) c.check_eob.result c.check_eob.ensures.gap c.check_eob.ensures.held is (c.in_ok-check_eob.ensures.given_up c.if-branch.true) in
     let within : length (here c.rows.reader) ≤ length bits = omega (arith, length-drop c.rows.reader.place c.rows.reader.bits, ap length same) in
-    let found = words_are settings c.requires.columns bits g.D.Decoder.step (g.D.Decoder.width c.args.decoder.now)
-    (record { meaning = g.D.Decoder.meaning c.args.decoder.now; refused = g.D.Decoder.has_refused c.args.decoder.now }) (record { meaning = g.D.Decoder.meaning c.rows.decoder; refused = g.D.Decoder.has_refused c.rows.decoder })
-    c.rows.ctx.held (here c.rows.reader) between (g.D.Decoder.width c.rows.decoder) width
-    (record { meaning = g.D.Decoder.meaning c.read_row.new.decoder; refused = g.D.Decoder.has_refused c.read_row.new.decoder }) c.read_row.new.ctx.held (here c.read_row.new.reader) in
-    last_counted_group3 settings c.requires.columns bits g.D.Decoder.step (g.D.Decoder.width c.args.decoder.now)
-    (record { meaning = g.D.Decoder.meaning c.args.decoder.now; refused = g.D.Decoder.has_refused c.args.decoder.now }) (record { meaning = g.D.Decoder.meaning c.rows.decoder; refused = g.D.Decoder.has_refused c.rows.decoder })
-    c.rows.ctx.held (here c.rows.reader) between (g.D.Decoder.width c.rows.decoder) width
-    (record { meaning = g.D.Decoder.meaning c.read_row.new.decoder; refused = g.D.Decoder.has_refused c.read_row.new.decoder }) c.read_row.new.ctx.held (here c.read_row.new.reader)
-    c.in_ok-read_row.ensures.row c.check_eob.new.ctx.held (here c.check_eob.new.reader) c.check_eob.result c.check_eob.ensures.gap c.check_eob.ensures.held
-    c.args.ctx.now.ticks c.rows.ctx.ticks c.check_eob.new.ctx.ticks (36 * length bits + 14) words (omega (arith, found, c.in_ok-read_row.ensures.at_least, c.check_eob.ensures.counts))
-    (ends_paid_group3 settings c.requires.columns bits g.D.Decoder.step (g.D.Decoder.width c.args.decoder.now)
-    (record { meaning = g.D.Decoder.meaning c.args.decoder.now; refused = g.D.Decoder.has_refused c.args.decoder.now }) (record { meaning = g.D.Decoder.meaning c.rows.decoder; refused = g.D.Decoder.has_refused c.rows.decoder })
-    c.rows.ctx.held (here c.rows.reader) between (g.D.Decoder.width c.rows.decoder) width
-    (record { meaning = g.D.Decoder.meaning c.read_row.new.decoder; refused = g.D.Decoder.has_refused c.read_row.new.decoder }) c.read_row.new.ctx.held (here c.read_row.new.reader)
-    within c.args.ctx.now.ticks c.rows.ctx.ticks paid c.read_row.new.ctx.ticks c.in_ok-read_row.ensures.at_most c.in_ok-read_row.ensures.row
-    c.check_eob.new.ctx.ticks (here c.check_eob.new.reader) (c.in_ok-check_eob.ensures.work (c.in_ok-check_eob.ensures.given_up c.if-branch.true)))
+    let found = words_are settings bits between in
+    record {
+      settings = search rules;
+      reading = leaves.0;
+      short = leaves.1;
+      work = last_counted_group3 settings c.requires.columns bits g.D.Decoder.step _ _ _ _ _ between _ width _ _ _
+          c.in_ok-read_row.ensures.row c.check_eob.new.ctx.held (here c.check_eob.new.reader) c.check_eob.result c.check_eob.ensures.gap c.check_eob.ensures.held
+          c.args.ctx.now.ticks c.rows.ctx.ticks c.check_eob.new.ctx.ticks (36 * length bits + 14) words (omega (arith, found, c.in_ok-read_row.ensures.at_least, c.check_eob.ensures.counts))
+          (ends_paid_group3 settings c.requires.columns bits g.D.Decoder.step _ _ _ _ _ between _ width _ _ _
+          within c.args.ctx.now.ticks c.rows.ctx.ticks paid c.read_row.new.ctx.ticks c.in_ok-read_row.ensures.at_most c.in_ok-read_row.ensures.row
+          c.check_eob.new.ctx.ticks (here c.check_eob.new.reader) (c.in_ok-check_eob.ensures.work (c.in_ok-check_eob.ensures.given_up c.if-branch.true)));
+    }

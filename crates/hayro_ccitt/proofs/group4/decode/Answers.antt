@@ -1,4 +1,4 @@
-use Rattle.std.proofs.Common.{◌≤◌, ◌+◌, ◌*◌, ℕ, length, drop, refl, ap, ◌∙◌, arith}
+use Rattle.std.proofs.Common.{rules, ◌≤◌, ◌+◌, ◌*◌, ℕ, length, drop, refl, ap, ◌∙◌, arith}
 use Rattle.std.proofs.lemmas.Result.{err_from_is_err_and}
 use Rattle.std.proofs.lemmas.List.{length-drop}
 use Rattle.hayro_ccitt.specs.Bits.{here}
@@ -6,7 +6,7 @@ use Rattle.hayro_ccitt.specs.Context.{Held}
 use Rattle.hayro_ccitt.specs.PlainReading.{move_group4, lines_of_move_group4, start_group4}
 use Rattle.hayro_ccitt.proofs.Readings.TurnsMoveOn.{left}
 use Rattle.hayro_ccitt.proofs.Readings.RunsOverRows.{comes_first}
-use Rattle.hayro_ccitt.proofs.Readings.RowsOfGroup4.{by_rows_group4, fails_group4, next_between, next_counted, next_eols, next_paid, next_shorter, words_are}
+use Rattle.hayro_ccitt.proofs.Readings.RowsOfGroup4.{by_rows_group4, ends_group4, fails_group4, next_between, next_counted, next_eols, next_paid, next_shorter, words_are}
 use Rattle.hayro_ccitt.specs.Rows.{changes}
 use Rattle.hayro_ccitt.specs.Answers.{words_from_2d}
 use Rattle.hayro_ccitt.specs.declared.settings.EncodingMode.TheVariants.{Group4}
@@ -49,48 +49,23 @@ rows-smaller g c =
     let (between, eols, same, width, words, most) = c.rows.invariant in
     let settings = c.args.ctx.now.held.settings in
     let bits = c.args.reader.now.bits in
-    next_shorter settings c.requires.columns bits g.D.Decoder.step (g.D.Decoder.width c.args.decoder.now)
-    (record { meaning = g.D.Decoder.meaning c.args.decoder.now; refused = g.D.Decoder.has_refused c.args.decoder.now })
-    (record { meaning = g.D.Decoder.meaning c.rows.decoder; refused = g.D.Decoder.has_refused c.rows.decoder }) c.rows.ctx.held (here c.rows.reader) between
-    c.before_line.result (here c.before_line.new.reader) c.before_line.ensures.gap c.if-before_line.false c.before_line.new.ctx.held c.before_line.ensures.held
-    (g.D.Decoder.width c.rows.decoder) width (record { meaning = g.D.Decoder.meaning c.read_row.new.decoder; refused = g.D.Decoder.has_refused c.read_row.new.decoder })
-    c.read_row.new.ctx.held (here c.read_row.new.reader) c.in_ok-read_row.ensures.row
+    next_shorter settings c.requires.columns bits g.D.Decoder.step _ _ _ _ _ between
+    _ _ c.before_line.ensures.gap c.if-before_line.false _ c.before_line.ensures.held _ width _ _ _ c.in_ok-read_row.ensures.row
 
 pub rows-preserved : goal.rows-preserved
 rows-preserved g c =
     let (between, eols, same, width, words, most) = c.rows.invariant in
     let settings = c.args.ctx.now.held.settings in
     let bits = c.args.reader.now.bits in
-    let next = next_between settings c.requires.columns bits g.D.Decoder.step (g.D.Decoder.width c.args.decoder.now)
-    (record { meaning = g.D.Decoder.meaning c.args.decoder.now; refused = g.D.Decoder.has_refused c.args.decoder.now })
-    (record { meaning = g.D.Decoder.meaning c.rows.decoder; refused = g.D.Decoder.has_refused c.rows.decoder }) c.rows.ctx.held (here c.rows.reader) between
-    c.before_line.result (here c.before_line.new.reader) c.before_line.ensures.gap c.if-before_line.false c.before_line.new.ctx.held c.before_line.ensures.held
-    (g.D.Decoder.width c.rows.decoder) width (record { meaning = g.D.Decoder.meaning c.read_row.new.decoder; refused = g.D.Decoder.has_refused c.read_row.new.decoder })
-    c.read_row.new.ctx.held (here c.read_row.new.reader) c.in_ok-read_row.ensures.row in
-    let none = next_eols settings c.requires.columns bits g.D.Decoder.step (g.D.Decoder.width c.args.decoder.now)
-    (record { meaning = g.D.Decoder.meaning c.args.decoder.now; refused = g.D.Decoder.has_refused c.args.decoder.now })
-    (record { meaning = g.D.Decoder.meaning c.rows.decoder; refused = g.D.Decoder.has_refused c.rows.decoder }) c.rows.ctx.held (here c.rows.reader) between
-    c.before_line.result (here c.before_line.new.reader) c.before_line.ensures.gap c.if-before_line.false c.before_line.new.ctx.held c.before_line.ensures.held
-    (g.D.Decoder.width c.rows.decoder) width (record { meaning = g.D.Decoder.meaning c.read_row.new.decoder; refused = g.D.Decoder.has_refused c.read_row.new.decoder })
-    c.read_row.new.ctx.held (here c.read_row.new.reader) c.in_ok-read_row.ensures.row in
-    let counted = next_counted settings c.requires.columns bits g.D.Decoder.step (g.D.Decoder.width c.args.decoder.now)
-    (record { meaning = g.D.Decoder.meaning c.args.decoder.now; refused = g.D.Decoder.has_refused c.args.decoder.now })
-    (record { meaning = g.D.Decoder.meaning c.rows.decoder; refused = g.D.Decoder.has_refused c.rows.decoder }) c.rows.ctx.held (here c.rows.reader) between
-    c.before_line.result (here c.before_line.new.reader) c.before_line.ensures.gap c.if-before_line.false c.before_line.new.ctx.held c.before_line.ensures.held
-    (g.D.Decoder.width c.rows.decoder) width (record { meaning = g.D.Decoder.meaning c.read_row.new.decoder; refused = g.D.Decoder.has_refused c.read_row.new.decoder })
-    c.read_row.new.ctx.held (here c.read_row.new.reader) c.in_ok-read_row.ensures.row c.args.ctx.now.ticks c.rows.ctx.ticks c.read_row.new.ctx.ticks words in
-    let paid = next_paid settings c.requires.columns bits g.D.Decoder.step (g.D.Decoder.width c.args.decoder.now)
-    (record { meaning = g.D.Decoder.meaning c.args.decoder.now; refused = g.D.Decoder.has_refused c.args.decoder.now })
-    (record { meaning = g.D.Decoder.meaning c.rows.decoder; refused = g.D.Decoder.has_refused c.rows.decoder }) c.rows.ctx.held (here c.rows.reader) between
-    c.before_line.result (here c.before_line.new.reader) c.before_line.ensures.gap c.if-before_line.false c.before_line.new.ctx.held c.before_line.ensures.held
-    (g.D.Decoder.width c.rows.decoder) width (record { meaning = g.D.Decoder.meaning c.read_row.new.decoder; refused = g.D.Decoder.has_refused c.read_row.new.decoder })
-    c.read_row.new.ctx.held (here c.read_row.new.reader) c.in_ok-read_row.ensures.row in
-    let found = words_are settings c.requires.columns bits g.D.Decoder.step (g.D.Decoder.width c.args.decoder.now)
-    (record { meaning = g.D.Decoder.meaning c.args.decoder.now; refused = g.D.Decoder.has_refused c.args.decoder.now })
-    (record { meaning = g.D.Decoder.meaning c.rows.decoder; refused = g.D.Decoder.has_refused c.rows.decoder }) c.rows.ctx.held (here c.rows.reader) between
-    c.before_line.result (here c.before_line.new.reader) c.before_line.ensures.gap c.if-before_line.false c.before_line.new.ctx.held c.before_line.ensures.held
-    (g.D.Decoder.width c.rows.decoder) width (record { meaning = g.D.Decoder.meaning c.read_row.new.decoder; refused = g.D.Decoder.has_refused c.read_row.new.decoder })
-    c.read_row.new.ctx.held (here c.read_row.new.reader) in
+    let next = next_between settings c.requires.columns bits g.D.Decoder.step _ _ _ _ _ between
+    _ _ c.before_line.ensures.gap c.if-before_line.false _ c.before_line.ensures.held _ width _ _ _ c.in_ok-read_row.ensures.row in
+    let none = next_eols settings c.requires.columns bits g.D.Decoder.step _ _ _ _ _ between
+    _ _ c.before_line.ensures.gap c.if-before_line.false _ c.before_line.ensures.held _ width _ _ _ c.in_ok-read_row.ensures.row in
+    let counted = next_counted settings c.requires.columns bits g.D.Decoder.step _ _ _ _ _ between
+    _ _ c.before_line.ensures.gap c.if-before_line.false _ c.before_line.ensures.held _ width _ _ _ c.in_ok-read_row.ensures.row c.args.ctx.now.ticks c.rows.ctx.ticks c.read_row.new.ctx.ticks words in
+    let paid = next_paid settings c.requires.columns bits g.D.Decoder.step _ _ _ _ _ between
+    _ _ c.before_line.ensures.gap c.if-before_line.false _ c.before_line.ensures.held _ width _ _ _ c.in_ok-read_row.ensures.row in
+    let found = words_are settings bits between (here c.before_line.new.reader) c.before_line.ensures.held in
     let stored = ap (λ (h : Held). length (changes h.reference)) c.before_line.ensures.held in (
       next,
       none ∙ eols,
@@ -100,66 +75,56 @@ rows-preserved g c =
       omega (arith, most, c.before_line.ensures.work, c.before_line.ensures.forward, c.in_ok-read_row.ensures.at_most, c.in_ok-read_row.ensures.stored, stored, found, paid.some, paid.words, paid.zeros),
     )
 
-pub returns-in_err-read_row-clause-reading : goal.returns-in_err-read_row-clause-reading
-returns-in_err-read_row-clause-reading g c =
+pub returns-then-before_line-clause-rows : goal.returns-then-before_line-clause-rows
+returns-then-before_line-clause-rows g c =
     let (between, eols, same, width, words, most) = c.rows.invariant in
     let settings = c.args.ctx.now.held.settings in
     let bits = c.args.reader.now.bits in
-    let answer = err_from_is_err_and c.from_residual.result c.from_residual.ensures.1 in
-    rw (answer.1, answer.2) (fails_group4 settings c.requires.columns bits g.D.Decoder.step (g.D.Decoder.width c.args.decoder.now)
-    (record { meaning = g.D.Decoder.meaning c.args.decoder.now; refused = g.D.Decoder.has_refused c.args.decoder.now })
-    (record { meaning = g.D.Decoder.meaning c.rows.decoder; refused = g.D.Decoder.has_refused c.rows.decoder }) c.rows.ctx.held (here c.rows.reader) between
-    c.before_line.result (here c.before_line.new.reader) c.before_line.ensures.gap c.if-before_line.false c.before_line.new.ctx.held c.before_line.ensures.held
-    (g.D.Decoder.width c.rows.decoder) width (record { meaning = g.D.Decoder.meaning c.read_row.new.decoder; refused = g.D.Decoder.has_refused c.read_row.new.decoder })
-    c.read_row.new.ctx.held (here c.read_row.new.reader) c.in_err-read_row.field-0.0 c.in_err-read_row.ensures.row).0
-
-pub returns-in_err-read_row-clause-short : goal.returns-in_err-read_row-clause-short
-returns-in_err-read_row-clause-short g c =
-    let (between, eols, same, width, words, most) = c.rows.invariant in
-    let settings = c.args.ctx.now.held.settings in
-    let bits = c.args.reader.now.bits in
-    let answer = err_from_is_err_and c.from_residual.result c.from_residual.ensures.1 in
-    rw (answer.1, answer.2) (fails_group4 settings c.requires.columns bits g.D.Decoder.step (g.D.Decoder.width c.args.decoder.now)
-    (record { meaning = g.D.Decoder.meaning c.args.decoder.now; refused = g.D.Decoder.has_refused c.args.decoder.now })
-    (record { meaning = g.D.Decoder.meaning c.rows.decoder; refused = g.D.Decoder.has_refused c.rows.decoder }) c.rows.ctx.held (here c.rows.reader) between
-    c.before_line.result (here c.before_line.new.reader) c.before_line.ensures.gap c.if-before_line.false c.before_line.new.ctx.held c.before_line.ensures.held
-    (g.D.Decoder.width c.rows.decoder) width (record { meaning = g.D.Decoder.meaning c.read_row.new.decoder; refused = g.D.Decoder.has_refused c.read_row.new.decoder })
-    c.read_row.new.ctx.held (here c.read_row.new.reader) c.in_err-read_row.field-0.0 c.in_err-read_row.ensures.row).1
-
-pub returns-then-before_line-clause-work : goal.returns-then-before_line-clause-work
-returns-then-before_line-clause-work g c =
-    let (between, eols, same, width, words, most) = c.rows.invariant in
-    let settings = c.args.ctx.now.held.settings in
-    let bits = c.args.reader.now.bits in
+    let leaves = ends_group4 settings c.requires.columns bits g.D.Decoder.step _ _ _ _ _ between _ _ c.before_line.ensures.gap c.if-before_line.true in
     let begun = c.args.ctx.now.ticks in
     let counted = c.before_line.ensures.work in
     let ahead = looked_most (here c.before_line.new.reader) in
-    counted_ends (move_group4 settings) (words_of_move_group4 settings) left (by_rows_group4 settings c.requires.columns) (start_group4 bits) refl between.so_far begun c.rows.ctx.ticks words
-    c.before_line.new.ctx.held.taken c.before_line.new.ctx.ticks (22 * length bits + 1) (ap (λ (h : Held). h.taken) (c.before_line.ensures.held ∙ between.held)) c.before_line.ensures.counts
-    (omega (arith, most, counted, ahead))
+    record {
+      settings = search rules;
+      reading = search rules;
+      short = search rules;
+      work = counted_ends (move_group4 settings) (words_of_move_group4 settings) left (by_rows_group4 settings c.requires.columns) (start_group4 bits) refl between.so_far begun c.rows.ctx.ticks words
+          c.before_line.new.ctx.held.taken c.before_line.new.ctx.ticks (22 * length bits + 1) (ap (λ (h : Held). h.taken) (c.before_line.ensures.held ∙ between.held)) c.before_line.ensures.counts
+          (omega (arith, most, counted, ahead));
+    }
 
-pub returns-in_err-read_row-clause-work : goal.returns-in_err-read_row-clause-work
-returns-in_err-read_row-clause-work g c =
+pub returns-in_err-read_row-clause-rows : goal.returns-in_err-read_row-clause-rows
+returns-in_err-read_row-clause-rows g c =
     let (between, eols, same, width, words, most) = c.rows.invariant in
     let settings = c.args.ctx.now.held.settings in
     let bits = c.args.reader.now.bits in
-    let begun = c.args.ctx.now.ticks in
+    let answer = err_from_is_err_and c.from_residual.result c.from_residual.ensures.1 in
+    let leaves = fails_group4 settings c.requires.columns bits g.D.Decoder.step _ _ _ _ _ between
+    _ _ c.before_line.ensures.gap c.if-before_line.false _ c.before_line.ensures.held _ width _ _ _ c.in_err-read_row.field-0.0 c.in_err-read_row.ensures.row in
     let middle : Held = c.before_line.new.ctx.held in
     let reader = c.before_line.new.reader in
     let found : length (words_from_2d middle (here reader)) ≤ length (here reader)
     = found_within Group4 middle.settings.strict middle.settings.columns middle.reference (here reader) in
     let taken = ap (λ (h : Held). h.taken) c.in_err-read_row.ensures.row.held in
-    counted_ends (move_group4 settings) (words_of_move_group4 settings) left (by_rows_group4 settings c.requires.columns) (start_group4 bits) refl between.so_far begun c.rows.ctx.ticks words
-    c.read_row.new.ctx.held.taken c.read_row.new.ctx.ticks (22 * length bits + 1) (taken ∙ ap (λ (h : Held). h.taken) (c.before_line.ensures.held ∙ between.held))
-    (omega (arith, c.before_line.ensures.counts, c.in_err-read_row.ensures.counts))
-    (omega (
-      arith,
-      most,
-      c.before_line.ensures.work,
-      looked_most (here reader),
-      c.in_err-read_row.ensures.at_most,
-      found,
-      ap (λ (h : Held). length (changes h.reference)) c.before_line.ensures.held,
-      length-drop reader.place reader.bits,
-      ap length (c.before_line.ensures.same_bits ∙ same),
-    ))
+    rw (answer.1, answer.2) (
+    record {
+      settings = search rules;
+      reading = leaves.0;
+      short = leaves.1;
+      work = counted_ends (move_group4 settings) (words_of_move_group4 settings) left (by_rows_group4 settings c.requires.columns) (start_group4 bits) refl between.so_far
+          c.args.ctx.now.ticks c.rows.ctx.ticks words c.read_row.new.ctx.held.taken c.read_row.new.ctx.ticks (22 * length bits + 1)
+          (taken ∙ ap (λ (h : Held). h.taken) (c.before_line.ensures.held ∙ between.held))
+          (omega (arith, c.before_line.ensures.counts, c.in_err-read_row.ensures.counts))
+          (omega (
+            arith,
+            most,
+            c.before_line.ensures.work,
+            looked_most (here reader),
+            c.in_err-read_row.ensures.at_most,
+            found,
+            ap (λ (h : Held). length (changes h.reference)) c.before_line.ensures.held,
+            length-drop reader.place reader.bits,
+            ap length (c.before_line.ensures.same_bits ∙ same),
+          ));
+    }
+    )
