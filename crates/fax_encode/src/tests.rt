@@ -3,13 +3,12 @@
 
 ghost use Rattle.std.specs.Prelude.{◌<◌};
 
+use crate::round_trip::settings_to_the_end;
 use crate::{
     BitmapSink, EncodeError, bitmap_by_group3, bitmap_by_group4, encode_1d, encode_bitmap_1d,
     encode_bitmap_g4, encode_g4, paint_row,
 };
-use hayro_ccitt::{
-    DecodeError, DecodeSettings, Decoder, DecoderContext, EncodingMode, bits_fit, decode,
-};
+use hayro_ccitt::{DecodeError, Decoder, DecoderContext, EncodingMode, bits_fit, decode};
 use std::alloc::{AllocError, AllocGlobal, Global};
 use std::process::Abort;
 use std::test::Fail;
@@ -67,19 +66,6 @@ fn packs(
         bytes,
         "{columns} columns, aligned: {aligned}"
     );
-}
-
-/// Settings of strict one-dimensional Group 3 with EOLs and RTC.
-fn group_3_1d(columns: u32) -> DecodeSettings {
-    DecodeSettings {
-        columns,
-        rows: 0,
-        end_of_block: true,
-        end_of_line: true,
-        rows_are_byte_aligned: false,
-        encoding: EncodingMode::Group3_1D,
-        strict: true,
-    }
 }
 
 /// Encodes rows as one-dimensional Group 3, decodes them in a context, and compares the bitmap.
@@ -257,7 +243,8 @@ fn every_small_picture(rt: HostRuntime) -> Result<(), Fail> {
     let alloc = rt.alloc();
     for columns in 1..5u32 {
         let last = 4 - columns;
-        let Ok(mut ctx) = DecoderContext::new(alloc, group_3_1d(columns)) else {
+        let settings = settings_to_the_end(columns, EncodingMode::Group3_1D, false);
+        let Ok(mut ctx) = DecoderContext::new(alloc, settings) else {
             panic!(&rt; "no memory");
         };
         for picture in 0..1u16 << (3 * columns) {
