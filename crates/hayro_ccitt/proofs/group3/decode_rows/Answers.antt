@@ -1,4 +1,4 @@
-use Rattle.std.proofs.Common.{◌≡◌, ◌≤◌, ◌+◌, ◌*◌, Result, ℕ, Bool, true, false, ltb, ◌||◌, drop, length, Ok, refl, sym, ap, ◌∙◌, subst, arith}
+use Rattle.std.proofs.Common.{◌≡◌, ◌≤◌, ◌+◌, ◌*◌, Result, ℕ, Bool, true, false, ltb, ◌||◌, drop, length, Ok, Err, refl, sym, ap, ◌∙◌, subst, arith}
 use Rattle.std.proofs.lemmas.Result.{err_from_is_err_and}
 use Rattle.std.proofs.lemmas.List.{length-drop}
 use Rattle.hayro_ccitt.specs.declared.error.DecodeError.TheVariants.{InvalidCode}
@@ -6,17 +6,20 @@ use Rattle.hayro_ccitt.specs.Answers.{IsFault}
 use Rattle.hayro_ccitt.specs.Bits.{Bits, here}
 use Rattle.hayro_ccitt.specs.EndOfLine.{all_eols}
 use Rattle.hayro_ccitt.specs.Context.{Held}
-use Rattle.hayro_ccitt.specs.PlainReading.{move_group3, lines_of_move_group3, start_group3}
+use Rattle.hayro_ccitt.specs.PlainReading.{move_group3, lines_of_move_group3, start_group3, plain_group3, lines_by}
 use Rattle.hayro_ccitt.proofs.Readings.TurnsMoveOn.{eols_shorter, left_group3}
-use Rattle.hayro_ccitt.proofs.Readings.RunsOverRows.{comes_first, held_between}
+use Rattle.hayro_ccitt.proofs.Readings.RunsOverRows.{comes_first, held_between, Leaves}
 use Rattle.hayro_ccitt.proofs.Readings.RowsOfGroup3.{by_rows_group3, left_start, fails_group3, misses_group3, ends_group3, next_between_group3, next_counted_group3, next_paid_group3, next_shorter_group3, last_counted_group3, fails_paid_group3, misses_paid_group3, ends_paid_group3, words_are}
-use Rattle.hayro_ccitt.specs.Work.{words_of_move_group3}
+use Rattle.hayro_ccitt.specs.Work.{CountsRun, words_by, words_of_move_group3}
 use Rattle.hayro_ccitt.specs.declared.error.DecodeError.{DecodeError}
+use Rattle.hayro_ccitt.specs.declared.settings.EncodingMode.TheVariants.{Group3_1D}
 use Rattle.hayro_ccitt.specs.Decoding.{gap_said}
 use Rattle.hayro_ccitt.specs.Rows.{changes}
 use Rattle.hayro_ccitt.proofs.Work.ChangesStored.{changes_white}
 use Rattle.hayro_ccitt.proofs.Work.RunsCount.{counted_ends}
 use Rattle.hayro_ccitt.proofs.Work.EolsPassed.{looked_before, looked_most}
+use Rattle.hayro_ccitt.proofs.group3.decode_rows.Given.{Over}
+use Rattle.hayro_ccitt.proofs.group3.decode_rows.Goals.{After-check_eob, In_err-read_row}
 use Rattle.hayro_ccitt.proofs.group3.decode_rows.Goals as goal
 
 pub rows-init : goal.rows-init
@@ -60,31 +63,30 @@ read_row-requires-clause-rows g c =
     let taken = ap (λ (h : Held). h.taken) between.held in
     omega (arith, taken, between.comes.room, left_start settings bits, ap length same)
 
-pub returns-in_err-read_row-clause-reading : goal.returns-in_err-read_row-clause-reading
-returns-in_err-read_row-clause-reading g c =
+-- a row that isn't taken ends the run
+fails : (g : Over) (c : In_err-read_row g)
+    → Leaves (plain_group3 c.args.ctx.now.held.settings c.args.reader.now.bits) (lines_by Group3_1D c.args.ctx.now.held.settings c.args.reader.now.bits)
+    (g.D.Decoder.step (g.D.Decoder.width c.args.decoder.now))
+    (record { meaning = g.D.Decoder.meaning c.args.decoder.now; refused = g.D.Decoder.has_refused c.args.decoder.now })
+    (record { meaning = g.D.Decoder.meaning c.read_row.new.decoder; refused = g.D.Decoder.has_refused c.read_row.new.decoder })
+    c.read_row.new.ctx.held (Err c.in_err-read_row.field-0.0)
+fails g c =
     let (between, same, width, words, paid) = c.rows.invariant in
-    let settings = c.args.ctx.now.held.settings in
-    let bits = c.args.reader.now.bits in
-    let answer = err_from_is_err_and c.from_residual.result c.from_residual.ensures.1 in
-    let leaves = fails_group3 settings c.requires.columns bits g.D.Decoder.step (g.D.Decoder.width c.args.decoder.now)
+    fails_group3 c.args.ctx.now.held.settings c.requires.columns c.args.reader.now.bits g.D.Decoder.step (g.D.Decoder.width c.args.decoder.now)
     (record { meaning = g.D.Decoder.meaning c.args.decoder.now; refused = g.D.Decoder.has_refused c.args.decoder.now }) (record { meaning = g.D.Decoder.meaning c.rows.decoder; refused = g.D.Decoder.has_refused c.rows.decoder })
     c.rows.ctx.held (here c.rows.reader) between (g.D.Decoder.width c.rows.decoder) width
     (record { meaning = g.D.Decoder.meaning c.read_row.new.decoder; refused = g.D.Decoder.has_refused c.read_row.new.decoder }) c.read_row.new.ctx.held (here c.read_row.new.reader)
-    c.in_err-read_row.field-0.0 c.in_err-read_row.ensures.row in
-    rw (answer.1, answer.2) leaves.0
+    c.in_err-read_row.field-0.0 c.in_err-read_row.ensures.row
+
+pub returns-in_err-read_row-clause-reading : goal.returns-in_err-read_row-clause-reading
+returns-in_err-read_row-clause-reading g c =
+    let answer = err_from_is_err_and c.from_residual.result c.from_residual.ensures.1 in
+    rw (answer.1, answer.2) (fails g (goal.at.returns-in_err-read_row-clause-reading g c).In_err-read_row).0
 
 pub returns-in_err-read_row-clause-short : goal.returns-in_err-read_row-clause-short
 returns-in_err-read_row-clause-short g c =
-    let (between, same, width, words, paid) = c.rows.invariant in
-    let settings = c.args.ctx.now.held.settings in
-    let bits = c.args.reader.now.bits in
     let answer = err_from_is_err_and c.from_residual.result c.from_residual.ensures.1 in
-    let leaves = fails_group3 settings c.requires.columns bits g.D.Decoder.step (g.D.Decoder.width c.args.decoder.now)
-    (record { meaning = g.D.Decoder.meaning c.args.decoder.now; refused = g.D.Decoder.has_refused c.args.decoder.now }) (record { meaning = g.D.Decoder.meaning c.rows.decoder; refused = g.D.Decoder.has_refused c.rows.decoder })
-    c.rows.ctx.held (here c.rows.reader) between (g.D.Decoder.width c.rows.decoder) width
-    (record { meaning = g.D.Decoder.meaning c.read_row.new.decoder; refused = g.D.Decoder.has_refused c.read_row.new.decoder }) c.read_row.new.ctx.held (here c.read_row.new.reader)
-    c.in_err-read_row.field-0.0 c.in_err-read_row.ensures.row in
-    rw (answer.1, answer.2) leaves.1
+    rw (answer.1, answer.2) (fails g (goal.at.returns-in_err-read_row-clause-short g c).In_err-read_row).1
 
 pub returns-in_err-check_eob-clause-reading : goal.returns-in_err-check_eob-clause-reading
 returns-in_err-check_eob-clause-reading g c =
@@ -172,12 +174,13 @@ returns-in_err-read_row-clause-work g c =
     (record { meaning = g.D.Decoder.meaning c.read_row.new.decoder; refused = g.D.Decoder.has_refused c.read_row.new.decoder }) c.read_row.new.ctx.held (here c.read_row.new.reader)
     within c.args.ctx.now.ticks c.rows.ctx.ticks paid c.read_row.new.ctx.ticks c.in_err-read_row.ensures.at_most)
 
-pub returns-in_err-check_eob-clause-work : goal.returns-in_err-check_eob-clause-work
-returns-in_err-check_eob-clause-work g c =
+-- what is counted where what stands behind a row ends the run, within the bound
+last_counted : (g : Over) (c : After-check_eob g) → c.check_eob.new.ctx.ticks ≤ c.args.ctx.now.ticks + (36 * length c.args.reader.now.bits + 14)
+    → CountsRun (words_by Group3_1D c.args.ctx.now.held.settings c.args.reader.now.bits) c.check_eob.new.ctx.held.taken c.args.ctx.now.ticks c.check_eob.new.ctx.ticks (36 * length c.args.reader.now.bits + 14)
+last_counted g c most =
     let (between, same, width, words, paid) = c.rows.invariant in
     let settings = c.args.ctx.now.held.settings in
     let bits = c.args.reader.now.bits in
-    let within : length (here c.rows.reader) ≤ length bits = omega (arith, length-drop c.rows.reader.place c.rows.reader.bits, ap length same) in
     let found = words_are settings c.requires.columns bits g.D.Decoder.step (g.D.Decoder.width c.args.decoder.now)
     (record { meaning = g.D.Decoder.meaning c.args.decoder.now; refused = g.D.Decoder.has_refused c.args.decoder.now }) (record { meaning = g.D.Decoder.meaning c.rows.decoder; refused = g.D.Decoder.has_refused c.rows.decoder })
     c.rows.ctx.held (here c.rows.reader) between (g.D.Decoder.width c.rows.decoder) width
@@ -187,8 +190,15 @@ returns-in_err-check_eob-clause-work g c =
     c.rows.ctx.held (here c.rows.reader) between (g.D.Decoder.width c.rows.decoder) width
     (record { meaning = g.D.Decoder.meaning c.read_row.new.decoder; refused = g.D.Decoder.has_refused c.read_row.new.decoder }) c.read_row.new.ctx.held (here c.read_row.new.reader)
     c.in_ok-read_row.ensures.row c.check_eob.new.ctx.held (here c.check_eob.new.reader) c.check_eob.result c.check_eob.ensures.gap c.check_eob.ensures.held
-    c.args.ctx.now.ticks c.rows.ctx.ticks c.check_eob.new.ctx.ticks (36 * length bits + 14) words (omega (arith, found, c.in_ok-read_row.ensures.at_least, c.check_eob.ensures.counts))
-    (misses_paid_group3 settings c.requires.columns bits g.D.Decoder.step (g.D.Decoder.width c.args.decoder.now)
+    c.args.ctx.now.ticks c.rows.ctx.ticks c.check_eob.new.ctx.ticks (36 * length bits + 14) words (omega (arith, found, c.in_ok-read_row.ensures.at_least, c.check_eob.ensures.counts)) most
+
+pub returns-in_err-check_eob-clause-work : goal.returns-in_err-check_eob-clause-work
+returns-in_err-check_eob-clause-work g c =
+    let (between, same, width, words, paid) = c.rows.invariant in
+    let bits = c.args.reader.now.bits in
+    let within : length (here c.rows.reader) ≤ length bits = omega (arith, length-drop c.rows.reader.place c.rows.reader.bits, ap length same) in
+    last_counted g (goal.at.returns-in_err-check_eob-clause-work g c).After-check_eob
+    (misses_paid_group3 c.args.ctx.now.held.settings c.requires.columns bits g.D.Decoder.step (g.D.Decoder.width c.args.decoder.now)
     (record { meaning = g.D.Decoder.meaning c.args.decoder.now; refused = g.D.Decoder.has_refused c.args.decoder.now }) (record { meaning = g.D.Decoder.meaning c.rows.decoder; refused = g.D.Decoder.has_refused c.rows.decoder })
     c.rows.ctx.held (here c.rows.reader) between (g.D.Decoder.width c.rows.decoder) width
     (record { meaning = g.D.Decoder.meaning c.read_row.new.decoder; refused = g.D.Decoder.has_refused c.read_row.new.decoder }) c.read_row.new.ctx.held (here c.read_row.new.reader)
@@ -198,20 +208,10 @@ returns-in_err-check_eob-clause-work g c =
 pub returns-then-branch-clause-work : goal.returns-then-branch-clause-work
 returns-then-branch-clause-work g c =
     let (between, same, width, words, paid) = c.rows.invariant in
-    let settings = c.args.ctx.now.held.settings in
     let bits = c.args.reader.now.bits in
     let within : length (here c.rows.reader) ≤ length bits = omega (arith, length-drop c.rows.reader.place c.rows.reader.bits, ap length same) in
-    let found = words_are settings c.requires.columns bits g.D.Decoder.step (g.D.Decoder.width c.args.decoder.now)
-    (record { meaning = g.D.Decoder.meaning c.args.decoder.now; refused = g.D.Decoder.has_refused c.args.decoder.now }) (record { meaning = g.D.Decoder.meaning c.rows.decoder; refused = g.D.Decoder.has_refused c.rows.decoder })
-    c.rows.ctx.held (here c.rows.reader) between (g.D.Decoder.width c.rows.decoder) width
-    (record { meaning = g.D.Decoder.meaning c.read_row.new.decoder; refused = g.D.Decoder.has_refused c.read_row.new.decoder }) c.read_row.new.ctx.held (here c.read_row.new.reader) in
-    last_counted_group3 settings c.requires.columns bits g.D.Decoder.step (g.D.Decoder.width c.args.decoder.now)
-    (record { meaning = g.D.Decoder.meaning c.args.decoder.now; refused = g.D.Decoder.has_refused c.args.decoder.now }) (record { meaning = g.D.Decoder.meaning c.rows.decoder; refused = g.D.Decoder.has_refused c.rows.decoder })
-    c.rows.ctx.held (here c.rows.reader) between (g.D.Decoder.width c.rows.decoder) width
-    (record { meaning = g.D.Decoder.meaning c.read_row.new.decoder; refused = g.D.Decoder.has_refused c.read_row.new.decoder }) c.read_row.new.ctx.held (here c.read_row.new.reader)
-    c.in_ok-read_row.ensures.row c.check_eob.new.ctx.held (here c.check_eob.new.reader) c.check_eob.result c.check_eob.ensures.gap c.check_eob.ensures.held
-    c.args.ctx.now.ticks c.rows.ctx.ticks c.check_eob.new.ctx.ticks (36 * length bits + 14) words (omega (arith, found, c.in_ok-read_row.ensures.at_least, c.check_eob.ensures.counts))
-    (ends_paid_group3 settings c.requires.columns bits g.D.Decoder.step (g.D.Decoder.width c.args.decoder.now)
+    last_counted g (goal.at.returns-then-branch-clause-work g c).After-check_eob
+    (ends_paid_group3 c.args.ctx.now.held.settings c.requires.columns bits g.D.Decoder.step (g.D.Decoder.width c.args.decoder.now)
     (record { meaning = g.D.Decoder.meaning c.args.decoder.now; refused = g.D.Decoder.has_refused c.args.decoder.now }) (record { meaning = g.D.Decoder.meaning c.rows.decoder; refused = g.D.Decoder.has_refused c.rows.decoder })
     c.rows.ctx.held (here c.rows.reader) between (g.D.Decoder.width c.rows.decoder) width
     (record { meaning = g.D.Decoder.meaning c.read_row.new.decoder; refused = g.D.Decoder.has_refused c.read_row.new.decoder }) c.read_row.new.ctx.held (here c.read_row.new.reader)
