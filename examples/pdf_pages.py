@@ -6,14 +6,13 @@ With PICTURES, image 0 is written to PICTURES-0.pbm, and so on. Each line names 
 `faxrows`, and what was answered. `pdfimages` (poppler-utils) takes the streams out of the file; it doesn't say whether rows are
 aligned to bytes, so where the rows make no picture, they are read so too. The program is the one that `rt run` leaves in
 crates/faxrows/out."""
-import os
 import subprocess
 import sys
 import tempfile
 
-FAXROWS = os.path.join(os.path.dirname(os.path.abspath(__file__)), "../crates/faxrows/out/faxrows")
+import pictures
+
 MODES = {"-4": "g4", "-1": "1d", "-2": "2d"}
-INVERTED = bytes(255 - byte for byte in range(256))
 
 
 def images(path):
@@ -25,13 +24,7 @@ def images(path):
             yield int(page), int(number), int(width), int(height)
 
 
-def decoded(words, data):
-    """The packed rows, and what was answered."""
-    done = subprocess.run([FAXROWS, "-o", *words], input=data, capture_output=True, check=False)
-    return done.stdout, done.stderr.decode().strip() or "ok"
-
-
-def main(path, pictures=None):
+def main(path, name=None):
     status = 0
     with tempfile.TemporaryDirectory() as folder:
         subprocess.run(["pdfimages", "-ccitt", path, f"{folder}/image"], check=True)
@@ -42,25 +35,19 @@ def main(path, pictures=None):
                 data = file.read()
             mode = next(MODES[word] for word in params if word in MODES)
             columns = int(params[params.index("-X") + 1]) if "-X" in params else width
-            size = (columns + 7) // 8 * height
             flags = "bl" if "-A" in params else "b"
             words = [mode, str(columns), str(height), flags]
-            rows, answer = decoded(words, data)
-            if len(rows) < size or answer != "ok":
+            rows, is_whole, answer = pictures.decoded(words, data)
+            if answer != "ok":
                 aligned = [*words[:3], flags + "a"]
-                other, other_answer = decoded(aligned, data)
-                if len(other) == size and other_answer == "ok":
-                    words, rows, answer = aligned, other, other_answer
-            if len(rows) != size:
-                answer += f", {len(rows) * height // size} of {height} rows"
+                other, _, other_answer = pictures.decoded(aligned, data)
+                if other_answer == "ok":
+                    words, rows, is_whole, answer = aligned, other, True, other_answer
+            if not is_whole:
                 status = 1
             print(f"page {page} image {number}: {len(data)} bytes: {' '.join(words)}: {answer}")
-            picture = rows.ljust(size, b"\0")  # what is missing is white
-            if "-W" in params:
-                picture = picture.translate(INVERTED)  # BlackIs1: what is encoded as black is a sample of 1, which is white
-            if pictures:
-                with open(f"{pictures}-{number}.pbm", "wb") as out:
-                    out.write(b"P4\n%d %d\n" % (columns, height) + picture)
+            if name:  # BlackIs1 (-W): what is encoded as black is a sample of 1, which is white
+                pictures.write_picture(f"{name}-{number}.pbm", columns, height, rows, "-W" in params)
     return status
 
 

@@ -5,16 +5,14 @@
 With PICTURES, page 0 is written to PICTURES-0.pbm, and so on. Each line names a strip: its page, its place and length in the
 file, the words for `faxrows`, and what was answered. Compression 2, 3 and 4 are read, from classic TIFF files of either byte
 order; tiles, BigTIFF and uncompressed mode are not. It takes the program that `rt run` leaves in crates/faxrows/out."""
-import os
 import struct
-import subprocess
 import sys
 
-FAXROWS = os.path.join(os.path.dirname(os.path.abspath(__file__)), "../crates/faxrows/out/faxrows")
+import pictures
+
 SIZES = {1: "B", 3: "H", 4: "I"}  # BYTE, SHORT, LONG
 WIDTH, LENGTH, COMPRESSION, PHOTOMETRIC, FILL_ORDER = 256, 257, 259, 262, 266
 STRIP_OFFSETS, ROWS_PER_STRIP, STRIP_BYTE_COUNTS, T4_OPTIONS, T6_OPTIONS = 273, 278, 279, 292, 293
-INVERTED = bytes(255 - byte for byte in range(256))
 
 
 def pages(file):
@@ -51,7 +49,7 @@ def mode_and_flags(compression, t4_options, fill_order):
     return mode, letters or "-"
 
 
-def main(path, pictures=None):
+def main(path, name=None):
     with open(path, "rb") as opened:
         file = opened.read()
     status = 0
@@ -72,21 +70,15 @@ def main(path, pictures=None):
             if here < 1:
                 break  # 0 rows would be no limit
             data = file[start : start + length]
-            size = (columns + 7) // 8 * here
             words = [mode, str(columns), str(here), flags]
-            done = subprocess.run([FAXROWS, "-o", *words], input=data, capture_output=True, check=False)
-            answer = done.stderr.decode().strip() or "ok"
-            if len(done.stdout) != size:
-                answer += f", {len(done.stdout) * here // size} of {here} rows"
+            packed, is_whole, answer = pictures.decoded(words, data)
+            if not is_whole:
                 status = 1
             print(f"page {page} strip {strip}: {length} bytes at {start}: {' '.join(words)}: {answer}")
-            picture += done.stdout.ljust(size, b"\0")  # what is missing is white
-        picture = picture.ljust((columns + 7) // 8 * rows, b"\0")
-        if photometric == 1:
-            picture = picture.translate(INVERTED)  # what is encoded as black is white; padding turns too
-        if pictures:
-            with open(f"{pictures}-{page}.pbm", "wb") as out:
-                out.write(b"P4\n%d %d\n" % (columns, rows) + picture)
+            picture += packed
+        picture = picture.ljust((columns + 7) // 8 * rows, b"\0")  # strips that are missing are white
+        if name:  # with PhotometricInterpretation 1 what is encoded as black is white
+            pictures.write_picture(f"{name}-{page}.pbm", columns, rows, picture, photometric == 1)
     return status
 
 

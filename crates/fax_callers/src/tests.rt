@@ -4,16 +4,15 @@
 //! With 8 columns a row whose pixels 3 and 4 are black is, below a white one, horizontal mode, a white run of 3, a black run of 2
 //! and V0: 001 1000 11 1. Below a row like itself it is three times V0: 111. EOFB is 000000000001 twice.
 
-ghost use Rattle.std.specs.Prelude.{◌<◌};
-
 use crate::{
     BlackPixels, FirstRows, count_black, decode_first_rows, decode_once, group4_pages, page_end,
     page_ends, strip_to_bitmap,
 };
 use fax_encode::BitmapSink;
 use hayro_ccitt::DecodeError::{OutOfMemory, Refused, UnexpectedEof};
-use hayro_ccitt::{Decoder, DecoderContext, EncodingMode, Result, bits_fit};
-use std::alloc::{AllocGlobal, Global};
+use hayro_ccitt::{DecodeError, Decoder, DecoderContext, EncodingMode, Result, bits_fit};
+use named_requests::made_at_last;
+use std::alloc::AllocGlobal;
 use std::process::Abort;
 use std::test::Fail;
 
@@ -152,53 +151,26 @@ fn pages(rt: HostRuntime) -> std::result::Result<(), Fail> {
     Ok(())
 }
 
-/// Names a request for memory: of those from now on the one with this number, from 1, is to be refused. Where
-/// `checks/refuse_named.c` is loaded, as `checks/built_tests.py` does, that request alone is refused, and else none is.
-fn refuse_request(alloc: Global, number: usize)
-    requires { number < 4096 }
-{
-    let _ = Vec::<u8>::with_capacity(alloc, (1 << 20) + number);
-}
-
-/// Whether the named request was made, and refused. From now on none is refused.
-fn was_refused(alloc: Global) -> bool {
-    Vec::<u8>::with_capacity(alloc, 1 << 20).is_err()
-}
-
-/// Refuses each request of a call in turn: it answers want of memory, or a row that was refused for it. Answers what it makes
-/// with memory.
-fn refuses_each_request<R: Drop, F: Fn() -> Result<R>>(
-    rt: &(impl Abort + AllocGlobal),
-    call: &F,
-) -> R
-    requires { F.IsAlwaysCallable call.now }
-{
-    for number in 1..100usize {
-        refuse_request(rt.alloc(), number);
-        let answer = call();
-        let was_refused = was_refused(rt.alloc());
-        match answer {
-            Ok(made) if !was_refused => return made,
-            Ok(_) => panic!(rt; "request {number} was refused, and the call succeeded"),
-            Err(error) => {
-                assert!(rt; was_refused, "{error:?} where nothing was refused");
-                assert!(rt;
-                    matches!(error, OutOfMemory | Refused),
-                    "request {number}: {error:?}"
-                );
-            }
-        }
-    }
-    panic!(rt; "each of 99 requests was refused");
-}
-
 #[test]
 fn refused_memory(rt: HostRuntime) {
     let alloc = rt.alloc();
-    let black = refuses_each_request(&rt, &|| count_black(alloc, group4_pages(8), &TWO_ROWS));
+    let is_want = |error: &DecodeError| matches!(error, OutOfMemory | Refused);
+    let black = made_at_last(
+        alloc,
+        &|| count_black(alloc, group4_pages(8), &TWO_ROWS),
+        &is_want,
+    )
+    .expect(&rt, "requests");
     assert_eq!(&rt; black, 4);
-    let bitmap = refuses_each_request(&rt, &|| strip_to_bitmap(alloc, group4_pages(8), &TWO_ROWS));
+    let bitmap = made_at_last(
+        alloc,
+        &|| strip_to_bitmap(alloc, group4_pages(8), &TWO_ROWS),
+        &is_want,
+    )
+    .expect(&rt, "requests");
     assert_eq!(&rt; bitmap.as_slice(), [0x18u8, 0x18].as_slice());
-    let ends = refuses_each_request(&rt, &|| page_ends(alloc, 8, &TWO_PAGES));
+    let ends = made_at_last(alloc, &|| page_ends(alloc, 8, &TWO_PAGES), &is_want).expect(
+        &rt, "requests",
+    );
     assert_eq!(&rt; ends.as_slice(), [5usize, 10].as_slice());
 }

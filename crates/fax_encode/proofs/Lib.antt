@@ -4,7 +4,6 @@ pub mod ChosenWords
 pub mod Elements
 pub mod ModesWritten
 pub mod PackedRows
-pub mod PackedRowsT4
 pub mod PaintedRows
 pub mod PaintedWords
 pub mod RoundTrip

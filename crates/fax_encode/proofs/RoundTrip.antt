@@ -4,6 +4,7 @@ use Rattle.std.specs.Prelude.{Ok}
 use Rattle.std.proofs.lemmas.List.{length-append, length-replicate, length-map}
 use Rattle.std.proofs.lemmas.List.Elements.{All-head, All-tail, All-cons, All-nil}
 use Rattle.hayro_ccitt.specs.declared.settings.DecodeSettings.{DecodeSettings}
+use Rattle.hayro_ccitt.specs.declared.settings.EncodingMode.TheVariants.{Group4, Group3_1D}
 use Rattle.hayro_ccitt.specs.declared.bit_reader.BitOrder.TheVariants.{HighestFirst}
 use Rattle.hayro_ccitt.specs.Bits.{Bits, bits_of}
 use Rattle.hayro_ccitt.specs.Rows.{HaveWidth, Row, AreChanges, pixels, white_row}
@@ -37,18 +38,28 @@ whole_bytes bits bytes e =
 settings_are : (settings : DecodeSettings) (columns : ℕ) → columns < 2 ^ 32 → ReadToTheEnd settings columns → AreSettings settings
 settings_are settings columns small to_end = record { columns = omega (arith, to_end.columns_are); rows = omega (arith, to_end.no_limit) }
 
-pub round_trip_t6 : RoundTripT6
-round_trip_t6 settings columns lists bytes wide small are to_end group4 e =
+-- data of a chosen T.6 picture begins with it
+pub begins_with_chosen_t6 : (settings : DecodeSettings) (columns : ℕ) (lists : List (List ℕ)) (whole : Bits)
+    → ReadToTheEnd settings columns → settings.encoding ≡ Group4 → 0 < columns → AreRows columns lists
+    → whole ≡ filled_up (chosen_t6 columns settings.rows_are_byte_aligned (rows_of columns lists))
+    → BeginsWithPictureT6 settings (rows_of columns lists) (chosen_t6 columns settings.rows_are_byte_aligned (rows_of columns lists)) whole
+begins_with_chosen_t6 settings columns lists whole to_end group4 wide are e =
     let rows : List Row = rows_of columns lists in
     let bits : Bits = chosen_t6 columns settings.rows_are_byte_aligned rows in
     let picture = (chosen_is_an_encoding columns rows (wide, widths_of columns lists are)).0 settings.rows_are_byte_aligned in
-    let begins : BeginsWithPictureT6 settings rows bits (bits_of bytes) = record {
+    record {
       encoding = group4;
       end_of_block = to_end.end_of_block;
       limit = inl to_end.no_limit;
       picture = subst (λ (n : ℕ). PictureT6 n settings.rows_are_byte_aligned rows bits) (sym to_end.columns_are) picture;
       begins = (padding (length bits), e);
-    } in
+    }
+
+pub round_trip_t6 : RoundTripT6
+round_trip_t6 settings columns lists bytes wide small are to_end group4 e =
+    let rows : List Row = rows_of columns lists in
+    let bits : Bits = chosen_t6 columns settings.rows_are_byte_aligned rows in
+    let begins = begins_with_chosen_t6 settings columns lists (bits_of bytes) to_end group4 wide are e in
     closed_picture_t6 settings rows bits (bits_of bytes) (settings_are settings columns small to_end) (bits_are_whole HighestFirst bytes) begins
     ∙ ap (λ (n : ℕ). record { rows = rows; outcome = Ok n; has_eols = false }) (whole_bytes bits bytes e)
 
@@ -71,16 +82,21 @@ closing_eols n =
     let turns : length (return_to_control ++ rest) ≡ suc (suc (suc (suc (suc (suc (66 + length rest)))))) = omega (arith, length-append return_to_control rest) in
     ap (λ (m : ℕ). (eols m (return_to_control ++ rest)).1) turns ∙ ap (λ (f : ℕ × Bits). f.1) (eols_of_closing (66 + length rest) n)
 
-pub round_trip_t4 : RoundTripT4
-round_trip_t4 settings columns lists bytes wide small some are to_end group3 e =
+-- what stands behind the lines
+abbrev pub behind : List Row → Bits
+behind rows = return_to_control ++ padding (length (chosen_t4 rows))
+
+-- data of a chosen T.4 picture begins with it
+pub begins_with_chosen_t4 : (settings : DecodeSettings) (columns : ℕ) (lists : List (List ℕ)) (whole : Bits)
+    → ReadToTheEnd settings columns → settings.encoding ≡ Group3_1D → 0 < columns → 0 < length lists → AreRows columns lists
+    → whole ≡ filled_up (chosen_t4 (rows_of columns lists))
+    → BeginsWithPictureT4 settings (rows_of columns lists) (chosen_lines_1d (rows_of columns lists)) (behind (rows_of columns lists)) whole
+begins_with_chosen_t4 settings columns lists whole to_end group3 wide some are e =
     let rows : List Row = rows_of columns lists in
     let lines : Bits = chosen_lines_1d rows in
-    let bits : Bits = chosen_t4 rows in
-    let n : ℕ = (8 - length bits % 8) % 8 in
-    let more : Bits = replicate n false in
+    let more : Bits = padding (length (chosen_t4 rows)) in
     let widths = widths_of columns lists are in
-    let stand : bits_of bytes ≡ lines ++ (return_to_control ++ more) = e ∙ append_assoc lines return_to_control more in
-    let begins : BeginsWithPictureT4 settings rows lines (return_to_control ++ more) (bits_of bytes) = record {
+    record {
       encoding = λ same. cc;
       end_of_block = to_end.end_of_block;
       limit = inl to_end.no_limit;
@@ -89,8 +105,18 @@ round_trip_t4 settings columns lists bytes wide small some are to_end group3 e =
       lines = subst (λ (k : EncodingMode). EncodesRowsWithEols k (white_row settings.columns) rows lines) (sym group3)
           (lines_1d_encode columns (white_row settings.columns) rows wide widths);
       closing = (return_to_control, subst (λ (k : EncodingMode). ClosesWithEols k 6 return_to_control) (sym group3) closes, (more, refl));
-      begins = stand;
-    } in
+      begins = e ∙ append_assoc lines return_to_control more;
+    }
+
+pub round_trip_t4 : RoundTripT4
+round_trip_t4 settings columns lists bytes wide small some are to_end group3 e =
+    let rows : List Row = rows_of columns lists in
+    let lines : Bits = chosen_lines_1d rows in
+    let bits : Bits = chosen_t4 rows in
+    let n : ℕ = (8 - length bits % 8) % 8 in
+    let more : Bits = replicate n false in
+    let stand : bits_of bytes ≡ lines ++ (return_to_control ++ more) = e ∙ append_assoc lines return_to_control more in
+    let begins = begins_with_chosen_t4 settings columns lists (bits_of bytes) to_end group3 wide some are e in
     let left : (eols_group3 settings (return_to_control ++ more)).1 ≡ more
     = ap (λ (f : ℕ × Bits). f.1) (eols_group3_one settings (return_to_control ++ more) group3) ∙ closing_eols n in
     let count : (length (bits_of bytes) - length (eols_group3 settings (return_to_control ++ more)).1 + 7) / 8 ≡ length bytes

@@ -1,15 +1,19 @@
 -- Words of pixels, and where their colour turns.
-use Rattle.std.proofs.Common.{◌≡◌, ℕ, zero, suc, ◌+◌, ◌-◌, ◌*◌, ◌/◌, ◌%◌, ◌^◌, ◌<◌, ◌≤◌, Bool, true, false, not, eqb, List, [], ◌∷◌, ◌++◌, get_or, take, replicate, refl, sym, ap, ◌∙◌, arith, inl, inr}
+use Rattle.std.proofs.Common.{◌≡◌, ℕ, zero, suc, ◌+◌, ◌-◌, ◌*◌, ◌/◌, ◌%◌, ◌^◌, ◌<◌, ◌≤◌, Bool, true, false, not, eqb, List, [], ◌∷◌, ◌++◌, get_or, map, take, replicate, refl, sym, ap, ◌∙◌, arith, inl, inr}
 use mathlib.Core.Bool.{beq}
 use lib.Count.{count_leading_zeros}
+use Rattle.std.specs.List.{range_with_len}
 use Rattle.std.specs.Int.{bit_at, from_be_bytes, w64}
 use Rattle.std.specs.Int.RustNames.{bit_or, bit_xor}
 use Rattle.std.proofs.lemmas.Bool.{cases_lt}
-use Rattle.std.proofs.lemmas.Nat.{pow_pos, be_bytes_8, or_shifted, leading_top, leading_length, div-mul-add, one_shl}
+use Rattle.std.proofs.lemmas.List.{get_or_past}
+use Rattle.std.proofs.lemmas.List.FromFn.{get_or-map-range_with_len}
+use Rattle.std.proofs.lemmas.Nat.{be_bytes_8, or_shifted, leading_top, leading_length, one_shl}
 use Rattle.std.proofs.lemmas.Nat.Bits.{bit_at_xor, bit_at-lt, bit_at-suc, bit_at_above, bit_at_cat_low, bit_at_cat_high}
 use Rattle.std.proofs.Math.Nat.{pow-suc}
 use Rattle.hayro_ccitt.specs.Bits.{Bits, bit_of, bits_of, low_bits}
 use Rattle.hayro_ccitt.specs.Rows.{Row, last_pixel}
+use Rattle.hayro_ccitt.proofs.BitReading.ZerosPassed.{one_times, some_number}
 use Rattle.hayro_ccitt.proofs.PixelRows.RowChanges.{changes_from}
 use Rattle.fax_encode.specs.Scanning.{differences, ones_from}
 use Rattle.fax_encode.proofs.PaintedWords.{bits_of_word}
@@ -18,19 +22,13 @@ use Rattle.fax_encode.proofs.WrittenBits.{low_bits_below}
 -- ---- the word of eight bytes
 -- the first eight bytes, and zeros past the end
 abbrev pub eight : List ℕ → List ℕ
-eight bytes =
-    get_or bytes 0 0 ∷ get_or bytes 1 0 ∷ get_or bytes 2 0 ∷ get_or bytes 3 0 ∷ get_or bytes 4 0 ∷ get_or bytes 5 0 ∷ get_or bytes 6 0 ∷ get_or bytes 7 0 ∷ []
+eight bytes = map (λ i. get_or bytes i 0) (range_with_len 0 8)
 
 eight_fit : (bytes : List ℕ) → ((i : ℕ) → get_or bytes i 0 < 256) → (i : ℕ) → get_or (eight bytes) i 0 < 256
-eight_fit bytes fits zero = fits 0
-eight_fit bytes fits (suc zero) = fits 1
-eight_fit bytes fits (suc (suc zero)) = fits 2
-eight_fit bytes fits (suc (suc (suc zero))) = fits 3
-eight_fit bytes fits (suc (suc (suc (suc zero)))) = fits 4
-eight_fit bytes fits (suc (suc (suc (suc (suc zero))))) = fits 5
-eight_fit bytes fits (suc (suc (suc (suc (suc (suc zero)))))) = fits 6
-eight_fit bytes fits (suc (suc (suc (suc (suc (suc (suc zero))))))) = fits 7
-eight_fit bytes fits (suc (suc (suc (suc (suc (suc (suc (suc i)))))))) = omega arith
+eight_fit bytes fits i = elim (cases_lt i 8) [
+  | inl lt ↦ rw (get_or-map-range_with_len (λ i. get_or bytes i 0) 0 8 i i 0 lt (omega arith)) (fits i)
+  | inr ge ↦ rw (get_or_past (eight bytes) i 0 ge) (omega arith)
+]
 
 -- their bits
 bits_of-eight : (bytes : List ℕ) → bits_of (eight bytes) ≡ take 64 (bits_of bytes ++ replicate 64 false)
@@ -106,14 +104,6 @@ zeros_above (suc z) j n lt =
     let rest = zeros_above z j n lt in
     ap (λ (m : ℕ). low_bits m n) e ∙ (let both : bit_of n (z + j) ∷ low_bits (z + j) n ≡ false ∷ (replicate z false ++ low_bits j n) = cc in both)
 
--- a number below twice a power has it once
-one_times : (n j : ℕ) → 2 ^ j ≤ n → n < 2 ^ suc j → n / 2 ^ j ≡ 1
-one_times n j le lt =
-    let e : 2 ^ suc j ≡ 2 ^ j * 2 = pow-suc 2 j in
-    let rest : n - 2 ^ j < 2 ^ j = omega (arith, e) in
-    let whole : n ≡ 1 * 2 ^ j + (n - 2 ^ j) = omega arith in
-    ap (λ (m : ℕ). m / 2 ^ j) whole ∙ div-mul-add 1 (2 ^ j) (n - 2 ^ j) rest
-
 -- no ones among zeros
 pub ones-zeros : (first n : ℕ) → ones_from first (replicate n false) ≡ []
 ones-zeros first zero = refl
@@ -153,22 +143,11 @@ module _ (word ahead count : ℕ) (small : word < 2 ^ 64) (is : ahead ≡ count_
       ∙ ap (λ (b : Bits). ones_from first (take count b)) (zeros_above ahead top.0 word top.2)
       ∙ ap (ones_from first) (take_zeros count ahead (low_bits top.0 word) le) ∙ ones-zeros first count
 
-  -- a word with a one is some number
-  some_one : ahead < 64 → 0 < word
-  some_one lt =
-      let long = leading_length 64 word small in
-      elim (cases_lt 0 word) [ inl some ↦ some | inr none ↦ absurd (no_zeros_left word long.0 none long.3 (omega (arith, long.1))) ]
-    where
-      -- zero has no bits
-      no_zeros_left : (w m : ℕ) → w ≤ 0 → 2 ^ m ≤ 2 * w + 1 → 0 < m → ⊥
-      no_zeros_left w zero none le lt = absurd (omega arith)
-      no_zeros_left w (suc m) none le lt = let e : 2 ^ suc m ≡ 2 ^ m * 2 = pow-suc 2 m in let some = pow_pos m in absurd (omega (arith, e, some))
-
   -- where there is one
   pub one_taken : (first rest : ℕ) → ahead < count → count ≤ 64 → rest ≡ word - 1 * 2 ^ (63 - ahead) % 2 ^ 64
       → ones_from first (take count (low_bits 64 word)) ≡ (first + ahead) ∷ ones_from first (take count (low_bits 64 rest))
   one_taken first rest lt few less =
-      let top = leading_top 64 word (some_one (omega arith)) small in
+      let top = leading_top 64 word (some_number 64 word small (omega (arith, is))) small in
       let j : ℕ = top.0 in
       let at : 63 - ahead ≡ j = omega (arith, top.1) in
       let one : 1 * 2 ^ (63 - ahead) % 2 ^ 64 ≡ 2 ^ j = ap (λ (n : ℕ). 1 * 2 ^ n % 2 ^ 64) at ∙ one_shl j 64 (omega (arith, top.1)) in
@@ -190,7 +169,7 @@ module _ (word ahead count : ℕ) (small : word < 2 ^ 64) (is : ahead ≡ count_
   -- which it has
   pub one_there : ahead < 64 → 1 * 2 ^ (63 - ahead) % 2 ^ 64 ≤ word
   one_there lt =
-      let top = leading_top 64 word (some_one lt) small in
+      let top = leading_top 64 word (some_number 64 word small (omega (arith, is))) small in
       let at : 63 - ahead ≡ top.0 = omega (arith, top.1) in
       let one : 1 * 2 ^ (63 - ahead) % 2 ^ 64 ≡ 2 ^ top.0 = ap (λ (n : ℕ). 1 * 2 ^ n % 2 ^ 64) at ∙ one_shl top.0 64 (omega (arith, top.1)) in
       omega (arith, one, top.2)

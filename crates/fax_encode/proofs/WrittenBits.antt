@@ -4,7 +4,9 @@ use Rattle.std.specs.Int.{bit_at}
 use Rattle.std.proofs.lemmas.Grind.{flat_map-append}
 use Rattle.std.proofs.lemmas.List.{append-nil, length-append, length-replicate, replicate-append-replicate, take_all}
 use Rattle.std.specs.Int.RustNames.{bit_or}
-use Rattle.std.proofs.lemmas.Nat.{shl_whole, or_shifted}
+use Rattle.std.proofs.Math.Nat.{div-div-eq-div-mul, div-one}
+use Rattle.std.proofs.lemmas.Bool.{agree_below_at}
+use Rattle.std.proofs.lemmas.Nat.{shl_whole, or_shifted, pow-add, div_below}
 use Rattle.std.proofs.lemmas.Nat.Bits.{bit_at_cat_low, bit_at_cat_high}
 use Rattle.hayro_ccitt.specs.Encodings.{padding}
 use Rattle.fax_encode.specs.Writing.{Written, all_bits}
@@ -97,61 +99,47 @@ abbrev pub byte_full_of : Bool → ℕ
 byte_full_of true = 255
 byte_full_of false = 0
 
--- its low bits, and its high bits as low bits of what is left of it after a shift
-same_low_bits : (bit : Bool) (n : ℕ) → n < 9 → low_bits n (byte_full_of bit) ≡ replicate n bit
-same_low_bits true zero lt = refl
-same_low_bits true (suc zero) lt = refl
-same_low_bits true (suc (suc zero)) lt = refl
-same_low_bits true (suc (suc (suc zero))) lt = refl
-same_low_bits true (suc (suc (suc (suc zero)))) lt = refl
-same_low_bits true (suc (suc (suc (suc (suc zero))))) lt = refl
-same_low_bits true (suc (suc (suc (suc (suc (suc zero)))))) lt = refl
-same_low_bits true (suc (suc (suc (suc (suc (suc (suc zero))))))) lt = refl
-same_low_bits true (suc (suc (suc (suc (suc (suc (suc (suc zero)))))))) lt = refl
-same_low_bits true (suc (suc (suc (suc (suc (suc (suc (suc (suc n))))))))) lt = absurd (omega arith)
-same_low_bits false zero lt = refl
-same_low_bits false (suc zero) lt = refl
-same_low_bits false (suc (suc zero)) lt = refl
-same_low_bits false (suc (suc (suc zero))) lt = refl
-same_low_bits false (suc (suc (suc (suc zero)))) lt = refl
-same_low_bits false (suc (suc (suc (suc (suc zero))))) lt = refl
-same_low_bits false (suc (suc (suc (suc (suc (suc zero)))))) lt = refl
-same_low_bits false (suc (suc (suc (suc (suc (suc (suc zero))))))) lt = refl
-same_low_bits false (suc (suc (suc (suc (suc (suc (suc (suc zero)))))))) lt = refl
-same_low_bits false (suc (suc (suc (suc (suc (suc (suc (suc (suc n))))))))) lt = absurd (omega arith)
+-- each of its bits
+full_at : (bit : Bool) (k : ℕ) → k < 8 → bit_of (byte_full_of bit) k ≡ bit
+full_at true k lt = agree_below_at (bit_of 255) (λ _. true) 8 k refl lt
+full_at false k lt = agree_below_at (bit_of 0) (λ _. false) 8 k refl lt
 
-high_bits : (bit : Bool) (n : ℕ) → n < 9 → (byte_full_of bit / 2 ^ (8 - n) < 2 ^ n) × (low_bits n (byte_full_of bit / 2 ^ (8 - n)) ≡ replicate n bit)
-high_bits true zero lt = (omega arith, refl)
-high_bits true (suc zero) lt = (omega arith, refl)
-high_bits true (suc (suc zero)) lt = (omega arith, refl)
-high_bits true (suc (suc (suc zero))) lt = (omega arith, refl)
-high_bits true (suc (suc (suc (suc zero)))) lt = (omega arith, refl)
-high_bits true (suc (suc (suc (suc (suc zero))))) lt = (omega arith, refl)
-high_bits true (suc (suc (suc (suc (suc (suc zero)))))) lt = (omega arith, refl)
-high_bits true (suc (suc (suc (suc (suc (suc (suc zero))))))) lt = (omega arith, refl)
-high_bits true (suc (suc (suc (suc (suc (suc (suc (suc zero)))))))) lt = (omega arith, refl)
-high_bits true (suc (suc (suc (suc (suc (suc (suc (suc (suc n))))))))) lt = absurd (omega arith)
-high_bits false zero lt = (omega arith, refl)
-high_bits false (suc zero) lt = (omega arith, refl)
-high_bits false (suc (suc zero)) lt = (omega arith, refl)
-high_bits false (suc (suc (suc zero))) lt = (omega arith, refl)
-high_bits false (suc (suc (suc (suc zero)))) lt = (omega arith, refl)
-high_bits false (suc (suc (suc (suc (suc zero))))) lt = (omega arith, refl)
-high_bits false (suc (suc (suc (suc (suc (suc zero)))))) lt = (omega arith, refl)
-high_bits false (suc (suc (suc (suc (suc (suc (suc zero))))))) lt = (omega arith, refl)
-high_bits false (suc (suc (suc (suc (suc (suc (suc (suc zero)))))))) lt = (omega arith, refl)
-high_bits false (suc (suc (suc (suc (suc (suc (suc (suc (suc n))))))))) lt = absurd (omega arith)
+-- its bits from a place on, so many, as low bits of what is left of it after a shift
+bits_from : (bit : Bool) (place n : ℕ) → place + n ≤ 8 → low_bits n (byte_full_of bit / 2 ^ place) ≡ replicate n bit
+bits_from bit place zero le = refl
+bits_from bit place (suc n) le =
+    let shifted : byte_full_of bit / 2 ^ place / 2 ^ n ≡ byte_full_of bit / 2 ^ (place + n)
+    = div-div-eq-div-mul (byte_full_of bit) (2 ^ place) (2 ^ n) ∙ ap (λ (m : ℕ). byte_full_of bit / m) (sym (pow-add 2 place n)) in
+    let here : bit_of (byte_full_of bit / 2 ^ place) n ≡ bit = ap (λ (m : ℕ). eqb (m % 2) 1) shifted ∙ full_at bit (place + n) (omega arith) in
+    let rest : low_bits n (byte_full_of bit / 2 ^ place) ≡ replicate n bit = bits_from bit place n (omega arith) in
+    cc
+
+-- its low bits
+same_low_bits : (bit : Bool) (n : ℕ) → n ≤ 8 → low_bits n (byte_full_of bit) ≡ replicate n bit
+same_low_bits bit n le = ap (low_bits n) (sym (div-one (byte_full_of bit))) ∙ bits_from bit 0 n (omega arith)
+
+full_small : (bit : Bool) → byte_full_of bit < 2 ^ 8
+full_small true = omega arith
+full_small false = omega arith
+
+-- its high bits are so many
+high_bits_fit : (bit : Bool) (n : ℕ) → n ≤ 8 → byte_full_of bit / 2 ^ (8 - n) < 2 ^ n
+high_bits_fit bit n le =
+    let sum : n + (8 - n) ≡ 8 = omega arith in
+    let parts : 2 ^ 8 ≡ 2 ^ n * 2 ^ (8 - n) = sym (ap (λ (m : ℕ). 2 ^ m) sum) ∙ pow-add 2 n (8 - n) in
+    div_below (byte_full_of bit) (2 ^ (8 - n)) (2 ^ n) (power_positive (8 - n)) (omega (arith, full_small bit, parts))
 
 -- some of them behind the bits that wait
 pub filled_behind : (bit : Bool) (waiting count n full byte : ℕ) → waiting < 256 → count + n ≤ 8 → full ≡ byte_full_of bit
     → byte ≡ bit_or (waiting * 2 ^ n % 4294967296) (full / 2 ^ (8 - n)) % 256 → low_bits (count + n) byte ≡ low_bits count waiting ++ replicate n bit
 filled_behind bit waiting count n full byte few room full-is is =
-    let high = high_bits bit n (omega arith) in
+    let high = high_bits_fit bit n (omega arith) in
     let short : n ≤ 16 = omega arith in
     let same : byte ≡ bit_or (waiting * 2 ^ n % 4294967296) (byte_full_of bit / 2 ^ (8 - n)) % 256 = cc in
     ap (low_bits (count + n)) same
     ∙ low_bits_mod (count + n) 8 (bit_or (waiting * 2 ^ n % 4294967296) (byte_full_of bit / 2 ^ (8 - n))) room
-    ∙ put_together waiting count n (byte_full_of bit / 2 ^ (8 - n)) _ few short high.0 refl ∙ ap (λ (b : Bits). low_bits count waiting ++ b) high.1
+    ∙ put_together waiting count n (byte_full_of bit / 2 ^ (8 - n)) _ few short high refl
+    ∙ ap (λ (b : Bits). low_bits count waiting ++ b) (bits_from bit (8 - n) n (omega arith))
 
 -- whole bytes of them
 bits_of_full : (bit : Bool) (k : ℕ) → bits_of (replicate k (byte_full_of bit)) ≡ replicate (8 * k) bit

@@ -33,16 +33,11 @@ fn whole_word(bytes: &[u8]) -> u64
 fn last_word(bytes: &[u8]) -> u64
     ensures { low_bits 64 result ≡ take 64 (bits_of bytes.now ++ replicate 64 false) }
 {
-    u64::from_be_bytes([
-        byte_or_zero(bytes, 0),
-        byte_or_zero(bytes, 1),
-        byte_or_zero(bytes, 2),
-        byte_or_zero(bytes, 3),
-        byte_or_zero(bytes, 4),
-        byte_or_zero(bytes, 5),
-        byte_or_zero(bytes, 6),
-        byte_or_zero(bytes, 7),
-    ])
+    let mut first = [0; 8];
+    for index in 0..8usize {
+        first[index] = byte_or_zero(bytes, index);
+    }
+    u64::from_be_bytes(first)
 }
 
 /// A one where a pixel differs from the one left of it; left of the first stands the last pixel of the word before.

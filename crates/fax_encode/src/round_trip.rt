@@ -1,14 +1,63 @@
 //! What was encoded, decoded into a bitmap.
 
-ghost use Rattle.std.specs.Prelude.{length, ◌≡◌, ◌≢◌, ◌<◌, ◌↔◌, ℕ, map, Err, IfOk};
+ghost use Rattle.std.specs.Prelude.{length, ◌≡◌, ◌≢◌, ◌<◌, ◌↔◌, true, List, ℕ, map, Err, IfOk, IsOkUnless};
 ghost use Rattle.hayro_ccitt.specs.Bits.{bits_of};
+ghost use Rattle.hayro_ccitt.specs.Pictures.{IsClosedPicture};
 ghost use Rattle.fax_encode.specs.Chosen.{rows_of};
 ghost use Rattle.fax_encode.specs.Packed.{packed};
-ghost use Rattle.fax_encode.specs.Refusals.{IsFirstUnlawful};
+ghost use Rattle.fax_encode.specs.Refusals.{AreRows, IsFirstUnlawful};
 
 use crate::{BitmapSink, EncodeError, encode_1d, encode_g4};
 use hayro_ccitt::{DecodeSettings, DecoderContext, EncodingMode, bits_fit, decode};
 use std::alloc::Global;
+
+/// Settings that read what is encoded here, strictly and to its end. In Group 4 it says nothing that EOLs stand between
+/// the lines.
+pub fn settings_to_the_end(columns: u32, encoding: EncodingMode, aligned: bool) -> DecodeSettings
+    ensures { result ≡ record {
+      columns = columns;
+      rows = 0;
+      end_of_block = true;
+      end_of_line = true;
+      rows_are_byte_aligned = aligned;
+      encoding = encoding;
+      strict = true;
+    } }
+{
+    DecodeSettings {
+        columns,
+        rows: 0,
+        end_of_block: true,
+        end_of_line: true,
+        rows_are_byte_aligned: aligned,
+        encoding,
+        strict: true,
+    }
+}
+
+/// The bitmap of an encoding. Its only error is `OutOfMemory`.
+fn bitmap_of(
+    alloc: Global,
+    settings: DecodeSettings,
+    encoded: &[u8],
+) -> std::result::Result<BitmapSink, EncodeError>
+    ensures only_memory { IsOkUnless result EncodeError.OutOfMemory }
+    ensures packed { (lists : List (List ℕ)) (count : ℕ) → AreRows settings.columns lists
+        → IsClosedPicture settings (rows_of settings.columns lists) count (bits_of encoded.now)
+        → IfOk result (λ sink. bits_of sink.bytes ≡ packed (rows_of settings.columns lists)) }
+{
+    if !bits_fit(encoded) {
+        return Err(EncodeError::OutOfMemory);
+    }
+    let Ok(mut ctx) = DecoderContext::new(alloc, settings) else {
+        return Err(EncodeError::OutOfMemory);
+    };
+    let mut sink = BitmapSink::new(alloc, settings.columns);
+    match decode(encoded, &mut sink, &mut ctx) {
+        Ok(_) => Ok(sink),
+        Err(_) => Err(EncodeError::OutOfMemory),
+    }
+}
 
 /// The bitmap of rows, by way of Group 4: they are encoded and decoded again. Each error is one of [`encode_g4`];
 /// `OutOfMemory` comes also where there was no memory to decode.
@@ -25,27 +74,8 @@ pub fn bitmap_by_group4(
     ensures packed { IfOk result (λ sink. bits_of sink.bytes ≡ packed (rows_of columns (map (λ row. row.items) rows.now))) }
 {
     let encoded = encode_g4(alloc, columns, rows, aligned)?;
-    let data = encoded.as_slice();
-    if !bits_fit(data) {
-        return Err(EncodeError::OutOfMemory);
-    }
-    let settings = DecodeSettings {
-        columns,
-        rows: 0,
-        end_of_block: true,
-        end_of_line: false,
-        rows_are_byte_aligned: aligned,
-        encoding: EncodingMode::Group4,
-        strict: true,
-    };
-    let Ok(mut ctx) = DecoderContext::new(alloc, settings) else {
-        return Err(EncodeError::OutOfMemory);
-    };
-    let mut sink = BitmapSink::new(alloc, columns);
-    match decode(data, &mut sink, &mut ctx) {
-        Ok(_) => Ok(sink),
-        Err(_) => Err(EncodeError::OutOfMemory),
-    }
+    let settings = settings_to_the_end(columns, EncodingMode::Group4, aligned);
+    bitmap_of(alloc, settings, encoded.as_slice())
 }
 
 /// The bitmap of rows, by way of one-dimensional Group 3: they are encoded and decoded again. Each error is one of
@@ -63,25 +93,6 @@ pub fn bitmap_by_group3(
         ↔ ((0 < columns) × IsFirstUnlawful columns (map (λ row. row.items) rows.now) k) }
 {
     let encoded = encode_1d(alloc, columns, rows)?;
-    let data = encoded.as_slice();
-    if !bits_fit(data) {
-        return Err(EncodeError::OutOfMemory);
-    }
-    let settings = DecodeSettings {
-        columns,
-        rows: 0,
-        end_of_block: true,
-        end_of_line: true,
-        rows_are_byte_aligned: false,
-        encoding: EncodingMode::Group3_1D,
-        strict: true,
-    };
-    let Ok(mut ctx) = DecoderContext::new(alloc, settings) else {
-        return Err(EncodeError::OutOfMemory);
-    };
-    let mut sink = BitmapSink::new(alloc, columns);
-    match decode(data, &mut sink, &mut ctx) {
-        Ok(_) => Ok(sink),
-        Err(_) => Err(EncodeError::OutOfMemory),
-    }
+    let settings = settings_to_the_end(columns, EncodingMode::Group3_1D, false);
+    bitmap_of(alloc, settings, encoded.as_slice())
 }

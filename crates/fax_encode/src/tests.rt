@@ -1,15 +1,13 @@
 //! What no clause says: that memory is there, and that the bytes are those of the standards. They were worked out from
 //! T.4 and T.6, apart from the encoder.
 
-ghost use Rattle.std.specs.Prelude.{◌<◌};
-
+use crate::round_trip::settings_to_the_end;
 use crate::{
     BitmapSink, EncodeError, bitmap_by_group3, bitmap_by_group4, encode_1d, encode_bitmap_1d,
     encode_bitmap_g4, encode_g4, paint_row,
 };
-use hayro_ccitt::{
-    DecodeError, DecodeSettings, Decoder, DecoderContext, EncodingMode, bits_fit, decode,
-};
+use hayro_ccitt::{DecodeError, Decoder, DecoderContext, EncodingMode, bits_fit, decode};
+use named_requests::{made_at_last, refuse_request, was_refused};
 use std::alloc::{AllocError, AllocGlobal, Global};
 use std::process::Abort;
 use std::test::Fail;
@@ -67,19 +65,6 @@ fn packs(
         bytes,
         "{columns} columns, aligned: {aligned}"
     );
-}
-
-/// Settings of strict one-dimensional Group 3 with EOLs and RTC.
-fn group_3_1d(columns: u32) -> DecodeSettings {
-    DecodeSettings {
-        columns,
-        rows: 0,
-        end_of_block: true,
-        end_of_line: true,
-        rows_are_byte_aligned: false,
-        encoding: EncodingMode::Group3_1D,
-        strict: true,
-    }
 }
 
 /// Encodes rows as one-dimensional Group 3, decodes them in a context, and compares the bitmap.
@@ -257,7 +242,8 @@ fn every_small_picture(rt: HostRuntime) -> Result<(), Fail> {
     let alloc = rt.alloc();
     for columns in 1..5u32 {
         let last = 4 - columns;
-        let Ok(mut ctx) = DecoderContext::new(alloc, group_3_1d(columns)) else {
+        let settings = settings_to_the_end(columns, EncodingMode::Group3_1D, false);
+        let Ok(mut ctx) = DecoderContext::new(alloc, settings) else {
             panic!(&rt; "no memory");
         };
         for picture in 0..1u16 << (3 * columns) {
@@ -283,54 +269,21 @@ fn every_small_picture(rt: HostRuntime) -> Result<(), Fail> {
     Ok(())
 }
 
-/// Names a request for memory: of those from now on the one with this number, from 1, is to be refused. Where
-/// `checks/refuse_named.c` is loaded, as `checks/built_tests.py` does, that request alone is refused, and else none is.
-fn refuse_request(alloc: Global, number: usize)
-    requires { number < 4096 }
-{
-    let _ = Vec::<u8>::with_capacity(alloc, (1 << 20) + number);
-}
-
-/// Whether the named request was made, and refused. From now on none is refused.
-fn was_refused(alloc: Global) -> bool {
-    Vec::<u8>::with_capacity(alloc, 1 << 20).is_err()
-}
-
-/// Refuses each request of a call in turn: it answers want of memory. Answers what it makes with memory.
-fn refuses_each_request<R: Drop, F: Fn() -> Result<R, EncodeError>>(
-    rt: &(impl Abort + AllocGlobal),
-    call: &F,
-) -> R
-    requires { F.IsAlwaysCallable call.now }
-{
-    for number in 1..100usize {
-        refuse_request(rt.alloc(), number);
-        let answer = call();
-        let was_refused = was_refused(rt.alloc());
-        match answer {
-            Ok(made) if !was_refused => return made,
-            Ok(_) => panic!(rt; "request {number} was refused, and the call succeeded"),
-            Err(error) => {
-                assert!(rt; was_refused, "{error:?} where nothing was refused");
-                assert_eq!(rt; error, EncodeError::OutOfMemory, "request {number}");
-            }
-        }
-    }
-    panic!(rt; "each of 99 requests was refused");
-}
-
 #[test]
 fn refused_memory(rt: HostRuntime) -> Result<(), Fail> {
     let alloc = rt.alloc();
     let row: &[u32] = &[3, 5];
     let lists = lists_of(alloc, &[row; 16])?;
     let rows = lists.as_slice();
+    let is_want = |error: &EncodeError| matches!(error, EncodeError::OutOfMemory);
 
-    let g4 = refuses_each_request(&rt, &|| encode_g4(alloc, 8, rows, false));
+    let g4 = made_at_last(alloc, &|| encode_g4(alloc, 8, rows, false), &is_want).expect(
+        &rt, "requests",
+    );
     let t6 = [0x31, 0xFF, 0xFF, 0xFF, 0xFF, 0xFF, 0xFE, 0x00, 0x20, 0x02];
     assert_eq!(rt; g4.as_slice(), t6.as_slice());
 
-    let one = refuses_each_request(&rt, &|| encode_1d(alloc, 8, rows));
+    let one = made_at_last(alloc, &|| encode_1d(alloc, 8, rows), &is_want).expect(&rt, "requests");
     let four_lines = [
         0x00, 0x18, 0xE0, 0x00, 0x63, 0x80, 0x01, 0x8E, 0x00, 0x06, 0x38,
     ];
@@ -341,15 +294,26 @@ fn refused_memory(rt: HostRuntime) -> Result<(), Fail> {
     t4.extend_from_slice(&[0x00, 0x10, 0x01, 0x00, 0x10, 0x01, 0x00, 0x10, 0x01])?;
     assert_eq!(rt; one, t4);
 
-    let sink = refuses_each_request(&rt, &|| bitmap_by_group4(alloc, 8, rows, true));
+    let sink = made_at_last(alloc, &|| bitmap_by_group4(alloc, 8, rows, true), &is_want).expect(
+        &rt, "requests",
+    );
     assert_eq!(rt; sink.bytes(), [0x18u8; 16].as_slice());
-    let sink = refuses_each_request(&rt, &|| bitmap_by_group3(alloc, 8, rows));
+    let sink = made_at_last(alloc, &|| bitmap_by_group3(alloc, 8, rows), &is_want).expect(
+        &rt, "requests",
+    );
     assert_eq!(rt; sink.bytes(), [0x18u8; 16].as_slice());
 
     let bitmap = sink.into_bytes();
-    let again = refuses_each_request(&rt, &|| encode_bitmap_g4(alloc, 8, &bitmap, false));
+    let again = made_at_last(
+        alloc,
+        &|| encode_bitmap_g4(alloc, 8, &bitmap, false),
+        &is_want,
+    )
+    .expect(&rt, "requests");
     assert_eq!(rt; again.as_slice(), t6.as_slice());
-    let again = refuses_each_request(&rt, &|| encode_bitmap_1d(alloc, 8, &bitmap));
+    let again = made_at_last(alloc, &|| encode_bitmap_1d(alloc, 8, &bitmap), &is_want).expect(
+        &rt, "requests",
+    );
     assert_eq!(rt; again, t4);
     Ok(())
 }

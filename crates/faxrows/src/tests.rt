@@ -1,6 +1,5 @@
-ghost use Rattle.std.specs.Prelude.{◌<◌};
-
 use super::*;
+use named_requests::{refuse_request, was_refused};
 use std::alloc::{AllocError, Global};
 use std::io;
 use std::io::{Read, Write};
@@ -389,19 +388,6 @@ fn prints_faults(rt: HostRuntime) -> Result<(), Fail> {
         );
     }
     Ok(())
-}
-
-/// Names a request for memory: of those from now on the one with this number, from 1, is to be refused. Where
-/// `checks/refuse_named.c` is loaded, as `checks/built_tests.py` does, that request alone is refused, and else none is.
-fn refuse_request(alloc: Global, number: usize)
-    requires { number < 4096 }
-{
-    let _ = Vec::<u8>::with_capacity(alloc, (1 << 20) + number);
-}
-
-/// Whether the named request was made, and refused. From now on none is refused.
-fn was_refused(alloc: Global) -> bool {
-    Vec::<u8>::with_capacity(alloc, 1 << 20).is_err()
 }
 
 #[test]

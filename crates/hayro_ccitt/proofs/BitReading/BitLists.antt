@@ -1,6 +1,10 @@
 -- Where the bits of bytes lie.
-use Rattle.std.proofs.Common.{◌≡◌, ℕ, zero, suc, ◌+◌, ◌-◌, ◌*◌, ◌<◌, List, [], ◌∷◌, ◌++◌, length, get_or, drop, Some, refl, ap, ◌∙◌, arith}
+use Rattle.std.proofs.Common.{◌≡◌, ℕ, zero, suc, ◌+◌, ◌-◌, ◌*◌, ◌<◌, Bool, false, List, [], ◌∷◌, ◌++◌, length, get_or, drop, map, Some, refl, ap, ◌∙◌, arith}
+use Rattle.std.specs.List.{range_with_len}
 use Rattle.std.specs.Prelude.{slice_get}
+use Rattle.std.proofs.lemmas.List.{get_or_append_left}
+use Rattle.std.proofs.lemmas.List.FromFn.{get_or-map-range_with_len}
+use Rattle.std.proofs.lemmas.Option.{slice_get-get_or}
 use Rattle.hayro_ccitt.specs.declared.bit_reader.BitOrder.{BitOrder}
 use Rattle.hayro_ccitt.specs.declared.bit_reader.BitOrder.TheVariants.{HighestFirst, LowestFirst}
 use Rattle.hayro_ccitt.specs.Bits.{Bits, AreWholeBytes, bit_of, bits_of_byte, bits_in, bits_of, low_bits}
@@ -22,25 +26,19 @@ abbrev pub place_in_byte : BitOrder → ℕ → ℕ
 place_in_byte HighestFirst r = 7 - r
 place_in_byte LowestFirst r = r
 
+-- the bits of a byte, by their places
+bits_by_place : (order : BitOrder) (b : ℕ) → bits_of_byte order b ≡ map (λ r. bit_of b (place_in_byte order r)) (range_with_len 0 8)
+bits_by_place HighestFirst b = refl
+bits_by_place LowestFirst b = refl
+
 -- the bits of the first byte
 bit_of_first : (order : BitOrder) (b : ℕ) (rest : Bits) (r : ℕ) → r < 8 → slice_get (bits_of_byte order b ++ rest) r ≡ Some (bit_of b (place_in_byte order r))
-bit_of_first HighestFirst b rest zero k = refl
-bit_of_first HighestFirst b rest (suc zero) k = refl
-bit_of_first HighestFirst b rest (suc (suc zero)) k = refl
-bit_of_first HighestFirst b rest (suc (suc (suc zero))) k = refl
-bit_of_first HighestFirst b rest (suc (suc (suc (suc zero)))) k = refl
-bit_of_first HighestFirst b rest (suc (suc (suc (suc (suc zero))))) k = refl
-bit_of_first HighestFirst b rest (suc (suc (suc (suc (suc (suc zero)))))) k = refl
-bit_of_first HighestFirst b rest (suc (suc (suc (suc (suc (suc (suc zero))))))) k = refl
-bit_of_first LowestFirst b rest zero k = refl
-bit_of_first LowestFirst b rest (suc zero) k = refl
-bit_of_first LowestFirst b rest (suc (suc zero)) k = refl
-bit_of_first LowestFirst b rest (suc (suc (suc zero))) k = refl
-bit_of_first LowestFirst b rest (suc (suc (suc (suc zero)))) k = refl
-bit_of_first LowestFirst b rest (suc (suc (suc (suc (suc zero))))) k = refl
-bit_of_first LowestFirst b rest (suc (suc (suc (suc (suc (suc zero)))))) k = refl
-bit_of_first LowestFirst b rest (suc (suc (suc (suc (suc (suc (suc zero))))))) k = refl
-bit_of_first order b rest (suc (suc (suc (suc (suc (suc (suc (suc r)))))))) k = absurd (omega arith)
+bit_of_first order b rest r lt =
+    let at : ℕ → Bool = λ i. bit_of b (place_in_byte order i) in
+    let first : Bits = map at (range_with_len 0 8) in
+    ap (λ (bits : Bits). slice_get (bits ++ rest) r) (bits_by_place order b)
+    ∙ slice_get-get_or (first ++ rest) r false (omega arith)
+    ∙ ap Some (get_or_append_left first rest false r lt ∙ get_or-map-range_with_len at 0 8 r r false lt (omega arith))
 
 -- the bits behind the first byte
 bits_behind : (order : BitOrder) (b : ℕ) (bytes : List ℕ) (i : ℕ)

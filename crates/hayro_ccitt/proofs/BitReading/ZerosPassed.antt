@@ -11,6 +11,25 @@ use Rattle.hayro_ccitt.specs.Bits.{Bits, BitsAt, here, bit_of}
 use Rattle.hayro_ccitt.proofs.BitReading.BitLists.{drop_some}
 
 -- ---- The zeros at the front of a word.
+-- a number with fewer zeros in front than bits isn't zero
+pub some_number : (bits w : ℕ) → w < 2 ^ bits → count_leading_zeros bits w < bits → 0 < w
+some_number bits w small few =
+    let long = leading_length bits w small in
+    elim (cases_lt 0 w) [ inl some ↦ some | inr none ↦ absurd (no_zeros_left w long.0 none long.3 (omega (arith, long.1))) ]
+  where
+    -- zero has no bits
+    no_zeros_left : (w m : ℕ) → w ≤ 0 → 2 ^ m ≤ 2 * w + 1 → 0 < m → ⊥
+    no_zeros_left w zero none le lt = absurd (omega arith)
+    no_zeros_left w (suc m) none le lt = let e : 2 ^ suc m ≡ 2 ^ m * 2 = pow-suc 2 m in let some = pow_pos m in absurd (omega (arith, e, some))
+
+-- a number below twice a power has it once
+pub one_times : (w j : ℕ) → 2 ^ j ≤ w → w < 2 ^ suc j → w / 2 ^ j ≡ 1
+one_times w j le lt =
+    let e : 2 ^ suc j ≡ 2 ^ j * 2 = pow-suc 2 j in
+    let rest : w - 2 ^ j < 2 ^ j = omega (arith, e) in
+    let whole : w ≡ 1 * 2 ^ j + (w - 2 ^ j) = omega arith in
+    ap (λ (n : ℕ). n / 2 ^ j) whole ∙ div-mul-add 1 (2 ^ j) (w - 2 ^ j) rest
+
 -- the bits before the first one are zeros
 word_zeros : (w k : ℕ) → w < 2 ^ 32 → k < count_leading_zeros 32 w → bit_of w (31 - k) ≡ false
 word_zeros w k small h =
@@ -19,25 +38,10 @@ word_zeros w k small h =
 
 -- a number that isn't zero has a one behind them
 word_one : (w : ℕ) → w < 2 ^ 32 → count_leading_zeros 32 w < 32 → bit_of w (31 - count_leading_zeros 32 w) ≡ true
-word_one w small h =
-    let long = leading_length 32 w small in
-    let some : 0 < w = elim (cases_lt 0 w) [ inl lt ↦ lt | inr none ↦ absurd (no_zeros_left w long.0 none long.3 (omega (arith, long.1))) ] in
-    let top = leading_top 32 w some small in
+word_one w small few =
+    let top = leading_top 32 w (some_number 32 w small few) small in
     let at : 31 - count_leading_zeros 32 w ≡ top.0 = omega (arith, top.1) in
     rw at (ap (λ (b : ℕ). eqb (b % 2) 1) (one_times w top.0 top.2 top.3))
-  where
-    -- zero has no bits
-    no_zeros_left : (w m : ℕ) → w ≤ 0 → 2 ^ m ≤ 2 * w + 1 → 0 < m → ⊥
-    no_zeros_left w zero none le lt = absurd (omega arith)
-    no_zeros_left w (suc m) none le lt = let e : 2 ^ suc m ≡ 2 ^ m * 2 = pow-suc 2 m in let some = pow_pos m in absurd (omega (arith, e, some))
-
-    -- a number below twice a power has it once
-    one_times : (w j : ℕ) → 2 ^ j ≤ w → w < 2 ^ suc j → w / 2 ^ j ≡ 1
-    one_times w j le lt =
-        let e : 2 ^ suc j ≡ 2 ^ j * 2 = pow-suc 2 j in
-        let rest : w - 2 ^ j < 2 ^ j = omega (arith, e) in
-        let whole : w ≡ 1 * 2 ^ j + (w - 2 ^ j) = omega arith in
-        ap (λ (n : ℕ). n / 2 ^ j) whole ∙ div-mul-add 1 (2 ^ j) (w - 2 ^ j) rest
 
 -- ---- Zeros from a place on.
 zeros_here : (bits : Bits) (place n : ℕ) → ((k : ℕ) → k < n → get_or bits (place + k) false ≡ false) → place + n ≤ length bits

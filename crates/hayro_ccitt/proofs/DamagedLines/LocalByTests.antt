@@ -52,6 +52,18 @@ take-split (suc j) (suc m) [] le = let e : suc m - suc j ≡ m - j = omega arith
 take-split {A} (suc j) (suc m) (x ∷ xs) le = let e : suc m - suc j ≡ m - j
     = omega arith in ap (λ (l : List A). x ∷ l) (take-split j m xs (omega arith) ∙ ap (λ (n : ℕ). take j xs ++ take n (drop j xs)) (sym e))
 
+-- how far an EOL reaches
+eol_lengths : (bits : Bits) (place end zeros : ℕ) → drop place bits ≡ replicate zeros false ++ true ∷ drop end bits
+    → length bits - place ≡ zeros + (1 + (length bits - end))
+eol_lengths bits place end zeros is = omega (
+  arith,
+  length-drop place bits,
+  ap length is,
+  length-append (replicate zeros false) (true ∷ drop end bits),
+  length-replicate zeros false,
+  length-drop end bits,
+)
+
 module _ (settings : DecodeSettings) (bits : Bits) (from to : ℕ) where
   from_tests : IsLocalByTests settings bits from to → IsLocal settings bits from to
   from_tests tests = record {
@@ -92,16 +104,7 @@ module _ (settings : DecodeSettings) (bits : Bits) (from to : ℕ) where
           let j : ℕ = place - from in
           let sum : from + j ≡ place = omega (arith, le) in
           let there : drop j (drop from bits) ≡ replicate is.0 false ++ true ∷ drop end bits = drop-drop j from bits ∙ ap (λ (n : ℕ). drop n bits) sum ∙ is.1 in
-          let lengths : length bits - place ≡ is.0 + (1 + (length bits - end))
-          = omega (
-            arith,
-            length-drop place bits,
-            ap length is.1,
-            length-append (replicate is.0 false)
-                (true ∷ drop end bits),
-            length-replicate is.0 false,
-            length-drop end bits,
-          ) in
+          let lengths = eol_lengths bits place end is.0 is.1 in
           let fits : is.0 < (to - from) - j = omega (arith, lengths, le, le2, lt, tests.order, tests.within) in
           let split : body ≡ take j (drop from bits) ++ (replicate is.0 false ++ true ∷ take (((to - from) - j) - (is.0 + 1)) (drop end bits))
           = take-split j (to - from) (drop from bits) (omega (arith, le, le2, lt))
@@ -128,16 +131,7 @@ module _ (settings : DecodeSettings) (bits : Bits) (from to : ℕ) where
       twelve : (place : ℕ) → IsEol bits place from → (12 ≤ from) × (after_eol 0 (drop (from - 12) bits) ≡ Some (drop from bits))
       twelve place (lt, inside, eol) =
           let is = after_eol_is 0 (drop place bits) (drop from bits) eol in
-          let lengths : length bits - place ≡ is.0 + (1 + (length bits - from))
-          = omega (
-            arith,
-            length-drop place bits,
-            ap length is.1,
-            length-append (replicate is.0 false)
-                (true ∷ drop from bits),
-            length-replicate is.0 false,
-            length-drop from bits,
-          ) in
+          let lengths = eol_lengths bits place from is.0 is.1 in
           let more : ℕ = is.0 - 11 in
           let sum : more + 11 ≡ is.0 = omega (arith, is.2) in
           let fill : replicate is.0 false ≡ replicate more false ++ replicate 11 false = ap (λ (n : ℕ). replicate n false) (sym sum)

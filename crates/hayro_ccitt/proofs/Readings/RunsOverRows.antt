@@ -217,31 +217,28 @@ module _ {M : Type 0} (step : M → List ℕ → M) (before after : SinkState M)
 
   module _ (end : Ending) (lines : List Line) (rows : List Row) (prefix : IsPrefix rows end.rows) (taken : held.taken ≡ length rows)
       (meaning : after.meaning ≡ meaning_after step before.meaning rows) where
+    -- some rows, and then what is no fault of the data
+    takes_some : (e : DecodeError) → (IsFault e → ⊥) → TakesRows {A = Bits} end.rows end.outcome end.has_eols step before after held (Err e)
+    takes_some e no_fault = record {
+      taken = omega (arith, taken, shorter rows end.rows prefix);
+      meaning = means rows end.rows prefix taken meaning;
+      all = λ f. absurd (no_fault f);
+      ok = tt;
+      fault = λ f. absurd (no_fault f);
+      has_eols = λ f. absurd (no_fault f);
+    }
+
     -- a run that wanted memory
     pub wants_memory : PaintsBlack lines held.taken → after.refused ≡ before.refused → Leaves end lines step before after held (Err OutOfMemory)
     wants_memory black refused = (
-      record {
-        taken = omega (arith, taken, shorter rows end.rows prefix);
-        meaning = means rows end.rows prefix taken meaning;
-        all = λ f. absurd f;
-        ok = tt;
-        fault = λ f. absurd f;
-        has_eols = λ f. absurd f;
-      },
+      takes_some OutOfMemory (λ f. f),
       record { memory = λ e. black; refused = λ e. cc; flag = λ e. cc; no_flag = λ e. refused },
     )
 
     -- a run whose row was refused
     pub is_refused : held.taken < length end.rows → after.refused ≡ true → Leaves end lines step before after held (Err Refused)
     is_refused more refused = (
-      record {
-        taken = omega (arith, taken, shorter rows end.rows prefix);
-        meaning = means rows end.rows prefix taken meaning;
-        all = λ f. absurd f;
-        ok = tt;
-        fault = λ f. absurd f;
-        has_eols = λ f. absurd f;
-      },
+      takes_some Refused (λ f. f),
       record { memory = λ e. cc; refused = λ e. more; flag = λ e. refused; no_flag = λ e. absurd (e refl) },
     )
 

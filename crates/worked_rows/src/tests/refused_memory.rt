@@ -1,7 +1,7 @@
 //! Memory that is refused. A test names the request that is to be refused; where `checks/refuse_named.c` is loaded
 //! before it, as `checks/built_tests.py` does, that request alone is refused, and else none is.
 
-ghost use Rattle.std.specs.Prelude.{◌≡◌, ◌<◌};
+ghost use Rattle.std.specs.Prelude.{◌≡◌};
 
 use super::{bytes_of, group_3_1d, group_3_2d, group_4, repeated};
 use hayro_ccitt::DecodeError::{OutOfMemory, Refused};
@@ -10,24 +10,13 @@ use hayro_ccitt::context::decode_2d_line;
 use hayro_ccitt::{
     DecodeSettings, Decoder, DecoderContext, Result, bits_fit, body_is_local, decode,
 };
-use std::alloc::{AllocGlobal, Global};
+use named_requests::{refuse_request, was_refused};
+use std::alloc::AllocGlobal;
 use std::process::Abort;
 use std::test::Fail;
 
 /// More requests than any call here makes.
 const MANY: usize = 100;
-
-/// Names a request: of those from now on the one with this number, from 1, is to be refused.
-fn refuse_request(alloc: Global, number: usize)
-    requires { number < 4096 }
-{
-    let _ = Vec::<u8>::with_capacity(alloc, (1 << 20) + number);
-}
-
-/// Whether the named request was made, and refused. From now on none is refused.
-fn was_refused(alloc: Global) -> bool {
-    Vec::<u8>::with_capacity(alloc, 1 << 20).is_err()
-}
 
 /// A sink for known rows, which takes no memory. It refuses any other row, and what comes after the last.
 #[derive(Drop)]

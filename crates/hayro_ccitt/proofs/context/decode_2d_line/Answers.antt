@@ -1,8 +1,8 @@
-use Rattle.std.proofs.Common.{◌≡◌, length, Result, Err, subst, ap, sym, arith, ◌∙◌}
+use Rattle.std.proofs.Common.{◌≡◌, ◌+◌, ◌<◌, ◌≤◌, length, Err, subst, ap, sym, arith, ◌∙◌}
 use Rattle.std.proofs.lemmas.Result.{err_from_is_err_and}
 use Rattle.hayro_ccitt.specs.declared.codes.Mode.{Mode}
 use Rattle.hayro_ccitt.specs.declared.error.DecodeError.{DecodeError}
-use Rattle.hayro_ccitt.specs.Answers.{IsFault, DrawsLine, DrawsStep, Step, pen_of, step_of_mode, words_of_mode}
+use Rattle.hayro_ccitt.specs.Answers.{IsFault, DrawsLine, DrawsStep, Step, line_from_2d, words_from_2d, pen_of, step_of_mode, words_of_mode}
 use Rattle.hayro_ccitt.specs.Rows.{changes}
 use Rattle.hayro_ccitt.proofs.DrawingLines.CountedLines.{found_2d_from, found_after, counted_by_mode, none_after_fault}
 use Rattle.hayro_ccitt.specs.Bits.{Bits, here}
@@ -13,6 +13,7 @@ use Rattle.hayro_ccitt.proofs.DrawingLines.Drawings.{drawn_by, step_2d}
 use Rattle.hayro_ccitt.specs.Repetition.{Turn}
 use Rattle.hayro_ccitt.proofs.Readings.Repeated.{after_turn}
 use Rattle.hayro_ccitt.proofs.DrawingLines.DrawnLines.{open_by, line_by_mode, line_2d_fails, mode_shorter}
+use Rattle.hayro_ccitt.proofs.context.decode_2d_line.Goals.{In_err-draw_mode}
 use Rattle.hayro_ccitt.proofs.context.decode_2d_line.Goals as goal
 
 pub modes-smaller : goal.modes-smaller
@@ -58,50 +59,57 @@ modes-preserved c =
       },
     )
 
+-- a mode that isn't drawn
+module _ (c : In_err-draw_mode) where
+  abbrev before : Held
+  before = c.args.ctx.now.held
+
+  abbrev now : Held
+  now = c.modes.ctx.held
+
+  abbrev pen : Pen
+  pen = pen_of c.draw_mode.new.self.held (here c.draw_mode.new.reader)
+
+  abbrev step : Step
+  step = step_of_mode now (here c.decode_mode.new.self) c.in_ok-mode.mode
+
+  abbrev fault : DecodeError
+  fault = c.in_err-draw_mode.field-0.0
+
+  draws : DrawsStep step (Err fault) pen
+  draws = subst (λ (x : Context). DrawsStep (step_of_mode x.held (here c.decode_mode.new.self) c.in_ok-mode.mode) (Err fault) pen) c.ctx.view_is c.in_err-draw_mode.ensures.step
+
+  open_row : length now.front < now.settings.columns
+  open_row = open_by c.is_full.result (length now.front) now.settings.columns c.modes-test.true c.is_full.ensures.1
+
+  fails : DrawsLine (line_from_2d before (here c.args.reader.now)) (Err fault) pen.front pen.rest
+  fails =
+      let so_far = c.modes.invariant.0 in
+      let line : Line = line_2d before.settings.strict before.settings.columns before.reference (here c.args.reader.now) in
+      line_2d_fails before.settings.strict before.settings.columns before.reference line step fault pen
+      (line_by_mode before now line (here c.modes.reader) (here c.decode_mode.new.self) c.in_ok-mode.mode so_far.held so_far.line open_row c.in_ok-mode.ensures.mode) draws
+
+  at_least : IsFault fault → c.args.ctx.now.ticks + length (words_from_2d before (here c.args.reader.now)) ≤ c.draw_mode.new.self.ticks
+  at_least is =
+      let rest : Bits = here c.decode_mode.new.self in
+      let mode : Mode = c.in_ok-mode.mode in
+      omega (
+        arith,
+        c.in_err-draw_mode.ensures.at_least is,
+        c.in_ok-mode.ensures.ticks,
+        c.modes.invariant.1.at_least,
+        counted_by_mode before now (here c.modes.reader) rest mode c.modes.invariant.0.held open_row c.in_ok-mode.ensures.mode,
+        ap (λ (x : Context). length (words_of_mode x.held rest mode)) c.ctx.view_is,
+        ap (λ (x : Context). x.ticks) c.ctx.view_is,
+        none_after_fault (found_2d_from before.settings.strict before.settings.columns before.reference) step fault pen is draws,
+      )
+
 pub returns-in_err-draw_mode-clause-line : goal.returns-in_err-draw_mode-clause-line
 returns-in_err-draw_mode-clause-line c =
     let p = err_from_is_err_and c.from_residual-in_err-draw_mode.result c.from_residual-in_err-draw_mode.ensures.1 in
-    let before : Held = c.args.ctx.now.held in
-    let now : Held = c.modes.ctx.held in
-    let pen : Pen = pen_of c.draw_mode.new.self.held (here c.draw_mode.new.reader) in
-    let rest : Bits = here c.decode_mode.new.self in
-    let mode : Mode = c.in_ok-mode.mode in
-    let fault : DecodeError = c.in_err-draw_mode.field-0.0 in
-    let so_far = c.modes.invariant.0 in
-    let left : context_of c.ctx.inside ≡ c.modes.ctx = c.ctx.view_is in
-    let open_row = open_by c.is_full.result (length now.front) now.settings.columns c.modes-test.true c.is_full.ensures.1 in
-    let draws : DrawsStep (step_of_mode now rest mode) (Err fault) pen
-    = subst (λ (x : Context). DrawsStep (step_of_mode x.held rest mode) (Err fault) pen) left c.in_err-draw_mode.ensures.step in
-    let line : Line = line_2d before.settings.strict before.settings.columns before.reference (here c.args.reader.now) in
-    let fails : DrawsLine line (Err fault) pen.front pen.rest
-    = line_2d_fails before.settings.strict before.settings.columns before.reference line (step_of_mode now rest mode) fault pen
-    (line_by_mode before now line (here c.modes.reader) rest mode so_far.held so_far.line open_row c.in_ok-mode.ensures.mode) draws in
-    subst (λ (r : Result (Unit {0}) DecodeError). DrawsLine line r pen.front pen.rest) (sym (p.1 ∙ ap (λ (e : DecodeError). Err e) p.2)) fails
+    rw (p.1, p.2) (fails (goal.at.returns-in_err-draw_mode-clause-line c).In_err-draw_mode)
 
 pub returns-in_err-draw_mode-clause-at_least : goal.returns-in_err-draw_mode-clause-at_least
 returns-in_err-draw_mode-clause-at_least c =
     let p = err_from_is_err_and c.from_residual-in_err-draw_mode.result c.from_residual-in_err-draw_mode.ensures.1 in
-    let before : Held = c.args.ctx.now.held in
-    let now : Held = c.modes.ctx.held in
-    let pen : Pen = pen_of c.draw_mode.new.self.held (here c.draw_mode.new.reader) in
-    let rest : Bits = here c.decode_mode.new.self in
-    let mode : Mode = c.in_ok-mode.mode in
-    let fault : DecodeError = c.in_err-draw_mode.field-0.0 in
-    let left : context_of c.ctx.inside ≡ c.modes.ctx = c.ctx.view_is in
-    let open_row = open_by c.is_full.result (length now.front) now.settings.columns c.modes-test.true c.is_full.ensures.1 in
-    let words = counted_by_mode before now (here c.modes.reader) rest mode c.modes.invariant.0.held open_row c.in_ok-mode.ensures.mode in
-    let ticks = ap (λ (x : Context). x.ticks) left in
-    let found = ap (λ (x : Context). length (words_of_mode x.held rest mode)) left in
-    let draws : DrawsStep (step_of_mode now rest mode) (Err fault) pen
-    = subst (λ (x : Context). DrawsStep (step_of_mode x.held rest mode) (Err fault) pen) left c.in_err-draw_mode.ensures.step in
-    rw (p.1, p.2) (λ (is : IsFault fault).
-    omega (
-      arith,
-      c.in_err-draw_mode.ensures.at_least is,
-      c.in_ok-mode.ensures.ticks,
-      c.modes.invariant.1.at_least,
-      words,
-      found,
-      ticks,
-      none_after_fault (found_2d_from before.settings.strict before.settings.columns before.reference) (step_of_mode now rest mode) fault pen is draws,
-    ))
+    rw (p.1, p.2) (at_least (goal.at.returns-in_err-draw_mode-clause-at_least c).In_err-draw_mode)

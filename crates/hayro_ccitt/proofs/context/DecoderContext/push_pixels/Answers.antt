@@ -1,9 +1,28 @@
-use Rattle.std.proofs.Common.{◌≡◌, ◌≤◌, ◌-◌, ◌⊎◌, inl, inr, min, false, Err, refl, sym, ap, ◌∙◌, arith}
+use Rattle.std.proofs.Common.{◌≡◌, ℕ, ◌≤◌, ◌-◌, ◌⊎◌, inl, inr, min, false, ◌++◌, replicate, Ok, Err, refl, sym, ap, ◌∙◌, arith}
 use Rattle.std.proofs.lemmas.Result.{err_from_is_err_and}
+use Rattle.hayro_ccitt.specs.Rows.{Row, is_black, paint, pixels}
 use Rattle.hayro_ccitt.specs.ContextView.{context_of}
 use Rattle.hayro_ccitt.proofs.PixelRows.Painting.{paint-strict, paint-fits, StoresChange-painted}
-use Rattle.hayro_ccitt.proofs.context.DecoderContext.push_pixels.Goals.{else-fitting-count-via-then-fitting-count+else-self, else-fitting-count-via-else-fitting-count}
+use Rattle.hayro_ccitt.proofs.context.DecoderContext.push_pixels.Goals.{After-append_pixels, else-fitting-count-via-then-fitting-count+else-self, else-fitting-count-via-else-fitting-count}
 use Rattle.hayro_ccitt.proofs.context.DecoderContext.push_pixels.Goals as goal
+
+-- what is appended is what the rule paints
+module _ (c : After-append_pixels) where
+  abbrev front : Row
+  front = pixels c.self.inside.pixels_decoded c.self.inside.coding_changes.items
+
+  abbrev room : ℕ
+  room = c.self.inside.settings.columns - c.self.inside.pixels_decoded
+
+  is_painted : paint c.self.inside.settings.strict c.self.inside.settings.columns front c.self.inside.color c.args.count
+      ≡ Ok (front ++ replicate (min c.args.count room) (is_black c.self.inside.color))
+  is_painted =
+      let s = c.self.inside in
+      let fits : (s.settings.strict ≡ false) ⊎ (c.args.count ≤ room) = elim c.else-fitting-count.branch [
+        | else-fitting-count-via-then-fitting-count+else-self w ↦ inl w.if-self.false
+        | else-fitting-count-via-else-fitting-count w ↦ inr (omega (arith, w.if-fitting-count.false, c.min-fitting.ensures))
+      ] in
+      paint-fits s.settings.strict s.settings.columns s.pixels_decoded s.coding_changes.items s.color c.args.count c.self.invariant.front fits
 
 pub returns-then-self-clause-too_many : goal.returns-then-self-clause-too_many
 returns-then-self-clause-too_many c =
@@ -14,11 +33,7 @@ returns-then-self-clause-too_many c =
 pub returns-in_err-append_pixels-clause-too_many : goal.returns-in_err-append_pixels-clause-too_many
 returns-in_err-append_pixels-clause-too_many c =
     let s = c.self.inside in
-    let fits : (s.settings.strict ≡ false) ⊎ (c.args.count ≤ s.settings.columns - s.pixels_decoded) = elim c.else-fitting-count.branch [
-      | else-fitting-count-via-then-fitting-count+else-self w ↦ inl w.if-self.false
-      | else-fitting-count-via-else-fitting-count w ↦ inr (omega (arith, w.if-fitting-count.false, c.min-fitting.ensures))
-    ] in
-    let painted = paint-fits s.settings.strict s.settings.columns s.pixels_decoded s.coding_changes.items s.color c.args.count c.self.invariant.front fits in
+    let painted = is_painted (goal.at.returns-in_err-append_pixels-clause-too_many c).After-append_pixels in
     let p = err_from_is_err_and c.from_residual.result c.from_residual.ensures.1 in
     let memory = c.in_err-append_pixels.ensures.only_memory in
     rw (← c.self.view_is) (λ e. cc, λ e. cc)
@@ -26,11 +41,7 @@ returns-in_err-append_pixels-clause-too_many c =
 pub returns-in_err-append_pixels-clause-memory : goal.returns-in_err-append_pixels-clause-memory
 returns-in_err-append_pixels-clause-memory c =
     let s = c.self.inside in
-    let fits : (s.settings.strict ≡ false) ⊎ (c.args.count ≤ s.settings.columns - s.pixels_decoded) = elim c.else-fitting-count.branch [
-      | else-fitting-count-via-then-fitting-count+else-self w ↦ inl w.if-self.false
-      | else-fitting-count-via-else-fitting-count w ↦ inr (omega (arith, w.if-fitting-count.false, c.min-fitting.ensures))
-    ] in
-    let painted = paint-fits s.settings.strict s.settings.columns s.pixels_decoded s.coding_changes.items s.color c.args.count c.self.invariant.front fits in
+    let painted = is_painted (goal.at.returns-in_err-append_pixels-clause-memory c).After-append_pixels in
     let less : c.min-fitting.result ≡ min c.args.count (s.settings.columns - s.pixels_decoded) = c.min-fitting.ensures in
     let p = err_from_is_err_and c.from_residual.result c.from_residual.ensures.1 in
     rw (← c.self.view_is) (λ e.
@@ -40,20 +51,12 @@ returns-in_err-append_pixels-clause-memory c =
 pub returns-clause-painted : goal.returns-clause-painted
 returns-clause-painted c =
     let s = c.self.inside in
-    let fits : (s.settings.strict ≡ false) ⊎ (c.args.count ≤ s.settings.columns - s.pixels_decoded) = elim c.else-fitting-count.branch [
-      | else-fitting-count-via-then-fitting-count+else-self w ↦ inl w.if-self.false
-      | else-fitting-count-via-else-fitting-count w ↦ inr (omega (arith, w.if-fitting-count.false, c.min-fitting.ensures))
-    ] in
-    let painted = paint-fits s.settings.strict s.settings.columns s.pixels_decoded s.coding_changes.items s.color c.args.count c.self.invariant.front fits in
+    let painted = is_painted (goal.at.returns-clause-painted c).After-append_pixels in
     let less : c.min-fitting.result ≡ min c.args.count (s.settings.columns - s.pixels_decoded) = c.min-fitting.ensures in
     rw (← c.self.view_is, c.in_ok-append_pixels.ensures.painted, less) painted
 
 pub returns-clause-too_many : goal.returns-clause-too_many
 returns-clause-too_many c =
     let s = c.self.inside in
-    let fits : (s.settings.strict ≡ false) ⊎ (c.args.count ≤ s.settings.columns - s.pixels_decoded) = elim c.else-fitting-count.branch [
-      | else-fitting-count-via-then-fitting-count+else-self w ↦ inl w.if-self.false
-      | else-fitting-count-via-else-fitting-count w ↦ inr (omega (arith, w.if-fitting-count.false, c.min-fitting.ensures))
-    ] in
-    let painted = paint-fits s.settings.strict s.settings.columns s.pixels_decoded s.coding_changes.items s.color c.args.count c.self.invariant.front fits in
+    let painted = is_painted (goal.at.returns-clause-too_many c).After-append_pixels in
     rw (← c.self.view_is) (λ e. cc, λ e. cc)

@@ -1,0 +1,46 @@
+//! For tests: requests for memory that are named, and refused where `checks/refuse_named.c` is loaded before the test, as
+//! `checks/built_tests.py` does. Elsewhere none is refused.
+#![tactic(auto)]
+
+ghost use Rattle.std.specs.Prelude.{◌<◌};
+
+use std::alloc::Global;
+
+/// More requests than any call of the tests makes.
+const MANY: usize = 100;
+
+/// Names a request for memory: of those from now on the one with this number, from 1, is to be refused, and no other.
+pub fn refuse_request(alloc: Global, number: usize)
+    requires { number < 4096 }
+{
+    let _ = Vec::<u8>::with_capacity(alloc, (1 << 20) + number);
+}
+
+/// Whether the named request was made, and refused. From now on none is refused.
+pub fn was_refused(alloc: Global) -> bool {
+    Vec::<u8>::with_capacity(alloc, 1 << 20).is_err()
+}
+
+/// Makes a call again and again, with one more request refused in turn, until it makes no more requests. Answers what it makes
+/// then. Where it succeeds in spite of a refusal, or answers an error that isn't wanted, the answer is the request's number
+/// and the error.
+pub fn made_at_last<R: Drop, E: Drop, F: Fn() -> Result<R, E>, W: Fn(&E) -> bool>(
+    alloc: Global,
+    call: &F,
+    is_wanted: &W,
+) -> Result<R, (usize, Option<E>)>
+    requires call { F.IsAlwaysCallable call.now }
+    requires wanted { W.IsAlwaysCallable is_wanted.now }
+{
+    for number in 1..MANY {
+        refuse_request(alloc, number);
+        let answer = call();
+        let was_refused = was_refused(alloc);
+        match answer {
+            Ok(made) if !was_refused => return Ok(made),
+            Err(error) if was_refused && is_wanted(&error) => {}
+            other => return Err((number, other.err())),
+        }
+    }
+    Err((MANY, None))
+}
