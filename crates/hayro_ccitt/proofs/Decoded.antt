@@ -29,6 +29,7 @@ to_the_end : {M : Type 0} (rows : List Row) (outcome : Result ℕ DecodeError) {
 to_the_end rows outcome step before after held (Ok n) takes = (take_all held.taken rows (omega (arith, takes.all)), sym takes.ok)
 to_the_end rows outcome step before after held (Err error) takes = λ fault. (take_all held.taken rows (omega (arith, takes.all fault)), sym (takes.fault fault))
 
+-- so the contract follows from the rows taken, stopping short, and the work
 pub decodes : {M : Type 0} (settings : DecodeSettings) (bits : Bits) (step : M → List ℕ → M) (before after : SinkState M) (held : Held) (ticks : ℕ) (answer : Result ℕ DecodeError)
     → AreSettings settings → AreWholeBytes bits → LeavesRows settings bits step before after held answer
     → ((settings.encoding ≡ Group4) ⊎ (settings.columns ≡ 0) → held.has_eols ≡ false) → CountsWork settings bits held.taken ticks
