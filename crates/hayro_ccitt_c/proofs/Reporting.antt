@@ -6,13 +6,16 @@ use Rattle.hayro_ccitt.specs.declared.settings.DecodeSettings.{DecodeSettings}
 use Rattle.std.specs.Prelude.{Result}
 use Rattle.std.specs.List.{fold}
 use Rattle.hayro_ccitt.specs.Answers.{meaning_after}
-use Rattle.hayro_ccitt.specs.Bits.{Bits}
+use Rattle.hayro_ccitt.specs.declared.bit_reader.BitOrder.{BitOrder}
+use Rattle.hayro_ccitt.specs.Bits.{Bits, bits_in}
 use Rattle.hayro_ccitt.specs.Rows.{Row, changes}
 use Rattle.hayro_ccitt.specs.Context.{Held}
 use Rattle.hayro_ccitt.specs.Decoding.{SinkState, TakesRows, StopsShort}
 use Rattle.hayro_ccitt.specs.PlainReading.{plain, lines_of}
 use Rattle.hayro_ccitt_c.specs.Packing.{counted}
-use Rattle.hayro_ccitt_c.specs.Reports.{EndsAfter, IsReport}
+use Rattle.hayro_ccitt_c.specs.Reports.{EndsAfter, IsReport, OnSettings}
+use Rattle.hayro_ccitt_c.specs.Settings.{order_of, settings_of}
+use Rattle.hayro_ccitt_c.specs.declared.settings.Settings.{Settings}
 
 -- decoding ends as it may after the rows that were taken
 pub ends_after : {M : Type 0} (step : M → List ℕ → M) (settings : DecodeSettings) (bits : Bits) (before after : SinkState M) (held : Held) (answer : Result ℕ DecodeError)
@@ -30,9 +33,15 @@ pub no_memory : (settings : DecodeSettings) (bits : Bits) → IsReport settings 
 no_memory settings bits = record { answer = Err OutOfMemory; ends = (omega arith, inl refl); status_is = refl; bytes_are = refl }
 
 -- a fact of the settings that C means
-pub on_meant : (meant : Option DecodeSettings) (settings : DecodeSettings) (P : DecodeSettings → Type 0) → meant ≡ Some settings → P settings → IfSome meant P
+on_meant : (meant : Option DecodeSettings) (settings : DecodeSettings) (P : DecodeSettings → Type 0) → meant ≡ Some settings → P settings → IfSome meant P
 on_meant None settings P e p = cc
 on_meant (Some s) settings P e p = let same : settings ≡ s = cc in subst P same p
+
+-- and of the bits of data
+pub on_settings : (settings : Settings) (meant : DecodeSettings) (input : List ℕ) (order : BitOrder) (P : DecodeSettings → Bits → Type 0)
+    → settings_of settings ≡ Some meant → order ≡ order_of settings → P meant (bits_in order input) → OnSettings settings input P
+on_settings settings meant input order P is same p fit =
+    on_meant (settings_of settings) meant (λ s. P s (bits_in (order_of settings) input)) is (subst (λ (o : BitOrder). P meant (bits_in o input)) same p)
 
 -- so many rows are there
 pub taken_within : (settings : DecodeSettings) (bits : Bits) (taken : ℕ) (answer : Result ℕ DecodeError) → EndsAfter settings bits taken answer

@@ -23,13 +23,12 @@ mod settings;
 use change_count::ChangeCount;
 use encoding::{Unencoded, encoded};
 pub use encoding::{EncodeOutcome, EncodeSettings};
-use hayro_ccitt::bits_fit;
 use listed_rows::ListedRows;
 use packed_rows::PackedRows;
 pub use report::Outcome;
-use report::{decoded, untaken};
+use report::{decoded, told, untaken};
 pub use settings::Settings;
-use settings::{order_of, settings_of};
+use settings::{order_of, settings_for};
 use std::alloc::Global;
 
 /// Counts the rows of the data and their changes, and writes nothing down.
@@ -51,20 +50,12 @@ pub extern "C" fn hayro_ccitt_measure(
     ensures untaken { (settings_of settings.now ≡ None) ⊎ (¬ (BitsFit «data».now))
         → (result ≡ 6) × (outcome.new ≡ record { rows = 0; changes = 0; bytes_read = 0 }) }
 {
-    if !bits_fit(data) {
-        return untaken(outcome);
-    }
-    let Some(meant) = settings_of(settings) else {
+    let Some(meant) = settings_for(data, settings) else {
         return untaken(outcome);
     };
     let mut count = ChangeCount::new();
     let report = decoded(alloc, data, order_of(settings), meant, &mut count);
-    *outcome = Outcome {
-        rows: report.rows,
-        changes: count.changes(),
-        bytes_read: report.bytes_read,
-    };
-    report.status
+    told(&report, count.changes(), outcome)
 }
 
 /// Packs the rows of the data into `bitmap`, one below the other: a row takes (columns + 7) / 8 bytes, the leftmost pixel in
@@ -92,20 +83,12 @@ pub extern "C" fn hayro_ccitt_decode_packed(
         → (result ≡ 6) × (outcome.new ≡ record { rows = 0; changes = 0; bytes_read = 0 })
         × (bitmap.new ≡ bitmap.old) }
 {
-    if !bits_fit(data) {
-        return untaken(outcome);
-    }
-    let Some(meant) = settings_of(settings) else {
+    let Some(meant) = settings_for(data, settings) else {
         return untaken(outcome);
     };
     let mut rows = PackedRows::new(bitmap, meant.columns);
     let report = decoded(alloc, data, order_of(settings), meant, &mut rows);
-    *outcome = Outcome {
-        rows: report.rows,
-        changes: rows.changes(),
-        bytes_read: report.bytes_read,
-    };
-    report.status
+    told(&report, rows.changes(), outcome)
 }
 
 /// Lists the changes of the rows of the data in `lists`, one row behind the other: of each row the number of its changes, and
@@ -134,20 +117,12 @@ pub extern "C" fn hayro_ccitt_decode_changes(
         → (result ≡ 6) × (outcome.new ≡ record { rows = 0; changes = 0; bytes_read = 0 })
         × (lists.new ≡ lists.old) }
 {
-    if !bits_fit(data) {
-        return untaken(outcome);
-    }
-    let Some(meant) = settings_of(settings) else {
+    let Some(meant) = settings_for(data, settings) else {
         return untaken(outcome);
     };
     let mut rows = ListedRows::new(lists, meant.columns);
     let report = decoded(alloc, data, order_of(settings), meant, &mut rows);
-    *outcome = Outcome {
-        rows: report.rows,
-        changes: rows.changes(),
-        bytes_read: report.bytes_read,
-    };
-    report.status
+    told(&report, rows.changes(), outcome)
 }
 
 /// Encodes a bitmap into `data`: a row takes (columns + 7) / 8 bytes, the leftmost pixel in a byte's highest bit, 1 for

@@ -48,6 +48,20 @@ pub(crate) fn untaken(outcome: &mut Outcome) -> u32
     6
 }
 
+/// The status of a decoding. The outcome is what it reports, and the number of the changes.
+pub(crate) fn told(report: &Report, changes: u64, outcome: &mut Outcome) -> u32
+    ensures status { result ≡ report.now.status }
+    ensures outcome { outcome.new
+        ≡ record { rows = report.now.rows; changes = changes; bytes_read = report.now.bytes_read } }
+{
+    *outcome = Outcome {
+        rows: report.rows,
+        changes,
+        bytes_read: report.bytes_read,
+    };
+    report.status
+}
+
 /// The status of an answer.
 fn status_of(answer: &Result<usize>) -> u32
     ensures { result ≡ status_of answer.now }

@@ -1,11 +1,12 @@
 //! What C writes of the settings, and which settings that are.
 
 ghost use Rattle.std.specs.Prelude.{◌≡◌, ◌≤◌, IfSome};
+ghost use Rattle.hayro_ccitt.specs.Bits.{BitsFit};
 ghost use Rattle.hayro_ccitt.specs.Settings.{AreSettings};
 ghost use Rattle.hayro_ccitt_c.specs.Settings.{settings_of, encoding_of, order_of};
 
 use hayro_ccitt::bit_reader::BitOrder;
-use hayro_ccitt::{DecodeSettings, EncodingMode};
+use hayro_ccitt::{DecodeSettings, EncodingMode, bits_fit};
 
 /// What decoding goes by, as C writes it.
 #[repr(C)]
@@ -46,7 +47,7 @@ pub(crate) fn order_of(settings: &Settings) -> BitOrder
 }
 
 /// The settings that C means, or nothing where it means none: an encoding or a flag that isn't known.
-pub(crate) fn settings_of(settings: &Settings) -> Option<DecodeSettings>
+fn settings_of(settings: &Settings) -> Option<DecodeSettings>
     ensures meant { result ≡ settings_of settings.now }
 {
     if settings.flags >= 32 {
@@ -62,4 +63,16 @@ pub(crate) fn settings_of(settings: &Settings) -> Option<DecodeSettings>
         encoding,
         strict: settings.flags / 8 % 2 == 1,
     })
+}
+
+/// The settings that C means for data, or nothing where it means none or the data is too long.
+pub(crate) fn settings_for(data: &[u8], settings: &Settings) -> Option<DecodeSettings>
+    ensures meant { BitsFit «data».now → result ≡ settings_of settings.now }
+    ensures fit { IfSome result (λ _. BitsFit «data».now) }
+{
+    if bits_fit(data) {
+        settings_of(settings)
+    } else {
+        None
+    }
 }

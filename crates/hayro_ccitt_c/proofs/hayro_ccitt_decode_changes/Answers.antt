@@ -1,17 +1,17 @@
-use Rattle.std.proofs.Common.{◌≡◌, ◌∙◌, ◌+◌, ◌≤◌, length, arith, take, drop, refl, sym, ap, subst, rules, Some}
+use Rattle.std.proofs.Common.{◌≡◌, ◌∙◌, ◌+◌, ◌≤◌, length, arith, take, drop, refl, sym, ap, rules, Some, IfSome, ℕ, List, []}
 use Rattle.hayro_ccitt_c.specs.Listing.{Listing}
-use Rattle.hayro_ccitt.specs.Bits.{bits_in}
+use Rattle.hayro_ccitt.specs.Bits.{Bits, BitsFit, bits_in}
 use Rattle.hayro_ccitt_c.specs.Reports.{changes_taken, numbers_taken, AreListed}
-use Rattle.hayro_ccitt.specs.declared.bit_reader.BitOrder.{BitOrder}
-use Rattle.hayro_ccitt_c.specs.Settings.{settings_of, order_of}
+use Rattle.hayro_ccitt.specs.declared.settings.DecodeSettings.{DecodeSettings}
+use Rattle.hayro_ccitt_c.specs.Settings.{order_of, settings_of}
 use Rattle.hayro_ccitt_c.proofs.ListedMemory.{HoldsLists, holds_lists}
-use Rattle.hayro_ccitt_c.proofs.Reporting.{on_meant}
+use Rattle.hayro_ccitt_c.proofs.Reporting.{on_settings}
 use Rattle.hayro_ccitt_c.proofs.hayro_ccitt_decode_changes.Goals as goal
 
-module _ (c : goal.After-slice_known-2-1) where
+module _ (c : goal.After-told) where
   -- the settings that C means
   meant : settings_of c.args.settings.now ≡ Some c.in-Some.meant
-  meant = sym c.settings_of.ensures.meant ∙ c.in-Some.is
+  meant = sym (c.settings_for.ensures.meant c.in-Some.ensures.fit) ∙ c.in-Some.is
 
   -- what the sink means before and after
   abbrev start : Listing
@@ -40,22 +40,23 @@ module _ (c : goal.After-slice_known-2-1) where
       (ap (λ n. drop n c.new-rows.result.lists.now) c.new-rows.ensures.end ∙ c.new-rows.ensures.numbers)
       c.new-rows.ensures.changes refl refl c.decoded-report.ensures.meaning
 
+-- a fact of what was decoded, and of the memory that is left, is one of what C asks for
+on : (c : goal.After-told) (P : DecodeSettings → Bits → List ℕ → Type 0) (memory : List ℕ) → P c.in-Some.meant (bits_in c.order_of.result c.args.«data».now) memory
+    → BitsFit c.args.«data».now → IfSome (settings_of c.args.settings.now) (λ s. P s (bits_in (order_of c.args.settings.now) c.args.«data».now) memory)
+on c P memory = on_settings c.args.settings.now c.in-Some.meant c.args.«data».now c.order_of.result (λ s bits. P s bits memory) (meant c) c.order_of.ensures
+
 pub returns-clause-changes : goal.returns-clause-changes
-returns-clause-changes c = λ fit.
-    on_meant (settings_of c.args.settings.now) c.in-Some.meant (λ s. c.changes.result ≡ changes_taken s (bits_in (order_of c.args.settings.now) c.args.«data».now) c.decoded-report.result.rows) (meant c)
-    (subst (λ (o : BitOrder). c.changes.result ≡ changes_taken c.in-Some.meant (bits_in o c.args.«data».now) c.decoded-report.result.rows) c.order_of.ensures
-    (c.changes.ensures ∙ (holds c).changes))
+returns-clause-changes c = rw c.told.ensures.outcome (λ fit. on c (λ s bits memory. c.changes.result ≡ changes_taken s bits c.decoded-report.result.rows) [] (c.changes.ensures ∙ (holds c).changes) fit)
 
 pub returns-clause-listed : goal.returns-clause-listed
-returns-clause-listed c = λ fit.
-    let are : AreListed c.in-Some.meant (bits_in (order_of c.args.settings.now) c.args.«data».now) c.decoded-report.result.rows c.args.lists.now c.decoded-report.new.sink.lists.now
-    = subst (λ (o : BitOrder). AreListed c.in-Some.meant (bits_in o c.args.«data».now) c.decoded-report.result.rows c.args.lists.now c.decoded-report.new.sink.lists.now) c.order_of.ensures (holds c).listed in
+returns-clause-listed c =
+    let are = (holds c).listed in
     let name = sym c.new-rows.ensures.same_reference ∙ (holds c).name in
-    on_meant (settings_of c.args.settings.now) c.in-Some.meant (λ s. AreListed s (bits_in (order_of c.args.settings.now) c.args.«data».now) c.decoded-report.result.rows c.args.lists.now _) (meant c) (search rules)
+    rw c.told.ensures.outcome (λ fit. on c (λ s bits memory. AreListed s bits c.decoded-report.result.rows c.args.lists.now memory) _ (search rules) fit)
 
 pub returns-clause-refused : goal.returns-clause-refused
-returns-clause-refused c = λ full fit.
-    let few : length c.decoded-report.new.sink.lists.now ≤ numbers_taken c.in-Some.meant (bits_in (order_of c.args.settings.now) c.args.«data».now) c.decoded-report.result.rows + c.in-Some.meant.columns
-    = subst (λ (o : BitOrder). length c.decoded-report.new.sink.lists.now ≤ numbers_taken c.in-Some.meant (bits_in o c.args.«data».now) c.decoded-report.result.rows + c.in-Some.meant.columns) c.order_of.ensures (omega (arith, c.decoded-report.new.sink.full (c.decoded-report.ensures.flag full), (holds c).end, c.decoded-report.ensures.width, c.new-rows.ensures.columns)) in
+returns-clause-refused c = λ full.
+    let few : length c.decoded-report.new.sink.lists.now ≤ numbers_taken c.in-Some.meant (bits_in c.order_of.result c.args.«data».now) c.decoded-report.result.rows + c.in-Some.meant.columns
+    = omega (arith, c.decoded-report.new.sink.full (c.decoded-report.ensures.flag (sym c.told.ensures.status ∙ full)), (holds c).end, c.decoded-report.ensures.width, c.new-rows.ensures.columns) in
     let name = sym c.new-rows.ensures.same_reference ∙ (holds c).name in
-    on_meant (settings_of c.args.settings.now) c.in-Some.meant (λ s. length _ ≤ numbers_taken s (bits_in (order_of c.args.settings.now) c.args.«data».now) c.decoded-report.result.rows + s.columns) (meant c) (search rules)
+    rw c.told.ensures.outcome (λ fit. on c (λ s bits memory. length memory ≤ numbers_taken s bits c.decoded-report.result.rows + s.columns) _ (search rules) fit)

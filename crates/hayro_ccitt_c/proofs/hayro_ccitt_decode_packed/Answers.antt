@@ -1,18 +1,18 @@
-use Rattle.std.proofs.Common.{◌≡◌, ◌∙◌, ◌≤◌, ◌<◌, ◌+◌, ◌*◌, ℕ, [], take, drop, length, refl, sym, ap, subst, rules, Some}
-use Rattle.hayro_ccitt.specs.Bits.{bits_of, bits_in}
+use Rattle.std.proofs.Common.{◌≡◌, ◌∙◌, ◌≤◌, ◌<◌, ◌+◌, ◌*◌, ℕ, [], take, drop, length, refl, sym, ap, rules, Some, IfSome, List}
+use Rattle.hayro_ccitt.specs.Bits.{Bits, BitsFit, bits_of, bits_in}
 use Rattle.hayro_ccitt.specs.PlainReading.{plain}
 use Rattle.hayro_ccitt_c.specs.Packing.{Packing, bytes_of_row}
 use Rattle.hayro_ccitt_c.specs.Reports.{changes_taken, ArePacked}
-use Rattle.hayro_ccitt.specs.declared.bit_reader.BitOrder.{BitOrder}
-use Rattle.hayro_ccitt_c.specs.Settings.{settings_of, order_of}
+use Rattle.hayro_ccitt.specs.declared.settings.DecodeSettings.{DecodeSettings}
+use Rattle.hayro_ccitt_c.specs.Settings.{order_of, settings_of}
 use Rattle.hayro_ccitt_c.proofs.PackedMemory.{IsLent, is_lent, same_name, no_room}
-use Rattle.hayro_ccitt_c.proofs.Reporting.{on_meant, taken_within}
+use Rattle.hayro_ccitt_c.proofs.Reporting.{on_settings, taken_within}
 use Rattle.hayro_ccitt_c.proofs.hayro_ccitt_decode_packed.Goals as goal
 
-module _ (c : goal.After-slice_known-2-1) where
+module _ (c : goal.After-told) where
   -- the settings that C means
   meant : settings_of c.args.settings.now ≡ Some c.in-Some.meant
-  meant = sym c.settings_of.ensures.meant ∙ c.in-Some.is
+  meant = sym (c.settings_for.ensures.meant c.in-Some.ensures.fit) ∙ c.in-Some.is
 
   -- what the sink means before and after
   abbrev start : Packing
@@ -53,26 +53,25 @@ module _ (c : goal.After-slice_known-2-1) where
       same_name c.in-Some.meant (bits_in c.order_of.result c.args.«data».now) c.decoded-report.result.rows c.new-rows.result.columns start final c.args.bitmap.now c.decoded-report.new.sink.bitmap.now
       c.new-rows.ensures.columns c.new-rows.ensures.end empty whole c.new-rows.ensures.changes refl refl c.decoded-report.new.sink.within enough c.decoded-report.ensures.meaning
 
+-- a fact of what was decoded, and of the memory that is left, is one of what C asks for
+on : (c : goal.After-told) (P : DecodeSettings → Bits → List ℕ → Type 0) (memory : List ℕ) → P c.in-Some.meant (bits_in c.order_of.result c.args.«data».now) memory
+    → BitsFit c.args.«data».now → IfSome (settings_of c.args.settings.now) (λ s. P s (bits_in (order_of c.args.settings.now) c.args.«data».now) memory)
+on c P memory = on_settings c.args.settings.now c.in-Some.meant c.args.«data».now c.order_of.result (λ s bits. P s bits memory) (meant c) c.order_of.ensures
+
 pub returns-clause-changes : goal.returns-clause-changes
-returns-clause-changes c = λ fit.
-    on_meant (settings_of c.args.settings.now) c.in-Some.meant (λ s. c.changes.result ≡ changes_taken s (bits_in (order_of c.args.settings.now) c.args.«data».now) c.decoded-report.result.rows) (meant c)
-    (subst (λ (o : BitOrder). c.changes.result ≡ changes_taken c.in-Some.meant (bits_in o c.args.«data».now) c.decoded-report.result.rows) c.order_of.ensures
-    (c.changes.ensures ∙ (lent c).changes))
+returns-clause-changes c = rw c.told.ensures.outcome (λ fit. on c (λ s bits memory. c.changes.result ≡ changes_taken s bits c.decoded-report.result.rows) [] (c.changes.ensures ∙ (lent c).changes) fit)
 
 pub returns-clause-packed : goal.returns-clause-packed
-returns-clause-packed c = λ fit.
-    let are : ArePacked c.in-Some.meant (bits_in (order_of c.args.settings.now) c.args.«data».now) c.decoded-report.result.rows c.args.bitmap.now c.decoded-report.new.sink.bitmap.now
-    = subst (λ (o : BitOrder). ArePacked c.in-Some.meant (bits_in o c.args.«data».now) c.decoded-report.result.rows c.args.bitmap.now c.decoded-report.new.sink.bitmap.now) c.order_of.ensures (lent c).packed in
+returns-clause-packed c =
+    let are = (lent c).packed in
     let name = sym c.new-rows.ensures.same_reference ∙ same c in
-    on_meant (settings_of c.args.settings.now) c.in-Some.meant (λ s. ArePacked s (bits_in (order_of c.args.settings.now) c.args.«data».now) c.decoded-report.result.rows c.args.bitmap.now _) (meant c)
-    (search rules)
+    rw c.told.ensures.outcome (λ fit. on c (λ s bits memory. ArePacked s bits c.decoded-report.result.rows c.args.bitmap.now memory) _ (search rules) fit)
 
 pub returns-clause-refused : goal.returns-clause-refused
-returns-clause-refused c = λ full fit.
+returns-clause-refused c = λ full.
     let wide = c.decoded-report.ensures.width ∙ c.new-rows.ensures.columns in
     let few : length c.decoded-report.new.sink.bitmap.now < (c.decoded-report.result.rows + 1) * bytes_of_row c.in-Some.meant.columns
     = no_room c.in-Some.meant c.decoded-report.result.rows c.decoded-report.new.sink.end c.decoded-report.new.sink.columns _ (lent c).end wide
-    (c.decoded-report.new.sink.full (c.decoded-report.ensures.flag full)) in
+    (c.decoded-report.new.sink.full (c.decoded-report.ensures.flag (sym c.told.ensures.status ∙ full))) in
     let name = sym c.new-rows.ensures.same_reference ∙ same c in
-    on_meant (settings_of c.args.settings.now) c.in-Some.meant (λ s. length _ < (c.decoded-report.result.rows + 1) * bytes_of_row s.columns) (meant c)
-    (search rules)
+    rw c.told.ensures.outcome (λ fit. on c (λ s bits memory. length memory < (c.decoded-report.result.rows + 1) * bytes_of_row s.columns) _ (search rules) fit)

@@ -41,29 +41,32 @@ module _ (g : Over) (c : goal.After-drop-input-2 g) where
   written done e = IfOk-at_ok Written e c.write_decoded.ensures.written
 
   -- a fact of what was decoded is one of what is known
-  known : (P : DecodeSettings → Bits → Type 0) → P settings bits
-      → OnKnown (arguments_of_words (map string_bytes c.args.words.now)) (g.R.Read.remaining c.args.reader.now.0) P
+  abbrev Known : (DecodeSettings → Bits → Type 0) → Type 0
+  Known = OnKnown (arguments_of_words (map string_bytes c.args.words.now)) (g.R.Read.remaining c.args.reader.now.0)
+
+  known : (P : DecodeSettings → Bits → Type 0) → P settings bits → Known P
   known P holds = on_known _ c.in-Some.arguments settings _ c.as_slice.result.now P (search rules) (search rules) (search rules) holds
 
+  -- all the text was written, and what the run's end says of the outcome is so
+  whole : (done : Done) (P : DecodeSettings → Bits → Type 0)
+      → ((outcome : Outcome) → EndsAfter settings bits taken outcome → done_of outcome ≡ done → (text_after settings bits taken outcome ≡ whole_text settings bits) × P settings bits)
+      → c.write_decoded.result ≡ Ok done → Known (λ s b. Grew (whole_text s b)) × Known P
+  whole done P said e =
+      let (outcome, ends, same, grew) = written done e in
+      let (all, holds) = said outcome ends (sym same) in
+      (known (λ s b. Grew (whole_text s b)) (subst Grew all grew), known P holds)
+
 pub returns-clause-good : goal.returns-clause-good
-returns-clause-good g c = λ e.
-    let (outcome, ends, same, grew) = written g c Good e in
-    known g c (λ s b. Grew g c (whole_text s b)) (subst (Grew g c) (text_of_good (settings g c) (bits g c) (taken g c) outcome ends (sym same)).0 grew)
+returns-clause-good g c = λ e. (whole g c Good (λ s b. IsOk (outcome_of s b)) (text_of_good (settings g c) (bits g c) (taken g c)) e).0
 
 pub returns-clause-good_outcome : goal.returns-clause-good_outcome
-returns-clause-good_outcome g c = λ e.
-    let (outcome, ends, same, grew) = written g c Good e in
-    known g c (λ s b. IsOk (outcome_of s b)) (text_of_good (settings g c) (bits g c) (taken g c) outcome ends (sym same)).1
+returns-clause-good_outcome g c = λ e. (whole g c Good (λ s b. IsOk (outcome_of s b)) (text_of_good (settings g c) (bits g c) (taken g c)) e).1
 
 pub returns-clause-faulty : goal.returns-clause-faulty
-returns-clause-faulty g c = λ e.
-    let (outcome, ends, same, grew) = written g c Faulty e in
-    known g c (λ s b. Grew g c (whole_text s b)) (subst (Grew g c) (text_of_faulty (settings g c) (bits g c) (taken g c) outcome ends (sym same)).0 grew)
+returns-clause-faulty g c = λ e. (whole g c Faulty (λ s b. IsErr (outcome_of s b)) (text_of_faulty (settings g c) (bits g c) (taken g c)) e).0
 
 pub returns-clause-faulty_outcome : goal.returns-clause-faulty_outcome
-returns-clause-faulty_outcome g c = λ e.
-    let (outcome, ends, same, grew) = written g c Faulty e in
-    known g c (λ s b. IsErr (outcome_of s b)) (text_of_faulty (settings g c) (bits g c) (taken g c) outcome ends (sym same)).1
+returns-clause-faulty_outcome g c = λ e. (whole g c Faulty (λ s b. IsErr (outcome_of s b)) (text_of_faulty (settings g c) (bits g c) (taken g c)) e).1
 
 pub returns-clause-memory : goal.returns-clause-memory
 returns-clause-memory g c = λ e.
