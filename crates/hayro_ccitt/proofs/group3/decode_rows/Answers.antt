@@ -19,7 +19,7 @@ use Rattle.hayro_ccitt.proofs.Work.ChangesStored.{changes_white}
 use Rattle.hayro_ccitt.proofs.Work.RunsCount.{counted_ends}
 use Rattle.hayro_ccitt.proofs.Work.EolsPassed.{looked_before, looked_most}
 use Rattle.hayro_ccitt.proofs.group3.decode_rows.Given.{Over}
-use Rattle.hayro_ccitt.proofs.group3.decode_rows.Goals.{After-check_eob, In_err-read_row}
+use Rattle.hayro_ccitt.proofs.group3.decode_rows.Goals.{After-check_eob, After-read_row, In_err-read_row}
 use Rattle.hayro_ccitt.proofs.group3.decode_rows.Goals as goal
 
 pub rows-init : goal.rows-init
@@ -126,6 +126,12 @@ rows-smaller g c =
     (record { meaning = g.D.Decoder.meaning c.read_row.new.decoder; refused = g.D.Decoder.has_refused c.read_row.new.decoder }) c.read_row.new.ctx.held (here c.read_row.new.reader)
     c.in_ok-read_row.ensures.row c.check_eob.new.ctx.held (here c.check_eob.new.reader) c.check_eob.result c.check_eob.ensures.gap c.check_eob.ensures.held is
 
+-- what is left before a row is no longer than the data
+within : (g : Over) (c : After-read_row g) → length (here c.rows.reader) ≤ length c.args.reader.now.bits
+within g c =
+    let (between, same, width, words, paid) = c.rows.invariant in
+    omega (arith, length-drop c.rows.reader.place c.rows.reader.bits, ap length same)
+
 pub rows-preserved : goal.rows-preserved
 rows-preserved g c =
     let (between, same, width, words, paid) = c.rows.invariant in
@@ -137,7 +143,6 @@ rows-preserved g c =
     c.rows.ctx.held (here c.rows.reader) between (g.D.Decoder.width c.rows.decoder) width
     (record { meaning = g.D.Decoder.meaning c.read_row.new.decoder; refused = g.D.Decoder.has_refused c.read_row.new.decoder }) c.read_row.new.ctx.held (here c.read_row.new.reader)
     c.in_ok-read_row.ensures.row c.check_eob.new.ctx.held (here c.check_eob.new.reader) c.check_eob.result c.check_eob.ensures.gap c.check_eob.ensures.held is in
-    let within : length (here c.rows.reader) ≤ length bits = omega (arith, length-drop c.rows.reader.place c.rows.reader.bits, ap length same) in
     let found = words_are settings c.requires.columns bits g.D.Decoder.step (g.D.Decoder.width c.args.decoder.now)
     (record { meaning = g.D.Decoder.meaning c.args.decoder.now; refused = g.D.Decoder.has_refused c.args.decoder.now }) (record { meaning = g.D.Decoder.meaning c.rows.decoder; refused = g.D.Decoder.has_refused c.rows.decoder })
     c.rows.ctx.held (here c.rows.reader) between (g.D.Decoder.width c.rows.decoder) width
@@ -153,7 +158,7 @@ rows-preserved g c =
     (record { meaning = g.D.Decoder.meaning c.args.decoder.now; refused = g.D.Decoder.has_refused c.args.decoder.now }) (record { meaning = g.D.Decoder.meaning c.rows.decoder; refused = g.D.Decoder.has_refused c.rows.decoder })
     c.rows.ctx.held (here c.rows.reader) between (g.D.Decoder.width c.rows.decoder) width
     (record { meaning = g.D.Decoder.meaning c.read_row.new.decoder; refused = g.D.Decoder.has_refused c.read_row.new.decoder }) c.read_row.new.ctx.held (here c.read_row.new.reader)
-    within c.args.ctx.now.ticks c.rows.ctx.ticks paid c.read_row.new.ctx.ticks c.in_ok-read_row.ensures.at_most c.in_ok-read_row.ensures.row
+    (within g (goal.at.rows-preserved g c).After-read_row) c.args.ctx.now.ticks c.rows.ctx.ticks paid c.read_row.new.ctx.ticks c.in_ok-read_row.ensures.at_most c.in_ok-read_row.ensures.row
     c.check_eob.new.ctx.ticks c.check_eob.new.ctx.held (here c.check_eob.new.reader) gap c.check_eob.ensures.held c.in_ok-read_row.ensures.stored
     c.in_ok-check_eob.ensures.work c.in_ok-check_eob.ensures.work_given_up in
     (next, c.check_eob.ensures.same_bits ∙ c.read_row.ensures.same_bits ∙ same, c.read_row.ensures.width ∙ width, counted, goes_on)
@@ -163,7 +168,6 @@ returns-in_err-read_row-clause-work g c =
     let (between, same, width, words, paid) = c.rows.invariant in
     let settings = c.args.ctx.now.held.settings in
     let bits = c.args.reader.now.bits in
-    let within : length (here c.rows.reader) ≤ length bits = omega (arith, length-drop c.rows.reader.place c.rows.reader.bits, ap length same) in
     let taken = ap (λ (h : Held). h.taken) c.in_err-read_row.ensures.row.held in
     counted_ends (move_group3 settings) (words_of_move_group3 settings) left_group3 (by_rows_group3 settings c.requires.columns) (start_group3 settings bits) refl between.so_far
     c.args.ctx.now.ticks c.rows.ctx.ticks words c.read_row.new.ctx.held.taken c.read_row.new.ctx.ticks (36 * length bits + 14)
@@ -172,7 +176,7 @@ returns-in_err-read_row-clause-work g c =
     (record { meaning = g.D.Decoder.meaning c.args.decoder.now; refused = g.D.Decoder.has_refused c.args.decoder.now }) (record { meaning = g.D.Decoder.meaning c.rows.decoder; refused = g.D.Decoder.has_refused c.rows.decoder })
     c.rows.ctx.held (here c.rows.reader) between (g.D.Decoder.width c.rows.decoder) width
     (record { meaning = g.D.Decoder.meaning c.read_row.new.decoder; refused = g.D.Decoder.has_refused c.read_row.new.decoder }) c.read_row.new.ctx.held (here c.read_row.new.reader)
-    within c.args.ctx.now.ticks c.rows.ctx.ticks paid c.read_row.new.ctx.ticks c.in_err-read_row.ensures.at_most)
+    (within g (goal.at.returns-in_err-read_row-clause-work g c).After-read_row) c.args.ctx.now.ticks c.rows.ctx.ticks paid c.read_row.new.ctx.ticks c.in_err-read_row.ensures.at_most)
 
 -- what is counted where what stands behind a row ends the run, within the bound
 last_counted : (g : Over) (c : After-check_eob g) → c.check_eob.new.ctx.ticks ≤ c.args.ctx.now.ticks + (36 * length c.args.reader.now.bits + 14)
@@ -195,25 +199,21 @@ last_counted g c most =
 pub returns-in_err-check_eob-clause-work : goal.returns-in_err-check_eob-clause-work
 returns-in_err-check_eob-clause-work g c =
     let (between, same, width, words, paid) = c.rows.invariant in
-    let bits = c.args.reader.now.bits in
-    let within : length (here c.rows.reader) ≤ length bits = omega (arith, length-drop c.rows.reader.place c.rows.reader.bits, ap length same) in
     last_counted g (goal.at.returns-in_err-check_eob-clause-work g c).After-check_eob
-    (misses_paid_group3 c.args.ctx.now.held.settings c.requires.columns bits g.D.Decoder.step (g.D.Decoder.width c.args.decoder.now)
+    (misses_paid_group3 c.args.ctx.now.held.settings c.requires.columns c.args.reader.now.bits g.D.Decoder.step (g.D.Decoder.width c.args.decoder.now)
     (record { meaning = g.D.Decoder.meaning c.args.decoder.now; refused = g.D.Decoder.has_refused c.args.decoder.now }) (record { meaning = g.D.Decoder.meaning c.rows.decoder; refused = g.D.Decoder.has_refused c.rows.decoder })
     c.rows.ctx.held (here c.rows.reader) between (g.D.Decoder.width c.rows.decoder) width
     (record { meaning = g.D.Decoder.meaning c.read_row.new.decoder; refused = g.D.Decoder.has_refused c.read_row.new.decoder }) c.read_row.new.ctx.held (here c.read_row.new.reader)
-    within c.args.ctx.now.ticks c.rows.ctx.ticks paid c.read_row.new.ctx.ticks c.in_ok-read_row.ensures.at_most c.in_ok-read_row.ensures.row
+    (within g (goal.at.returns-in_err-check_eob-clause-work g c).After-read_row) c.args.ctx.now.ticks c.rows.ctx.ticks paid c.read_row.new.ctx.ticks c.in_ok-read_row.ensures.at_most c.in_ok-read_row.ensures.row
     c.check_eob.new.ctx.ticks (omega (arith, c.in_err-check_eob.ensures.work_refused, looked_most (here c.read_row.new.reader))))
 
 pub returns-then-branch-clause-work : goal.returns-then-branch-clause-work
 returns-then-branch-clause-work g c =
     let (between, same, width, words, paid) = c.rows.invariant in
-    let bits = c.args.reader.now.bits in
-    let within : length (here c.rows.reader) ≤ length bits = omega (arith, length-drop c.rows.reader.place c.rows.reader.bits, ap length same) in
     last_counted g (goal.at.returns-then-branch-clause-work g c).After-check_eob
-    (ends_paid_group3 c.args.ctx.now.held.settings c.requires.columns bits g.D.Decoder.step (g.D.Decoder.width c.args.decoder.now)
+    (ends_paid_group3 c.args.ctx.now.held.settings c.requires.columns c.args.reader.now.bits g.D.Decoder.step (g.D.Decoder.width c.args.decoder.now)
     (record { meaning = g.D.Decoder.meaning c.args.decoder.now; refused = g.D.Decoder.has_refused c.args.decoder.now }) (record { meaning = g.D.Decoder.meaning c.rows.decoder; refused = g.D.Decoder.has_refused c.rows.decoder })
     c.rows.ctx.held (here c.rows.reader) between (g.D.Decoder.width c.rows.decoder) width
     (record { meaning = g.D.Decoder.meaning c.read_row.new.decoder; refused = g.D.Decoder.has_refused c.read_row.new.decoder }) c.read_row.new.ctx.held (here c.read_row.new.reader)
-    within c.args.ctx.now.ticks c.rows.ctx.ticks paid c.read_row.new.ctx.ticks c.in_ok-read_row.ensures.at_most c.in_ok-read_row.ensures.row
+    (within g (goal.at.returns-then-branch-clause-work g c).After-read_row) c.args.ctx.now.ticks c.rows.ctx.ticks paid c.read_row.new.ctx.ticks c.in_ok-read_row.ensures.at_most c.in_ok-read_row.ensures.row
     c.check_eob.new.ctx.ticks (here c.check_eob.new.reader) (c.in_ok-check_eob.ensures.work (c.in_ok-check_eob.ensures.given_up c.if-branch.true)))
