@@ -21,9 +21,9 @@ pub fn was_refused(alloc: Global) -> bool {
     Vec::<u8>::with_capacity(alloc, 1 << 20).is_err()
 }
 
-/// Makes a call again and again, with one more request refused in turn, until it makes no more requests. Answers what it makes
-/// then. Where it succeeds in spite of a refusal, or answers an error that isn't wanted, the answer is the request's number
-/// and the error.
+/// Makes a call with its first request refused, then with its second, and so on until it makes no more. Answers what it
+/// makes then. Where it succeeds in spite of a refusal, or its error isn't one that is wanted, the answer is the request's
+/// number and that error.
 pub fn made_at_last<R: Drop, E: Drop, F: Fn() -> Result<R, E>, W: Fn(&E) -> bool>(
     alloc: Global,
     call: &F,
