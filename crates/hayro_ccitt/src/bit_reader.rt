@@ -25,8 +25,12 @@ pub struct BitReader<'a> {
     place: usize,
     /// The place never passes the limit, so that the window has the next 32 bits at least.
     limit: usize,
-    /// The next bits, the first in the highest position, zeros past the end: all that are at most 32 behind the limit.
+    /// The next bits, the first in the highest position, zeros past the end: all that are at most 33 behind the limit,
+    /// and zeros behind them.
     window: u64,
+    /// The 64 bits from the byte `edge` on, in the same order: read and turned once, for the windows to come.
+    ahead: u64,
+    edge: usize,
     order: BitOrder,
 }
 
@@ -147,12 +151,15 @@ impl<'a> BitReader<'a> {
         requires within { place ≤ 8 * length «data».now }
         ensures { result ≡ record { bits = bits_in order «data».now; place = place } }
     {
-        let byte = place / 8;
+        let edge = place / 8;
+        let ahead = word_at(data, order, edge);
         BitReader {
             data,
             place,
-            limit: (byte * 8 + 32).min(data.len() * 8),
-            window: word_at(data, order, byte) << (place % 8),
+            limit: (edge * 8 + 31).min(data.len() * 8),
+            window: ahead << (place % 8),
+            ahead,
+            edge,
             order,
         }
     }
@@ -190,38 +197,34 @@ impl<'a> BitReader<'a> {
         ensures only_end { IsOkUnless result DecodeError.UnexpectedEof }
     {
         let next = self.place + n;
-        if next > self.limit {
-            return self.refill(next);
-        }
-        self.place = next;
-        self.window <<= n;
-        Ok(())
-    }
-
-    /// Moves to a place that the window doesn't hold, at most to the end, and fills the window there.
-    #[inline(always)]
-    fn refill(&mut self, next: usize) -> Result<()>
-        requires { self.old.place ≤ next }
-        ensures moved { self.new ≡ record self.old { place = min next (length self.old.bits) } }
-        ensures forward { self.old.place ≤ self.new.place }
-        ensures end { IsErr result ↔ (length self.old.bits < next) }
-        ensures only_end { IsOkUnless result DecodeError.UnexpectedEof }
-    {
-        let byte = next / 8;
-        if byte + 8 <= self.data.len() {
+        if next <= self.limit {
             self.place = next;
-            self.limit = byte * 8 + 32;
-            self.window = whole_word(&self.data[byte..], self.order) << (next % 8);
+            self.window <<= n;
+            return Ok(());
+        }
+        let edge = self.edge * 8;
+        if next <= edge {
+            self.window = self.window << n | self.ahead >> (edge - next);
+            self.place = next;
+            self.limit = next + 31;
+            return Ok(());
+        }
+        let byte = self.edge + 8;
+        if byte + 8 <= self.data.len() {
+            let passed = next - edge;
+            let word = whole_word(&self.data[byte..], self.order);
+            self.window = self.ahead << passed | word >> (64 - passed);
+            self.ahead = word;
+            self.edge = byte;
+            self.place = next;
+            self.limit = next + 31;
             return Ok(());
         }
         let end = self.data.len() * 8;
+        *self = BitReader::at_place(self.data, self.order, next.min(end));
         if next > end {
-            self.place = end;
-            self.limit = end;
-            self.window = 0;
             return Err(DecodeError::UnexpectedEof);
         }
-        *self = BitReader::at_place(self.data, self.order, next);
         Ok(())
     }
 
@@ -271,6 +274,8 @@ impl<'a> BitReader<'a> {
             place: self.place,
             limit: self.limit,
             window: self.window,
+            ahead: self.ahead,
+            edge: self.edge,
             order: self.order,
         }
     }

@@ -237,6 +237,7 @@ impl<'a> BitReader<'a> {
 
     /// The number of zeros from here up to the next one, and a reader just past that one; up to the end, and
     /// None, where no one follows. Each bit that is looked at is a tick.
+    #[inline(always)]
     pub fn zero_run(&self, ticks: &mut Ticks) -> (usize, Option<BitReader<'a>>)
         ensures zeros { result.0 ≡ leading_zeros (here self.now) }
         ensures one { IfSome result.1 (λ after. (after.bits ≡ self.now.bits)

@@ -8,7 +8,7 @@ use Rattle.std.proofs.lemmas.Bool.{cases_lt, eqb-true}
 use Rattle.std.proofs.lemmas.Nat.{pow-add}
 use Rattle.std.proofs.lemmas.Nat.Bits.{bit_at_and, bit_at_or, bit_at-lt, bit_at-zero, bit_at_cat_low, bit_at_cat_high}
 use Rattle.hayro_ccitt.specs.Bits.{bit_of}
-use Rattle.hayro_ccitt.proofs.BitReading.WindowWords.{bit_at-mod}
+use Rattle.hayro_ccitt.proofs.BitReading.WindowWords.{bit_at-mod, bit_at-shr}
 
 -- ---- What holds of each number below 64
 
@@ -41,9 +41,6 @@ lower_by mask width all i lt = eqb-true (bit_at mask i) (1 - i / width % 2) (bel
 -- the neighbours of each two groups turned
 abbrev turned : ℕ → ℕ → ℕ → ℕ
 turned mask width word = bit_or (bit_and (word / 2 ^ width) mask) (bit_and word mask * 2 ^ width % 2 ^ 64)
-
-bit_at-shr : (n k i : ℕ) → bit_at (n / 2 ^ k) i ≡ bit_at n (k + i)
-bit_at-shr n k i = ap (λ (v : ℕ). v % 2) (div-div-eq-div-mul n (2 ^ k) (2 ^ i) ∙ ap (λ (d : ℕ). n / d) (sym (pow-add 2 k i)))
 
 bit_at-shl_low : (n k i : ℕ) → i < 64 → i < k → bit_at (n * 2 ^ k % 2 ^ 64) i ≡ 0
 bit_at-shl_low n k i lt low =
