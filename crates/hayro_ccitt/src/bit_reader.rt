@@ -7,6 +7,7 @@ ghost use Rattle.hayro_ccitt.specs.Window.{place_in_word};
 
 use crate::{DecodeError, Result};
 use std::marker::Model;
+use std::simd::prelude::*;
 
 /// Which bit of a byte comes first. T.4 and T.6 speak of bits alone; PDF has the highest first, TIFF says it by FillOrder,
 /// and most fax modems have the lowest first.
@@ -46,14 +47,25 @@ impl<'a> Model for BitReader<'a> {
     ghost invariant = { IsFilled };
 }
 
-/// Each byte of a word with its bits in the other order.
+/// Four bits in the other order, as the upper half of a byte.
+const TURNED_UP: [u8; 16] = [
+    0x00, 0x80, 0x40, 0xC0, 0x20, 0xA0, 0x60, 0xE0, 0x10, 0x90, 0x50, 0xD0, 0x30, 0xB0, 0x70, 0xF0,
+];
+
+/// Four bits in the other order, as the lower half of a byte.
+const TURNED_DOWN: [u8; 16] = [
+    0x0, 0x8, 0x4, 0xC, 0x2, 0xA, 0x6, 0xE, 0x1, 0x9, 0x5, 0xD, 0x3, 0xB, 0x7, 0xF,
+];
+
+/// Each byte of a word with its bits in the other order: the halves of all bytes are looked up at once.
 #[inline(always)]
 fn bytes_turned(word: u64) -> u64
     ensures { (k : ℕ) → k < 64 → bit_of result k ≡ bit_of word (8 * (k / 8) + (7 - k % 8)) }
 {
-    let nibbles = (word >> 4) & 0x0F0F_0F0F_0F0F_0F0F | (word & 0x0F0F_0F0F_0F0F_0F0F) << 4;
-    let pairs = (nibbles >> 2) & 0x3333_3333_3333_3333 | (nibbles & 0x3333_3333_3333_3333) << 2;
-    (pairs >> 1) & 0x5555_5555_5555_5555 | (pairs & 0x5555_5555_5555_5555) << 1
+    let bytes = u64x2::from_array([word, 0]).to_le_bytes();
+    let upper = u8x16::from_array(TURNED_UP).swizzle_dyn(bytes & u8x16::splat(15));
+    let lower = u8x16::from_array(TURNED_DOWN).swizzle_dyn(bytes >> u8x16::splat(4));
+    u64x2::from_le_bytes(upper | lower).to_array()[0]
 }
 
 /// The bits of a word of eight bytes, the first in the highest position.
@@ -221,10 +233,15 @@ impl<'a> BitReader<'a> {
             return Ok(());
         }
         let end = self.data.len() * 8;
-        *self = BitReader::at_place(self.data, self.order, next.min(end));
         if next > end {
+            self.place = end;
+            self.limit = end;
+            self.window = 0;
+            self.ahead = 0;
+            self.edge = self.data.len();
             return Err(DecodeError::UnexpectedEof);
         }
+        *self = BitReader::at_place(self.data, self.order, next);
         Ok(())
     }
 
