@@ -232,16 +232,24 @@ impl<'a> BitReader<'a> {
             self.limit = next + 31;
             return Ok(());
         }
+        self.refill_near_end(next)
+    }
+
+    /// Moves to a place that the words loaded so far don't hold, at most to the end, and fills the window there.
+    #[cold]
+    #[inline(never)]
+    fn refill_near_end(&mut self, next: usize) -> Result<()>
+        requires { self.old.place ≤ next }
+        ensures moved { self.new ≡ record self.old { place = min next (length self.old.bits) } }
+        ensures forward { self.old.place ≤ self.new.place }
+        ensures end { IsErr result ↔ (length self.old.bits < next) }
+        ensures only_end { IsOkUnless result DecodeError.UnexpectedEof }
+    {
         let end = self.data.len() * 8;
+        *self = BitReader::at_place(self.data, self.order, next.min(end));
         if next > end {
-            self.place = end;
-            self.limit = end;
-            self.window = 0;
-            self.ahead = 0;
-            self.edge = self.data.len();
             return Err(DecodeError::UnexpectedEof);
         }
-        *self = BitReader::at_place(self.data, self.order, next);
         Ok(())
     }
 

@@ -237,7 +237,6 @@ impl<'a> BitReader<'a> {
 
     /// The number of zeros from here up to the next one, and a reader just past that one; up to the end, and
     /// None, where no one follows. Each bit that is looked at is a tick.
-    #[inline(always)]
     pub fn zero_run(&self, ticks: &mut Ticks) -> (usize, Option<BitReader<'a>>)
         ensures zeros { result.0 ≡ leading_zeros (here self.now) }
         ensures one { IfSome result.1 (λ after. (after.bits ≡ self.now.bits)
@@ -280,6 +279,25 @@ impl<'a> BitReader<'a> {
     /// bit that is looked at is a tick.
     #[inline(never)]
     fn pass_eol(&mut self, ticks: &mut Ticks) -> bool
+        ensures eol { after_eol 0 (here self.old) ≡ (if result then Some (here self.new) else None) }
+        ensures unchanged { result ≡ false → self.new ≡ self.old }
+        ensures same_bits { self.new.bits ≡ self.old.bits }
+        ensures ticks { ticks.new ≡ ticks.old + looked (here self.old) }
+    {
+        let zeros = self.peek_u32().leading_zeros() as usize;
+        if zeros < 11 || zeros >= 32 {
+            return self.pass_far_eol(ticks);
+        }
+        ticks.tick_times(zeros + 1);
+        // The one is there to be passed.
+        let _ = self.consume(zeros + 1);
+        true
+    }
+
+    /// The same, where the EOL may have more fill.
+    #[cold]
+    #[inline(never)]
+    fn pass_far_eol(&mut self, ticks: &mut Ticks) -> bool
         ensures eol { after_eol 0 (here self.old) ≡ (if result then Some (here self.new) else None) }
         ensures unchanged { result ≡ false → self.new ≡ self.old }
         ensures same_bits { self.new.bits ≡ self.old.bits }

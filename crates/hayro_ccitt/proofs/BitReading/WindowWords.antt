@@ -225,11 +225,3 @@ pub top_bit : (w : ℕ) → w < 2 ^ 64 → (w / 2 ^ 63 ≤ 1) × (bit_of w 63 �
 top_bit w h =
     let low : w / 2 ^ 63 % 2 ≡ w / 2 ^ 63 = omega arith in
     (omega arith, ap (λ (n : ℕ). eqb n 1) low)
-
--- past the end the bits are zeros
-pub none_held : (order : BitOrder) (bytes : List ℕ) (place k : ℕ) → 8 * length bytes ≤ place + k → bit_of 0 (63 - k) ≡ get_or (bits_in order bytes) (place + k) false
-none_held order bytes place k past =
-    ap (λ (b : ℕ). eqb b 1) (bit_at-zero (63 - k)) ∙ sym (get_or_past (bits_in order bytes) (place + k) false (omega (arith, past, length-bits_in order bytes)))
-
-pub zero_bit : (k : ℕ) → bit_of 0 k ≡ false
-zero_bit k = ap (λ (b : ℕ). eqb b 1) (bit_at-zero k)

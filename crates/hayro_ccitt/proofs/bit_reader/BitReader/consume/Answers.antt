@@ -3,7 +3,7 @@ use Rattle.std.proofs.lemmas.List.{take_rest}
 use Rattle.hayro_ccitt.specs.Bits.{bit_of, bits_in}
 use Rattle.hayro_ccitt.proofs.BitReading.BitLists.{length-bits_in}
 use Rattle.hayro_ccitt.proofs.BitReading.BitPlaces.{bits_at}
-use Rattle.hayro_ccitt.proofs.BitReading.WindowWords.{bits_in-drop, holds_on, zeros_behind, joined, none_held, zero_bit}
+use Rattle.hayro_ccitt.proofs.BitReading.WindowWords.{bits_in-drop, holds_on, zeros_behind, joined}
 use Rattle.hayro_ccitt.proofs.bit_reader.BitReader.consume.Goals as goal
 
 -- the window has it all
@@ -124,44 +124,3 @@ pub returns-then-byte-self-clause-end : goal.returns-then-byte-self-clause-end
 returns-then-byte-self-clause-end c =
     let r = c.self.invariant in
     rw (← c.self.view_is) (λ e. absurd cc, λ h. absurd (omega (arith, h, r.within, r.near_edge, c.requires, c.if-byte-self.true, length-bits_in c.self.inside.order c.self.inside.«data».now)))
-
--- the end was passed
-pub invariant_of-self-then-next-end : goal.invariant_of-self-then-next-end
-invariant_of-self-then-next-end c =
-    let order = c.self.inside.order in
-    let bytes = c.self.inside.«data».now in
-    record {
-      fit = c.self.invariant.fit;
-      within = omega arith;
-      before_end = omega arith;
-      near = omega arith;
-      held = λ k h. none_held order bytes _ k (omega arith);
-      behind = λ k h past. zero_bit (63 - k);
-      ahead = λ k h. none_held order bytes _ k (omega arith);
-      reached = omega arith;
-      near_edge = omega arith;
-      whole = λ h. absurd (omega (arith, h));
-    }
-
-pub returns-then-next-end-clause-moved : goal.returns-then-next-end-clause-moved
-returns-then-next-end-clause-moved c =
-    let bits = bits_in c.self.inside.order c.self.inside.«data».now in
-    let next = c.self.inside.place + c.args.n in
-    let e : length c.self.inside.«data».now * 8 ≡ min next (length bits) = omega (arith, c.if-next-end.true, length-bits_in c.self.inside.order c.self.inside.«data».now) in
-    rw (← c.self.view_is) (ap (bits_at bits) e)
-
-pub returns-then-next-end-clause-end : goal.returns-then-next-end-clause-end
-returns-then-next-end-clause-end c =
-    rw (← c.self.view_is) (λ e. omega (arith, c.if-next-end.true, length-bits_in c.self.inside.order c.self.inside.«data».now), λ h. cc)
-
--- at the last bytes a reader is made anew
-pub returns-clause-moved : goal.returns-clause-moved
-returns-clause-moved c =
-    let bits = bits_in c.self.inside.order c.self.inside.«data».now in
-    let next = c.self.inside.place + c.args.n in
-    let e : next ≡ min next (length bits) = omega (arith, c.if-next-end.false, length-bits_in c.self.inside.order c.self.inside.«data».now) in
-    c.self-2.view_is ∙ c.at_place.ensures ∙ rw (← c.self.view_is) (ap (bits_at bits) e)
-
-pub returns-clause-end : goal.returns-clause-end
-returns-clause-end c =
-    rw (← c.self.view_is) (λ e. absurd cc, λ h. absurd (omega (arith, h, c.if-next-end.false, length-bits_in c.self.inside.order c.self.inside.«data».now)))
