@@ -209,30 +209,25 @@ impl<'a> BitReader<'a> {
         ensures only_end { IsOkUnless result DecodeError.UnexpectedEof }
     {
         let next = self.place + n;
-        if next <= self.limit {
-            self.place = next;
-            self.window <<= n;
-            return Ok(());
-        }
-        let edge = self.edge * 8;
-        if next <= edge {
-            self.window = self.window << n | self.ahead >> (edge - next);
-            self.place = next;
+        let mut window = self.window << n;
+        if next > self.limit {
+            let edge = self.edge * 8;
+            let byte = self.edge + 8;
+            if next <= edge {
+                window |= self.ahead >> (edge - next);
+            } else if byte + 8 <= self.data.len() {
+                let word = whole_word(&self.data[byte..], self.order);
+                window = self.ahead << (next - edge) | word >> (64 - (next - edge));
+                self.ahead = word;
+                self.edge = byte;
+            } else {
+                return self.refill_near_end(next);
+            }
             self.limit = next + 31;
-            return Ok(());
         }
-        let byte = self.edge + 8;
-        if byte + 8 <= self.data.len() {
-            let passed = next - edge;
-            let word = whole_word(&self.data[byte..], self.order);
-            self.window = self.ahead << passed | word >> (64 - passed);
-            self.ahead = word;
-            self.edge = byte;
-            self.place = next;
-            self.limit = next + 31;
-            return Ok(());
-        }
-        self.refill_near_end(next)
+        self.place = next;
+        self.window = window;
+        Ok(())
     }
 
     /// Moves to a place that the words loaded so far don't hold, at most to the end, and fills the window there.

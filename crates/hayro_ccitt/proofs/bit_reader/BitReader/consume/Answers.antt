@@ -1,126 +1,57 @@
-use Rattle.std.proofs.Common.{◌≡◌, ◌+◌, ◌-◌, ◌*◌, ◌≤◌, ◌<◌, ◌^◌, ℕ, List, get_or, false, length, min, ap, ◌∙◌, arith}
+use Rattle.std.proofs.Common.{◌≡◌, ◌+◌, ◌-◌, ◌*◌, ◌≤◌, ◌<◌, ◌^◌, ℕ, List, get_or, false, length, min, refl, ap, ◌∙◌, arith}
 use Rattle.std.proofs.lemmas.List.{take_rest}
+use Rattle.hayro_ccitt.specs.declared.bit_reader.BitReader.TheInside.{Inside}
 use Rattle.hayro_ccitt.specs.Bits.{bit_of, bits_in}
+use Rattle.hayro_ccitt.specs.Window.{IsFilled}
 use Rattle.hayro_ccitt.proofs.BitReading.BitLists.{length-bits_in}
 use Rattle.hayro_ccitt.proofs.BitReading.BitPlaces.{bits_at}
-use Rattle.hayro_ccitt.proofs.BitReading.WindowWords.{bits_in-drop, holds_on, zeros_behind, joined}
+use Rattle.hayro_ccitt.proofs.BitReading.WindowWords.{bits_in-drop}
+use Rattle.hayro_ccitt.proofs.BitReading.FilledWindows.{filled_on, filled_ahead, filled_afresh}
 use Rattle.hayro_ccitt.proofs.bit_reader.BitReader.consume.Goals as goal
+use Rattle.hayro_ccitt.proofs.bit_reader.BitReader.consume.Goals.{then-next-self, then-next-edge, else-next-edge+then-byte-self, else-next-self}
 
--- the window has it all
 pub invariant_of-self : goal.invariant_of-self
 invariant_of-self c =
-    let r = c.self.invariant in
-    let bits = bits_in c.self.inside.order c.self.inside.«data».now in
-    let place = c.self.inside.place in
-    let most = c.self.inside.limit + 33 - place in
-    let few : most ≤ 64 = omega (arith, r.near) in
-    record {
-      fit = r.fit;
-      within = c.if-next-self.true;
-      before_end = r.before_end;
-      near = omega (arith, r.near);
-      held = λ k h. holds_on bits place c.args.n most c.self.inside.window few r.held k (omega (arith, h));
-      behind = λ k h past. zeros_behind c.args.n most c.self.inside.window (λ j lt after. r.behind j lt (omega (arith, after))) k h (omega (arith, past));
-      ahead = r.ahead;
-      reached = r.reached;
-      near_edge = r.near_edge;
-      whole = r.whole;
-    }
+    let r = c.self.inside in
+    elim c.if-next-self.branch [
+      | then-next-self w ↦ elim w.if-next-edge.branch [
+          | then-next-edge v ↦
+              let fits : r.ahead < 2 ^ 64 = omega arith in
+              rw (w.window-is, w.self-inside-is, v.window-is, v.self-inside-is) (filled_ahead r c.args.n c.self.invariant fits w.if-next-self.true v.if-next-edge.true)
+          | else-next-edge+then-byte-self v ↦
+              let word = v.whole_word-word.result in
+              let fits : word < 2 ^ 64 = omega arith in
+              let fresh : (j : ℕ) → j < 64 → bit_of word (63 - j) ≡ get_or (bits_in r.order r.«data».now) (8 * (r.edge + 8) + j) false =
+              λ j lt. v.whole_word-word.ensures j lt ∙ ap (λ (xs : List ℕ). get_or (bits_in r.order xs) j false) (take_rest r.«data».now (r.edge + 8)) ∙ bits_in-drop r.order r.«data».now (r.edge + 8) j in
+              rw (w.window-is, w.self-inside-is, v.window-is, v.self-inside-is)
+              (filled_afresh r c.args.n word c.self.invariant c.requires fits (omega (arith, v.if-next-edge.false)) v.if-byte-self.true fresh)
+        ]
+      | else-next-self w ↦ rw (w.window-is, w.self-inside-is) (filled_on r c.args.n c.self.invariant (omega (arith, w.if-next-self.false)))
+    ]
 
-pub returns-then-next-self-clause-moved : goal.returns-then-next-self-clause-moved
-returns-then-next-self-clause-moved c =
-    let bits = bits_in c.self.inside.order c.self.inside.«data».now in
-    let next = c.self.inside.place + c.args.n in
-    let e : next ≡ min next (length bits) = omega (arith, c.if-next-self.true, c.self.invariant.before_end, length-bits_in c.self.inside.order c.self.inside.«data».now) in
-    rw (← c.self.view_is) (ap (bits_at bits) e)
+-- the data stay, and so does the order of their bits
+same_data : (c : goal.After-self-3-1) → (c.if-next-self.self-inside.«data» ≡ c.self.inside.«data») × (c.if-next-self.self-inside.order ≡ c.self.inside.order)
+same_data c = elim c.if-next-self.branch [
+  | then-next-self w ↦ elim w.if-next-edge.branch [
+      | then-next-edge v ↦ rw (w.self-inside-is, v.self-inside-is) (refl, refl)
+      | else-next-edge+then-byte-self v ↦ rw (w.self-inside-is, v.self-inside-is) (refl, refl)
+    ]
+  | else-next-self w ↦ rw w.self-inside-is (refl, refl)
+]
 
-pub returns-then-next-self-clause-end : goal.returns-then-next-self-clause-end
-returns-then-next-self-clause-end c =
-    rw (← c.self.view_is) (λ e. absurd cc, λ h. absurd (omega (arith, h, c.if-next-self.true, c.self.invariant.before_end, length-bits_in c.self.inside.order c.self.inside.«data».now)))
+-- so that the place is within them
+within : (c : goal.After-self-3-1) → c.self.inside.place + c.args.n ≤ length (bits_in c.self.inside.order c.self.inside.«data».now)
+within c =
+    let filled = invariant_of-self c in
+    let same : length c.if-next-self.self-inside.«data».now ≡ length c.self.inside.«data».now = ap (λ d. length d.now) (same_data c).0 in
+    omega (arith, filled.within, filled.before_end, same, length-bits_in c.self.inside.order c.self.inside.«data».now)
 
--- the word ahead has the rest
-pub invariant_of-self-then-next-edge : goal.invariant_of-self-then-next-edge
-invariant_of-self-then-next-edge c =
-    let r = c.self.invariant in
-    let bits = bits_in c.self.inside.order c.self.inside.«data».now in
-    let place = c.self.inside.place in
-    let next = place + c.args.n in
-    let edge = c.self.inside.edge in
-    let most = c.self.inside.limit + 33 - place in
-    let left = edge * 8 - next in
-    let few : most ≤ 64 = omega (arith, r.near) in
-    let whole : 8 * edge + 64 ≤ 8 * length c.self.inside.«data».now = r.whole (omega (arith, c.if-next-self.false, c.if-next-edge.true)) in
-    let fits : c.self.inside.ahead < 2 ^ 64 = omega arith in
-    let window = joined bits place c.args.n most c.self.inside.window c.self.inside.ahead left few (omega (arith, r.reached, c.if-next-edge.true)) fits r.held
-        (λ j lt after. r.behind j lt (omega (arith, after)))
-        (λ j lt. let at : 8 * edge + j ≡ next + left + j = omega (arith, c.if-next-edge.true) in r.ahead j lt ∙ ap (λ (i : ℕ). get_or bits i false) at) in
-    record {
-      fit = r.fit;
-      within = omega arith;
-      before_end = omega (arith, c.if-next-edge.true, whole);
-      near = omega arith;
-      held = λ k h. window k (omega (arith, h));
-      behind = λ k h past. absurd (omega (arith, h, past));
-      ahead = r.ahead;
-      reached = omega (arith, r.reached, c.if-next-self.false);
-      near_edge = omega (arith, c.if-next-edge.true);
-      whole = λ h. whole;
-    }
-
-pub returns-then-next-edge-clause-moved : goal.returns-then-next-edge-clause-moved
-returns-then-next-edge-clause-moved c =
+pub returns-clause-moved : goal.returns-clause-moved
+returns-clause-moved c =
     let bits = bits_in c.self.inside.order c.self.inside.«data».now in
     let next = c.self.inside.place + c.args.n in
-    let whole : 8 * c.self.inside.edge + 64 ≤ 8 * length c.self.inside.«data».now = c.self.invariant.whole (omega (arith, c.if-next-self.false, c.if-next-edge.true)) in
-    let e : next ≡ min next (length bits) = omega (arith, c.if-next-edge.true, whole, length-bits_in c.self.inside.order c.self.inside.«data».now) in
-    rw (← c.self.view_is) (ap (bits_at bits) e)
+    let e : next ≡ min next (length bits) = omega (arith, within c) in
+    rw (← c.self.view_is, (same_data c).0, (same_data c).1) (ap (bits_at bits) e)
 
-pub returns-then-next-edge-clause-end : goal.returns-then-next-edge-clause-end
-returns-then-next-edge-clause-end c =
-    let whole : 8 * c.self.inside.edge + 64 ≤ 8 * length c.self.inside.«data».now = c.self.invariant.whole (omega (arith, c.if-next-self.false, c.if-next-edge.true)) in
-    rw (← c.self.view_is) (λ e. absurd cc, λ h. absurd (omega (arith, h, c.if-next-edge.true, whole, length-bits_in c.self.inside.order c.self.inside.«data».now)))
-
--- the word behind the one ahead has the rest
-pub invariant_of-self-then-byte-self : goal.invariant_of-self-then-byte-self
-invariant_of-self-then-byte-self c =
-    let r = c.self.invariant in
-    let order = c.self.inside.order in
-    let bytes = c.self.inside.«data».now in
-    let bits = bits_in order bytes in
-    let edge = c.self.inside.edge in
-    let next = c.self.inside.place + c.args.n in
-    let passed = next - edge * 8 in
-    let word = c.whole_word-word.result in
-    let near : next ≤ edge * 8 + 63 = omega (arith, r.within, r.near_edge, c.requires) in
-    let fits : word < 2 ^ 64 = omega arith in
-    let fresh : (j : ℕ) → j < 64 → bit_of word (63 - j) ≡ get_or bits (8 * (edge + 8) + j) false =
-    λ j lt. c.whole_word-word.ensures j lt ∙ ap (λ (xs : List ℕ). get_or (bits_in order xs) j false) (take_rest bytes (edge + 8)) ∙ bits_in-drop order bytes (edge + 8) j in
-    let window = joined bits (8 * edge) passed 64 c.self.inside.ahead word (64 - passed) (omega arith) (omega (arith, near)) fits r.ahead
-        (λ j lt after. absurd (omega (arith, lt, after)))
-        (λ j lt. let at : 8 * (edge + 8) + j ≡ 8 * edge + passed + (64 - passed) + j = omega (arith, near) in fresh j lt ∙ ap (λ (i : ℕ). get_or bits i false) at) in
-    record {
-      fit = r.fit;
-      within = omega arith;
-      before_end = omega (arith, near, c.if-byte-self.true);
-      near = omega arith;
-      held = λ k h.
-          let at : 8 * edge + passed + k ≡ next + k = omega (arith, c.if-next-edge.false) in window k (omega (arith, h)) ∙ ap (λ (i : ℕ). get_or bits i false) at;
-      behind = λ k h past. absurd (omega (arith, h, past));
-      ahead = fresh;
-      reached = omega (arith, c.if-next-edge.false);
-      near_edge = omega (arith, near);
-      whole = λ h. omega (arith, c.if-byte-self.true);
-    }
-
-pub returns-then-byte-self-clause-moved : goal.returns-then-byte-self-clause-moved
-returns-then-byte-self-clause-moved c =
-    let r = c.self.invariant in
-    let bits = bits_in c.self.inside.order c.self.inside.«data».now in
-    let next = c.self.inside.place + c.args.n in
-    let e : next ≡ min next (length bits) = omega (arith, r.within, r.near_edge, c.requires, c.if-byte-self.true, length-bits_in c.self.inside.order c.self.inside.«data».now) in
-    rw (← c.self.view_is) (ap (bits_at bits) e)
-
-pub returns-then-byte-self-clause-end : goal.returns-then-byte-self-clause-end
-returns-then-byte-self-clause-end c =
-    let r = c.self.invariant in
-    rw (← c.self.view_is) (λ e. absurd cc, λ h. absurd (omega (arith, h, r.within, r.near_edge, c.requires, c.if-byte-self.true, length-bits_in c.self.inside.order c.self.inside.«data».now)))
+pub returns-clause-end : goal.returns-clause-end
+returns-clause-end c = rw (← c.self.view_is) (λ e. absurd cc, λ h. absurd (omega (arith, h, within c)))
