@@ -207,6 +207,23 @@ impl<'a> BitReader<'a> {
         ensures same_bits { self.new.bits ≡ self.old.bits }
         ensures ticks { ticks.new ≡ ticks.old + 1 }
     {
+        // The usual mode, V0, stands apart: what follows is compiled for it alone.
+        if self.peek_u32() >> 31 == 1 {
+            return self.read_mode(ticks);
+        }
+        self.read_mode(ticks)
+    }
+
+    /// The same, whatever the mode.
+    #[inline(always)]
+    fn read_mode(&mut self, ticks: &mut Ticks) -> Result<Mode>
+        ensures mode { MatchResult result
+            (λ m. read_code mode_codes (here self.old) ≡ Ok (m, here self.new))
+            (λ e. read_code mode_codes (here self.old) ≡ Err e) }
+        ensures fault { IfErr result IsFault }
+        ensures same_bits { self.new.bits ≡ self.old.bits }
+        ensures ticks { ticks.new ≡ ticks.old + 1 }
+    {
         ticks.tick();
         let (mode, width) = mode_of(self.peek_u32() >> 25);
         // Where the data ends inside a word these bits aren't there.

@@ -36,8 +36,8 @@ filled_ahead r n f fits past before =
     let few : most ≤ 64 = omega (arith, f.near) in
     let whole : 8 * r.edge + 64 ≤ 8 * length r.«data».now = f.whole (omega (arith, past, before)) in
     let window = joined bits r.place n most r.window r.ahead left few (omega (arith, f.reached, before)) fits f.held
-        (λ j lt after. f.behind j lt (omega (arith, after)))
-        (λ j lt. let at : 8 * r.edge + j ≡ next + left + j = omega (arith, before) in f.ahead j lt ∙ ap (λ (i : ℕ). get_or bits i false) at) in
+    (λ j lt after. f.behind j lt (omega (arith, after)))
+    (λ j lt. let at : 8 * r.edge + j ≡ next + left + j = omega (arith, before) in f.ahead j lt ∙ ap (λ (i : ℕ). get_or bits i false) at) in
     record {
       fit = f.fit;
       within = omega arith;
@@ -67,8 +67,8 @@ filled_afresh r n word f few fits past room fresh =
     let passed : ℕ = next - r.edge * 8 in
     let near : next ≤ r.edge * 8 + 63 = omega (arith, f.within, f.near_edge, few) in
     let window = joined bits (8 * r.edge) passed 64 r.ahead word (64 - passed) (omega arith) (omega (arith, near)) fits f.ahead
-        (λ j lt after. absurd (omega (arith, lt, after)))
-        (λ j lt. let at : 8 * (r.edge + 8) + j ≡ 8 * r.edge + passed + (64 - passed) + j = omega (arith, near) in fresh j lt ∙ ap (λ (i : ℕ). get_or bits i false) at) in
+    (λ j lt after. absurd (omega (arith, lt, after)))
+    (λ j lt. let at : 8 * (r.edge + 8) + j ≡ 8 * r.edge + passed + (64 - passed) + j = omega (arith, near) in fresh j lt ∙ ap (λ (i : ℕ). get_or bits i false) at) in
     record {
       fit = f.fit;
       within = omega arith;

@@ -1,10 +1,10 @@
 -- The bytes of a word with their bits in the other order.
-use Rattle.std.proofs.Common.{◌≡◌, ℕ, zero, suc, ◌+◌, ◌-◌, ◌*◌, ◌/◌, ◌%◌, ◌^◌, ◌<◌, eqb, ltb, leb, cond, Bool, true, ◌&&◌, List, [], ◌∷◌, map, get_or, inl, inr, refl, sym, ap, ◌∙◌, arith}
+use Rattle.std.proofs.Common.{◌≡◌, ℕ, zero, suc, ◌+◌, ◌-◌, ◌*◌, ◌/◌, ◌%◌, ◌^◌, ◌<◌, eqb, ltb, leb, cond, true, map, get_or, inl, inr, refl, sym, ap, ◌∙◌, arith}
 use Rattle.std.specs.Int.{bit_at}
 use Rattle.std.specs.Int.RustNames.{bit_or}
 use lib.Bits.{bit_and}
 use lib.Lanes.{number_l, digits_l}
-use Rattle.std.proofs.lemmas.Bool.{cases_lt, agree_below_at, and_parts, eqb-true, ltb-true}
+use Rattle.std.proofs.lemmas.Bool.{cases_lt, agree_below_at, ltb-true}
 use Rattle.std.proofs.lemmas.Nat.Bits.{bit_at_cat_low, bit_at_cat_high}
 use Rattle.hayro_ccitt.specs.Bits.{bit_of}
 use Rattle.hayro_ccitt.specs.declared.bit_reader.TheConstants.{TURNED_UP, TURNED_DOWN}

@@ -1,4 +1,4 @@
-use Rattle.std.proofs.Common.{◌≡◌, ◌<◌, ◌*◌, ◌/◌, ◌+◌, length, min, arith}
+use Rattle.std.proofs.Common.{arith}
 use Rattle.hayro_ccitt.proofs.BitReading.WindowWords.{filled, filled_behind}
 use Rattle.hayro_ccitt.proofs.bit_reader.BitReader.at_place.Goals as goal
 

@@ -1,8 +1,6 @@
 use Rattle.std.proofs.Common.{◌≡◌, ◌+◌, ◌-◌, ◌*◌, ◌≤◌, ◌<◌, ◌^◌, ℕ, List, get_or, false, length, min, refl, ap, ◌∙◌, arith}
 use Rattle.std.proofs.lemmas.List.{take_rest}
-use Rattle.hayro_ccitt.specs.declared.bit_reader.BitReader.TheInside.{Inside}
 use Rattle.hayro_ccitt.specs.Bits.{bit_of, bits_in}
-use Rattle.hayro_ccitt.specs.Window.{IsFilled}
 use Rattle.hayro_ccitt.proofs.BitReading.BitLists.{length-bits_in}
 use Rattle.hayro_ccitt.proofs.BitReading.BitPlaces.{bits_at}
 use Rattle.hayro_ccitt.proofs.BitReading.WindowWords.{bits_in-drop}
@@ -15,17 +13,17 @@ invariant_of-self c =
     let r = c.self.inside in
     elim c.if-next-self.branch [
       | then-next-self w ↦ elim w.if-next-edge.branch [
-          | then-next-edge v ↦
-              let fits : r.ahead < 2 ^ 64 = omega arith in
-              rw (w.window-is, w.self-inside-is, v.window-is, v.self-inside-is) (filled_ahead r c.args.n c.self.invariant fits w.if-next-self.true v.if-next-edge.true)
-          | else-next-edge+then-byte-self v ↦
-              let word = v.whole_word-word.result in
-              let fits : word < 2 ^ 64 = omega arith in
-              let fresh : (j : ℕ) → j < 64 → bit_of word (63 - j) ≡ get_or (bits_in r.order r.«data».now) (8 * (r.edge + 8) + j) false =
-              λ j lt. v.whole_word-word.ensures j lt ∙ ap (λ (xs : List ℕ). get_or (bits_in r.order xs) j false) (take_rest r.«data».now (r.edge + 8)) ∙ bits_in-drop r.order r.«data».now (r.edge + 8) j in
-              rw (w.window-is, w.self-inside-is, v.window-is, v.self-inside-is)
-              (filled_afresh r c.args.n word c.self.invariant c.requires fits (omega (arith, v.if-next-edge.false)) v.if-byte-self.true fresh)
-        ]
+        | then-next-edge v ↦
+            let fits : r.ahead < 2 ^ 64 = omega arith in
+            rw (w.window-is, w.self-inside-is, v.window-is, v.self-inside-is) (filled_ahead r c.args.n c.self.invariant fits w.if-next-self.true v.if-next-edge.true)
+        | else-next-edge+then-byte-self v ↦
+            let word = v.whole_word-word.result in
+            let fits : word < 2 ^ 64 = omega arith in
+            let fresh : (j : ℕ) → j < 64 → bit_of word (63 - j) ≡ get_or (bits_in r.order r.«data».now) (8 * (r.edge + 8) + j) false =
+            λ j lt. v.whole_word-word.ensures j lt ∙ ap (λ (xs : List ℕ). get_or (bits_in r.order xs) j false) (take_rest r.«data».now (r.edge + 8)) ∙ bits_in-drop r.order r.«data».now (r.edge + 8) j in
+            rw (w.window-is, w.self-inside-is, v.window-is, v.self-inside-is)
+            (filled_afresh r c.args.n word c.self.invariant c.requires fits (omega (arith, v.if-next-edge.false)) v.if-byte-self.true fresh)
+      ]
       | else-next-self w ↦ rw (w.window-is, w.self-inside-is) (filled_on r c.args.n c.self.invariant (omega (arith, w.if-next-self.false)))
     ]
 
@@ -33,9 +31,9 @@ invariant_of-self c =
 same_data : (c : goal.After-self-3-1) → (c.if-next-self.self-inside.«data» ≡ c.self.inside.«data») × (c.if-next-self.self-inside.order ≡ c.self.inside.order)
 same_data c = elim c.if-next-self.branch [
   | then-next-self w ↦ elim w.if-next-edge.branch [
-      | then-next-edge v ↦ rw (w.self-inside-is, v.self-inside-is) (refl, refl)
-      | else-next-edge+then-byte-self v ↦ rw (w.self-inside-is, v.self-inside-is) (refl, refl)
-    ]
+    | then-next-edge v ↦ rw (w.self-inside-is, v.self-inside-is) (refl, refl)
+    | else-next-edge+then-byte-self v ↦ rw (w.self-inside-is, v.self-inside-is) (refl, refl)
+  ]
   | else-next-self w ↦ rw w.self-inside-is (refl, refl)
 ]
 
