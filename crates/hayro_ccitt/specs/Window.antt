@@ -12,7 +12,7 @@ place_in_word LowestFirst k = 8 * (k / 8) + (7 - k % 8)
 
 -- The window holds the bits from the place on, the first in the highest position: those up to 33 behind the limit, zeros
 -- past the end, and zeros behind them. The place is at most the limit, so that they are the next 32 at least. The word ahead
--- holds the bits from a byte on that the window reaches; where the limit is before that byte there are as many.
+-- holds the 64 bits from its edge on, which the window reaches; an edge behind the limit has them all within the data.
 pub record IsFilled (r : Inside) : Type 0 where
   pub fit : BitsFit r.«data».now
   pub within : r.place ≤ r.limit

@@ -29,8 +29,10 @@ pub struct BitReader<'a> {
     /// The next bits, the first in the highest position, zeros past the end: all that are at most 33 behind the limit,
     /// and zeros behind them.
     window: u64,
-    /// The 64 bits from the byte `edge` on, in the same order: read and turned once, for the windows to come.
+    /// The 64 bits from the edge on, the first in the highest position, zeros past the end. Each word is loaded once, and
+    /// once put in order; the windows are made of two neighbours.
     ahead: u64,
+    /// The byte where the bits ahead begin: the window reaches it.
     edge: usize,
     order: BitOrder,
 }
@@ -214,8 +216,10 @@ impl<'a> BitReader<'a> {
             let edge = self.edge * 8;
             let byte = self.edge + 8;
             if next <= edge {
+                // The word ahead has what the window lacks.
                 window |= self.ahead >> (edge - next);
             } else if byte + 8 <= self.data.len() {
+                // The word ahead begins before the place, and the one behind it has the rest.
                 let word = whole_word(&self.data[byte..], self.order);
                 window = self.ahead << (next - edge) | word >> (64 - (next - edge));
                 self.ahead = word;
