@@ -2,6 +2,7 @@ pub mod BitLists
 pub mod BitPlaces
 pub mod ClonedReaders
 pub mod EolCounts
+pub mod FilledWindows
 pub mod LookUpEntries
 pub mod PeekedBits
 pub mod SoughtEols

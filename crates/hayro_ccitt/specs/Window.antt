@@ -10,11 +10,17 @@ abbrev pub place_in_word : BitOrder → ℕ → ℕ
 place_in_word HighestFirst k = k
 place_in_word LowestFirst k = 8 * (k / 8) + (7 - k % 8)
 
--- The window holds the bits from the place on, the first in the highest position: those up to 32 behind the limit, zeros
--- past the end. The place is at most the limit, so that they are the next 32 at least.
+-- The window holds the bits from the place on, the first in the highest position: those up to 33 behind the limit, zeros
+-- past the end, and zeros behind them. The place is at most the limit, so that they are the next 32 at least. The word ahead
+-- holds the 64 bits from its edge on, which the window reaches; an edge behind the limit has them all within the data.
 pub record IsFilled (r : Inside) : Type 0 where
   pub fit : BitsFit r.«data».now
   pub within : r.place ≤ r.limit
   pub before_end : r.limit ≤ 8 * length r.«data».now
-  pub near : r.limit ≤ r.place + 32
-  pub held : (k : ℕ) → k < r.limit + 32 - r.place → bit_of r.window (63 - k) ≡ get_or (bits_in r.order r.«data».now) (r.place + k) false
+  pub near : r.limit ≤ r.place + 31
+  pub held : (k : ℕ) → k < r.limit + 33 - r.place → bit_of r.window (63 - k) ≡ get_or (bits_in r.order r.«data».now) (r.place + k) false
+  pub behind : (k : ℕ) → k < 64 → r.limit + 33 ≤ r.place + k → bit_of r.window (63 - k) ≡ false
+  pub ahead : (k : ℕ) → k < 64 → bit_of r.ahead (63 - k) ≡ get_or (bits_in r.order r.«data».now) (8 * r.edge + k) false
+  pub reached : 8 * r.edge ≤ r.limit + 33
+  pub near_edge : r.limit ≤ 8 * r.edge + 31
+  pub whole : r.limit < 8 * r.edge → 8 * r.edge + 64 ≤ 8 * length r.«data».now

@@ -7,6 +7,7 @@ ghost use Rattle.hayro_ccitt.specs.Window.{place_in_word};
 
 use crate::{DecodeError, Result};
 use std::marker::Model;
+use std::simd::prelude::*;
 
 /// Which bit of a byte comes first. T.4 and T.6 speak of bits alone; PDF has the highest first, TIFF says it by FillOrder,
 /// and most fax modems have the lowest first.
@@ -25,8 +26,14 @@ pub struct BitReader<'a> {
     place: usize,
     /// The place never passes the limit, so that the window has the next 32 bits at least.
     limit: usize,
-    /// The next bits, the first in the highest position, zeros past the end: all that are at most 32 behind the limit.
+    /// The next bits, the first in the highest position, zeros past the end: all that are at most 33 behind the limit,
+    /// and zeros behind them.
     window: u64,
+    /// The 64 bits from the edge on, the first in the highest position, zeros past the end. Each word is loaded once, and
+    /// once put in order; the windows are made of two neighbours.
+    ahead: u64,
+    /// The byte where the bits ahead begin: the window reaches it.
+    edge: usize,
     order: BitOrder,
 }
 
@@ -42,14 +49,25 @@ impl<'a> Model for BitReader<'a> {
     ghost invariant = { IsFilled };
 }
 
-/// Each byte of a word with its bits in the other order.
+/// Four bits in the other order, as the upper half of a byte.
+const TURNED_UP: [u8; 16] = [
+    0x00, 0x80, 0x40, 0xC0, 0x20, 0xA0, 0x60, 0xE0, 0x10, 0x90, 0x50, 0xD0, 0x30, 0xB0, 0x70, 0xF0,
+];
+
+/// Four bits in the other order, as the lower half of a byte.
+const TURNED_DOWN: [u8; 16] = [
+    0x0, 0x8, 0x4, 0xC, 0x2, 0xA, 0x6, 0xE, 0x1, 0x9, 0x5, 0xD, 0x3, 0xB, 0x7, 0xF,
+];
+
+/// Each byte of a word with its bits in the other order: the halves of all bytes are looked up at once.
 #[inline(always)]
 fn bytes_turned(word: u64) -> u64
     ensures { (k : ℕ) → k < 64 → bit_of result k ≡ bit_of word (8 * (k / 8) + (7 - k % 8)) }
 {
-    let nibbles = (word >> 4) & 0x0F0F_0F0F_0F0F_0F0F | (word & 0x0F0F_0F0F_0F0F_0F0F) << 4;
-    let pairs = (nibbles >> 2) & 0x3333_3333_3333_3333 | (nibbles & 0x3333_3333_3333_3333) << 2;
-    (pairs >> 1) & 0x5555_5555_5555_5555 | (pairs & 0x5555_5555_5555_5555) << 1
+    let bytes = u64x2::from_array([word, 0]).to_le_bytes();
+    let upper = u8x16::from_array(TURNED_UP).swizzle_dyn(bytes & u8x16::splat(15));
+    let lower = u8x16::from_array(TURNED_DOWN).swizzle_dyn(bytes >> u8x16::splat(4));
+    u64x2::from_le_bytes(upper | lower).to_array()[0]
 }
 
 /// The bits of a word of eight bytes, the first in the highest position.
@@ -147,12 +165,15 @@ impl<'a> BitReader<'a> {
         requires within { place ≤ 8 * length «data».now }
         ensures { result ≡ record { bits = bits_in order «data».now; place = place } }
     {
-        let byte = place / 8;
+        let edge = place / 8;
+        let ahead = word_at(data, order, edge);
         BitReader {
             data,
             place,
-            limit: (byte * 8 + 32).min(data.len() * 8),
-            window: word_at(data, order, byte) << (place % 8),
+            limit: (edge * 8 + 31).min(data.len() * 8),
+            window: ahead << (place % 8),
+            ahead,
+            edge,
             order,
         }
     }
@@ -190,38 +211,44 @@ impl<'a> BitReader<'a> {
         ensures only_end { IsOkUnless result DecodeError.UnexpectedEof }
     {
         let next = self.place + n;
+        let mut window = self.window << n;
         if next > self.limit {
-            return self.refill(next);
+            let edge = self.edge * 8;
+            let byte = self.edge + 8;
+            if next <= edge {
+                // The word ahead has what the window lacks.
+                window |= self.ahead >> (edge - next);
+            } else if byte + 8 <= self.data.len() {
+                // The word ahead begins before the place, and the one behind it has the rest.
+                let word = whole_word(&self.data[byte..], self.order);
+                window = self.ahead << (next - edge) | word >> (64 - (next - edge));
+                self.ahead = word;
+                self.edge = byte;
+            } else {
+                return self.refill_near_end(next);
+            }
+            self.limit = next + 31;
         }
         self.place = next;
-        self.window <<= n;
+        self.window = window;
         Ok(())
     }
 
-    /// Moves to a place that the window doesn't hold, at most to the end, and fills the window there.
-    #[inline(always)]
-    fn refill(&mut self, next: usize) -> Result<()>
+    /// Moves to a place that the words loaded so far don't hold, at most to the end, and fills the window there.
+    #[cold]
+    #[inline(never)]
+    fn refill_near_end(&mut self, next: usize) -> Result<()>
         requires { self.old.place ≤ next }
         ensures moved { self.new ≡ record self.old { place = min next (length self.old.bits) } }
         ensures forward { self.old.place ≤ self.new.place }
         ensures end { IsErr result ↔ (length self.old.bits < next) }
         ensures only_end { IsOkUnless result DecodeError.UnexpectedEof }
     {
-        let byte = next / 8;
-        if byte + 8 <= self.data.len() {
-            self.place = next;
-            self.limit = byte * 8 + 32;
-            self.window = whole_word(&self.data[byte..], self.order) << (next % 8);
-            return Ok(());
-        }
         let end = self.data.len() * 8;
+        *self = BitReader::at_place(self.data, self.order, next.min(end));
         if next > end {
-            self.place = end;
-            self.limit = end;
-            self.window = 0;
             return Err(DecodeError::UnexpectedEof);
         }
-        *self = BitReader::at_place(self.data, self.order, next);
         Ok(())
     }
 
@@ -271,6 +298,8 @@ impl<'a> BitReader<'a> {
             place: self.place,
             limit: self.limit,
             window: self.window,
+            ahead: self.ahead,
+            edge: self.edge,
             order: self.order,
         }
     }

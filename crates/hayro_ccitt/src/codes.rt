@@ -207,6 +207,23 @@ impl<'a> BitReader<'a> {
         ensures same_bits { self.new.bits ≡ self.old.bits }
         ensures ticks { ticks.new ≡ ticks.old + 1 }
     {
+        // The usual mode, V0, stands apart: what follows is compiled for it alone.
+        if self.peek_u32() >> 31 == 1 {
+            return self.read_mode(ticks);
+        }
+        self.read_mode(ticks)
+    }
+
+    /// The same, whatever the mode.
+    #[inline(always)]
+    fn read_mode(&mut self, ticks: &mut Ticks) -> Result<Mode>
+        ensures mode { MatchResult result
+            (λ m. read_code mode_codes (here self.old) ≡ Ok (m, here self.new))
+            (λ e. read_code mode_codes (here self.old) ≡ Err e) }
+        ensures fault { IfErr result IsFault }
+        ensures same_bits { self.new.bits ≡ self.old.bits }
+        ensures ticks { ticks.new ≡ ticks.old + 1 }
+    {
         ticks.tick();
         let (mode, width) = mode_of(self.peek_u32() >> 25);
         // Where the data ends inside a word these bits aren't there.
@@ -279,6 +296,25 @@ impl<'a> BitReader<'a> {
     /// bit that is looked at is a tick.
     #[inline(never)]
     fn pass_eol(&mut self, ticks: &mut Ticks) -> bool
+        ensures eol { after_eol 0 (here self.old) ≡ (if result then Some (here self.new) else None) }
+        ensures unchanged { result ≡ false → self.new ≡ self.old }
+        ensures same_bits { self.new.bits ≡ self.old.bits }
+        ensures ticks { ticks.new ≡ ticks.old + looked (here self.old) }
+    {
+        let zeros = self.peek_u32().leading_zeros() as usize;
+        if zeros < 11 || zeros >= 32 {
+            return self.pass_far_eol(ticks);
+        }
+        ticks.tick_times(zeros + 1);
+        // The one is there to be passed.
+        let _ = self.consume(zeros + 1);
+        true
+    }
+
+    /// The same, where the EOL may have more fill.
+    #[cold]
+    #[inline(never)]
+    fn pass_far_eol(&mut self, ticks: &mut Ticks) -> bool
         ensures eol { after_eol 0 (here self.old) ≡ (if result then Some (here self.new) else None) }
         ensures unchanged { result ≡ false → self.new ≡ self.old }
         ensures same_bits { self.new.bits ≡ self.old.bits }

@@ -1,11 +1,12 @@
 -- Words of 64 bits that hold bits of the data, the first in the highest position.
-use Rattle.std.proofs.Common.{◌≡◌, ℕ, zero, suc, ◌+◌, ◌-◌, ◌*◌, ◌/◌, ◌%◌, ◌^◌, ◌<◌, ◌≤◌, eqb, false, List, [], ◌∷◌, length, get_or, slice_get, pow_pos, drop, refl, sym, ap, ◌∙◌, arith, inl, inr}
+use Rattle.std.proofs.Common.{◌≡◌, ℕ, zero, suc, ◌+◌, ◌-◌, ◌*◌, ◌/◌, ◌%◌, ◌^◌, ◌<◌, ◌≤◌, eqb, false, List, [], ◌∷◌, length, get_or, slice_get, pow_pos, drop, refl, sym, ap, ◌∙◌, arith, inl, inr, Bool, true, ◌||◌, max, min}
 use Rattle.std.specs.Int.{bit_at, from_be_bytes, w64}
+use Rattle.std.specs.Int.RustNames.{bit_or}
 use Rattle.std.proofs.Math.Nat.{div-div-eq-div-mul}
 use Rattle.std.proofs.lemmas.Bool.{cases_lt}
 use Rattle.std.proofs.lemmas.List.{get_or-drop, get_or_past}
 use Rattle.std.proofs.lemmas.Nat.{pow-add}
-use Rattle.std.proofs.lemmas.Nat.Bits.{bit_at-zero, bit_at_cat_low, bit_at_cat_high}
+use Rattle.std.proofs.lemmas.Nat.Bits.{bit_at-zero, bit_at-lt, bit_at_above, bit_at_or, bit_at_cat_low, bit_at_cat_high}
 use Rattle.std.proofs.lemmas.Option.{slice_get-get_or}
 use Rattle.hayro_ccitt.specs.declared.bit_reader.BitOrder.{BitOrder}
 use Rattle.hayro_ccitt.specs.declared.bit_reader.BitOrder.TheVariants.{HighestFirst, LowestFirst}
@@ -122,6 +123,49 @@ shifted_bit w n k h =
     ap (λ (b : ℕ). eqb b 1) (bit_at-mod (w * 2 ^ n) (63 - k) (omega arith) ∙ ap (λ (v : ℕ). bit_at v (63 - k)) none
     ∙ bit_at_cat_high w n 0 (63 - k) small (omega arith) ∙ ap (bit_at w) down)
 
+-- and has zeros behind its own bits
+shifted_out : (w n k : ℕ) → k < 64 → 64 ≤ n + k → bit_of (w * 2 ^ n % 2 ^ 64) (63 - k) ≡ false
+shifted_out w n k h past =
+    let none : w * 2 ^ n ≡ w * 2 ^ n + 0 = omega arith in
+    ap (λ (b : ℕ). eqb b 1) (bit_at-mod (w * 2 ^ n) (63 - k) (omega arith) ∙ ap (λ (v : ℕ). bit_at v (63 - k)) none
+    ∙ bit_at_cat_low w n 0 (63 - k) (omega arith) ∙ bit_at-zero (63 - k))
+
+pub bit_at-shr : (n k i : ℕ) → bit_at (n / 2 ^ k) i ≡ bit_at n (k + i)
+bit_at-shr n k i = ap (λ (v : ℕ). v % 2) (div-div-eq-div-mul n (2 ^ k) (2 ^ i) ∙ ap (λ (d : ℕ). n / d) (sym (pow-add 2 k i)))
+
+-- a word that is shifted down by n bits stands n bits on
+shifted_down : (w n k : ℕ) → k < 64 → n ≤ k → bit_of (w / 2 ^ n) (63 - k) ≡ bit_of w (63 - (k - n))
+shifted_down w n k h le =
+    let place : n + (63 - k) ≡ 63 - (k - n) = omega arith in
+    ap (λ (b : ℕ). eqb b 1) (bit_at-shr w n (63 - k) ∙ ap (bit_at w) place)
+
+-- and has zeros in front of its own bits
+shifted_in : (w n k : ℕ) → w < 2 ^ 64 → k < 64 → k < n → bit_of (w / 2 ^ n) (63 - k) ≡ false
+shifted_in w n k fits h lt = ap (λ (b : ℕ). eqb b 1) (bit_at-shr w n (63 - k) ∙ bit_at_above w 64 (n + (63 - k)) fits (omega arith))
+
+max_bit : (x y : ℕ) → x < 2 → y < 2 → eqb (max x y) 1 ≡ (eqb x 1 || eqb y 1)
+max_bit zero zero h k = refl
+max_bit zero (suc zero) h k = refl
+max_bit (suc zero) zero h k = refl
+max_bit (suc zero) (suc zero) h k = refl
+max_bit (suc (suc x)) y h k = absurd (omega arith)
+max_bit zero (suc (suc y)) h k = absurd (omega arith)
+max_bit (suc zero) (suc (suc y)) h k = absurd (omega arith)
+
+or_bit : (a b i : ℕ) → bit_of (bit_or a b) i ≡ (bit_of a i || bit_of b i)
+or_bit a b i = ap (λ (v : ℕ). eqb v 1) (bit_at_or a b i) ∙ max_bit (bit_at a i) (bit_at b i) (bit_at-lt a i) (bit_at-lt b i)
+
+or_first : (a b i : ℕ) (d : Bool) → bit_of a i ≡ d → bit_of b i ≡ false → bit_of (bit_or a b) i ≡ d
+or_first a b i true first second = or_bit a b i ∙ rw first refl
+or_first a b i false first second = or_bit a b i ∙ rw (first, second) refl
+
+or_second : (a b i : ℕ) (d : Bool) → bit_of a i ≡ false → bit_of b i ≡ d → bit_of (bit_or a b) i ≡ d
+or_second a b i d first second = or_bit a b i ∙ rw (first, second) refl
+
+or_both : (a b i : ℕ) (d : Bool) → bit_of a i ≡ d → bit_of b i ≡ d → bit_of (bit_or a b) i ≡ d
+or_both a b i true first second = or_bit a b i ∙ rw first refl
+or_both a b i false first second = or_bit a b i ∙ rw (first, second) refl
+
 -- the upper half of a window has its first 32 bits
 pub upper_bit : (w k : ℕ) → k < 32 → bit_of (w / 2 ^ 32) (31 - k) ≡ bit_of w (63 - k)
 upper_bit w k h =
@@ -136,6 +180,31 @@ holds_on bits place n most w le held k h =
     let at : place + (n + k) ≡ place + n + k = omega arith in
     shifted_bit w n k (omega arith) ∙ held (n + k) h ∙ ap (λ (i : ℕ). get_or bits i false) at
 
+-- And behind them it holds zeros, as before.
+pub zeros_behind : (n most w : ℕ) → ((k : ℕ) → k < 64 → most ≤ k → bit_of w (63 - k) ≡ false) → (k : ℕ) → k < 64 → most ≤ n + k → bit_of (w * 2 ^ n % 2 ^ 64) (63 - k) ≡ false
+zeros_behind n most w behind k h past = elim (cases_lt (n + k) 64) [
+  | inl own ↦ shifted_bit w n k own ∙ behind (n + k) own past
+  | inr out ↦ shifted_out w n k h out
+]
+
+-- A window that is shifted, with the word ahead behind its own bits, holds 64.
+pub joined : (bits : Bits) (place n most w a t : ℕ) → most ≤ 64 → n + t ≤ most → a < 2 ^ 64 → ((k : ℕ) → k < most → bit_of w (63 - k) ≡ get_or bits (place + k) false)
+    → ((k : ℕ) → k < 64 → most ≤ k → bit_of w (63 - k) ≡ false) → ((k : ℕ) → k < 64 → bit_of a (63 - k) ≡ get_or bits (place + n + t + k) false)
+    → (k : ℕ) → k < 64 → bit_of (bit_or (w * 2 ^ n % 2 ^ 64) (a / 2 ^ t)) (63 - k) ≡ get_or bits (place + n + k) false
+joined bits place n most w a t le reach fits held behind ahead k h =
+    let shifted : ℕ = w * 2 ^ n % 2 ^ 64 in
+    let down : ℕ = a / 2 ^ t in
+    let bit : Bool = get_or bits (place + n + k) false in elim (cases_lt k t) [
+      | inl before ↦ or_first shifted down (63 - k) bit (holds_on bits place n most w le held k (omega arith)) (shifted_in a t k fits h before)
+      | inr from ↦
+          let at : place + n + t + (k - t) ≡ place + n + k = omega arith in
+          let second : bit_of down (63 - k) ≡ bit = shifted_down a t k h from ∙ ahead (k - t) (omega arith) ∙ ap (λ (i : ℕ). get_or bits i false) at in
+          elim (cases_lt (n + k) most) [
+            | inl own ↦ or_both shifted down (63 - k) bit (holds_on bits place n most w le held k own) second
+            | inr past ↦ or_second shifted down (63 - k) bit (zeros_behind n most w behind k h past) second
+          ]
+    ]
+
 -- a word from a byte on, shifted to a place in that byte
 pub filled : (order : BitOrder) (bytes : List ℕ) (place w : ℕ) → ((k : ℕ) → k < 64 → bit_of w (63 - k) ≡ get_or (bits_in order bytes) (8 * (place / 8) + k) false)
     → (k : ℕ) → place % 8 + k < 64 → bit_of (w * 2 ^ (place % 8) % 2 ^ 64) (63 - k) ≡ get_or (bits_in order bytes) (place + k) false
@@ -143,13 +212,16 @@ filled order bytes place w held k h =
     let at : 8 * (place / 8) + place % 8 + k ≡ place + k = omega arith in
     holds_on (bits_in order bytes) (8 * (place / 8)) (place % 8) 64 w (omega arith) held k h ∙ ap (λ (i : ℕ). get_or (bits_in order bytes) i false) at
 
+-- and zeros behind it, and past the end
+pub filled_behind : (order : BitOrder) (bytes : List ℕ) (place w : ℕ) → ((k : ℕ) → k < 64 → bit_of w (63 - k) ≡ get_or (bits_in order bytes) (8 * (place / 8) + k) false)
+    → (k : ℕ) → k < 64 → min (place / 8 * 8 + 31) (length bytes * 8) + 33 ≤ place + k → bit_of (w * 2 ^ (place % 8) % 2 ^ 64) (63 - k) ≡ false
+filled_behind order bytes place w held k h past = elim (cases_lt (place % 8 + k) 64) [
+  | inl own ↦ filled order bytes place w held k own ∙ get_or_past (bits_in order bytes) (place + k) false (omega (arith, past, length-bits_in order bytes))
+  | inr out ↦ shifted_out w (place % 8) k h out
+]
+
 -- the highest bit of a window, as a number
 pub top_bit : (w : ℕ) → w < 2 ^ 64 → (w / 2 ^ 63 ≤ 1) × (bit_of w 63 ≡ eqb (w / 2 ^ 63) 1)
 top_bit w h =
     let low : w / 2 ^ 63 % 2 ≡ w / 2 ^ 63 = omega arith in
     (omega arith, ap (λ (n : ℕ). eqb n 1) low)
-
--- at the end the bits are zeros
-pub none_held : (order : BitOrder) (bytes : List ℕ) (end k : ℕ) → 8 * length bytes ≤ end → bit_of 0 (63 - k) ≡ get_or (bits_in order bytes) (end + k) false
-none_held order bytes end k h =
-    ap (λ (b : ℕ). eqb b 1) (bit_at-zero (63 - k)) ∙ sym (get_or_past (bits_in order bytes) (end + k) false (omega (arith, h, length-bits_in order bytes)))

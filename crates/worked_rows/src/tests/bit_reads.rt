@@ -1,4 +1,4 @@
-//! The reader's calls on data of each length from 0 to 17 bytes, beside a plain list of its bits.
+//! The reader's calls on data of each length from 0 to 40 bytes, in either order of bits, beside a plain list of its bits.
 
 use hayro_ccitt::DecodeError::UnexpectedEof;
 use hayro_ccitt::bit_reader::BitReader;
@@ -6,15 +6,25 @@ use hayro_ccitt::bits_fit;
 use hayro_ccitt::codes::Ticks;
 use std::test::Fail;
 
-const DATA: [u8; 17] = [
+const DATA: [u8; 40] = [
     0xC9, 0x0F, 0xDA, 0xA2, 0x21, 0x68, 0xC2, 0x34, 0xC4, 0xC6, 0x62, 0x8B, 0x80, 0xDC, 0x1C, 0xD1,
-    0x29,
+    0x29, 0x02, 0x4E, 0x08, 0x8A, 0x67, 0xCC, 0x74, 0x02, 0x0B, 0xBE, 0xA6, 0x3B, 0x13, 0x9B, 0x22,
+    0x51, 0x4A, 0x08, 0x79, 0x8E, 0x34, 0x04, 0xDD,
 ];
 
-/// The bits of the data.
-const DIGITS: &str = "1100100100001111110110101010001000100001011010001100001000110100\
+/// The bits of the data, each byte's highest first.
+const HIGH_FIRST: &str = "1100100100001111110110101010001000100001011010001100001000110100\
     1100010011000110011000101000101110000000110111000001110011010001\
-    00101001";
+    0010100100000010010011100000100010001010011001111100110001110100\
+    0000001000001011101111101010011000111011000100111001101100100010\
+    0101000101001010000010000111100110001110001101000000010011011101";
+
+/// The bits of the data, each byte's lowest first.
+const LOW_FIRST: &str = "1001001111110000010110110100010110000100000101100100001100101100\
+    0010001101100011010001101101000100000001001110110011100010001011\
+    1001010001000000011100100001000001010001111001100011001100101110\
+    0100000011010000011111010110010111011100110010001101100101000100\
+    1000101001010010000100001001111001110001001011000010000010111011";
 
 /// The first 32 of some bits, written as digits, as a number; zeros where there are fewer.
 fn first_32(bits: &[u8]) -> u32 {
@@ -29,24 +39,31 @@ fn first_32(bits: &[u8]) -> u32 {
 /// By each number of bits to the end, and twice past it.
 #[test]
 fn consumes_as_a_list_of_bits(rt: HostRuntime) {
-    for length in 0..=17usize {
-        let data = &DATA[..length];
-        let bits = DIGITS.as_bytes().get(..8 * length).unwrap_or(&[]);
-        assert!(rt; bits_fit(data));
-        for n in 0..=32usize {
-            let mut reader = BitReader::new(data);
-            let mut rest = bits;
-            for _ in 0..8 * length / n.max(1) + 2 {
-                assert_eq!(rt; reader.peek_u32(), first_32(rest), "{n} of {data:?}");
-                let answer = if n <= rest.len() {
-                    Ok(())
+    for is_low_first in [false, true] {
+        let digits = if is_low_first { LOW_FIRST } else { HIGH_FIRST };
+        for length in 0..=40usize {
+            let data = &DATA[..length];
+            let bits = digits.as_bytes().get(..8 * length).unwrap_or(&[]);
+            assert!(rt; bits_fit(data));
+            for n in 0..=32usize {
+                let mut reader = if is_low_first {
+                    BitReader::new_low_first(data)
                 } else {
-                    Err(UnexpectedEof)
+                    BitReader::new(data)
                 };
-                rest = rest.get(n..).unwrap_or(&[]);
-                assert_eq!(rt; reader.consume(n), answer, "{n} of {data:?}");
-                let place = bits.len().checked_sub(rest.len());
-                assert_eq!(rt; Some(reader.bit_pos()), place, "{n} of {data:?}");
+                let mut rest = bits;
+                for _ in 0..8 * length / n.max(1) + 2 {
+                    assert_eq!(rt; reader.peek_u32(), first_32(rest), "{n} of {data:?}");
+                    let answer = if n <= rest.len() {
+                        Ok(())
+                    } else {
+                        Err(UnexpectedEof)
+                    };
+                    rest = rest.get(n..).unwrap_or(&[]);
+                    assert_eq!(rt; reader.consume(n), answer, "{n} of {data:?}");
+                    let place = bits.len().checked_sub(rest.len());
+                    assert_eq!(rt; Some(reader.bit_pos()), place, "{n} of {data:?}");
+                }
             }
         }
     }
@@ -56,38 +73,45 @@ fn consumes_as_a_list_of_bits(rt: HostRuntime) {
 #[test]
 fn reads_on_as_a_list_of_bits(rt: HostRuntime) -> std::result::Result<(), Fail> {
     let mut ticks = Ticks::new();
-    for length in 0..=17usize {
-        let data = &DATA[..length];
-        let bits = DIGITS.as_bytes().get(..8 * length).unwrap_or(&[]);
-        assert!(rt; bits_fit(data));
-        let mut reader = BitReader::new(data);
-        for place in 0..=8 * length {
-            let rest = bits.get(place..).unwrap_or(&[]);
-            let bit = rest.first().map(|digit| u32::from(*digit == b'1'));
-            let mut next = reader.clone()?;
-            assert_eq!(rt;
-                next.read_bit(),
-                bit.ok_or(UnexpectedEof),
-                "{place} of {data:?}"
-            );
-            let behind = rest.get(1..).unwrap_or(&[]);
-            assert_eq!(rt; next.peek_u32(), first_32(behind), "{place} of {data:?}");
-            let mut whole = reader.clone()?;
-            whole.align();
-            assert_eq!(rt;
-                whole.bit_pos(),
-                place.div_ceil(8) * 8,
-                "{place} of {data:?}"
-            );
-            let aligned = bits.get(place.div_ceil(8) * 8..).unwrap_or(&[]);
-            assert_eq!(rt; whole.peek_u32(), first_32(aligned), "{place} of {data:?}");
-            let zeros = rest.iter().take_while(|digit| **digit == b'0').count();
-            assert_eq!(rt; reader.zero_run(&mut ticks).0, zeros, "{place} of {data:?}");
-            assert_eq!(rt;
-                reader.consume(1).is_ok(),
-                bit.is_some(),
-                "{place} of {data:?}"
-            );
+    for is_low_first in [false, true] {
+        let digits = if is_low_first { LOW_FIRST } else { HIGH_FIRST };
+        for length in 0..=40usize {
+            let data = &DATA[..length];
+            let bits = digits.as_bytes().get(..8 * length).unwrap_or(&[]);
+            assert!(rt; bits_fit(data));
+            let mut reader = if is_low_first {
+                BitReader::new_low_first(data)
+            } else {
+                BitReader::new(data)
+            };
+            for place in 0..=8 * length {
+                let rest = bits.get(place..).unwrap_or(&[]);
+                let bit = rest.first().map(|digit| u32::from(*digit == b'1'));
+                let mut next = reader.clone()?;
+                assert_eq!(rt;
+                    next.read_bit(),
+                    bit.ok_or(UnexpectedEof),
+                    "{place} of {data:?}"
+                );
+                let behind = rest.get(1..).unwrap_or(&[]);
+                assert_eq!(rt; next.peek_u32(), first_32(behind), "{place} of {data:?}");
+                let mut whole = reader.clone()?;
+                whole.align();
+                assert_eq!(rt;
+                    whole.bit_pos(),
+                    place.div_ceil(8) * 8,
+                    "{place} of {data:?}"
+                );
+                let aligned = bits.get(place.div_ceil(8) * 8..).unwrap_or(&[]);
+                assert_eq!(rt; whole.peek_u32(), first_32(aligned), "{place} of {data:?}");
+                let zeros = rest.iter().take_while(|digit| **digit == b'0').count();
+                assert_eq!(rt; reader.zero_run(&mut ticks).0, zeros, "{place} of {data:?}");
+                assert_eq!(rt;
+                    reader.consume(1).is_ok(),
+                    bit.is_some(),
+                    "{place} of {data:?}"
+                );
+            }
         }
     }
     Ok(())

@@ -1,32 +1,55 @@
-use Rattle.std.proofs.Common.{◌≡◌, ◌+◌, ◌-◌, ◌≤◌, length, min, ap, arith}
-use Rattle.hayro_ccitt.specs.Bits.{bits_in}
+use Rattle.std.proofs.Common.{◌≡◌, ◌+◌, ◌-◌, ◌*◌, ◌≤◌, ◌<◌, ◌^◌, ℕ, List, get_or, false, length, min, refl, ap, ◌∙◌, arith}
+use Rattle.std.proofs.lemmas.List.{take_rest}
+use Rattle.hayro_ccitt.specs.Bits.{bit_of, bits_in}
 use Rattle.hayro_ccitt.proofs.BitReading.BitLists.{length-bits_in}
 use Rattle.hayro_ccitt.proofs.BitReading.BitPlaces.{bits_at}
-use Rattle.hayro_ccitt.proofs.BitReading.WindowWords.{holds_on}
+use Rattle.hayro_ccitt.proofs.BitReading.WindowWords.{bits_in-drop}
+use Rattle.hayro_ccitt.proofs.BitReading.FilledWindows.{filled_on, filled_ahead, filled_afresh}
 use Rattle.hayro_ccitt.proofs.bit_reader.BitReader.consume.Goals as goal
+use Rattle.hayro_ccitt.proofs.bit_reader.BitReader.consume.Goals.{then-next-self, then-next-edge, else-next-edge+then-byte-self, else-next-self}
 
 pub invariant_of-self : goal.invariant_of-self
 invariant_of-self c =
-    let r = c.self.invariant in
-    let bits = bits_in c.self.inside.order c.self.inside.«data».now in
-    let place = c.self.inside.place in
-    let most = c.self.inside.limit + 32 - place in
-    let few : most ≤ 64 = omega (arith, r.near) in
-    record {
-      fit = r.fit;
-      within = c.if-next-self.false;
-      before_end = r.before_end;
-      near = omega (arith, r.near);
-      held = λ k h. holds_on bits place c.args.n most c.self.inside.window few r.held k (omega (arith, h));
-    }
+    let r = c.self.inside in
+    elim c.if-next-self.branch [
+      | then-next-self w ↦ elim w.if-next-edge.branch [
+        | then-next-edge v ↦
+            let fits : r.ahead < 2 ^ 64 = omega arith in
+            rw (w.window-is, w.self-inside-is, v.window-is, v.self-inside-is) (filled_ahead r c.args.n c.self.invariant fits w.if-next-self.true v.if-next-edge.true)
+        | else-next-edge+then-byte-self v ↦
+            let word = v.whole_word-word.result in
+            let fits : word < 2 ^ 64 = omega arith in
+            let fresh : (j : ℕ) → j < 64 → bit_of word (63 - j) ≡ get_or (bits_in r.order r.«data».now) (8 * (r.edge + 8) + j) false =
+            λ j lt. v.whole_word-word.ensures j lt ∙ ap (λ (xs : List ℕ). get_or (bits_in r.order xs) j false) (take_rest r.«data».now (r.edge + 8)) ∙ bits_in-drop r.order r.«data».now (r.edge + 8) j in
+            rw (w.window-is, w.self-inside-is, v.window-is, v.self-inside-is)
+            (filled_afresh r c.args.n word c.self.invariant c.requires fits (omega (arith, v.if-next-edge.false)) v.if-byte-self.true fresh)
+      ]
+      | else-next-self w ↦ rw (w.window-is, w.self-inside-is) (filled_on r c.args.n c.self.invariant (omega (arith, w.if-next-self.false)))
+    ]
+
+-- the data stay, and so does the order of their bits
+same_data : (c : goal.After-self-3-1) → (c.if-next-self.self-inside.«data» ≡ c.self.inside.«data») × (c.if-next-self.self-inside.order ≡ c.self.inside.order)
+same_data c = elim c.if-next-self.branch [
+  | then-next-self w ↦ elim w.if-next-edge.branch [
+    | then-next-edge v ↦ rw (w.self-inside-is, v.self-inside-is) (refl, refl)
+    | else-next-edge+then-byte-self v ↦ rw (w.self-inside-is, v.self-inside-is) (refl, refl)
+  ]
+  | else-next-self w ↦ rw w.self-inside-is (refl, refl)
+]
+
+-- so that the place is within them
+within : (c : goal.After-self-3-1) → c.self.inside.place + c.args.n ≤ length (bits_in c.self.inside.order c.self.inside.«data».now)
+within c =
+    let filled = invariant_of-self c in
+    let same : length c.if-next-self.self-inside.«data».now ≡ length c.self.inside.«data».now = ap (λ d. length d.now) (same_data c).0 in
+    omega (arith, filled.within, filled.before_end, same, length-bits_in c.self.inside.order c.self.inside.«data».now)
 
 pub returns-clause-moved : goal.returns-clause-moved
 returns-clause-moved c =
     let bits = bits_in c.self.inside.order c.self.inside.«data».now in
     let next = c.self.inside.place + c.args.n in
-    let e : next ≡ min next (length bits) = omega (arith, c.if-next-self.false, c.self.invariant.before_end, length-bits_in c.self.inside.order c.self.inside.«data».now) in
-    rw (← c.self.view_is) (ap (bits_at bits) e)
+    let e : next ≡ min next (length bits) = omega (arith, within c) in
+    rw (← c.self.view_is, (same_data c).0, (same_data c).1) (ap (bits_at bits) e)
 
 pub returns-clause-end : goal.returns-clause-end
-returns-clause-end c =
-    rw (← c.self.view_is) (λ e. absurd cc, λ h. absurd (omega (arith, h, c.if-next-self.false, c.self.invariant.before_end, length-bits_in c.self.inside.order c.self.inside.«data».now)))
+returns-clause-end c = rw (← c.self.view_is) (λ e. absurd cc, λ h. absurd (omega (arith, h, within c)))

@@ -8,7 +8,7 @@ use Rattle.hayro_ccitt.specs.LookUps.{padded, mode_told, telling_bits}
 use Rattle.hayro_ccitt.proofs.BitReading.BitPlaces.{moved_on, bits_enough, bits_missing}
 use Rattle.hayro_ccitt.proofs.BitReading.PeekedBits.{peeked_seven}
 use Rattle.hayro_ccitt.proofs.CodeWords.LookedUpModes.{mode_cut, mode_wrong, mode_found, some_mode_bits}
-use Rattle.hayro_ccitt.proofs.bit_reader.BitReader.decode_mode.Goals as goal
+use Rattle.hayro_ccitt.proofs.bit_reader.BitReader.read_mode.Goals as goal
 
 pub returns-in_err-consume-clause-mode : goal.returns-in_err-consume-clause-mode
 returns-in_err-consume-clause-mode c =
