@@ -10,13 +10,16 @@ use Rattle.hayro_ccitt.specs.PlainReading.{move_group3, lines_of_move_group3, st
 use Rattle.hayro_ccitt.proofs.Readings.TurnsMoveOn.{eols_shorter, left_group3}
 use Rattle.hayro_ccitt.proofs.Readings.RunsOverRows.{comes_first, held_between}
 use Rattle.hayro_ccitt.proofs.Readings.RowsOfGroup3.{by_rows_group3, left_start, fails_group3, misses_group3, ends_group3, next_between_group3, next_counted_group3, next_paid_group3, next_shorter_group3, last_counted_group3, fails_paid_group3, misses_paid_group3, ends_paid_group3, words_are}
-use Rattle.hayro_ccitt.specs.Work.{words_of_move_group3}
+use Rattle.hayro_ccitt.specs.declared.settings.EncodingMode.TheVariants.{Group3_1D}
+use Rattle.hayro_ccitt.specs.Work.{CountsRun, words_by, words_of_move_group3}
 use Rattle.hayro_ccitt.specs.declared.error.DecodeError.{DecodeError}
 use Rattle.hayro_ccitt.specs.Decoding.{gap_said}
 use Rattle.hayro_ccitt.specs.Rows.{changes}
 use Rattle.hayro_ccitt.proofs.Work.ChangesStored.{changes_white}
 use Rattle.hayro_ccitt.proofs.Work.RunsCount.{counted_ends}
 use Rattle.hayro_ccitt.proofs.Work.EolsPassed.{looked_before, looked_most}
+use Rattle.hayro_ccitt.proofs.group3.decode_rows.Given.{Over}
+use Rattle.hayro_ccitt.proofs.group3.decode_rows.Goals.{After-check_eob}
 use Rattle.hayro_ccitt.proofs.group3.decode_rows.Goals as goal
 
 pub rows-init : goal.rows-init
@@ -112,6 +115,19 @@ returns-in_err-read_row-clause-rows g c =
     }
     )
 
+-- what is counted where what stands behind a row ends the run, within the bound
+last_counted : (g : Over) (c : After-check_eob g) → c.check_eob.new.ctx.ticks ≤ c.args.ctx.now.ticks + (36 * length c.args.reader.now.bits + 14)
+    → CountsRun (words_by Group3_1D c.args.ctx.now.held.settings c.args.reader.now.bits) c.check_eob.new.ctx.held.taken c.args.ctx.now.ticks c.check_eob.new.ctx.ticks
+    (36 * length c.args.reader.now.bits + 14)
+last_counted g c most =
+    let (between, same, width, words, paid) = c.rows.invariant in
+    let settings = c.args.ctx.now.held.settings in
+    let bits = c.args.reader.now.bits in
+    let found = words_are settings bits between in
+    last_counted_group3 settings c.requires.columns bits g.D.Decoder.step _ _ _ _ _ between _ width _ _ _
+    c.in_ok-read_row.ensures.row c.check_eob.new.ctx.held (here c.check_eob.new.reader) c.check_eob.result c.check_eob.ensures.gap c.check_eob.ensures.held
+    c.args.ctx.now.ticks c.rows.ctx.ticks c.check_eob.new.ctx.ticks (36 * length bits + 14) words (omega (arith, found, c.in_ok-read_row.ensures.at_least, c.check_eob.ensures.counts)) most
+
 pub returns-in_err-check_eob-clause-rows : goal.returns-in_err-check_eob-clause-rows
 returns-in_err-check_eob-clause-rows g c =
     let (between, same, width, words, paid) = c.rows.invariant in
@@ -122,15 +138,12 @@ returns-in_err-check_eob-clause-rows g c =
     let leaves = misses_group3 settings c.requires.columns bits g.D.Decoder.step _ _ _ _ _ between _ width _ _ _
     c.in_ok-read_row.ensures.row c.check_eob.new.ctx.held (here c.check_eob.new.reader) c.check_eob.result c.check_eob.ensures.gap c.check_eob.ensures.held c.in_err-check_eob.field-0.0 c.in_err-check_eob.was (subst IsFault (sym code) tt) c.in_err-check_eob.ensures.kept in
     let within : length (here c.rows.reader) ≤ length bits = omega (arith, length-drop c.rows.reader.place c.rows.reader.bits, ap length same) in
-    let found = words_are settings bits between in
     rw (answer.1, answer.2) (
     record {
       settings = search rules;
       reading = leaves.0;
       short = leaves.1;
-      work = last_counted_group3 settings c.requires.columns bits g.D.Decoder.step _ _ _ _ _ between _ width _ _ _
-          c.in_ok-read_row.ensures.row c.check_eob.new.ctx.held (here c.check_eob.new.reader) c.check_eob.result c.check_eob.ensures.gap c.check_eob.ensures.held
-          c.args.ctx.now.ticks c.rows.ctx.ticks c.check_eob.new.ctx.ticks (36 * length bits + 14) words (omega (arith, found, c.in_ok-read_row.ensures.at_least, c.check_eob.ensures.counts))
+      work = last_counted g (goal.at.returns-in_err-check_eob-clause-rows g c).After-check_eob
           (misses_paid_group3 settings c.requires.columns bits g.D.Decoder.step _ _ _ _ _ between _ width _ _ _
           within c.args.ctx.now.ticks c.rows.ctx.ticks paid c.read_row.new.ctx.ticks c.in_ok-read_row.ensures.at_most c.in_ok-read_row.ensures.row
           c.check_eob.new.ctx.ticks (omega (arith, c.in_err-check_eob.ensures.work_refused, looked_most (here c.read_row.new.reader))));
@@ -146,14 +159,11 @@ returns-then-branch-clause-rows g c =
     let leaves = ends_group3 settings c.requires.columns bits g.D.Decoder.step _ _ _ _ _ between _ width _ _ _
     c.in_ok-read_row.ensures.row c.check_eob.new.ctx.held (here c.check_eob.new.reader) c.check_eob.result c.check_eob.ensures.gap c.check_eob.ensures.held is (c.in_ok-check_eob.ensures.given_up c.if-branch.true) in
     let within : length (here c.rows.reader) ≤ length bits = omega (arith, length-drop c.rows.reader.place c.rows.reader.bits, ap length same) in
-    let found = words_are settings bits between in
     record {
       settings = search rules;
       reading = leaves.0;
       short = leaves.1;
-      work = last_counted_group3 settings c.requires.columns bits g.D.Decoder.step _ _ _ _ _ between _ width _ _ _
-          c.in_ok-read_row.ensures.row c.check_eob.new.ctx.held (here c.check_eob.new.reader) c.check_eob.result c.check_eob.ensures.gap c.check_eob.ensures.held
-          c.args.ctx.now.ticks c.rows.ctx.ticks c.check_eob.new.ctx.ticks (36 * length bits + 14) words (omega (arith, found, c.in_ok-read_row.ensures.at_least, c.check_eob.ensures.counts))
+      work = last_counted g (goal.at.returns-then-branch-clause-rows g c).After-check_eob
           (ends_paid_group3 settings c.requires.columns bits g.D.Decoder.step _ _ _ _ _ between _ width _ _ _
           within c.args.ctx.now.ticks c.rows.ctx.ticks paid c.read_row.new.ctx.ticks c.in_ok-read_row.ensures.at_most c.in_ok-read_row.ensures.row
           c.check_eob.new.ctx.ticks (here c.check_eob.new.reader) (c.in_ok-check_eob.ensures.work (c.in_ok-check_eob.ensures.given_up c.if-branch.true)));
