@@ -6,4 +6,5 @@ pub mod LineWidths
 pub mod LinesLeaveBits
 pub mod ReadLines
 pub mod UnreadRows
+pub mod UsualStrokes
 pub mod WhatFollows

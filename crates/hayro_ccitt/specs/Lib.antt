@@ -21,5 +21,6 @@ pub mod Runs
 pub mod Settings
 pub mod Texts
 pub mod Ticks
+pub mod UsualRuns
 pub mod Window
 pub mod Work

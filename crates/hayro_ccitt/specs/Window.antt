@@ -1,9 +1,10 @@
 -- The window of a reader over its data. No reader of contracts has to believe this: the code is proved to keep it so.
 use Rattle.std.specs.Prelude.{◌≡◌, ℕ, ◌+◌, ◌-◌, ◌*◌, ◌/◌, ◌%◌, ◌<◌, ◌≤◌, false, length, get_or}
-use Rattle.hayro_ccitt.specs.Bits.{BitsFit, bit_of, bits_in}
+use Rattle.hayro_ccitt.specs.Bits.{BitsAt, BitsFit, bit_of, bits_in}
 use Rattle.hayro_ccitt.specs.declared.bit_reader.BitOrder.{BitOrder}
 use Rattle.hayro_ccitt.specs.declared.bit_reader.BitOrder.TheVariants.{HighestFirst, LowestFirst}
 use Rattle.hayro_ccitt.specs.declared.bit_reader.BitReader.TheInside.{Inside}
+use Rattle.hayro_ccitt.specs.declared.bit_reader.BitsAtHand.TheInside.{Inside as HandInside}
 
 -- where the bit of an index stands in a word of eight bytes, counted from the highest
 abbrev pub place_in_word : BitOrder → ℕ → ℕ
@@ -24,3 +25,22 @@ pub record IsFilled (r : Inside) : Type 0 where
   pub reached : 8 * r.edge ≤ r.limit + 33
   pub near_edge : r.limit ≤ 8 * r.edge + 31
   pub whole : r.limit < 8 * r.edge → 8 * r.edge + 64 ≤ 8 * length r.«data».now
+
+-- ---- Bits at hand: a window that a line keeps for itself.
+
+-- some bits, a place among them, and how many of the next ones a window holds
+pub record AtHand : Type 0 where
+  pub at : BitsAt
+  pub left : ℕ
+
+-- so many bits on
+abbrev pub moved : ℕ → BitsAt → BitsAt
+moved n at = record { bits = at.bits; place = at.place + n }
+
+-- The window holds the bits from the place on, so many as are left; they end at the limit, which is within the data.
+pub record IsAtHand (r : HandInside) : Type 0 where
+  pub fit : BitsFit r.«data».now
+  pub some : r.left ≤ r.limit
+  pub few : r.left ≤ 64
+  pub before_end : r.limit ≤ 8 * length r.«data».now
+  pub held : (k : ℕ) → k < r.left → bit_of r.window (63 - k) ≡ get_or (bits_in r.order r.«data».now) (r.limit - r.left + k) false

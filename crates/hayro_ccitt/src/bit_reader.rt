@@ -1,9 +1,10 @@
 //! The bits of a slice of bytes, read from the front.
 
-ghost use Rattle.std.specs.Prelude.{◌≡◌, ◌+◌, ◌-◌, ◌*◌, ◌/◌, ◌%◌, ◌^◌, ◌<◌, ◌≤◌, ◌==◌, ◌↔◌, ℕ, length, min, false, slice_get, slice_index, get_or, Some, IfOk, OnOk, OnErr, IsErr, IsOkUnless};
+ghost use Rattle.std.specs.Prelude.{◌≡◌, ◌+◌, ◌-◌, ◌*◌, ◌/◌, ◌%◌, ◌^◌, ◌<◌, ◌≤◌, ◌==◌, ◌↔◌, ℕ, length, min, false, slice_get, slice_index, get_or, Some, IfSome, true, IfOk, OnOk, OnErr, IsErr, IsOkUnless};
 ghost use Rattle.hayro_ccitt.specs.Bits.{AreWholeBytes, BitsAt, BitsFit, bits_of, low_first_bits_of, bits_in, bit_of, here};
 ghost use Rattle.hayro_ccitt.specs.PlainReading.{at_end, aligned};
-ghost use Rattle.hayro_ccitt.specs.Window.{place_in_word};
+ghost use Rattle.hayro_ccitt.specs.Window.{place_in_word, AtHand, moved};
+ghost use Rattle.hayro_ccitt.specs.LookUps.{padded, thirteen_bits};
 
 use crate::{DecodeError, Result};
 use std::marker::Model;
@@ -302,5 +303,110 @@ impl<'a> BitReader<'a> {
             edge: self.edge,
             order: self.order,
         }
+    }
+}
+
+/// The bits of some bytes and a place among them, as a line keeps them for itself: the next ones stand in a window.
+#[derive(Drop)]
+pub struct BitsAtHand<'a> {
+    data: &'a [u8],
+    /// The next bits, the first in the highest position.
+    window: u64,
+    /// How many of them there are.
+    left: usize,
+    /// The place where they end.
+    limit: usize,
+    order: BitOrder,
+}
+
+impl<'a> Model for BitsAtHand<'a> {
+    ghost use Rattle.hayro_ccitt.specs.Window.{AtHand, IsAtHand};
+    ghost use Rattle.hayro_ccitt.specs.Bits.{bits_in};
+    ghost use Rattle.std.specs.Prelude.{◌-◌};
+
+    ghost Value = { AtHand };
+
+    ghost view = { λ r. record { at = record { bits = bits_in r.order r.«data».now; place = r.limit - r.left }; left = r.left } };
+
+    ghost invariant = { IsAtHand };
+}
+
+impl<'a> BitReader<'a> {
+    /// The same bits at the same place, none of them at hand yet, where they are in this order.
+    #[inline(always)]
+    pub(crate) fn at_hand(&self, order: BitOrder) -> Option<BitsAtHand<'a>>
+        ensures same { IfSome result (λ hand. hand ≡ record { at = self.now; left = 0 }) }
+    {
+        if self.order == order {
+            Some(BitsAtHand {
+                data: self.data,
+                window: 0,
+                left: 0,
+                limit: self.place,
+                order,
+            })
+        } else {
+            None
+        }
+    }
+}
+
+impl<'a> BitsAtHand<'a> {
+    /// Fills the window, where eight bytes are left; otherwise nothing changes.
+    #[inline(always)]
+    pub(crate) fn refill(&mut self) -> bool
+        ensures same { self.new.at ≡ self.old.at }
+        ensures enough { result ≡ true → 57 ≤ self.new.left }
+        ensures unchanged { result ≡ false → self.new ≡ self.old }
+    {
+        let place = self.limit - self.left;
+        let byte = place / 8;
+        if byte + 8 > self.data.len() {
+            return false;
+        }
+        let word = whole_word(&self.data[byte..], self.order);
+        self.window = word << (place % 8);
+        self.limit = byte * 8 + 64;
+        self.left = 64 - place % 8;
+        true
+    }
+
+    /// Moves on by so many bits, which are at hand.
+    #[inline(always)]
+    pub(crate) fn pass(&mut self, n: usize)
+        requires few { n < 64 }
+        requires within { n ≤ self.old.left }
+        ensures moved { self.new.at ≡ moved n self.old.at }
+        ensures left { self.new.left + n ≡ self.old.left }
+    {
+        self.window <<= n;
+        self.left -= n;
+    }
+
+    /// The thirteen bits behind so many, as a number.
+    #[inline(always)]
+    pub(crate) fn thirteen(&self, skip: usize) -> usize
+        requires within { skip + 13 ≤ self.now.left }
+        ensures few { result < 8192 }
+        ensures there { self.now.at.place + self.now.left ≤ length self.now.at.bits }
+        ensures bits { thirteen_bits result ≡ padded 13 (here (moved skip self.now.at)) }
+    {
+        (self.window << skip >> 51) as usize
+    }
+
+    /// How many bits are at hand.
+    #[inline(always)]
+    pub(crate) fn left(&self) -> usize
+        ensures { result ≡ self.now.left }
+    {
+        self.left
+    }
+
+    /// A reader at the same place.
+    #[inline(always)]
+    pub(crate) fn reader(&self) -> BitReader<'a>
+        ensures { result ≡ self.now.at }
+    {
+        BitReader::at_place(self.data, self.order, self.limit - self.left)
     }
 }

@@ -96,7 +96,7 @@ impl Ticks {
     }
 
     /// Counts so many. This is a proof alone: nothing is done in the loop, and so it leaves no code.
-    fn tick_times(&mut self, n: usize)
+    pub(crate) fn tick_times(&mut self, n: usize)
         ensures { self.new ≡ self.old + n }
     {
         for _ in 0..n {

@@ -4,13 +4,15 @@ ghost use Rattle.std.specs.Prelude.{◌≡◌, ◌+◌, ◌*◌, ◌^◌, ◌<�
 ghost use Rattle.hayro_ccitt.specs.Rows.{right_of, b1, b2, changes, opposite};
 ghost use Rattle.hayro_ccitt.specs.Bits.{here};
 ghost use Rattle.hayro_ccitt.specs.Context.{redrawn, painted_front, taken_row, after_repair, passed_changes};
+ghost use Rattle.hayro_ccitt.specs.UsualRuns.{GoesOn};
 ghost use Rattle.hayro_ccitt.specs.Answers.{DrawsLine, DrawsStep, OnAnswer, words_of_run, words_of_mode, words_from_1d, words_from_2d, StoresChange, RepairStoresChange, pen_of, step_of_run, step_of_mode, line_from_1d, line_from_2d};
 
-use crate::bit_reader::BitReader;
+use crate::bit_reader::{BitOrder, BitReader, BitsAtHand};
 use crate::changes::{append_pixels, b1_index, change_or_end};
 use crate::codes::{Color, Mode, Ticks};
 use crate::settings::DecodeSettings;
 use crate::tables::Tables;
+use crate::usual::{draw_runs, lay_down, take_up};
 use crate::{DecodeError, Decoder, Result};
 use std::alloc::Global;
 use std::marker::Model;
@@ -359,6 +361,66 @@ impl DecoderContext {
         Ok(())
     }
 
+    /// Draws runs by twos as long as they are usual, where white is next.
+    #[inline(always)]
+    fn draw_by_twos(&mut self, hand: &mut BitsAtHand<'_>)
+        ensures drawn { GoesOn self.old.held.settings.strict self.old.held.settings.columns
+            (pen_of self.old.held (here hand.old.at)) (pen_of self.new.held (here hand.new.at)) self.old.ticks self.new.ticks }
+        ensures held { self.new.held ≡ redrawn self.old.held self.new.held.front self.new.held.color }
+        ensures same_bits { hand.new.at.bits ≡ hand.old.at.bits }
+        ensures onward { hand.old.at.place ≤ hand.new.at.place }
+    {
+        if !self.color.is_white() {
+            return;
+        }
+        if self.pixels_decoded == self.settings.columns {
+            return;
+        }
+        if !take_up(&mut self.coding_changes, self.pixels_decoded) {
+            return;
+        }
+        let ticks = &mut self.ticks;
+        let (place, color) = draw_runs(
+            hand,
+            &mut self.coding_changes,
+            self.pixels_decoded,
+            self.settings.columns,
+            self.settings.strict,
+            self.tables.lookup(Color::White).as_slice(),
+            self.tables.lookup(Color::Black).as_slice(),
+            ticks,
+        );
+        lay_down(&mut self.coding_changes, place);
+        self.pixels_decoded = place;
+        self.color = color;
+    }
+
+    /// The same of a reader, in whichever order its bits are.
+    #[inline(never)]
+    fn draw_usual_runs(&mut self, reader: &mut BitReader<'_>)
+        ensures drawn { GoesOn self.old.held.settings.strict self.old.held.settings.columns
+            (pen_of self.old.held (here reader.old)) (pen_of self.new.held (here reader.new)) self.old.ticks self.new.ticks }
+        ensures held { self.new.held ≡ redrawn self.old.held self.new.held.front self.new.held.color }
+        ensures same_bits { reader.new.bits ≡ reader.old.bits }
+        ensures onward { reader.old.place ≤ reader.new.place }
+    {
+        if !self.color.is_white() {
+            return;
+        }
+        if self.pixels_decoded == self.settings.columns {
+            return;
+        }
+        if let Some(mut hand) = reader.at_hand(BitOrder::HighestFirst) {
+            self.draw_by_twos(&mut hand);
+            *reader = hand.reader();
+            return;
+        }
+        if let Some(mut hand) = reader.at_hand(BitOrder::LowestFirst) {
+            self.draw_by_twos(&mut hand);
+            *reader = hand.reader();
+        }
+    }
+
     /// Draws what a mode says (T.4 section 4.2.1.3).
     #[inline(always)]
     fn draw_mode(&mut self, mode: Mode, reader: &mut BitReader<'_>) -> Result<()>
@@ -418,6 +480,7 @@ pub fn decode_1d_line(ctx: &mut DecoderContext, reader: &mut BitReader<'_>) -> R
     ctx.begin_line(); // The first run is white.
     'runs: while !ctx.is_full() {
         ctx.draw_run(reader)?;
+        ctx.draw_usual_runs(reader);
     }
     Ok(())
 }

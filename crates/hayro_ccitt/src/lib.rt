@@ -28,6 +28,7 @@ mod locality;
 mod rows;
 mod settings;
 pub mod tables;
+mod usual;
 
 use bit_reader::BitReader;
 pub use context::DecoderContext;

@@ -304,6 +304,14 @@ impl Lookup {
             None
         }
     }
+
+    /// All entries.
+    #[inline(always)]
+    pub(crate) fn as_slice(&self) -> &[u16]
+        ensures { result.now ≡ self.now }
+    {
+        self.entries.as_slice()
+    }
 }
 
 /// So many entries, all of them one value.

@@ -38,3 +38,18 @@ pub peeked_seven : (at : BitsAt) (word : ℕ) → ((k : ℕ) → k < 32 → bit_
     → seven_bits (word / 33554432) ≡ padded 7 (here at)
 unfolding seven_bits
 peeked_seven at word h = peeked at word 7 (omega arith) h
+
+-- the highest bits of a window that holds them, so many
+pub first_bits : (at : BitsAt) (word n : ℕ) → n ≤ 64 → ((k : ℕ) → k < n → bit_of word (63 - k) ≡ get_or at.bits (at.place + k) false)
+    → low_bits n (word / 2 ^ (64 - n)) ≡ padded n (here at)
+first_bits at word n le h = low_bits-padded n (word / 2 ^ (64 - n)) (here at) each
+  where
+    each : (k : ℕ) → k < n → bit_of (word / 2 ^ (64 - n)) (n - 1 - k) ≡ get_or (here at) k false
+    each k lt =
+        let e : (64 - n) + (n - 1 - k) ≡ 63 - k = omega arith in
+        ap (λ (m : ℕ). eqb (m % 2) 1) (shr-shr word (64 - n) (n - 1 - k)) ∙ ap (bit_of word) e ∙ h k lt ∙ sym (get_or-drop at.place at.bits k false)
+
+pub first_thirteen : (at : BitsAt) (word : ℕ) → ((k : ℕ) → k < 13 → bit_of word (63 - k) ≡ get_or at.bits (at.place + k) false)
+    → thirteen_bits (word / 2251799813685248) ≡ padded 13 (here at)
+unfolding thirteen_bits
+first_thirteen at word h = first_bits at word 13 (omega arith) h

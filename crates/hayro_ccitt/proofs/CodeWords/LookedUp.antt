@@ -1,5 +1,5 @@
 -- What the entry of a look-up says of the run code that stands here.
-use Rattle.std.proofs.Common.{◌≡◌, ◌≢◌, ℕ, ◌/◌, ◌%◌, ◌<◌, ◌≤◌, inl, inr, true, false, leb, ltb, List, [], ◌∷◌, length, drop, Option, Some, None, Ok, Err, refl, sym, ap, ◌∙◌, arith}
+use Rattle.std.proofs.Common.{◌≡◌, ◌≢◌, ℕ, ◌-◌, ◌/◌, ◌%◌, ◌<◌, ◌≤◌, inl, inr, true, false, leb, ltb, List, [], ◌∷◌, length, drop, Option, Some, None, Ok, Err, refl, sym, ap, ◌∙◌, arith}
 use Rattle.std.specs.List.{list_all}
 use Rattle.std.proofs.lemmas.Bool.{ltb-true, and_parts}
 use Rattle.hayro_ccitt.specs.declared.error.DecodeError.TheVariants.{UnexpectedEof, InvalidCode}
@@ -12,7 +12,7 @@ use Rattle.hayro_ccitt.specs.Laws.{each_word}
 use Rattle.hayro_ccitt.specs.LookUps.{padded, telling_bits, run_or_none, entry_of}
 use Rattle.hayro_ccitt.specs.Runs.{codes_of}
 use Rattle.hayro_ccitt.proofs.CodeWords.ReadCodes.{word_at_found}
-use Rattle.hayro_ccitt.proofs.CodeWords.LooksAhead.{TellsWords, has_none, telling_is, telling_none, tells_cut, tells_found, tells_wrong}
+use Rattle.hayro_ccitt.proofs.CodeWords.LooksAhead.{length-padded, TellsWords, has_none, telling_is, telling_none, tells_cut, tells_found, tells_wrong}
 use Rattle.hayro_ccitt.proofs.CodeWords.ReadRuns.{words_not_empty, word_length}
 use Rattle.hayro_ccitt.proofs.BitReading.ZerosInWords.{codes_free, modes_free}
 
@@ -103,3 +103,32 @@ some_bits_tell color here = by (word_at (codes_of color) (padded 13 here)) refl
         let (w, has, at) = word_at_found (codes_of color) (padded 13 here) found e in
         omega (arith, telling_is 13 (codes_of color) (codes_tell color) here found w e at, word_length (codes_of color) found.0 w (words_not_empty color) has)
     by None e = omega (arith, telling_none 13 (codes_of color) (codes_tell color) here e)
+
+-- a word that is there is within the bits looked at
+pub word_within : (color : Color) (here : Bits) → run_or_none (codes_of color) (padded 13 here) ≢ 4095
+    → telling_bits (codes_of color) (padded 13 here) ≤ 13
+word_within color here e = by (word_at (codes_of color) (padded 13 here)) refl
+  where
+    by : (o : Option (ℕ × Bits)) → word_at (codes_of color) (padded 13 here) ≡ o → telling_bits (codes_of color) (padded 13 here) ≤ 13
+    by (Some found) a =
+        let is : telling_bits (codes_of color) (padded 13 here) ≡ length (padded 13 here) - length found.1 = rw (a, telling_bits) refl in
+        omega (arith, is, length-padded 13 here)
+    by None a = absurd (e (run_of_none (codes_of color) (padded 13 here) a))
+
+-- what the entry of thirteen bits that are there says: the word that stands, and how wide it is
+pub record IsWordThere (color : Color) (here : Bits) (run width : ℕ) : Type 0 where
+  pub read : read_code (codes_of color) here ≡ Ok (run, drop width here)
+  pub few : width ≤ 13
+
+pub word_there : (color : Color) (here : Bits) (entry run width : ℕ) → entry ≡ entry_of (codes_of color) (padded 13 here) → run ≡ entry % 4096 → width ≡ entry / 4096 → 13 ≤ length here → run ≢ 4095
+    → IsWordThere color here run width
+word_there color here entry run width is low high there some =
+    let seen : Bits = padded 13 here in
+    let r : run_or_none (codes_of color) seen ≡ run = sym (low ∙ low_twelve color seen entry is) in
+    let w : telling_bits (codes_of color) seen ≡ width = sym (high ∙ high_bits color seen entry is) in
+    let other : run_or_none (codes_of color) seen ≢ 4095 = λ e. some (sym r ∙ e) in
+    let few = word_within color here other in
+    record {
+      read = rw (← r, ← w) (looked_up_found color here other (omega (arith, few, there)));
+      few = omega (arith, few, w);
+    }

@@ -232,7 +232,7 @@ keeps_after stood step shrinks keeps (Turn.next pen) stops = keeps_on stood step
 keeps_after stood step shrinks keeps (Turn.done line) stops = stops
 
 -- a line that isn't full goes on with a run, or with a mode
-run_open : (strict : Bool) (columns : ℕ) (pen : Pen) → length pen.front < columns
+pub run_open : (strict : Bool) (columns : ℕ) (pen : Pen) → length pen.front < columns
     → drawn_by (step_1d strict columns) pen ≡ after_turn (drawn_by (step_1d strict columns)) (run_then strict columns pen Turn.next)
 run_open strict columns pen open_row =
     let on : step_unless_full columns pen (run_then strict columns pen Turn.next) ≡ run_then strict columns pen Turn.next = rw (lt-leb columns (length pen.front) open_row) refl in

@@ -142,6 +142,18 @@ pixels_from-wider place color width more (change ∷ places) le ascend =
     let rest = pixels_from-wider change (not color) width more places (omega arith) (AscendFrom-here change width places ascend.2) in
     rw rest (sym (append_assoc (replicate (change - place) color) _ _))
 
+-- the same where the last change may stand at the width
+pub pixels_from-on : (place : ℕ) (color : Bool) (width more : ℕ) (places : List ℕ) → place ≤ width → AscendFrom place (suc width) places
+    → pixels_from place color (width + more) places ≡ pixels_from place color width places ++ replicate more (turned color places)
+pixels_from-on place color width more [] le ascend =
+    let e : width + more - place ≡ (width - place) + more = omega arith in
+    rw e (sym (replicate-append-replicate (width - place) more color))
+pixels_from-on place color width more (change ∷ places) le ascend =
+    let from : place ≤ change = ascend.0 in
+    let within : change < suc width = ascend.1 in
+    let rest = pixels_from-on change (not color) width more places (omega arith) (AscendFrom-here change (suc width) places ascend.2) in
+    rw rest (sym (append_assoc (replicate (change - place) color) _ _))
+
 -- so painting pixels of the last colour adds no change
 pub pixels-same : (width more : ℕ) (places : List ℕ) → AreChanges width places
     → pixels (width + more) places ≡ pixels width places ++ replicate more (last_pixel false (pixels width places))

@@ -2,7 +2,8 @@ use Rattle.std.proofs.Common.{length, Result, Err, subst, ap, sym, arith, ◌∙
 use Rattle.std.proofs.lemmas.Result.{err_from_is_err_and}
 use Rattle.hayro_ccitt.specs.declared.error.DecodeError.{DecodeError}
 use Rattle.hayro_ccitt.specs.Answers.{IsFault, DrawsLine, Step, pen_of, step_of_run}
-use Rattle.hayro_ccitt.specs.Bits.{Bits, here}
+use Rattle.hayro_ccitt.specs.Bits.{Bits, BitsAt, here}
+use Rattle.hayro_ccitt.proofs.DrawingLines.UsualStrokes.{IsDrawn1d, begun_1d, drawn_on, not_longer}
 use Rattle.hayro_ccitt.specs.Context.{Held, redrawn}
 use Rattle.hayro_ccitt.specs.Lines.{Line, Pen, line_1d}
 use Rattle.hayro_ccitt.proofs.DrawingLines.CountedLines.{found_1d_from, found_after, counted_by_run, none_after_fault}
@@ -15,7 +16,10 @@ use Rattle.hayro_ccitt.proofs.context.decode_1d_line.Goals as goal
 pub runs-smaller : goal.runs-smaller
 runs-smaller c =
     let now : Held = c.runs.ctx.held in
-    drawn_run_shorter now.settings.strict now.settings.columns (pen_of now (here c.runs.reader)) (pen_of c.draw_run.new.self.held (here c.draw_run.new.reader)) c.in_ok-draw_run.ensures.step
+    let shorter = drawn_run_shorter now.settings.strict now.settings.columns (pen_of now (here c.runs.reader)) (pen_of c.draw_run.new.self.held (here c.draw_run.new.reader)) c.in_ok-draw_run.ensures.step in
+    let from : BitsAt = c.draw_run.new.reader in
+    let to : BitsAt = c.draw_usual_runs.new.reader in
+    not_longer from to (length (here c.runs.reader)) shorter c.draw_usual_runs.ensures.same_bits c.draw_usual_runs.ensures.onward
 
 pub runs-preserved : goal.runs-preserved
 runs-preserved c =
@@ -27,7 +31,8 @@ runs-preserved c =
     let open_row = open_by c.is_full.result (length now.front) now.settings.columns c.runs-test.true c.is_full.ensures.1 in
     let line = line_by_run before now _ (here c.runs.reader) so_far.held so_far.line open_row in
     let found = counted_by_run before now (here c.runs.reader) so_far.held open_row in
-    let on = ap (λ (step : Step). length (found_after (found_1d_from before.settings.strict before.settings.columns) step)) drawing.step in (
+    let on = ap (λ (step : Step). length (found_after (found_1d_from before.settings.strict before.settings.columns) step)) drawing.step in
+    let by_run : IsDrawn1d c.args.ctx.now c.draw_run.new.self c.args.reader.now c.draw_run.new.reader = (
       record {
         line = sym (line ∙ ap (after_turn (drawn_by (step_1d before.settings.strict before.settings.columns))) drawing.step);
         held = drawing.held ∙ ap (λ (h : Held). redrawn h new.front new.color) so_far.held;
@@ -35,7 +40,9 @@ runs-preserved c =
         counts = omega (arith, drawing.at_least, so_far.counts);
       },
       omega (arith, drawing.exact, found, on, c.runs.invariant.1),
-    )
+    ) in
+    let twos = c.draw_usual_runs in
+    drawn_on c.args.ctx.now c.draw_run.new.self twos.new.self c.args.reader.now c.draw_run.new.reader twos.new.reader by_run twos.ensures.drawn twos.ensures.held twos.ensures.same_bits
 
 pub returns-in_err-draw_run-clause-line : goal.returns-in_err-draw_run-clause-line
 returns-in_err-draw_run-clause-line c =

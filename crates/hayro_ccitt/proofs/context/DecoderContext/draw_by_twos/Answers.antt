@@ -1,0 +1,8 @@
+use Rattle.std.proofs.Common.{◌≡◌, refl}
+use Rattle.hayro_ccitt.specs.declared.codes.Color.TheVariants.{White}
+use Rattle.hayro_ccitt.proofs.context.DecoderContext.draw_by_twos.Goals as goal
+
+pub returns-clause-drawn : goal.returns-clause-drawn
+returns-clause-drawn c =
+    let white : c.self.inside.color ≡ White = c.if-not-is_white.ensures.0 refl in
+    rw (← c.self.view_is, white, c.lay_down.ensures.same, ← c.take_up.ensures.same) c.draw_runs-place.ensures.drawn

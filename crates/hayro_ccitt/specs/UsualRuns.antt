@@ -1,0 +1,39 @@
+-- Runs that are drawn with bits at hand. No reader of contracts has to believe this: the calls that are public cite none of it.
+use Rattle.std.specs.Prelude.{◌≡◌, ◌+◌, ◌%◌, ◌<◌, ◌≤◌, Bool, ℕ, List, Ok, length}
+use Rattle.hayro_ccitt.specs.declared.codes.Color.{Color}
+use Rattle.hayro_ccitt.specs.declared.codes.Color.TheVariants.{White}
+use Rattle.hayro_ccitt.specs.Bits.{BitsAt, here}
+use Rattle.hayro_ccitt.specs.CodeReading.{read_code}
+use Rattle.hayro_ccitt.specs.Lines.{Pen, draw_1d, drawn, words_drawn}
+use Rattle.hayro_ccitt.specs.Rows.{AreChanges, pixels}
+use Rattle.hayro_ccitt.specs.Runs.{codes_of, read_run}
+use Rattle.hayro_ccitt.specs.Ticks.{run_found}
+use Rattle.hayro_ccitt.specs.Window.{moved}
+
+-- a word of a colour's list stands here, for this run, and is so wide
+pub record IsWordHere (color : Color) (at : BitsAt) (run width : ℕ) : Type 0 where
+  pub read : read_code (codes_of color) (here at) ≡ Ok (run, here (moved width at))
+  pub few : width ≤ 13
+
+-- a run stands here, of so many bits and of so many words
+pub record IsRunHere (color : Color) (at : BitsAt) (run width words : ℕ) : Type 0 where
+  pub read : read_run color (here at) ≡ Ok (run, here (moved width at))
+  pub found : length (run_found color (0, here at)) ≡ words
+  pub few : width ≤ 26
+
+-- the pen of a row of changes
+abbrev pub pen_at : ℕ → List ℕ → Color → BitsAt → Pen
+pen_at place row color at = record { front = pixels place row; color = color; rest = here at }
+
+-- Drawing goes on from one pen to another: the line is the same, and the words between them were counted.
+pub record GoesOn (strict : Bool) (columns : ℕ) (before after : Pen) (ticks now : ℕ) : Type 0 where
+  pub line : drawn (draw_1d strict columns) after ≡ drawn (draw_1d strict columns) before
+  pub counts : ticks ≤ now
+  pub counted : now + length (words_drawn (draw_1d strict columns) after) ≡ ticks + length (words_drawn (draw_1d strict columns) before)
+
+-- A row of changes reaches a place: where it isn't full it goes on in white, and its last change may stand at the place.
+pub record IsReached (columns place : ℕ) (color : Color) (row : List ℕ) : Type 0 where
+  pub within : place ≤ columns
+  pub lawful : AreChanges (place + 1) row
+  pub even : place < columns → (length row % 2 ≡ 0) × (color ≡ White)
+  pub whole : columns ≤ place → AreChanges place row

@@ -1,0 +1,346 @@
+//! Runs whose words are all at hand, drawn with the line's own values. What isn't usual is left to the calls of `context`.
+
+ghost use Rattle.std.specs.Prelude.{vec_len, vec_capacity, ◌≡◌, ◌≢◌, ◌+◌, ◌-◌, ◌%◌, ◌<◌, ◌≤◌, ◌⊎◌, ℕ, IfSome, IfNone, true, false, length, ◌++◌, ◌∷◌, []};
+ghost use Rattle.hayro_ccitt.specs.Bits.{here};
+ghost use Rattle.hayro_ccitt.specs.LookUps.{AreEntries};
+ghost use Rattle.hayro_ccitt.specs.Rows.{AreChanges, pixels};
+ghost use Rattle.hayro_ccitt.specs.Runs.{codes_of};
+ghost use Rattle.hayro_ccitt.specs.UsualRuns.{IsWordHere, IsRunHere, IsReached, GoesOn, pen_at};
+ghost use Rattle.hayro_ccitt.specs.Window.{moved};
+
+use crate::bit_reader::BitsAtHand;
+use crate::codes::{Color, Ticks};
+use crate::tables::LOOKUP_INVALID;
+
+/// The run and the number of bits of the word that stands so many bits on; the run is `LOOKUP_INVALID` where none does.
+#[inline(always)]
+fn word_at_hand(hand: &BitsAtHand<'_>, skip: usize, _color: Color, words: &[u16]) -> (u32, usize)
+    requires within { skip + 13 ≤ hand.now.left }
+    requires entries { AreEntries (codes_of _color) words.now }
+    ensures word { result.0 ≢ 4095 → IsWordHere _color (moved skip hand.now.at) result.0 result.1 }
+    ensures below { result.0 ≤ 4095 }
+    ensures narrow { result.1 ≤ 15 }
+{
+    let entry = words[hand.thirteen(skip)];
+    (u32::from(entry & LOOKUP_INVALID), usize::from(entry >> 12))
+}
+
+/// A run of one terminating word, or of one make-up word and one, so many bits on: its pixels, its bits and its words. None
+/// of any other.
+#[inline(always)]
+fn run_at_hand(
+    hand: &BitsAtHand<'_>,
+    skip: usize,
+    color: Color,
+    words: &[u16],
+) -> Option<(u32, usize, usize)>
+    requires within { skip + 26 ≤ hand.now.left }
+    requires near { skip ≤ 26 }
+    requires entries { AreEntries (codes_of color) words.now }
+    ensures run { IfSome result (λ run. IsRunHere color (moved skip hand.now.at) run.0 run.1 run.2) }
+    ensures below { IfSome result (λ run. run.0 ≤ 4158) }
+{
+    let (run, width) = word_at_hand(hand, skip, color, words);
+    if run < 64 {
+        return Some((run, width, 1));
+    }
+    if run == 4095 {
+        return None;
+    }
+    let (rest, more) = word_at_hand(hand, skip + width, color, words);
+    if rest < 64 {
+        Some((run + rest, width + more, 2))
+    } else {
+        None
+    }
+}
+
+/// Fills the window, where fewer than 52 bits are at hand; false where that can't be.
+#[inline(always)]
+fn has_two_runs(hand: &mut BitsAtHand<'_>) -> bool
+    ensures same { hand.new.at ≡ hand.old.at }
+    ensures enough { result ≡ true → 52 ≤ hand.new.left }
+{
+    if hand.left() >= 52 {
+        return true;
+    }
+    hand.refill()
+}
+
+/// Stores a change at the place reached, where there is room for it.
+#[inline(always)]
+fn turn_at(changes: &mut Vec<u32>, place: u32)
+    requires room { vec_len changes.old < vec_capacity changes.old }
+    ensures items { changes.new.items ≡ changes.old.items ++ place ∷ [] }
+    ensures room { vec_capacity changes.new ≡ vec_capacity changes.old }
+    ensures count { vec_len changes.new ≡ vec_len changes.old + 1 }
+{
+    changes.push_reserved(place);
+}
+
+/// Whether a change at the end of a run so long is right of the last one.
+#[inline(always)]
+fn is_next(changes: &Vec<u32>, run: u32) -> bool
+    ensures { result ≡ true → (0 < run) ⊎ (changes.now.items ≡ []) }
+{
+    run > 0 || changes.is_empty()
+}
+
+/// Whether there is room for two changes.
+#[inline(always)]
+fn has_room(changes: &Vec<u32>) -> bool
+    ensures { result ≡ true → vec_len changes.now + 2 ≤ vec_capacity changes.now }
+{
+    changes.capacity() - changes.len() >= 2
+}
+
+/// Whether a run is no fault where there is so much room.
+#[inline(always)]
+fn fits(run: u32, room: u32, strict: bool) -> bool
+    ensures { result ≡ true → (run ≤ room) ⊎ (strict ≡ false) }
+{
+    run <= room || !strict
+}
+
+/// Draws a white run and a black one, or a white one up to the row's end, and tells how far the row reaches then and in
+/// which colour it would go on. None where they aren't usual; then nothing is drawn.
+#[inline(always)]
+fn draw_two_runs(
+    hand: &mut BitsAtHand<'_>,
+    row: &mut Vec<u32>,
+    painted: u32,
+    columns: u32,
+    strict: bool,
+    white: &[u16],
+    black: &[u16],
+    ticks: &mut Ticks,
+) -> Option<(u32, Color)>
+    requires open { painted < columns }
+    requires lawful { AreChanges (painted + 1) row.old.items }
+    requires even { length row.old.items % 2 ≡ 0 }
+    requires white { AreEntries (codes_of Color.White) white.now }
+    requires black { AreEntries (codes_of Color.Black) black.now }
+    ensures drawn { IfSome result (λ on. GoesOn strict columns (pen_at painted row.old.items Color.White hand.old.at)
+        (pen_at on.0 row.new.items on.1 hand.new.at) ticks.old ticks.new) }
+    ensures taken { IfSome result (λ on. IsReached columns on.0 on.1 row.new.items) }
+    ensures forward { IfSome result (λ on. painted < on.0) }
+    ensures same_bits { hand.new.at.bits ≡ hand.old.at.bits }
+    ensures onward { hand.old.at.place ≤ hand.new.at.place }
+    ensures left { IfNone result ((hand.new.at ≡ hand.old.at) × (row.new.items ≡ row.old.items) × (ticks.new ≡ ticks.old)) }
+{
+    if !has_two_runs(hand) {
+        return None;
+    }
+    let (run, width, words) = run_at_hand(hand, 0, Color::White, white)?;
+    let room = columns - painted;
+    if !fits(run, room, strict) {
+        return None;
+    }
+    if run >= room {
+        hand.pass(width);
+        ticks.tick_times(words);
+        return Some((columns, Color::Black));
+    }
+    if !is_next(row, run) {
+        return None;
+    }
+    if !has_room(row) {
+        return None;
+    }
+    let place = painted + run;
+    let (run2, width2, words2) = run_at_hand(hand, width, Color::Black, black)?;
+    let room2 = columns - place;
+    if run2 == 0 {
+        return None;
+    }
+    if !fits(run2, room2, strict) {
+        return None;
+    }
+    hand.pass(width);
+    hand.pass(width2);
+    ticks.tick_times(words);
+    ticks.tick_times(words2);
+    turn_at(row, place);
+    if run2 >= room2 {
+        return Some((columns, Color::White));
+    }
+    turn_at(row, place + run2);
+    Some((place + run2, Color::White))
+}
+
+/// Whether a run is of one terminating word and of some pixels.
+#[inline(always)]
+fn is_short(run: u32) -> bool
+    ensures { result ≡ true → (0 < run) × (run < 64) }
+{
+    run > 0 && run < 64
+}
+
+/// Fills the window, where fewer than 28 bits are at hand; false where that can't be.
+#[inline(always)]
+fn has_two_words(hand: &mut BitsAtHand<'_>) -> bool
+    ensures same { hand.new.at ≡ hand.old.at }
+    ensures enough { result ≡ true → 28 ≤ hand.new.left }
+{
+    if hand.left() >= 28 {
+        return true;
+    }
+    hand.refill()
+}
+
+/// Draws a white run and a black one of one word each that end before the row does: the commonest case.
+#[inline(always)]
+fn draw_short_runs(
+    hand: &mut BitsAtHand<'_>,
+    row: &mut Vec<u32>,
+    painted: u32,
+    columns: u32,
+    _strict: bool,
+    white: &[u16],
+    black: &[u16],
+    ticks: &mut Ticks,
+) -> Option<u32>
+    requires open { painted < columns }
+    requires lawful { AreChanges (painted + 1) row.old.items }
+    requires even { length row.old.items % 2 ≡ 0 }
+    requires white { AreEntries (codes_of Color.White) white.now }
+    requires black { AreEntries (codes_of Color.Black) black.now }
+    ensures drawn { IfSome result (λ place. GoesOn _strict columns (pen_at painted row.old.items Color.White hand.old.at)
+        (pen_at place row.new.items Color.White hand.new.at) ticks.old ticks.new) }
+    ensures reached { IfSome result (λ place. IsReached columns place Color.White row.new.items) }
+    ensures forward { IfSome result (λ place. painted < place) }
+    ensures same_bits { hand.new.at.bits ≡ hand.old.at.bits }
+    ensures onward { hand.old.at.place ≤ hand.new.at.place }
+    ensures left { IfNone result ((hand.new.at ≡ hand.old.at) × (row.new.items ≡ row.old.items) × (ticks.new ≡ ticks.old)) }
+{
+    if !has_two_words(hand) {
+        return None;
+    }
+    let (run, width) = word_at_hand(hand, 0, Color::White, white);
+    let (run2, width2) = word_at_hand(hand, width, Color::Black, black);
+    if !is_short(run) {
+        return None;
+    }
+    if !is_short(run2) {
+        return None;
+    }
+    if run + run2 >= columns - painted {
+        return None;
+    }
+    if !has_room(row) {
+        return None;
+    }
+    hand.pass(width);
+    hand.pass(width2);
+    ticks.tick_times(1);
+    ticks.tick_times(1);
+    turn_at(row, painted + run);
+    turn_at(row, painted + run + run2);
+    Some(painted + run + run2)
+}
+
+/// Draws a white run and a black one, the commonest case first.
+#[inline(always)]
+fn draw_pair(
+    hand: &mut BitsAtHand<'_>,
+    row: &mut Vec<u32>,
+    painted: u32,
+    columns: u32,
+    strict: bool,
+    white: &[u16],
+    black: &[u16],
+    ticks: &mut Ticks,
+) -> Option<(u32, Color)>
+    requires open { painted < columns }
+    requires lawful { AreChanges (painted + 1) row.old.items }
+    requires even { length row.old.items % 2 ≡ 0 }
+    requires white { AreEntries (codes_of Color.White) white.now }
+    requires black { AreEntries (codes_of Color.Black) black.now }
+    ensures drawn { IfSome result (λ on. GoesOn strict columns (pen_at painted row.old.items Color.White hand.old.at)
+        (pen_at on.0 row.new.items on.1 hand.new.at) ticks.old ticks.new) }
+    ensures taken { IfSome result (λ on. IsReached columns on.0 on.1 row.new.items) }
+    ensures forward { IfSome result (λ on. painted < on.0) }
+    ensures same_bits { hand.new.at.bits ≡ hand.old.at.bits }
+    ensures onward { hand.old.at.place ≤ hand.new.at.place }
+    ensures left { IfNone result ((hand.new.at ≡ hand.old.at) × (row.new.items ≡ row.old.items) × (ticks.new ≡ ticks.old)) }
+{
+    match draw_short_runs(hand, row, painted, columns, strict, white, black, ticks) {
+        Some(place) => Some((place, Color::White)),
+        None => draw_two_runs(hand, row, painted, columns, strict, white, black, ticks),
+    }
+}
+
+/// Draws runs by twos as long as they are usual, and tells how far the row reaches then and in which colour it goes on.
+#[inline(always)]
+pub(crate) fn draw_runs(
+    hand: &mut BitsAtHand<'_>,
+    row: &mut Vec<u32>,
+    painted: u32,
+    columns: u32,
+    strict: bool,
+    white: &[u16],
+    black: &[u16],
+    ticks: &mut Ticks,
+) -> (u32, Color)
+    requires open { painted < columns }
+    requires lawful { AreChanges (painted + 1) row.old.items }
+    requires even { length row.old.items % 2 ≡ 0 }
+    requires white { AreEntries (codes_of Color.White) white.now }
+    requires black { AreEntries (codes_of Color.Black) black.now }
+    ensures drawn { GoesOn strict columns (pen_at painted row.old.items Color.White hand.old.at)
+        (pen_at result.0 row.new.items result.1 hand.new.at) ticks.old ticks.new }
+    ensures reached { IsReached columns result.0 result.1 row.new.items }
+    ensures forward { painted ≤ result.0 }
+    ensures same_bits { hand.new.at.bits ≡ hand.old.at.bits }
+    ensures onward { hand.old.at.place ≤ hand.new.at.place }
+{
+    let mut place = painted;
+    'runs: loop {
+        match draw_pair(hand, row, place, columns, strict, white, black, ticks) {
+            None => return (place, Color::White),
+            Some((next, color)) => {
+                if next == columns {
+                    return (next, color);
+                }
+                place = next;
+            }
+        }
+    }
+}
+
+/// Takes up a front for drawing by twos, white next: where it ends in black a change stands at its end. False where there is
+/// no room for that; then nothing changes.
+#[inline(always)]
+pub(crate) fn take_up(changes: &mut Vec<u32>, painted: u32) -> bool
+    requires { AreChanges painted changes.old.items }
+    ensures lawful { result ≡ true → AreChanges (painted + 1) changes.new.items }
+    ensures even { result ≡ true → length changes.new.items % 2 ≡ 0 }
+    ensures same { pixels painted changes.new.items ≡ pixels painted changes.old.items }
+    ensures left { result ≡ false → changes.new.items ≡ changes.old.items }
+{
+    if changes.len() % 2 == 0 {
+        return true;
+    }
+    if changes.capacity() - changes.len() == 0 {
+        return false;
+    }
+    turn_at(changes, painted);
+    true
+}
+
+/// Lays down a front: a change that stands at its end isn't one yet.
+#[inline(always)]
+pub(crate) fn lay_down(changes: &mut Vec<u32>, painted: u32)
+    requires { AreChanges (painted + 1) changes.old.items }
+    ensures lawful { AreChanges painted changes.new.items }
+    ensures same { pixels painted changes.new.items ≡ pixels painted changes.old.items }
+{
+    if changes.is_empty() {
+        return;
+    }
+    let last = changes.take_last();
+    if last == painted {
+        return;
+    }
+    changes.push_reserved(last);
+}
