@@ -16,7 +16,7 @@ use Rattle.faxrows.proofs.Texts.{Takes}
 -- the bits of a bitmap that began empty are packed of the rows that were taken
 pub sink_bits : (law : RowsArePacked) (settings : DecodeSettings) (bits : Bits) (empty : Bitmap) (after : SinkState Bits) (held : Held) (outcome : Outcome)
     → empty ≡ record { bytes = []; columns = settings.columns; has_refused = false } → HaveWidth settings.columns (plain settings bits).rows
-    → Takes (with_packed_row empty.columns) settings bits (record { meaning = bits_of empty.bytes; refused = empty.has_refused }) after held outcome
+    → Takes (with_packed_row empty.columns) settings bits (record { meaning = bits_of empty.bytes; refused = empty.has_refused; refuses = λ row. Unit {0} }) after held outcome
     → after.meaning ≡ packed (take held.taken (plain settings bits).rows)
 sink_bits law settings bits empty after held outcome is widths takes =
     let rows : List Row = take held.taken (plain settings bits).rows in

@@ -88,3 +88,8 @@ arguments_of_words _ = None
 abbrev pub asks_for_bitmap : List (List ℕ) → Bool
 asks_for_bitmap [] = false
 asks_for_bitmap (word ∷ words) = bytes_eq word (codes "-o")
+
+-- there is one word, and it is this
+abbrev pub is_word_alone : List (List ℕ) → List ℕ → Bool
+is_word_alone (only ∷ []) word = bytes_eq only word
+is_word_alone _ word = false

@@ -19,8 +19,8 @@ pub(crate) fn decode_in<D: Decoder>(
     ensures width { D.width sink.new ≡ D.width sink.old }
     ensures settings { ctx.new.held.settings ≡ ctx.old.held.settings }
     ensures decodes { Decodes ctx.old.held.settings (bits_in order input.now) (D.step (D.width sink.old))
-        (record { meaning = D.meaning sink.old; refused = D.has_refused sink.old })
-        (record { meaning = D.meaning sink.new; refused = D.has_refused sink.new })
+        (record { meaning = D.meaning sink.old; refused = D.has_refused sink.old; refuses = D.refuses sink.old })
+        (record { meaning = D.meaning sink.new; refused = D.has_refused sink.new; refuses = D.refuses sink.new })
         ctx.new.held ctx.new.ticks result }
 {
     match order {

@@ -7,7 +7,7 @@
 #![tactic(auto)]
 
 ghost use Rattle.std.specs.Prelude.{◌≡◌, ◌<◌, IsTrue, length, map, string_bytes};
-ghost use Rattle.faxrows.specs.Arguments.{asks_for_bitmap};
+ghost use Rattle.faxrows.specs.Arguments.{asks_for_bitmap, is_word_alone};
 
 mod arguments;
 mod decoding;
@@ -51,12 +51,26 @@ fn run_words(rt: &HostRuntime) -> Result<u8, RunFault> {
     let mut reader = Device::new(rt.stdin());
     let mut writer = Device::new(rt.stdout());
     let words = words.as_slice();
+    if is_only_word(words, "--help") {
+        let printed = println!(rt; "{USAGE}");
+        return printed.map(|_| 0u8).map_err(|_| RunFault::Write);
+    }
     if has_bitmap_word(words) {
         let answer = run_packed(rt.alloc(), &words[1..], &mut reader, &mut writer)?;
         return Ok(status_of_answer(rt, answer));
     }
     let done = run(rt.alloc(), words, &mut reader, &mut writer)?;
     Ok(status_of_done(done))
+}
+
+/// What `--help` prints.
+const USAGE: &str = "faxrows MODE COLUMNS ROWS FLAGS\nfaxrows -o MODE COLUMNS ROWS FLAGS";
+
+/// Whether there is one word, and it is this.
+fn is_only_word(words: &[String], word: &str) -> bool
+    ensures only { result ≡ is_word_alone (map string_bytes words.now) word.now }
+{
+    words.len() == 1 && words[0].as_str() == word
 }
 
 /// Whether the first word asks for a bitmap.

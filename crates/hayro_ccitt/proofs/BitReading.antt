@@ -1,6 +1,5 @@
 pub mod BitLists
 pub mod BitPlaces
-pub mod ClonedReaders
 pub mod EolCounts
 pub mod FilledWindows
 pub mod LookUpEntries

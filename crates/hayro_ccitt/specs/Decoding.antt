@@ -1,5 +1,5 @@
 -- What decoding leaves: in the sink, in the context, and of the reading.
-use Rattle.std.specs.Prelude.{◌≡◌, ◌≢◌, ◌≤◌, ◌<◌, ℕ, ◌+◌, Bool, true, false, List, [], length, take, Result, Ok, Err, OnOk, OnErr, IfOk, IfErr, IsOk}
+use Rattle.std.specs.Prelude.{◌≡◌, ◌≢◌, ◌≤◌, ◌<◌, ℕ, ◌+◌, Bool, true, false, List, [], length, take, get_or, Result, Ok, Err, OnOk, OnErr, IfOk, IfErr}
 use Rattle.hayro_ccitt.specs.declared.codes.Color.TheVariants.{White}
 use Rattle.hayro_ccitt.specs.declared.error.DecodeError.{DecodeError}
 use Rattle.hayro_ccitt.specs.declared.error.DecodeError.TheVariants.{OutOfMemory, Refused}
@@ -12,10 +12,11 @@ use Rattle.hayro_ccitt.specs.PlainReading.{Gap, end_by, lines_by}
 use Rattle.hayro_ccitt.specs.Rows.{Row, changes}
 use Rattle.hayro_ccitt.specs.Work.{CountsRun, words_by, most_counted}
 
--- glue: what a sink means, and whether it has refused a row
-pub record SinkState (M : Type 0) : Type 0 where
+-- glue: what a sink means, whether it has refused a row, and which rows it refuses
+pub record SinkState (M : Type 0) : Type 1 where
   pub meaning : M
   pub refused : Bool
+  pub refuses : List ℕ → Type 0
 
 -- ---- Whole data (glue): the words of the contract of `decode`, and of the drivers' behind it
 
@@ -34,6 +35,7 @@ pub record TakesRows {M A : Type 0} (rows : List Row) (outcome : Result A Decode
 pub record StopsShort {M A : Type 0} (rows : List Row) (lines : List Line) (before after : SinkState M) (held : Held) (answer : Result A DecodeError) : Type 0 where
   pub memory : answer ≡ Err OutOfMemory → PaintsBlack lines held.taken
   pub refused : answer ≡ Err Refused → held.taken < length rows
+  pub refused_row : answer ≡ Err Refused → after.refuses (changes (get_or rows held.taken []))
   pub flag : answer ≡ Err Refused → after.refused ≡ true
   pub no_flag : answer ≢ Err Refused → after.refused ≡ before.refused
 
@@ -72,6 +74,11 @@ pub record RowIsTaken {M : Type 0} (row : Result (Row × Bits) DecodeError) (ste
   pub held : new ≡ with_row_taken old taken
   pub meaning : after.meaning ≡ step before.meaning (changes taken)
 
+-- a row stands here that is refused
+abbrev pub IsRefusedBy : (List ℕ → Type 0) → Result (Row × Bits) DecodeError → Type 0
+IsRefusedBy refuses (Ok (row, rest)) = refuses (changes row)
+IsRefusedBy refuses (Err e) = ⊥
+
 -- What a call leaves that reads a line and hands over its row, where the line comes to this row.
 pub record TakesOneRow {M : Type 0} (line : Line) (row : Result (Row × Bits) DecodeError) (step : M → List ℕ → M) (before after : SinkState M) (old new : Held) (answer : Result (Unit {0}) DecodeError) (rest : Bits) : Type 0 where
   pub taken : OnOk answer (RowIsTaken row step before after old new rest)
@@ -79,6 +86,6 @@ pub record TakesOneRow {M : Type 0} (line : Line) (row : Result (Row × Bits) De
   pub kept : OnErr answer (after.meaning ≡ before.meaning)
   pub held : OnErr answer (new ≡ redrawn old new.front new.color)
   pub memory : answer ≡ Err OutOfMemory → HasBlack (front_of line)
-  pub refused : answer ≡ Err Refused → IsOk row
+  pub refused : answer ≡ Err Refused → IsRefusedBy after.refuses row
   pub flag : answer ≡ Err Refused → after.refused ≡ true
   pub no_flag : answer ≢ Err Refused → after.refused ≡ before.refused

@@ -1,6 +1,6 @@
 //! The bits of a slice of bytes, read from the front.
 
-ghost use Rattle.std.specs.Prelude.{◌≡◌, ◌+◌, ◌-◌, ◌*◌, ◌/◌, ◌%◌, ◌^◌, ◌<◌, ◌≤◌, ◌==◌, ◌↔◌, ℕ, length, min, false, slice_get, slice_index, get_or, Some, IfSome, true, IfOk, OnOk, OnErr, IsErr, IsOkUnless};
+ghost use Rattle.std.specs.Prelude.{◌≡◌, ◌+◌, ◌-◌, ◌*◌, ◌/◌, ◌%◌, ◌^◌, ◌<◌, ◌≤◌, ◌==◌, ◌↔◌, ◌∷◌, ℕ, length, min, false, slice_get, slice_index, get_or, Some, IfSome, true, IfOk, OnOk, OnErr, IsErr, IsOkUnless};
 ghost use Rattle.hayro_ccitt.specs.Bits.{AreWholeBytes, BitsAt, BitsFit, bits_of, low_first_bits_of, bits_in, bit_of, here};
 ghost use Rattle.hayro_ccitt.specs.PlainReading.{at_end, aligned};
 ghost use Rattle.hayro_ccitt.specs.Window.{place_in_word, AtHand, moved};
@@ -184,6 +184,7 @@ impl<'a> BitReader<'a> {
     pub fn read_bit(&mut self) -> Result<u32>
         ensures bit { IfOk result (λ bit. (bit ≤ 1) × (slice_get self.old.bits self.old.place ≡ Some (bit == 1))) }
         ensures next { OnOk result (self.new ≡ record self.old { place = self.old.place + 1 }) }
+        ensures front { IfOk result (λ bit. here self.old ≡ (bit == 1) ∷ here self.new) }
         ensures end { IsErr result ↔ (length self.old.bits ≤ self.old.place) }
         ensures unchanged { OnErr result (self.new ≡ self.old) }
         ensures only_end { IsOkUnless result DecodeError.UnexpectedEof }

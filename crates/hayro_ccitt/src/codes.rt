@@ -264,7 +264,7 @@ impl<'a> BitReader<'a> {
         ensures no_eol { IfNone result.1 (after_eol 0 (here self.now) ≡ None) }
         ensures ticks { ticks.new ≡ ticks.old + looked (here self.now) }
     {
-        let mut reader = self.clone().unwrap();
+        let mut reader = self.copy();
         let is_one = reader.pass_zeros();
         let zeros = reader.bit_pos() - self.bit_pos();
         ticks.tick_times(zeros);
@@ -405,7 +405,7 @@ impl<'a> BitReader<'a> {
         ensures same_bits { self.new.bits ≡ self.old.bits }
         ensures ticks { ticks.new ≡ ticks.old + looked_at_tag (here self.old) }
     {
-        let mut behind = self.clone().unwrap();
+        let mut behind = self.copy();
         match behind.read_bit() {
             Ok(0) => ticks.tick(),
             Ok(_) => {
@@ -428,7 +428,7 @@ impl<'a> BitReader<'a> {
         if count < 6 {
             return;
         }
-        let mut behind = self.clone().unwrap();
+        let mut behind = self.copy();
         match behind.read_bit() {
             Ok(0) => ticks.tick(),
             Ok(_) => {

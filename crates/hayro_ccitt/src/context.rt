@@ -126,7 +126,6 @@ impl DecoderContext {
         ensures frame { self.new ≡ record self.old { held = fresh self.old.held.settings; passed = 0 } }
     {
         self.begin_line();
-        self.passed = 0;
         self.ref_changes.clear();
         self.decoded_rows = 0;
         self.has_eols = false;
@@ -307,6 +306,7 @@ impl DecoderContext {
         ensures flag { OnOk result (D.has_refused decoder.new ≡ D.has_refused decoder.old) }
         ensures kept { OnErr result (D.meaning decoder.new ≡ D.meaning decoder.old) }
         ensures refused { OnErr result (D.has_refused decoder.new ≡ true) }
+        ensures refused_row { OnErr result (D.refuses decoder.new (changes (taken_row self.now.held))) }
         ensures only_refused { IsOkUnless result DecodeError.Refused }
     {
         decoder.push_row(self.coding_changes.as_slice())
@@ -328,6 +328,7 @@ impl DecoderContext {
         ensures kept { OnErr result (D.meaning decoder.new ≡ D.meaning decoder.old) }
         ensures unchanged { OnErr result (self.new ≡ self.old) }
         ensures refused { OnErr result (D.has_refused decoder.new ≡ true) }
+        ensures refused_row { OnErr result (D.refuses decoder.new (changes (taken_row self.old.held))) }
         ensures only_refused { IsOkUnless result DecodeError.Refused }
     {
         self.hand_over(decoder)?;

@@ -57,6 +57,9 @@ pub trait Decoder {
     /// Whether the sink has refused a row.
     ghost has_refused: { Self → Bool };
 
+    /// Which rows, given by their changes, a sink refuses that is as it is now. Nothing is said of a sink without it.
+    ghost refuses: { Self → List ℕ → Type 0 } = { λ _ _. Unit {0} };
+
     /// Takes a row of pixels, given by its changes: the places, counted from 0 at the left, at which the colour
     /// changes (T.4 section 4.2.1.1), in strictly ascending order and each below the width. Each row starts white, so
     /// the pixels from `changes[0]` up to `changes[1]` are black, those from `changes[2]` up to `changes[3]` again, and
@@ -71,6 +74,7 @@ pub trait Decoder {
         ensures not_refused { OnOk result (has_refused self.new ≡ has_refused self.old) }
         ensures kept { OnErr result (meaning self.new ≡ meaning self.old) }
         ensures refused { OnErr result (has_refused self.new ≡ true) }
+        ensures refused_row { OnErr result (refuses self.new changes.now) }
         ensures only_refused { IsOkUnless result DecodeError.Refused };
 }
 
@@ -94,8 +98,8 @@ fn decode_rows<D: Decoder>(
     requires width { ctx.old.held.settings.columns ≤ D.width decoder.old }
     ensures width { D.width decoder.new ≡ D.width decoder.old }
     ensures rows { DecodesRows ctx.old.held.settings.encoding reader.old.bits (D.step (D.width decoder.old))
-        (record { meaning = D.meaning decoder.old; refused = D.has_refused decoder.old })
-        (record { meaning = D.meaning decoder.new; refused = D.has_refused decoder.new })
+        (record { meaning = D.meaning decoder.old; refused = D.has_refused decoder.old; refuses = D.refuses decoder.old })
+        (record { meaning = D.meaning decoder.new; refused = D.has_refused decoder.new; refuses = D.refuses decoder.new })
         ctx.old ctx.new (leaving result (here reader.new)) }
     ensures no_eols { ctx.old.held.settings.encoding ≡ EncodingMode.Group4 → ctx.new.held.has_eols ≡ false }
     ensures same_bits { reader.new.bits ≡ reader.old.bits }
@@ -121,8 +125,8 @@ fn decode_bits<D: Decoder>(
     ensures settings { ctx.new.held.settings ≡ ctx.old.held.settings }
     ensures within { IfOk result (λ n. 8 * n ≤ length reader.old.bits) }
     ensures decodes { Decodes ctx.old.held.settings reader.old.bits (D.step (D.width decoder.old))
-        (record { meaning = D.meaning decoder.old; refused = D.has_refused decoder.old })
-        (record { meaning = D.meaning decoder.new; refused = D.has_refused decoder.new })
+        (record { meaning = D.meaning decoder.old; refused = D.has_refused decoder.old; refuses = D.refuses decoder.old })
+        (record { meaning = D.meaning decoder.new; refused = D.has_refused decoder.new; refuses = D.refuses decoder.new })
         ctx.new.held ctx.new.ticks result }
 {
     ctx.restart();
@@ -181,8 +185,8 @@ pub fn decode<D: Decoder>(data: &[u8], decoder: &mut D, ctx: &mut DecoderContext
 
     // All that it leaves, field by field in `specs/Contract.antt`: over the bits in this order.
     ensures decodes { Decodes ctx.old.held.settings (bits_of «data».now) (D.step (D.width decoder.old))
-        (record { meaning = D.meaning decoder.old; refused = D.has_refused decoder.old })
-        (record { meaning = D.meaning decoder.new; refused = D.has_refused decoder.new })
+        (record { meaning = D.meaning decoder.old; refused = D.has_refused decoder.old; refuses = D.refuses decoder.old })
+        (record { meaning = D.meaning decoder.new; refused = D.has_refused decoder.new; refuses = D.refuses decoder.new })
         ctx.new.held ctx.new.ticks result }
 {
     decode_bits(&mut BitReader::new(data), decoder, ctx)
@@ -206,8 +210,8 @@ pub fn decode_low_first<D: Decoder>(
 
     // All that it leaves, field by field in `specs/Contract.antt`: over the bits in this order.
     ensures decodes { Decodes ctx.old.held.settings (low_first_bits_of «data».now) (D.step (D.width decoder.old))
-        (record { meaning = D.meaning decoder.old; refused = D.has_refused decoder.old })
-        (record { meaning = D.meaning decoder.new; refused = D.has_refused decoder.new })
+        (record { meaning = D.meaning decoder.old; refused = D.has_refused decoder.old; refuses = D.refuses decoder.old })
+        (record { meaning = D.meaning decoder.new; refused = D.has_refused decoder.new; refuses = D.refuses decoder.new })
         ctx.new.held ctx.new.ticks result }
 {
     decode_bits(&mut BitReader::new_low_first(data), decoder, ctx)

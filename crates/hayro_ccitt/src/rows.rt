@@ -49,6 +49,7 @@ pub(crate) fn take_row<D: Decoder>(
     ensures kept { OnErr result (D.meaning decoder.new ≡ D.meaning decoder.old) }
     ensures held { OnErr result (ctx.new.held ≡ ctx.old.held) }
     ensures refused { OnErr result (D.has_refused decoder.new ≡ true) }
+    ensures refused_row { OnErr result (D.refuses decoder.new (changes ctx.old.held.front)) }
     ensures only_refused { IsOkUnless result DecodeError.Refused }
     ensures same_bits { reader.new.bits ≡ reader.old.bits }
     ensures count { ctx.new.ticks ≡ ctx.old.ticks }

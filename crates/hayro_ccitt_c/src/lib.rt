@@ -5,7 +5,9 @@
 //! all memory that it asks for is let go when it returns.
 #![tactic(auto)]
 
-ghost use Rattle.std.specs.Prelude.{◌≡◌, ◌≢◌, ◌<◌, ◌≤◌, ◌+◌, ◌*◌, ◌⊎◌, ◌↔◌, None, IfSome, length};
+ghost use Rattle.std.specs.Prelude.{◌≡◌, ◌≢◌, ◌<◌, ◌≤◌, ◌+◌, ◌*◌, ◌⊎◌, ◌↔◌, None, IfSome, length, get_or, []};
+ghost use Rattle.hayro_ccitt.specs.PlainReading.{plain};
+ghost use Rattle.hayro_ccitt.specs.Rows.{changes};
 ghost use Rattle.hayro_ccitt.specs.Bits.{BitsFit};
 ghost use Rattle.fax_encode.specs.Packed.{shown};
 ghost use Rattle.hayro_ccitt_c.specs.Encoding.{asked, AreEncoded, HaveNoRoom};
@@ -112,7 +114,8 @@ pub extern "C" fn hayro_ccitt_decode_changes(
     ensures listed { OnSettings settings.now «data».now (λ s bits.
         AreListed s bits outcome.new.rows lists.old lists.new) }
     ensures refused { result ≡ 5 → OnSettings settings.now «data».now (λ s bits.
-        length lists.new ≤ numbers_taken s bits outcome.new.rows + s.columns) }
+        length lists.new < numbers_taken s bits outcome.new.rows + 1
+        + length (changes (get_or (plain s bits).rows outcome.new.rows []))) }
     ensures untaken { (settings_of settings.now ≡ None) ⊎ (¬ (BitsFit «data».now))
         → (result ≡ 6) × (outcome.new ≡ record { rows = 0; changes = 0; bytes_read = 0 })
         × (lists.new ≡ lists.old) }

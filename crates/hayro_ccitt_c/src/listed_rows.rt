@@ -49,7 +49,7 @@ impl<'a> ListedRows<'a> {
 }
 
 impl Decoder for ListedRows<'_> {
-    ghost use Rattle.std.specs.Prelude.{take, drop};
+    ghost use Rattle.std.specs.Prelude.{take, drop, ◌+◌, ◌<◌, length};
     ghost use Rattle.hayro_ccitt_c.specs.Listing.{Listing, with_listed};
 
     ghost Meaning = { Listing };
@@ -67,6 +67,9 @@ impl Decoder for ListedRows<'_> {
     ghost width = { λ sink. sink.columns };
 
     ghost has_refused = { λ sink. sink.has_refused };
+
+    // A row takes one number more than it has changes.
+    ghost refuses = { λ sink row. length sink.lists.now < sink.end + 1 + length row };
 
     fn push_row(&mut self, changes: &[u32]) -> hayro_ccitt::Result<()> {
         if self.lists.len() - self.end <= changes.len() {

@@ -1,6 +1,7 @@
 //! What C is told of a decoding.
 
-ghost use Rattle.std.specs.Prelude.{◌≡◌, ◌≢◌, ◌≤◌, ◌<◌, ℕ, List, take, true};
+ghost use Rattle.std.specs.Prelude.{◌≡◌, ◌≢◌, ◌≤◌, ◌<◌, ℕ, List, take, true, get_or, []};
+ghost use Rattle.hayro_ccitt.specs.Rows.{changes};
 ghost use Rattle.hayro_ccitt.specs.Answers.{meaning_after};
 ghost use Rattle.hayro_ccitt.specs.Bits.{BitsFit, bits_in};
 ghost use Rattle.hayro_ccitt.specs.PlainReading.{plain};
@@ -101,6 +102,8 @@ pub(crate) fn decoded<D: Decoder>(
         (take result.rows (plain settings (bits_in order «data».now)).rows) }
     ensures width { D.width sink.new ≡ D.width sink.old }
     ensures flag { result.status ≡ 5 → D.has_refused sink.new ≡ true }
+    ensures refused_row { result.status ≡ 5 → D.refuses sink.new
+        (changes (get_or (plain settings (bits_in order «data».now)).rows result.rows [])) }
 {
     let Ok(mut ctx) = DecoderContext::new(alloc, settings) else {
         return Report {

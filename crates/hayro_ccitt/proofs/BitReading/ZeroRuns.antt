@@ -63,17 +63,6 @@ eols_stepped max count start now after e h lt =
     let m : count + suc (eols (max - (count + 1)) after).0 ≡ count + 1 + (eols (max - (count + 1)) after).0 = omega arith in
     e ∙ rw f (ap (λ (k : ℕ). (k, (eols (max - (count + 1)) after).1)) m)
 
--- where no EOL follows
-pub eols_over : (max count : ℕ) (start now : Bits) → eols max start ≡ (count + (eols (max - count) now).0, (eols (max - count) now).1)
-    → after_eol 0 now ≡ None → eols max start ≡ (count, now)
-eols_over max count start now e none =
-    let more : count + 0 ≡ count = omega arith in
-    e ∙ rw (no_more (max - count)) (ap (λ (k : ℕ). (k, now)) more)
-  where
-    no_more : (most : ℕ) → eols most now ≡ (0, now)
-    no_more zero = refl
-    no_more (suc most) = rw (none, eols) refl
-
 -- an EOL takes a bit
 pub eols_fewer : (most : ℕ) (here : Bits) → (eols most here).0 + length (eols most here).1 ≤ length here
 eols_fewer zero here = omega arith

@@ -17,10 +17,6 @@ use Rattle.hayro_ccitt.proofs.BitReading.ZerosInWords.{modes_free}
 use Rattle.std.proofs.lemmas.List.{length-append}
 
 -- ---- The word that begins seven bits.
-pub length-seven_bits : (n : ℕ) → length (seven_bits n) ≡ 7
-unfolding seven_bits
-length-seven_bits n = length-low_bits 7 n
-
 begins : (width word n : ℕ) → width ≤ 7 → word < 2 ^ width → n < 128 → n / 2 ^ (7 - width) ≡ word → is_prefix (low_bits width word) (seven_bits n) ≡ true
 unfolding seven_bits
 begins width word n le fits below e = word_begins_of 7 width word n le fits below ∙ eq-eqb (n / 2 ^ (7 - width)) word e

@@ -18,6 +18,7 @@ use Rattle.hayro_ccitt.specs.Lines.{Line, line_1d}
 use Rattle.hayro_ccitt.specs.Locality.{EndsBefore, IsLocal, IsLocalByTests}
 use Rattle.hayro_ccitt.specs.Rows.{Row}
 use Rattle.hayro_ccitt.proofs.Readings.TurnsMoveOn.{next_eol_found}
+use Rattle.hayro_ccitt.proofs.DamagedLines.LinesByEols.{past_shorter}
 use Rattle.hayro_ccitt.proofs.DamagedLines.LocalByTests.{local_by_tests}
 use Rattle.hayro_ccitt.proofs.DamagedLines.PastEol.{past, past_is, then_after}
 
@@ -97,16 +98,6 @@ past-front seen (true ∷ front) after more e = by (leb 11 seen) (λ f. past-fro
         → cond b (Some (front ++ more)) (past 0 (front ++ more)) ≡ Some (after ++ more)
     by true on f = let same : front ≡ after = cc in ap (λ (b : Bits). Some (b ++ more)) same
     by false on f = on f
-
-past_shorter : (seen : ℕ) (here after : Bits) → past seen here ≡ Some after → length after < length here
-past_shorter seen [] after e = absurd cc
-past_shorter seen (false ∷ here) after e = omega (arith, past_shorter (suc seen) here after e)
-past_shorter seen (true ∷ here) after e = by (leb 11 seen) (λ f. past_shorter 0 here after f) e
-  where
-    by : (b : Bool) → (past 0 here ≡ Some after → length after < length here) → cond b (Some here) (past 0 here) ≡ Some after
-        → length after < length (true ∷ here)
-    by true on f = let same : here ≡ after = cc in omega (arith, ap length same)
-    by false on f = omega (arith, on f)
 
 past-behind : (seen : ℕ) (front after more : Bits) → past seen front ≡ None → past seen (front ++ more) ≡ Some after → length after < length more
 past-behind seen [] after more none e = past_shorter seen more after e

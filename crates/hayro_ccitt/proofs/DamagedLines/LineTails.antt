@@ -20,15 +20,18 @@ drop_front (a ∷ front) rest = drop_front front rest
 pub drop_at : {A : Type 0} (whole front rest : List A) (n : ℕ) → whole ≡ front ++ rest → length front ≡ n → drop n whole ≡ rest
 drop_at whole front rest n e f = ap (drop n) e ∙ ap (λ (k : ℕ). drop k (front ++ rest)) (sym f) ∙ drop_front front rest
 
+-- at a one eleven zeros were seen, and what follows is the rest
+pub eol_at_one : (seen : ℕ) (here rest : Bits) → after_eol seen (true ∷ here) ≡ Some rest → (11 ≤ seen) × (here ≡ rest)
+eol_at_one seen here rest e = elim (cases_lt seen 11) [
+  | inl lt ↦ absurd (let f : ◌≡◌ {A = Option Bits} None (Some rest) = rw (lt-leb 11 seen lt) at e in cc)
+  | inr ge ↦ let f : ◌≡◌ {A = Option Bits} (Some here) (Some rest) = rw (le-leb 11 seen ge) at e in (ge, cc)
+]
+
 -- the zeros and the one of an EOL
 pub after_eol_is : (seen : ℕ) (here rest : Bits) → after_eol seen here ≡ Some rest → (k : ℕ) × (here ≡ replicate k false ++ true ∷ rest) × (11 ≤ seen + k)
 after_eol_is seen [] rest e = absurd cc
 after_eol_is seen (false ∷ here) rest e = let f = after_eol_is (suc seen) here rest e in (suc f.0, ap (λ (x : Bits). false ∷ x) f.1, omega (arith, f.2))
-after_eol_is seen (true ∷ here) rest e = elim (cases_lt seen 11) [
-  | inl lt ↦ absurd (let f : ◌≡◌ {A = Option Bits} None (Some rest) = rw (lt-leb 11 seen lt) at e in cc)
-  | inr ge ↦ let f : ◌≡◌ {A = Option Bits} (Some here) (Some rest) = rw (le-leb 11 seen ge) at e in let same : here ≡ rest
-      = cc in (0, ap (λ (x : Bits). true ∷ x) same, omega arith)
-]
+after_eol_is seen (true ∷ here) rest e = let f = eol_at_one seen here rest e in (0, ap (λ (x : Bits). true ∷ x) f.1, omega (arith, f.0))
 
 -- the first one is at or before any other
 pub first_one : (k : ℕ) (rest before after : Bits) → replicate k false ++ true ∷ rest ≡ before ++ true ∷ after → k ≤ length before
@@ -41,20 +44,13 @@ first_one (suc k) rest (b ∷ before) after e =
 pub after_eol_more : (seen more : ℕ) (here rest : Bits) → seen ≤ more → after_eol seen here ≡ Some rest → after_eol more here ≡ Some rest
 after_eol_more seen more [] rest le e = absurd cc
 after_eol_more seen more (false ∷ here) rest le e = after_eol_more (suc seen) (suc more) here rest (omega arith) e
-after_eol_more seen more (true ∷ here) rest le e = elim (cases_lt seen 11) [
-  | inl lt ↦ absurd (let f : ◌≡◌ {A = Option Bits} None (Some rest) = rw (lt-leb 11 seen lt) at e in cc)
-  | inr ge ↦ let ge2 : 11 ≤ more = omega arith in rw (le-leb 11 more ge2) (rw (le-leb 11 seen ge) at e)
-]
+after_eol_more seen more (true ∷ here) rest le e = let f = eol_at_one seen here rest e in rw (le-leb 11 more (omega (arith, f.0))) (ap Some f.1)
 
 -- an EOL that stands stays one, whatever follows
 pub after_eol-append : (seen : ℕ) (here rest z : Bits) → after_eol seen here ≡ Some rest → after_eol seen (here ++ z) ≡ Some (rest ++ z)
 after_eol-append seen [] rest z e = absurd cc
 after_eol-append seen (false ∷ here) rest z e = after_eol-append (suc seen) here rest z e
-after_eol-append seen (true ∷ here) rest z e = elim (cases_lt seen 11) [
-  | inl lt ↦ absurd (let f : ◌≡◌ {A = Option Bits} None (Some rest) = rw (lt-leb 11 seen lt) at e in cc)
-  | inr ge ↦ let f : ◌≡◌ {A = Option Bits} (Some here) (Some rest) = rw (le-leb 11 seen ge) at e in let same : here ≡ rest
-      = cc in rw (le-leb 11 seen ge) (ap (λ (b : Bits). Some (b ++ z)) same)
-]
+after_eol-append seen (true ∷ here) rest z e = let f = eol_at_one seen here rest e in rw (le-leb 11 seen f.0) (ap (λ (b : Bits). Some (b ++ z)) f.1)
 
 -- the next EOL stands further on in the same bits
 pub next_eol_leaves : (here found : Bits) → next_eol here ≡ Some found → (before : Bits) × (here ≡ before ++ found)
@@ -115,23 +111,12 @@ module _ (settings : DecodeSettings) (bits : Bits) (from to : ℕ) (local : IsLo
   not_within : (before rest : Bits) (k : ℕ) (found : Bits) → line_on ≡ before ++ found → found ≡ replicate k false ++ true ∷ rest
       → after_eol 0 found ≡ Some rest → length before + (k + 1) ≤ to - from → ⊥
   not_within before rest k found e f eol le =
-      let at : bits ≡ (take from bits ++ before) ++ found = whole ∙ ap (λ (b : Bits). take from bits ++ b) e
-      ∙ sym (append_assoc (take from bits) before found) in
-      let split : replicate k false ++ true ∷ rest ≡ (replicate k false ++ true ∷ []) ++ rest = sym (append_assoc (replicate k false) (true ∷ []) rest) in
+      let at : bits ≡ (take from bits ++ before) ++ found = simp append_assoc (whole ∙ ap (λ (b : Bits). take from bits ++ b) e) in
       let ends : bits ≡ ((take from bits ++ before) ++ (replicate k false ++ true ∷ [])) ++ rest
-      = at ∙ ap (λ (b : Bits). (take from bits ++ before) ++ b) (f ∙ split)
-      ∙ sym (append_assoc (take from bits ++ before) (replicate k false ++ true ∷ []) rest) in
-      let length_at : length (take from bits ++ before) ≡ from + length before = length-append (take from bits) before
-      ∙ ap (λ (n : ℕ). n + length before) front_length in
+      = simp append_assoc (whole ∙ ap (λ (b : Bits). take from bits ++ b) (e ∙ ap (λ (b : Bits). before ++ b) f)) in
+      let length_at : length (take from bits ++ before) ≡ from + length before = simp length-append (ap (λ (n : ℕ). n + length before) front_length) in
       let length_end : length ((take from bits ++ before) ++ (replicate k false ++ true ∷ [])) ≡ from + (length before + (k + 1))
-      = omega (
-        arith,
-        length_at,
-        length-append (take from bits ++ before) (replicate k false ++ true ∷ []),
-        length-append (replicate k false)
-            (true ∷ []),
-        length-replicate k false,
-      ) in
+      = simp (length-append, length-replicate) (omega (arith, front_length)) in
       let drop_place = drop_at bits (take from bits ++ before) found (from + length before) at length_at in
       let drop_end = drop_at bits ((take from bits ++ before) ++ (replicate k false ++ true ∷ [])) rest (from + (length before + (k + 1))) ends length_end in
       local.no_eol (from + length before) (from + (length before + (k + 1))) (omega arith) (omega (arith, le, local.order))

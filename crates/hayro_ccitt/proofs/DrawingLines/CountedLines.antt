@@ -89,12 +89,6 @@ found_1d_on strict columns pen open_row =
     ∙ ap (λ (step : Step). (draw_run strict columns pen).words ++ found_after (found_1d_from strict columns) step)
     (unless_full_step (leb columns (length pen.front)) (Line.whole pen.front pen.rest) pen (λ pen. (draw_run strict columns pen).turn) (lt-leb columns (length pen.front) open_row))
 
--- a full one finds none
-pub found_1d_full : (strict : Bool) (columns : ℕ) (pen : Pen) → columns ≤ length pen.front → found_1d_from strict columns pen ≡ []
-found_1d_full strict columns pen whole =
-    gathered_turn (step_1d strict columns) (λ pen. (draw_1d strict columns pen).words) left (step_1d_shrinks strict columns) pen
-    ∙ full_words (leb columns (length pen.front)) (Line.whole pen.front pen.rest) pen (λ pen. (draw_run strict columns pen).words) (λ pen. (draw_run strict columns pen).turn) (found_1d_from strict columns) (le-leb columns (length pen.front) whole)
-
 -- a two-dimensional line whose row isn't full finds what reading and drawing its next mode does, and then the words behind it
 found_2d_turn : (strict : Bool) (columns : ℕ) (reference : Row) (pen : Pen) → length pen.front < columns
     → found_2d_from strict columns reference pen ≡ mode_words strict columns reference pen ++ found_after (found_2d_from strict columns reference) (mode_turn strict columns reference pen)
@@ -128,12 +122,6 @@ pub found_2d_missed : (strict : Bool) (columns : ℕ) (reference : Row) (pen : P
     → read_code mode_codes pen.rest ≡ Err fault → found_2d_from strict columns reference pen ≡ []
 found_2d_missed strict columns reference pen fault open_row reads = found_2d_turn strict columns reference pen open_row ∙ rw (reads, word_found) refl
 
--- a full one finds none
-pub found_2d_full : (strict : Bool) (columns : ℕ) (reference : Row) (pen : Pen) → columns ≤ length pen.front → found_2d_from strict columns reference pen ≡ []
-found_2d_full strict columns reference pen whole =
-    gathered_turn (step_2d strict columns reference) (λ pen. (draw_2d strict columns reference pen).words) left (step_2d_shrinks strict columns reference) pen
-    ∙ full_words (leb columns (length pen.front)) (Line.whole pen.front pen.rest) pen (mode_words strict columns reference) (mode_turn strict columns reference) (found_2d_from strict columns reference) (le-leb columns (length pen.front) whole)
-
 -- ---- What the calls that draw a step need of them.
 
 -- a context whose row isn't full, in a one-dimensional line: the words of its next run, and those behind it
@@ -158,13 +146,6 @@ counted_by_mode before now at rest mode kept open_row reads =
     (subst (λ (s : DecodeSettings). length (found_2d_from s.strict s.columns now.reference (pen_of now at))
     ≡ 1 + length (words_of_mode now rest mode) + length (found_after (found_2d_from s.strict s.columns now.reference) (step_of_mode now rest mode)))
     (ap (λ (h : Held). h.settings) kept) (found_2d_on now.settings.strict now.settings.columns now.reference (pen_of now at) mode rest open_row reads))
-
--- where no mode stands
-pub counted_no_mode : (before now : Held) (at : Bits) (fault : DecodeError) → now ≡ redrawn before now.front now.color → length now.front < now.settings.columns
-    → read_code mode_codes at ≡ Err fault → length (found_2d_from before.settings.strict before.settings.columns before.reference (pen_of now at)) ≡ 0
-counted_no_mode before now at fault kept open_row reads =
-    let columns : length now.front < before.settings.columns = subst (λ (s : DecodeSettings). length now.front < s.columns) (ap (λ (h : Held). h.settings) kept) open_row in
-    ap length (found_2d_missed before.settings.strict before.settings.columns before.reference (pen_of now at) fault columns reads)
 
 -- a step that ends in a fault of the data is the last to find words
 pub none_after_fault : (rest : Pen → List Bits) (step : Step) (fault : DecodeError) (pen : Pen) → IsFault fault → DrawsStep step (Err fault) pen

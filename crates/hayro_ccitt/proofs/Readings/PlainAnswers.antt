@@ -69,7 +69,7 @@ module _ {M : Type 0} (settings : DecodeSettings) (bits : Bits) (step : M → Li
         fault = tt;
         has_eols = takes.has_eols;
       },
-      record { memory = λ e. cc; refused = λ e. cc; flag = λ e. cc; no_flag = λ e. short.no_flag (λ f. cc) },
+      record { memory = λ e. cc; refused = λ e. cc; refused_row = λ e. cc; flag = λ e. cc; no_flag = λ e. short.no_flag (λ f. cc) },
     )
 
     -- where it ended with an error
@@ -87,6 +87,7 @@ module _ {M : Type 0} (settings : DecodeSettings) (bits : Bits) (step : M → Li
       record {
         memory = λ e. short.memory (same error OutOfMemory e);
         refused = λ e. short.refused (same error Refused e);
+        refused_row = λ e. short.refused_row (same error Refused e);
         flag = λ e. short.flag (same error Refused e);
         no_flag = λ e. short.no_flag (λ f. e (back error Refused f));
       },
@@ -97,23 +98,6 @@ module _ {M : Type 0} (settings : DecodeSettings) (bits : Bits) (step : M → Li
 
         back : (e f : DecodeError) → ◌≡◌ {A = Result Bits DecodeError} (Err e) (Err f) → ◌≡◌ {A = Result ℕ DecodeError} (Err e) (Err f)
         back e f is = let it : e ≡ f = cc in ap {B = Result ℕ DecodeError} (λ (x : DecodeError). Err x) it
-
-  -- without columns nothing is read
-  pub decodes_nothing : settings.columns ≡ 0 → after ≡ before → held ≡ fresh settings → LeavesRows settings bits step before after held (Ok 0)
-  decodes_nothing none same is =
-      let reading : plain settings bits ≡ nothing_read = cond-true (eqb settings.columns 0) _ _ (eq-eqb settings.columns 0 none) in
-      let taken : held.taken ≡ 0 = ap (λ (h : Held). h.taken) is in
-      subst (λ (r : Reading). Leaves r (lines_of settings bits) step before after held (Ok 0)) (sym reading) (
-        record {
-          taken = omega (arith, taken);
-          meaning = ap (λ (s : SinkState M). s.meaning) same ∙ ap (λ (n : ℕ). meaning_after step before.meaning (take n [])) (sym taken);
-          all = taken;
-          ok = refl;
-          fault = tt;
-          has_eols = ap (λ (h : Held). h.has_eols) is;
-        },
-        record { memory = λ e. cc; refused = λ e. cc; flag = λ e. cc; no_flag = λ e. ap (λ (s : SinkState M). s.refused) same },
-      )
 
 -- what a driver leaves is known of its settings and bits, whatever they are called
 pub driver_left : {M : Type 0} (given settings : DecodeSettings) (read whole : Bits) (step : M → List ℕ → M) (before after : SinkState M) (held : Held) (answer : Result Bits DecodeError)

@@ -9,7 +9,7 @@ use Rattle.hayro_ccitt.specs.Bits.{Bits}
 use Rattle.hayro_ccitt.specs.Context.{Held}
 use Rattle.hayro_ccitt.specs.Decoding.{SinkState, TakesOneRow, RowIsTaken, with_row_taken, gap_said}
 use Rattle.hayro_ccitt.specs.Lines.{Line, line_2d, found_2d}
-use Rattle.hayro_ccitt.specs.PlainReading.{Progress, Ending, Gap, row_before, aligned, gap_group4, line_group4, row_group4, at_gap_group4, add_row_group4, ends_with, with_row, move_group4, lines_at_gap_group4, lines_of_move_group4, start_group4, plain_group4, lines_by}
+use Rattle.hayro_ccitt.specs.PlainReading.{Progress, Ending, Gap, row_before, aligned, gap_group4, line_group4, row_group4, row_group3, at_gap_group4, add_row_group4, ends_with, with_row, move_group4, lines_at_gap_group4, lines_of_move_group4, start_group4, plain_group4, lines_by}
 use Rattle.hayro_ccitt.specs.Repetition.{Turn}
 use Rattle.hayro_ccitt.specs.Rows.{Row, changes}
 use Rattle.hayro_ccitt.specs.Work.{words_at_gap_group4, words_of_move_group4}
@@ -18,6 +18,11 @@ use Rattle.hayro_ccitt.proofs.Work.WordsPay.{IsPaid, line_2d_paid, shorter_paid,
 use Rattle.hayro_ccitt.proofs.Readings.TurnsAddRows.{Adds, move_group4_adds}
 use Rattle.hayro_ccitt.proofs.Readings.TurnsMoveOn.{left, move_group4_shrinks}
 use Rattle.hayro_ccitt.proofs.Readings.RunsOverRows.{RowByRow, ReadsRow, Leaves, Between, between_ends, row_fails, comes_next, held_between-more, meaning_after-more}
+
+-- a row of Group 4 is one of Group 3 without EOLs
+pub row_group4-is : (settings : DecodeSettings) (start : Bits) (line : Line) → row_group4 settings line ≡ row_group3 settings false start line
+row_group4-is settings start (Line.whole row rest) = grind (arith)
+row_group4-is settings start (Line.broken front fault) = grind (arith)
 
 -- its turns leave less to read, and add rows
 pub by_rows_group4 : (settings : DecodeSettings) → 0 < settings.columns → RowByRow (move_group4 settings) left

@@ -1,9 +1,8 @@
 -- A run over rows, whatever the move of its turns: what is known between two rows, and what the run leaves at its end.
-use Rattle.std.proofs.Common.{◌≡◌, ◌≢◌, ℕ, zero, suc, ◌+◌, ◌<◌, ◌≤◌, true, List, [], ◌∷◌, ◌++◌, length, take, drop, map, Some, Result, Ok, Err, IsOk, refl, sym, ap, ◌∙◌, subst, append-nil, arith}
+use Rattle.std.proofs.Common.{◌≡◌, ◌≢◌, ℕ, zero, suc, ◌+◌, ◌<◌, ◌≤◌, true, List, [], ◌∷◌, ◌++◌, length, take, drop, map, get_or, Some, Result, Ok, Err, refl, sym, ap, ◌∙◌, subst, append-nil, arith}
 use Rattle.std.specs.Prelude.{slice_get}
 use Rattle.std.specs.List.{fold}
 use Rattle.std.proofs.Math.Seq.{take-append_seam}
-use Rattle.std.proofs.lemmas.Bool.{false≢true}
 use Rattle.std.proofs.lemmas.List.{length-append, map-append}
 use Rattle.std.proofs.lemmas.List.Sums.{fold-append}
 use Rattle.hayro_ccitt.specs.declared.codes.Color.TheVariants.{White}
@@ -13,7 +12,7 @@ use Rattle.hayro_ccitt.specs.declared.settings.DecodeSettings.{DecodeSettings}
 use Rattle.hayro_ccitt.specs.Answers.{IsFault, PaintsBlack, meaning_after}
 use Rattle.hayro_ccitt.specs.Bits.{Bits, IsPrefix}
 use Rattle.hayro_ccitt.specs.Context.{Held}
-use Rattle.hayro_ccitt.specs.Decoding.{SinkState, TakesRows, StopsShort, TakesOneRow, with_row_taken}
+use Rattle.hayro_ccitt.specs.Decoding.{SinkState, TakesRows, StopsShort, TakesOneRow, IsRefusedBy, with_row_taken}
 use Rattle.hayro_ccitt.specs.Lines.{Line}
 use Rattle.hayro_ccitt.specs.PlainReading.{Progress, Ending, Move, row_before, ends_with, with_row, ending_from, gathered_from}
 use Rattle.hayro_ccitt.specs.Repetition.{Turn, repeated, gathered}
@@ -35,6 +34,11 @@ drop-suc_cons [] zero x more e = absurd cc
 drop-suc_cons [] (suc k) x more e = absurd cc
 drop-suc_cons (y ∷ xs) zero x more e = cc
 drop-suc_cons (y ∷ xs) (suc k) x more e = drop-suc_cons xs k x more e
+
+-- the element behind a list is the one of its length
+get_or-behind : {A : Type 0} (xs : List A) (x : A) (more : List A) (other : A) → get_or ((xs ++ x ∷ []) ++ more) (length xs) other ≡ x
+get_or-behind [] x more other = refl
+get_or-behind (y ∷ xs) x more other = get_or-behind xs x more other
 
 -- a row more is a step more
 pub meaning_after-more : {M : Type 0} (step : M → List ℕ → M) (meaning : M) (rows : List Row) (row : Row)
@@ -184,7 +188,7 @@ module _ {M : Type 0} (step : M → List ℕ → M) (before after : SinkState M)
         fault = tt;
         has_eols = eols;
       },
-      record { memory = λ e. cc; refused = λ e. cc; flag = λ e. cc; no_flag = λ e. refused },
+      record { memory = λ e. cc; refused = λ e. cc; refused_row = λ e. cc; flag = λ e. cc; no_flag = λ e. refused },
     )
 
     -- a run that ended with a fault of the data
@@ -198,7 +202,7 @@ module _ {M : Type 0} (step : M → List ℕ → M) (before after : SinkState M)
         fault = λ f. is;
         has_eols = λ f. eols;
       },
-      record { memory = λ e. absurd (no_memory fault is_fault e); refused = λ e. absurd (no_refusal fault is_fault e); flag = λ e. absurd (no_refusal fault is_fault e); no_flag = λ e. refused },
+      record { memory = λ e. absurd (no_memory fault is_fault e); refused = λ e. absurd (no_refusal fault is_fault e); refused_row = λ e. absurd (no_refusal fault is_fault e); flag = λ e. absurd (no_refusal fault is_fault e); no_flag = λ e. refused },
     )
       where
         no_memory : (fault : DecodeError) → IsFault fault → ◌≡◌ {A = Result Bits DecodeError} (Err fault) (Err OutOfMemory) → ⊥
@@ -232,14 +236,14 @@ module _ {M : Type 0} (step : M → List ℕ → M) (before after : SinkState M)
     pub wants_memory : PaintsBlack lines held.taken → after.refused ≡ before.refused → Leaves end lines step before after held (Err OutOfMemory)
     wants_memory black refused = (
       takes_some OutOfMemory (λ f. f),
-      record { memory = λ e. black; refused = λ e. cc; flag = λ e. cc; no_flag = λ e. refused },
+      record { memory = λ e. black; refused = λ e. cc; refused_row = λ e. cc; flag = λ e. cc; no_flag = λ e. refused },
     )
 
     -- a run whose row was refused
-    pub is_refused : held.taken < length end.rows → after.refused ≡ true → Leaves end lines step before after held (Err Refused)
-    is_refused more refused = (
+    pub is_refused : held.taken < length end.rows → after.refuses (changes (get_or end.rows held.taken [])) → after.refused ≡ true → Leaves end lines step before after held (Err Refused)
+    is_refused more row refused = (
       takes_some Refused (λ f. f),
-      record { memory = λ e. cc; refused = λ e. more; flag = λ e. refused; no_flag = λ e. absurd (e refl) },
+      record { memory = λ e. cc; refused = λ e. more; refused_row = λ e. row; flag = λ e. refused; no_flag = λ e. absurd (e refl) },
     )
 
 -- ---- Between two rows
@@ -301,13 +305,16 @@ module _ {M : Type 0} (move : Progress → Move) (gives : Progress → List Line
             (taken OutOfMemory t) (t.kept ∙ between.meaning)
             (line, ap (slice_get the_lines) (taken OutOfMemory t) ∙ at, t.memory refl) (t.no_flag (λ e. cc) ∙ between.refused)
         by Refused t =
-            let found : (r : Row × Bits) × (row ≡ Ok r) = is_ok row (t.refused refl) in
+            let found : (r : Row × Bits) × (row ≡ Ok r) × after.refuses (changes r.0) = is_read row (t.refused refl) in
             let more = comes_more move gives left by_rows start begins between.so_far between.comes (between.so_far.rows ++ found.0.0 ∷ []) (reads.adds found.0.0 found.0.1 found.1) in
+            let at : get_or the_end.rows new.taken [] ≡ found.0.0
+            = ap (λ (n : ℕ). get_or the_end.rows n []) (taken Refused t) ∙ ap (λ (rows : List Row). get_or rows (length between.so_far.rows) []) more.1
+            ∙ get_or-behind between.so_far.rows found.0.0 more.0 [] in
             is_refused step before after new the_end the_lines between.so_far.rows (comes_prefix move gives left by_rows start begins between.so_far between.comes)
             (taken Refused t) (t.kept ∙ between.meaning)
             (omega (arith, taken Refused t, ap length more.1, length-append (between.so_far.rows ++ found.0.0 ∷ []) more.0, length-append between.so_far.rows (found.0.0 ∷ [])))
-            (t.flag refl)
+            (subst (λ (r : Row). after.refuses (changes r)) (sym at) found.2) (t.flag refl)
           where
-            is_ok : (r : Result (Row × Bits) DecodeError) → IsOk r → (x : Row × Bits) × (r ≡ Ok x)
-            is_ok (Ok x) ok = (x, refl)
-            is_ok (Err e) ok = absurd (false≢true ok)
+            is_read : (r : Result (Row × Bits) DecodeError) → IsRefusedBy after.refuses r → (x : Row × Bits) × (r ≡ Ok x) × after.refuses (changes x.0)
+            is_read (Ok (read, behind)) refused = ((read, behind), refl, refused)
+            is_read (Err e) refused = absurd refused

@@ -1,5 +1,7 @@
-use Rattle.std.proofs.Common.{◌≡◌, ◌∙◌, ◌+◌, ◌≤◌, length, arith, take, drop, refl, sym, ap, rules, Some, IfSome, ℕ, List, []}
+use Rattle.std.proofs.Common.{◌≡◌, ◌∙◌, ◌+◌, ◌≤◌, ◌<◌, get_or, length, arith, take, drop, refl, sym, ap, rules, Some, IfSome, ℕ, List, []}
 use Rattle.hayro_ccitt_c.specs.Listing.{Listing}
+use Rattle.hayro_ccitt.specs.PlainReading.{plain}
+use Rattle.hayro_ccitt.specs.Rows.{changes}
 use Rattle.hayro_ccitt.specs.Bits.{Bits, BitsFit, bits_in}
 use Rattle.hayro_ccitt_c.specs.Reports.{changes_taken, numbers_taken, AreListed}
 use Rattle.hayro_ccitt.specs.declared.settings.DecodeSettings.{DecodeSettings}
@@ -56,7 +58,10 @@ returns-clause-listed c =
 
 pub returns-clause-refused : goal.returns-clause-refused
 returns-clause-refused c = λ full.
-    let few : length c.decoded-report.new.sink.lists.now ≤ numbers_taken c.in-Some.meant (bits_in c.order_of.result c.args.«data».now) c.decoded-report.result.rows + c.in-Some.meant.columns
-    = omega (arith, c.decoded-report.new.sink.full (c.decoded-report.ensures.flag (sym c.told.ensures.status ∙ full)), (holds c).end, c.decoded-report.ensures.width, c.new-rows.ensures.columns) in
+    let few : length c.decoded-report.new.sink.lists.now
+    < numbers_taken c.in-Some.meant (bits_in c.order_of.result c.args.«data».now) c.decoded-report.result.rows + 1
+    + length (changes (get_or (plain c.in-Some.meant (bits_in c.order_of.result c.args.«data».now)).rows c.decoded-report.result.rows []))
+    = omega (arith, c.decoded-report.ensures.refused_row (sym c.told.ensures.status ∙ full), (holds c).end) in
     let name = sym c.new-rows.ensures.same_reference ∙ (holds c).name in
-    rw c.told.ensures.outcome (λ fit. on c (λ s bits memory. length memory ≤ numbers_taken s bits c.decoded-report.result.rows + s.columns) _ (search rules) fit)
+    rw c.told.ensures.outcome
+    (λ fit. on c (λ s bits memory. length memory < numbers_taken s bits c.decoded-report.result.rows + 1 + length (changes (get_or (plain s bits).rows c.decoded-report.result.rows []))) _ (search rules) fit)

@@ -110,7 +110,7 @@ returns-in_err-read_row-clause-rows g c =
           c.args.ctx.now.ticks c.rows.ctx.ticks words c.read_row.new.ctx.held.taken c.read_row.new.ctx.ticks (36 * length bits + 14)
           (taken ∙ ap (λ (h : Held). h.taken) between.held) c.in_err-read_row.ensures.counts
           (fails_paid_group3 settings c.requires.columns bits g.D.Decoder.step _ _ _ _ _ between _ width
-          (record { meaning = g.D.Decoder.meaning c.read_row.new.decoder; refused = g.D.Decoder.has_refused c.read_row.new.decoder }) c.read_row.new.ctx.held (here c.read_row.new.reader) within
+          (record { meaning = g.D.Decoder.meaning c.read_row.new.decoder; refused = g.D.Decoder.has_refused c.read_row.new.decoder; refuses = g.D.Decoder.refuses c.read_row.new.decoder }) c.read_row.new.ctx.held (here c.read_row.new.reader) within
           c.args.ctx.now.ticks c.rows.ctx.ticks paid c.read_row.new.ctx.ticks c.in_err-read_row.ensures.at_most);
     }
     )

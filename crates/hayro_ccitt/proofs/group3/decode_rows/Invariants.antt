@@ -14,8 +14,8 @@ abbrev pub invariant-rows : goal.invariant-rows
 invariant-rows g l =
     (between : Between (move_group3 l.fn.ctx.held.settings) (lines_of_move_group3 l.fn.ctx.held.settings) left_group3 (start_group3 l.fn.ctx.held.settings l.fn.reader.bits) l.fn.ctx.held.settings
     (g.D.Decoder.step (g.D.Decoder.width l.fn.decoder))
-    (record { meaning = g.D.Decoder.meaning l.fn.decoder; refused = g.D.Decoder.has_refused l.fn.decoder })
-    (record { meaning = g.D.Decoder.meaning l.decoder; refused = g.D.Decoder.has_refused l.decoder }) l.ctx.held (here l.reader))
+    (record { meaning = g.D.Decoder.meaning l.fn.decoder; refused = g.D.Decoder.has_refused l.fn.decoder; refuses = g.D.Decoder.refuses l.fn.decoder })
+    (record { meaning = g.D.Decoder.meaning l.decoder; refused = g.D.Decoder.has_refused l.decoder; refuses = g.D.Decoder.refuses l.decoder }) l.ctx.held (here l.reader))
     × (l.reader.bits ≡ l.fn.reader.bits)
     × (g.D.Decoder.width l.decoder ≡ g.D.Decoder.width l.fn.decoder)
     × WordsCounted (move_group3 l.fn.ctx.held.settings) (words_of_move_group3 l.fn.ctx.held.settings) left_group3 (start_group3 l.fn.ctx.held.settings l.fn.reader.bits) between.so_far

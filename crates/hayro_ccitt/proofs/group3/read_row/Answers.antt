@@ -19,7 +19,7 @@ returns-in_err-recover-clause-row g c =
     let start = here c.args.reader.now in
     let answer = err_from_is_err_and c.from_residual.result c.from_residual.ensures.1 in
     let ends = isnt_repaired (line_at_group3 held.settings held.reference start) start (g.D.Decoder.step (g.D.Decoder.width c.args.decoder.now))
-    (record { meaning = g.D.Decoder.meaning c.args.decoder.now; refused = g.D.Decoder.has_refused c.args.decoder.now }) held c.decode_line.new.ctx.held
+    (record { meaning = g.D.Decoder.meaning c.args.decoder.now; refused = g.D.Decoder.has_refused c.args.decoder.now; refuses = g.D.Decoder.refuses c.args.decoder.now }) held c.decode_line.new.ctx.held
     c.decode_line.ensures.held (here c.decode_line.new.reader) c.in-Err.error c.in_err-recover.field-0.0 c.in-Err.ensures.line
     c.in_err-recover.ensures.only_memory c.in_err-recover.ensures.memory c.in_err-recover.ensures.otherwise in
     rw (answer.1, answer.2, c.in_err-recover.ensures.unchanged.0, c.in_err-recover.ensures.unchanged.1) ends

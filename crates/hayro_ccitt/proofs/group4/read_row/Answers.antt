@@ -25,7 +25,7 @@ returns-in_err-decode_2d_line-clause-row g c =
     let answer = err_from_is_err_and c.from_residual.result c.from_residual.ensures.1 in
     rw (answer.1, answer.2)
     (is_unread (line_from_2d held (here c.args.reader.now)) (row_group4 held.settings (line_from_2d held (here c.args.reader.now))) (g.D.Decoder.step (g.D.Decoder.width c.args.decoder.now))
-    (record { meaning = g.D.Decoder.meaning c.args.decoder.now; refused = g.D.Decoder.has_refused c.args.decoder.now }) held c.decode_2d_line.new.ctx.held c.decode_2d_line.ensures.held
+    (record { meaning = g.D.Decoder.meaning c.args.decoder.now; refused = g.D.Decoder.has_refused c.args.decoder.now; refuses = g.D.Decoder.refuses c.args.decoder.now }) held c.decode_2d_line.new.ctx.held c.decode_2d_line.ensures.held
     (here c.decode_2d_line.new.reader) c.in_err-decode_2d_line.field-0.0 (λ fault is. ap (row_group4 held.settings) is) c.in_err-decode_2d_line.ensures.line)
 
 pub returns-clause-stored : goal.returns-clause-stored

@@ -2,41 +2,39 @@ use Rattle.std.proofs.Common.{◌≡◌, true, false, sym, ap, ◌∙◌, arith}
 use Rattle.hayro_ccitt.specs.Bits.{BitsAt, here}
 use Rattle.hayro_ccitt.specs.EndOfLine.{past_tag}
 use Rattle.hayro_ccitt.specs.Ticks.{looked_at_tag}
-use Rattle.hayro_ccitt.proofs.BitReading.ClonedReaders.{same_clone}
-use Rattle.hayro_ccitt.proofs.BitReading.ZeroRuns.{here_next}
 use Rattle.hayro_ccitt.proofs.BitReading.TaggedEols.{past_tag-eol, past_tag-none}
 use Rattle.hayro_ccitt.proofs.bit_reader.BitReader.pass_tag.Goals as goal
 
 pub returns-in-Ok-eq0-clause-rest : goal.returns-in-Ok-eq0-clause-rest
 returns-in-Ok-eq0-clause-rest c =
-    let next = ap (λ (at : BitsAt). here at) (sym (same_clone c.args.self.now c.unwrap-behind.result (rw c.unwrap-behind.ensures at c.clone.ensures.cases))) ∙ here_next c.unwrap-behind.result c.read_bit.new.self false (rw c.in-Ok-eq0.field-0-test at c.in-Ok-eq0.ensures.bit.1) c.in-Ok-eq0.ensures.next in
+    let next = rw (c.copy-behind.ensures.value, c.in-Ok-eq0.field-0-test) at c.in-Ok-eq0.ensures.front in
     next ∙ sym (ap past_tag next)
 
 pub returns-in-Ok-eq0-clause-ticks : goal.returns-in-Ok-eq0-clause-ticks
 returns-in-Ok-eq0-clause-ticks c =
-    let next = ap (λ (at : BitsAt). here at) (sym (same_clone c.args.self.now c.unwrap-behind.result (rw c.unwrap-behind.ensures at c.clone.ensures.cases))) ∙ here_next c.unwrap-behind.result c.read_bit.new.self false (rw c.in-Ok-eq0.field-0-test at c.in-Ok-eq0.ensures.bit.1) c.in-Ok-eq0.ensures.next in
+    let next = rw (c.copy-behind.ensures.value, c.in-Ok-eq0.field-0-test) at c.in-Ok-eq0.ensures.front in
     omega (arith, c.tick.ensures, ap looked_at_tag next)
 
 pub returns-then-is_at_eol-clause-rest : goal.returns-then-is_at_eol-clause-rest
 returns-then-is_at_eol-clause-rest c =
     let one : c.in-Ok.field-0 ≡ 1 = omega (arith, c.in-Ok.ensures.bit.0, c.in-Ok.field-0-test.1) in
-    let next = ap (λ (at : BitsAt). here at) (sym (same_clone c.args.self.now c.unwrap-behind.result (rw c.unwrap-behind.ensures at c.clone.ensures.cases))) ∙ here_next c.unwrap-behind.result c.read_bit.new.self true (rw one at c.in-Ok.ensures.bit.1) c.in-Ok.ensures.next in
+    let next = rw (c.copy-behind.ensures.value, one) at c.in-Ok.ensures.front in
     sym (ap past_tag next ∙ past_tag-eol (here c.read_bit.new.self) (sym c.is_at_eol.ensures.eol ∙ c.if-is_at_eol.true))
 
 pub returns-then-is_at_eol-clause-ticks : goal.returns-then-is_at_eol-clause-ticks
 returns-then-is_at_eol-clause-ticks c =
     let one : c.in-Ok.field-0 ≡ 1 = omega (arith, c.in-Ok.ensures.bit.0, c.in-Ok.field-0-test.1) in
-    let next = ap (λ (at : BitsAt). here at) (sym (same_clone c.args.self.now c.unwrap-behind.result (rw c.unwrap-behind.ensures at c.clone.ensures.cases))) ∙ here_next c.unwrap-behind.result c.read_bit.new.self true (rw one at c.in-Ok.ensures.bit.1) c.in-Ok.ensures.next in
+    let next = rw (c.copy-behind.ensures.value, one) at c.in-Ok.ensures.front in
     omega (arith, c.tick-in-Ok.ensures, c.is_at_eol.ensures.ticks, ap looked_at_tag next)
 
 pub returns-else-is_at_eol-clause-rest : goal.returns-else-is_at_eol-clause-rest
 returns-else-is_at_eol-clause-rest c =
     let one : c.in-Ok.field-0 ≡ 1 = omega (arith, c.in-Ok.ensures.bit.0, c.in-Ok.field-0-test.1) in
-    let next = ap (λ (at : BitsAt). here at) (sym (same_clone c.args.self.now c.unwrap-behind.result (rw c.unwrap-behind.ensures at c.clone.ensures.cases))) ∙ here_next c.unwrap-behind.result c.read_bit.new.self true (rw one at c.in-Ok.ensures.bit.1) c.in-Ok.ensures.next in
+    let next = rw (c.copy-behind.ensures.value, one) at c.in-Ok.ensures.front in
     next ∙ sym (ap past_tag next ∙ past_tag-none (here c.read_bit.new.self) (sym c.is_at_eol.ensures.eol ∙ c.if-is_at_eol.false))
 
 pub returns-else-is_at_eol-clause-ticks : goal.returns-else-is_at_eol-clause-ticks
 returns-else-is_at_eol-clause-ticks c =
     let one : c.in-Ok.field-0 ≡ 1 = omega (arith, c.in-Ok.ensures.bit.0, c.in-Ok.field-0-test.1) in
-    let next = ap (λ (at : BitsAt). here at) (sym (same_clone c.args.self.now c.unwrap-behind.result (rw c.unwrap-behind.ensures at c.clone.ensures.cases))) ∙ here_next c.unwrap-behind.result c.read_bit.new.self true (rw one at c.in-Ok.ensures.bit.1) c.in-Ok.ensures.next in
+    let next = rw (c.copy-behind.ensures.value, one) at c.in-Ok.ensures.front in
     omega (arith, c.tick-in-Ok.ensures, c.is_at_eol.ensures.ticks, ap looked_at_tag next)

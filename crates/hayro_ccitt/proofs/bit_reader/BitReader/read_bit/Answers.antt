@@ -1,4 +1,4 @@
-use Rattle.std.proofs.Common.{◌≡◌, ℕ, ◌+◌, ◌<◌, ◌^◌, Some, get_or, length, min, false, refl, inl, inr, sym, ap, ◌∙◌, arith}
+use Rattle.std.proofs.Common.{rules, ◌≡◌, ℕ, ◌+◌, ◌<◌, ◌^◌, Some, get_or, length, min, false, refl, inl, inr, sym, ap, ◌∙◌, arith}
 use Rattle.std.proofs.lemmas.Bool.{cases_lt, false≢true}
 use Rattle.std.proofs.lemmas.Option.{slice_get-get_or}
 use Rattle.std.proofs.lemmas.Result.{err_from_is_err_and}
@@ -6,6 +6,7 @@ use Rattle.hayro_ccitt.specs.Bits.{bits_in}
 use Rattle.hayro_ccitt.proofs.BitReading.BitLists.{length-bits_in}
 use Rattle.hayro_ccitt.proofs.BitReading.BitPlaces.{bits_at}
 use Rattle.hayro_ccitt.proofs.BitReading.WindowWords.{top_bit}
+use Rattle.hayro_ccitt.proofs.BitReading.ZeroRuns.{here_next}
 use Rattle.hayro_ccitt.proofs.bit_reader.BitReader.read_bit.Goals as goal
 
 pub returns-in_err-consume-clause-unchanged : goal.returns-in_err-consume-clause-unchanged
@@ -28,3 +29,6 @@ returns-clause-bit c =
     let there : place < length bits = elim (cases_lt place (length bits)) [ inl lt ↦ lt | inr ge ↦ absurd (false≢true (ok.1 (omega arith))) ] in
     let bit = c.self.invariant.held 0 (omega (arith, c.self.invariant.within)) ∙ ap (λ (i : ℕ). get_or bits i false) first in
     (top.0, rw (← c.self.view_is) (slice_get-get_or bits place false there ∙ ap Some (sym bit ∙ top.1)))
+
+pub returns-clause-front : goal.returns-clause-front
+returns-clause-front c = here_next c.args.self.now c.consume.new.self _ (returns-clause-bit c).1 (search rules)

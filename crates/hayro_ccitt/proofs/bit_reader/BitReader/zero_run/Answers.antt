@@ -4,7 +4,6 @@ use Rattle.hayro_ccitt.specs.Bits.{Bits, BitsAt, here}
 use Rattle.hayro_ccitt.specs.CodeReading.{leading_zeros}
 use Rattle.hayro_ccitt.specs.EndOfLine.{after_eol}
 use Rattle.hayro_ccitt.specs.Ticks.{looked}
-use Rattle.hayro_ccitt.proofs.BitReading.ClonedReaders.{same_clone}
 use Rattle.hayro_ccitt.proofs.BitReading.SoughtEols.{zeros_end, looked-zeros}
 use Rattle.hayro_ccitt.proofs.BitReading.ZeroRuns.{after_eol_run, looked_run, leading_zeros-one, leading_zeros-replicate}
 use Rattle.hayro_ccitt.proofs.BitReading.ZerosPassed.{run_passed, one_passed}
@@ -13,9 +12,9 @@ use Rattle.hayro_ccitt.proofs.bit_reader.BitReader.zero_run.Goals as goal
 -- zeros alone
 only_zeros : (c : goal.Then-not-is_one) → here c.args.self.now ≡ replicate (c.bit_pos.result - c.bit_pos-2.result) false
 only_zeros c =
-    let same = same_clone c.args.self.now c.unwrap-reader.result (rw c.unwrap-reader.ensures at c.clone.ensures.cases) in
+    let same = c.copy-reader.ensures.value in
     let zeros = c.bit_pos.result - c.bit_pos-2.result in
-    run_passed c.args.self.now c.unwrap-reader.result c.pass_zeros-is_one.new.self _ _ same c.if-not-is_one.ensures.zeros c.bit_pos.ensures.place c.bit_pos-2.ensures.place
+    run_passed c.args.self.now c.copy-reader.result c.pass_zeros-is_one.new.self _ _ same c.if-not-is_one.ensures.zeros c.bit_pos.ensures.place c.bit_pos-2.ensures.place
     ∙ ap (λ (x : Bits). replicate zeros false ++ x) (c.if-not-is_one.ensures.end refl) ∙ append-nil (replicate zeros false)
 
 pub returns-then-not-is_one-clause-zeros : goal.returns-then-not-is_one-clause-zeros
@@ -32,9 +31,9 @@ returns-then-not-is_one-clause-ticks c =
 -- zeros and a one
 zeros_and_one : (c : goal.After-consume) → here c.args.self.now ≡ replicate (c.bit_pos.result - c.bit_pos-2.result) false ++ true ∷ here c.consume.new.self
 zeros_and_one c =
-    let same = same_clone c.args.self.now c.unwrap-reader.result (rw c.unwrap-reader.ensures at c.clone.ensures.cases) in
+    let same = c.copy-reader.ensures.value in
     let zeros = c.bit_pos.result - c.bit_pos-2.result in
-    run_passed c.args.self.now c.unwrap-reader.result c.pass_zeros-is_one.new.self _ _ same c.if-not-is_one.ensures.zeros c.bit_pos.ensures.place c.bit_pos-2.ensures.place
+    run_passed c.args.self.now c.copy-reader.result c.pass_zeros-is_one.new.self _ _ same c.if-not-is_one.ensures.zeros c.bit_pos.ensures.place c.bit_pos-2.ensures.place
     ∙ ap (λ (x : Bits). replicate zeros false ++ x) (one_passed c.pass_zeros-is_one.new.self c.consume.new.self (c.if-not-is_one.ensures.one refl) c.consume.ensures.moved)
 
 pub returns-clause-zeros : goal.returns-clause-zeros
@@ -42,7 +41,7 @@ returns-clause-zeros c = sym (ap leading_zeros (zeros_and_one c) ∙ leading_zer
 
 pub returns-clause-one : goal.returns-clause-one
 returns-clause-one c =
-    let same = same_clone c.args.self.now c.unwrap-reader.result (rw c.unwrap-reader.ensures at c.clone.ensures.cases) in
+    let same = c.copy-reader.ensures.value in
     (ap (λ (at : BitsAt). at.bits) c.consume.ensures.moved ∙ c.if-not-is_one.ensures.same_bits ∙ ap (λ (at : BitsAt). at.bits) same, zeros_and_one c)
 
 pub returns-clause-eol : goal.returns-clause-eol

@@ -5,3 +5,8 @@ pub returns-clause-taken : goal.returns-clause-taken
 returns-clause-taken g c =
     let drawn = changes-continued _ c.self.inside.pixels_decoded _ c.self.invariant.within c.self.invariant.front in
     rw (← c.self.view_is, drawn, ← c.as_slice.ensures.value) c.push_row.ensures.taken
+
+pub returns-clause-refused_row : goal.returns-clause-refused_row
+returns-clause-refused_row g c =
+    let drawn = changes-continued _ c.self.inside.pixels_decoded _ c.self.invariant.within c.self.invariant.front in
+    rw (← c.self.view_is, drawn, ← c.as_slice.ensures.value) c.push_row.ensures.refused_row
