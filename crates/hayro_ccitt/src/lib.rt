@@ -10,7 +10,7 @@
 #![tactic(auto)]
 
 ghost use Rattle.std.specs.Prelude.{◌≡◌, ◌*◌, ◌<◌, ◌≤◌, ◌↔◌, ℕ, List, Bool, true, false, OnOk, OnErr, IfOk, IsOkUnless, IsTrue, length};
-ghost use Rattle.hayro_ccitt.specs.Bits.{AreWholeBytes, BitsFit, bits_of, low_first_bits_of, here};
+ghost use Rattle.hayro_ccitt.specs.Bits.{AreWholeBytes, BitsFit, bits_in, bits_of, low_first_bits_of, here};
 ghost use Rattle.hayro_ccitt.specs.Context.{fresh};
 ghost use Rattle.hayro_ccitt.specs.Contract.{Decodes};
 ghost use Rattle.hayro_ccitt.specs.Decoding.{DecodesRows, leaving};
@@ -30,7 +30,7 @@ mod settings;
 pub mod tables;
 mod usual;
 
-use bit_reader::BitReader;
+use bit_reader::{BitOrder, BitReader};
 pub use context::DecoderContext;
 pub use error::{DecodeError, Result};
 pub use locality::body_is_local;
@@ -215,4 +215,30 @@ pub fn decode_low_first<D: Decoder>(
         ctx.new.held ctx.new.ticks result }
 {
     decode_bits(&mut BitReader::new_low_first(data), decoder, ctx)
+}
+
+/// Decodes an image whose bytes hold their bits in this order: as [`decode`] does for [`BitOrder::HighestFirst`], and as
+/// [`decode_low_first`] for [`BitOrder::LowestFirst`].
+pub fn decode_in<D: Decoder>(
+    order: BitOrder,
+    data: &[u8],
+    decoder: &mut D,
+    ctx: &mut DecoderContext,
+) -> Result<usize>
+    requires fit { BitsFit «data».now }
+    requires width { ctx.old.held.settings.columns ≤ D.width decoder.old }
+    ensures width { D.width decoder.new ≡ D.width decoder.old }
+    ensures settings { ctx.new.held.settings ≡ ctx.old.held.settings }
+    ensures within { IfOk result (λ n. n ≤ length «data».now) }
+
+    // All that it leaves, field by field in `specs/Contract.antt`: over the bits in this order.
+    ensures decodes { Decodes ctx.old.held.settings (bits_in order «data».now) (D.step (D.width decoder.old))
+        (record { meaning = D.meaning decoder.old; refused = D.has_refused decoder.old; refuses = D.refuses decoder.old })
+        (record { meaning = D.meaning decoder.new; refused = D.has_refused decoder.new; refuses = D.refuses decoder.new })
+        ctx.new.held ctx.new.ticks result }
+{
+    match order {
+        BitOrder::HighestFirst => decode(data, decoder, ctx),
+        BitOrder::LowestFirst => decode_low_first(data, decoder, ctx),
+    }
 }
