@@ -1,5 +1,6 @@
 pub mod Gathered
 pub mod Limits
+pub mod OneReading
 pub mod PlainAnswers
 pub mod Repeated
 pub mod RowWidths

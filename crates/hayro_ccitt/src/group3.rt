@@ -14,6 +14,7 @@ ghost use Rattle.hayro_ccitt.specs.Work.{found_at_group3};
 
 use crate::bit_reader::BitReader;
 use crate::context::{DecoderContext, decode_1d_line, decode_2d_line};
+use crate::group4::read_eols_before_line;
 use crate::rows::{limit_met, take_row};
 use crate::{DecodeError, Decoder, EncodingMode, Result};
 
@@ -68,7 +69,8 @@ fn read_eols(ctx: &mut DecoderContext, reader: &mut BitReader<'_>) -> usize
 {
     match ctx.settings().encoding {
         EncodingMode::Group3_2D => reader.read_tagged_eols(ctx.ticks()),
-        EncodingMode::Group3_1D | EncodingMode::Group4 => reader.read_eol_if_available(ctx.ticks()),
+        EncodingMode::Group3_1D => reader.read_eol_if_available(ctx.ticks()),
+        EncodingMode::Group4 => read_eols_before_line(ctx, reader),
     }
 }
 
@@ -77,7 +79,11 @@ fn read_eols(ctx: &mut DecoderContext, reader: &mut BitReader<'_>) -> usize
 fn is_over(ctx: &DecoderContext, reader: &BitReader<'_>, count: usize) -> bool
     ensures over { result ≡ is_over_group3 ctx.now.held.settings ctx.now.held.taken (count, here reader.now) }
 {
-    let at_rtc = ctx.settings().end_of_block && count >= 6;
+    let eols_of_end = match ctx.settings().encoding {
+        EncodingMode::Group4 => 2, // EOFB
+        EncodingMode::Group3_1D | EncodingMode::Group3_2D => 6, // RTC
+    };
+    let at_rtc = ctx.settings().end_of_block && count >= eols_of_end;
     let at_limit = limit_met(ctx);
     let at_end = reader.at_end();
     at_rtc || at_limit || at_end

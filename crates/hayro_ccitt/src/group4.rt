@@ -16,11 +16,14 @@ use crate::{Decoder, EncodingMode, Result};
 
 /// Reads the EOLs before a line, at most the two of EOFB with `end_of_block`, and answers how many there were.
 #[inline(always)]
-fn read_eols_before_line(ctx: &mut DecoderContext, reader: &mut BitReader<'_>) -> usize
+pub(crate) fn read_eols_before_line(ctx: &mut DecoderContext, reader: &mut BitReader<'_>) -> usize
     ensures eols { eols_group4 ctx.old.held.settings (here reader.old) ≡ (result, here reader.new) }
     ensures same_bits { reader.new.bits ≡ reader.old.bits }
     ensures held { ctx.new.held ≡ ctx.old.held }
     ensures counts { ctx.old.ticks ≤ ctx.new.ticks }
+    ensures at_least { ctx.old.ticks + length (here reader.old) ≤ ctx.new.ticks + length (here reader.new) }
+    ensures work_none { result ≡ 0 → ctx.new.ticks + length (here reader.new)
+        ≡ ctx.old.ticks + length (here reader.old) + looked (here reader.new) }
     ensures work { ctx.new.ticks + length (here reader.new)
         ≤ ctx.old.ticks + length (here reader.old) + looked (here reader.new) }
     ensures forward { length (here reader.new) ≤ length (here reader.old) }
