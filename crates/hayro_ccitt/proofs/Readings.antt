@@ -6,7 +6,6 @@ pub mod Repeated
 pub mod RowWidths
 pub mod RowsAndGaps
 pub mod RowsOfGroup3
-pub mod RowsOfGroup4
 pub mod RunsOverRows
 pub mod Strictness
 pub mod TurnsAddRows

@@ -1,20 +1,23 @@
 -- One kind of turn, a gap and then a row, reads what the plain reading reads.
-use Rattle.std.proofs.Common.{◌≡◌, ℕ, zero, suc, ◌+◌, ◌<◌, ◌≤◌, Bool, true, false, cond, not, ◌&&◌, ◌||◌, eqb, leb, ltb, List, [], ◌∷◌, ◌++◌, length, append-nil, Option, Some, None, Result, Ok, Err, refl, sym, ap, ◌∙◌, subst, arith, ◌⊎◌, inl, inr}
+use Rattle.std.proofs.Common.{◌≡◌, ℕ, zero, suc, ◌+◌, ◌<◌, ◌≤◌, Bool, true, false, cond, not, ◌&&◌, ◌||◌, eqb, leb, List, [], ◌∷◌, ◌++◌, length, take, Option, Some, None, Result, Ok, Err, refl, sym, ap, ◌∙◌, subst, arith}
+use Rattle.std.specs.Prelude.{sum_by}
 use Rattle.std.proofs.lemmas.List.{length-append}
-use Rattle.std.proofs.lemmas.Bool.{eqb-false, ne_eqb, false≢true}
+use Rattle.std.proofs.lemmas.Bool.{eqb-false, ne_eqb, false≢true, or_parts}
 use Rattle.hayro_ccitt.specs.declared.error.DecodeError.{DecodeError}
 use Rattle.hayro_ccitt.specs.declared.error.DecodeError.TheVariants.{UnexpectedEof}
 use Rattle.hayro_ccitt.specs.declared.settings.DecodeSettings.{DecodeSettings}
 use Rattle.hayro_ccitt.specs.declared.settings.EncodingMode.{EncodingMode}
 use Rattle.hayro_ccitt.specs.declared.settings.EncodingMode.TheVariants.{Group4, Group3_1D, Group3_2D}
 use Rattle.hayro_ccitt.specs.Bits.{Bits}
+use Rattle.hayro_ccitt.specs.Context.{Held}
+use Rattle.hayro_ccitt.specs.Decoding.{SinkState, TakesRows, StopsShort}
 use Rattle.hayro_ccitt.specs.EndOfLine.{eols, all_eols, one_more, after_eol}
 use Rattle.hayro_ccitt.specs.Lines.{Line}
-use Rattle.hayro_ccitt.specs.PlainReading.{Progress, Ending, Move, Gap, gap_group3, gap_group4, is_over_group4, behind_eols_group4, eols_group4, limit_met, at_end, row_group3, row_group4, line_group4, at_gap_group4, add_row_group4, after_line_group4, with_row, ends_with, move_group3, move_group4, add_row_group3, move_behind_row, at_gap_group3, start_group3, start_group4, ending_from, plain_group3, plain_group4, end_of, whole_reading, nothing_read, plain, lines_of, lines_of_move_group3, lines_of_move_group4, lines_at_gap_group4, lines_by, gathered_from}
+use Rattle.hayro_ccitt.specs.PlainReading.{Progress, Ending, Move, Gap, gap_group3, gap_group4, is_over_group4, behind_eols_group4, eols_group4, limit_met, at_end, row_group3, row_group4, line_group4, at_gap_group4, add_row_group4, with_row, move_group3, move_group4, add_row_group3, start_group3, start_group4, ending_from, plain_group3, plain_group4, end_of, whole_reading, nothing_read, lines_of_move_group3, lines_at_gap_group4, lines_by, gathered_from}
 use Rattle.hayro_ccitt.specs.Repetition.{Turn, repeated, gathered}
 use Rattle.hayro_ccitt.specs.Rows.{Row}
-use Rattle.hayro_ccitt.specs.Work.{words_of, words_by, words_at_gap_group4, words_of_move_group3, words_of_move_group4}
-use Rattle.hayro_ccitt.specs.OneReading.{goes_on, both, is_group3, eols_here, is_over, behind_eols, gap_behind_row, gap_at_front, gap_of, missing_eol, move_to_line, add_row, gap_turn, row_turn, line_of, words_at, move, start, one_end, at_line, one_reading, one_lines, one_words, OneReadingIsPlain, OneLinesArePlain, OneWordsArePlain}
+use Rattle.hayro_ccitt.specs.Work.{words_by, words_at_gap_group4, words_of_move_group3}
+use Rattle.hayro_ccitt.specs.OneReading.{goes_on, both, is_group3, eols_here, behind_eols, gap_behind_row, gap_at_front, gap_of, missing_eol, move_to_line, add_row, gap_turn, row_turn, line_of, words_at, move, start, one_end, at_line, OneReadingIsPlain, OneLinesArePlain, OneWordsArePlain}
 use Rattle.hayro_ccitt.proofs.Readings.Repeated.{Shrinks, after_turn, repeated_same}
 use Rattle.hayro_ccitt.proofs.Readings.Gathered.{gathered_after, gathered_same}
 use Rattle.hayro_ccitt.proofs.Readings.TurnsMoveOn.{eols_shorter, left, move_group4_shrinks, left_group3, move_group3_shrinks, left_group3_below}
@@ -304,6 +307,102 @@ module _ (settings : DecodeSettings) where
       gathered_alike (move by) (move_group4 by) (λ s. s.has_eols ≡ false) (λ so_far. at_line gives (gap_turn by so_far)) old group4_is
       (gives_at gives lines over line) keeps (suc (suc (suc (length bits)))) (start bits) refl
       ∙ gathered_same (move_group4 by) old left (move_group4_shrinks by wide) (suc (suc (suc (length bits)))) (suc (suc (length bits))) (start bits) (omega arith) (omega arith)
+
+-- ---- A run over rows that begins at a line, in Group 4
+
+-- what a run over rows leaves, in these settings and from this line on
+abbrev pub LeavesFrom : {M : Type 0} → (M → List ℕ → M) → SinkState M → SinkState M → Held → Result Bits DecodeError → ℕ → ℕ → DecodeSettings → Progress → Type 0
+LeavesFrom step before after held answer begun ticks settings first =
+    TakesRows (ending_from (move_group3 settings) first).rows (ending_from (move_group3 settings) first).outcome (ending_from (move_group3 settings) first).has_eols step before after held answer
+    × StopsShort (ending_from (move_group3 settings) first).rows (gathered_from (move_group3 settings) (lines_of_move_group3 settings) first) before after held answer
+    × (begun + sum_by length (take held.taken (gathered_from (move_group3 settings) (words_of_move_group3 settings) first)) ≤ ticks)
+
+module _ (settings : DecodeSettings) (wide : 0 < settings.columns) (bits rest : Bits) (within : length rest ≤ length bits) where
+  abbrev of4 : DecodeSettings
+  of4 = record settings { encoding = Group4 }
+
+  abbrev first4 : Progress
+  first4 = record { rows = []; has_eols = false; rest = rest }
+
+  -- a turn from a line on is a row, and then a gap
+  rows_is : (s : Progress) → move_group3 of4 s ≡ both (row_turn of4) (gap_turn of4) s
+  rows_is s = at (row_group3 of4 s.has_eols s.rest (line_of of4 s))
+    where
+      at : (row : Result (Row × Bits) DecodeError) → add_row_group3 of4 s row ≡ goes_on (gap_turn of4) (add_row s row)
+      at (Ok (row, rest)) = refl
+      at (Err fault) = refl
+
+  module _ (gap : gap_group4 of4 0 false bits ≡ Gap.line_at false rest) where
+    begins : gap_turn of4 (start bits) ≡ Turn.next first4
+    begins = ap (move_to_line (start bits)) (gap_same_group4 settings 0 bits ∙ gap)
+
+    pub ends_from_line : plain_group4 of4 bits ≡ ending_from (move_group3 of4) first4
+    ends_from_line =
+        let late : Ending = record { rows = []; has_eols = false; outcome = Err UnexpectedEof } in
+        sym (ends_group4 settings wide bits)
+        ∙ repeated_shifted (row_turn of4) (gap_turn of4) (move_group3 of4) rows_is left_group3 (move_group3_shrinks of4 wide) late _ (suc (suc (length bits))) (start bits) first4 (omega (arith, within)) begins
+        ∙ repeated_same (move_group3 of4) late left_group3 (move_group3_shrinks of4 wide) (suc (suc (length bits))) (suc (suc (length rest))) first4 (omega (arith, within)) (omega arith)
+
+    pub gives_from_line : {A : Type 0} (gives : Progress → A) (lines : Progress → Gap → List A)
+        → ((s : Progress) (outcome : Result Bits DecodeError) → lines s (Gap.over outcome) ≡ [])
+        → ((s : Progress) (here : Bits) → lines (without settings s) (Gap.line_at false here) ≡ gives (record (without settings s) { rest = here }) ∷ [])
+        → gathered_from (move_group4 of4) (λ s. lines s (gap_group4 of4 (length s.rows) s.has_eols s.rest)) (start_group4 bits)
+        ≡ gathered_from (move_group3 of4) (λ s. gives s ∷ []) first4
+    gives_from_line {A} gives lines over line =
+        sym (gives_group4 settings gives lines over line wide bits)
+        ∙ gathered_shifted (row_turn of4) (gap_turn of4) (move_group3 of4) rows_is left_group3 (move_group3_shrinks of4 wide)
+        (λ s. gives s ∷ []) (λ s. at_line gives (gap_turn of4 s)) (λ t s e. ap (at_line gives) e) (λ t r e. ap (at_line gives) e)
+        (suc (suc (length bits))) (start bits) first4 (omega (arith, within)) begins
+        ∙ gathered_same (move_group3 of4) (λ s. gives s ∷ []) left_group3 (move_group3_shrinks of4 wide) (suc (suc (length bits))) (suc (suc (length rest))) first4 (omega (arith, within)) (omega arith)
+
+    pub lines_from_line : lines_by Group4 of4 bits ≡ gathered_from (move_group3 of4) (lines_of_move_group3 of4) first4
+    lines_from_line = gives_from_line (line_of of4) (lines_at_gap_group4 of4) (λ s outcome. refl) (λ s here. refl)
+
+    pub words_from_line : words_by Group4 of4 bits ≡ gathered_from (move_group3 of4) (words_of_move_group3 of4) first4
+    words_from_line = gives_from_line (words_at of4) (words_at_gap_group4 of4) (λ s outcome. refl) (λ s here. refl)
+
+-- what Group 4 reads behind its first gap, as a run from a line on
+pub group4_from_line : (settings : DecodeSettings) → settings.encoding ≡ Group4 → 0 < settings.columns → (bits rest : Bits) → length rest ≤ length bits
+    → gap_group4 settings 0 false bits ≡ Gap.line_at false rest
+    → (plain_group4 settings bits ≡ ending_from (move_group3 settings) (record { rows = []; has_eols = false; rest = rest }))
+    × (lines_by Group4 settings bits ≡ gathered_from (move_group3 settings) (lines_of_move_group3 settings) (record { rows = []; has_eols = false; rest = rest }))
+    × (words_by Group4 settings bits ≡ gathered_from (move_group3 settings) (words_of_move_group3 settings) (record { rows = []; has_eols = false; rest = rest }))
+group4_from_line settings is wide bits rest within gap = at settings.encoding is gap
+  where
+    at : (encoding : EncodingMode) → encoding ≡ Group4 → gap_group4 (record settings { encoding = encoding }) 0 false bits ≡ Gap.line_at false rest
+        → (plain_group4 (record settings { encoding = encoding }) bits ≡ ending_from (move_group3 (record settings { encoding = encoding })) (record { rows = []; has_eols = false; rest = rest }))
+        × (lines_by Group4 (record settings { encoding = encoding }) bits ≡ gathered_from (move_group3 (record settings { encoding = encoding })) (lines_of_move_group3 (record settings { encoding = encoding })) (record { rows = []; has_eols = false; rest = rest }))
+        × (words_by Group4 (record settings { encoding = encoding }) bits ≡ gathered_from (move_group3 (record settings { encoding = encoding })) (words_of_move_group3 (record settings { encoding = encoding })) (record { rows = []; has_eols = false; rest = rest }))
+    at Group4 e gap = (ends_from_line settings wide bits rest within gap, lines_from_line settings wide bits rest within gap, words_from_line settings wide bits rest within gap)
+    at Group3_1D e gap = absurd cc
+    at Group3_2D e gap = absurd cc
+
+-- where a line stands, bits are left
+pub line_has_bits : (settings : DecodeSettings) (taken : ℕ) (has_eols sought : Bool) (here rest : Bits)
+    → gap_group4 settings taken has_eols here ≡ Gap.line_at sought rest → 0 < length rest
+line_has_bits settings taken has_eols sought here rest gap = at (eols_group4 settings here) gap
+  where
+    bits_of : Gap → Bits
+    bits_of (Gap.line_at sought rest) = rest
+    bits_of (Gap.over outcome) = []
+
+    some : (next : Bits) → at_end next ≡ false → next ≡ rest → 0 < length rest
+    some [] open_end same = absurd (false≢true (sym open_end))
+    some (bit ∷ next) open_end same = omega (arith, ap length (sym same))
+
+    by : (count : ℕ) (next : Bits) (over : Bool) → is_over_group4 settings taken (count, next) ≡ over
+        → cond over (Gap.over (Ok next)) (Gap.line_at has_eols next) ≡ Gap.line_at sought rest → 0 < length rest
+    by count next true is e = absurd (let other : ◌≡◌ {A = Gap} (Gap.over (Ok next)) (Gap.line_at sought rest) = e in cc)
+    by count next false is e = some next (or_parts _ (at_end next) is).1 (ap bits_of e)
+
+    at : (found : ℕ × Bits) → behind_eols_group4 settings taken has_eols found ≡ Gap.line_at sought rest → 0 < length rest
+    at (count, next) e = by count next (is_over_group4 settings taken (count, next)) refl e
+
+-- where its first gap is the end, nothing is read
+pub group4_over : (settings : DecodeSettings) (bits : Bits) (outcome : Result Bits DecodeError) → gap_group4 settings 0 false bits ≡ Gap.over outcome
+    → plain_group4 settings bits ≡ record { rows = []; has_eols = false; outcome = outcome }
+group4_over settings bits outcome gap =
+    ap (λ (gap : Gap). after_turn (repeated (move_group4 settings) (record { rows = []; has_eols = false; outcome = Err UnexpectedEof }) (suc (length bits))) (at_gap_group4 settings (start_group4 bits) gap)) gap
 
 -- ---- Whole data
 

@@ -1,4 +1,4 @@
-use Rattle.std.proofs.Common.{ℕ, cond, eqb, ap, length, arith}
+use Rattle.std.proofs.Common.{ℕ, cond, eqb, ap, arith}
 use Rattle.hayro_ccitt.specs.Bits.{here}
 use Rattle.hayro_ccitt.specs.Ticks.{looked}
 use Rattle.hayro_ccitt.proofs.BitReading.EolCounts.{eols_leave, all_eols_leave}
