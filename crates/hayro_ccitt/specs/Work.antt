@@ -1,5 +1,5 @@
 -- What decoding counts: the words that its lines find, and how much at most.
-use Rattle.std.specs.Prelude.{ℕ, ◌+◌, ◌*◌, ◌≤◌, List, [], ◌∷◌, length, take, sum_by, ◌==◌, if◌then◌else◌}
+use Rattle.std.specs.Prelude.{ℕ, Bool, ◌+◌, ◌*◌, ◌≤◌, List, [], ◌∷◌, length, take, sum_by, ◌==◌, if◌then◌else◌}
 use Rattle.hayro_ccitt.specs.declared.settings.DecodeSettings.{DecodeSettings}
 use Rattle.hayro_ccitt.specs.declared.settings.EncodingMode.{EncodingMode}
 use Rattle.hayro_ccitt.specs.declared.settings.EncodingMode.TheVariants.{Group4, Group3_1D, Group3_2D}
@@ -45,6 +45,14 @@ words_of settings bits = if settings.columns == 0 then [] else words_by settings
 pub record CountsRun (words : List (List Bits)) (taken before after most : ℕ) : Type 0 where
   pub at_least : before + sum_by length (take taken words) ≤ after
   pub at_most : after ≤ before + most
+
+-- the most that giving up EOLs costs, in so many bits, where they are sought at all
+abbrev pub most_given_up : Bool → ℕ → ℕ
+most_given_up has_eols bits = if has_eols then 8 * bits + 8 else 0
+
+-- the most that a run over so many bits counts that begins at a line
+abbrev pub most_from_line : Bool → ℕ → ℕ
+most_from_line has_eols bits = 16 * bits + 6 + most_given_up has_eols bits
 
 -- the most that a run over so many bits counts
 abbrev pub most_counted : EncodingMode → ℕ → ℕ

@@ -5,7 +5,7 @@ use Rattle.hayro_ccitt.specs.EndOfLine.{next_eol}
 use Rattle.hayro_ccitt.specs.Ticks.{looked, looked_ahead}
 use Rattle.hayro_ccitt.proofs.Readings.TurnsMoveOn.{next_eol_found}
 use Rattle.hayro_ccitt.proofs.Work.EolsPassed.{eols_group3_shorter, eols_group3_stay, looked_most, sought_looks}
-use Rattle.hayro_ccitt.proofs.group3.check_eob.Goals as goal
+use Rattle.hayro_ccitt.proofs.group3.gap_behind_row.Goals as goal
 
 pub returns-then-count-gt0-clause-work : goal.returns-then-count-gt0-clause-work
 returns-then-count-gt0-clause-work c = λ kept.
