@@ -1,10 +1,10 @@
 //! Group 4: every line is two-dimensional (T.6).
 
-ghost use Rattle.std.specs.Prelude.{◌≡◌, ◌<◌, ◌≤◌, ◌+◌, ◌*◌, ◌^◌, Ok, OnOk, false, length};
+ghost use Rattle.std.specs.Prelude.{◌≡◌, ◌<◌, ◌≤◌, ◌+◌, ◌*◌, ◌^◌, Ok, Err, OnOk, false, length};
 ghost use Rattle.hayro_ccitt.specs.Answers.{line_from_2d, words_from_2d};
 ghost use Rattle.hayro_ccitt.specs.Bits.{here};
 ghost use Rattle.hayro_ccitt.specs.Context.{fresh};
-ghost use Rattle.hayro_ccitt.specs.Decoding.{DecodesRows, TakesOneRow, leaving, gap_said};
+ghost use Rattle.hayro_ccitt.specs.Decoding.{DecodesRows, TakesOneRow, behind_line, leaving, gap_said};
 ghost use Rattle.hayro_ccitt.specs.PlainReading.{eols_group4, is_over_group4, gap_group4, row_group4};
 ghost use Rattle.hayro_ccitt.specs.Rows.{changes};
 ghost use Rattle.hayro_ccitt.specs.Ticks.{looked};
@@ -12,7 +12,7 @@ ghost use Rattle.hayro_ccitt.specs.Ticks.{looked};
 use crate::bit_reader::BitReader;
 use crate::context::{DecoderContext, decode_2d_line};
 use crate::rows::{limit_met, take_row};
-use crate::{Decoder, EncodingMode, Result};
+use crate::{DecodeError, Decoder, EncodingMode, Result};
 
 /// Reads the EOLs before a line, at most the two of EOFB with `end_of_block`, and answers how many there were.
 #[inline(always)]
@@ -78,6 +78,8 @@ fn read_row<D: Decoder>(
         (record { meaning = D.meaning decoder.old; refused = D.has_refused decoder.old; refuses = D.refuses decoder.old })
         (record { meaning = D.meaning decoder.new; refused = D.has_refused decoder.new; refuses = D.refuses decoder.new })
         ctx.old.held ctx.new.held result (here reader.new) }
+    ensures refused_place { result ≡ Err DecodeError.Refused
+        → here reader.new ≡ behind_line (line_from_2d ctx.old.held (here reader.old)) (here reader.old) }
     ensures same_bits { reader.new.bits ≡ reader.old.bits }
     ensures counts { ctx.old.ticks ≤ ctx.new.ticks }
     ensures at_least { OnOk result (ctx.old.ticks
