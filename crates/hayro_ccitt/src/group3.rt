@@ -5,7 +5,7 @@ ghost use Rattle.hayro_ccitt.specs.Answers.{DrawsLine, IsFault, IsRepairable, On
 ghost use Rattle.hayro_ccitt.specs.Bits.{here};
 ghost use Rattle.hayro_ccitt.specs.Context.{after_repair, fresh, redrawn};
 ghost use Rattle.hayro_ccitt.specs.EndOfLine.{all_eols};
-ghost use Rattle.hayro_ccitt.specs.Decoding.{DecodesFrom, DecodesRows, TakesOneRow, leaving, gap_said};
+ghost use Rattle.hayro_ccitt.specs.Decoding.{DecodesFrom, DecodesRows, TakesOneRow, behind_line, leaving, gap_said};
 ghost use Rattle.hayro_ccitt.specs.PlainReading.{eols_group3, is_over_group3, gap_group3, row_group3, line_by, line_at_group3};
 ghost use Rattle.hayro_ccitt.specs.Lines.{line_found};
 ghost use Rattle.hayro_ccitt.specs.Rows.{changes};
@@ -217,6 +217,8 @@ fn read_row<D: Decoder>(
         (record { meaning = D.meaning decoder.old; refused = D.has_refused decoder.old; refuses = D.refuses decoder.old })
         (record { meaning = D.meaning decoder.new; refused = D.has_refused decoder.new; refuses = D.refuses decoder.new })
         ctx.old.held ctx.new.held result (here reader.new) }
+    ensures refused_place { result ≡ Err DecodeError.Refused → here reader.new
+        ≡ behind_line (line_at_group3 ctx.old.held.settings ctx.old.held.reference (here reader.old)) (here reader.old) }
     ensures same_bits { reader.new.bits ≡ reader.old.bits }
     ensures counts { ctx.old.ticks ≤ ctx.new.ticks }
     ensures at_least { OnOk result (ctx.old.ticks
