@@ -89,6 +89,38 @@ def no_proof_has_a_hole():
     assert not found, found
 
 
+# Where a count of work is made, or made of another one: a context has one, which `decode` begins anew.
+COUNTS = {
+    "crates/hayro_ccitt/src/codes.rt": {"new", "after", "tick"},
+    "crates/hayro_ccitt/src/context.rt": {"new", "restart"},
+}
+MAKES_A_COUNT = re.compile(
+    r"\bTicks>?\s*::|\bTicks\s*\{\s*\}|\bTicks\s+as\b|\btype\b.*\bTicks\b"
+    r"|\bSelf\s*(?:::\s*new\b|\{\s*\})|\bDecoderContext\s*::\s*new\b"
+)
+
+
+def is_test(place):
+    return re.search(r"(^|[/_])tests(\.rt|/)", place) is not None
+
+
+def no_work_is_thrown_away():
+    """Contracts bound the count of the context alone. So inside the crate no other count may be made, into which work
+    would be counted and lost: only the functions named above make one. Tests may."""
+    found = []
+    function = {}
+    for place, line in lines_of_code(".rt", "//"):
+        name = place.rsplit(":", 1)[0]
+        if not name.startswith("crates/hayro_ccitt/src/") or is_test(name):
+            continue
+        begun = re.search(r"\bfn (\w+)", line)
+        if begun:
+            function[name] = begun[1]
+        if MAKES_A_COUNT.search(line) and function.get(name) not in COUNTS.get(name, ()):
+            found.append(f"{place}: {line.strip()}")
+    assert not found, "\n".join(found)
+
+
 def nothing_is_unsafe():
     """No code is unsafe. The names that C calls stand in an attribute of that word."""
     lines = ((place, line.replace("#[unsafe(no_mangle)]", "")) for place, line in lines_of_code(".rt", "//"))
@@ -115,6 +147,7 @@ CHECKS = [
     links_lead_somewhere,
     readme_names_the_kit,
     no_proof_has_a_hole,
+    no_work_is_thrown_away,
     nothing_is_unsafe,
     rust_is_unsafe_in_one_file_only,
 ]
