@@ -198,23 +198,28 @@ WIDE_FRONT, WIDE_CHANGES, WIDE_ROWS = 1000000000, 1024, 24000
 FILL, FILLED_ROWS = 33 * MEGABYTE, 4
 
 
-def long_text_and_data():
-    """Text of more than 256 MB, and data of more than 128 MB, by the program both ways."""
+def long_text():
+    """Text of more than 256 MB, by the program."""
     row = list(range(WIDE_FRONT, WIDE_FRONT + WIDE_CHANGES))
+    front = strips.HORIZONTAL + strips.run(0, WIDE_FRONT) + BLACK_1
+    pairs = (strips.HORIZONTAL + WHITE_1 + BLACK_1) * (WIDE_CHANGES // 2 - 1)
+    copies = V0 * ((WIDE_CHANGES + 1) * (WIDE_ROWS - 1))
+    data = strips.packed(front + pairs + V0 + copies + EOL * 2)
     with tempfile.TemporaryDirectory() as folder:
-        front = strips.HORIZONTAL + strips.run(0, WIDE_FRONT) + BLACK_1
-        pairs = (strips.HORIZONTAL + WHITE_1 + BLACK_1) * (WIDE_CHANGES // 2 - 1)
-        copies = V0 * ((WIDE_CHANGES + 1) * (WIDE_ROWS - 1))
-        data = strips.packed(front + pairs + V0 + copies + EOL * 2)
-        text = text_of([row])
-        size = writes(folder, f"g4 {0xFFFFFFFF} 0 b", data, [(text * 100, WIDE_ROWS // 100), ok(data)])
-        assert size[1] > 256 * MEGABYTE
-        line = strips.packed(strips.line_1d(8, [3, 5]))
-        long = (bytes(FILL) + b"\x01" + line) * FILLED_ROWS + bytes.fromhex("001001001001001001")
-        assert len(long) > 128 * MEGABYTE
-        writes(folder, "1d 8 0 b", long, [(text_of([[3, 5]] * FILLED_ROWS), 1), ok(long)])
-        writes(folder, "-o 1d 8 0 b", long, [(b"\x18" * FILLED_ROWS, 1)])
-    print(f"  {size[1]} bytes of text, {len(long)} bytes of data")
+        _, size = writes(folder, f"g4 {(1 << 32) - 1} 0 b", data, [(text_of([row]) * 100, WIDE_ROWS // 100), ok(data)])
+    assert size > 256 * MEGABYTE
+    print(f"  {size} bytes of text")
+
+
+def long_data():
+    """Data of more than 128 MB, by the program both ways."""
+    line = strips.packed(strips.line_1d(8, [3, 5]))
+    data = (bytes(FILL) + b"\x01" + line) * FILLED_ROWS + strips.packed(EOL * 6)
+    assert len(data) > 128 * MEGABYTE
+    with tempfile.TemporaryDirectory() as folder:
+        writes(folder, "1d 8 0 b", data, [(text_of([[3, 5]] * FILLED_ROWS), 1), ok(data)])
+        writes(folder, "-o 1d 8 0 b", data, [(b"\x18" * FILLED_ROWS, 1)])
+    print(f"  {len(data)} bytes of data")
 
 
 ENDS = [0, 1, 1 << 16, 1 << 31, (1 << 32) - 1]
@@ -277,7 +282,7 @@ def settings_at_the_ends():
     print(f"  {calls} calls, {runs} runs of the program")
 
 
-CHECKS = [a_dense_row, many_rows, long_text_and_data, settings_at_the_ends]
+CHECKS = [a_dense_row, many_rows, long_text, long_data, settings_at_the_ends]
 
 if __name__ == "__main__":
     import time

@@ -1,4 +1,4 @@
-"""The repository's own checks. The last line is 'N passed, M failed'."""
+"""The repository's own checks. The last line is 'N passed, M failed', and what was left out for want of a tool."""
 import os
 import subprocess
 import sys
@@ -19,6 +19,7 @@ import program  # noqa: E402
 import refusals  # noqa: E402
 import repository  # noqa: E402
 import users  # noqa: E402
+from left_out import LEFT_OUT  # noqa: E402
 
 
 def build():
@@ -49,7 +50,7 @@ def main():
             failed += 1
             print(f"{check.__name__}: FAILED")
             traceback.print_exc()
-    print(f"{passed} passed, {failed} failed")
+    print(f"{passed} passed, {failed} failed" + (f"; left out: {', '.join(LEFT_OUT)}" if LEFT_OUT else ""))
     sys.exit(1 if failed else 0)
 
 
