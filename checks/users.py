@@ -9,6 +9,7 @@ import tempfile
 
 import c_library
 import program
+from left_out import leave_out
 
 PAGE = "docs/USING.md"
 # Tools that a command may need and that needn't be here.
@@ -84,7 +85,7 @@ def damaged(data):
 def the_cargo_package():
     """Its cases, and its example against the C program: on each strip with its first settings, whole and damaged."""
     if not shutil.which("cargo"):
-        print("  left out, without cargo")
+        leave_out("the Cargo package", "cargo")
         return
     c_library.build()
     same = 0

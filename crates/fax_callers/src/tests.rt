@@ -13,7 +13,7 @@ use hayro_ccitt::DecodeError::{InvalidCode, OutOfMemory, Refused, UnexpectedEof}
 use hayro_ccitt::bit_reader::BitOrder::{HighestFirst, LowestFirst};
 use hayro_ccitt::{DecodeError, Decoder, DecoderContext, EncodingMode, Result, bits_fit};
 use named_requests::made_at_last;
-use std::alloc::AllocGlobal;
+use std::alloc::{AllocError, AllocGlobal, Global};
 use std::process::Abort;
 use std::test::Fail;
 
@@ -183,6 +183,61 @@ fn pages(rt: HostRuntime) -> std::result::Result<(), Fail> {
         &[0x31, 0xC0, 0x04, 0x00, 0x40, 0x31],
     );
     assert_eq!(&rt; cut.err(), Some(UnexpectedEof));
+    Ok(())
+}
+
+/// So many copies of a piece between a front and an end.
+fn repeated(
+    alloc: Global,
+    front: &[u8],
+    piece: &[u8],
+    times: usize,
+    end: &[u8],
+) -> std::result::Result<Vec<u8>, AllocError> {
+    let mut data = front.to_vec(alloc)?;
+    for _ in 0..times {
+        data.extend_from_slice(piece)?;
+    }
+    data.extend_from_slice(end)?;
+    Ok(data)
+}
+
+#[test]
+fn many_pages(rt: HostRuntime) -> std::result::Result<(), Fail> {
+    let data = repeated(rt.alloc(), &[], &ONE_ROW, 10000, &[])?;
+    assert!(&rt; bits_fit(&data));
+    let ends = page_ends(rt.alloc(), 8, &data)?;
+    assert_eq!(&rt; ends.len(), 10000);
+    let mut end = 0usize;
+    for found in ends.iter() {
+        end = end.wrapping_add(ONE_ROW.len());
+        assert_eq!(&rt; *found, end);
+    }
+    Ok(())
+}
+
+/// A row with the changes 3 and 5 and two copies of it take two bytes, eight more copies three, each three times V0.
+#[test]
+fn long_strips(rt: HostRuntime) -> std::result::Result<(), Fail> {
+    let alloc = rt.alloc();
+    let times = 1 << 19;
+    let eofb = [0x00, 0x10, 0x01];
+    let data = repeated(alloc, &[0x31, 0xFF], &[0xFF; 3], times, &eofb)?;
+    assert!(&rt; bits_fit(&data));
+    let expected = repeated(alloc, &[0x18; 3], &[0x18; 8], times, &[])?;
+    let bitmap = strip_to_bitmap(alloc, group4_pages(8), &data)?;
+    assert_eq!(&rt; bitmap.len(), expected.len());
+    assert!(&rt; bitmap.as_slice() == expected.as_slice());
+    assert_eq!(&rt;
+        count_black(alloc, group4_pages(8), &data),
+        Ok(2 * expected.len() as u64)
+    );
+    assert_eq!(&rt; page_end(alloc, 8, &data), Ok(data.len()));
+    let mut first = FirstRows::new(BitmapSink::new(alloc, 8), u64::MAX);
+    let mut ctx = DecoderContext::new(alloc, group4_pages(8))?;
+    assert_eq!(&rt; decode_first_rows(&data, &mut first, &mut ctx), Ok(false));
+    assert_eq!(&rt; first.rows, expected.len() as u64);
+    assert!(&rt; first.sink.bytes() == expected.as_slice());
     Ok(())
 }
 
