@@ -3,6 +3,8 @@ import os
 import re
 import subprocess
 
+import edits
+
 
 def tracked():
     """The files that git knows, or would know."""
@@ -140,6 +142,41 @@ def rust_is_unsafe_in_one_file_only():
     assert blocks == text.count("// SAFETY: ") == 3, blocks
 
 
+# Public functions with a contract that no edit of a body can break.
+NO_WRONG_BODY = {
+    "hayro_ccitt": {
+        # A count has no bytes, so its body writes nothing down: the number is in the proof by hand alone.
+        "codes::Ticks::new",
+        # The trait's declaration. Each impl has edits of its own.
+        "Decoder::push_row",
+    },
+    # It hands out the one value of a type parameter that it has.
+    "faxrows": {"device::Device::into_inner"},
+}
+
+
+def each_public_function_has_an_edit():
+    """Each function that another crate can name, and each sink's `push_row`, is broken by an edit, unless it states a law alone."""
+    lacking = []
+    for crate in sorted(os.listdir("crates")):
+        source = edits.Source(f"crates/{crate}")
+        touched = {item.name for edit in edits.edits_in(f"crates/{crate}", crate, source, "") for item in edit.touched}
+        for item in source.public():
+            if item.has_contract and item.has_body and item.name not in touched | NO_WRONG_BODY.get(crate, set()):
+                lacking.append(f"{crate}: {item.name}")
+    assert not lacking, f"no edit breaks {lacking}"
+
+
+def each_edit_says_what_it_breaks():
+    found = []
+    for crate in sorted(os.listdir("crates")):
+        source = edits.Source(f"crates/{crate}")
+        for edit in edits.edits_in(f"crates/{crate}", crate, source, ""):
+            if not edit.function or not edit.changed:
+                found.append(edit.label)
+    assert not found, f"no line 'breaks: FUNCTION: CLAUSE', or no item that they change: {found}"
+
+
 CHECKS = [
     handles_are_none,
     two_proofs_by_hand,
@@ -150,4 +187,6 @@ CHECKS = [
     no_work_is_thrown_away,
     nothing_is_unsafe,
     rust_is_unsafe_in_one_file_only,
+    each_public_function_has_an_edit,
+    each_edit_says_what_it_breaks,
 ]
