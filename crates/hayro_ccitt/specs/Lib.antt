@@ -17,6 +17,7 @@ pub mod Pictures
 pub mod PlainReading
 pub mod Repetition
 pub mod Rows
+pub mod RowsRead
 pub mod Runs
 pub mod Settings
 pub mod Texts

@@ -106,6 +106,13 @@ impl DecoderContext {
         self.has_eols
     }
 
+    /// The changes of the reference row: those of the last row that was taken, none before the first.
+    pub(crate) fn reference_row(&self) -> &[u32]
+        ensures { result.now ≡ changes self.now.held.reference }
+    {
+        self.ref_changes.as_slice()
+    }
+
     /// Sets whether EOLs are sought between the lines. All else stands.
     pub fn set_has_eols(&mut self, has_eols: bool)
         ensures frame { self.new ≡ record self.old { held = record self.old.held { has_eols = has_eols } } }

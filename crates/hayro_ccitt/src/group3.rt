@@ -223,7 +223,7 @@ fn decode_line(ctx: &mut DecoderContext, reader: &mut BitReader<'_>) -> Result<(
 
 /// Reads a line, repairs it where it is damaged and may be, and hands its row over. The errors are those of the line
 /// that isn't repaired, `OutOfMemory` while a change is stored, and `Refused` where the sink refuses.
-fn read_row<D: Decoder>(
+pub(crate) fn read_row<D: Decoder>(
     ctx: &mut DecoderContext,
     reader: &mut BitReader<'_>,
     decoder: &mut D,
@@ -260,7 +260,7 @@ fn read_row<D: Decoder>(
 
 /// Reads the EOLs at the front of the data, which have no tags. Any of them, or the settings, say that the data has
 /// EOLs.
-fn read_leading_eols(ctx: &mut DecoderContext, reader: &mut BitReader<'_>)
+pub(crate) fn read_leading_eols(ctx: &mut DecoderContext, reader: &mut BitReader<'_>)
     ensures rest { here reader.new ≡ (all_eols (here reader.old)).1 }
     ensures has_eols { ctx.new.held ≡ record ctx.old.held {
       has_eols = nat_lt 0 (all_eols (here reader.old)).0 || ctx.old.held.settings.end_of_line;

@@ -28,6 +28,7 @@ pub mod group3;
 pub mod group4;
 pub mod laws;
 mod locality;
+mod row_reader;
 mod rows;
 mod settings;
 pub mod tables;
@@ -37,6 +38,7 @@ use bit_reader::{BitOrder, BitReader};
 pub use context::DecoderContext;
 pub use error::{DecodeError, Result};
 pub use locality::body_is_local;
+pub use row_reader::RowReader;
 pub use settings::{DecodeSettings, EncodingMode};
 
 /// A sink for the rows of an image. [`decode`] calls `push_row` once for each row, from the top.
