@@ -24,7 +24,7 @@ MOST = 4.5
 # how many times the instructions a byte that were measured a shape may cost
 SLACK = 1.5
 # how many seconds a run under callgrind may take
-LIMIT = 120
+LIMIT = 60
 
 EOL = "000000000001"
 HORIZONTAL, PASS, V0 = "001", "0001", "1"
