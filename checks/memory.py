@@ -1,5 +1,5 @@
-"""Checks of how much memory is asked for, request by request and byte by byte: by the library, by the encoder, and how often by the
-program. The bytes of all requests are added up, so a list that grows from 16 bytes to 64 has asked for 112."""
+"""Checks of allocation: the exact number of requests of the library, the encoder and the program, and of the first two the exact
+number of bytes. The bytes of all requests are added up, so a list that grows from 16 bytes to 64 has requested 112."""
 import os
 import sys
 import tempfile
@@ -14,7 +14,7 @@ sys.path.append("bench")
 
 import strips  # noqa: E402
 
-# The two look-up tables of each call that decodes: 8192 entries of two bytes each.
+# The two lookup tables of each call that decodes: 8192 entries of two bytes each.
 TABLES, TABLE_BYTES = 2, 2 * 8192 * 2
 # A list of changes or of bytes has room for 4, and for 8 bytes, at first, and for twice as many when it is full.
 FIRST_CHANGES, FIRST_BYTES = 4 * 4, 8
@@ -43,7 +43,7 @@ HUNDRED = 100
 
 
 def white_data():
-    """Each call on white data asks for the two tables, and for nothing else."""
+    """Each call on white data allocates the two lookup tables, and nothing else."""
     c_library.build()
     seen = 0
     with tempfile.TemporaryDirectory() as folder:
