@@ -1,5 +1,5 @@
 """Checks of what decoding and encoding cost: data that is made to be slow costs in proportion to its length, and no more
-instructions a byte than are written down here. The answers are known by rule."""
+instructions a byte than are listed here. The results are compared with known ones, which follow by rule."""
 import collections
 import os
 import re
@@ -34,7 +34,7 @@ NO_WORD = "000000001"
 LINE = "1000" + "11" + "1000"
 OK, UNEXPECTED_EOF, INVALID_CODE = 0, 1, 2
 
-# Data and its answer: the status, the rows and the changes.
+# Data and its known result: the status, the rows and the changes.
 Made = collections.namedtuple("Made", "columns data status rows changes")
 
 
@@ -133,7 +133,7 @@ def eols_2d(size):
 
 
 def eols_and_faults(size):
-    """Each EOL begins a damaged line, which is a white row. Behind the last no EOL is found, and its fault is told."""
+    """Each EOL begins a damaged line, which is a white row. Behind the last no EOL is found, and the fault is the result."""
     assert 8 * size % 21 < 12
     return Made(1728, filled(EOL + NO_WORD, size), INVALID_CODE, 8 * size // 21, 0)
 
@@ -152,7 +152,7 @@ def without_eols(tag, before=""):
 
 
 def long_bodies(size):
-    """Damaged lines: each has pixels by turns, and then a fault. The rest of the row is white."""
+    """Damaged lines: each has alternate pixels, and then a fault. The rest of the row is white."""
     pairs = size // 32
     line = EOL + (WHITE_1 + BLACK_1) * pairs + NO_WORD
     rows, rest = divmod(8 * size, len(line))
@@ -164,8 +164,8 @@ def long_bodies(size):
 
 
 def ended_line(rows, changes, painted):
-    """Rows of so many changes, and a line that is cut, of which so many pixels by turns were painted: it is a row too, but no
-    EOL is found behind it, and then its fault is told."""
+    """Rows of so many changes, and a line that is cut, of which so many alternate pixels were painted: it is a row too, but no
+    EOL is found behind it, and then its fault is the result."""
     return UNEXPECTED_EOF, rows + 1, rows * changes + painted - painted % 2
 
 
@@ -177,7 +177,7 @@ def faults_before_bodies(size):
     return Made(1728, filled(line, size), INVALID_CODE, rows + 1, 0)
 
 
-# A name, an encoding, flags, how data and its answer are made from a size, and the instructions a byte that were measured.
+# A name, an encoding, flags, how data and its result are made from a size, and the instructions a byte that were measured.
 SHAPES = [
     ("zeros", GROUP_4, 0, of_zeros(0), 8),
     ("zeros 1d", ONE_DIMENSIONAL, WITH_EOLS, of_zeros(1), 24),
@@ -228,7 +228,7 @@ def too_slow(shape, costs, sizes, measured, worse):
 
 
 def slow_shapes():
-    """The known answer, at most 4.5 times the instructions for four times the data, and a bound on those a byte, whatever the
+    """The known result, at most 4.5 times the instructions for four times the data, and a bound on those a byte, whatever the
     data."""
     if not shutil.which("valgrind"):
         leave_out("the cost of decoding", "valgrind")
@@ -245,16 +245,16 @@ def slow_shapes():
                 with open(f"{folder}/data", "wb") as file:
                     file.write(made.data.translate(c_library.MIRRORED) if flags & LOW_FIRST else made.data)
                 command = [driver, "rows", str(encoding), str(made.columns), "0", str(flags), f"{folder}/data"]
-                cost, told = instructions(folder, command)
+                cost, printed = instructions(folder, command)
                 known = f"{made.status} {made.rows} {made.changes}"
-                assert told.decode().split()[:3] == known.split(), f"{shape}, {size} bytes: {told.decode()}, not {known}"
+                assert printed.decode().split()[:3] == known.split(), f"{shape}, {size} bytes: {printed.decode()}, not {known}"
                 costs.append(cost)
             too_slow(shape, costs, SIZES, measured, worse)
     assert not worse, worse
     print(f"  {len(SHAPES)} shapes")
 
 
-# An encoding, how many bits a row of so many pixels by turns takes with what is around it, and the instructions a pixel that
+# An encoding, how many bits a row of so many alternate pixels takes with what is around it, and the instructions a byte that
 # were measured. In Group 4 the last four pixels are vertical modes, since b1 is the row's end: 7, 6, 3 and 1 bits.
 DENSE_ROWS = [
     ("Group 4", GROUP_4, lambda columns: 12 * (columns - 4) // 2 + 17 + 24, 915),
@@ -275,15 +275,15 @@ def encoding_dense_rows():
         for shape, encoding, bits, measured in DENSE_ROWS:
             costs = []
             for columns in WIDTHS:
-                cost, told = instructions(folder, [driver, str(encoding), str(columns)])
-                assert told == f"0 1 {(bits(columns) + 7) // 8}\n".encode(), (shape, columns, told)
+                cost, printed = instructions(folder, [driver, str(encoding), str(columns)])
+                assert printed == f"0 1 {(bits(columns) + 7) // 8}\n".encode(), (shape, columns, printed)
                 costs.append(cost)
             too_slow(f"a dense row by {shape}", costs, [columns // 8 for columns in WIDTHS], measured, worse)
     assert not worse, worse
 
 
-# What the program is asked for, and the instructions a byte of its data that were measured: white rows of 8 columns, as a bitmap
-# of a byte each and as text.
+# The words of a run, what a row is written as, the last line, and the instructions a byte of its data that were measured: white
+# rows of 8 columns, as a bitmap of a byte each and as text.
 RUNS = [("-o g4 8 0 -", b"\0", b"", 1505), ("-o g4 8 0 r", b"\0", b"", 1507), ("g4 8 0 -", b"r\n", b"ok %d\n", 1353)]
 RUN_SIZES = (1 << 14, 1 << 16)
 

@@ -1,5 +1,5 @@
 """Checks with large data: wide rows, many rows, long input, text and bitmaps, settings at the ends of their types. What is expected
-follows by rule from how the data is made, with the plain encoder of bench/strips.py; no answer was taken from a run."""
+follows by rule from how the data is made, with the plain encoder of bench/strips.py; no expected value was taken from a run."""
 import ctypes
 import itertools
 import os
@@ -60,7 +60,7 @@ def in_both_orders(data, flags):
 def decodes(library, picture, mode, flags, data):
     """Each call of the library on data that is read to its end, into memory that is exactly enough, and one with the lowest bit
     of each byte first."""
-    told = 0, (picture.count, picture.changes, len(data))
+    expected = 0, (picture.count, picture.changes, len(data))
     calls = [(MEASURE, None), (CHANGES, picture.lists), (PACKED, picture.bitmap)]
     for (read, letters), made in zip(in_both_orders(data, flags), [calls, calls[1:2]]):
         settings = c_library.settings_of(mode, picture.columns, 0, letters)
@@ -69,8 +69,8 @@ def decodes(library, picture, mode, flags, data):
             if written is not None:
                 memory = bytearray(b"\xa5" * len(written))
                 lent = [(ctypes.c_uint8 * len(memory)).from_buffer(memory), ctypes.c_size_t(len(memory) // (4 if name == CHANGES else 1))]
-            answer = getattr(library, name)(ctypes.c_char_p(read), ctypes.c_size_t(len(read)), ctypes.byref(settings), *lent, ctypes.byref(outcome))
-            assert (answer, outcome.told()) == told, (name, mode, letters, answer, outcome.told(), told)
+            status = getattr(library, name)(ctypes.c_char_p(read), ctypes.c_size_t(len(read)), ctypes.byref(settings), *lent, ctypes.byref(outcome))
+            assert (status, outcome.told()) == expected, (name, mode, letters, status, outcome.told(), expected)
             assert written is None or memory == written, f"{name} {mode} {letters}: other rows"
 
 
@@ -79,10 +79,10 @@ def encodes(library, picture, encoding, flags, data):
     settings, outcome = encoder.Settings(picture.columns, encoding, flags), encoder.Outcome(7, 7)
     memory = bytearray(b"\xa5" * len(data))
     lent = (ctypes.c_uint8 * len(memory)).from_buffer(memory), ctypes.c_size_t(len(memory))
-    answer = library.fax_encode_bitmap(
+    status = library.fax_encode_bitmap(
         ctypes.c_char_p(picture.bitmap), ctypes.c_size_t(len(picture.bitmap)), ctypes.byref(settings), *lent, ctypes.byref(outcome)
     )
-    assert (answer, outcome.rows, outcome.bytes) == (0, picture.count, len(data)), (encoding, flags, answer, outcome.rows, outcome.bytes)
+    assert (status, outcome.rows, outcome.bytes) == (0, picture.count, len(data)), (encoding, flags, status, outcome.rows, outcome.bytes)
     assert memory == data, f"encoding {encoding} {flags}: other bytes"
 
 
@@ -109,7 +109,7 @@ def ok(data):
 
 
 def a_dense_row():
-    """One row of 2^17 + 2 pixels, black and white by turns, in each encoding and both orders of bits, decoded and encoded."""
+    """One row of 2^17 + 2 pixels, alternately white and black, in each encoding and both orders of bits, decoded and encoded."""
     columns = (1 << 17) + 2
     row = list(range(1, columns))
     picture = Picture(columns, [row], b"\x55" * (columns // 8) + b"\x40", 1)
@@ -142,7 +142,7 @@ CYCLE = [FIRST, [change + 2 for change in FIRST], [change - 1 for change in FIRS
 
 
 def repeated(lines, after):
-    """Lines again and again up to 2^17, and what stands behind them. Eight times the lines are whole bytes."""
+    """The lines repeated up to 2^17, and what follows them. Eight copies of the lines are whole bytes."""
     return strips.packed("".join(lines) * 8) * (ROWS // len(lines) // 8) + strips.packed(after)
 
 
@@ -251,7 +251,7 @@ def settings_at_the_ends():
         for mode, columns in itertools.product(c_library.MODES, ENDS):
             data = one_row(mode, columns or 1)
             rows = [[columns - 1]] if columns else []
-            told = len(rows), len(rows), len(data) if rows else 0
+            expected = len(rows), len(rows), len(data) if rows else 0
             bitmap = packed(columns, rows) if columns <= 1 << 16 else b""
             few = mode == "1d" and columns > 1 << 16
             for limit, flags in itertools.product(ENDS, FLAGS):
@@ -264,17 +264,17 @@ def settings_at_the_ends():
                 outcome = c_library.Outcome(7, 7, 7)
                 call = ctypes.c_char_p(read), ctypes.c_size_t(len(read)), ctypes.byref(settings)
                 for name, lent in ((MEASURE, ()), (CHANGES, (memory, ctypes.c_size_t(2)))):
-                    answer = getattr(library, name)(*call, *lent, ctypes.byref(outcome))
-                    assert (answer, outcome.told()) == (0, told), (name, mode, columns, limit, flags, answer, outcome.told())
+                    status = getattr(library, name)(*call, *lent, ctypes.byref(outcome))
+                    assert (status, outcome.told()) == (0, expected), (name, mode, columns, limit, flags, status, outcome.told())
                 assert list(memory) == ([1, columns - 1] if rows else [7, 7]), (mode, columns, limit, flags)
                 calls += 2
                 if bitmap:
                     lent = (ctypes.c_uint8 * len(bitmap))()
-                    answer = getattr(library, PACKED)(*call, lent, ctypes.c_size_t(len(bitmap)), ctypes.byref(outcome))
-                    assert (answer, outcome.told(), bytes(lent)) == (0, told, bitmap), (PACKED, mode, columns, limit, flags)
+                    status = getattr(library, PACKED)(*call, lent, ctypes.c_size_t(len(bitmap)), ctypes.byref(outcome))
+                    assert (status, outcome.told(), bytes(lent)) == (0, expected, bitmap), (PACKED, mode, columns, limit, flags)
                     calls += 1
                 if flags in ("", "blsr"):
-                    writes(folder, f"{mode} {columns} {limit} {flags or '-'}", read, [(text_of(rows), 1), ok(data[: told[2]])])
+                    writes(folder, f"{mode} {columns} {limit} {flags or '-'}", read, [(text_of(rows), 1), ok(data[: expected[2]])])
                     runs += 1
                     if columns <= 1 << 16:
                         writes(folder, f"-o {mode} {columns} {limit} {flags or '-'}", read, [(bitmap, 1)])

@@ -1,4 +1,4 @@
-/* One encoding of a bitmap of one row, black and white pixels by turns, for callgrind to count its instructions:
+/* One encoding of a bitmap of one row of alternate pixels, for callgrind to count its instructions:
  *
  *   measured_encoding ENCODING COLUMNS
  *

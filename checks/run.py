@@ -15,6 +15,7 @@ import devices  # noqa: E402
 import encoder  # noqa: E402
 import hostile  # noqa: E402
 import large  # noqa: E402
+import memory  # noqa: E402
 import program  # noqa: E402
 import refusals  # noqa: E402
 import repository  # noqa: E402
@@ -40,7 +41,7 @@ def build():
 def main():
     passed = failed = 0
     build()
-    checks = [repository, program, built_tests, c_library, encoder, refusals, devices, cuts, hostile, large, users, cost]
+    checks = [repository, program, built_tests, c_library, encoder, refusals, devices, cuts, hostile, memory, large, users, cost]
     for check in [check for module in checks for check in module.CHECKS]:
         try:
             check()
