@@ -1,14 +1,16 @@
 //! Runs whose words are all at hand, drawn with the line's own values. What isn't usual is left to the calls of `context`.
 
-ghost use Rattle.std.specs.Prelude.{vec_len, vec_capacity, ◌≡◌, ◌≢◌, ◌+◌, ◌-◌, ◌%◌, ◌<◌, ◌≤◌, ◌⊎◌, ℕ, IfSome, IfNone, true, false, length, ◌++◌, ◌∷◌, []};
+ghost use Rattle.std.specs.Prelude.{vec_len, vec_capacity, get_or, ◌≡◌, ◌≢◌, ◌+◌, ◌-◌, ◌%◌, ◌<◌, ◌≤◌, ◌⊎◌, ℕ, IfSome, IfNone, true, false, length, ◌++◌, ◌∷◌, []};
 ghost use Rattle.hayro_ccitt.specs.Bits.{here};
 ghost use Rattle.hayro_ccitt.specs.LookUps.{AreEntries};
-ghost use Rattle.hayro_ccitt.specs.Rows.{AreChanges, pixels};
+ghost use Rattle.hayro_ccitt.specs.Rows.{AreChanges, pixels, opposite};
+ghost use Rattle.hayro_ccitt.specs.UsualModes.{IsNear, IsB1};
 ghost use Rattle.hayro_ccitt.specs.Runs.{codes_of};
 ghost use Rattle.hayro_ccitt.specs.UsualRuns.{IsWordHere, IsRunHere, IsReached, GoesOn, pen_at};
 ghost use Rattle.hayro_ccitt.specs.Window.{moved};
 
 use crate::bit_reader::BitsAtHand;
+use crate::changes::change_or_end;
 use crate::codes::{Color, Ticks};
 use crate::tables::LOOKUP_INVALID;
 
@@ -343,4 +345,59 @@ pub(crate) fn lay_down(changes: &mut Vec<u32>, painted: u32)
         return;
     }
     changes.push_reserved(last);
+}
+
+/// The index of b1, going up by twos from an index that is near it. Each change that is looked at is a tick.
+#[inline(always)]
+pub(crate) fn seek_b1(
+    changes: &[u32],
+    painted: u32,
+    columns: u32,
+    start: usize,
+    ticks: &mut Ticks,
+) -> usize
+    requires lawful { AreChanges columns changes.now }
+    requires some { 0 < painted }
+    requires inside { painted < columns }
+    requires near { IsNear columns changes.now painted start }
+    ensures near { IsNear columns changes.now painted result }
+    ensures right { painted < get_or changes.now result columns }
+    ensures forward { start ≤ result }
+    ensures parity { result % 2 ≡ start % 2 }
+    ensures work { ticks.new + ticks.new + start ≡ ticks.old + ticks.old + result + 2 }
+{
+    let mut index = start;
+    ticks.tick();
+    while index < changes.len() && changes[index] <= painted {
+        ticks.tick();
+        index += 2;
+    }
+    index
+}
+
+/// The index of b1 after a mode that turns the colour left of b1, at a place right of a0.
+#[inline(always)]
+pub(crate) fn b1_after_left(
+    changes: &[u32],
+    _painted: u32,
+    columns: u32,
+    _color: Color,
+    index: usize,
+    place: u32,
+) -> usize
+    requires lawful { AreChanges columns changes.now }
+    requires at { IsB1 columns changes.now _painted index _color }
+    requires right { _painted < place }
+    requires left { place < get_or changes.now index columns }
+    ensures { IsB1 columns changes.now place result (opposite _color) }
+{
+    if index == 0 {
+        return 1;
+    }
+    let before = index - 1;
+    if change_or_end(changes, before, columns) > place {
+        before
+    } else {
+        before + 2
+    }
 }

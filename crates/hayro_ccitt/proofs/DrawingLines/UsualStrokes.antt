@@ -67,7 +67,7 @@ even_is_white row even = turned-even false row ∙ rw even refl
 pixels-on : (place more : ℕ) (row : List ℕ) → AreChanges (suc place) row → pixels (place + more) row ≡ pixels place row ++ replicate more (turned false row)
 pixels-on place more row lawful = pixels_from-on 0 false place more row (omega arith) lawful
 
-length-pixels-on : (place : ℕ) (row : List ℕ) → AreChanges (suc place) row → length (pixels place row) ≡ place
+pub length-pixels-on : (place : ℕ) (row : List ℕ) → AreChanges (suc place) row → length (pixels place row) ≡ place
 length-pixels-on place row lawful =
     let one : suc place ≡ place + 1 = omega arith in
     let whole : length (pixels (place + 1) row) ≡ place + 1 = length-pixels (place + 1) row (rw one at lawful) in
