@@ -25,6 +25,7 @@ pub mod group3;
 pub mod group4;
 pub mod laws;
 mod locality;
+mod modes;
 mod rows;
 mod settings;
 pub mod tables;

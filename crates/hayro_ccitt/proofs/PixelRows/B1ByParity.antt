@@ -44,7 +44,7 @@ right_of_length (p ∷ front) (suc n) e = let u : length front ≡ n = omega ari
 
 module _ (columns : ℕ) (places : List ℕ) (ascend : AreChanges columns places) where
   -- ---- The changes, and the row's end behind them, ascend.
-  rising : (j k : ℕ) → j ≤ k → get_or places j columns ≤ get_or places k columns
+  pub rising : (j k : ℕ) → j ≤ k → get_or places j columns ≤ get_or places k columns
   rising j k le = elim (cases_lt k (length places)) [
     | inl lt ↦ elim (cases_eq j k) [
       | inl same ↦ rw same (omega arith)
@@ -61,7 +61,7 @@ module _ (columns : ℕ) (places : List ℕ) (ascend : AreChanges columns places
   ]
 
   -- or where the second one is
-  rising_to : (j k : ℕ) → j < k → get_or places k columns < columns → get_or places j columns < get_or places k columns
+  pub rising_to : (j k : ℕ) → j < k → get_or places k columns < columns → get_or places j columns < get_or places k columns
   rising_to j k lt below =
       let le : get_or places j columns ≤ get_or places k columns = rising j k (omega arith) in
       rising_from j k lt (omega arith)

@@ -10,4 +10,7 @@ returns-else-change_or_end-place c =
     let e : before + 1 ≡ a.index = omega (arith, c.if-index-eq0.false) in
     let at : IsB1 a.columns a.changes.now a._painted (before + 1) a._color = rw e c.requires.at in
     let left : a.place < get_or a.changes.now (before + 1) a.columns = rw e c.requires.left in
-    after_vl_on a.columns a.changes.now c.requires.lawful a._painted before a._color at a.place c.requires.right left (omega (arith, c.if-change_or_end-place.false, c.change_or_end.ensures))
+    record {
+      at = after_vl_on a.columns a.changes.now c.requires.lawful a._painted before a._color at a.place c.requires.right left (omega (arith, c.if-change_or_end-place.false, c.change_or_end.ensures));
+      near = omega arith;
+    }
