@@ -22,6 +22,7 @@ pub mod Runs
 pub mod Settings
 pub mod Texts
 pub mod Ticks
+pub mod UsualModes
 pub mod UsualRuns
 pub mod Window
 pub mod Work

@@ -1,6 +1,6 @@
 //! Colours, modes, and the code words and EOLs of the data.
 
-ghost use Rattle.std.specs.Prelude.{◌≡◌, ℕ, ◌+◌, ◌-◌, ◌*◌, ◌<◌, ◌≤◌, ◌==◌, ◌↔◌, ◌++◌, ◌∷◌, IsTrue, IfSome, IfNone, IfErr, MatchResult, Ok, Err, Some, None, true, false, length, replicate, nat_le, if◌then◌else◌, drop, [], slice_get, is_some, min};
+ghost use Rattle.std.specs.Prelude.{◌≡◌, ℕ, ◌+◌, ◌-◌, ◌*◌, ◌<◌, ◌≤◌, ◌==◌, ◌↔◌, ◌++◌, ◌∷◌, IsTrue, IfSome, IfNone, IfErr, MatchResult, Ok, Err, Some, None, true, false, length, replicate, nat_le, if◌then◌else◌, drop, [], slice_get, is_some, min, pos};
 ghost use Rattle.std.specs.Borrow.{ftrue};
 ghost use Rattle.hayro_ccitt.specs.Answers.{IsFault};
 ghost use Rattle.hayro_ccitt.specs.Bits.{here};
@@ -108,30 +108,39 @@ impl Ticks {
 /// The mode whose word begins these seven bits, None where no word does, and the number of bits that tell so: those of
 /// the word, or one more than the bits that agree with any.
 #[inline(always)]
-fn mode_of(bits: u32) -> (Option<Mode>, usize)
+pub(crate) fn mode_of(bits: u32) -> (Option<Mode>, usize)
     requires { bits < 128 }
     ensures told { result ≡ mode_told (seven_bits bits) }
     ensures few { result.1 ≤ 7 }
+    ensures v0 { result.0 ≡ Some (Mode.Vertical (pos 0)) → result.1 ≡ 1 }
+    ensures horizontal { result.0 ≡ Some Mode.Horizontal → result.1 ≡ 3 }
+    ensures pass { result.0 ≡ Some Mode.Pass → result.1 ≡ 4 }
 {
-    // The words in the order of their bits: each begins where the next in this order ends.
-    if bits >= 0b1000000 {
+    // Each test is of one bit: those before it are zeros.
+    if (bits >> 6) % 2 == 1 {
         (Some(Mode::Vertical(0)), 1)
-    } else if bits >= 0b0110000 {
-        (Some(Mode::Vertical(1)), 3)
-    } else if bits >= 0b0100000 {
-        (Some(Mode::Vertical(-1)), 3)
-    } else if bits >= 0b0010000 {
+    } else if (bits >> 5) % 2 == 1 {
+        if (bits >> 4) % 2 == 1 {
+            (Some(Mode::Vertical(1)), 3)
+        } else {
+            (Some(Mode::Vertical(-1)), 3)
+        }
+    } else if (bits >> 4) % 2 == 1 {
         (Some(Mode::Horizontal), 3)
-    } else if bits >= 0b0001000 {
+    } else if (bits >> 3) % 2 == 1 {
         (Some(Mode::Pass), 4)
-    } else if bits >= 0b0000110 {
-        (Some(Mode::Vertical(2)), 6)
-    } else if bits >= 0b0000100 {
-        (Some(Mode::Vertical(-2)), 6)
-    } else if bits == 0b0000011 {
-        (Some(Mode::Vertical(3)), 7)
-    } else if bits == 0b0000010 {
-        (Some(Mode::Vertical(-3)), 7)
+    } else if (bits >> 2) % 2 == 1 {
+        if (bits >> 1) % 2 == 1 {
+            (Some(Mode::Vertical(2)), 6)
+        } else {
+            (Some(Mode::Vertical(-2)), 6)
+        }
+    } else if (bits >> 1) % 2 == 1 {
+        if bits % 2 == 1 {
+            (Some(Mode::Vertical(3)), 7)
+        } else {
+            (Some(Mode::Vertical(-3)), 7)
+        }
     } else {
         (None, 6)
     }

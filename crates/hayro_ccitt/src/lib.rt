@@ -28,6 +28,7 @@ pub mod group3;
 pub mod group4;
 pub mod laws;
 mod locality;
+mod modes;
 mod row_reader;
 mod rows;
 mod settings;
