@@ -16,7 +16,7 @@ next_eol-behind zero rest lt = refl
 next_eol-behind (suc k) rest lt = rw (few_zeros 0 (suc k) rest (omega arith), next_eol) (next_eol-behind k rest (omega arith))
 
 -- where a one is near no EOL stands
-one_near : (seen n : ℕ) (here : Bits) → seen + n < 11 → get_or here n false ≡ true → after_eol seen here ≡ None
+pub one_near : (seen n : ℕ) (here : Bits) → seen + n < 11 → get_or here n false ≡ true → after_eol seen here ≡ None
 one_near seen n [] lt e = absurd cc
 one_near seen n (true ∷ here) lt e = let below : seen < 11 = omega arith in rw (lt-leb 11 seen below) refl
 one_near seen zero (false ∷ here) lt e = absurd cc

@@ -65,7 +65,7 @@ zeros_on first then rest a b e h =
     ∙ ap (λ (x : Bits). x ++ rest) (replicate-append-replicate a b false)
 
 -- a word holds the next 32 bits
-abbrev Holds : ℕ → BitsAt → Type 0
+abbrev pub Holds : ℕ → BitsAt → Type 0
 Holds w at = (k : ℕ) → k < 32 → bit_of w (31 - k) ≡ get_or at.bits (at.place + k) false
 
 -- The zeros at the front of the word are passed, up to the end at most, behind zeros that were passed before.
