@@ -88,7 +88,7 @@ fn has_bitmap_word(words: &[String]) -> bool
 
 /// The status of a run that ended without its text.
 fn status_of_fault(fault: RunFault) -> u8
-    ensures { result ≡ status_of_fault fault }
+    ensures status { result ≡ status_of_fault fault }
 {
     match fault {
         RunFault::BadArguments => 2,
@@ -98,7 +98,7 @@ fn status_of_fault(fault: RunFault) -> u8
 
 /// The status of a run that wrote its text.
 fn status_of_done(done: Done) -> u8
-    ensures { result ≡ status_of_done done }
+    ensures status { result ≡ status_of_done done }
 {
     match done {
         Done::Good => 0,
@@ -109,7 +109,7 @@ fn status_of_done(done: Done) -> u8
 
 /// The status of a run that wrote its bitmap.
 fn status_of_answer(answer: Result<(), DecodeError>) -> u8
-    ensures { result ≡ status_of_answer answer }
+    ensures status { result ≡ status_of_answer answer }
 {
     match answer {
         Ok(()) => 0,
