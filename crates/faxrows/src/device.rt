@@ -1,6 +1,6 @@
 //! Readers and writers of which one can tell whether they have failed.
 
-ghost use Rattle.std.specs.Prelude.{◌≡◌, ◌<◌, OnOk, OnErr, IfOk, true, false, length};
+ghost use Rattle.std.specs.Prelude.{◌≡◌, ◌<◌, [], Ok, OnOk, OnErr, IfOk, true, false, length};
 ghost use Rattle.std.specs.Io.KnownBytes.{ReadConsumes, WriteAppends};
 ghost use Rattle.std.specs.Io.{ReadsAtMost, WritesAtMost};
 
@@ -76,17 +76,21 @@ impl<R: Read> Device<R> {
 }
 
 impl<W: Write> Device<W> {
-    /// Writes once. It answers how many bytes from the front were taken. A writer that takes none, though there
-    /// are some, has failed.
+    /// Writes once, unless there are no bytes. It answers how many bytes from the front were taken. A writer that takes
+    /// none, though there are some, has failed.
     pub fn write(&mut self, bytes: &[u8]) -> Result<usize, Failed>
         ensures bound { WritesAtMost result bytes.now }
         ensures bytes { WriteAppends (W.contents self.old.0) (W.contents self.new.0) result bytes.now }
         ensures some { IfOk result (λ count. 0 < length bytes.now → 0 < count) }
+        ensures none { bytes.now ≡ [] → (result ≡ Ok 0) × (self.new ≡ self.old) }
         ensures ok { OnOk result (self.new.1 ≡ self.old.1) }
         ensures err { OnErr result (self.new.1 ≡ true) }
     {
+        if bytes.is_empty() {
+            return Ok(0);
+        }
         match self.inner.write(bytes) {
-            Ok(count) if count > 0 || bytes.is_empty() => Ok(count),
+            Ok(count) if count > 0 => Ok(count),
             _ => Err(self.fail()),
         }
     }

@@ -184,6 +184,7 @@ fn decode_tagged_line(ctx: &mut DecoderContext, reader: &mut BitReader<'_>) -> R
     ensures held { ctx.new.held ≡ redrawn ctx.old.held ctx.new.held.front ctx.new.held.color }
     ensures same_bits { reader.new.bits ≡ reader.old.bits }
     ensures counts { ctx.old.ticks ≤ ctx.new.ticks }
+    ensures no_tag { here reader.old ≡ [] → ctx.new.ticks ≡ ctx.old.ticks }
     ensures at_least { OnAnswer result (ctx.old.ticks + length (line_found EncodingMode.Group3_2D
         ctx.old.held.settings.strict ctx.old.held.settings.columns ctx.old.held.reference (here reader.old))
         ≤ ctx.new.ticks) }
