@@ -1,7 +1,8 @@
 #!/usr/bin/env bash
 # All tests, in three parts side by side. `rt ci` proves every crate from nothing, here. Over a copy of the repository in a
 # folder of their own run the edits (checks/edits.py), and, once the crates are checked there, the repository's other checks
-# (checks/run.py). What each part says is printed when it has ended. The exit status is 0 where all three passed.
+# (checks/run.py), but for those of the test programs that `rt ci` builds, which come last. What each part says is printed when it
+# has ended. The exit status is 0 where all passed.
 cd "$(dirname "$0")" || exit 1
 copy=$(mktemp -d) || exit 1
 said=$(mktemp -d) || exit 1
@@ -38,7 +39,7 @@ edits=$!
     while [ ! -e "$said/ready" ] && kill -0 "$edits" 2>/dev/null; do
         sleep 1
     done
-    exec python3 "$copy/checks/run.py"
+    exec python3 "$copy/checks/run.py" --without built_tests
 ) >"$said/run" 2>&1 &
 parts+=($!)
 run=$!
@@ -61,6 +62,8 @@ end() {
 end "checks/run.py" "$run" "$said/run"
 end "checks/edits.py" "$edits" "$said/edits"
 end "rt ci" "$ci" "$said/ci"
+python3 checks/run.py built_tests >"$said/tests" 2>&1 &
+end "checks/run.py, built tests" "$!" "$said/tests"
 printf '== all\n'
 printf '%s\n' "${totals[@]}"
 [ "$failed" -eq 0 ] && printf 'passed' || printf 'FAILED'

@@ -12,8 +12,10 @@ An edit is a file in crates/NAME/edits or crates/NAME/must-fail: a line 'file: s
 clause. FUNCTION is its name as a check prints it, without the crate's: group3::check_eob. CLAUSE is the name of an `ensures`;
 `returns` where it has none; and `loop` where what breaks is what the function's loop keeps.
 
-An edit is refused for its reason where that goal stays open, or where a given proof of it finds another value. A search that gave
-up at its limits, a name that a proof file lost, and a function that only calls one that isn't proved, show nothing.
+An edit is refused for its reason where that goal stays open: a search for it ended without a proof, values were found at which it
+is false, or a given proof of it finds another value. A search that gave up at its limits, a name that a proof file lost, and a
+function that only calls one that isn't proved, show nothing. Where the check's own searches gave up at the goal, it is tried once
+more by `search rules` alone, which ends. A line 'search: GOAL' in the edit names such a goal, and saves the first try.
 
 Edits of functions that don't call one another are checked together, each batch over a copy of the crate and over what a check of
 the crate without edits left. What a batch doesn't refuse for its reason is tried by itself.
@@ -152,12 +154,13 @@ class Edit:
             self.text = it.read()
         found = re.search(r"^breaks: ([\w:]+): (\S+)$", self.text, re.MULTILINE)
         self.function, self.clause = (found[1], found[2]) if found else ("", "")
+        self.goals = re.findall(r"^search: (\S+)$", self.text, re.MULTILINE)
         path = re.search(r"^file: (\S+)$", self.text, re.MULTILINE)
         self.path = path[1] if path else ""
         olds = re.findall(r"^old: (.*)$", self.text, re.MULTILINE)
         places = [source.texts.get(self.path, "").find(old) for old in olds]
         found = [source.item_at(self.path, at + len(old) - len(old.lstrip())) for at, old in zip(places, olds) if at >= 0]
-        self.changed = [item for item in found if item]
+        self.changed, self.given_up = [item for item in found if item], []
         self.touched = {*self.changed, *source.named(self.function)}
         self.reaches = set().union(*[source.below[item] for item in self.touched]) if self.touched else set()
 
@@ -171,12 +174,13 @@ class Edit:
         return either or not self.touched or not other.touched
 
 
-def edits_in(folder, crate, source, only):
+def edits_in(folder, crate, source, only=()):
+    """The edits of a crate; of these words, where there are any, one stands in each edit's file name."""
     made = []
     for part in FOLDERS:
         if os.path.isdir(f"{folder}/{part}"):
             for name in sorted(os.listdir(f"{folder}/{part}")):
-                if name.endswith(".edit") and only in name:
+                if name.endswith(".edit") and (not only or any(word in name for word in only)):
                     made.append(Edit(crate, f"{folder}/{part}/{name}", source))
     return made
 
@@ -197,8 +201,8 @@ def batches_of(edits, most):
 
 LOST = re.compile(r"is not in scope|has no field|has no `|was not admitted|no such|is no name|not checked: ")
 GAVE_UP = re.compile(r"gave up|could not tell|ran out")
-AT = re.compile(r"(?:\./)?proofs/(\S+)/(?:Answers|Invariants|Proof)\.antt:\d+:\d+: error: (?:(?:in )?`([^`]*)`: )?(.*)")
-DEPENDS = re.compile(r"\d+ declarations? that depends? on `([^`]*)`, which (?:was|is) \w+, (?:was|were) not checked: (.*)")
+AT = re.compile(r"(?:\./)?proofs/(\S+)/(\w+)\.antt:\d+:\d+: error: (?:(?:in )?`([^`]*)`: )?(.*)")
+DEPENDS = re.compile(r"\d+ declarations? that depends? on `([^`]*)`, which [^,]*, (?:was|were) not checked: (.*)")
 OPEN = re.compile(r"note: (src/\S+?):\d+:\d+: (.*?) \(`([^`]+)`\)(.*)")
 
 
@@ -211,20 +215,26 @@ class Said:
 
 def read(output, crate):
     """What a check's output says of each function."""
-    said, notes, errors = {}, [], {}
+    said, notes, errors, lemmas = {}, [], {}, {}
     lines = output.split("\n")
     for number, line in enumerate(lines):
         wrong = AT.match(line)
         opened = OPEN.match(line)
         if wrong:
-            function, declared, why = wrong[1].replace("/", "::"), wrong[2] or "", wrong[3]
+            declared, why = wrong[3] or "", wrong[4]
+            is_answer = wrong[2] in ("Answers", "Invariants", "Proof")
+            found = errors.setdefault(wrong[1].replace("/", "::"), []) if is_answer else []
             depends = DEPENDS.match(why)
             if depends:
-                for goal in re.findall(r"([\w-]+)(?= \(via|,| and|$)", depends[2]):
-                    errors.setdefault(function, []).append((goal, depends[1], None))
+                goals = re.findall(r"([\w-]+)(?= \(via|,| and|$)", depends[2])
+                found += [(goal, depends[1], None) for goal in goals]
+                if not is_answer:
+                    lemmas |= {goal: lemmas[depends[1]] for goal in goals if depends[1] in lemmas}
             else:
                 more = " ".join([why, *[it.strip() for it in lines[number + 1 : number + 4] if it.startswith("  ")]])
-                errors.setdefault(function, []).append((declared, "", more))
+                found.append((declared, "", more))
+                if not is_answer:
+                    lemmas[declared] = more
         elif opened:
             notes.append((opened[3], f"{opened[2]}{opened[4]}"))
         elif line.startswith("fn "):
@@ -236,12 +246,11 @@ def read(output, crate):
             notes = []
     for function, found in errors.items():
         it = said.setdefault(function, Said())
-        of = {goal: why for goal, by, why in found if why}
+        of = lemmas | {goal: why for goal, by, why in found if why}
         for goal, by, why in found:
             why = why or of.get(by)
-            if why is None:
-                continue
-            (it.weak if LOST.search(why) or GAVE_UP.search(why) else it.open).append((goal, why))
+            if why:
+                (it.weak if LOST.search(why) or GAVE_UP.search(why) else it.open).append((goal, why))
     return said
 
 
@@ -254,9 +263,18 @@ def names(goal, clause):
     return goal.endswith(f"-clause-{clause}") or f"-clause-{clause}-" in goal or ("-clause-" not in goal and goal.startswith("returns"))
 
 
-def judged(edit, said):
+def gave_up(edit, said):
+    """Whether a search gave up at a goal that names the edit's clause."""
+    it = said.get(edit.function)
+    return bool(it) and any(names(goal, edit.clause) and GAVE_UP.search(why) for goal, why in it.weak)
+
+
+def judged(edit, said, output):
     """Whether the edit is refused for its reason, and what there is to say."""
     it = said.get(edit.function)
+    if not said:
+        lines = [line for line in output.split("\n") if "error" in line] or output.split("\n")
+        return False, f"it did not reach the prover: {lines[0][:200]}"
     if not it:
         near = sorted(name for name in said if name.endswith(f"::{edit.function.rpartition('::')[2]}"))
         return False, f"no function {edit.function or '(none)'} was checked{': ' + ', '.join(near) if near else ''}"
@@ -292,8 +310,8 @@ class Lane:
                 shutil.copy2(f"{kept}/{path}", f"{own}/{path}")
         return own
 
-    def check(self, crate, edits):
-        """Checks the crate with these edits. Returns its output, and the edits that couldn't be applied with the reason."""
+    def apply(self, crate, edits):
+        """Makes a copy of the crate with these edits. Returns those that couldn't be applied, with the reason."""
         room, bad = f"{self.folder}/room", {}
         shutil.rmtree(room, ignore_errors=True)
         for part in self.rt.rtlib.PARTS:
@@ -307,11 +325,81 @@ class Lane:
             for path, text in texts.items():
                 with open(f"{room}/{path}", "w", encoding="utf-8") as file:
                     file.write(text)
-        flags = ["--jobs", "1", *[word for edit in edits if edit not in bad for word in ("--only", edit.function)]]
-        words = [self.rt.rtlib.RATTLE, "check", *crate.words(flags, keeps=False), "--incremental", self.store(crate)]
-        how = {"cwd": room, "stdin": subprocess.DEVNULL, "stdout": subprocess.PIPE, "stderr": subprocess.STDOUT}
-        ran = subprocess.run([*self.rt.rtlib.guarded(), *words], **how, errors="replace", check=False)
-        return ran.stdout, bad
+        return bad
+
+    def check(self, crate, edits, store):
+        """Checks the functions that these edits are to break, in the copy and over a store, and returns what the check says."""
+        flags = ["--jobs", "1", *[word for edit in edits for word in ("--only", edit.function)]]
+        words = [self.rt.rtlib.RATTLE, "check", *crate.words(flags, keeps=False), "--incremental", store]
+        how = {"cwd": f"{self.folder}/room", "stdin": subprocess.DEVNULL, "stdout": subprocess.PIPE, "stderr": subprocess.STDOUT}
+        return subprocess.run([*self.rt.rtlib.guarded(), *words], **how, errors="replace", check=False).stdout
+
+    def judge(self, crate, edits, is_alone):
+        """Whether each edit is refused for its reason, with what there is to say; and all that the checks said.
+
+        An edit that is tried alone, once more, has no goal answered before its check.
+        """
+        bad = self.apply(crate, edits)
+        for edit in edits if not is_alone else []:
+            answer_named(crate.name, f"{self.folder}/room", edit)
+        found = {edit: (False, f"it cannot be applied: {why}") for edit, why in bad.items()}
+        edits, store = [edit for edit in edits if edit not in bad], self.store(crate)
+        output = self.check(crate, edits, store)
+        said = read(output, crate.name)
+        found |= {edit: judged(edit, said, output) for edit in edits}
+        given_up = [edit for edit in edits if not found[edit][0] and gave_up(edit, said)]
+        if given_up:
+            answer(output, f"{self.folder}/room", {edit.function for edit in given_up})
+            more = self.check(crate, given_up, store)
+            said = read(more, crate.name)
+            found |= {edit: judged(edit, said, more) for edit in given_up}
+            for edit in given_up:
+                edit.given_up = [goal for goal, _ in said[edit.function].open if names(goal, edit.clause)] if edit.function in said else []
+            output += more
+        return found, output
+
+
+USE = re.compile(r"^use [^\n]*(?:\n[ }][^\n]*)*", re.MULTILINE)
+
+
+def answer(output, room, functions):
+    """Answers each goal of these functions at which the check's own searches gave up by `search rules`, which ends.
+
+    The check prints the lines to write, with a hole for each goal.
+    """
+    for found in re.finditer(r"^help: .*?proofs/(\S+)/Answers\.antt\b.*\n((?:    .*\n|\n)*)", output, re.MULTILINE):
+        if found[1].replace("/", "::") in functions:
+            lines = [line[4:] for line in found[2].split("\n")]
+            goals = [re.sub(r"= \?$", "= search rules", line) for line in lines if not line.startswith("use ")]
+            write_answers(room, found[1], [line for line in lines if line.startswith("use ")], goals)
+
+
+def answer_named(crate, room, edit):
+    """Answers the goals that the edit names by `search rules`."""
+    if edit.goals:
+        uses = ["use Rattle.std.proofs.Common.{rules}", f"use Rattle.{crate}.proofs.{edit.function.replace('::', '.')}.Goals as goal"]
+        lines = [f"pub {goal} : goal.{goal}\n{goal} c = search rules\n" for goal in edit.goals]
+        write_answers(room, edit.function.replace("::", "/"), uses, lines)
+
+
+def write_answers(room, folder, uses, goals):
+    """Adds answers to a function's file; what the file imports already isn't imported again."""
+    path, text = f"{room}/proofs/{folder}/Answers.antt", ""
+    if os.path.exists(path):
+        with open(path, encoding="utf-8") as file:
+            text = file.read()
+    has = {name for item in USE.findall(text) for name in re.findall(r"[^\s{},]+", item[item.find("{") :])}
+    kept = []
+    for line in uses:
+        several = re.fullmatch(r"use (\S+)\.\{(.*)\}", line)
+        if several:
+            names = [name for name in several[2].split(", ") if name not in has]
+            kept += [f"use {several[1]}.{{{', '.join(names)}}}"] if names else []
+        elif line not in text:
+            kept.append(line)
+    os.makedirs(os.path.dirname(path), exist_ok=True)
+    with open(path, "w", encoding="utf-8") as file:
+        file.write("\n".join([*kept, text, *goals, ""]))
 
 
 def stamps(folder):
@@ -340,7 +428,7 @@ def prepare(crates, chosen, kept):
 
 def main():
     words = argparse.ArgumentParser(description=__doc__, formatter_class=argparse.RawDescriptionHelpFormatter)
-    words.add_argument("--only", default="", help="a word of the names of the edits to run")
+    words.add_argument("--only", action="append", help="a word of the names of the edits to run; may be given several times")
     words.add_argument("--crate", default="", help="the crate whose edits to run")
     words.add_argument("--lanes", type=int, default=len(os.sched_getaffinity(0)), help="how many checks run side by side")
     words.add_argument("--most", type=int, default=16, help="how many edits a batch may have")
@@ -371,23 +459,22 @@ def main():
             lanes.put(Lane(f"{room}/{number}", rt, f"{room}/kept"))
             os.mkdir(f"{room}/{number}")
 
-        def work(crate, batch):
+        def work(crate, batch, is_alone=False):
             lane = lanes.get()
             try:
                 start = time.time()
-                output, bad = lane.check(crate, batch)
+                found, output = lane.judge(crate, batch, is_alone)
                 keep(words.keep, crate, batch, output)
-                said = read(output, crate.name)
                 with printing:
                     print(f"{crate.name}: {len(batch)} edits in {time.time() - start:.0f} s", flush=True)
-                return {it: (False, f"it cannot be applied: {bad[it]}") if it in bad else judged(it, said) for it in batch}
+                return found
             finally:
                 lanes.put(lane)
 
         for found in pool.map(lambda task: work(*task), tasks):
             results.update(found)
-        again = [(edit.crate, [edit]) for _, batch in tasks for edit in batch if len(batch) > 1 and not results[edit][0]]
-        for found in pool.map(lambda task: work(*task), again):
+        again = [(edit.crate, [edit]) for _, batch in tasks for edit in batch if (len(batch) > 1 or edit.goals) and not results[edit][0]]
+        for found in pool.map(lambda task: work(*task, True), again):
             results.update(found)
     for edit in edits:
         if not edit.function:
@@ -396,6 +483,8 @@ def main():
         refused, why = results[edit]
         if not refused:
             failed.append(edit)
+        if edit.given_up and words.show:
+            print(f"{edit.label}: a line 'search: {edit.given_up[0]}' saves a check")
         if words.show or not refused:
             print(f"{'refused' if refused else 'NOT REFUSED'}: {edit.label}: {why}")
     used = resource.getrusage(resource.RUSAGE_CHILDREN)

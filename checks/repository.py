@@ -128,7 +128,7 @@ def each_public_function_has_an_edit():
     lacking = []
     for crate in sorted(os.listdir("crates")):
         source = edits.Source(f"crates/{crate}")
-        touched = {item.name for edit in edits.edits_in(f"crates/{crate}", crate, source, "") for item in edit.touched}
+        touched = {item.name for edit in edits.edits_in(f"crates/{crate}", crate, source) for item in edit.touched}
         for item in source.public():
             if item.has_contract and item.has_body and item.name not in touched | NO_WRONG_BODY.get(crate, set()):
                 lacking.append(f"{crate}: {item.name}")
@@ -139,7 +139,7 @@ def each_edit_says_what_it_breaks():
     found = []
     for crate in sorted(os.listdir("crates")):
         source = edits.Source(f"crates/{crate}")
-        for edit in edits.edits_in(f"crates/{crate}", crate, source, ""):
+        for edit in edits.edits_in(f"crates/{crate}", crate, source):
             if not edit.function or not edit.changed:
                 found.append(edit.label)
     assert not found, f"no line 'breaks: FUNCTION: CLAUSE', or no item that they change: {found}"
