@@ -29,43 +29,53 @@ for crate in crates/*/; do
     done
 done
 
-rt ci >"$said/ci" 2>&1 &
-parts+=($!)
-ci=$!
-nice -n 5 python3 "$copy/checks/edits.py" --ready "$said/ready" >"$said/edits" 2>&1 &
-parts+=($!)
-edits=$!
-(
-    while [ ! -e "$said/ready" ] && kill -0 "$edits" 2>/dev/null; do
+# Runs a part: what it says goes into a file of its name, and the second at which it ends into another.
+part() {
+    local name=$1 status
+    shift
+    "$@" >"$said/$name" 2>&1
+    status=$?
+    echo "$SECONDS" >"$said/$name.end"
+    exit "$status"
+}
+# The repository's other checks, once the crates are checked in the copy.
+other_checks() {
+    while [ ! -e "$said/ready" ] && [ ! -e "$said/edits.end" ]; do
         sleep 1
     done
-    exec python3 "$copy/checks/run.py" --without built_tests
-) >"$said/run" 2>&1 &
-parts+=($!)
+    python3 "$copy/checks/run.py" --without built_tests
+}
+part ci rt ci &
+ci=$!
+part edits nice -n 5 python3 "$copy/checks/edits.py" --ready "$said/ready" &
+edits=$!
+part run other_checks &
 run=$!
+parts+=("$ci" "$edits" "$run")
 
 failed=0
 minutes() {
-    printf '%d:%02d' $((SECONDS / 60)) $((SECONDS % 60))
+    printf '%d:%02d' $(($1 / 60)) $(($1 % 60))
 }
 totals=()
-# Waits for a part, prints what it said, and notes its last line.
+# Waits for a part, prints what it said, and notes its last line and its minutes.
 end() {
-    local name=$1 part=$2 file=$3 status
-    wait "$part"
+    local title=$1 name=$2 process=$3 status
+    wait "$process"
     status=$?
     [ "$status" -eq 0 ] || failed=1
-    printf '== %s\n' "$name"
-    cat "$file"
-    totals+=("$name: $(tail -n 1 "$file") (status $status, ended by $(minutes))")
+    printf '== %s\n' "$title"
+    cat "$said/$name"
+    totals+=("$title: $(tail -n 1 "$said/$name") (status $status, ended at $(minutes "$(cat "$said/$name.end")"))")
 }
-end "checks/run.py" "$run" "$said/run"
-end "checks/edits.py" "$edits" "$said/edits"
-end "rt ci" "$ci" "$said/ci"
-python3 checks/run.py built_tests >"$said/tests" 2>&1 &
-end "checks/run.py, built tests" "$!" "$said/tests"
+end "checks/run.py" run "$run"
+end "checks/edits.py" edits "$edits"
+end "rt ci" ci "$ci"
+part tests python3 checks/run.py built_tests &
+parts+=("$!")
+end "checks/run.py built_tests" tests "$!"
 printf '== all\n'
 printf '%s\n' "${totals[@]}"
 [ "$failed" -eq 0 ] && printf 'passed' || printf 'FAILED'
-printf ', %s minutes\n' "$(minutes)"
+printf ', %s minutes\n' "$(minutes "$SECONDS")"
 exit "$failed"

@@ -17,8 +17,9 @@ is false, or a given proof of it finds another value. A search that gave up at i
 function that only calls one that isn't proved, show nothing. Where the check's own searches gave up at the goal, it is tried once
 more by `search rules` alone, which ends. A line 'search: GOAL' in the edit names such a goal, and saves the first try.
 
-Edits of functions that don't call one another are checked together, each batch over a copy of the crate and over what a check of
-the crate without edits left. What a batch doesn't refuse for its reason is tried by itself.
+Edits of different functions are checked together, each batch over a copy of the crate and over what a check of the crate without
+edits left. A goal of a function isn't searched for while one that it calls isn't proved. So what such a batch doesn't refuse for
+its reason is tried with functions that don't call one another, and then by itself.
 The last line is 'N refused, M not'.
 """
 import argparse
@@ -162,16 +163,22 @@ class Edit:
         found = [source.item_at(self.path, at + len(old) - len(old.lstrip())) for at, old in zip(places, olds) if at >= 0]
         self.changed, self.given_up = [item for item in found if item], []
         self.touched = {*self.changed, *source.named(self.function)}
+        self.made = set(re.findall(r"\bfn (\w+)", "\n".join(re.findall(r"^new:(.*)$", self.text, re.MULTILINE))))
         self.reaches = set().union(*[source.below[item] for item in self.touched]) if self.touched else set()
 
     @property
     def label(self):
         return f"{os.path.basename(os.path.dirname(os.path.dirname(self.file)))}/{self.name}"
 
+    def overlaps(self, other):
+        """Whether one changes what the other changes, or a constant that the other reaches, or both make a function of one name."""
+        constants = [{item for item in edit.touched if item.kind != "fn"} for edit in (self, other)]
+        reached = constants[0] & other.reaches or constants[1] & self.reaches
+        return bool(self.touched & other.touched or reached or self.made & other.made) or not self.touched or not other.touched
+
     def meets(self, other):
-        """Whether the two may not be in one batch: one changes what the other reaches."""
-        either = bool(self.touched & other.touched or self.touched & other.reaches or other.touched & self.reaches)
-        return either or not self.touched or not other.touched
+        """Whether they overlap, or one changes a function that the other reaches."""
+        return self.overlaps(other) or bool(self.touched & other.reaches or other.touched & self.reaches)
 
 
 def edits_in(folder, crate, source, only=()):
@@ -185,11 +192,11 @@ def edits_in(folder, crate, source, only=()):
     return made
 
 
-def batches_of(edits, most):
-    """Puts each edit into the first batch that has none that it meets."""
+def batches_of(edits, most, meets):
+    """Puts each edit into the first batch that has none that it meets, those that meet most first."""
     batches = []
-    for edit in sorted(edits, key=lambda it: -sum(it.meets(other) for other in edits)):
-        fitting = [batch for batch in batches if len(batch) < most and not any(edit.meets(other) for other in batch)]
+    for edit in sorted(edits, key=lambda it: -sum(meets(it, other) for other in edits)):
+        fitting = [batch for batch in batches if len(batch) < most and not any(meets(edit, other) for other in batch)]
         if fitting:
             fitting[0].append(edit)
         else:
@@ -213,8 +220,8 @@ class Said:
         self.line, self.open, self.weak = "", [], []
 
 
-def read(output, crate):
-    """What a check's output says of each function."""
+def read(output, crate, is_mixed=False):
+    """What a check's output says of each function. Where a batch is mixed, a lemma may be refused for the sake of another's edit."""
     said, notes, errors, lemmas = {}, [], {}, {}
     lines = output.split("\n")
     for number, line in enumerate(lines):
@@ -246,7 +253,7 @@ def read(output, crate):
             notes = []
     for function, found in errors.items():
         it = said.setdefault(function, Said())
-        of = lemmas | {goal: why for goal, by, why in found if why}
+        of = {goal: why for goal, by, why in found if why} | ({} if is_mixed else lemmas)
         for goal, by, why in found:
             why = why or of.get(by)
             if why:
@@ -334,10 +341,10 @@ class Lane:
         how = {"cwd": f"{self.folder}/room", "stdin": subprocess.DEVNULL, "stdout": subprocess.PIPE, "stderr": subprocess.STDOUT}
         return subprocess.run([*self.rt.rtlib.guarded(), *words], **how, errors="replace", check=False).stdout
 
-    def judge(self, crate, edits, is_alone):
+    def judge(self, crate, edits, is_mixed, is_alone):
         """Whether each edit is refused for its reason, with what there is to say; and all that the checks said.
 
-        An edit that is tried alone, once more, has no goal answered before its check.
+        The functions of a mixed batch may call one another. An edit that is tried alone has no goal answered before its check.
         """
         bad = self.apply(crate, edits)
         for edit in edits if not is_alone else []:
@@ -345,13 +352,13 @@ class Lane:
         found = {edit: (False, f"it cannot be applied: {why}") for edit, why in bad.items()}
         edits, store = [edit for edit in edits if edit not in bad], self.store(crate)
         output = self.check(crate, edits, store)
-        said = read(output, crate.name)
+        said = read(output, crate.name, is_mixed)
         found |= {edit: judged(edit, said, output) for edit in edits}
         given_up = [edit for edit in edits if not found[edit][0] and gave_up(edit, said)]
         if given_up:
             answer(output, f"{self.folder}/room", {edit.function for edit in given_up})
             more = self.check(crate, given_up, store)
-            said = read(more, crate.name)
+            said = read(more, crate.name, is_mixed)
             found |= {edit: judged(edit, said, more) for edit in given_up}
             for edit in given_up:
                 edit.given_up = [goal for goal, _ in said[edit.function].open if names(goal, edit.clause)] if edit.function in said else []
@@ -431,7 +438,7 @@ def main():
     words.add_argument("--only", action="append", help="a word of the names of the edits to run; may be given several times")
     words.add_argument("--crate", default="", help="the crate whose edits to run")
     words.add_argument("--lanes", type=int, default=len(os.sched_getaffinity(0)), help="how many checks run side by side")
-    words.add_argument("--most", type=int, default=16, help="how many edits a batch may have")
+    words.add_argument("--most", type=int, default=24, help="how many edits a batch may have")
     words.add_argument("--show", action="store_true", help="print what refused each edit")
     words.add_argument("--keep", default="", help="a folder for what each check printed")
     words.add_argument("--ready", default="", help="a file to make once the crates are checked without edits")
@@ -440,30 +447,31 @@ def main():
     rt = kit()
     rt.rtlib.guarded()
     crates = sorted(rt.rtlib.crates_below(ROOT), key=lambda it: len(it.below()))
-    tasks, edits, failed = [], [], []
-    for crate in crates:
-        if words.crate in ("", crate.name):
-            found = edits_in(crate.folder, crate, Source(crate.folder), words.only)
-            edits += found
-            tasks += [(crate, batch) for batch in batches_of([edit for edit in found if edit.function], words.most)]
+    edits = [
+        edit
+        for crate in crates
+        if words.crate in ("", crate.name)
+        for edit in edits_in(crate.folder, crate, Source(crate.folder), words.only)
+    ]
     if not edits:
         sys.exit("no edit has such a name")
     with tempfile.TemporaryDirectory(prefix="edits-") as room, ThreadPoolExecutor(words.lanes) as pool:
         os.mkdir(f"{room}/kept")
-        prepare(crates, {crate.name for crate, _ in tasks}, f"{room}/kept")
+        prepare(crates, {edit.crate.name for edit in edits}, f"{room}/kept")
         if words.ready:
             with open(words.ready, "w", encoding="utf-8"):
                 pass
-        lanes, printing, results = queue.SimpleQueue(), threading.Lock(), {}
+        lanes, printing, results, alone, number_of_batches = queue.SimpleQueue(), threading.Lock(), {}, set(), 0
         for number in range(words.lanes):
             lanes.put(Lane(f"{room}/{number}", rt, f"{room}/kept"))
             os.mkdir(f"{room}/{number}")
 
-        def work(crate, batch, is_alone=False):
+        def work(batch, is_mixed, is_alone):
+            crate = batch[0].crate
             lane = lanes.get()
             try:
                 start = time.time()
-                found, output = lane.judge(crate, batch, is_alone)
+                found, output = lane.judge(crate, batch, is_mixed, is_alone)
                 keep(words.keep, crate, batch, output)
                 with printing:
                     print(f"{crate.name}: {len(batch)} edits in {time.time() - start:.0f} s", flush=True)
@@ -471,11 +479,17 @@ def main():
             finally:
                 lanes.put(lane)
 
-        for found in pool.map(lambda task: work(*task), tasks):
-            results.update(found)
-        again = [(edit.crate, [edit]) for _, batch in tasks for edit in batch if (len(batch) > 1 or edit.goals) and not results[edit][0]]
-        for found in pool.map(lambda task: work(*task, True), again):
-            results.update(found)
+        # First as many functions at once as there are, also where one calls another, which decides some; then those that don't
+        # call one another; then each by itself.
+        for meets, most in ((Edit.overlaps, words.most), (Edit.meets, words.most), (Edit.overlaps, 1)):
+            left = [it for it in edits if it.function and it not in alone and not results.get(it, (False,))[0]]
+            batches = [batch for crate in crates for batch in batches_of([it for it in left if it.crate is crate], most, meets)]
+            number_of_batches += len(batches)
+            alone |= {batch[0] for batch in batches if len(batch) == 1 and not batch[0].goals}
+            is_mixed, is_alone = meets is Edit.overlaps and most > 1, most == 1
+            for found in pool.map(lambda batch: work(batch, is_mixed, is_alone), batches):
+                results.update(found)
+    failed = []
     for edit in edits:
         if not edit.function:
             guess = edit.changed[0].name if edit.changed else "FUNCTION"
@@ -488,7 +502,7 @@ def main():
         if words.show or not refused:
             print(f"{'refused' if refused else 'NOT REFUSED'}: {edit.label}: {why}")
     used = resource.getrusage(resource.RUSAGE_CHILDREN)
-    print(f"{len(tasks)} batches and {len(again)} edits by themselves, {used.ru_utime + used.ru_stime:.0f} s of processor", end=", ")
+    print(f"{number_of_batches} batches, {used.ru_utime + used.ru_stime:.0f} s of processor", end=", ")
     print(f"{time.time() - began:.0f} s")
     print(f"{len(edits) - len(failed)} refused, {len(failed)} not")
     sys.exit(1 if failed else 0)
