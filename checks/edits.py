@@ -6,6 +6,7 @@
     python3 checks/edits.py --lanes N          N checks side by side; without it, one for each processor
     python3 checks/edits.py --show             also prints what refused each edit
     python3 checks/edits.py --keep FOLDER      writes what each check printed into this folder
+    python3 checks/edits.py --write            writes into the edits what refused them: see below
 
 An edit is a file in crates/NAME/edits or crates/NAME/must-fail: a line 'file: src/x.rt', then pairs of lines 'old: TEXT' and
 'new: TEXT', and a line 'breaks: FUNCTION: CLAUSE', which says what has to refuse it: a goal of that function that names that
@@ -20,6 +21,9 @@ more by `search rules` alone, which ends. A line 'search: GOAL' in the edit name
 Edits of different functions are checked together, each batch over a copy of the crate and over what a check of the crate without
 edits left. A goal of a function isn't searched for while one that it calls isn't proved. So what such a batch doesn't refuse for
 its reason is tried with functions that don't call one another, and then by itself.
+With --write an edit that another clause of its function refuses gets that clause's name, and one at whose goal the check's own
+searches gave up gets its line 'search: GOAL'. Look at what was written: a clause that has nothing to do with what the edit breaks
+says that the edit is a bad one.
 The last line is 'N refused, M not'.
 """
 import argparse
@@ -161,7 +165,7 @@ class Edit:
         olds = re.findall(r"^old: (.*)$", self.text, re.MULTILINE)
         places = [source.texts.get(self.path, "").find(old) for old in olds]
         found = [source.item_at(self.path, at + len(old) - len(old.lstrip())) for at, old in zip(places, olds) if at >= 0]
-        self.changed, self.given_up = [item for item in found if item], []
+        self.changed, self.given_up, self.other = [item for item in found if item], [], ""
         self.touched = {*self.changed, *source.named(self.function)}
         self.made = set(re.findall(r"\bfn (\w+)", "\n".join(re.findall(r"^new:(.*)$", self.text, re.MULTILINE))))
         self.reaches = set().union(*[source.below[item] for item in self.touched]) if self.touched else set()
@@ -270,6 +274,12 @@ def names(goal, clause):
     return goal.endswith(f"-clause-{clause}") or f"-clause-{clause}-" in goal or ("-clause-" not in goal and goal.startswith("returns"))
 
 
+def clause_of(goal):
+    """The word that an edit's last line has for a goal's clause."""
+    found = re.search(r"-clause-(\w+)", goal)
+    return found[1] if found else "returns" if goal.startswith("returns") else "loop"
+
+
 def gave_up(edit, said):
     """Whether a search gave up at a goal that names the edit's clause."""
     it = said.get(edit.function)
@@ -291,6 +301,8 @@ def judged(edit, said, output):
     if found:
         return True, f"{found[0][0]}: {found[0][1][:150]}"
     others = [f"open: {goal}" for goal, _ in it.open]
+    clauses = [clause_of(goal) for goal, _ in it.open if "-requires" not in goal]
+    edit.other = max(clauses, key=clauses.count, default="")
     weak = [f"{goal}: {why[:150]}" for goal, why in it.weak]
     return False, f"no goal of {edit.function} that names `{edit.clause}` is refused by a value; {'; '.join([*others, *weak]) or it.line[:200]}"
 
@@ -441,6 +453,7 @@ def main():
     words.add_argument("--most", type=int, default=24, help="how many edits a batch may have")
     words.add_argument("--show", action="store_true", help="print what refused each edit")
     words.add_argument("--keep", default="", help="a folder for what each check printed")
+    words.add_argument("--write", action="store_true", help="write into the edits what refused them")
     words.add_argument("--ready", default="", help="a file to make once the crates are checked without edits")
     words = words.parse_args()
     began = time.time()
@@ -497,6 +510,8 @@ def main():
         refused, why = results[edit]
         if not refused:
             failed.append(edit)
+        if words.write:
+            write(edit, refused)
         if edit.given_up and words.show:
             print(f"{edit.label}: a line 'search: {edit.given_up[0]}' saves a check")
         if words.show or not refused:
@@ -506,6 +521,18 @@ def main():
     print(f"{time.time() - began:.0f} s")
     print(f"{len(edits) - len(failed)} refused, {len(failed)} not")
     sys.exit(1 if failed else 0)
+
+
+def write(edit, refused):
+    """Writes the clause that refused the edit, where it is another, and the goals at which the check's own searches gave up."""
+    text = edit.text if edit.text.endswith("\n") else f"{edit.text}\n"
+    if not refused and edit.other:
+        text = re.sub(r"^breaks: .*$", f"breaks: {edit.function}: {edit.other}", text, flags=re.MULTILINE)
+    if refused and edit.given_up:
+        text = re.sub(r"^search: .*\n", "", text, flags=re.MULTILINE) + "".join(f"search: {goal}\n" for goal in edit.given_up)
+    if text != edit.text:
+        with open(edit.file, "w", encoding="utf-8") as file:
+            file.write(text)
 
 
 def keep(folder, crate, batch, output):
