@@ -432,7 +432,11 @@ def stamps(folder):
 
 
 def prepare(crates, chosen, kept):
-    """Checks the crates without edits, lowest first, and keeps what each check left. Their libraries are built by the way."""
+    """Checks the crates without edits, lowest first, and keeps what each check left. Their libraries are built by the way.
+
+    Returns the names of each crate's functions.
+    """
+    functions = {}
     for crate in crates:
         if crate.name in chosen:
             began = time.time()
@@ -441,8 +445,10 @@ def prepare(crates, chosen, kept):
             if ran.returncode:
                 print(ran.stdout[-3000:])
                 sys.exit(f"{crate.name} isn't proved without edits")
+            functions[crate.name] = set(re.findall(rf"^fn {crate.name}::(\S+): ", ran.stdout, re.MULTILINE))
             shutil.copytree(f"{crate.folder}/out/incremental", f"{kept}/{crate.name}")
             print(f"{crate.name} without edits: {time.time() - began:.0f} s", flush=True)
+    return functions
 
 
 def main():
@@ -470,7 +476,7 @@ def main():
         sys.exit("no edit has such a name")
     with tempfile.TemporaryDirectory(prefix="edits-") as room, ThreadPoolExecutor(words.lanes) as pool:
         os.mkdir(f"{room}/kept")
-        prepare(crates, {edit.crate.name for edit in edits}, f"{room}/kept")
+        functions = prepare(crates, {edit.crate.name for edit in edits}, f"{room}/kept")
         if words.ready:
             with open(words.ready, "w", encoding="utf-8"):
                 pass
@@ -492,10 +498,19 @@ def main():
             finally:
                 lanes.put(lane)
 
+        for edit in edits:
+            if not edit.function:
+                guess = edit.changed[0].name if edit.changed else "FUNCTION"
+                results[edit] = False, f"it doesn't say what it breaks: add a line 'breaks: {guess}: CLAUSE'"
+            elif edit.function not in functions[edit.crate.name]:
+                last = edit.function.rpartition("::")[2]
+                near = sorted(name for name in functions[edit.crate.name] if name.rpartition("::")[2] == last)
+                results[edit] = False, f"a check names no function {edit.function}: is it {' or '.join(near) or 'another'}?"
+        told = {*results}
         # First as many functions at once as there are, also where one calls another, which decides some; then those that don't
         # call one another; then each by itself.
         for meets, most in ((Edit.overlaps, words.most), (Edit.meets, words.most), (Edit.overlaps, 1)):
-            left = [it for it in edits if it.function and it not in alone and not results.get(it, (False,))[0]]
+            left = [it for it in edits if it not in told | alone and not results.get(it, (False,))[0]]
             batches = [batch for crate in crates for batch in batches_of([it for it in left if it.crate is crate], most, meets)]
             number_of_batches += len(batches)
             alone |= {batch[0] for batch in batches if len(batch) == 1 and not batch[0].goals}
@@ -504,9 +519,6 @@ def main():
                 results.update(found)
     failed = []
     for edit in edits:
-        if not edit.function:
-            guess = edit.changed[0].name if edit.changed else "FUNCTION"
-            results[edit] = False, f"it doesn't say what it breaks: add a line 'breaks: {guess}: CLAUSE'"
         refused, why = results[edit]
         if not refused:
             failed.append(edit)
