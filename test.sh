@@ -1,7 +1,8 @@
 #!/usr/bin/env bash
 # All tests, in three parts side by side. `rt ci` proves every crate from nothing, here. Over a copy of the repository in a
 # folder of their own run the edits (checks/edits.py), and, once the crates are checked there, the repository's other checks
-# (checks/run.py). What each part says is printed when it has ended. The exit status is 0 where all three passed.
+# (checks/run.py), but for those of the test programs that `rt ci` builds, which come last. What each part says is printed when it
+# has ended. The exit status is 0 where all passed.
 cd "$(dirname "$0")" || exit 1
 copy=$(mktemp -d) || exit 1
 said=$(mktemp -d) || exit 1
@@ -28,41 +29,53 @@ for crate in crates/*/; do
     done
 done
 
-rt ci >"$said/ci" 2>&1 &
-parts+=($!)
-ci=$!
-nice -n 5 python3 "$copy/checks/edits.py" --ready "$said/ready" >"$said/edits" 2>&1 &
-parts+=($!)
-edits=$!
-(
-    while [ ! -e "$said/ready" ] && kill -0 "$edits" 2>/dev/null; do
+# Runs a part: what it says goes into a file of its name, and the second at which it ends into another.
+part() {
+    local name=$1 status
+    shift
+    "$@" >"$said/$name" 2>&1
+    status=$?
+    echo "$SECONDS" >"$said/$name.end"
+    exit "$status"
+}
+# The repository's other checks, once the crates are checked in the copy.
+other_checks() {
+    while [ ! -e "$said/ready" ] && [ ! -e "$said/edits.end" ]; do
         sleep 1
     done
-    exec python3 "$copy/checks/run.py"
-) >"$said/run" 2>&1 &
-parts+=($!)
+    python3 "$copy/checks/run.py" --without built_tests
+}
+part ci rt ci &
+ci=$!
+part edits nice -n 5 python3 "$copy/checks/edits.py" --ready "$said/ready" &
+edits=$!
+part run other_checks &
 run=$!
+parts+=("$ci" "$edits" "$run")
 
 failed=0
 minutes() {
-    printf '%d:%02d' $((SECONDS / 60)) $((SECONDS % 60))
+    printf '%d:%02d' $(($1 / 60)) $(($1 % 60))
 }
 totals=()
-# Waits for a part, prints what it said, and notes its last line.
+# Waits for a part, prints what it said, and notes its last line and its minutes.
 end() {
-    local name=$1 part=$2 file=$3 status
-    wait "$part"
+    local title=$1 name=$2 process=$3 status
+    wait "$process"
     status=$?
     [ "$status" -eq 0 ] || failed=1
-    printf '== %s\n' "$name"
-    cat "$file"
-    totals+=("$name: $(tail -n 1 "$file") (status $status, ended by $(minutes))")
+    printf '== %s\n' "$title"
+    cat "$said/$name"
+    totals+=("$title: $(tail -n 1 "$said/$name") (status $status, ended at $(minutes "$(cat "$said/$name.end")"))")
 }
-end "checks/run.py" "$run" "$said/run"
-end "checks/edits.py" "$edits" "$said/edits"
-end "rt ci" "$ci" "$said/ci"
+end "checks/run.py" run "$run"
+end "checks/edits.py" edits "$edits"
+end "rt ci" ci "$ci"
+part tests python3 checks/run.py built_tests &
+parts+=("$!")
+end "checks/run.py built_tests" tests "$!"
 printf '== all\n'
 printf '%s\n' "${totals[@]}"
 [ "$failed" -eq 0 ] && printf 'passed' || printf 'FAILED'
-printf ', %s minutes\n' "$(minutes)"
+printf ', %s minutes\n' "$(minutes "$SECONDS")"
 exit "$failed"

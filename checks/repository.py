@@ -160,21 +160,25 @@ def each_public_function_has_an_edit():
     lacking = []
     for crate in sorted(os.listdir("crates")):
         source = edits.Source(f"crates/{crate}")
-        touched = {item.name for edit in edits.edits_in(f"crates/{crate}", crate, source, "") for item in edit.touched}
+        touched = {item.name for edit in edits.edits_in(f"crates/{crate}", crate, source) for item in edit.touched}
         for item in source.public():
             if item.has_contract and item.has_body and item.name not in touched | NO_WRONG_BODY.get(crate, set()):
                 lacking.append(f"{crate}: {item.name}")
     assert not lacking, f"no edit breaks {lacking}"
 
 
-def each_edit_says_what_it_breaks():
-    found = []
+def each_edit_can_be_applied():
+    """Each edit's old texts stand once in the file, in an item, and it says what it breaks."""
+    rt, found = edits.kit(), []
     for crate in sorted(os.listdir("crates")):
         source = edits.Source(f"crates/{crate}")
-        for edit in edits.edits_in(f"crates/{crate}", crate, source, ""):
-            if not edit.function or not edit.changed:
-                found.append(edit.label)
-    assert not found, f"no line 'breaks: FUNCTION: CLAUSE', or no item that they change: {found}"
+        for edit in edits.edits_in(f"crates/{crate}", crate, source):
+            _, why = rt.read_edit(edit.file, f"crates/{crate}")
+            if why or not edit.changed:
+                found.append(f"{edit.label}: {why or 'it changes no item'}")
+            elif not edit.function:
+                found.append(f"{edit.label}: it has no line 'breaks: FUNCTION: CLAUSE'")
+    assert not found, "\n".join(found)
 
 
 CHECKS = [
@@ -188,5 +192,5 @@ CHECKS = [
     nothing_is_unsafe,
     rust_is_unsafe_in_one_file_only,
     each_public_function_has_an_edit,
-    each_edit_says_what_it_breaks,
+    each_edit_can_be_applied,
 ]

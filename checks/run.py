@@ -1,4 +1,9 @@
-"""The repository's own checks. The last line is 'N passed, M failed', and what was left out for want of a tool."""
+"""The repository's own checks. The last line is 'N passed, M failed', and what was left out for want of a tool.
+
+    python3 checks/run.py                  all of them
+    python3 checks/run.py NAME             those of one file: repository, program, built_tests ..
+    python3 checks/run.py --without NAME   all but those of one file
+"""
 import os
 import subprocess
 import sys
@@ -40,9 +45,12 @@ def build():
 
 def main():
     passed = failed = 0
-    build()
-    checks = [repository, program, built_tests, c_library, encoder, refusals, devices, cuts, hostile, memory, large, users, cost]
-    for check in [check for module in checks for check in module.CHECKS]:
+    files = [repository, program, built_tests, c_library, encoder, refusals, devices, cuts, hostile, memory, large, users, cost]
+    words = sys.argv[1:]
+    chosen = [it for it in files if not words or (it.__name__ in words) != (words[0] == "--without")]
+    if {*chosen} - {repository, built_tests}:
+        build()
+    for check in [check for file in chosen for check in file.CHECKS]:
         try:
             check()
             passed += 1
@@ -52,7 +60,7 @@ def main():
             print(f"{check.__name__}: FAILED")
             traceback.print_exc()
     print(f"{passed} passed, {failed} failed" + (f"; left out: {', '.join(LEFT_OUT)}" if LEFT_OUT else ""))
-    sys.exit(1 if failed else 0)
+    sys.exit(1 if failed or not passed else 0)
 
 
 if __name__ == "__main__":
