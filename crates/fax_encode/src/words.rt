@@ -19,6 +19,7 @@ pub struct Word {
 }
 
 /// A word of a table of (run length, number of bits, word).
+#[inline(always)]
 fn word_at(table: &[(u16, u8, u16)], index: usize) -> Word
     requires { index < length table.now }
     ensures count { result.count ≡ (get_or table.now index (0, 0, 0)).1 }
@@ -29,6 +30,7 @@ fn word_at(table: &[(u16, u8, u16)], index: usize) -> Word
 }
 
 /// The terminating word of a colour for less than 64 pixels (T.4, table 2).
+#[inline(always)]
 pub fn terminating_word(color: Color, pixels: u32) -> Word
     requires { pixels < 64 }
     ensures { IsWord (word_of_length color pixels) result }
@@ -121,6 +123,7 @@ fn word_to_the_left(places: u32) -> Option<Word>
 }
 
 /// The word of the vertical mode from b1 to a1, where a1 is at most three places from it.
+#[inline(always)]
 pub fn vertical_word(b1: u32, a1: u32) -> Option<Word>
     ensures { MatchOption result (is_near b1 a1 ≡ false)
         (λ word. (is_near b1 a1 ≡ true) × IsWord (word_of_mode (vertical_mode b1 a1)) word) }
