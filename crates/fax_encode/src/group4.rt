@@ -70,15 +70,16 @@ fn find_above(columns: u32, reference: &[u32], from: u64, color: Color, known: u
     Above { index, left }
 }
 
-/// The change behind the one of an index, where it is left of a place.
+/// b2, the change behind b1, where it is left of a1.
 #[inline(always)]
-fn b2_left_of(columns: u32, reference: &[u32], index: usize, a1: u32) -> Option<u32>
+fn b2_left_of(columns: u32, reference: &[u32], index: usize, b1: u32, a1: u32) -> Option<u32>
     requires lawful { AreChanges columns reference.now }
     requires within { index ≤ length reference.now + 1 }
+    requires first { b1 ≡ get_or reference.now index columns }
     ensures { MatchOption result (a1 ≤ get_or reference.now (index + 1) columns)
         (λ b2. (b2 ≡ get_or reference.now (index + 1) columns) × (b2 < a1)) }
 {
-    if a1 <= change_or_end(reference, index, columns) {
+    if a1 <= b1 {
         return None;
     }
     let b2 = change_or_end(reference, index + 1, columns);
@@ -127,7 +128,8 @@ fn put_mode(
 {
     let a1 = change_or_end(changes, at.next, columns);
     let above = find_above(columns, reference, at.from, at.color, at.passed);
-    if let Some(b2) = b2_left_of(columns, reference, above.index, a1) {
+    let b1 = change_or_end(reference, above.index, columns);
+    if let Some(b2) = b2_left_of(columns, reference, above.index, b1, a1) {
         put_word(writer, pass_word())?;
         return Ok(Coding {
             from: u64::from(b2) + 1,
@@ -136,7 +138,6 @@ fn put_mode(
             passed: above.left,
         });
     }
-    let b1 = change_or_end(reference, above.index, columns);
     if let Some(word) = vertical_word(b1, a1) {
         put_word(writer, word)?;
         return Ok(Coding {
