@@ -79,8 +79,7 @@ fn picture_g4(
     put_lines_2d(&mut writer, alloc, columns, bitmap, aligned)?;
     put_eol(&mut writer)?;
     put_eol(&mut writer)?;
-    writer.fill_up()?;
-    Ok(writer.into_bytes())
+    writer.finish()
 }
 
 /// The bytes of a picture of one-dimensional T.4.
@@ -91,8 +90,7 @@ fn picture_1d(alloc: Global, columns: u32, bitmap: &[u8]) -> Result<Vec<u8>, All
     let mut writer = BitWriter::new(alloc);
     put_lines_1d(&mut writer, alloc, columns, bitmap)?;
     put_return_to_control(&mut writer)?;
-    writer.fill_up()?;
-    Ok(writer.into_bytes())
+    writer.finish()
 }
 
 /// Encodes the rows of a bitmap as Group 4 (T.6), as [`encode_g4`](crate::encode_g4) encodes lists of changes. A row takes

@@ -1,7 +1,7 @@
 use Rattle.std.proofs.Common.{◌≡◌, ◌++◌}
 use Rattle.fax_encode.specs.Chosen.{chosen_run}
 use Rattle.fax_encode.specs.Writing.{all_bits}
-use Rattle.fax_encode.proofs.runs.put_run.Given as goal
+use Rattle.fax_encode.proofs.runs.put_long_run.Given as goal
 
 abbrev pub invariant-loop-left : goal.invariant-loop-left
 invariant-loop-left l = all_bits l.writer ++ chosen_run l.color l.left ≡ all_bits l.fn.writer ++ chosen_run l.color l.fn.pixels
