@@ -14,6 +14,7 @@ import cuts  # noqa: E402
 import devices  # noqa: E402
 import encoder  # noqa: E402
 import hostile  # noqa: E402
+import installed  # noqa: E402
 import program  # noqa: E402
 import refusals  # noqa: E402
 import repository  # noqa: E402
@@ -38,7 +39,7 @@ def build():
 def main():
     passed = failed = 0
     build()
-    checks = [repository, program, built_tests, c_library, encoder, refusals, devices, cuts, hostile, users, cost]
+    checks = [repository, program, built_tests, c_library, encoder, refusals, devices, cuts, hostile, installed, users, cost]
     for check in [check for module in checks for check in module.CHECKS]:
         try:
             check()
