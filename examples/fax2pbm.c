@@ -291,6 +291,15 @@ static file_bytes part_of(const tiff *from, const layout *page, uint64_t index)
     return part;
 }
 
+/* The number of rows of a page, at most as many as its data can have: a row takes at least one bit. */
+static uint32_t most_rows(const tiff *from, const layout *page)
+{
+    uint64_t bytes = 0;
+    for (uint64_t part = 0; part < page->offsets.count && bytes < page->rows; part++)
+        bytes += part_of(from, page, part).length;
+    return bytes < page->rows / 8 ? (uint32_t)(8 * bytes) : page->rows;
+}
+
 /* Decodes one strip or tile into the picture. Returns how many of its rows were decoded. */
 static uint64_t decode_part(file_bytes part, hayro_ccitt_settings settings, picture *into, uint64_t left, uint64_t top,
                             uint32_t *status)
@@ -325,8 +334,8 @@ static int decode_tiff_page(const tiff *from, uint64_t at, unsigned number, cons
     const char *why = lay_out(from, at, &page);
     if (why)
         return complain(why, name, PAGE_DAMAGED);
-    /* A row takes at least one bit, so a page whose height is a lie takes no memory, and its picture has the rows decoded. */
-    uint32_t rows = from->file.length < page.rows / 8 ? (uint32_t)(8 * from->file.length) : page.rows;
+    /* A page whose height is a lie takes no memory, and its picture has the rows that were decoded. */
+    uint32_t rows = most_rows(from, &page);
     uint64_t end = 0;
     picture made = white_picture(page.columns, rows);
     if (!made.bytes)
