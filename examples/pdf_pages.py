@@ -93,15 +93,15 @@ def written(path, folder):
 
 def faxes(path, folder):
     """Of each fax image its page, number, size, object, bytes and words. Images in a page's content may be counted by the list and
-    not by the files, so that numbers differ; then they are taken in order."""
+    not by the files; where the numbers so differ, those that are objects are taken in order."""
     images = [image for image in listed(path) if image[4] == "ccitt"]
     streams = written(path, folder)
-    if len(images) != len(streams):
-        images = [image for image in images if image[5]] if len([1 for image in images if image[5]]) == len(streams) else []
-    if not images:
-        for number, (data, words) in streams.items():
-            yield 0, number, 0, 0, None, data, words
-    for (page, _, width, height, _, item), (number, (data, words)) in zip(images, streams.items()):
+    by_number = {image[1]: image for image in images}
+    if not streams.keys() <= by_number.keys():
+        objects = [image for image in images if image[5]]
+        by_number = dict(zip(streams, objects)) if len(objects) == len(streams) else {}
+    for number, (data, words) in streams.items():
+        page, _, width, height, _, item = by_number.get(number, (0, number, 0, 0, "", None))
         yield page, number, width, height, item, data, words
 
 
