@@ -13,6 +13,7 @@ import cost  # noqa: E402
 import cuts  # noqa: E402
 import devices  # noqa: E402
 import encoder  # noqa: E402
+import files  # noqa: E402
 import hostile  # noqa: E402
 import installed  # noqa: E402
 import program  # noqa: E402
@@ -39,7 +40,7 @@ def build():
 def main():
     passed = failed = 0
     build()
-    checks = [repository, program, built_tests, c_library, encoder, refusals, devices, cuts, hostile, installed, users, cost]
+    checks = [repository, program, built_tests, c_library, encoder, refusals, devices, cuts, hostile, installed, users, files, cost]
     for check in [check for module in checks for check in module.CHECKS]:
         try:
             check()
