@@ -7,6 +7,7 @@ import subprocess
 import tempfile
 
 import c_library
+from left_out import leave_out
 
 # what the example is told, and then its counterpart, with as many rows as there are
 WAYS = [("g4", "-", "b"), ("g4", "a", "ba"), ("1d", "-", "b")]
@@ -166,7 +167,7 @@ def beside_libtiff():
         built = run(b"", "gcc", "-O2", "-Wall", "-Wextra", "-Werror", "-std=c11", "-o", tool, "checks/by_libtiff.c", "-ltiff")
         if built.returncode:
             assert b"tiffio.h" in built.stderr, built.stderr
-            print("  left out, without libtiff")
+            leave_out("the encoder beside libtiff", "libtiff")
             return
         encode, decode = examples(folder)
         for columns, bitmap in pictures():
@@ -203,7 +204,7 @@ DECODE = """/buffer 65536 string def
 def beside_ghostscript():
     """Our strips decoded by Ghostscript, which has Group 4 with aligned rows too."""
     if not shutil.which("gs"):
-        print("  left out, without gs")
+        leave_out("the encoder beside Ghostscript", "gs")
         return
     c_library.build()
     with tempfile.TemporaryDirectory() as folder:

@@ -6,6 +6,7 @@ import subprocess
 import tempfile
 
 import users
+from left_out import leave_out
 
 COLUMNS, ROWS = 1240, 1754
 PAGE = f"P4\n{COLUMNS} {ROWS}\n".encode()
@@ -88,7 +89,7 @@ def files_by_other_programs():
         with open(f"{folder}/page.pbm", "wb") as out:
             out.write(page)
         if not made(folder, "ppm2tiff", "ppm2tiff -c none page.pbm {}", "page.tif"):
-            print("  left out, without libtiff's tools")
+            leave_out("files by other programs", "libtiff's tools")
             return
         for ending, cases in (("tif", TIFF), ("pdf", PDF)):
             for tool, name, command in cases:

@@ -6,6 +6,8 @@ import shutil
 import subprocess
 import tempfile
 
+from left_out import leave_out
+
 C89 = ["-std=c89", "-pedantic", "-Wall", "-Wextra", "-Werror"]
 CXX98 = ["-std=c++98", "-pedantic", "-Wall", "-Wextra", "-Werror"]
 # Null pointers of length 0 give what others give: in every encoding, with every flag, in several widths.
@@ -136,7 +138,7 @@ def installed():
     """Everything is installed, and works by the flags of hayro_ccitt.pc, from C and from C++."""
     missing = [tool for tool in ("make", "gcc", "g++", "pkg-config", "objcopy") if not shutil.which(tool)]
     if missing:
-        print(f"  left out, without {', '.join(missing)}")
+        leave_out("make install", ", ".join(missing))
         return
     runs = 0
     with tempfile.TemporaryDirectory() as folder:

@@ -1,4 +1,4 @@
-"""The repository's own checks. The last line is 'N passed, M failed'."""
+"""The repository's own checks. The last line is 'N passed, M failed', and what was left out for want of a tool."""
 import os
 import subprocess
 import sys
@@ -16,10 +16,12 @@ import encoder  # noqa: E402
 import files  # noqa: E402
 import hostile  # noqa: E402
 import installed  # noqa: E402
+import large  # noqa: E402
 import program  # noqa: E402
 import refusals  # noqa: E402
 import repository  # noqa: E402
 import users  # noqa: E402
+from left_out import LEFT_OUT  # noqa: E402
 
 
 def build():
@@ -40,7 +42,7 @@ def build():
 def main():
     passed = failed = 0
     build()
-    checks = [repository, program, built_tests, c_library, encoder, refusals, devices, cuts, hostile, installed, users, files, cost]
+    checks = [repository, program, built_tests, c_library, encoder, refusals, devices, cuts, hostile, large, installed, users, files, cost]
     for check in [check for module in checks for check in module.CHECKS]:
         try:
             check()
@@ -50,7 +52,7 @@ def main():
             failed += 1
             print(f"{check.__name__}: FAILED")
             traceback.print_exc()
-    print(f"{passed} passed, {failed} failed")
+    print(f"{passed} passed, {failed} failed" + (f"; left out: {', '.join(LEFT_OUT)}" if LEFT_OUT else ""))
     sys.exit(1 if failed else 0)
 
 

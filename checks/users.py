@@ -8,6 +8,7 @@ import subprocess
 import tempfile
 
 import c_library
+from left_out import leave_out
 
 PAGES = ["README.md", "docs/USING.md"]
 # Tools that a command may need and that needn't be here.
@@ -87,8 +88,10 @@ def commands_of_the_pages():
             assert printed == text, f"{page}: {command}\nprints\n{printed}and not\n{text}"
             run += 1
     assert run > 0
-    absent = [tool for tool in TOOLS if not shutil.which(tool)]
-    print(f"  {run} commands run; {len(left_out)} left out" + (f", without {', '.join(absent)}" if absent else ""))
+    print(f"  {run} commands run")
+    if left_out:
+        absent = [tool for tool in TOOLS if not shutil.which(tool)]
+        leave_out(f"{len(left_out)} commands of the pages", ", ".join(absent))
 
 
 def manifest():
@@ -107,7 +110,7 @@ def damaged(data):
 def the_cargo_package():
     """Its cases, and its example against the C program: on each strip with its first settings, whole and damaged."""
     if not shutil.which("cargo"):
-        print("  left out, without cargo")
+        leave_out("the Cargo package", "cargo")
         return
     c_library.build()
     same = 0

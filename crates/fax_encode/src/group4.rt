@@ -57,6 +57,7 @@ fn elements_of_row(columns: u32, changes: &[u32], from: u64, known: usize) -> El
     ensures a1 { result.first ≡ a1 (pixels columns changes.now) from }
     ensures a2 { result.second ≡ a2 (pixels columns changes.now) from }
     ensures left { AreLeft changes.now from result.left }
+    ensures right { result.left < length changes.now → from ≤ get_or changes.now result.left 0 }
 {
     let left = count_left(changes, known, from);
     Elements {
@@ -79,6 +80,7 @@ fn elements_of_reference(
     ensures b1 { result.first ≡ b1 (pixels columns reference.now) from color }
     ensures b2 { result.second ≡ b2 (pixels columns reference.now) from color }
     ensures left { AreLeft reference.now from result.left }
+    ensures right { result.left < length reference.now → from ≤ get_or reference.now result.left 0 }
 {
     let left = count_left(reference, known, from);
     let mut index = left;
@@ -114,6 +116,10 @@ fn put_mode(
         (chosen_mode (pixels columns reference.now) (pixels columns changes.now) (place_of at))) }
     ensures passed { IfOk result (λ after. AreLeft reference.now at.from after.passed) }
     ensures next { IfOk result (λ after. AreLeft changes.now at.from after.next) }
+    ensures passed_onward { IfOk result (λ after. after.passed < length reference.now
+        → at.from ≤ get_or reference.now after.passed 0) }
+    ensures next_onward { IfOk result (λ after. after.next < length changes.now
+        → at.from ≤ get_or changes.now after.next 0) }
 {
     let row = elements_of_row(columns, changes, at.from, at.next);
     let above = elements_of_reference(columns, reference, at.from, at.color, at.passed);

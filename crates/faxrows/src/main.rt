@@ -10,7 +10,6 @@ ghost use Rattle.std.specs.Prelude.{◌≡◌, ◌<◌, IsTrue, length, map, str
 ghost use Rattle.faxrows.specs.Arguments.{asks_for_bitmap, is_word_alone};
 
 mod arguments;
-mod decoding;
 pub mod device;
 mod digits;
 mod last_line;

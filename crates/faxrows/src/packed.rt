@@ -8,13 +8,12 @@ ghost use Rattle.faxrows.specs.Runs.{OnKnown, WasRead};
 ghost use Rattle.faxrows.specs.PackedRuns.{IsPackedOf, answer_of};
 
 use crate::arguments::arguments_of;
-use crate::decoding::decode_in;
 use crate::device::Device;
 use crate::program::{RunFault, read_all, write_all};
 use fax_encode::BitmapSink;
 use fax_encode::laws::rows_are_packed;
 use hayro_ccitt::bit_reader::BitOrder;
-use hayro_ccitt::{DecodeError, DecoderContext};
+use hayro_ccitt::{DecodeError, DecoderContext, decode_in};
 use std::alloc::Global;
 use std::io::{Read, Write};
 

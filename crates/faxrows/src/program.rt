@@ -8,12 +8,11 @@ ghost use Rattle.faxrows.specs.Text.{line_of_outcome};
 ghost use Rattle.faxrows.specs.Runs.{Outcome, OnKnown, EndsAfter, IsTextOfWant, whole_text, text_after, outcome_of, done_of, WasRead};
 
 use crate::arguments::arguments_of;
-use crate::decoding::decode_in;
 use crate::device::Device;
 use crate::last_line::{ROOM, error_line, put_ok};
 use crate::text_sink::TextSink;
 use hayro_ccitt::bit_reader::BitOrder;
-use hayro_ccitt::{DecodeError, DecoderContext};
+use hayro_ccitt::{DecodeError, DecoderContext, decode_in};
 use std::alloc::Global;
 use std::fmt;
 use std::io::{Read, Write};

@@ -1,11 +1,11 @@
 pub mod Gathered
 pub mod Limits
+pub mod OneReading
 pub mod PlainAnswers
 pub mod Repeated
 pub mod RowWidths
 pub mod RowsAndGaps
 pub mod RowsOfGroup3
-pub mod RowsOfGroup4
 pub mod RunsOverRows
 pub mod Strictness
 pub mod TurnsAddRows

@@ -8,9 +8,9 @@ use Rattle.hayro_ccitt.specs.Bits.{Bits}
 use Rattle.hayro_ccitt.specs.Context.{Context, Held, redrawn}
 use Rattle.hayro_ccitt.specs.declared.settings.EncodingMode.{EncodingMode}
 use Rattle.hayro_ccitt.specs.Lines.{Line}
-use Rattle.hayro_ccitt.specs.PlainReading.{Gap, end_by, lines_by}
+use Rattle.hayro_ccitt.specs.PlainReading.{Progress, Gap, end_by, lines_by, ending_from, gathered_from, move_group3, lines_of_move_group3}
 use Rattle.hayro_ccitt.specs.Rows.{Row, changes}
-use Rattle.hayro_ccitt.specs.Work.{CountsRun, words_by, most_counted}
+use Rattle.hayro_ccitt.specs.Work.{CountsRun, words_by, words_of_move_group3, most_counted}
 
 -- glue: what a sink means, whether it has refused a row, and which rows it refuses
 pub record SinkState (M : Type 0) : Type 1 where
@@ -74,6 +74,12 @@ pub record RowIsTaken {M : Type 0} (row : Result (Row × Bits) DecodeError) (ste
   pub held : new ≡ with_row_taken old taken
   pub meaning : after.meaning ≡ step before.meaning (changes taken)
 
+-- the bits behind a line that began here: those that follow a whole one; where a broken one is repaired, the place goes
+-- back to the line's start (T.4, 4.1.2)
+abbrev pub behind_line : Line → Bits → Bits
+behind_line (Line.whole row rest) start = rest
+behind_line (Line.broken front fault) start = start
+
 -- a row stands here that is refused
 abbrev pub IsRefusedBy : (List ℕ → Type 0) → Result (Row × Bits) DecodeError → Type 0
 IsRefusedBy refuses (Ok (row, rest)) = refuses (changes row)
@@ -89,3 +95,12 @@ pub record TakesOneRow {M : Type 0} (line : Line) (row : Result (Row × Bits) De
   pub refused : answer ≡ Err Refused → IsRefusedBy after.refuses row
   pub flag : answer ≡ Err Refused → after.refused ≡ true
   pub no_flag : answer ≢ Err Refused → after.refused ≡ before.refused
+
+-- What a run over rows leaves that begins at a line: the rows that were taken, what comes with fewer, and the work.
+pub record DecodesFrom {M : Type 0} (first : Progress) (most : ℕ) (step : M → List ℕ → M) (before after : SinkState M) (old new : Context) (answer : Result Bits DecodeError) : Type 0 where
+  pub settings : new.held.settings ≡ old.held.settings
+  pub reading : TakesRows (ending_from (move_group3 old.held.settings) first).rows (ending_from (move_group3 old.held.settings) first).outcome
+      (ending_from (move_group3 old.held.settings) first).has_eols step before after new.held answer
+  pub short : StopsShort (ending_from (move_group3 old.held.settings) first).rows
+      (gathered_from (move_group3 old.held.settings) (lines_of_move_group3 old.held.settings) first) before after new.held answer
+  pub work : CountsRun (gathered_from (move_group3 old.held.settings) (words_of_move_group3 old.held.settings) first) new.held.taken old.ticks new.ticks most

@@ -64,19 +64,25 @@ abbrev pub gap_group4 : DecodeSettings → ℕ → Bool → Bits → Gap
 gap_group4 settings taken has_eols here = behind_eols_group4 settings taken has_eols (eols_group4 settings here)
 
 -- the EOLs that stand here, in two-dimensional data with their tags (T.4, 4.2.2)
-abbrev pub eols_by : EncodingMode → Bits → ℕ × Bits
-eols_by Group3_1D here = all_eols here
-eols_by Group3_2D here = tagged_eols here
-eols_by Group4 here = all_eols here
+abbrev pub eols_by : EncodingMode → Bool → Bits → ℕ × Bits
+eols_by Group3_1D end_of_block here = all_eols here
+eols_by Group3_2D end_of_block here = tagged_eols here
+eols_by Group4 end_of_block here = if end_of_block then eols 2 here else all_eols here
 
 -- the EOLs of Group 3 that stand here (T.4, 4.1.2)
 abbrev pub eols_group3 : DecodeSettings → Bits → ℕ × Bits
-eols_group3 settings here = eols_by settings.encoding here
+eols_group3 settings here = eols_by settings.encoding settings.end_of_block here
+
+-- so many EOLs end the data: the two of EOFB (T.6, 2.4.1.1), the six of RTC (T.4, 4.1.4)
+abbrev pub eols_of_end : EncodingMode → ℕ
+eols_of_end Group4 = 2
+eols_of_end Group3_1D = 6
+eols_of_end Group3_2D = 6
 
 -- EOLs were counted behind so many rows of Group 3: six of them with `end_of_block`, which are RTC, end the reading, and
 -- so do the limit and the end of the data (T.4, 4.1.4)
 abbrev pub is_over_group3 : DecodeSettings → ℕ → ℕ × Bits → Bool
-is_over_group3 settings taken (count, rest) = (settings.end_of_block && nat_le 6 count) || limit_met settings taken || at_end rest
+is_over_group3 settings taken (count, rest) = (settings.end_of_block && nat_le (eols_of_end settings.encoding) count) || limit_met settings taken || at_end rest
 
 -- behind these EOLs of Group 3 a line stands, unless the reading is over (T.4, 4.1.4)
 abbrev pub behind_eols_group3 : DecodeSettings → ℕ → Bool → ℕ × Bits → Gap

@@ -363,6 +363,27 @@ impl<'a> BitReader<'a> {
         self.read_eols(usize::MAX, ticks)
     }
 
+    /// Passes the next eleven bits up to the last one among them, before which no EOL begins, and returns whether there is
+    /// one. Each bit that is passed is a tick.
+    #[inline(always)]
+    fn pass_near_ones(&mut self, ticks: &mut Ticks) -> bool
+        ensures next { next_eol (here self.old) ≡ next_eol (here self.new) }
+        ensures onward { length (here self.new) ≤ length (here self.old) }
+        ensures fewer { result ≡ true → length (here self.new) < length (here self.old) }
+        ensures same_bits { self.new.bits ≡ self.old.bits }
+        ensures ticks { ticks.new + length (here self.new) ≡ ticks.old + length (here self.old) }
+    {
+        let next = self.peek_u32() >> 21;
+        if next == 0 {
+            return false;
+        }
+        let passed = 11 - next.trailing_zeros() as usize;
+        ticks.tick_times(passed);
+        // The last one is there to be passed.
+        let _ = self.consume(passed);
+        true
+    }
+
     /// Moves to the start of the zeros of the next EOL at or after here (T.4 sections 4.1.2 and 4.1.3), without
     /// reading it. Where there is none it answers false, and the place stays. It never fails. Each bit that is
     /// looked at is a tick.
@@ -373,16 +394,18 @@ impl<'a> BitReader<'a> {
         ensures ticks { ticks.new + length (here self.new)
             ≡ ticks.old + length (here self.old) + (if result then looked (here self.new) else length (here self.new)) }
     {
-        let mut reader = self.clone().unwrap();
+        let mut reader = self.copy();
         'eols: loop {
-            let (zeros, after) = reader.zero_run(ticks);
-            match after {
-                Some(_) if zeros >= 11 => {
-                    *self = reader;
-                    return true;
+            if !reader.pass_near_ones(ticks) {
+                let (zeros, after) = reader.zero_run(ticks);
+                match after {
+                    Some(_) if zeros >= 11 => {
+                        *self = reader;
+                        return true;
+                    }
+                    Some(after) => reader = after,
+                    None => return false,
                 }
-                Some(after) => reader = after,
-                None => return false,
             }
         }
     }

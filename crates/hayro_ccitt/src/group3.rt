@@ -1,19 +1,20 @@
 //! Group 3: EOLs stand between the lines, and a damaged line stays in its row (T.4).
 
-ghost use Rattle.std.specs.Prelude.{◌≡◌, ◌≢◌, ◌↔◌, ◌<◌, ◌≤◌, ◌+◌, ◌*◌, Err, OnOk, OnErr, IfOk, IsErr, IsOkUnless, IsTrue, true, nat_lt, ◌||◌, [], length};
+ghost use Rattle.std.specs.Prelude.{false, ◌≡◌, ◌≢◌, ◌↔◌, ◌<◌, ◌≤◌, ◌+◌, ◌*◌, Err, OnOk, OnErr, IfOk, IsErr, IsOkUnless, IsTrue, true, nat_lt, ◌||◌, [], length};
 ghost use Rattle.hayro_ccitt.specs.Answers.{DrawsLine, IsFault, IsRepairable, OnAnswer, RepairStoresChange};
 ghost use Rattle.hayro_ccitt.specs.Bits.{here};
 ghost use Rattle.hayro_ccitt.specs.Context.{after_repair, fresh, redrawn};
 ghost use Rattle.hayro_ccitt.specs.EndOfLine.{all_eols};
-ghost use Rattle.hayro_ccitt.specs.Decoding.{DecodesRows, TakesOneRow, leaving, gap_said};
+ghost use Rattle.hayro_ccitt.specs.Decoding.{DecodesFrom, DecodesRows, TakesOneRow, behind_line, leaving, gap_said};
 ghost use Rattle.hayro_ccitt.specs.PlainReading.{eols_group3, is_over_group3, gap_group3, row_group3, line_by, line_at_group3};
 ghost use Rattle.hayro_ccitt.specs.Lines.{line_found};
 ghost use Rattle.hayro_ccitt.specs.Rows.{changes};
 ghost use Rattle.hayro_ccitt.specs.Ticks.{looked, looked_ahead};
-ghost use Rattle.hayro_ccitt.specs.Work.{found_at_group3};
+ghost use Rattle.hayro_ccitt.specs.Work.{found_at_group3, most_from_line};
 
 use crate::bit_reader::BitReader;
 use crate::context::{DecoderContext, decode_1d_line, decode_2d_line};
+use crate::group4::read_eols_before_line;
 use crate::rows::{limit_met, take_row};
 use crate::{DecodeError, Decoder, EncodingMode, Result};
 
@@ -68,7 +69,8 @@ fn read_eols(ctx: &mut DecoderContext, reader: &mut BitReader<'_>) -> usize
 {
     match ctx.settings().encoding {
         EncodingMode::Group3_2D => reader.read_tagged_eols(ctx.ticks()),
-        EncodingMode::Group3_1D | EncodingMode::Group4 => reader.read_eol_if_available(ctx.ticks()),
+        EncodingMode::Group3_1D => reader.read_eol_if_available(ctx.ticks()),
+        EncodingMode::Group4 => read_eols_before_line(ctx, reader),
     }
 }
 
@@ -77,7 +79,11 @@ fn read_eols(ctx: &mut DecoderContext, reader: &mut BitReader<'_>) -> usize
 fn is_over(ctx: &DecoderContext, reader: &BitReader<'_>, count: usize) -> bool
     ensures over { result ≡ is_over_group3 ctx.now.held.settings ctx.now.held.taken (count, here reader.now) }
 {
-    let at_rtc = ctx.settings().end_of_block && count >= 6;
+    let eols_of_end = match ctx.settings().encoding {
+        EncodingMode::Group4 => 2, // EOFB
+        EncodingMode::Group3_1D | EncodingMode::Group3_2D => 6, // RTC
+    };
+    let at_rtc = ctx.settings().end_of_block && count >= eols_of_end;
     let at_limit = limit_met(ctx);
     let at_end = reader.at_end();
     at_rtc || at_limit || at_end
@@ -87,9 +93,7 @@ fn is_over(ctx: &DecoderContext, reader: &BitReader<'_>, count: usize) -> bool
 /// data. It counts the EOLs there. Where none came although the data has EOLs, the next one is looked for, and where
 /// none is left EOLs are given up; strict data is then at fault, which is `InvalidCode`. It takes no memory. Each bit that is looked at is a
 /// tick: one that is passed at most four times.
-pub fn check_eob(ctx: &mut DecoderContext, reader: &mut BitReader<'_>) -> Result<bool>
-    requires encoding { ctx.old.held.settings.encoding ≢ EncodingMode.Group4 }
-    requires some { 0 < ctx.old.held.taken }
+fn gap_behind_row(ctx: &mut DecoderContext, reader: &mut BitReader<'_>) -> Result<bool>
     ensures gap { gap_group3 ctx.old.held.settings ctx.old.held.taken ctx.old.held.has_eols (here reader.old)
         ≡ gap_said result ctx.new.held.has_eols (here reader.new) }
     ensures held { ctx.new.held ≡ record ctx.old.held { has_eols = ctx.new.held.has_eols } }
@@ -120,6 +124,33 @@ pub fn check_eob(ctx: &mut DecoderContext, reader: &mut BitReader<'_>) -> Result
     }
     let count = read_eols(ctx, reader);
     Ok(is_over(ctx, reader, count))
+}
+
+/// Whether the image ends behind a row (T.4 sections 4.1.2 and 4.1.4): true at RTC, the row limit or the end of the
+/// data. It counts the EOLs there. Where none came although the data has EOLs, the next one is looked for, and where
+/// none is left EOLs are given up; strict data is then at fault, which is `InvalidCode`. It takes no memory. Each bit that is looked at is a
+/// tick: one that is passed at most four times.
+pub fn check_eob(ctx: &mut DecoderContext, reader: &mut BitReader<'_>) -> Result<bool>
+    requires encoding { ctx.old.held.settings.encoding ≢ EncodingMode.Group4 }
+    requires some { 0 < ctx.old.held.taken }
+    ensures gap { gap_group3 ctx.old.held.settings ctx.old.held.taken ctx.old.held.has_eols (here reader.old)
+        ≡ gap_said result ctx.new.held.has_eols (here reader.new) }
+    ensures held { ctx.new.held ≡ record ctx.old.held { has_eols = ctx.new.held.has_eols } }
+    ensures given_up { IfOk result (λ over. over ≡ true → ctx.new.held.has_eols ≡ ctx.old.held.has_eols) }
+    ensures kept { OnErr result (ctx.new.held.has_eols ≡ ctx.old.held.has_eols) }
+    ensures only_code { IsOkUnless result DecodeError.InvalidCode }
+    ensures only_strict { OnErr result (ctx.old.held.settings.strict ≡ true) }
+    ensures same_bits { reader.new.bits ≡ reader.old.bits }
+    ensures counts { ctx.old.ticks ≤ ctx.new.ticks }
+    ensures at_least { OnOk result (ctx.old.ticks + length (here reader.old) ≤ ctx.new.ticks + length (here reader.new)) }
+    ensures work { OnOk result (ctx.new.held.has_eols ≡ ctx.old.held.has_eols
+        → ctx.new.ticks + 4 * length (here reader.new) ≤ ctx.old.ticks + 4 * length (here reader.old) + 3
+        + looked_ahead ctx.old.held.settings.encoding (here reader.new)) }
+    ensures work_given_up { OnOk result (ctx.new.held.has_eols ≢ ctx.old.held.has_eols
+        → ctx.new.ticks ≤ ctx.old.ticks + 2 * length (here reader.old)) }
+    ensures work_refused { OnErr result (ctx.new.ticks ≡ ctx.old.ticks + looked (here reader.old)) }
+{
+    gap_behind_row(ctx, reader)
 }
 
 /// Decodes a line of the kind that its tag says (T.4 section 4.2.2). A missing tag is `UnexpectedEof`, with nothing
@@ -186,6 +217,8 @@ fn read_row<D: Decoder>(
         (record { meaning = D.meaning decoder.old; refused = D.has_refused decoder.old; refuses = D.refuses decoder.old })
         (record { meaning = D.meaning decoder.new; refused = D.has_refused decoder.new; refuses = D.refuses decoder.new })
         ctx.old.held ctx.new.held result (here reader.new) }
+    ensures refused_place { result ≡ Err DecodeError.Refused → here reader.new
+        ≡ behind_line (line_at_group3 ctx.old.held.settings ctx.old.held.reference (here reader.old)) (here reader.old) }
     ensures same_bits { reader.new.bits ≡ reader.old.bits }
     ensures counts { ctx.old.ticks ≤ ctx.new.ticks }
     ensures at_least { OnOk result (ctx.old.ticks
@@ -220,13 +253,39 @@ fn read_leading_eols(ctx: &mut DecoderContext, reader: &mut BitReader<'_>)
     ctx.set_has_eols(count > 0 || end_of_line);
 }
 
-/// Decodes the rows of Group 3 data until RTC (with `end_of_block`), the row limit or the end of the data.
-fn decode_rows<D: Decoder>(
+/// Decodes rows from a line on, in every encoding, until EOFB or RTC (with `end_of_block`), the row limit or the end of the
+/// data.
+pub(crate) fn decode_rows<D: Decoder>(
     ctx: &mut DecoderContext,
     reader: &mut BitReader<'_>,
     decoder: &mut D,
 ) -> Result<()>
-    requires encoding { ctx.old.held.settings.encoding ≢ EncodingMode.Group4 }
+    requires columns { 0 < ctx.old.held.settings.columns }
+    requires first { ctx.old.held ≡ record (fresh ctx.old.held.settings) { has_eols = ctx.old.held.has_eols } }
+    requires width { ctx.old.held.settings.columns ≤ D.width decoder.old }
+    ensures width { D.width decoder.new ≡ D.width decoder.old }
+    ensures rows { DecodesFrom (record { rows = []; has_eols = ctx.old.held.has_eols; rest = here reader.old })
+        (most_from_line ctx.old.held.has_eols (length reader.old.bits)) (D.step (D.width decoder.old))
+        (record { meaning = D.meaning decoder.old; refused = D.has_refused decoder.old; refuses = D.refuses decoder.old })
+        (record { meaning = D.meaning decoder.new; refused = D.has_refused decoder.new; refuses = D.refuses decoder.new })
+        ctx.old ctx.new (leaving result (here reader.new)) }
+    ensures no_eols { ctx.old.held.has_eols ≡ false → ctx.new.held.has_eols ≡ false }
+    ensures same_bits { reader.new.bits ≡ reader.old.bits }
+{
+    'rows: loop {
+        read_row(ctx, reader, decoder)?;
+        if gap_behind_row(ctx, reader)? {
+            return Ok(());
+        }
+    }
+}
+
+/// Decodes the rows of Group 3 data.
+fn decode_eols_and_rows<D: Decoder>(
+    ctx: &mut DecoderContext,
+    reader: &mut BitReader<'_>,
+    decoder: &mut D,
+) -> Result<()>
     requires columns { 0 < ctx.old.held.settings.columns }
     requires fresh { ctx.old.held ≡ fresh ctx.old.held.settings }
     requires start { reader.old.place ≡ 0 }
@@ -239,12 +298,7 @@ fn decode_rows<D: Decoder>(
     ensures same_bits { reader.new.bits ≡ reader.old.bits }
 {
     read_leading_eols(ctx, reader);
-    'rows: loop {
-        read_row(ctx, reader, decoder)?;
-        if check_eob(ctx, reader)? {
-            return Ok(());
-        }
-    }
+    decode_rows(ctx, reader, decoder)
 }
 
 /// Decodes the rows of one-dimensional data of Group 3 (T.4 section 4.1) until RTC (with `end_of_block`), the row
@@ -267,7 +321,7 @@ pub fn decode_1d<D: Decoder>(
         ctx.old ctx.new (leaving result (here reader.new)) }
     ensures same_bits { reader.new.bits ≡ reader.old.bits }
 {
-    decode_rows(ctx, reader, decoder) // No line has a tag.
+    decode_eols_and_rows(ctx, reader, decoder) // No line has a tag.
 }
 
 /// Decodes the rows of two-dimensional data of Group 3 (T.4 section 4.2), each behind its tag, until RTC (with
@@ -290,5 +344,5 @@ pub fn decode_2d<D: Decoder>(
         ctx.old ctx.new (leaving result (here reader.new)) }
     ensures same_bits { reader.new.bits ≡ reader.old.bits }
 {
-    decode_rows(ctx, reader, decoder) // Each line has its tag.
+    decode_eols_and_rows(ctx, reader, decoder) // Each line has its tag.
 }

@@ -1,26 +1,28 @@
 //! Group 4: every line is two-dimensional (T.6).
 
 ghost use Rattle.std.specs.Prelude.{◌≡◌, ◌<◌, ◌≤◌, ◌+◌, ◌*◌, ◌^◌, Ok, OnOk, false, length};
-ghost use Rattle.hayro_ccitt.specs.Answers.{line_from_2d, words_from_2d};
 ghost use Rattle.hayro_ccitt.specs.Bits.{here};
 ghost use Rattle.hayro_ccitt.specs.Context.{fresh};
-ghost use Rattle.hayro_ccitt.specs.Decoding.{DecodesRows, TakesOneRow, leaving, gap_said};
-ghost use Rattle.hayro_ccitt.specs.PlainReading.{eols_group4, is_over_group4, gap_group4, row_group4};
-ghost use Rattle.hayro_ccitt.specs.Rows.{changes};
+ghost use Rattle.hayro_ccitt.specs.Decoding.{DecodesRows, leaving, gap_said};
+ghost use Rattle.hayro_ccitt.specs.PlainReading.{eols_group4, is_over_group4, gap_group4};
 ghost use Rattle.hayro_ccitt.specs.Ticks.{looked};
 
 use crate::bit_reader::BitReader;
-use crate::context::{DecoderContext, decode_2d_line};
-use crate::rows::{limit_met, take_row};
+use crate::context::DecoderContext;
+use crate::group3::decode_rows;
+use crate::rows::limit_met;
 use crate::{Decoder, EncodingMode, Result};
 
 /// Reads the EOLs before a line, at most the two of EOFB with `end_of_block`, and answers how many there were.
 #[inline(always)]
-fn read_eols_before_line(ctx: &mut DecoderContext, reader: &mut BitReader<'_>) -> usize
+pub(crate) fn read_eols_before_line(ctx: &mut DecoderContext, reader: &mut BitReader<'_>) -> usize
     ensures eols { eols_group4 ctx.old.held.settings (here reader.old) ≡ (result, here reader.new) }
     ensures same_bits { reader.new.bits ≡ reader.old.bits }
     ensures held { ctx.new.held ≡ ctx.old.held }
     ensures counts { ctx.old.ticks ≤ ctx.new.ticks }
+    ensures at_least { ctx.old.ticks + length (here reader.old) ≤ ctx.new.ticks + length (here reader.new) }
+    ensures work_none { result ≡ 0 → ctx.new.ticks + length (here reader.new)
+        ≡ ctx.old.ticks + length (here reader.old) + looked (here reader.new) }
     ensures work { ctx.new.ticks + length (here reader.new)
         ≤ ctx.old.ticks + length (here reader.old) + looked (here reader.new) }
     ensures forward { length (here reader.new) ≤ length (here reader.old) }
@@ -62,35 +64,6 @@ fn before_line(ctx: &mut DecoderContext, reader: &mut BitReader<'_>) -> bool
     is_over(ctx, reader, count)
 }
 
-/// Reads a line and hands its row over. The errors are those of the line, and `Refused` where the sink refuses.
-#[inline(always)]
-fn read_row<D: Decoder>(
-    ctx: &mut DecoderContext,
-    reader: &mut BitReader<'_>,
-    decoder: &mut D,
-) -> Result<()>
-    requires width { ctx.old.held.settings.columns ≤ D.width decoder.old }
-    requires rows { ctx.old.held.taken + 1 < 2 ^ 64 }
-    requires no_eols { ctx.old.held.has_eols ≡ false }
-    ensures width { D.width decoder.new ≡ D.width decoder.old }
-    ensures row { TakesOneRow (line_from_2d ctx.old.held (here reader.old))
-        (row_group4 ctx.old.held.settings (line_from_2d ctx.old.held (here reader.old))) (D.step (D.width decoder.old))
-        (record { meaning = D.meaning decoder.old; refused = D.has_refused decoder.old; refuses = D.refuses decoder.old })
-        (record { meaning = D.meaning decoder.new; refused = D.has_refused decoder.new; refuses = D.refuses decoder.new })
-        ctx.old.held ctx.new.held result (here reader.new) }
-    ensures same_bits { reader.new.bits ≡ reader.old.bits }
-    ensures counts { ctx.old.ticks ≤ ctx.new.ticks }
-    ensures at_least { OnOk result (ctx.old.ticks
-        + length (words_from_2d ctx.old.held (here reader.old)) ≤ ctx.new.ticks) }
-    ensures at_most { ctx.new.ticks ≤ ctx.old.ticks + 4 * length (words_from_2d ctx.old.held (here reader.old)) + 1
-        + length (changes ctx.old.held.reference) }
-    ensures stored { OnOk result (length (changes ctx.new.held.reference)
-        ≤ length (words_from_2d ctx.old.held (here reader.old))) }
-{
-    decode_2d_line(ctx, reader)?;
-    take_row(ctx, reader, decoder)
-}
-
 /// Decodes the rows of Group 4 data until EOFB (with `end_of_block`), the row limit or the end of the data. The
 /// errors are those of a line, and `Refused` where the sink refuses a row.
 pub fn decode<D: Decoder>(
@@ -111,10 +84,8 @@ pub fn decode<D: Decoder>(
     ensures no_eols { ctx.new.held.has_eols ≡ false }
     ensures same_bits { reader.new.bits ≡ reader.old.bits }
 {
-    'rows: loop {
-        if before_line(ctx, reader) {
-            return Ok(());
-        }
-        read_row(ctx, reader, decoder)?;
+    if before_line(ctx, reader) {
+        return Ok(());
     }
+    decode_rows(ctx, reader, decoder)
 }

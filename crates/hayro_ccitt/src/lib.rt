@@ -9,12 +9,15 @@
 //! reads it.
 #![tactic(auto)]
 
-ghost use Rattle.std.specs.Prelude.{◌≡◌, ◌*◌, ◌<◌, ◌≤◌, ◌↔◌, ℕ, List, Bool, true, false, OnOk, OnErr, IfOk, IsOkUnless, IsTrue, length};
-ghost use Rattle.hayro_ccitt.specs.Bits.{AreWholeBytes, BitsFit, bits_of, low_first_bits_of, here};
+ghost use Rattle.std.specs.Prelude.{◌≡◌, ◌*◌, ◌<◌, ◌≤◌, ◌↔◌, ℕ, List, Bool, true, false, Ok, OnOk, OnErr, IfOk, IsOkUnless, IsTrue, length};
+ghost use Rattle.hayro_ccitt.specs.Answers.{OnAnswer};
+ghost use Rattle.hayro_ccitt.specs.Bits.{AreWholeBytes, BitsFit, bits_in, bits_of, low_first_bits_of, here};
 ghost use Rattle.hayro_ccitt.specs.Context.{fresh};
 ghost use Rattle.hayro_ccitt.specs.Contract.{Decodes};
 ghost use Rattle.hayro_ccitt.specs.Decoding.{DecodesRows, leaving};
+ghost use Rattle.hayro_ccitt.specs.PlainReading.{end_by, plain};
 ghost use Rattle.hayro_ccitt.specs.Rows.{AreChanges};
+ghost use Rattle.hayro_ccitt.specs.Work.{CountsRun, CountsWork, words_by, most_counted};
 
 pub mod bit_reader;
 pub mod changes;
@@ -30,7 +33,7 @@ mod settings;
 pub mod tables;
 mod usual;
 
-use bit_reader::BitReader;
+use bit_reader::{BitOrder, BitReader};
 pub use context::DecoderContext;
 pub use error::{DecodeError, Result};
 pub use locality::body_is_local;
@@ -97,6 +100,13 @@ fn decode_rows<D: Decoder>(
     requires start { reader.old.place ≡ 0 }
     requires width { ctx.old.held.settings.columns ≤ D.width decoder.old }
     ensures width { D.width decoder.new ≡ D.width decoder.old }
+    ensures work { CountsRun (words_by ctx.old.held.settings.encoding ctx.old.held.settings reader.old.bits)
+        ctx.new.held.taken ctx.old.ticks ctx.new.ticks
+        (most_counted ctx.old.held.settings.encoding (length reader.old.bits)) }
+    ensures rest { OnOk result ((end_by ctx.old.held.settings.encoding ctx.old.held.settings reader.old.bits).outcome
+        ≡ Ok (here reader.new)) }
+    ensures row_number { OnAnswer result (ctx.new.held.taken
+        ≡ length (end_by ctx.old.held.settings.encoding ctx.old.held.settings reader.old.bits).rows) }
     ensures rows { DecodesRows ctx.old.held.settings.encoding reader.old.bits (D.step (D.width decoder.old))
         (record { meaning = D.meaning decoder.old; refused = D.has_refused decoder.old; refuses = D.refuses decoder.old })
         (record { meaning = D.meaning decoder.new; refused = D.has_refused decoder.new; refuses = D.refuses decoder.new })
@@ -124,6 +134,10 @@ fn decode_bits<D: Decoder>(
     ensures width { D.width decoder.new ≡ D.width decoder.old }
     ensures settings { ctx.new.held.settings ≡ ctx.old.held.settings }
     ensures within { IfOk result (λ n. 8 * n ≤ length reader.old.bits) }
+    ensures work { CountsWork ctx.old.held.settings reader.old.bits ctx.new.held.taken ctx.new.ticks }
+    ensures count { IfOk result (λ n. (plain ctx.old.held.settings reader.old.bits).outcome ≡ Ok n) }
+    ensures row_number { OnAnswer result (ctx.new.held.taken
+        ≡ length (plain ctx.old.held.settings reader.old.bits).rows) }
     ensures decodes { Decodes ctx.old.held.settings reader.old.bits (D.step (D.width decoder.old))
         (record { meaning = D.meaning decoder.old; refused = D.has_refused decoder.old; refuses = D.refuses decoder.old })
         (record { meaning = D.meaning decoder.new; refused = D.has_refused decoder.new; refuses = D.refuses decoder.new })
@@ -182,6 +196,10 @@ pub fn decode<D: Decoder>(data: &[u8], decoder: &mut D, ctx: &mut DecoderContext
     ensures width { D.width decoder.new ≡ D.width decoder.old }
     ensures settings { ctx.new.held.settings ≡ ctx.old.held.settings }
     ensures within { IfOk result (λ n. n ≤ length «data».now) }
+    ensures work { CountsWork ctx.old.held.settings (bits_of «data».now) ctx.new.held.taken ctx.new.ticks }
+    ensures count { IfOk result (λ n. (plain ctx.old.held.settings (bits_of «data».now)).outcome ≡ Ok n) }
+    ensures row_number { OnAnswer result (ctx.new.held.taken
+        ≡ length (plain ctx.old.held.settings (bits_of «data».now)).rows) }
 
     // All that it leaves, field by field in `specs/Contract.antt`: over the bits in this order.
     ensures decodes { Decodes ctx.old.held.settings (bits_of «data».now) (D.step (D.width decoder.old))
@@ -207,6 +225,10 @@ pub fn decode_low_first<D: Decoder>(
     ensures width { D.width decoder.new ≡ D.width decoder.old }
     ensures settings { ctx.new.held.settings ≡ ctx.old.held.settings }
     ensures within { IfOk result (λ n. n ≤ length «data».now) }
+    ensures work { CountsWork ctx.old.held.settings (low_first_bits_of «data».now) ctx.new.held.taken ctx.new.ticks }
+    ensures count { IfOk result (λ n. (plain ctx.old.held.settings (low_first_bits_of «data».now)).outcome ≡ Ok n) }
+    ensures row_number { OnAnswer result (ctx.new.held.taken
+        ≡ length (plain ctx.old.held.settings (low_first_bits_of «data».now)).rows) }
 
     // All that it leaves, field by field in `specs/Contract.antt`: over the bits in this order.
     ensures decodes { Decodes ctx.old.held.settings (low_first_bits_of «data».now) (D.step (D.width decoder.old))
@@ -215,4 +237,30 @@ pub fn decode_low_first<D: Decoder>(
         ctx.new.held ctx.new.ticks result }
 {
     decode_bits(&mut BitReader::new_low_first(data), decoder, ctx)
+}
+
+/// Decodes an image whose bytes hold their bits in this order: as [`decode`] does for [`BitOrder::HighestFirst`], and as
+/// [`decode_low_first`] for [`BitOrder::LowestFirst`].
+pub fn decode_in<D: Decoder>(
+    order: BitOrder,
+    data: &[u8],
+    decoder: &mut D,
+    ctx: &mut DecoderContext,
+) -> Result<usize>
+    requires fit { BitsFit «data».now }
+    requires width { ctx.old.held.settings.columns ≤ D.width decoder.old }
+    ensures width { D.width decoder.new ≡ D.width decoder.old }
+    ensures settings { ctx.new.held.settings ≡ ctx.old.held.settings }
+    ensures within { IfOk result (λ n. n ≤ length «data».now) }
+
+    // All that it leaves, field by field in `specs/Contract.antt`: over the bits in this order.
+    ensures decodes { Decodes ctx.old.held.settings (bits_in order «data».now) (D.step (D.width decoder.old))
+        (record { meaning = D.meaning decoder.old; refused = D.has_refused decoder.old; refuses = D.refuses decoder.old })
+        (record { meaning = D.meaning decoder.new; refused = D.has_refused decoder.new; refuses = D.refuses decoder.new })
+        ctx.new.held ctx.new.ticks result }
+{
+    match order {
+        BitOrder::HighestFirst => decode(data, decoder, ctx),
+        BitOrder::LowestFirst => decode_low_first(data, decoder, ctx),
+    }
 }

@@ -48,6 +48,7 @@ pub(crate) fn take_row<D: Decoder>(
     ensures flag { OnOk result (D.has_refused decoder.new ≡ D.has_refused decoder.old) }
     ensures kept { OnErr result (D.meaning decoder.new ≡ D.meaning decoder.old) }
     ensures held { OnErr result (ctx.new.held ≡ ctx.old.held) }
+    ensures unchanged { OnErr result ((ctx.new ≡ ctx.old) × (reader.new ≡ reader.old)) }
     ensures refused { OnErr result (D.has_refused decoder.new ≡ true) }
     ensures refused_row { OnErr result (D.refuses decoder.new (changes ctx.old.held.front)) }
     ensures only_refused { IsOkUnless result DecodeError.Refused }

@@ -12,7 +12,7 @@ use Rattle.hayro_ccitt.specs.Repetition.{Turn}
 use Rattle.hayro_ccitt.specs.Rows.{Row}
 use Rattle.hayro_ccitt.specs.Lines.{Line, line_1d}
 use Rattle.hayro_ccitt.specs.EndOfLine.{after_eol, one_more, all_eols, next_eol}
-use Rattle.hayro_ccitt.specs.PlainReading.{Progress, Ending, Move, row_before, aligned, limit_met, at_end, ends_with, eols_group3}
+use Rattle.hayro_ccitt.specs.PlainReading.{eols_of_end, Progress, Ending, Move, row_before, aligned, limit_met, at_end, ends_with, eols_group3}
 use Rattle.hayro_ccitt.specs.PlainReading.{after_line_group3, move_group3}
 use Rattle.hayro_ccitt.specs.Locality.{row_of, row_at, StaysBefore}
 use Rattle.hayro_ccitt.proofs.Readings.Repeated.{Follows}
@@ -94,7 +94,7 @@ module _ (settings : DecodeSettings) (encoding : settings.encoding ≡ Group3_1D
       (cond (over n) (ends_with (run_at ys has_eols b) (Ok here)) (Turn.next (run_at ys has_eols here)))) (rows_length xs ys alike) (by (over (length xs)))
     where
       over : ℕ → Bool
-      over n = ((settings.end_of_block && leb 6 count) || limit_met settings n) || at_end here
+      over n = ((settings.end_of_block && leb (eols_of_end settings.encoding) count) || limit_met settings n) || at_end here
 
       by : (t : Bool) → Both (cond t (ends_with (run_at xs has_eols a) (Ok here)) (Turn.next (run_at xs has_eols here)))
           (cond t (ends_with (run_at ys has_eols b) (Ok here)) (Turn.next (run_at ys has_eols here)))
@@ -174,7 +174,7 @@ module _ (settings : DecodeSettings) (encoding : settings.encoding ≡ Group3_1D
   unless_there : (rows : List Row) (u v : Bits) (count : ℕ)
       → Both (unless_over settings (sought rows u) (count, x)) (unless_over settings (sought rows v) (count, y))
   unless_there rows u v count = rw (not_past_end x after tail_x.next, not_past_end y after tail_y.next)
-      (by (((settings.end_of_block && leb 6 count) || limit_met settings (length rows)) || false))
+      (by (((settings.end_of_block && leb (eols_of_end settings.encoding) count) || limit_met settings (length rows)) || false))
     where
       by : (t : Bool) → Both (cond t (ends_with (sought rows u) (Ok x)) (Turn.next (sought rows x)))
           (cond t (ends_with (sought rows v) (Ok y)) (Turn.next (sought rows y)))
@@ -185,7 +185,7 @@ module _ (settings : DecodeSettings) (encoding : settings.encoding ≡ Group3_1D
   unless_ahead : (rows : List Row) (u v : Bits) (count : ℕ) (bits here other : Bits) → Closes bits → length bits < from
       → RestAlike x y bits here other → Both (unless_over settings (sought rows u) (count, here)) (unless_over settings (sought rows v) (count, other))
   unless_ahead rows u v count bits here other closes short (inl (a, le, keeps, e, f)) =
-      rw (e, f, not_end a x, not_end a y) (by (((settings.end_of_block && leb 6 count) || limit_met settings (length rows)) || false))
+      rw (e, f, not_end a x, not_end a y) (by (((settings.end_of_block && leb (eols_of_end settings.encoding) count) || limit_met settings (length rows)) || false))
     where
       by : (t : Bool) → Both (cond t (ends_with (sought rows u) (Ok (a ++ true ∷ x))) (Turn.next (sought rows (a ++ true ∷ x))))
           (cond t (ends_with (sought rows v) (Ok (a ++ true ∷ y))) (Turn.next (sought rows (a ++ true ∷ y))))

@@ -9,7 +9,7 @@ use Rattle.hayro_ccitt.specs.Bits.{Bits}
 use Rattle.hayro_ccitt.specs.Rows.{Row}
 use Rattle.hayro_ccitt.specs.Lines.{Line, line_1d}
 use Rattle.hayro_ccitt.specs.EndOfLine.{after_eol, one_more, all_eols, next_eol}
-use Rattle.hayro_ccitt.specs.PlainReading.{Progress, row_before, line_by, eols_by, line_at_group3, aligned, limit_met, at_end, ends_with, eols_group3}
+use Rattle.hayro_ccitt.specs.PlainReading.{eols_of_end, Progress, row_before, line_by, eols_by, line_at_group3, aligned, limit_met, at_end, ends_with, eols_group3}
 use Rattle.hayro_ccitt.specs.PlainReading.{after_line_group3, move_group3}
 use Rattle.hayro_ccitt.specs.Locality.{row_of, row_at}
 use Rattle.hayro_ccitt.proofs.Readings.TurnsMoveOn.{one_more-count}
@@ -41,7 +41,7 @@ not_past_end (b ∷ here) after e = refl
 module _ (settings : DecodeSettings) (encoding : settings.encoding ≡ Group3_1D) (lenient : settings.strict ≡ false) where
   -- EOLs of one-dimensional data have no tags
   pub eols_group3_is : (here : Bits) → eols_group3 settings here ≡ all_eols here
-  eols_group3_is here = ap (λ (e : EncodingMode). eols_by e here) encoding
+  eols_group3_is here = ap (λ (e : EncodingMode). eols_by e settings.end_of_block here) encoding
 
   -- where an EOL follows and the limit isn't met, the EOLs are counted that begin with the next
   pub after_row_past : (rows : List Row) (here after : Bits) → limit_met settings (length rows) ≡ false → past 0 here ≡ Some after
@@ -115,6 +115,6 @@ module _ (settings : DecodeSettings) (encoding : settings.encoding ≡ Group3_1D
       ∙ ap (unless_over settings (sought rows here)) (eols_group3_is here) ∙ over (all_eols here)
     where
       over : (found : ℕ × Bits) → unless_over settings (sought rows here) found ≡ ends_with (sought rows here) (Ok found.1)
-      over (count, rest) = cond-true (((settings.end_of_block && leb 6 count) || limit_met settings (length rows)) || at_end rest) _ _
-          (or_left ((settings.end_of_block && leb 6 count) || limit_met settings (length rows)) (at_end rest)
-          (or_right (settings.end_of_block && leb 6 count) (limit_met settings (length rows)) met))
+      over (count, rest) = cond-true (((settings.end_of_block && leb (eols_of_end settings.encoding) count) || limit_met settings (length rows)) || at_end rest) _ _
+          (or_left ((settings.end_of_block && leb (eols_of_end settings.encoding) count) || limit_met settings (length rows)) (at_end rest)
+          (or_right (settings.end_of_block && leb (eols_of_end settings.encoding) count) (limit_met settings (length rows)) met))

@@ -12,11 +12,11 @@ use Rattle.hayro_ccitt.specs.Repetition.{Turn, repeated}
 use Rattle.hayro_ccitt.specs.Rows.{Row}
 use Rattle.hayro_ccitt.specs.Lines.{Line}
 use Rattle.hayro_ccitt.specs.EndOfLine.{after_eol, all_eols, pass_last_tag}
-use Rattle.hayro_ccitt.specs.PlainReading.{Progress, Ending, row_before, aligned, at_end, limit_met, ends_with, line_at_group3, eols_group3, Reading}
+use Rattle.hayro_ccitt.specs.PlainReading.{eols_of_end, Progress, Ending, row_before, aligned, at_end, limit_met, ends_with, line_at_group3, eols_group3, Reading}
 use Rattle.hayro_ccitt.specs.PlainReading.{after_line_group3, move_group3, ending_from, plain_group3, end_of}
 use Rattle.hayro_ccitt.specs.Encodings.{IsPicture, EncodesRows}
 use Rattle.hayro_ccitt.specs.Laws.{ReadsLimitedRowsT4}
-use Rattle.hayro_ccitt.proofs.Readings.TurnsMoveOn.{eols-none, eols_with_tags-none}
+use Rattle.hayro_ccitt.proofs.Readings.TurnsMoveOn.{few_eols, eols-none, eols_with_tags-none}
 use Rattle.hayro_ccitt.proofs.EncodedPictures.PicturesT4.{Matches, matches_itself, eols_group3_one, eols_group3_two, line_t4_again, line_t4_starts, end_of_three}
 use Rattle.hayro_ccitt.proofs.Readings.Repeated.{after_turn}
 use Rattle.hayro_ccitt.proofs.EncodedPictures.PicturesT6.{IsLineStart, not_met, row_before_push, plain_ends, fill, aligned_again, aligned_on}
@@ -126,10 +126,10 @@ module _ (settings : DecodeSettings) (wide : 0 < settings.columns) (small : sett
             let met : limit_met settings (length rows1) ≡ true
             = and_from (not (eqb settings.rows 0)) (eqb settings.rows (length rows1))
             (not_from_false (eqb settings.rows 0) (ne_eqb settings.rows 0 (λ e. absurd (omega arith)))) (eq-eqb settings.rows (length rows1) count) in
-            let over : ((settings.end_of_block && (leb 6 found.0)) || limit_met settings (length rows1) || at_end found.1) ≡ true
+            let over : ((settings.end_of_block && (leb (eols_of_end settings.encoding) found.0)) || limit_met settings (length rows1) || at_end found.1) ≡ true
             = or_left _ _ (or_right _ _ met) in
             let stop : unless_over settings (without_eols rows1 rest) found ≡ Turn.done (ends_without rows1 found.1)
-            = cond-true ((settings.end_of_block && (leb 6 found.0)) || limit_met settings (length rows1) || at_end found.1)
+            = cond-true ((settings.end_of_block && (leb (eols_of_end settings.encoding) found.0)) || limit_met settings (length rows1) || at_end found.1)
             (ends_with (without_eols rows1 rest) (Ok found.1)) (Turn.next (without_eols rows1 found.1)) over in
             ap (after_turn (repeated (move_group3 settings) late fuel)) (moved ∙ stop)
             ∙ ap (λ (rs : List Row). ends_without rs found.1) all ∙ ap (λ (x : Bits). ends_without whole (eols_group3 settings (x ++ tail)).1) lines
@@ -145,12 +145,12 @@ module _ (settings : DecodeSettings) (wide : 0 < settings.columns) (small : sett
             (line_t4_starts settings wide small encoding row second second_line (fill b second_line ++ (second_next ++ tail)) matches second_is second_len) in
             let all2 : rows1 ++ second ∷ others ≡ whole = append_assoc before (row ∷ []) (second ∷ others) ∙ all in
             let count : length rows1 < length whole = omega (arith, ap length all2, length-append rows1 (second ∷ others)) in
-            let over : ((settings.end_of_block && (leb 6 0)) || limit_met settings (length rows1) || at_end rest) ≡ false
-            = or_from _ _ (or_from _ _ (and_right settings.end_of_block (leb 6 0) refl)
+            let over : ((settings.end_of_block && (leb (eols_of_end settings.encoding) 0)) || limit_met settings (length rows1) || at_end rest) ≡ false
+            = or_from _ _ (or_from _ _ (and_right settings.end_of_block (leb (eols_of_end settings.encoding) 0) (few_eols settings.encoding 0 (omega arith)))
             (not_met settings (length whole) (length rows1) (inr (omega arith)) count)) start.open_end in
             let on : unless_over settings (without_eols rows1 rest) (eols_group3 settings rest) ≡ Turn.next (without_eols rows1 rest)
             = ap (unless_over settings (without_eols rows1 rest)) (no_eols settings encoding rest matches start.no_eol)
-            ∙ cond-false ((settings.end_of_block && (leb 6 0)) || limit_met settings (length rows1) || at_end rest)
+            ∙ cond-false ((settings.end_of_block && (leb (eols_of_end settings.encoding) 0)) || limit_met settings (length rows1) || at_end rest)
             (ends_with (without_eols rows1 rest) (Ok rest)) (Turn.next (without_eols rows1 rest)) over in
             let pushed : row_before settings.columns rows1 ≡ row = row_before_push settings.columns before row in
             ap (after_turn (repeated (move_group3 settings) late fuel)) (moved ∙ on)

@@ -2,7 +2,7 @@
 use Rattle.std.proofs.Common.{◌≡◌, ◌≢◌, ℕ, zero, suc, ◌+◌, ◌<◌, ◌≤◌, Bool, true, false, cond, not, ◌&&◌, ◌||◌, eqb, ltb, leb, List, [], ◌∷◌, ◌++◌, length, replicate, Some, None, Ok, Err, refl, sym, ap, subst, ◌∙◌, append_assoc, arith, inl, inr}
 use Rattle.std.specs.Prelude.{All}
 use Rattle.std.proofs.lemmas.Bool.{and_right, and_left, and_from, not_from_false, not_from_true, or_from, or_left, or_right, cond-true, cond-false}
-use Rattle.std.proofs.lemmas.Bool.{eq-eqb, ne_eqb, le-leb}
+use Rattle.std.proofs.lemmas.Bool.{eq-eqb, ne_eqb}
 use Rattle.std.proofs.lemmas.List.{length-append, length-replicate, append-nil}
 use Rattle.std.proofs.lemmas.List.Elements.{All-head, All-tail}
 use Rattle.hayro_ccitt.specs.declared.codes.Color.{Color}
@@ -18,13 +18,13 @@ use Rattle.hayro_ccitt.specs.Rows.{Row}
 use Rattle.hayro_ccitt.specs.Runs.{codes_of}
 use Rattle.hayro_ccitt.specs.Lines.{Line, line_1d, line_2d}
 use Rattle.hayro_ccitt.specs.EndOfLine.{after_eol, one_more, eols, all_eols, past_tag, eols_with_tags, pass_last_tag, tagged_eols}
-use Rattle.hayro_ccitt.specs.PlainReading.{end_by, Progress, Ending, row_before, aligned, at_end, limit_met, ends_with, line_at_group3, eols_group3, Reading}
+use Rattle.hayro_ccitt.specs.PlainReading.{eols_of_end, end_by, Progress, Ending, row_before, aligned, at_end, limit_met, ends_with, line_at_group3, eols_group3, Reading}
 use Rattle.hayro_ccitt.specs.PlainReading.{after_line_group3, move_group3, ending_from, plain_group3}
 use Rattle.hayro_ccitt.specs.PlainReading.{end_of}
 use Rattle.hayro_ccitt.specs.Encodings.{Spells, EncodesLine1D, EncodesLine2D, EncodesLine, eol, tag_of, IsPicture, EncodesRowsWithEols}
 use Rattle.hayro_ccitt.specs.Encodings.{ClosesWithEols, PictureT4}
 use Rattle.hayro_ccitt.specs.Laws.{each_word, ReadsPictureT4, ReadsLimitedPictureT4, OnePictureT4}
-use Rattle.hayro_ccitt.proofs.Readings.TurnsMoveOn.{eols-none, one_more-count, eol_of, eols_with_tags-some, eols_with_tags-none, last_tag_count}
+use Rattle.hayro_ccitt.proofs.Readings.TurnsMoveOn.{few_eols, many_eols, eols-none, one_more-count, eol_of, eols_with_tags-some, eols_with_tags-none, last_tag_count}
 use Rattle.hayro_ccitt.specs.Pictures.{Allows}
 use Rattle.hayro_ccitt.proofs.Readings.Repeated.{after_turn}
 use Rattle.hayro_ccitt.proofs.BitReading.ZerosInWords.{each_word_at}
@@ -306,11 +306,11 @@ module _ (settings : DecodeSettings) (wide : 0 < settings.columns) (small : sett
         let all2 : rows1 ++ row2 ∷ rows ≡ whole = append_assoc before (row ∷ []) (row2 ∷ rows) ∙ all in
         let count : length rows1 < length whole = omega (arith, ap length all2, length-append rows1 (row2 ∷ rows)) in
         let open_end : at_end rest ≡ false = (line_t4_starts encoding row row2 line_2d (next2 ++ tail) matches is2 row2_len).open_end in
-        let over : ((settings.end_of_block && (leb 6 1)) || limit_met settings (length rows1) || at_end rest) ≡ false
-        = or_from _ _ (or_from _ _ (and_right settings.end_of_block (leb 6 1) refl) (not_met settings (length whole) (length rows1) allows count)) open_end in
+        let over : ((settings.end_of_block && (leb (eols_of_end settings.encoding) 1)) || limit_met settings (length rows1) || at_end rest) ≡ false
+        = or_from _ _ (or_from _ _ (and_right settings.end_of_block (leb (eols_of_end settings.encoding) 1) (few_eols settings.encoding 1 (omega arith))) (not_met settings (length whole) (length rows1) allows count)) open_end in
         let moved : move_group3 settings (with_eols before (line ++ (next ++ tail))) ≡ Turn.next (with_eols rows1 rest)
         = row_added before row (line ++ (next ++ tail)) after read ∙ counted_row rows1 after (1, rest) one (omega arith)
-        ∙ cond-false ((settings.end_of_block && (leb 6 1)) || limit_met settings (length rows1) || at_end rest)
+        ∙ cond-false ((settings.end_of_block && (leb (eols_of_end settings.encoding) 1)) || limit_met settings (length rows1) || at_end rest)
         (ends_with (with_eols rows1 after) (Ok rest)) (Turn.next (with_eols rows1 rest)) over in
         let pushed : row_before settings.columns rows1 ≡ row = row_before_push settings.columns before row in
         ap (after_turn (repeated (move_group3 settings) late fuel)) moved
@@ -323,10 +323,10 @@ module _ (settings : DecodeSettings) (wide : 0 < settings.columns) (small : sett
       → after_row settings (with_eols rows here) ≡ Turn.done (ends_well rows (eols_group3 settings here).1)
   six_stop rows here block six =
       let found : ℕ × Bits = eols_group3 settings here in
-      let over : ((settings.end_of_block && (leb 6 found.0)) || limit_met settings (length rows) || at_end found.1) ≡ true
-      = or_left _ _ (or_left _ _ (and_from settings.end_of_block (leb 6 found.0) block (le-leb 6 found.0 six))) in
+      let over : ((settings.end_of_block && (leb (eols_of_end settings.encoding) found.0)) || limit_met settings (length rows) || at_end found.1) ≡ true
+      = or_left _ _ (or_left _ _ (and_from settings.end_of_block (leb (eols_of_end settings.encoding) found.0) block (many_eols settings.encoding found.0 six))) in
       counted_row rows here found refl (omega (arith, six))
-      ∙ cond-true ((settings.end_of_block && (leb 6 found.0)) || limit_met settings (length rows) || at_end found.1)
+      ∙ cond-true ((settings.end_of_block && (leb (eols_of_end settings.encoding) found.0)) || limit_met settings (length rows) || at_end found.1)
       (ends_with (with_eols rows here) (Ok found.1)) (Turn.next (with_eols rows found.1)) over
 
   -- and so does the limit
@@ -336,10 +336,10 @@ module _ (settings : DecodeSettings) (wide : 0 < settings.columns) (small : sett
       let found : ℕ × Bits = eols_group3 settings here in
       let test : ((eqb found.0 0) && true && not (limit_met settings (length rows)) && not (at_end here)) ≡ false
       = and_left _ _ (and_right _ _ (not_from_true (limit_met settings (length rows)) met)) in
-      let over : ((settings.end_of_block && (leb 6 found.0)) || limit_met settings (length rows) || at_end found.1) ≡ true = or_left _ _ (or_right _ _ met) in
+      let over : ((settings.end_of_block && (leb (eols_of_end settings.encoding) found.0)) || limit_met settings (length rows) || at_end found.1) ≡ true = or_left _ _ (or_right _ _ met) in
       cond-false ((eqb found.0 0) && true && not (limit_met settings (length rows)) && not (at_end here)) (seek_eol settings (with_eols rows here))
       (unless_over settings (with_eols rows here) found) test
-      ∙ cond-true ((settings.end_of_block && (leb 6 found.0)) || limit_met settings (length rows) || at_end found.1)
+      ∙ cond-true ((settings.end_of_block && (leb (eols_of_end settings.encoding) found.0)) || limit_met settings (length rows) || at_end found.1)
       (ends_with (with_eols rows here) (Ok found.1)) (Turn.next (with_eols rows found.1)) over
 
   -- data of Group 3 are read as such

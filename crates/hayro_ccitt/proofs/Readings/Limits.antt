@@ -15,7 +15,7 @@ use Rattle.hayro_ccitt.specs.Repetition.{Turn, repeated}
 use Rattle.hayro_ccitt.specs.Rows.{Row}
 use Rattle.hayro_ccitt.specs.Lines.{Line, line_2d}
 use Rattle.hayro_ccitt.specs.EndOfLine.{eols, all_eols, next_eol}
-use Rattle.hayro_ccitt.specs.PlainReading.{Progress, Ending, Move, row_before, aligned, ends_with, after_line_group4, move_group4}
+use Rattle.hayro_ccitt.specs.PlainReading.{eols_of_end, Progress, Ending, Move, row_before, aligned, ends_with, after_line_group4, move_group4}
 use Rattle.hayro_ccitt.specs.PlainReading.{limit_met, at_end, plain_group3, plain_group4, end_by, bytes_before, eols_group3, line_at_group3}
 use Rattle.hayro_ccitt.specs.PlainReading.{after_line_group3, move_group3}
 use Rattle.hayro_ccitt.specs.Laws.{RowLimit}
@@ -73,11 +73,11 @@ module _ (settings : DecodeSettings) (limit : ℕ) (some : 0 < limit) (wide : 0 
     cut_turn : (run : Progress) (found : ℕ × Bits) (m : Move) → length run.rows ≡ limit → Keeps run.rows m
         → Follows Same Cut rest (unless_over limited run found) m
     cut_turn run (count, here) m full k =
-        let over : (((settings.end_of_block && leb 6 count) || limit_met limited (length run.rows)) || at_end here) ≡ true
-        = or_left ((settings.end_of_block && leb 6 count) || limit_met limited (length run.rows)) (at_end here)
-        (or_right (settings.end_of_block && leb 6 count) (limit_met limited (length run.rows)) (rw full is_met)) in
+        let over : (((settings.end_of_block && leb (eols_of_end settings.encoding) count) || limit_met limited (length run.rows)) || at_end here) ≡ true
+        = or_left ((settings.end_of_block && leb (eols_of_end settings.encoding) count) || limit_met limited (length run.rows)) (at_end here)
+        (or_right (settings.end_of_block && leb (eols_of_end settings.encoding) count) (limit_met limited (length run.rows)) (rw full is_met)) in
         let is_done : unless_over limited run (count, here) ≡ ends_with run (Ok here)
-        = cond-true (((settings.end_of_block && leb 6 count) || limit_met limited (length run.rows)) || at_end here) _ _ over in
+        = cond-true (((settings.end_of_block && leb (eols_of_end settings.encoding) count) || limit_met limited (length run.rows)) || at_end here) _ _ over in
         let more = turn_extends run.rows m k in
         subst (λ (x : Move). Follows Same Cut rest x m) (sym is_done)
         (cut_rows run.rows (after_turn rest m).rows full more, λ same. refl)

@@ -9,12 +9,12 @@ use Rattle.hayro_ccitt.specs.Rows.{Row, repaired}
 use Rattle.hayro_ccitt.specs.Lines.{Line}
 use Rattle.hayro_ccitt.specs.EndOfLine.{next_eol}
 use Rattle.hayro_ccitt.specs.Repetition.{Turn}
-use Rattle.hayro_ccitt.specs.PlainReading.{Progress, Gap, with_row, behind_row, add_row_group3, after_line_group3, Move, at_end, limit_met, is_over_group4, eols_group4, eols_group3, behind_eols_group3, behind_eols_group4, from_next_eol, missing_eol, ends_with, line_group4, after_line_group4, at_gap_group4, at_gap_group3, move_behind_row, move_group4}
+use Rattle.hayro_ccitt.specs.PlainReading.{eols_of_end, Progress, Gap, with_row, behind_row, add_row_group3, after_line_group3, Move, at_end, limit_met, is_over_group4, eols_group4, eols_group3, behind_eols_group3, behind_eols_group4, from_next_eol, missing_eol, ends_with, line_group4, after_line_group4, at_gap_group4, at_gap_group3, move_behind_row, move_group4}
 
 -- EOLs were counted behind the rows so far
 abbrev pub unless_over : DecodeSettings → Progress → ℕ × Bits → Move
 unless_over settings so_far (count, rest) =
-    cond ((settings.end_of_block && leb 6 count) || limit_met settings (length so_far.rows) || at_end rest)
+    cond ((settings.end_of_block && leb (eols_of_end settings.encoding) count) || limit_met settings (length so_far.rows) || at_end rest)
     (ends_with so_far (Ok rest)) (Turn.next (record so_far { rest = rest }))
 
 -- the next EOL was looked for
@@ -59,8 +59,8 @@ cond-same false x y z w one two = two refl
 behind_eols : (settings : DecodeSettings) (so_far : Progress) (has_eols : Bool) (found : ℕ × Bits) → so_far.has_eols ≡ has_eols
     → at_gap_group3 so_far (behind_eols_group3 settings (length so_far.rows) has_eols found) ≡ unless_over settings so_far found
 behind_eols settings so_far has_eols (count, rest) is =
-    at_gap-cond so_far ((settings.end_of_block && leb 6 count) || limit_met settings (length so_far.rows) || at_end rest) (Gap.over (Ok rest)) (Gap.line_at has_eols rest)
-    ∙ cond-same ((settings.end_of_block && leb 6 count) || limit_met settings (length so_far.rows) || at_end rest) _ _ _ _ (λ e. refl)
+    at_gap-cond so_far ((settings.end_of_block && leb (eols_of_end settings.encoding) count) || limit_met settings (length so_far.rows) || at_end rest) (Gap.over (Ok rest)) (Gap.line_at has_eols rest)
+    ∙ cond-same ((settings.end_of_block && leb (eols_of_end settings.encoding) count) || limit_met settings (length so_far.rows) || at_end rest) _ _ _ _ (λ e. refl)
     (λ e. ap {B = Move} (λ (h : Bool). Turn.next (record so_far { has_eols = h; rest = rest })) (sym is))
 
 -- from the next EOL on

@@ -1,27 +1,30 @@
 -- The turns of Group 3: a line, and what stands behind its row.
-use Rattle.std.proofs.Common.{◌≡◌, ◌≢◌, ◌+◌, ◌*◌, ◌<◌, ◌≤◌, ℕ, suc, Bool, true, false, cond, ltb, ◌||◌, List, [], ◌∷◌, ◌++◌, length, append-nil, Result, Ok, Err, refl, sym, ap, ◌∙◌, subst, arith}
+use Rattle.std.proofs.Common.{◌≡◌, ◌≢◌, ◌+◌, ◌*◌, ◌<◌, ◌≤◌, ℕ, suc, Bool, true, false, cond, List, [], ◌∷◌, ◌++◌, length, append-nil, Result, Ok, Err, refl, sym, ap, ◌∙◌, subst, arith}
 use Rattle.std.proofs.lemmas.List.{length-append}
+use Rattle.std.proofs.lemmas.Bool.{false≢true}
 use Rattle.hayro_ccitt.specs.declared.error.DecodeError.{DecodeError}
 use Rattle.hayro_ccitt.specs.declared.settings.DecodeSettings.{DecodeSettings}
-use Rattle.hayro_ccitt.specs.declared.settings.EncodingMode.TheVariants.{Group3_1D}
 use Rattle.hayro_ccitt.specs.Bits.{Bits}
 use Rattle.hayro_ccitt.specs.Answers.{IsFault, meaning_after}
 use Rattle.hayro_ccitt.specs.Context.{Held}
 use Rattle.hayro_ccitt.specs.Decoding.{SinkState, TakesOneRow, RowIsTaken, with_row_taken, gap_said}
 use Rattle.hayro_ccitt.specs.Lines.{Line}
-use Rattle.hayro_ccitt.specs.PlainReading.{Progress, Ending, Gap, gap_group3, line_at_group3, row_group3, row_before, at_gap_group3, add_row_group3, move_behind_row, with_row, move_group3, lines_of_move_group3, start_group3, plain_group3, lines_by}
+use Rattle.hayro_ccitt.specs.PlainReading.{Progress, Ending, Gap, gap_group3, line_at_group3, row_group3, row_before, at_gap_group3, add_row_group3, move_behind_row, with_row, move_group3, lines_of_move_group3, ending_from, gathered_from}
 use Rattle.hayro_ccitt.specs.Repetition.{Turn}
 use Rattle.hayro_ccitt.specs.Rows.{Row, changes}
-use Rattle.hayro_ccitt.specs.Work.{CountsRun, found_at_group3, words_of_move_group3, words_by}
+use Rattle.hayro_ccitt.specs.Work.{CountsRun, found_at_group3, most_given_up, words_of_move_group3}
 use Rattle.hayro_ccitt.specs.Ticks.{looked_ahead}
 use Rattle.hayro_ccitt.specs.declared.settings.EncodingMode.{EncodingMode}
 use Rattle.hayro_ccitt.proofs.Work.TurnsOfGroup3.{IsPaidUpTo, line_ends, missing_ends, gap_ends, turn_goes_on}
 use Rattle.hayro_ccitt.proofs.Work.RunsCount.{WordsCounted, counted_next, counted_ends_behind}
 use Rattle.hayro_ccitt.proofs.Readings.TurnsAddRows.{Adds, Keeps, after_row_keeps, keeps_adds, move_group3_adds}
-use Rattle.hayro_ccitt.specs.EndOfLine.{all_eols}
-use Rattle.hayro_ccitt.proofs.Readings.TurnsMoveOn.{eols_shorter, left_group3, left_group3_below, move_group3_shrinks}
+use Rattle.hayro_ccitt.proofs.Readings.TurnsMoveOn.{left_group3, left_group3_below, move_group3_shrinks}
 use Rattle.hayro_ccitt.proofs.Readings.RowsAndGaps.{after_row, move_behind_row-is}
 use Rattle.hayro_ccitt.proofs.Readings.RunsOverRows.{RowByRow, ReadsRow, Leaves, Between, comes_done, comes_next, row_fails, ends_well, ends_at_fault, held_between, held_between-more, meaning_after-more}
+
+-- where a run over rows begins at a line
+abbrev pub from_line : Bool → Bits → Progress
+from_line sought rest = record { rows = []; has_eols = sought; rest = rest }
 
 -- its turns leave less to read, or give up EOLs, and add rows
 pub by_rows_group3 : (settings : DecodeSettings) → 0 < settings.columns → RowByRow (move_group3 settings) left_group3
@@ -63,6 +66,16 @@ module _ (settings : DecodeSettings) (so_far : Progress) where
 
 -- ---- A turn of the driver, between two rows
 
+-- giving up EOLs costs at most so much
+pub given_up_at_most : (sought : Bool) (bits : ℕ) → most_given_up sought bits ≤ 8 * bits + 8
+given_up_at_most true bits = omega arith
+given_up_at_most false bits = omega arith
+
+-- EOLs can be given up only in a run that sought them, which has paid for that
+pub giving_up_is_paid : (sought has_eols : Bool) (bits : ℕ) → (sought ≡ false → has_eols ≡ false) → has_eols ≡ true → 8 * bits + 8 ≤ most_given_up sought bits
+giving_up_is_paid true has_eols bits unsought is = omega arith
+giving_up_is_paid false has_eols bits unsought is = absurd (false≢true (sym (unsought refl) ∙ is))
+
 -- a row of Group 3 is read and handed over, where these bits stand
 abbrev pub TakesRowGroup3 : {M : Type 0} → (M → List ℕ → M) → SinkState M → SinkState M → Held → Bits → Held → Result (Unit {0}) DecodeError → Bits → Type 0
 TakesRowGroup3 step now after held here new answer rest =
@@ -70,15 +83,15 @@ TakesRowGroup3 step now after held here new answer rest =
     step now after held new answer rest
 
 -- the words of the next line are those of its turn
-pub words_are : {M : Type 0} (settings : DecodeSettings) (bits : Bits) {step : M → List ℕ → M} {before now : SinkState M} {held : Held} {here : Bits}
-    (between : Between (move_group3 settings) (lines_of_move_group3 settings) left_group3 (start_group3 settings bits) settings step before now held here)
+pub words_are : {M : Type 0} (settings : DecodeSettings) (sought : Bool) (rest0 bits : Bits) {step : M → List ℕ → M} {before now : SinkState M} {held : Held} {here : Bits}
+    (between : Between (move_group3 settings) (lines_of_move_group3 settings) left_group3 (from_line sought rest0) settings step before now held here)
     → length (found_at_group3 held.settings held.reference here) ≡ length (words_of_turn settings between.so_far)
-words_are settings bits {here = here} between =
+words_are settings sought rest0 bits {here = here} between =
     ap (λ (h : Held). length (found_at_group3 h.settings h.reference here)) between.held
     ∙ ap (λ (x : Bits). length (found_at_group3 settings (row_before settings.columns between.so_far.rows) x)) between.here
 
-module _ {M : Type 0} (settings : DecodeSettings) (wide : 0 < settings.columns) (bits : Bits) (step_of : ℕ → M → List ℕ → M) (width : ℕ) (before now : SinkState M) (held : Held) (here : Bits)
-    (between : Between (move_group3 settings) (lines_of_move_group3 settings) left_group3 (start_group3 settings bits) settings (step_of width) before now held here)
+module _ {M : Type 0} (settings : DecodeSettings) (wide : 0 < settings.columns) (sought : Bool) (rest0 bits : Bits) (step_of : ℕ → M → List ℕ → M) (width : ℕ) (before now : SinkState M) (held : Held) (here : Bits)
+    (between : Between (move_group3 settings) (lines_of_move_group3 settings) left_group3 (from_line sought rest0) settings (step_of width) before now held here)
     (now_width : ℕ) (same_width : now_width ≡ width) (after : SinkState M) (new : Held) (rest : Bits) where
   abbrev so_far : Progress
   so_far = between.so_far
@@ -104,24 +117,24 @@ module _ {M : Type 0} (settings : DecodeSettings) (wide : 0 < settings.columns) 
 
   -- a row that isn't taken ends the run
   pub fails_group3 : (e : DecodeError) → TakesRowGroup3 (step_of now_width) now after held here new (Err e) rest
-      → Leaves (plain_group3 settings bits) (lines_by Group3_1D settings bits) step before after new (Err e)
+      → Leaves (ending_from (move_group3 settings) (from_line sought rest0)) (gathered_from (move_group3 settings) (lines_of_move_group3 settings) (from_line sought rest0)) step before after new (Err e)
   fails_group3 e takes =
-      row_fails (move_group3 settings) (lines_of_move_group3 settings) left_group3 (by_rows_group3 settings wide) (start_group3 settings bits) refl settings step before now held here between
+      row_fails (move_group3 settings) (lines_of_move_group3 settings) left_group3 (by_rows_group3 settings wide) (from_line sought rest0) refl settings step before now held here between
       (line_of_turn settings so_far) (row_of_turn settings so_far) (reads_row_group3 settings so_far) after new rest e (takes_is (Err e) takes)
 
   -- the words as the settings of the run say
   words_here : length (found_at_group3 held.settings held.reference here) ≡ length (found_at_group3 settings held.reference here)
   words_here = ap (λ (h : Held). length (found_at_group3 h.settings held.reference here)) between.held
 
-  module _ (within : length here ≤ length bits) (begun ticks : ℕ) (paid : IsPaidUpTo begun (length bits) settings.encoding held.has_eols ticks (length (changes held.reference)) here)
+  module _ (within : length here ≤ length bits) (begun giving_up ticks : ℕ) (paid : IsPaidUpTo begun (length bits) giving_up settings.encoding held.has_eols ticks (length (changes held.reference)) here)
       (then : ℕ) (line : then ≤ ticks + 4 * length (found_at_group3 held.settings held.reference here) + 2 + length (changes held.reference)) where
     -- what the line counts, as the settings of the run say
     line_here : then ≤ ticks + 4 * length (found_at_group3 settings held.reference here) + 2 + length (changes held.reference)
     line_here = omega (arith, line, words_here)
 
     -- a line that ends the run keeps the account
-    pub fails_paid_group3 : then ≤ begun + (36 * length bits + 14)
-    fails_paid_group3 = line_ends settings wide begun (length bits) held.reference held.has_eols here within ticks (length (changes held.reference)) paid then line_here
+    pub fails_paid_group3 : then ≤ begun + (16 * length bits + 6 + giving_up)
+    fails_paid_group3 = line_ends settings wide begun (length bits) giving_up held.reference held.has_eols here within ticks (length (changes held.reference)) paid then line_here
 
     module _ (takes : TakesRowGroup3 (step_of now_width) now after held here new (Ok tt) rest) where
       abbrev row_taken : RowIsTaken (row_of_turn settings so_far) step now after held new rest
@@ -143,30 +156,30 @@ module _ {M : Type 0} (settings : DecodeSettings) (wide : 0 < settings.columns) 
       encoding_is = ap (λ (x : DecodeSettings). x.encoding) settings_are
 
       -- so does strict data's missing EOL
-      pub misses_paid_group3 : (last_ticks : ℕ) → last_ticks ≤ then + length rest → last_ticks ≤ begun + (36 * length bits + 14)
+      pub misses_paid_group3 : (last_ticks : ℕ) → last_ticks ≤ then + length rest → last_ticks ≤ begun + (16 * length bits + 6 + giving_up)
       misses_paid_group3 last_ticks counted =
-          missing_ends settings wide begun (length bits) held.reference held.has_eols here within ticks (length (changes held.reference)) paid then line_here row_taken.taken rest row_is
+          missing_ends settings wide begun (length bits) giving_up held.reference held.has_eols here within ticks (length (changes held.reference)) paid then line_here row_taken.taken rest row_is
           last_ticks counted
 
       -- and what ends it well
       pub ends_paid_group3 : (last_ticks : ℕ) (left_over : Bits)
-          → last_ticks + 4 * length left_over ≤ then + 4 * length rest + 3 + looked_ahead new.settings.encoding left_over → last_ticks ≤ begun + (36 * length bits + 14)
+          → last_ticks + 4 * length left_over ≤ then + 4 * length rest + 3 + looked_ahead new.settings.encoding left_over → last_ticks ≤ begun + (16 * length bits + 6 + giving_up)
       ends_paid_group3 last_ticks left_over counted =
-          gap_ends settings wide begun (length bits) held.reference held.has_eols here within ticks (length (changes held.reference)) paid then line_here row_taken.taken rest row_is
+          gap_ends settings wide begun (length bits) giving_up held.reference held.has_eols here within ticks (length (changes held.reference)) paid then line_here row_taken.taken rest row_is
           last_ticks left_over (subst (λ (e : EncodingMode). last_ticks + 4 * length left_over ≤ then + 4 * length rest + 3 + looked_ahead e left_over) encoding_is counted)
 
       -- and what leads to the next row
       pub next_paid_group3 : (last_ticks : ℕ) (last : Held) (left_over : Bits) → gap_group3 new.settings new.taken new.has_eols rest ≡ Gap.line_at last.has_eols left_over
           → last ≡ record new { has_eols = last.has_eols } → length (changes new.reference) ≤ length (found_at_group3 held.settings held.reference here) + 1
           → (last.has_eols ≡ new.has_eols → last_ticks + 4 * length left_over ≤ then + 4 * length rest + 3 + looked_ahead new.settings.encoding left_over)
-          → (last.has_eols ≢ new.has_eols → last_ticks ≤ then + 2 * length rest)
-          → IsPaidUpTo begun (length bits) settings.encoding last.has_eols last_ticks (length (changes last.reference)) left_over
-      next_paid_group3 last_ticks last left_over gap frame stored kept given_up =
-          turn_goes_on settings wide begun (length bits) held.reference held.has_eols here within ticks (length (changes held.reference)) paid then line_here row_taken.taken rest row_is
+          → (last.has_eols ≢ new.has_eols → last_ticks ≤ then + 2 * length rest) → (held.has_eols ≡ true → 8 * length bits + 8 ≤ giving_up)
+          → IsPaidUpTo begun (length bits) giving_up settings.encoding last.has_eols last_ticks (length (changes last.reference)) left_over
+      next_paid_group3 last_ticks last left_over gap frame stored kept given_up enough =
+          turn_goes_on settings wide begun (length bits) giving_up held.reference held.has_eols here within ticks (length (changes held.reference)) paid then line_here row_taken.taken rest row_is
           new.taken last.has_eols left_over last_ticks (length (changes last.reference)) gap_here
           (omega (arith, stored, words_here, ap (λ (h : Held). length (changes h.reference)) frame))
           (λ same. subst (λ (e : EncodingMode). last_ticks + 4 * length left_over ≤ then + 4 * length rest + 3 + looked_ahead e left_over) encoding_is (kept (same ∙ sym row_eols)))
-          (λ other. given_up (λ same. other (same ∙ row_eols)))
+          (λ other. given_up (λ same. other (same ∙ row_eols))) enough
         where
           gap_here : gap_group3 settings new.taken held.has_eols rest ≡ Gap.line_at last.has_eols left_over
           gap_here =
@@ -204,23 +217,23 @@ module _ {M : Type 0} (settings : DecodeSettings) (wide : 0 < settings.columns) 
 
       -- strict data that miss an EOL end the run
       pub misses_group3 : (e : DecodeError) → answer ≡ Err e → IsFault e → last.has_eols ≡ new.has_eols
-          → Leaves (plain_group3 settings bits) (lines_by Group3_1D settings bits) step before after last (Err e)
+          → Leaves (ending_from (move_group3 settings) (from_line sought rest0)) (gathered_from (move_group3 settings) (lines_of_move_group3 settings) (from_line sought rest0)) step before after last (Err e)
       misses_group3 e is fault kept =
           let end : Ending = record { rows = next.rows; has_eols = next.has_eols; outcome = Err e } in
           let ends : move_group3 settings so_far ≡ Turn.done end = turn ∙ ap (λ (a : Result Bool DecodeError). at_gap_group3 next (gap_said a last.has_eols left_over)) is in
-          let known = comes_done (move_group3 settings) (lines_of_move_group3 settings) left_group3 (by_rows_group3 settings wide) (start_group3 settings bits) refl so_far between.comes end ends in
-          subst (λ (x : Ending). Leaves x (lines_by Group3_1D settings bits) step before after last (Err e)) (sym known)
-          (ends_at_fault step before after last end (lines_by Group3_1D settings bits) last_taken next_meaning (kept ∙ ap (λ (h : Held). h.has_eols) next_held) next_refused e fault refl)
+          let known = comes_done (move_group3 settings) (lines_of_move_group3 settings) left_group3 (by_rows_group3 settings wide) (from_line sought rest0) refl so_far between.comes end ends in
+          subst (λ (x : Ending). Leaves x (gathered_from (move_group3 settings) (lines_of_move_group3 settings) (from_line sought rest0)) step before after last (Err e)) (sym known)
+          (ends_at_fault step before after last end (gathered_from (move_group3 settings) (lines_of_move_group3 settings) (from_line sought rest0)) last_taken next_meaning (kept ∙ ap (λ (h : Held). h.has_eols) next_held) next_refused e fault refl)
 
       -- so does what ends it well
       pub ends_group3 : answer ≡ Ok true → last.has_eols ≡ new.has_eols
-          → Leaves (plain_group3 settings bits) (lines_by Group3_1D settings bits) step before after last (Ok left_over)
+          → Leaves (ending_from (move_group3 settings) (from_line sought rest0)) (gathered_from (move_group3 settings) (lines_of_move_group3 settings) (from_line sought rest0)) step before after last (Ok left_over)
       ends_group3 is kept =
           let end : Ending = record { rows = next.rows; has_eols = next.has_eols; outcome = Ok left_over } in
           let ends : move_group3 settings so_far ≡ Turn.done end = turn ∙ ap (λ (a : Result Bool DecodeError). at_gap_group3 next (gap_said a last.has_eols left_over)) is in
-          let known = comes_done (move_group3 settings) (lines_of_move_group3 settings) left_group3 (by_rows_group3 settings wide) (start_group3 settings bits) refl so_far between.comes end ends in
-          subst (λ (x : Ending). Leaves x (lines_by Group3_1D settings bits) step before after last (Ok left_over)) (sym known)
-          (ends_well step before after last end (lines_by Group3_1D settings bits) last_taken next_meaning (kept ∙ ap (λ (h : Held). h.has_eols) next_held) next_refused left_over refl)
+          let known = comes_done (move_group3 settings) (lines_of_move_group3 settings) left_group3 (by_rows_group3 settings wide) (from_line sought rest0) refl so_far between.comes end ends in
+          subst (λ (x : Ending). Leaves x (gathered_from (move_group3 settings) (lines_of_move_group3 settings) (from_line sought rest0)) step before after last (Ok left_over)) (sym known)
+          (ends_well step before after last end (gathered_from (move_group3 settings) (lines_of_move_group3 settings) (from_line sought rest0)) last_taken next_meaning (kept ∙ ap (λ (h : Held). h.has_eols) next_held) next_refused left_over refl)
 
       abbrev on : Progress
       on = record next { has_eols = last.has_eols; rest = left_over }
@@ -230,10 +243,10 @@ module _ {M : Type 0} (settings : DecodeSettings) (wide : 0 < settings.columns) 
 
       -- else the run goes on
       abbrev pub next_between_group3 : answer ≡ Ok false
-          → Between (move_group3 settings) (lines_of_move_group3 settings) left_group3 (start_group3 settings bits) settings step before after last left_over
+          → Between (move_group3 settings) (lines_of_move_group3 settings) left_group3 (from_line sought rest0) settings step before after last left_over
       next_between_group3 is = record {
         so_far = on;
-        comes = comes_next (move_group3 settings) (lines_of_move_group3 settings) left_group3 (by_rows_group3 settings wide) (start_group3 settings bits) refl so_far between.comes
+        comes = comes_next (move_group3 settings) (lines_of_move_group3 settings) left_group3 (by_rows_group3 settings wide) (from_line sought rest0) refl so_far between.comes
             (line_of_turn settings so_far) refl on (goes_on is) (omega (arith, length-append so_far.rows (taken.taken ∷ [])));
         held = frame ∙ ap (λ (h : Held). record h { has_eols = last.has_eols }) next_held;
         here = refl;
@@ -243,18 +256,18 @@ module _ {M : Type 0} (settings : DecodeSettings) (wide : 0 < settings.columns) 
 
       -- and where the line's words are counted, those of all rows are
       pub next_counted_group3 : answer ≡ Ok false → (begun ticks then : ℕ)
-          → WordsCounted (move_group3 settings) (words_of_move_group3 settings) left_group3 (start_group3 settings bits) so_far begun ticks → ticks + length words ≤ then
-          → WordsCounted (move_group3 settings) (words_of_move_group3 settings) left_group3 (start_group3 settings bits) on begun then
+          → WordsCounted (move_group3 settings) (words_of_move_group3 settings) left_group3 (from_line sought rest0) so_far begun ticks → ticks + length words ≤ then
+          → WordsCounted (move_group3 settings) (words_of_move_group3 settings) left_group3 (from_line sought rest0) on begun then
       next_counted_group3 is begun ticks then counted at_least =
-          counted_next (move_group3 settings) (words_of_move_group3 settings) left_group3 (by_rows_group3 settings wide) (start_group3 settings bits) refl so_far begun ticks counted
+          counted_next (move_group3 settings) (words_of_move_group3 settings) left_group3 (by_rows_group3 settings wide) (from_line sought rest0) refl so_far begun ticks counted
           words on then refl (goes_on is) (omega (arith, length-append so_far.rows (taken.taken ∷ []))) at_least
 
       -- also where it ends the run
       pub last_counted_group3 : (begun ticks then most : ℕ)
-          → WordsCounted (move_group3 settings) (words_of_move_group3 settings) left_group3 (start_group3 settings bits) so_far begun ticks → ticks + length words ≤ then
-          → then ≤ begun + most → CountsRun (words_by Group3_1D settings bits) last.taken begun then most
+          → WordsCounted (move_group3 settings) (words_of_move_group3 settings) left_group3 (from_line sought rest0) so_far begun ticks → ticks + length words ≤ then
+          → then ≤ begun + most → CountsRun (gathered_from (move_group3 settings) (words_of_move_group3 settings) (from_line sought rest0)) last.taken begun then most
       last_counted_group3 begun ticks then most counted at_least at_most =
-          counted_ends_behind (move_group3 settings) (words_of_move_group3 settings) left_group3 (by_rows_group3 settings wide) (start_group3 settings bits) refl so_far begun ticks counted
+          counted_ends_behind (move_group3 settings) (words_of_move_group3 settings) left_group3 (by_rows_group3 settings wide) (from_line sought rest0) refl so_far begun ticks counted
           words last.taken then most refl (omega (arith, last_taken, length-append so_far.rows (taken.taken ∷ []))) at_least at_most
 
       -- where less is left, or EOLs were given up
@@ -267,12 +280,6 @@ module _ {M : Type 0} (settings : DecodeSettings) (wide : 0 < settings.columns) 
           (sym (ap (λ (h : Held). h.has_eols) between.held)) less)
 
 -- there are at most as many turns as bits, and one more
-pub left_start : (settings : DecodeSettings) (bits : Bits) → left_group3 (start_group3 settings bits) ≤ suc (length bits)
-left_start settings bits = by (ltb 0 (all_eols bits).0 || settings.end_of_line)
-  where
-    fewer : length (all_eols bits).1 ≤ length bits
-    fewer = eols_shorter (length bits) bits
-
-    by : (b : Bool) → cond b (suc (length (all_eols bits).1)) (length (all_eols bits).1) ≤ suc (length bits)
-    by true = omega (arith, fewer)
-    by false = omega (arith, fewer)
+pub left_start : (sought : Bool) (rest0 : Bits) → left_group3 (from_line sought rest0) ≤ suc (length rest0)
+left_start true rest0 = omega arith
+left_start false rest0 = omega arith

@@ -9,7 +9,7 @@ use Rattle.hayro_ccitt.specs.Repetition.{Turn, repeated}
 use Rattle.hayro_ccitt.specs.Rows.{Row}
 use Rattle.hayro_ccitt.specs.Lines.{Line, line_2d}
 use Rattle.hayro_ccitt.specs.EndOfLine.{eols, all_eols, next_eol}
-use Rattle.hayro_ccitt.specs.PlainReading.{Progress, Ending, Move, row_before, aligned, ends_with, after_line_group4, move_group4}
+use Rattle.hayro_ccitt.specs.PlainReading.{eols_of_end, Progress, Ending, Move, row_before, aligned, ends_with, after_line_group4, move_group4}
 use Rattle.hayro_ccitt.specs.PlainReading.{limit_met, at_end, eols_group3, line_at_group3}
 use Rattle.hayro_ccitt.specs.PlainReading.{after_line_group3, move_group3}
 use Rattle.hayro_ccitt.proofs.Readings.Repeated.{Shrinks, repeated_induct}
@@ -27,7 +27,7 @@ keeps_cond rows false x y p q = q
 -- the rows stay those that stand
 pub unless_over_keeps : (settings : DecodeSettings) (run : Progress) (found : ℕ × Bits) → Keeps run.rows (unless_over settings run found)
 unless_over_keeps settings run (count, rest) =
-    keeps_cond run.rows (((settings.end_of_block && leb 6 count) || limit_met settings (length run.rows)) || at_end rest) (ends_with run (Ok rest))
+    keeps_cond run.rows (((settings.end_of_block && leb (eols_of_end settings.encoding) count) || limit_met settings (length run.rows)) || at_end rest) (ends_with run (Ok rest))
     (Turn.next (record run { rest = rest })) refl refl
 
 -- and where an EOL is looked for

@@ -2,7 +2,7 @@
 use Rattle.std.proofs.Common.{◌≡◌, ℕ, zero, suc, ◌+◌, ◌-◌, ◌%◌, ◌<◌, ◌≤◌, Bool, true, false, cond, not, ◌&&◌, ◌||◌, eqb, leb, [], ◌∷◌, ◌++◌}
 use Rattle.std.proofs.Common.{length, replicate, Option, Some, None, Result, Ok, Err, refl, sym, ap, subst, ◌∙◌, arith, ◌⊎◌, inl, inr}
 use Rattle.std.proofs.lemmas.List.{length-drop}
-use Rattle.std.proofs.lemmas.Bool.{cases_lt, not-false, and_parts, and_cases, or_parts, false≢true, le-leb, eqb-false}
+use Rattle.std.proofs.lemmas.Bool.{cases_lt, not-false, and_parts, and_cases, or_parts, false≢true, le-leb, lt-leb, eqb-false}
 use Rattle.hayro_ccitt.specs.declared.error.DecodeError.{DecodeError}
 use Rattle.hayro_ccitt.specs.declared.settings.DecodeSettings.{DecodeSettings}
 use Rattle.hayro_ccitt.specs.Bits.{Bits}
@@ -13,7 +13,7 @@ use Rattle.hayro_ccitt.specs.declared.settings.EncodingMode.TheVariants.{Group4,
 use Rattle.hayro_ccitt.specs.declared.error.DecodeError.TheVariants.{InvalidCode}
 use Rattle.hayro_ccitt.specs.Lines.{Line, line_1d, line_2d}
 use Rattle.hayro_ccitt.specs.EndOfLine.{after_eol, one_more, eols, all_eols, next_eol, past_tag, eols_with_tags, pass_last_tag, tagged_eols}
-use Rattle.hayro_ccitt.specs.PlainReading.{Progress, Ending, Move, row_before, aligned, ends_with, after_line_group4, move_group4, limit_met, at_end, line_by, eols_by, eols_group3, line_at_group3, after_line_group3, move_group3}
+use Rattle.hayro_ccitt.specs.PlainReading.{eols_of_end, Progress, Ending, Move, row_before, aligned, ends_with, after_line_group4, move_group4, limit_met, at_end, line_by, eols_by, eols_group3, line_at_group3, after_line_group3, move_group3}
 use Rattle.hayro_ccitt.proofs.Readings.Repeated.{Shrinks}
 use Rattle.hayro_ccitt.proofs.CodeWords.ReadRuns.{chosen}
 use Rattle.hayro_ccitt.proofs.DrawingLines.ReadLines.{TookBits, line_1d_took_bits, line_2d_took_bits}
@@ -222,12 +222,13 @@ tagged_eols_counted here =
 
 -- so many EOLs took bits
 pub eols_group3_counted : (settings : DecodeSettings) (here : Bits) → Counted here (eols_group3 settings here)
-eols_group3_counted settings here = by settings.encoding
+eols_group3_counted settings here = by settings.encoding settings.end_of_block
   where
-    by : (encoding : EncodingMode) → Counted here (eols_by encoding here)
-    by Group3_1D = all_counted here
-    by Group3_2D = tagged_eols_counted here
-    by Group4 = all_counted here
+    by : (encoding : EncodingMode) (block : Bool) → Counted here (eols_by encoding block here)
+    by Group3_1D block = all_counted here
+    by Group3_2D block = tagged_eols_counted here
+    by Group4 true = (eols_shorter 2 here, eols_moves 2 here)
+    by Group4 false = all_counted here
 
 tagged_eols_some_counts : (here rest : Bits) → after_eol 0 here ≡ Some rest → 0 < (tagged_eols here).0
 tagged_eols_some_counts [] rest e = absurd cc
@@ -237,12 +238,13 @@ tagged_eols_some_counts (bit ∷ here) rest e =
 
 -- where an EOL stands, one is counted
 pub eols_group3_some : (settings : DecodeSettings) (here rest : Bits) → after_eol 0 here ≡ Some rest → 0 < (eols_group3 settings here).0
-eols_group3_some settings here rest e = by settings.encoding
+eols_group3_some settings here rest e = by settings.encoding settings.end_of_block
   where
-    by : (encoding : EncodingMode) → 0 < (eols_by encoding here).0
-    by Group3_1D = eols_some_counts here rest e
-    by Group3_2D = tagged_eols_some_counts here rest e
-    by Group4 = eols_some_counts here rest e
+    by : (encoding : EncodingMode) (block : Bool) → 0 < (eols_by encoding block here).0
+    by Group3_1D block = eols_some_counts here rest e
+    by Group3_2D block = tagged_eols_some_counts here rest e
+    by Group4 true = omega (arith, ap (λ (found : ℕ × Bits). found.0) (eols-some 1 here rest e), one_more-count (eols 1 rest))
+    by Group4 false = eols_some_counts here rest e
 
 -- what is left of a run: its bits, and the EOLs that may be given up once
 abbrev pub left_group3 : Progress → ℕ
@@ -252,18 +254,18 @@ left_group3 run = cond run.has_eols (suc (length run.rest)) (length run.rest)
 pub unless_over_next : (settings : DecodeSettings) (run t : Progress) (found : ℕ × Bits) → unless_over settings run found ≡ Turn.next t
     → ◌≡◌ {A = Progress} (record run { rest = found.1 }) t
 unless_over_next settings run t (count, rest) e =
-    next_is _ t (unless_next (((settings.end_of_block && leb 6 count) || limit_met settings (length run.rows)) || at_end rest) run (Ok rest)
+    next_is _ t (unless_next (((settings.end_of_block && leb (eols_of_end settings.encoding) count) || limit_met settings (length run.rows)) || at_end rest) run (Ok rest)
     (Turn.next (record run { rest = rest })) t e)
 
 -- a run goes on neither at its limit nor at the end
 pub unless_over_open : (settings : DecodeSettings) (run t : Progress) (found : ℕ × Bits) → unless_over settings run found ≡ Turn.next t
     → (limit_met settings (length run.rows) ≡ false) × (at_end found.1 ≡ false)
 unless_over_open settings run t (count, rest) e =
-    elim (chosen (((settings.end_of_block && leb 6 count) || limit_met settings (length run.rows)) || at_end rest) _ _ _ e) [
+    elim (chosen (((settings.end_of_block && leb (eols_of_end settings.encoding) count) || limit_met settings (length run.rows)) || at_end rest) _ _ _ e) [
       | inl a ↦ absurd (not_next _ t a.1)
       | inr a ↦
-          let b = or_parts ((settings.end_of_block && leb 6 count) || limit_met settings (length run.rows)) (at_end rest) a.0 in
-          let c = or_parts (settings.end_of_block && leb 6 count) (limit_met settings (length run.rows)) b.0 in
+          let b = or_parts ((settings.end_of_block && leb (eols_of_end settings.encoding) count) || limit_met settings (length run.rows)) (at_end rest) a.0 in
+          let c = or_parts (settings.end_of_block && leb (eols_of_end settings.encoding) count) (limit_met settings (length run.rows)) b.0 in
           (c.1, b.1)
     ]
 
@@ -392,3 +394,15 @@ left_group3_below run = by run.has_eols
     by : (b : Bool) → cond b (suc (length run.rest)) (length run.rest) < suc (suc (length run.rest))
     by true = omega arith
     by false = omega arith
+
+-- one EOL or none ends no data
+pub few_eols : (encoding : EncodingMode) (count : ℕ) → count < 2 → leb (eols_of_end encoding) count ≡ false
+few_eols Group4 count few = lt-leb 2 count few
+few_eols Group3_1D count few = lt-leb 6 count (omega (arith, few))
+few_eols Group3_2D count few = lt-leb 6 count (omega (arith, few))
+
+-- six end all
+pub many_eols : (encoding : EncodingMode) (count : ℕ) → 6 ≤ count → leb (eols_of_end encoding) count ≡ true
+many_eols Group4 count many = le-leb 2 count (omega (arith, many))
+many_eols Group3_1D count many = le-leb 6 count many
+many_eols Group3_2D count many = le-leb 6 count many

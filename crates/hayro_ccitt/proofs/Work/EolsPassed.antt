@@ -10,13 +10,13 @@ use Rattle.hayro_ccitt.specs.declared.settings.EncodingMode.TheVariants.{Group4,
 use Rattle.hayro_ccitt.specs.declared.settings.DecodeSettings.{DecodeSettings}
 use Rattle.hayro_ccitt.specs.Bits.{Bits}
 use Rattle.hayro_ccitt.specs.EndOfLine.{after_eol, all_eols, next_eol, past_tag, eols_with_tags, eols, pass_last_tag, tagged_eols}
-use Rattle.hayro_ccitt.specs.PlainReading.{Gap, at_end, limit_met, eols_by, eols_group3, behind_eols_group3, from_next_eol, gap_group3}
+use Rattle.hayro_ccitt.specs.PlainReading.{eols_of_end, Gap, at_end, limit_met, eols_by, eols_group3, behind_eols_group3, from_next_eol, gap_group3}
 use Rattle.hayro_ccitt.specs.Ticks.{looked, looked_ahead}
 use Rattle.hayro_ccitt.proofs.BitReading.ZeroRuns.{looked_eol}
 use Rattle.hayro_ccitt.proofs.CodeWords.ReadRuns.{chosen}
 use Rattle.hayro_ccitt.proofs.DamagedLines.LineTails.{after_eol_is}
 use Rattle.hayro_ccitt.proofs.DamagedLines.PastEol.{all_eols-none}
-use Rattle.hayro_ccitt.proofs.Readings.TurnsMoveOn.{length-one_more, eols_shorter, eols-some, eols_with_tags-some, eols_with_tags-none, eols_with_tags_shorter, past_tag_shorter, last_tag_shorter, eols_group3_counted, eols_group3_some, next_eol_found}
+use Rattle.hayro_ccitt.proofs.Readings.TurnsMoveOn.{eols-none, length-one_more, eols_shorter, eols-some, eols_with_tags-some, eols_with_tags-none, eols_with_tags_shorter, past_tag_shorter, last_tag_shorter, eols_group3_counted, eols_group3_some, next_eol_found}
 
 -- ---- An EOL that stands here or further on
 
@@ -84,12 +84,14 @@ tagged_eols_past (bit ∷ here) after e =
 
 -- where an EOL stands, counting passes it
 pub eols_group3_past : (settings : DecodeSettings) (here after : Bits) → after_eol 0 here ≡ Some after → length (eols_group3 settings here).1 ≤ length after
-eols_group3_past settings here after e = by settings.encoding
+eols_group3_past settings here after e = by settings.encoding settings.end_of_block
   where
-    by : (encoding : EncodingMode) → length (eols_by encoding here).1 ≤ length after
-    by Group3_1D = all_eols_past here after e
-    by Group3_2D = tagged_eols_past here after e
-    by Group4 = all_eols_past here after e
+    by : (encoding : EncodingMode) (block : Bool) → length (eols_by encoding block here).1 ≤ length after
+    by Group3_1D block = all_eols_past here after e
+    by Group3_2D block = tagged_eols_past here after e
+    by Group4 true =
+        omega (arith, ap (λ (found : ℕ × Bits). length found.1) (eols-some 1 here after e), length-one_more (eols 1 after), eols_shorter 1 after)
+    by Group4 false = all_eols_past here after e
 
 tagged_eols-none : (here : Bits) → after_eol 0 here ≡ None → tagged_eols here ≡ (0, here)
 tagged_eols-none here e = rw (eols_with_tags-none (length here) here e, tagged_eols) (by here)
@@ -101,12 +103,13 @@ tagged_eols-none here e = rw (eols_with_tags-none (length here) here e, tagged_e
 
 -- where no EOL stands, none is counted
 pub eols_group3-none : (settings : DecodeSettings) (here : Bits) → after_eol 0 here ≡ None → eols_group3 settings here ≡ (0, here)
-eols_group3-none settings here e = by settings.encoding
+eols_group3-none settings here e = by settings.encoding settings.end_of_block
   where
-    by : (encoding : EncodingMode) → eols_by encoding here ≡ (0, here)
-    by Group3_1D = all_eols-none here e
-    by Group3_2D = tagged_eols-none here e
-    by Group4 = all_eols-none here e
+    by : (encoding : EncodingMode) (block : Bool) → eols_by encoding block here ≡ (0, here)
+    by Group3_1D block = all_eols-none here e
+    by Group3_2D block = tagged_eols-none here e
+    by Group4 true = eols-none 2 here e
+    by Group4 false = all_eols-none here e
 
 -- where none is counted, the place stays
 pub eols_group3_stay : (settings : DecodeSettings) (here rest : Bits) → eols_group3 settings here ≡ (0, rest) → rest ≡ here
@@ -129,11 +132,11 @@ behind_line : (settings : DecodeSettings) (taken : ℕ) (h k : Bool) (found : �
     → behind_eols_group3 settings taken h found ≡ Gap.line_at k rest
     → (h ≡ k) × (found.1 ≡ rest) × (limit_met settings taken ≡ false) × (at_end found.1 ≡ false)
 behind_line settings taken h k (count, here) rest e =
-    elim (chosen (((settings.end_of_block && leb 6 count) || limit_met settings taken) || at_end here) _ _ _ e) [
+    elim (chosen (((settings.end_of_block && leb (eols_of_end settings.encoding) count) || limit_met settings taken) || at_end here) _ _ _ e) [
       | inl a ↦ absurd (over_no_line (Ok here) k rest a.1)
       | inr a ↦
-          let open_end = or_parts ((settings.end_of_block && leb 6 count) || limit_met settings taken) (at_end here) a.0 in
-          let open_limit = or_parts (settings.end_of_block && leb 6 count) (limit_met settings taken) open_end.0 in
+          let open_end = or_parts ((settings.end_of_block && leb (eols_of_end settings.encoding) count) || limit_met settings taken) (at_end here) a.0 in
+          let open_limit = or_parts (settings.end_of_block && leb (eols_of_end settings.encoding) count) (limit_met settings taken) open_end.0 in
           let same = lines_same h k here rest a.1 in
           (same.0, same.1, open_limit.1, open_end.1)
     ]

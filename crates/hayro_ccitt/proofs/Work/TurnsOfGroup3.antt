@@ -115,13 +115,13 @@ turn_pays settings h taken reference here rest next row wide is gap = by (line_a
 -- ---- The account
 
 -- Between two rows, of data of so many bits: what was counted, and the changes of the reference row, are paid by the bits
--- that were passed, by the zeros ahead, and where EOLs were given up by that.
-abbrev pub IsPaidUpTo : ℕ → ℕ → EncodingMode → Bool → ℕ → ℕ → Bits → Type 0
-IsPaidUpTo begun bits encoding has_eols ticks changes here =
-    ticks + changes + 16 * length here ≤ begun + 16 * bits + looked_ahead encoding here + 1 + cond has_eols 0 (8 * bits + 8)
+-- that were passed, by the zeros ahead, and where EOLs aren't sought by what giving them up may have cost.
+abbrev pub IsPaidUpTo : ℕ → ℕ → ℕ → EncodingMode → Bool → ℕ → ℕ → Bits → Type 0
+IsPaidUpTo begun bits giving_up encoding has_eols ticks changes here =
+    ticks + changes + 16 * length here ≤ begun + 16 * bits + looked_ahead encoding here + 1 + cond has_eols 0 giving_up
 
-module _ (settings : DecodeSettings) (wide : 0 < settings.columns) (begun bits : ℕ) (reference : Row) (h : Bool) (here : Bits) (within : length here ≤ bits)
-    (ticks changes : ℕ) (paid : IsPaidUpTo begun bits settings.encoding h ticks changes here) (now : ℕ)
+module _ (settings : DecodeSettings) (wide : 0 < settings.columns) (begun bits giving_up : ℕ) (reference : Row) (h : Bool) (here : Bits) (within : length here ≤ bits)
+    (ticks changes : ℕ) (paid : IsPaidUpTo begun bits giving_up settings.encoding h ticks changes here) (now : ℕ)
     (line : now ≤ ticks + 4 * length (found_at_group3 settings reference here) + 2 + changes) where
   abbrev found : ℕ
   found = length (found_at_group3 settings reference here)
@@ -129,12 +129,12 @@ module _ (settings : DecodeSettings) (wide : 0 < settings.columns) (begun bits :
   found_fits : found ≤ length here
   found_fits = found_within settings.encoding settings.strict settings.columns reference here
 
-  either_given : (b : Bool) → cond b 0 (8 * bits + 8) ≤ 8 * bits + 8
+  either_given : (b : Bool) → cond b 0 giving_up ≤ giving_up
   either_given true = omega arith
   either_given false = omega arith
 
   -- a line that ends the run
-  pub line_ends : now ≤ begun + (36 * bits + 14)
+  pub line_ends : now ≤ begun + (16 * bits + 6 + giving_up)
   line_ends = omega (arith, paid, line, within, found_fits, looked_ahead_most settings.encoding here, either_given h)
 
   module _ (row : Row) (rest : Bits) (is : row_group3 settings h here (line_at_group3 settings reference here) ≡ Ok (row, rest)) where
@@ -142,34 +142,34 @@ module _ (settings : DecodeSettings) (wide : 0 < settings.columns) (begun bits :
     row_fits = row_shorter settings h reference here rest row wide is
 
     -- an EOL that strict data miss ends it
-    pub missing_ends : (last : ℕ) → last ≤ now + length rest → last ≤ begun + (36 * bits + 14)
+    pub missing_ends : (last : ℕ) → last ≤ now + length rest → last ≤ begun + (16 * bits + 6 + giving_up)
     missing_ends last counted = omega (arith, paid, line, within, found_fits, row_fits, counted, looked_ahead_most settings.encoding here, either_given h)
 
     -- so does what ends it well
     pub gap_ends : (last : ℕ) (left_over : Bits) → last + 4 * length left_over ≤ now + 4 * length rest + 3 + looked_ahead settings.encoding left_over
-        → last ≤ begun + (36 * bits + 14)
+        → last ≤ begun + (16 * bits + 6 + giving_up)
     gap_ends last left_over counted =
         omega (arith, paid, line, within, found_fits, row_fits, counted, looked_ahead_most settings.encoding here, looked_ahead_most settings.encoding left_over, either_given h)
 
     -- else the account goes on
     pub turn_goes_on : (taken : ℕ) (k : Bool) (next : Bits) (last stored : ℕ) → gap_group3 settings taken h rest ≡ Gap.line_at k next → stored ≤ found + 1
         → (k ≡ h → last + 4 * length next ≤ now + 4 * length rest + 3 + looked_ahead settings.encoding next) → (k ≢ h → last ≤ now + 2 * length rest)
-        → IsPaidUpTo begun bits settings.encoding k last stored next
-    turn_goes_on taken k next last stored gap few kept given_up = by h k refl refl
+        → (h ≡ true → 8 * bits + 8 ≤ giving_up) → IsPaidUpTo begun bits giving_up settings.encoding k last stored next
+    turn_goes_on taken k next last stored gap few kept given_up enough = by h k refl refl
       where
-        same : (b : Bool) → h ≡ b → k ≡ b → IsPaidUpTo begun bits settings.encoding b last stored next
+        same : (b : Bool) → h ≡ b → k ≡ b → IsPaidUpTo begun bits giving_up settings.encoding b last stored next
         same b h_is k_is =
             let pays = turn_pays settings h taken reference here rest next row wide is (gap ∙ ap (λ (x : Bool). Gap.line_at x next) (k_is ∙ sym h_is)) in
-            let before = subst (λ (x : Bool). IsPaidUpTo begun bits settings.encoding x ticks changes here) h_is paid in
+            let before = subst (λ (x : Bool). IsPaidUpTo begun bits giving_up settings.encoding x ticks changes here) h_is paid in
             omega (arith, before, line, row_fits, few, kept (k_is ∙ sym h_is), pays.some, pays.words, pays.zeros)
 
-        by : (a b : Bool) → h ≡ a → k ≡ b → IsPaidUpTo begun bits settings.encoding b last stored next
+        by : (a b : Bool) → h ≡ a → k ≡ b → IsPaidUpTo begun bits giving_up settings.encoding b last stored next
         by true true h_is k_is = same true h_is k_is
         by false false h_is k_is = same false h_is k_is
         by true false h_is k_is =
             let stands : gap_group3 settings taken true rest ≡ Gap.line_at false next
             = ap (λ (x : Bool). gap_group3 settings taken x rest) (sym h_is) ∙ gap ∙ ap (λ (x : Bool). Gap.line_at x next) k_is in
-            let before = subst (λ (x : Bool). IsPaidUpTo begun bits settings.encoding x ticks changes here) h_is paid in
+            let before = subst (λ (x : Bool). IsPaidUpTo begun bits giving_up settings.encoding x ticks changes here) h_is paid in
             omega (
               arith,
               before,
@@ -180,6 +180,7 @@ module _ (settings : DecodeSettings) (wide : 0 < settings.columns) (begun bits :
               found_fits,
               looked_ahead_most settings.encoding here,
               given_up (λ e. absurd (false≢true (sym k_is ∙ e ∙ h_is))),
+              enough h_is,
               ap length (line_given_up settings taken rest next stands),
             )
         by false true h_is k_is =

@@ -1,9 +1,7 @@
-use Rattle.std.proofs.Common.{◌≡◌, ◌⊎◌, inl, inr, ℕ, refl, ap, sym, ◌∙◌, length, arith}
+use Rattle.std.proofs.Common.{◌≡◌, ℕ, refl, ap, sym, ◌∙◌, length, arith}
 use Rattle.hayro_ccitt.specs.declared.settings.EncodingMode.{EncodingMode}
-use Rattle.hayro_ccitt.specs.declared.settings.EncodingMode.TheVariants.{Group4, Group3_1D}
 use Rattle.hayro_ccitt.specs.declared.settings.DecodeSettings.{DecodeSettings}
 use Rattle.hayro_ccitt.specs.Bits.{Bits, here}
-use Rattle.hayro_ccitt.specs.EndOfLine.{all_eols}
 use Rattle.hayro_ccitt.specs.PlainReading.{eols_by, eols_group3}
 use Rattle.hayro_ccitt.specs.Ticks.{looked, looked_ahead}
 use Rattle.hayro_ccitt.proofs.BitReading.EolCounts.{all_eols_leave}
@@ -11,20 +9,10 @@ use Rattle.hayro_ccitt.proofs.Readings.TurnsMoveOn.{tagged_eols_counted}
 use Rattle.hayro_ccitt.proofs.Work.EolsPassed.{eols_group3_stay}
 use Rattle.hayro_ccitt.proofs.group3.read_eols.Goals as goal
 
--- one-dimensional lines have no tags, nor have those of Group 4
-untagged : (encoding : EncodingMode) (here : Bits) → (encoding ≡ Group3_1D) ⊎ (encoding ≡ Group4) → eols_by encoding here ≡ all_eols here
-untagged encoding here (inl is) = ap (λ (e : EncodingMode). eols_by e here) is
-untagged encoding here (inr is) = ap (λ (e : EncodingMode). eols_by e here) is
-
 pub returns-in-Group3_2D-clause-counts : goal.returns-in-Group3_2D-clause-counts
 returns-in-Group3_2D-clause-counts c =
     let left = (tagged_eols_counted (here c.args.reader.now)).0 in
     omega (arith, c.ticks.ensures.value, c.read_tagged_eols.ensures.at_least, left, ap (λ (f : ℕ × Bits). length f.1) c.read_tagged_eols.ensures.eols)
-
--- nor is a tag ahead of one
-untagged_ahead : (encoding : EncodingMode) (here : Bits) → (encoding ≡ Group3_1D) ⊎ (encoding ≡ Group4) → looked_ahead encoding here ≡ looked here
-untagged_ahead encoding here (inl is) = ap (λ (e : EncodingMode). looked_ahead e here) is
-untagged_ahead encoding here (inr is) = ap (λ (e : EncodingMode). looked_ahead e here) is
 
 pub returns-in-Group3_1D : goal.returns-in-Group3_1D
 returns-in-Group3_1D c =
@@ -35,9 +23,9 @@ returns-in-Group3_1D c =
     let from = c.ticks-in-Group3_1D.ensures.value in
     let left = all_eols_leave c.read_eol_if_available.result now rest c.read_eol_if_available.ensures.eols in
     let eols : eols_group3 c.args.ctx.now.held.settings now ≡ (c.read_eol_if_available.result, rest)
-    = ap (λ (e : EncodingMode). eols_by e now) (sym same) ∙ untagged c.settings.result.encoding now c.in-Group3_1D.is ∙ c.read_eol_if_available.ensures.eols in
+    = ap (λ (e : EncodingMode). eols_by e c.args.ctx.now.held.settings.end_of_block now) (sym same ∙ c.in-Group3_1D.is) ∙ c.read_eol_if_available.ensures.eols in
     let ahead : looked_ahead c.args.ctx.now.held.settings.encoding rest ≡ looked rest
-    = ap (λ (e : EncodingMode). looked_ahead e rest) (sym same) ∙ untagged_ahead c.settings.result.encoding rest c.in-Group3_1D.is in
+    = ap (λ (e : EncodingMode). looked_ahead e rest) (sym same ∙ c.in-Group3_1D.is) in
     record {
       eols = eols;
       same_bits = c.read_eol_if_available.ensures.same_bits;
@@ -48,4 +36,26 @@ returns-in-Group3_1D c =
       work_none = λ none.
           let stays = eols_group3_stay c.args.ctx.now.held.settings now rest (eols ∙ ap (λ (n : ℕ). (n, rest)) none) in
           omega (arith, counted, from, ap length stays, ap looked stays);
+    }
+
+pub returns-in-Group4 : goal.returns-in-Group4
+returns-in-Group4 c =
+    let is = sym (ap (λ (s : DecodeSettings). s.encoding) c.settings.ensures.value) ∙ c.in-Group4.is in
+    let settings = c.args.ctx.now.held.settings in
+    let now = here c.args.reader.now in
+    let rest = here c.read_eols_before_line.new.reader in
+    let counted = c.read_eols_before_line.ensures.work in
+    let eols : eols_group3 settings now ≡ (c.read_eols_before_line.result, rest)
+    = ap (λ (e : EncodingMode). eols_by e settings.end_of_block now) is ∙ c.read_eols_before_line.ensures.eols in
+    let ahead : looked_ahead settings.encoding rest ≡ looked rest = ap (λ (e : EncodingMode). looked_ahead e rest) is in
+    record {
+      eols = eols;
+      same_bits = c.read_eols_before_line.ensures.same_bits;
+      held = c.read_eols_before_line.ensures.held;
+      counts = c.read_eols_before_line.ensures.counts;
+      at_least = c.read_eols_before_line.ensures.at_least;
+      work = omega (arith, counted, c.read_eols_before_line.ensures.forward, ahead);
+      work_none = λ none.
+          let stays = eols_group3_stay settings now rest (eols ∙ ap (λ (n : ℕ). (n, rest)) none) in
+          omega (arith, c.read_eols_before_line.ensures.work_none none, ap length stays, ap looked stays);
     }

@@ -1,5 +1,6 @@
-use Rattle.std.proofs.Common.{arith}
+use Rattle.std.proofs.Common.{ℕ, cond, eqb, ap, arith}
 use Rattle.hayro_ccitt.specs.Bits.{here}
+use Rattle.hayro_ccitt.specs.Ticks.{looked}
 use Rattle.hayro_ccitt.proofs.BitReading.EolCounts.{eols_leave, all_eols_leave}
 use Rattle.hayro_ccitt.proofs.group4.read_eols_before_line.Goals as goal
 
@@ -18,3 +19,8 @@ returns-then-settings-clause-forward c =
 pub returns-else-settings-clause-forward : goal.returns-else-settings-clause-forward
 returns-else-settings-clause-forward c =
     all_eols_leave c.read_eol_if_available.result (here c.args.reader.now) (here c.read_eol_if_available.new.self) c.read_eol_if_available.ensures.eols
+
+pub returns-then-settings-clause-work_none : goal.returns-then-settings-clause-work_none
+returns-then-settings-clause-work_none c = λ none.
+    let rest = here c.read_eols.new.self in
+    omega (arith, c.read_eols.ensures.ticks, c.ticks.ensures.value, ap (λ (n : ℕ). cond (eqb n 2) 0 (looked rest)) none)
