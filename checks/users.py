@@ -12,7 +12,7 @@ from left_out import leave_out
 
 PAGES = ["README.md", "docs/USING.md"]
 # Tools that a command may need and that needn't be here.
-TOOLS = ["ppm2tiff", "tiffcp", "tiffdump", "gs", "img2pdf", "pdfimages", "strings"]
+TOOLS = ["cargo", "ppm2tiff", "tiffcp", "tiffdump", "gs", "img2pdf", "pdfimages", "strings"]
 PACKAGE = "bindings/rust"
 
 
@@ -50,7 +50,7 @@ def outcomes(page):
     """Each command, the text below it, and what it prints: None where it is left out, for want of a tool or of a file that one
     that was left out would have made. What is printed of a user's file isn't on the page."""
     with tempfile.TemporaryDirectory() as folder:
-        for name in ("build", "c", "corpus", "crates", "examples"):
+        for name in ("bindings", "build", "c", "corpus", "crates", "examples"):
             os.symlink(os.path.abspath(name), f"{folder}/{name}")
         os.mkdir(f"{folder}/out")
         files_of_users(folder)
@@ -60,7 +60,7 @@ def outcomes(page):
                 continue  # `installed` makes and installs
             files = re.findall(r"out/[\w.-]+|FILE\.\w+", command)
             absent = [name for name in files if not os.path.exists(f"{folder}/{name}")]
-            missing = [tool for tool in TOOLS if re.search(rf"(^|[|;&(]) *{tool} ", command) and not shutil.which(tool)]
+            missing = [tool for tool in TOOLS if re.search(rf"(^|[|;&(]|&&) *{tool} ", command) and not shutil.which(tool)]
             if "pdf_pages.py" in command and not shutil.which("pdfimages"):
                 missing.append("pdfimages")
             if missing or any(name.startswith(("FILE.", *lost)) for name in absent):
