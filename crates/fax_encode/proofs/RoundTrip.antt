@@ -13,12 +13,12 @@ use Rattle.hayro_ccitt.specs.Encodings.{IsPicture, padding, EncodesRowsWithEols,
 use Rattle.hayro_ccitt.specs.Pictures.{BeginsWithPictureT6, BeginsWithPictureT4}
 use Rattle.hayro_ccitt.specs.declared.settings.EncodingMode.{EncodingMode}
 use Rattle.hayro_ccitt.specs.Settings.{AreSettings}
-use Rattle.hayro_ccitt.specs.PlainReading.{eols_group3}
+use Rattle.hayro_ccitt.specs.PlainReading.{eols_here}
 use Rattle.hayro_ccitt.proofs.BitReading.BitLists.{length-bits_of, bits_are_whole}
 use Rattle.hayro_ccitt.proofs.PixelRows.ChangesAndPixels.{length-pixels}
 use Rattle.hayro_ccitt.proofs.Readings.TurnsMoveOn.{eols-none}
 use Rattle.hayro_ccitt.proofs.EncodedPictures.PicturesT6.{closed_picture_t6}
-use Rattle.hayro_ccitt.proofs.EncodedPictures.PicturesT4.{closed_picture_t4, eols_group3_one}
+use Rattle.hayro_ccitt.proofs.EncodedPictures.PicturesT4.{closed_picture_t4, eols_here_one}
 use Rattle.fax_encode.specs.Chosen.{chosen_t6, chosen_t4, chosen_lines_1d, return_to_control, filled_up, rows_of}
 use Rattle.fax_encode.specs.Refusals.{AreRows}
 use Rattle.fax_encode.specs.Laws.{RoundTripT6, RoundTripT4, ReadToTheEnd}
@@ -117,9 +117,9 @@ round_trip_t4 settings columns lists bytes wide small some are to_end group3 e =
     let more : Bits = replicate n false in
     let stand : bits_of bytes ≡ lines ++ (return_to_control ++ more) = e ∙ append_assoc lines return_to_control more in
     let begins = begins_with_chosen_t4 settings columns lists (bits_of bytes) to_end group3 wide some are e in
-    let left : (eols_group3 settings (return_to_control ++ more)).1 ≡ more
-    = ap (λ (f : ℕ × Bits). f.1) (eols_group3_one settings (return_to_control ++ more) group3) ∙ closing_eols n in
-    let count : (length (bits_of bytes) - length (eols_group3 settings (return_to_control ++ more)).1 + 7) / 8 ≡ length bytes
+    let left : (eols_here settings (return_to_control ++ more)).1 ≡ more
+    = ap (λ (f : ℕ × Bits). f.1) (eols_here_one settings (return_to_control ++ more) group3) ∙ closing_eols n in
+    let count : (length (bits_of bytes) - length (eols_here settings (return_to_control ++ more)).1 + 7) / 8 ≡ length bytes
     = ap (λ (m : Bits). (length (bits_of bytes) - length m + 7) / 8) left
     ∙ (let k : (length (bits_of bytes) - length more + 7) / 8 ≡ length bytes = omega (arith, length-bits_of bytes, length-replicate n false) in k) in
     closed_picture_t4 settings rows lines (return_to_control ++ more) (bits_of bytes) (settings_are settings columns small to_end) begins

@@ -1,8 +1,9 @@
 pub mod AfterEofb
-pub mod BodiesT4
+pub mod Bodies
 pub mod EncodedLines
 pub mod EncodedRuns
 pub mod EncodingsExist
+pub mod PictureLines
 pub mod PicturesOfEachKind
 pub mod PicturesT4
 pub mod PicturesT6

@@ -1,6 +1,6 @@
 pub mod Gathered
 pub mod Limits
-pub mod OneReading
+pub mod GapsAndRows
 pub mod PlainAnswers
 pub mod Repeated
 pub mod RowWidths
@@ -8,5 +8,6 @@ pub mod RowsAndGaps
 pub mod RowsOfGroup3
 pub mod RunsOverRows
 pub mod Strictness
+pub mod WholeRuns
 pub mod TurnsAddRows
 pub mod TurnsMoveOn

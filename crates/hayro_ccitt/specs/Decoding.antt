@@ -6,11 +6,10 @@ use Rattle.hayro_ccitt.specs.declared.error.DecodeError.TheVariants.{OutOfMemory
 use Rattle.hayro_ccitt.specs.Answers.{IsFault, OnAnswer, HasBlack, PaintsBlack, front_of, meaning_after}
 use Rattle.hayro_ccitt.specs.Bits.{Bits}
 use Rattle.hayro_ccitt.specs.Context.{Context, Held, redrawn}
-use Rattle.hayro_ccitt.specs.declared.settings.EncodingMode.{EncodingMode}
 use Rattle.hayro_ccitt.specs.Lines.{Line}
-use Rattle.hayro_ccitt.specs.PlainReading.{Progress, Gap, end_by, lines_by, ending_from, gathered_from, move_group3, lines_of_move_group3}
+use Rattle.hayro_ccitt.specs.PlainReading.{Progress, Ending, Gap, move_on, one_each, end_of, ending_from, gathered_of, gathered_from, line_of_turn}
 use Rattle.hayro_ccitt.specs.Rows.{Row, changes}
-use Rattle.hayro_ccitt.specs.Work.{CountsRun, words_by, words_of_move_group3, most_counted}
+use Rattle.hayro_ccitt.specs.Work.{CountsRun, words_of_turn, most_counted}
 
 -- glue: what a sink means, whether it has refused a row, and which rows it refuses
 pub record SinkState (M : Type 0) : Type 1 where
@@ -41,14 +40,20 @@ pub record StopsShort {M A : Type 0} (rows : List Row) (lines : List Line) (befo
 
 -- ---- All rows of some bits: the contract of the drivers
 
--- What a run over the rows of some bits leaves, read in an encoding: the rows that were taken, what comes with fewer, and the
--- work (T.4, 4.1 and 4.2; T.6, 2.2 and 2.4.1).
-pub record DecodesRows {M : Type 0} (encoding : EncodingMode) (bits : Bits) (step : M → List ℕ → M) (before after : SinkState M) (old new : Context) (answer : Result Bits DecodeError) : Type 0 where
+-- What a run over rows leaves, from the end that its reading comes to, its lines and their words: the rows that were taken,
+-- what comes with fewer, and the work, at most so much.
+pub record TakesAll {M : Type 0} (end : Ending) (lines : List Line) (words : List (List Bits)) (most : ℕ) (step : M → List ℕ → M) (before after : SinkState M) (old new : Context) (answer : Result Bits DecodeError) : Type 0 where
   pub settings : new.held.settings ≡ old.held.settings
-  pub reading : TakesRows (end_by encoding old.held.settings bits).rows (end_by encoding old.held.settings bits).outcome
-      (end_by encoding old.held.settings bits).has_eols step before after new.held answer
-  pub short : StopsShort (end_by encoding old.held.settings bits).rows (lines_by encoding old.held.settings bits) before after new.held answer
-  pub work : CountsRun (words_by encoding old.held.settings bits) new.held.taken old.ticks new.ticks (most_counted encoding (length bits))
+  pub reading : TakesRows end.rows end.outcome end.has_eols step before after new.held answer
+  pub short : StopsShort end.rows lines before after new.held answer
+  pub work : CountsRun words new.held.taken old.ticks new.ticks most
+
+-- a run over the rows of some bits, read by the settings (T.4, 4.1 and 4.2; T.6, 2.2 and 2.4.1)
+abbrev pub DecodesRows : {M : Type 0} → Bits → (M → List ℕ → M) → SinkState M → SinkState M → Context → Context → Result Bits DecodeError → Type 0
+DecodesRows bits step before after old new answer =
+    TakesAll (end_of old.held.settings bits) (gathered_of old.held.settings (line_of_turn old.held.settings) bits)
+    (gathered_of old.held.settings (words_of_turn old.held.settings) bits) (most_counted old.held.settings.encoding (length bits))
+    step before after old new answer
 
 -- ---- One turn: what no reader has to believe, the contracts of private calls
 
@@ -96,11 +101,8 @@ pub record TakesOneRow {M : Type 0} (line : Line) (row : Result (Row × Bits) De
   pub flag : answer ≡ Err Refused → after.refused ≡ true
   pub no_flag : answer ≢ Err Refused → after.refused ≡ before.refused
 
--- What a run over rows leaves that begins at a line: the rows that were taken, what comes with fewer, and the work.
-pub record DecodesFrom {M : Type 0} (first : Progress) (most : ℕ) (step : M → List ℕ → M) (before after : SinkState M) (old new : Context) (answer : Result Bits DecodeError) : Type 0 where
-  pub settings : new.held.settings ≡ old.held.settings
-  pub reading : TakesRows (ending_from (move_group3 old.held.settings) first).rows (ending_from (move_group3 old.held.settings) first).outcome
-      (ending_from (move_group3 old.held.settings) first).has_eols step before after new.held answer
-  pub short : StopsShort (ending_from (move_group3 old.held.settings) first).rows
-      (gathered_from (move_group3 old.held.settings) (lines_of_move_group3 old.held.settings) first) before after new.held answer
-  pub work : CountsRun (gathered_from (move_group3 old.held.settings) (words_of_move_group3 old.held.settings) first) new.held.taken old.ticks new.ticks most
+-- a run over rows that begins at a line, with at most so much work
+abbrev pub DecodesFrom : {M : Type 0} → Progress → ℕ → (M → List ℕ → M) → SinkState M → SinkState M → Context → Context → Result Bits DecodeError → Type 0
+DecodesFrom first most step before after old new answer =
+    TakesAll (ending_from (move_on old.held.settings) first) (gathered_from (move_on old.held.settings) (one_each (line_of_turn old.held.settings)) first)
+    (gathered_from (move_on old.held.settings) (one_each (words_of_turn old.held.settings)) first) most step before after old new answer

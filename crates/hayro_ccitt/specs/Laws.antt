@@ -1,9 +1,10 @@
 -- The laws of the plain reading.
-use Rattle.std.specs.Prelude.{◌≡◌, ◌≢◌, ℕ, ◌+◌, ◌-◌, ◌*◌, ◌/◌, ◌^◌, ◌<◌, Bool, true, false, not, ◌&&◌, ◌||◌, nat_le, ◌⊎◌, Ok, IsOk}
+use Rattle.std.specs.Prelude.{◌≡◌, ◌≢◌, ℕ, ◌+◌, ◌-◌, ◌*◌, ◌/◌, ◌^◌, ◌<◌, Bool, true, false, not, ◌&&◌, ◌||◌, nat_le, ◌⊎◌, Result, Ok, Err, IsOk}
 use Rattle.std.specs.Prelude.{List, [], ◌∷◌, ◌++◌, length, take, replicate, reverse, All}
 use Rattle.std.specs.List.{fold, list_all, list_any}
 use Rattle.hayro_ccitt.specs.declared.codes.Color.{Color}
 use Rattle.hayro_ccitt.specs.declared.codes.Mode.{Mode}
+use Rattle.hayro_ccitt.specs.declared.error.DecodeError.{DecodeError}
 use Rattle.hayro_ccitt.specs.declared.settings.EncodingMode.{EncodingMode}
 use Rattle.hayro_ccitt.specs.declared.settings.EncodingMode.TheVariants.{Group4}
 use Rattle.hayro_ccitt.specs.declared.settings.DecodeSettings.{DecodeSettings}
@@ -19,8 +20,8 @@ use Rattle.hayro_ccitt.specs.EndOfLine.{eols}
 use Rattle.hayro_ccitt.specs.Encodings.{EncodesRows, IsPicture, PictureT6, PictureT4}
 use Rattle.hayro_ccitt.specs.Pictures.{Allows, BeginsWithPictureT6, BeginsWithPictureT4, IsClosedPicture}
 use Rattle.hayro_ccitt.specs.Pictures.{BeginsWithRowsT6, BeginsWithRowsT4, BeginsWithRowsAndEolsT4, IsLimitedPicture}
-use Rattle.hayro_ccitt.specs.Repetition.{Reaches}
-use Rattle.hayro_ccitt.specs.PlainReading.{line_by, Progress, start_group4, move_group4, eols_group3, plain}
+use Rattle.hayro_ccitt.specs.Repetition.{Turn, Reaches}
+use Rattle.hayro_ccitt.specs.PlainReading.{line_by, Progress, Move, row_of_line, line_of_turn, ends_with, with_row, pass_gap, at_front, eols_here, plain}
 use Rattle.hayro_ccitt.specs.Lines.{Line, tag_at, line_found}
 use Rattle.hayro_ccitt.specs.Settings.{AreSettings}
 
@@ -133,7 +134,7 @@ ReadsPictureT4 = (settings : DecodeSettings) (rows : List Row) (bits behind whol
     → BeginsWithPictureT4 settings rows bits behind whole
     → plain settings whole ≡ record {
       rows = rows;
-      outcome = Ok ((length whole - length (eols_group3 settings behind).1 + 7) / 8);
+      outcome = Ok ((length whole - length (eols_here settings behind).1 + 7) / 8);
       has_eols = true;
     }
 
@@ -197,9 +198,28 @@ OnePictureT4 = (encoding : EncodingMode) (columns : ℕ) (rows others : List Row
 
 -- ---- after EOFB
 
+-- glue: a row is added, without the gap behind it, or its fault ends the reading
+abbrev pub add_row_alone : Progress → Result (Row × Bits) DecodeError → Move
+add_row_alone so_far (Ok (row, rest)) = Turn.next (with_row so_far row rest)
+add_row_alone so_far (Err fault) = ends_with so_far (Err fault)
+
+-- glue: the row of the line behind a gap, where one stands there
+abbrev pub row_behind : DecodeSettings → Move → Move
+row_behind settings (Turn.next so_far) =
+    add_row_alone so_far (row_of_line settings so_far.has_eols so_far.rest (line_of_turn settings so_far))
+row_behind settings (Turn.done end) = Turn.done end
+
+-- a gap, and the row behind it: from one place between lines to the next
+abbrev pub gap_and_row : DecodeSettings → Progress → Move
+gap_and_row settings so_far = row_behind settings (pass_gap settings so_far)
+
+-- glue: the same settings, for T.6 data
+abbrev pub for_t6 : DecodeSettings → DecodeSettings
+for_t6 settings = record settings { encoding = Group4 }
+
 -- the reading of T.6 data comes to a place between lines where two EOLs stand (T.6, 2.4.1.1)
 abbrev pub ComesToEofb : DecodeSettings → Bits → Type 0
-ComesToEofb settings bits = (last : Progress) × Reaches (move_group4 settings) (start_group4 bits) last × ((eols 2 last.rest).0 ≡ 2)
+ComesToEofb settings bits = (last : Progress) × Reaches (gap_and_row (for_t6 settings)) (at_front bits) last × ((eols 2 last.rest).0 ≡ 2)
 
 -- Where T.6 data were read up to their EOFB, data with the same bytes so far are read the same (T.6, 2.4.1.1).
 abbrev pub AfterEofb : Type 0

@@ -14,7 +14,6 @@ pub mod Lines
 pub mod Locality
 pub mod LookUps
 pub mod Pictures
-pub mod OneReading
 pub mod PlainReading
 pub mod Repetition
 pub mod Rows

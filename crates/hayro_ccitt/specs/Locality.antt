@@ -10,7 +10,7 @@ use Rattle.hayro_ccitt.specs.Repetition.{Reaches}
 use Rattle.hayro_ccitt.specs.Rows.{Row, repaired}
 use Rattle.hayro_ccitt.specs.Lines.{Line, line_1d}
 use Rattle.hayro_ccitt.specs.EndOfLine.{after_eol, all_eols, next_eol}
-use Rattle.hayro_ccitt.specs.PlainReading.{Progress, at_end, start_group3, move_group3, end_of, plain}
+use Rattle.hayro_ccitt.specs.PlainReading.{Progress, at_end, first_line, move_on, end_of, plain}
 use Rattle.hayro_ccitt.specs.Settings.{AreSettings}
 
 -- ---- lines by EOLs
@@ -119,7 +119,7 @@ LocalByTests = (settings : DecodeSettings) (bits : Bits) (from to : ℕ)
 -- the reading of Group 3 comes to a place where a line begins, so many rows standing before it (T.4, 4.1.2)
 abbrev pub ComesToLine : DecodeSettings → Bits → ℕ → ℕ → Type 0
 ComesToLine settings bits place index = (so_far : Progress)
-    × Reaches (move_group3 settings) (start_group3 settings bits) so_far
+    × Reaches (move_on settings) (first_line settings bits) so_far
     × (so_far.rest ≡ drop place bits) × (length so_far.rows ≡ index)
 
 -- the rows of two data are equal, but for at most the one whose line begins at a place in both (T.4, 4.1.2)

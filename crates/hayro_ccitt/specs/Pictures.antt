@@ -5,7 +5,7 @@ use Rattle.hayro_ccitt.specs.declared.settings.DecodeSettings.{DecodeSettings}
 use Rattle.hayro_ccitt.specs.Bits.{Bits, IsPrefix}
 use Rattle.hayro_ccitt.specs.Rows.{Row, white_row}
 use Rattle.hayro_ccitt.specs.Encodings.{EncodesRows, EncodesRowsWithEols, ClosesWithEols, IsPicture, PictureT6}
-use Rattle.hayro_ccitt.specs.PlainReading.{eols_group3}
+use Rattle.hayro_ccitt.specs.PlainReading.{eols_here}
 
 -- glue: the limit, if there is one, isn't below so many rows
 abbrev pub Allows : DecodeSettings → ℕ → Type 0
@@ -42,7 +42,7 @@ pub data IsClosedPicture (settings : DecodeSettings) (rows : List Row) (count : 
       → IsClosedPicture settings rows count whole
   -- in T.4 at the end of all the EOLs that stand where the last line ends, RTC being the first six (T.4, 4.1.4 and 4.2.4)
   by_rtc : (bits behind : Bits) → BeginsWithPictureT4 settings rows bits behind whole
-      → count ≡ (length whole - length (eols_group3 settings behind).1 + 7) / 8 → IsClosedPicture settings rows count whole
+      → count ≡ (length whole - length (eols_here settings behind).1 + 7) / 8 → IsClosedPicture settings rows count whole
 
 -- ---- Pictures that the limit of rows ends
 

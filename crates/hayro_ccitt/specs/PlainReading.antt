@@ -29,7 +29,7 @@ pub record Ending : Type 0 where
 abbrev pub Move : Type 0
 Move = Turn Progress Ending
 
--- ---- Between two rows: what stands behind so many rows says whether a line follows (T.4, 4.1; T.6, 2.4.1)
+-- ---- The gap before a line: what stands behind so many rows says whether a line follows (T.4, 4.1; T.6, 2.4.1)
 
 -- what stands between two rows: a line, and whether EOLs are sought from now on; or the end, well or with a fault
 pub data Gap : Type 0 where
@@ -45,33 +45,16 @@ at_end (bit ∷ rest) = false
 abbrev pub limit_met : DecodeSettings → ℕ → Bool
 limit_met settings taken = not (settings.rows == 0) && (settings.rows == taken)
 
--- the EOLs that are read before a line of Group 4: at most the two of EOFB with `end_of_block`, else all (T.6, 2.4.1.1)
-abbrev pub eols_group4 : DecodeSettings → Bits → ℕ × Bits
-eols_group4 settings here = if settings.end_of_block then eols 2 here else all_eols here
-
--- EOLs were read behind so many rows of Group 4: two of them with `end_of_block`, which are EOFB, end the reading, and so
--- do the limit and the end of the data (T.6, 2.4.1.1)
-abbrev pub is_over_group4 : DecodeSettings → ℕ → ℕ × Bits → Bool
-is_over_group4 settings taken (count, rest) = (settings.end_of_block && (count == 2)) || limit_met settings taken || at_end rest
-
--- behind these EOLs of Group 4 a line stands, unless the reading is over (T.6, 2.4.1.1)
-abbrev pub behind_eols_group4 : DecodeSettings → ℕ → Bool → ℕ × Bits → Gap
-behind_eols_group4 settings taken has_eols (count, rest) =
-    if is_over_group4 settings taken (count, rest) then Gap.over (Ok rest) else Gap.line_at has_eols rest
-
--- what stands behind so many rows of Group 4, and before the first (T.6, 2.4.1.1)
-abbrev pub gap_group4 : DecodeSettings → ℕ → Bool → Bits → Gap
-gap_group4 settings taken has_eols here = behind_eols_group4 settings taken has_eols (eols_group4 settings here)
-
--- the EOLs that stand here, in two-dimensional data with their tags (T.4, 4.2.2)
+-- The EOLs that stand here: in Group 4 with `end_of_block` at most the two of EOFB (T.6, 2.4.1.1), in two-dimensional data
+-- of Group 3 with their tags (T.4, 4.2.2).
 abbrev pub eols_by : EncodingMode → Bool → Bits → ℕ × Bits
 eols_by Group3_1D end_of_block here = all_eols here
 eols_by Group3_2D end_of_block here = tagged_eols here
 eols_by Group4 end_of_block here = if end_of_block then eols 2 here else all_eols here
 
--- the EOLs of Group 3 that stand here (T.4, 4.1.2)
-abbrev pub eols_group3 : DecodeSettings → Bits → ℕ × Bits
-eols_group3 settings here = eols_by settings.encoding settings.end_of_block here
+-- glue: the EOLs that stand here, read by the settings
+abbrev pub eols_here : DecodeSettings → Bits → ℕ × Bits
+eols_here settings here = eols_by settings.encoding settings.end_of_block here
 
 -- so many EOLs end the data: the two of EOFB (T.6, 2.4.1.1), the six of RTC (T.4, 4.1.4)
 abbrev pub eols_of_end : EncodingMode → ℕ
@@ -79,20 +62,21 @@ eols_of_end Group4 = 2
 eols_of_end Group3_1D = 6
 eols_of_end Group3_2D = 6
 
--- EOLs were counted behind so many rows of Group 3: six of them with `end_of_block`, which are RTC, end the reading, and
--- so do the limit and the end of the data (T.4, 4.1.4)
-abbrev pub is_over_group3 : DecodeSettings → ℕ → ℕ × Bits → Bool
-is_over_group3 settings taken (count, rest) = (settings.end_of_block && nat_le (eols_of_end settings.encoding) count) || limit_met settings taken || at_end rest
+-- EOLs were counted behind so many rows: EOFB or RTC with `end_of_block`, the limit and the end of the data end the reading
+-- (T.4, 4.1.4; T.6, 2.4.1.1)
+abbrev pub is_over : DecodeSettings → ℕ → ℕ × Bits → Bool
+is_over settings taken (count, rest) =
+    (settings.end_of_block && nat_le (eols_of_end settings.encoding) count) || limit_met settings taken || at_end rest
 
--- behind these EOLs of Group 3 a line stands, unless the reading is over (T.4, 4.1.4)
-abbrev pub behind_eols_group3 : DecodeSettings → ℕ → Bool → ℕ × Bits → Gap
-behind_eols_group3 settings taken has_eols (count, rest) =
-    if is_over_group3 settings taken (count, rest) then Gap.over (Ok rest) else Gap.line_at has_eols rest
+-- behind these EOLs a line stands, unless the reading is over (T.4, 4.1.4; T.6, 2.4.1.1)
+abbrev pub behind_eols : DecodeSettings → ℕ → Bool → ℕ × Bits → Gap
+behind_eols settings taken has_eols (count, rest) =
+    if is_over settings taken (count, rest) then Gap.over (Ok rest) else Gap.line_at has_eols rest
 
 -- The next EOL was looked for. The EOLs that stand there are counted; where there is none, a line stands here, and EOLs
 -- are given up (T.4, 4.1.2).
 abbrev pub from_next_eol : DecodeSettings → ℕ → Bits → Option Bits → Gap
-from_next_eol settings taken here (Some found) = behind_eols_group3 settings taken true (eols_group3 settings found)
+from_next_eol settings taken here (Some found) = behind_eols settings taken true (eols_here settings found)
 from_next_eol settings taken here None = Gap.line_at false here
 
 -- no EOL stands here, in data that have them: strict this is a fault, lenient the next EOL is looked for (T.4, 4.1.2)
@@ -100,13 +84,13 @@ abbrev pub missing_eol : DecodeSettings → ℕ → Bits → Gap
 missing_eol settings taken here =
     if settings.strict then Gap.over (Err InvalidCode) else from_next_eol settings taken here (next_eol here)
 
--- What stands behind so many rows of Group 3: EOLs, which are counted, and sought where none came although the data have
--- them, the limit isn't met and bits are left (T.4, 4.1.2).
-abbrev pub gap_group3 : DecodeSettings → ℕ → Bool → Bits → Gap
-gap_group3 settings taken has_eols here =
-    if ((eols_group3 settings here).0 == 0) && has_eols && not (limit_met settings taken) && not (at_end here)
+-- What stands behind so many rows: EOLs, which are counted, and sought where none came although the data have them, the
+-- limit isn't met and bits are left (T.4, 4.1.2).
+abbrev pub gap_behind_row : DecodeSettings → ℕ → Bool → Bits → Gap
+gap_behind_row settings taken has_eols here =
+    if ((eols_here settings here).0 == 0) && has_eols && not (limit_met settings taken) && not (at_end here)
     then missing_eol settings taken here
-    else behind_eols_group3 settings taken has_eols (eols_group3 settings here)
+    else behind_eols settings taken has_eols (eols_here settings here)
 
 -- ---- One row (T.4, 4.1 and 4.2; T.6, 2.2)
 
@@ -129,33 +113,24 @@ line_by Group3_2D strict columns reference (true ∷ rest) = line_1d strict colu
 line_by Group3_2D strict columns reference (false ∷ rest) = line_2d strict columns reference rest
 line_by Group4 strict columns reference here = line_2d strict columns reference here
 
--- the line of Group 3 that stands here, read by the settings (T.4, 4.2.2)
-abbrev pub line_at_group3 : DecodeSettings → Row → Bits → Line
-line_at_group3 settings reference here = line_by settings.encoding settings.strict settings.columns reference here
-
--- glue: the line of Group 4 that stands here, behind the rows so far
-abbrev pub line_group4 : DecodeSettings → Progress → Bits → Line
-line_group4 settings so_far here = line_2d settings.strict settings.columns (row_before settings.columns so_far.rows) here
-
--- what a line of Group 4 comes to: its row, and the bits behind it, from a whole byte on where rows are aligned; or its
--- fault (T.6, 2.2)
-abbrev pub row_group4 : DecodeSettings → Line → Result (Row × Bits) DecodeError
-row_group4 settings (Line.whole row rest) = Ok (row, if settings.rows_are_byte_aligned then aligned rest else rest)
-row_group4 settings (Line.broken front fault) = Err fault
+-- glue: the line that stands here, read by the settings
+abbrev pub line_here : DecodeSettings → Row → Bits → Line
+line_here settings reference here = line_by settings.encoding settings.strict settings.columns reference here
 
 -- the bits behind a row: where rows are aligned and the data have no EOLs, they begin at a whole byte (T.4, 4.1.3)
 abbrev pub behind_row : DecodeSettings → Bool → Bits → Bits
 behind_row settings has_eols rest = if settings.rows_are_byte_aligned && not has_eols then aligned rest else rest
 
--- What a line of Group 3 comes to. In lenient data with EOLs a broken row is repaired: its front is continued in white,
--- and the place goes back to the line's start (T.4, 4.1.2).
-abbrev pub row_group3 : DecodeSettings → Bool → Bits → Line → Result (Row × Bits) DecodeError
-row_group3 settings has_eols start (Line.whole row rest) = Ok (row, behind_row settings has_eols rest)
-row_group3 settings has_eols start (Line.broken front fault) =
+-- What a line comes to: its row, and the bits behind it, or its fault. In lenient data with EOLs a broken row is repaired:
+-- its front is continued in white, and the place goes back to the line's start (T.4, 4.1.2). Data without EOLs, as those of
+-- Group 4, are never repaired (T.6, 2.2).
+abbrev pub row_of_line : DecodeSettings → Bool → Bits → Line → Result (Row × Bits) DecodeError
+row_of_line settings has_eols start (Line.whole row rest) = Ok (row, behind_row settings has_eols rest)
+row_of_line settings has_eols start (Line.broken front fault) =
     if settings.strict || not has_eols then Err fault
     else Ok (repaired settings.columns front, behind_row settings has_eols start)
 
--- ---- One turn: in Group 4 what stands between two rows and then a row, in Group 3 a row and then what stands behind it
+-- ---- One turn: a row, and the gap behind it
 
 -- glue: the reading ends here
 abbrev pub ends_with : Progress → Result Bits DecodeError → Move
@@ -165,81 +140,60 @@ ends_with so_far outcome = Turn.done (record { rows = so_far.rows; has_eols = so
 abbrev pub with_row : Progress → Row → Bits → Progress
 with_row so_far row rest = record so_far { rows = so_far.rows ++ row ∷ []; rest = rest }
 
--- glue: a row of Group 4 is added, or its fault ends the reading
-abbrev pub add_row_group4 : Progress → Result (Row × Bits) DecodeError → Move
-add_row_group4 so_far (Ok (row, rest)) = Turn.next (with_row so_far row rest)
-add_row_group4 so_far (Err fault) = ends_with so_far (Err fault)
+-- glue: the reading goes on at a line, or ends there
+abbrev pub at_gap : Progress → Gap → Move
+at_gap so_far (Gap.over outcome) = ends_with so_far outcome
+at_gap so_far (Gap.line_at has_eols here) = Turn.next (record so_far { has_eols = has_eols; rest = here })
 
--- glue: after a line of Group 4
-abbrev pub after_line_group4 : DecodeSettings → Progress → Line → Move
-after_line_group4 settings so_far line = add_row_group4 so_far (row_group4 settings line)
+-- the gap behind the rows so far
+abbrev pub pass_gap : DecodeSettings → Progress → Move
+pass_gap settings so_far = at_gap so_far (gap_behind_row settings (length so_far.rows) so_far.has_eols so_far.rest)
 
--- glue: a line of Group 4 is read, unless the reading is over
-abbrev pub at_gap_group4 : DecodeSettings → Progress → Gap → Move
-at_gap_group4 settings so_far (Gap.over outcome) = ends_with so_far outcome
-at_gap_group4 settings so_far (Gap.line_at has_eols here) = after_line_group4 settings so_far (line_group4 settings so_far here)
+-- glue: a row is added and the gap behind it passed, or its fault ends the reading
+abbrev pub add_row : DecodeSettings → Progress → Result (Row × Bits) DecodeError → Move
+add_row settings so_far (Ok (row, rest)) = pass_gap settings (with_row so_far row rest)
+add_row settings so_far (Err fault) = ends_with so_far (Err fault)
 
--- one row's turn in Group 4: what stands before the line, and the line (T.6, 2.2)
-abbrev pub move_group4 : DecodeSettings → Progress → Move
-move_group4 settings so_far = at_gap_group4 settings so_far (gap_group4 settings (length so_far.rows) so_far.has_eols so_far.rest)
+-- glue: after a line
+abbrev pub after_line : DecodeSettings → Progress → Line → Move
+after_line settings so_far line = add_row settings so_far (row_of_line settings so_far.has_eols so_far.rest line)
 
--- glue: the reading of Group 3 goes on behind its rows, or ends there
-abbrev pub at_gap_group3 : Progress → Gap → Move
-at_gap_group3 so_far (Gap.over outcome) = ends_with so_far outcome
-at_gap_group3 so_far (Gap.line_at has_eols here) = Turn.next (record so_far { has_eols = has_eols; rest = here })
+-- one turn in every encoding, from a line on: its row, and the gap behind it (T.4, 4.1 and 4.2; T.6, 2.2)
+abbrev pub move_on : DecodeSettings → Progress → Move
+move_on settings so_far = after_line settings so_far (line_here settings (row_before settings.columns so_far.rows) so_far.rest)
 
--- glue: what stands behind the rows so far
-abbrev pub move_behind_row : DecodeSettings → Progress → Move
-move_behind_row settings so_far = at_gap_group3 so_far (gap_group3 settings (length so_far.rows) so_far.has_eols so_far.rest)
+-- ---- The whole data: the first gap, and turns (T.4, 4.1 and 4.2; T.6, 2.2 and 2.4.1)
 
--- glue: a row of Group 3 is added, or its fault ends the reading
-abbrev pub add_row_group3 : DecodeSettings → Progress → Result (Row × Bits) DecodeError → Move
-add_row_group3 settings so_far (Ok (row, rest)) = move_behind_row settings (with_row so_far row rest)
-add_row_group3 settings so_far (Err fault) = ends_with so_far (Err fault)
+-- glue: before the first gap
+abbrev pub at_front : Bits → Progress
+at_front bits = record { rows = []; has_eols = false; rest = bits }
 
--- glue: after a line of Group 3
-abbrev pub after_line_group3 : DecodeSettings → Progress → Line → Move
-after_line_group3 settings so_far line = add_row_group3 settings so_far (row_group3 settings so_far.has_eols so_far.rest line)
+-- the first line of Group 3: EOLs at the front are read without tags, and say that the data has EOLs (T.4, 4.1.2)
+abbrev pub first_line : DecodeSettings → Bits → Progress
+first_line settings bits =
+    record { rows = []; has_eols = nat_lt 0 (all_eols bits).0 || settings.end_of_line; rest = (all_eols bits).1 }
 
--- one row's turn in Group 3: a line, and what stands behind its row (T.4, 4.1 and 4.2)
-abbrev pub move_group3 : DecodeSettings → Progress → Move
-move_group3 settings so_far =
-    after_line_group3 settings so_far (line_at_group3 settings (row_before settings.columns so_far.rows) so_far.rest)
+-- The first gap: in Group 4 as behind a row (T.6, 2.4.1.1), in Group 3 the EOLs at the front, and always a line (T.4, 4.1.2).
+-- This is the one place where a reading depends on its encoding as a whole.
+abbrev pub first_gap : EncodingMode → DecodeSettings → Bits → Move
+first_gap Group4 settings bits = pass_gap settings (at_front bits)
+first_gap Group3_1D settings bits = Turn.next (first_line settings bits)
+first_gap Group3_2D settings bits = Turn.next (first_line settings bits)
 
--- ---- The whole data (T.4, 4.1 and 4.2; T.6, 2.2 and 2.4.1)
-
--- rows are read from here on; there are at most two more turns than bits
+-- how turns end from a state on; there are at most two more turns than bits
 abbrev pub ending_from : (Progress → Move) → Progress → Ending
 ending_from move so_far =
     repeated move (record { rows = so_far.rows; has_eols = so_far.has_eols; outcome = Err UnexpectedEof })
     (suc (suc (length so_far.rest))) so_far
 
--- where the plain reading of Group 4 starts
-abbrev pub start_group4 : Bits → Progress
-start_group4 bits = record { rows = []; has_eols = false; rest = bits }
-
--- where that of Group 3 starts: EOLs at the front are read without tags, and say that the data has EOLs
-abbrev pub start_group3 : DecodeSettings → Bits → Progress
-start_group3 settings bits =
-    record { rows = []; has_eols = nat_lt 0 (all_eols bits).0 || settings.end_of_line; rest = (all_eols bits).1 }
-
--- the plain reading of Group 4
-abbrev pub plain_group4 : DecodeSettings → Bits → Ending
-plain_group4 settings bits = ending_from (move_group4 settings) (start_group4 bits)
-
--- the plain reading of Group 3
-abbrev pub plain_group3 : DecodeSettings → Bits → Ending
-plain_group3 settings bits = ending_from (move_group3 settings) (start_group3 settings bits)
-
--- the reading that belongs to an encoding
-abbrev pub end_by : EncodingMode → DecodeSettings → Bits → Ending
-end_by Group4 settings bits = plain_group4 settings bits
-end_by Group3_1D settings bits = plain_group3 settings bits
-end_by Group3_2D settings bits = plain_group3 settings bits
+-- glue: how the reading ends behind a gap
+abbrev pub ending_behind : DecodeSettings → Move → Ending
+ending_behind settings (Turn.next so_far) = ending_from (move_on settings) so_far
+ending_behind settings (Turn.done end) = end
 
 -- how the reading of data with these settings ends
 abbrev pub end_of : DecodeSettings → Bits → Ending
-end_of settings bits = end_by settings.encoding settings bits
+end_of settings bits = ending_behind settings (first_gap settings.encoding settings bits)
 
 -- a reading of whole data: the rows, the number of bytes read or the fault, and whether EOLs were sought to the end
 pub record Reading : Type 0 where
@@ -264,32 +218,29 @@ nothing_read = record { rows = []; outcome = Ok 0; has_eols = false }
 abbrev pub plain : DecodeSettings → Bits → Reading
 plain settings bits = if settings.columns == 0 then nothing_read else whole_reading bits (end_of settings bits)
 
--- ---- glue: the lines that are read, at most one a turn
+-- ---- glue: the lines that are read, one a turn
 
--- glue: the line of Group 4 behind a gap, if one stands there
-abbrev pub lines_at_gap_group4 : DecodeSettings → Progress → Gap → List Line
-lines_at_gap_group4 settings so_far (Gap.over outcome) = []
-lines_at_gap_group4 settings so_far (Gap.line_at has_eols here) = line_group4 settings so_far here ∷ []
+-- one a turn
+abbrev pub one_each : {A : Type 0} → (Progress → A) → Progress → List A
+one_each gives so_far = gives so_far ∷ []
 
--- glue: the line of a turn of Group 4, if it reads one
-abbrev pub lines_of_move_group4 : DecodeSettings → Progress → List Line
-lines_of_move_group4 settings so_far =
-    lines_at_gap_group4 settings so_far (gap_group4 settings (length so_far.rows) so_far.has_eols so_far.rest)
-
--- glue: the line that a turn of Group 3 reads
-abbrev pub lines_of_move_group3 : DecodeSettings → Progress → List Line
-lines_of_move_group3 settings so_far = line_at_group3 settings (row_before settings.columns so_far.rows) so_far.rest ∷ []
-
--- what the turns from here on give
+-- what turns give, from a state on
 abbrev pub gathered_from : {A : Type 0} → (Progress → Move) → (Progress → List A) → Progress → List A
 gathered_from move gives so_far = gathered move gives (suc (suc (length so_far.rest))) so_far
 
--- the lines of an encoding
-abbrev pub lines_by : EncodingMode → DecodeSettings → Bits → List Line
-lines_by Group4 settings bits = gathered_from (move_group4 settings) (lines_of_move_group4 settings) (start_group4 bits)
-lines_by Group3_1D settings bits = gathered_from (move_group3 settings) (lines_of_move_group3 settings) (start_group3 settings bits)
-lines_by Group3_2D settings bits = gathered_from (move_group3 settings) (lines_of_move_group3 settings) (start_group3 settings bits)
+-- and behind a gap
+abbrev pub gathered_behind : {A : Type 0} → DecodeSettings → (Progress → A) → Move → List A
+gathered_behind settings gives (Turn.next so_far) = gathered_from (move_on settings) (one_each gives) so_far
+gathered_behind settings gives (Turn.done end) = []
+
+-- and in the whole reading
+abbrev pub gathered_of : {A : Type 0} → DecodeSettings → (Progress → A) → Bits → List A
+gathered_of settings gives bits = gathered_behind settings gives (first_gap settings.encoding settings bits)
+
+-- the line that a turn reads
+abbrev pub line_of_turn : DecodeSettings → Progress → Line
+line_of_turn settings so_far = line_here settings (row_before settings.columns so_far.rows) so_far.rest
 
 -- The lines that the plain reading reads, in order. The line of an index is read when so many rows stand.
 abbrev pub lines_of : DecodeSettings → Bits → List Line
-lines_of settings bits = if settings.columns == 0 then [] else lines_by settings.encoding settings bits
+lines_of settings bits = if settings.columns == 0 then [] else gathered_of settings (line_of_turn settings) bits

@@ -54,3 +54,9 @@ missed (Err InvalidCode) = 1
 missed (Err Overflow) = 0
 missed (Err OutOfMemory) = 0
 missed (Err Refused) = 0
+
+-- the tests of tags that counting EOLs may add at its end, where EOLs have tags (T.4, 4.2.2)
+abbrev pub tag_tests : EncodingMode → ℕ
+tag_tests Group3_1D = 0
+tag_tests Group3_2D = 3
+tag_tests Group4 = 0

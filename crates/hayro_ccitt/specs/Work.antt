@@ -1,44 +1,27 @@
 -- What decoding counts: the words that its lines find, and how much at most.
-use Rattle.std.specs.Prelude.{ℕ, Bool, ◌+◌, ◌-◌, ◌*◌, ◌≤◌, List, [], ◌∷◌, length, take, drop, sum_by, ◌==◌, if◌then◌else◌}
+use Rattle.std.specs.Prelude.{ℕ, Bool, ◌+◌, ◌-◌, ◌*◌, ◌≤◌, List, [], length, take, drop, sum_by, ◌==◌, if◌then◌else◌}
 use Rattle.hayro_ccitt.specs.declared.settings.DecodeSettings.{DecodeSettings}
 use Rattle.hayro_ccitt.specs.declared.settings.EncodingMode.{EncodingMode}
 use Rattle.hayro_ccitt.specs.declared.settings.EncodingMode.TheVariants.{Group4, Group3_1D, Group3_2D}
 use Rattle.hayro_ccitt.specs.Bits.{Bits}
-use Rattle.hayro_ccitt.specs.Lines.{found_1d, found_2d, line_found}
-use Rattle.hayro_ccitt.specs.PlainReading.{Progress, Gap, row_before, gap_group4, move_group4, move_group3, start_group4, start_group3, gathered_from}
+use Rattle.hayro_ccitt.specs.Lines.{found_1d, line_found}
+use Rattle.hayro_ccitt.specs.PlainReading.{Progress, row_before, gathered_of}
 use Rattle.hayro_ccitt.specs.Rows.{Row}
 use Rattle.hayro_ccitt.specs.Ticks.{looked}
 
 -- ---- glue: the words that the lines of a reading find, line by line
 
--- the words that the line of Group 3 here finds, read by the settings (T.4, 4.1 and 4.2)
-abbrev pub found_at_group3 : DecodeSettings → Row → Bits → List Bits
-found_at_group3 settings reference here = line_found settings.encoding settings.strict settings.columns reference here
+-- the words that the line here finds, read by the settings (T.4, 4.1 and 4.2; T.6, 2.2)
+abbrev pub found_here : DecodeSettings → Row → Bits → List Bits
+found_here settings reference here = line_found settings.encoding settings.strict settings.columns reference here
 
--- glue: those of the line of Group 4 behind a gap, if one stands there
-abbrev pub words_at_gap_group4 : DecodeSettings → Progress → Gap → List (List Bits)
-words_at_gap_group4 settings so_far (Gap.over outcome) = []
-words_at_gap_group4 settings so_far (Gap.line_at has_eols here) =
-    found_2d settings.strict settings.columns (row_before settings.columns so_far.rows) here ∷ []
-
--- glue: those of the line of a turn of Group 4, if it reads one
-abbrev pub words_of_move_group4 : DecodeSettings → Progress → List (List Bits)
-words_of_move_group4 settings so_far =
-    words_at_gap_group4 settings so_far (gap_group4 settings (length so_far.rows) so_far.has_eols so_far.rest)
-
--- glue: those of the line of a turn of Group 3
-abbrev pub words_of_move_group3 : DecodeSettings → Progress → List (List Bits)
-words_of_move_group3 settings so_far = found_at_group3 settings (row_before settings.columns so_far.rows) so_far.rest ∷ []
-
--- the words of the lines of an encoding
-abbrev pub words_by : EncodingMode → DecodeSettings → Bits → List (List Bits)
-words_by Group4 settings bits = gathered_from (move_group4 settings) (words_of_move_group4 settings) (start_group4 bits)
-words_by Group3_1D settings bits = gathered_from (move_group3 settings) (words_of_move_group3 settings) (start_group3 settings bits)
-words_by Group3_2D settings bits = gathered_from (move_group3 settings) (words_of_move_group3 settings) (start_group3 settings bits)
+-- those of the line of a turn
+abbrev pub words_of_turn : DecodeSettings → Progress → List Bits
+words_of_turn settings so_far = found_here settings (row_before settings.columns so_far.rows) so_far.rest
 
 -- The words that the lines of the plain reading find, in the order of `lines_of`.
 abbrev pub words_of : DecodeSettings → Bits → List (List Bits)
-words_of settings bits = if settings.columns == 0 then [] else words_by settings.encoding settings bits
+words_of settings bits = if settings.columns == 0 then [] else gathered_of settings (words_of_turn settings) bits
 
 -- ---- glue: how much is counted
 

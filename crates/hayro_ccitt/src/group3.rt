@@ -6,15 +6,14 @@ ghost use Rattle.hayro_ccitt.specs.Bits.{here};
 ghost use Rattle.hayro_ccitt.specs.Context.{after_repair, fresh, redrawn};
 ghost use Rattle.hayro_ccitt.specs.EndOfLine.{all_eols};
 ghost use Rattle.hayro_ccitt.specs.Decoding.{DecodesFrom, DecodesRows, TakesOneRow, behind_line, leaving, gap_said};
-ghost use Rattle.hayro_ccitt.specs.PlainReading.{eols_group3, is_over_group3, gap_group3, row_group3, line_by, line_at_group3};
+ghost use Rattle.hayro_ccitt.specs.PlainReading.{eols_by, eols_here, is_over, gap_behind_row, row_of_line, line_by, line_here};
 ghost use Rattle.hayro_ccitt.specs.Lines.{line_found};
 ghost use Rattle.hayro_ccitt.specs.Rows.{changes};
-ghost use Rattle.hayro_ccitt.specs.Ticks.{looked, looked_ahead};
-ghost use Rattle.hayro_ccitt.specs.Work.{found_at_group3, most_from_line};
+ghost use Rattle.hayro_ccitt.specs.Ticks.{looked, looked_ahead, tag_tests};
+ghost use Rattle.hayro_ccitt.specs.Work.{found_here, most_from_line};
 
 use crate::bit_reader::BitReader;
 use crate::context::{DecoderContext, decode_1d_line, decode_2d_line};
-use crate::group4::read_eols_before_line;
 use crate::rows::{limit_met, take_row};
 use crate::{DecodeError, Decoder, EncodingMode, Result};
 
@@ -55,29 +54,51 @@ pub fn recover<'a>(
     Ok(())
 }
 
-/// Reads the EOLs that stand here, in two-dimensional data with their tags, and answers how many there were. Each bit
-/// that is looked at is a tick: one that is passed at most twice.
-fn read_eols(ctx: &mut DecoderContext, reader: &mut BitReader<'_>) -> usize
-    ensures eols { eols_group3 ctx.old.held.settings (here reader.old) ≡ (result, here reader.new) }
+/// Reads the EOLs of T.6 data that stand here, with `end_of_block` at most the two of EOFB (T.6 section 2.4.1.1), and
+/// returns how many there were.
+#[inline(always)]
+fn read_eols_of_t6(ctx: &mut DecoderContext, reader: &mut BitReader<'_>) -> usize
+    ensures eols { eols_by EncodingMode.Group4 ctx.old.held.settings.end_of_block (here reader.old) ≡ (result, here reader.new) }
     ensures same_bits { reader.new.bits ≡ reader.old.bits }
     ensures held { ctx.new.held ≡ ctx.old.held }
     ensures counts { ctx.old.ticks ≤ ctx.new.ticks }
     ensures at_least { ctx.old.ticks + length (here reader.old) ≤ ctx.new.ticks + length (here reader.new) }
-    ensures work { ctx.new.ticks + 2 * length (here reader.new) ≤ ctx.old.ticks + 2 * length (here reader.old) + 3
-        + looked_ahead ctx.old.held.settings.encoding (here reader.new) }
+    ensures work_none { result ≡ 0 → ctx.new.ticks + length (here reader.new)
+        ≡ ctx.old.ticks + length (here reader.old) + looked (here reader.new) }
+    ensures work { ctx.new.ticks + length (here reader.new)
+        ≤ ctx.old.ticks + length (here reader.old) + looked (here reader.new) }
+    ensures forward { length (here reader.new) ≤ length (here reader.old) }
+{
+    if ctx.settings().end_of_block {
+        reader.read_eols(2, ctx.ticks())
+    } else {
+        reader.read_eol_if_available(ctx.ticks())
+    }
+}
+
+/// Reads the EOLs that stand here, in two-dimensional data with their tags, and answers how many there were. Each bit
+/// that is looked at is a tick: one that is passed at most twice.
+fn read_eols(ctx: &mut DecoderContext, reader: &mut BitReader<'_>) -> usize
+    ensures eols { eols_here ctx.old.held.settings (here reader.old) ≡ (result, here reader.new) }
+    ensures same_bits { reader.new.bits ≡ reader.old.bits }
+    ensures held { ctx.new.held ≡ ctx.old.held }
+    ensures counts { ctx.old.ticks ≤ ctx.new.ticks }
+    ensures at_least { ctx.old.ticks + length (here reader.old) ≤ ctx.new.ticks + length (here reader.new) }
+    ensures work { ctx.new.ticks + 2 * length (here reader.new) ≤ ctx.old.ticks + 2 * length (here reader.old)
+        + tag_tests ctx.old.held.settings.encoding + looked_ahead ctx.old.held.settings.encoding (here reader.new) }
     ensures work_none { result ≡ 0 → ctx.new.ticks ≡ ctx.old.ticks + looked (here reader.old) }
 {
     match ctx.settings().encoding {
         EncodingMode::Group3_2D => reader.read_tagged_eols(ctx.ticks()),
         EncodingMode::Group3_1D => reader.read_eol_if_available(ctx.ticks()),
-        EncodingMode::Group4 => read_eols_before_line(ctx, reader),
+        EncodingMode::Group4 => read_eols_of_t6(ctx, reader),
     }
 }
 
 /// Whether the image ends behind a row, where so many EOLs were counted: at RTC, at the row limit or at the end of
 /// the data.
 fn is_over(ctx: &DecoderContext, reader: &BitReader<'_>, count: usize) -> bool
-    ensures over { result ≡ is_over_group3 ctx.now.held.settings ctx.now.held.taken (count, here reader.now) }
+    ensures over { result ≡ is_over ctx.now.held.settings ctx.now.held.taken (count, here reader.now) }
 {
     let eols_of_end = match ctx.settings().encoding {
         EncodingMode::Group4 => 2, // EOFB
@@ -89,12 +110,13 @@ fn is_over(ctx: &DecoderContext, reader: &BitReader<'_>, count: usize) -> bool
     at_rtc || at_limit || at_end
 }
 
-/// Whether the image ends behind a row (T.4 sections 4.1.2 and 4.1.4): true at RTC, the row limit or the end of the
-/// data. It counts the EOLs there. Where none came although the data has EOLs, the next one is looked for, and where
-/// none is left EOLs are given up; strict data is then at fault, which is `InvalidCode`. It takes no memory. Each bit that is looked at is a
-/// tick: one that is passed at most four times.
-fn gap_behind_row(ctx: &mut DecoderContext, reader: &mut BitReader<'_>) -> Result<bool>
-    ensures gap { gap_group3 ctx.old.held.settings ctx.old.held.taken ctx.old.held.has_eols (here reader.old)
+/// Passes the gap before a line, and returns whether the image ends there: at EOFB or RTC with `end_of_block`, at the row
+/// limit or at the end of the data (T.4 sections 4.1.2 and 4.1.4, T.6 section 2.4.1.1). It counts the EOLs there. Where
+/// none came although the data has EOLs, the next one is looked for, and where none is left EOLs are given up; strict data
+/// is then at fault, which is `InvalidCode`. It takes no memory. Each bit that is looked at is a tick: one that is passed at
+/// most four times.
+pub(crate) fn pass_gap(ctx: &mut DecoderContext, reader: &mut BitReader<'_>) -> Result<bool>
+    ensures gap { gap_behind_row ctx.old.held.settings ctx.old.held.taken ctx.old.held.has_eols (here reader.old)
         ≡ gap_said result ctx.new.held.has_eols (here reader.new) }
     ensures held { ctx.new.held ≡ record ctx.old.held { has_eols = ctx.new.held.has_eols } }
     ensures given_up { IfOk result (λ over. over ≡ true → ctx.new.held.has_eols ≡ ctx.old.held.has_eols) }
@@ -105,8 +127,8 @@ fn gap_behind_row(ctx: &mut DecoderContext, reader: &mut BitReader<'_>) -> Resul
     ensures counts { ctx.old.ticks ≤ ctx.new.ticks }
     ensures at_least { OnOk result (ctx.old.ticks + length (here reader.old) ≤ ctx.new.ticks + length (here reader.new)) }
     ensures work { OnOk result (ctx.new.held.has_eols ≡ ctx.old.held.has_eols
-        → ctx.new.ticks + 4 * length (here reader.new) ≤ ctx.old.ticks + 4 * length (here reader.old) + 3
-        + looked_ahead ctx.old.held.settings.encoding (here reader.new)) }
+        → ctx.new.ticks + 4 * length (here reader.new) ≤ ctx.old.ticks + 4 * length (here reader.old)
+        + tag_tests ctx.old.held.settings.encoding + looked_ahead ctx.old.held.settings.encoding (here reader.new)) }
     ensures work_given_up { OnOk result (ctx.new.held.has_eols ≢ ctx.old.held.has_eols
         → ctx.new.ticks ≤ ctx.old.ticks + 2 * length (here reader.old)) }
     ensures work_refused { OnErr result (ctx.new.ticks ≡ ctx.old.ticks + looked (here reader.old)) }
@@ -133,7 +155,7 @@ fn gap_behind_row(ctx: &mut DecoderContext, reader: &mut BitReader<'_>) -> Resul
 pub fn check_eob(ctx: &mut DecoderContext, reader: &mut BitReader<'_>) -> Result<bool>
     requires encoding { ctx.old.held.settings.encoding ≢ EncodingMode.Group4 }
     requires some { 0 < ctx.old.held.taken }
-    ensures gap { gap_group3 ctx.old.held.settings ctx.old.held.taken ctx.old.held.has_eols (here reader.old)
+    ensures gap { gap_behind_row ctx.old.held.settings ctx.old.held.taken ctx.old.held.has_eols (here reader.old)
         ≡ gap_said result ctx.new.held.has_eols (here reader.new) }
     ensures held { ctx.new.held ≡ record ctx.old.held { has_eols = ctx.new.held.has_eols } }
     ensures given_up { IfOk result (λ over. over ≡ true → ctx.new.held.has_eols ≡ ctx.old.held.has_eols) }
@@ -150,7 +172,7 @@ pub fn check_eob(ctx: &mut DecoderContext, reader: &mut BitReader<'_>) -> Result
         → ctx.new.ticks ≤ ctx.old.ticks + 2 * length (here reader.old)) }
     ensures work_refused { OnErr result (ctx.new.ticks ≡ ctx.old.ticks + looked (here reader.old)) }
 {
-    gap_behind_row(ctx, reader)
+    pass_gap(ctx, reader)
 }
 
 /// Decodes a line of the kind that its tag says (T.4 section 4.2.2). A missing tag is `UnexpectedEof`, with nothing
@@ -181,15 +203,15 @@ fn decode_tagged_line(ctx: &mut DecoderContext, reader: &mut BitReader<'_>) -> R
 /// Decodes the line that stands here.
 fn decode_line(ctx: &mut DecoderContext, reader: &mut BitReader<'_>) -> Result<()>
     requires begun { ctx.old.held.front ≡ [] }
-    ensures line { DrawsLine (line_at_group3 ctx.old.held.settings ctx.old.held.reference (here reader.old))
+    ensures line { DrawsLine (line_here ctx.old.held.settings ctx.old.held.reference (here reader.old))
         result ctx.new.held.front (here reader.new) }
     ensures held { ctx.new.held ≡ redrawn ctx.old.held ctx.new.held.front ctx.new.held.color }
     ensures same_bits { reader.new.bits ≡ reader.old.bits }
     ensures counts { ctx.old.ticks ≤ ctx.new.ticks }
     ensures at_least { OnAnswer result (ctx.old.ticks
-        + length (found_at_group3 ctx.old.held.settings ctx.old.held.reference (here reader.old)) ≤ ctx.new.ticks) }
+        + length (found_here ctx.old.held.settings ctx.old.held.reference (here reader.old)) ≤ ctx.new.ticks) }
     ensures at_most { ctx.new.ticks ≤ ctx.old.ticks
-        + 4 * length (found_at_group3 ctx.old.held.settings ctx.old.held.reference (here reader.old)) + 2
+        + 4 * length (found_here ctx.old.held.settings ctx.old.held.reference (here reader.old)) + 2
         + length (changes ctx.old.held.reference) }
 {
     match ctx.settings().encoding {
@@ -210,24 +232,24 @@ fn read_row<D: Decoder>(
     requires rows { ctx.old.held.taken ≤ length reader.old.bits + 1 }
     requires begun { ctx.old.held.front ≡ [] }
     ensures width { D.width decoder.new ≡ D.width decoder.old }
-    ensures row { TakesOneRow (line_at_group3 ctx.old.held.settings ctx.old.held.reference (here reader.old))
-        (row_group3 ctx.old.held.settings ctx.old.held.has_eols (here reader.old)
-        (line_at_group3 ctx.old.held.settings ctx.old.held.reference (here reader.old)))
+    ensures row { TakesOneRow (line_here ctx.old.held.settings ctx.old.held.reference (here reader.old))
+        (row_of_line ctx.old.held.settings ctx.old.held.has_eols (here reader.old)
+        (line_here ctx.old.held.settings ctx.old.held.reference (here reader.old)))
         (D.step (D.width decoder.old))
         (record { meaning = D.meaning decoder.old; refused = D.has_refused decoder.old; refuses = D.refuses decoder.old })
         (record { meaning = D.meaning decoder.new; refused = D.has_refused decoder.new; refuses = D.refuses decoder.new })
         ctx.old.held ctx.new.held result (here reader.new) }
     ensures refused_place { result ≡ Err DecodeError.Refused → here reader.new
-        ≡ behind_line (line_at_group3 ctx.old.held.settings ctx.old.held.reference (here reader.old)) (here reader.old) }
+        ≡ behind_line (line_here ctx.old.held.settings ctx.old.held.reference (here reader.old)) (here reader.old) }
     ensures same_bits { reader.new.bits ≡ reader.old.bits }
     ensures counts { ctx.old.ticks ≤ ctx.new.ticks }
     ensures at_least { OnOk result (ctx.old.ticks
-        + length (found_at_group3 ctx.old.held.settings ctx.old.held.reference (here reader.old)) ≤ ctx.new.ticks) }
+        + length (found_here ctx.old.held.settings ctx.old.held.reference (here reader.old)) ≤ ctx.new.ticks) }
     ensures at_most { ctx.new.ticks ≤ ctx.old.ticks
-        + 4 * length (found_at_group3 ctx.old.held.settings ctx.old.held.reference (here reader.old)) + 2
+        + 4 * length (found_here ctx.old.held.settings ctx.old.held.reference (here reader.old)) + 2
         + length (changes ctx.old.held.reference) }
     ensures stored { OnOk result (length (changes ctx.new.held.reference)
-        ≤ length (found_at_group3 ctx.old.held.settings ctx.old.held.reference (here reader.old)) + 1) }
+        ≤ length (found_here ctx.old.held.settings ctx.old.held.reference (here reader.old)) + 1) }
 {
     let line_start = reader.copy();
     if let Err(error) = decode_line(ctx, reader) {
@@ -274,7 +296,7 @@ pub(crate) fn decode_rows<D: Decoder>(
 {
     'rows: loop {
         read_row(ctx, reader, decoder)?;
-        if gap_behind_row(ctx, reader)? {
+        if pass_gap(ctx, reader)? {
             return Ok(());
         }
     }
@@ -286,12 +308,13 @@ fn decode_eols_and_rows<D: Decoder>(
     reader: &mut BitReader<'_>,
     decoder: &mut D,
 ) -> Result<()>
+    requires encoding { ctx.old.held.settings.encoding ≢ EncodingMode.Group4 }
     requires columns { 0 < ctx.old.held.settings.columns }
     requires fresh { ctx.old.held ≡ fresh ctx.old.held.settings }
     requires start { reader.old.place ≡ 0 }
     requires width { ctx.old.held.settings.columns ≤ D.width decoder.old }
     ensures width { D.width decoder.new ≡ D.width decoder.old }
-    ensures rows { DecodesRows EncodingMode.Group3_1D reader.old.bits (D.step (D.width decoder.old))
+    ensures rows { DecodesRows reader.old.bits (D.step (D.width decoder.old))
         (record { meaning = D.meaning decoder.old; refused = D.has_refused decoder.old; refuses = D.refuses decoder.old })
         (record { meaning = D.meaning decoder.new; refused = D.has_refused decoder.new; refuses = D.refuses decoder.new })
         ctx.old ctx.new (leaving result (here reader.new)) }
@@ -315,7 +338,7 @@ pub fn decode_1d<D: Decoder>(
     requires start { reader.old.place ≡ 0 }
     requires width { ctx.old.held.settings.columns ≤ D.width decoder.old }
     ensures width { D.width decoder.new ≡ D.width decoder.old }
-    ensures rows { DecodesRows EncodingMode.Group3_1D reader.old.bits (D.step (D.width decoder.old))
+    ensures rows { DecodesRows reader.old.bits (D.step (D.width decoder.old))
         (record { meaning = D.meaning decoder.old; refused = D.has_refused decoder.old; refuses = D.refuses decoder.old })
         (record { meaning = D.meaning decoder.new; refused = D.has_refused decoder.new; refuses = D.refuses decoder.new })
         ctx.old ctx.new (leaving result (here reader.new)) }
@@ -338,7 +361,7 @@ pub fn decode_2d<D: Decoder>(
     requires start { reader.old.place ≡ 0 }
     requires width { ctx.old.held.settings.columns ≤ D.width decoder.old }
     ensures width { D.width decoder.new ≡ D.width decoder.old }
-    ensures rows { DecodesRows EncodingMode.Group3_2D reader.old.bits (D.step (D.width decoder.old))
+    ensures rows { DecodesRows reader.old.bits (D.step (D.width decoder.old))
         (record { meaning = D.meaning decoder.old; refused = D.has_refused decoder.old; refuses = D.refuses decoder.old })
         (record { meaning = D.meaning decoder.new; refused = D.has_refused decoder.new; refuses = D.refuses decoder.new })
         ctx.old ctx.new (leaving result (here reader.new)) }

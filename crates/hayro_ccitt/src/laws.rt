@@ -11,7 +11,6 @@ ghost use Rattle.hayro_ccitt.specs.Laws.{ReadsPictureT6, ReadsLimitedRowsT6, Rea
 ghost use Rattle.hayro_ccitt.specs.Laws.{AfterEofb, PicturesComeToEofb, OnePictureT6, OnePictureT4};
 ghost use Rattle.hayro_ccitt.specs.Laws.{EveryPictureHasAnEncoding, BytesBeginWithAnyBits, BitsOfBytesAreWhole, OrdersMirror, RowsOfChanges, ChangesOfRows, StepsOnRows};
 ghost use Rattle.hayro_ccitt.specs.Locality.{LinesByEols, StartsAre, Locality, LocalByTests};
-ghost use Rattle.hayro_ccitt.specs.OneReading.{OneReadingIsPlain, OneLinesArePlain, OneWordsArePlain};
 
 use crate::Decoder;
 
@@ -125,11 +124,4 @@ pub fn bits_of_bytes()
 pub fn every_picture_has_an_encoding()
     ensures bits { EveryPictureHasAnEncoding }
     ensures bytes { BytesBeginWithAnyBits }
-{}
-
-/// One kind of turn, a gap and then a row, reads what the plain reading reads, in every encoding.
-pub fn one_reading()
-    ensures reading { OneReadingIsPlain }
-    ensures lines { OneLinesArePlain }
-    ensures words { OneWordsArePlain }
 {}

@@ -15,9 +15,9 @@ ghost use Rattle.hayro_ccitt.specs.Bits.{AreWholeBytes, BitsFit, bits_in, bits_o
 ghost use Rattle.hayro_ccitt.specs.Context.{fresh};
 ghost use Rattle.hayro_ccitt.specs.Contract.{Decodes};
 ghost use Rattle.hayro_ccitt.specs.Decoding.{DecodesRows, leaving};
-ghost use Rattle.hayro_ccitt.specs.PlainReading.{end_by, plain};
+ghost use Rattle.hayro_ccitt.specs.PlainReading.{end_of, gathered_of, plain};
 ghost use Rattle.hayro_ccitt.specs.Rows.{AreChanges};
-ghost use Rattle.hayro_ccitt.specs.Work.{CountsRun, CountsWork, words_by, most_counted};
+ghost use Rattle.hayro_ccitt.specs.Work.{CountsRun, CountsWork, words_of_turn, most_counted};
 
 pub mod bit_reader;
 pub mod changes;
@@ -100,14 +100,14 @@ fn decode_rows<D: Decoder>(
     requires start { reader.old.place ≡ 0 }
     requires width { ctx.old.held.settings.columns ≤ D.width decoder.old }
     ensures width { D.width decoder.new ≡ D.width decoder.old }
-    ensures work { CountsRun (words_by ctx.old.held.settings.encoding ctx.old.held.settings reader.old.bits)
+    ensures work { CountsRun
+        (gathered_of ctx.old.held.settings (words_of_turn ctx.old.held.settings) reader.old.bits)
         ctx.new.held.taken ctx.old.ticks ctx.new.ticks
         (most_counted ctx.old.held.settings.encoding (length reader.old.bits)) }
-    ensures rest { OnOk result ((end_by ctx.old.held.settings.encoding ctx.old.held.settings reader.old.bits).outcome
-        ≡ Ok (here reader.new)) }
+    ensures rest { OnOk result ((end_of ctx.old.held.settings reader.old.bits).outcome ≡ Ok (here reader.new)) }
     ensures row_number { OnAnswer result (ctx.new.held.taken
-        ≡ length (end_by ctx.old.held.settings.encoding ctx.old.held.settings reader.old.bits).rows) }
-    ensures rows { DecodesRows ctx.old.held.settings.encoding reader.old.bits (D.step (D.width decoder.old))
+        ≡ length (end_of ctx.old.held.settings reader.old.bits).rows) }
+    ensures rows { DecodesRows reader.old.bits (D.step (D.width decoder.old))
         (record { meaning = D.meaning decoder.old; refused = D.has_refused decoder.old; refuses = D.refuses decoder.old })
         (record { meaning = D.meaning decoder.new; refused = D.has_refused decoder.new; refuses = D.refuses decoder.new })
         ctx.old ctx.new (leaving result (here reader.new)) }

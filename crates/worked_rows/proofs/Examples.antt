@@ -11,7 +11,7 @@ use Rattle.hayro_ccitt.specs.Encodings.{Spells, EncodesLine1D, EncodesLine2D}
 use Rattle.worked_rows.specs.Examples.{hex, EncodesTwoLines, EncodesTaggedRows, with_eols, three_rows, bits_changed, bits_added, words_added, group3_1d, HaveLocalBodies, ReadsDamage, LimitBehindTheBody}
 use Rattle.hayro_ccitt.specs.Locality.{IsLocal, IsLocalByTests, ComesToLine, EndAlike}
 use Rattle.hayro_ccitt.specs.Repetition.{Turn, Reaches}
-use Rattle.hayro_ccitt.specs.PlainReading.{Progress, Move, start_group3, move_group3}
+use Rattle.hayro_ccitt.specs.PlainReading.{Progress, Move, first_line, move_on}
 use Rattle.hayro_ccitt.specs.declared.settings.DecodeSettings.{DecodeSettings}
 use Rattle.hayro_ccitt.proofs.DamagedLines.LocalByTests.{local_by_tests}
 
@@ -159,28 +159,28 @@ abbrev limit_of_three : DecodeSettings
 limit_of_three = group3_1d 8 3 "l"
 
 abbrev no_row : Progress
-no_row = start_group3 limit_of_three (bits_of (hex three_rows))
+no_row = first_line limit_of_three (bits_of (hex three_rows))
 
 abbrev one_row : Progress
-one_row = goes_on no_row (move_group3 limit_of_three no_row)
+one_row = goes_on no_row (move_on limit_of_three no_row)
 
 abbrev two_rows : Progress
-two_rows = goes_on one_row (move_group3 limit_of_three one_row)
+two_rows = goes_on one_row (move_on limit_of_three one_row)
 
 same_next : {S R : Type 0} (a b : S) → ◌≡◌ {A = Turn S R} (Turn.next a) (Turn.next b) → a ≡ b
 same_next a b e = cc
 
 not_before_two : ComesToLine limit_of_three (bits_of (hex three_rows)) 29 2 → ⊥
-not_before_two (so_far, reaches, rest, count) = by_none (reaches_parts (move_group3 limit_of_three) no_row so_far reaches)
+not_before_two (so_far, reaches, rest, count) = by_none (reaches_parts (move_on limit_of_three) no_row so_far reaches)
   where
     Leads : Progress → Type 0
     Leads state = (state ≡ so_far)
-        ⊎ ((after : Progress) × (move_group3 limit_of_three state ≡ Turn.next after) × Reaches (move_group3 limit_of_three) after so_far)
+        ⊎ ((after : Progress) × (move_on limit_of_three state ≡ Turn.next after) × Reaches (move_on limit_of_three) after so_far)
 
-    on : (state next : Progress) → move_group3 limit_of_three state ≡ Turn.next next → (after : Progress)
-        → move_group3 limit_of_three state ≡ Turn.next after → Reaches (move_group3 limit_of_three) after so_far → Leads next
-    on state next e after f more = reaches_parts (move_group3 limit_of_three) next so_far
-        (subst (λ (s : Progress). Reaches (move_group3 limit_of_three) s so_far) (same_next after next (sym f ∙ e)) more)
+    on : (state next : Progress) → move_on limit_of_three state ≡ Turn.next next → (after : Progress)
+        → move_on limit_of_three state ≡ Turn.next after → Reaches (move_on limit_of_three) after so_far → Leads next
+    on state next e after f more = reaches_parts (move_on limit_of_three) next so_far
+        (subst (λ (s : Progress). Reaches (move_on limit_of_three) s so_far) (same_next after next (sym f ∙ e)) more)
 
     by_two : Leads two_rows → ⊥
     by_two (inl e) = let n : 5 ≡ 27 = ap (λ (s : Progress). length s.rest) e ∙ ap length rest in absurd (omega (arith, n))

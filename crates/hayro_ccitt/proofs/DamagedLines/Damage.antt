@@ -14,10 +14,11 @@ use Rattle.hayro_ccitt.specs.Settings.{AreSettings}
 use Rattle.hayro_ccitt.specs.Repetition.{repeated, Reaches}
 use Rattle.hayro_ccitt.specs.Rows.{Row}
 use Rattle.hayro_ccitt.specs.EndOfLine.{after_eol, all_eols}
-use Rattle.hayro_ccitt.specs.PlainReading.{Progress, Ending, start_group3, move_group3, plain_group3, end_by, end_of, bytes_before, plain, Reading, nothing_read, whole_reading}
+use Rattle.hayro_ccitt.specs.PlainReading.{Progress, Ending, first_line, move_on, first_gap, ending_behind, end_of, bytes_before, plain, Reading, nothing_read, whole_reading}
 use Rattle.hayro_ccitt.specs.Locality.{IsEol, IsLocal, ComesToLine, OneRowDiffers, EndsAt, EndAlike, DamageStaysInRow, Locality}
 use Rattle.hayro_ccitt.proofs.Readings.Repeated.{reached_follows}
-use Rattle.hayro_ccitt.proofs.Readings.TurnsMoveOn.{left_group3, left_group3_below, move_group3_shrinks}
+use Rattle.hayro_ccitt.proofs.Readings.GapsAndRows.{ending_t4}
+use Rattle.hayro_ccitt.proofs.Readings.TurnsMoveOn.{left_to_read, left_below, move_shrinks}
 use Rattle.hayro_ccitt.proofs.DamagedLines.PastEol.{all_eols-none}
 use Rattle.hayro_ccitt.proofs.DamagedLines.SoughtTurns.{sought}
 use Rattle.hayro_ccitt.proofs.DamagedLines.LinesByEols.{past_shorter, seeks}
@@ -54,8 +55,8 @@ module _ (settings : DecodeSettings) (wide : 0 < settings.columns) (one two : Bi
 
   -- in both readings the line is read when these rows stand
   abbrev Begins : List Row → Type 0
-  Begins rows = Reaches (move_group3 settings) (start_group3 settings one) (sought rows x)
-      × Reaches (move_group3 settings) (start_group3 settings two) (sought rows y)
+  Begins rows = Reaches (move_on settings) (first_line settings one) (sought rows x)
+      × Reaches (move_on settings) (first_line settings two) (sought rows y)
 
   comes_one : (rows : List Row) → Begins rows → ComesToLine settings one from (length rows)
   comes_one rows begins = (sought rows x, begins.0, x_is, refl)
@@ -151,12 +152,12 @@ module _ (settings : DecodeSettings) (one two : Bits) (from : ℕ) (after : Bits
     (tail_one : IsTail settings.columns after (drop from one)) (tail_two : IsTail settings.columns after (drop from two)) where
   -- the state in which a reading starts
   abbrev first : Bits → Progress
-  first bits = start_group3 settings bits
+  first bits = first_line settings bits
 
   -- in both readings the line is read when these rows stand
   abbrev Begun : List Row → Type 0
-  Begun rows = Reaches (move_group3 settings) (first one) (sought rows (drop from one))
-      × Reaches (move_group3 settings) (first two) (sought rows (drop from two))
+  Begun rows = Reaches (move_on settings) (first one) (sought rows (drop from one))
+      × Reaches (move_on settings) (first two) (sought rows (drop from two))
 
   first_is : (bits rest : Bits) → (ltb 0 (all_eols bits).0 || settings.end_of_line) ≡ true → (all_eols bits).1 ≡ rest → first bits ≡ sought [] rest
   first_is bits rest h e = ap (λ (b : Bool). record { rows = []; has_eols = b; rest = (all_eols bits).1 }) h ∙ ap (sought []) e
@@ -220,17 +221,17 @@ module _ (settings : DecodeSettings) (one two : Bits) (from : ℕ) (after : Bits
         → EndsAlike settings Begun from (drop from one) (drop from two) after (end_of settings one) (end_of settings two)
     ends_alike alike =
         let late : Progress → Ending = λ run. record { rows = run.rows; has_eols = run.has_eols; outcome = Err UnexpectedEof } in
-        let whole : (bits : Bits) → end_of settings bits ≡ plain_group3 settings bits = λ bits. ap (λ (e : EncodingMode). end_by e settings bits) encoding in
+        let whole : (bits : Bits) → end_of settings bits ≡ ending_t4 settings bits = λ bits. ap (λ (e : EncodingMode). ending_behind settings (first_gap e settings bits)) encoding in
         rw (whole one, whole two)
-        (reached_follows (move_group3 settings) (late (first one)) left_group3 (move_group3_shrinks settings wide) (move_group3 settings)
-        (late (first two)) left_group3 (move_group3_shrinks settings wide)
+        (reached_follows (move_on settings) (late (first one)) left_to_read (move_shrinks settings wide) (move_on settings)
+        (late (first two)) left_to_read (move_shrinks settings wide)
         (RunsAlike Begun from (drop from one) (drop from two) after) (EndsAlike settings Begun from (drop from one) (drop from two) after)
         (first one) (first two)
         (λ s t reached other_reached. moves_alike settings encoding lenient Begun from (drop from one) (drop from two) after tail_one tail_two
-        (λ t. repeated (move_group3 settings) (late (first two)) (suc (left_group3 t)) t) s t
-        (λ rows e f. (subst (Reaches (move_group3 settings) (first one)) e reached, subst (Reaches (move_group3 settings) (first two)) f other_reached)))
-        (suc (suc (length (first one).rest))) (suc (suc (length (first two).rest))) (left_group3_below (first one))
-        (left_group3_below (first two)) alike)
+        (λ t. repeated (move_on settings) (late (first two)) (suc (left_to_read t)) t) s t
+        (λ rows e f. (subst (Reaches (move_on settings) (first one)) e reached, subst (Reaches (move_on settings) (first two)) f other_reached)))
+        (suc (suc (length (first one).rest))) (suc (suc (length (first two).rest))) (left_below (first one))
+        (left_below (first two)) alike)
 
 -- the law
 pub locality : Locality

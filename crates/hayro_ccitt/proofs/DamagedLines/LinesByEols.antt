@@ -14,11 +14,12 @@ use Rattle.hayro_ccitt.specs.Repetition.{Turn, repeated}
 use Rattle.hayro_ccitt.specs.Rows.{Row}
 use Rattle.hayro_ccitt.specs.Lines.{Line, line_1d}
 use Rattle.hayro_ccitt.specs.EndOfLine.{after_eol, one_more, all_eols}
-use Rattle.hayro_ccitt.specs.PlainReading.{Progress, Ending, Move, limit_met, at_end, ends_with, move_group3, plain_group3, end_by}
+use Rattle.hayro_ccitt.specs.PlainReading.{Progress, Ending, Move, limit_met, at_end, ends_with, move_on, first_gap, ending_behind, end_of}
 use Rattle.hayro_ccitt.specs.Locality.{begins_line, later_starts, starts, row_at, StaysBefore, IsEolAt, LinesByEols}
 use Rattle.hayro_ccitt.proofs.Readings.Repeated.{after_turn, repeated_turn, repeated_same}
-use Rattle.hayro_ccitt.proofs.Readings.TurnsMoveOn.{after_eol_shorter, eols_shorter, eols_some_counts, left_group3, left_group3_below, move_group3_shrinks}
-use Rattle.hayro_ccitt.proofs.Readings.TurnsAddRows.{Keeps, after_row_keeps, move_group3_adds, repeated_adds}
+use Rattle.hayro_ccitt.proofs.Readings.GapsAndRows.{ending_t4}
+use Rattle.hayro_ccitt.proofs.Readings.TurnsMoveOn.{after_eol_shorter, eols_shorter, eols_some_counts, left_to_read, left_below, move_shrinks}
+use Rattle.hayro_ccitt.proofs.Readings.TurnsAddRows.{Keeps, after_row_keeps, move_adds, repeated_adds}
 use Rattle.hayro_ccitt.proofs.DamagedLines.PastEol.{past, past-eol, past_later, all_eols-some, all_eols-none}
 use Rattle.hayro_ccitt.proofs.DamagedLines.SoughtTurns.{sought, rest_of, found_next, after_row_past, move_line}
 use Rattle.hayro_ccitt.proofs.DrawingLines.LinesLeaveBits.{line_1d_leaves, LineLeaves}
@@ -107,11 +108,11 @@ module _ (settings : DecodeSettings) (encoding : settings.encoding ≡ Group3_1D
     (no_block : settings.end_of_block ≡ false) (unlimited : settings.rows ≡ 0) (wide : 0 < settings.columns) (late : Ending) where
   -- the reading from a state on
   abbrev rest_end : Progress → Ending
-  rest_end run = repeated (move_group3 settings) late (suc (left_group3 run)) run
+  rest_end run = repeated (move_on settings) late (suc (left_to_read run)) run
 
   extends : (run : Progress) → IsPrefix run.rows (rest_end run).rows
-  extends run = repeated_adds (move_group3 settings) late left_group3 (move_group3_shrinks settings wide) (move_group3_adds settings)
-      (suc (left_group3 run)) run (omega arith)
+  extends run = repeated_adds (move_on settings) late left_to_read (move_shrinks settings wide) (move_adds settings)
+      (suc (left_to_read run)) run (omega arith)
 
   turn_extends : (rows : List Row) (m : Move) → Keeps rows m → IsPrefix rows (after_turn rest_end m).rows
   turn_extends rows (Turn.next t) k = subst (λ (x : List Row). IsPrefix x (rest_end t).rows) k (extends t)
@@ -131,7 +132,7 @@ module _ (settings : DecodeSettings) (encoding : settings.encoding ≡ Group3_1D
   by_starts zero rows here lt stay = absurd (omega arith)
   by_starts (suc n) rows here lt stay =
       subst (λ (e : Ending). IsPrefix (rows ++ map (row_at settings.columns) (here ∷ later_starts 0 here)) e.rows)
-      (sym (repeated_turn (move_group3 settings) late left_group3 (move_group3_shrinks settings wide) (sought rows here)))
+      (sym (repeated_turn (move_on settings) late left_to_read (move_shrinks settings wide) (sought rows here)))
       (rw (move_line settings encoding lenient rows here) (by (λ rows here small stay. by_starts n rows here small stay) (past 0 here) refl))
     where
       first : Row
@@ -183,11 +184,11 @@ module _ (settings : DecodeSettings) (encoding : settings.encoding ≡ Group3_1D
 
   -- the whole run begins at the first of them
   by_run : (run : Progress) (here : Bits) → run ≡ sought [] here → All (StaysBefore settings.columns) (here ∷ later_starts 0 here)
-      → IsPrefix (map (row_at settings.columns) (here ∷ later_starts 0 here)) (repeated (move_group3 settings) late (suc (suc (length run.rest))) run).rows
+      → IsPrefix (map (row_at settings.columns) (here ∷ later_starts 0 here)) (repeated (move_on settings) late (suc (suc (length run.rest))) run).rows
   by_run run here is stay =
       subst (λ (e : Ending). IsPrefix (map (row_at settings.columns) (here ∷ later_starts 0 here)) e.rows)
-      (repeated_same (move_group3 settings) late left_group3 (move_group3_shrinks settings wide) (suc (left_group3 run))
-      (suc (suc (length run.rest))) run (omega arith) (left_group3_below run))
+      (repeated_same (move_on settings) late left_to_read (move_shrinks settings wide) (suc (left_to_read run))
+      (suc (suc (length run.rest))) run (omega arith) (left_below run))
       (subst (λ (r : Progress). IsPrefix (map (row_at settings.columns) (here ∷ later_starts 0 here)) (rest_end r).rows) (sym is)
       (by_starts (suc (length here)) [] here (omega arith) stay))
 
@@ -203,8 +204,8 @@ lines_by_eols settings bits are encoding lenient no_block unlimited wide sought_
     let first : Progress = record { rows = []; has_eols = ltb 0 (all_eols bits).0 || settings.end_of_line; rest = (all_eols bits).1 } in
     let first_is : first ≡ sought [] (all_eols bits).1
     = ap (λ (b : Bool). record { rows = []; has_eols = b; rest = (all_eols bits).1 }) (seeks bits settings.end_of_line sought_by) in
-    let ends : IsPrefix (map (row_at settings.columns) (starts bits)) (plain_group3 settings bits).rows
+    let ends : IsPrefix (map (row_at settings.columns) (starts bits)) (ending_t4 settings bits).rows
     = by_run settings encoding lenient no_block unlimited wide
     (record { rows = []; has_eols = ltb 0 (all_eols bits).0 || settings.end_of_line; outcome = Err UnexpectedEof }) first (all_eols bits).1 first_is stay in
-    let whole : end_by settings.encoding settings bits ≡ plain_group3 settings bits = ap (λ (e : EncodingMode). end_by e settings bits) encoding in
+    let whole : end_of settings bits ≡ ending_t4 settings bits = ap (λ (e : EncodingMode). ending_behind settings (first_gap e settings bits)) encoding in
     rw columns (subst (λ (e : Ending). IsPrefix (map (row_at settings.columns) (starts bits)) e.rows) (sym whole) ends)

@@ -12,18 +12,18 @@ use Rattle.hayro_ccitt.specs.Repetition.{Turn}
 use Rattle.hayro_ccitt.specs.Rows.{Row}
 use Rattle.hayro_ccitt.specs.Lines.{Line, line_1d}
 use Rattle.hayro_ccitt.specs.EndOfLine.{after_eol, one_more, all_eols, next_eol}
-use Rattle.hayro_ccitt.specs.PlainReading.{eols_of_end, Progress, Ending, Move, row_before, aligned, limit_met, at_end, ends_with, eols_group3}
-use Rattle.hayro_ccitt.specs.PlainReading.{after_line_group3, move_group3}
+use Rattle.hayro_ccitt.specs.PlainReading.{eols_of_end, Progress, Ending, Move, row_before, aligned, limit_met, at_end, ends_with, eols_here}
+use Rattle.hayro_ccitt.specs.PlainReading.{after_line, move_on}
 use Rattle.hayro_ccitt.specs.Locality.{row_of, row_at, StaysBefore}
 use Rattle.hayro_ccitt.proofs.Readings.Repeated.{Follows}
-use Rattle.hayro_ccitt.proofs.Readings.TurnsMoveOn.{cond_le, eols_shorter, next_eol_found, eols_group3_counted}
+use Rattle.hayro_ccitt.proofs.Readings.TurnsMoveOn.{cond_le, eols_shorter, next_eol_found, eols_here_counted}
 use Rattle.hayro_ccitt.proofs.DamagedLines.PastEol.{past, all_eols-none}
 use Rattle.hayro_ccitt.proofs.DamagedLines.SoughtTurns.{sought, rest_of, not_past_end, after_row_past, line_is, move_line, limit_done}
 use Rattle.hayro_ccitt.proofs.DrawingLines.LinesLeaveBits.{LineLeaves, line_1d_leaves}
 use Rattle.hayro_ccitt.proofs.DamagedLines.LinesByEols.{line_past}
 use Rattle.hayro_ccitt.proofs.DamagedLines.LinesBeforeEol.{Inside, LineAlike, line_1d_alike}
 use Rattle.hayro_ccitt.proofs.DamagedLines.EolsAlike.{Closes, closes_inside, inside_after, after_shorter, past_alike, PastAlike, CountAlike, RestAlike, all_eols_alike}
-use Rattle.hayro_ccitt.proofs.Readings.RowsAndGaps.{unless_over, seek_from, seek_eol, after_row, add_row, after_whole-is, after_damage-is}
+use Rattle.hayro_ccitt.proofs.Readings.RowsAndGaps.{unless_over, seek_from, seek_eol, after_row, row_added, after_whole-is, after_damage-is}
 
 -- ---- Rows of which one may differ
 
@@ -105,16 +105,16 @@ module _ (settings : DecodeSettings) (encoding : settings.encoding ≡ Group3_1D
       → Both (after_row settings (run_at xs has_eols here)) (after_row settings (run_at ys has_eols here))
   row_beyond xs ys has_eols here alike short =
       subst (λ (n : ℕ). Both (after_row settings (run_at xs has_eols here))
-      (cond (test n) (seek_eol settings (run_at ys has_eols here)) (unless_over settings (run_at ys has_eols here) (eols_group3 settings here))))
+      (cond (test n) (seek_eol settings (run_at ys has_eols here)) (unless_over settings (run_at ys has_eols here) (eols_here settings here))))
       (rows_length xs ys alike) (by (test (length xs)))
     where
       test : ℕ → Bool
-      test n = ((eqb (eols_group3 settings here).0 0 && has_eols) && not (limit_met settings n)) && not (at_end here)
+      test n = ((eqb (eols_here settings here).0 0 && has_eols) && not (limit_met settings n)) && not (at_end here)
 
       from_next : (o : Option Bits) → next_eol here ≡ o → Both (seek_from settings (run_at xs has_eols here) o) (seek_from settings (run_at ys has_eols here) o)
       from_next None e = RunsAlike.beyond xs ys false here alike short refl refl
-      from_next (Some found) e = unless_beyond xs ys has_eols here here (eols_group3 settings found) alike
-          (omega (arith, (next_eol_found here found e).0, (eols_group3_counted settings found).0, short))
+      from_next (Some found) e = unless_beyond xs ys has_eols here here (eols_here settings found) alike
+          (omega (arith, (next_eol_found here found e).0, (eols_here_counted settings found).0, short))
 
       strictly : (t : Bool) → Both (cond t (ends_with (run_at xs has_eols here) (Err InvalidCode))
           (seek_from settings (run_at xs has_eols here) (next_eol here)))
@@ -123,13 +123,13 @@ module _ (settings : DecodeSettings) (encoding : settings.encoding ≡ Group3_1D
       strictly false = from_next (next_eol here) refl
 
       by : (t : Bool) → Both (cond t (seek_eol settings (run_at xs has_eols here))
-          (unless_over settings (run_at xs has_eols here) (eols_group3 settings here)))
-          (cond t (seek_eol settings (run_at ys has_eols here)) (unless_over settings (run_at ys has_eols here) (eols_group3 settings here)))
+          (unless_over settings (run_at xs has_eols here) (eols_here settings here)))
+          (cond t (seek_eol settings (run_at ys has_eols here)) (unless_over settings (run_at ys has_eols here) (eols_here settings here)))
       by true = strictly settings.strict
-      by false = unless_beyond xs ys has_eols here here (eols_group3 settings here) alike (omega (arith, (eols_group3_counted settings here).0, short))
+      by false = unless_beyond xs ys has_eols here here (eols_here settings here) alike (omega (arith, (eols_here_counted settings here).0, short))
 
   line_beyond : (xs ys : List Row) (has_eols : Bool) (here : Bits) (line : Line) → RowsAlike Begins xs ys → length here ≤ length after → LineLeaves here line
-      → Both (after_line_group3 settings (run_at xs has_eols here) line) (after_line_group3 settings (run_at ys has_eols here) line)
+      → Both (after_line settings (run_at xs has_eols here) line) (after_line settings (run_at ys has_eols here) line)
   line_beyond xs ys has_eols here (Line.whole row left) alike short leaves =
       let al : Bool = settings.rows_are_byte_aligned && not has_eols in
       let shorter : length (cond al (aligned left) left) ≤ length left
@@ -150,13 +150,13 @@ module _ (settings : DecodeSettings) (encoding : settings.encoding ≡ Group3_1D
       shorter : length (cond al (aligned here) here) ≤ length here
       shorter = cond_le al (aligned here) here (length here) (omega (arith, length-drop (length here % 8) here)) (omega arith)
 
-      by : (t : Bool) → Both (cond t (ends_with (run_at xs has_eols here) (Err fault)) (add_row settings (run_at xs has_eols here) row here))
-          (cond t (ends_with (run_at ys has_eols here) (Err fault)) (add_row settings (run_at ys has_eols here) row here))
+      by : (t : Bool) → Both (cond t (ends_with (run_at xs has_eols here) (Err fault)) (row_added settings (run_at xs has_eols here) row here))
+          (cond t (ends_with (run_at ys has_eols here) (Err fault)) (row_added settings (run_at ys has_eols here) row here))
       by true = EndsAlike.faults fault refl refl alike
       by false = row_beyond (xs ++ row ∷ []) (ys ++ row ∷ []) has_eols (cond al (aligned here) here) (rows_more xs ys row alike) (omega (arith, shorter, short))
 
   move_beyond : (xs ys : List Row) (has_eols : Bool) (here : Bits) → RowsAlike Begins xs ys → length here ≤ length after
-      → Both (move_group3 settings (run_at xs has_eols here)) (move_group3 settings (run_at ys has_eols here))
+      → Both (move_on settings (run_at xs has_eols here)) (move_on settings (run_at ys has_eols here))
   move_beyond xs ys has_eols here alike short =
       rw (
         line_is settings encoding lenient (row_before settings.columns xs) here,
@@ -248,7 +248,7 @@ module _ (settings : DecodeSettings) (encoding : settings.encoding ≡ Group3_1D
       by_limit (inr open_limit) = by_past open_limit (past 0 (bits ++ true ∷ x)) (past 0 (bits ++ true ∷ y)) refl refl (past_alike x y 0 bits)
 
   line_ahead : (rows : List Row) (bits : Bits) → Closes bits → length bits < from
-      → Both (move_group3 settings (sought rows (bits ++ true ∷ x))) (move_group3 settings (sought rows (bits ++ true ∷ y)))
+      → Both (move_on settings (sought rows (bits ++ true ∷ x))) (move_on settings (sought rows (bits ++ true ∷ y)))
   line_ahead rows bits closes short =
       rw (move_line settings encoding lenient rows (bits ++ true ∷ x), move_line settings encoding lenient rows (bits ++ true ∷ y))
       (by (line_1d false settings.columns (bits ++ true ∷ x)) (line_1d false settings.columns (bits ++ true ∷ y))
@@ -302,7 +302,7 @@ module _ (settings : DecodeSettings) (encoding : settings.encoding ≡ Group3_1D
   rest_shorter (Line.whole row left) here leaves = omega (arith, ap length leaves.1, length-append leaves.0 left)
   rest_shorter (Line.broken front fault) here leaves = omega arith
 
-  line_there : (rows : List Row) → Begins rows → Both (move_group3 settings (sought rows x)) (move_group3 settings (sought rows y))
+  line_there : (rows : List Row) → Begins rows → Both (move_on settings (sought rows x)) (move_on settings (sought rows y))
   line_there rows begins =
       rw (move_line settings encoding lenient rows x, move_line settings encoding lenient rows y)
       (row_there rows (row_at settings.columns x) (row_at settings.columns y) (rest_of (line_1d false settings.columns x) x)
@@ -312,7 +312,7 @@ module _ (settings : DecodeSettings) (encoding : settings.encoding ≡ Group3_1D
       (rest_shorter (line_1d false settings.columns y) y (line_1d_leaves false settings.columns y)))
 
   -- a turn of two such runs
-  pub moves_alike : (s t : Progress) → ((rows : List Row) → s ≡ sought rows x → t ≡ sought rows y → Begins rows) → RunsAlike Begins from x y after s t → Both (move_group3 settings s) (move_group3 settings t)
+  pub moves_alike : (s t : Progress) → ((rows : List Row) → s ≡ sought rows x → t ≡ sought rows y → Begins rows) → RunsAlike Begins from x y after s t → Both (move_on settings s) (move_on settings t)
   moves_alike s t begins (RunsAlike.ahead rows bits closes short e f) = rw (e, f) (line_ahead rows bits closes short)
   moves_alike s t begins (RunsAlike.there rows e f) = rw (e, f) (line_there rows (begins rows e f))
   moves_alike s t begins (RunsAlike.beyond xs ys has_eols here alike short e f) = rw (e, f) (move_beyond xs ys has_eols here alike short)

@@ -9,12 +9,12 @@ use Rattle.hayro_ccitt.specs.Bits.{Bits}
 use Rattle.hayro_ccitt.specs.Rows.{Row}
 use Rattle.hayro_ccitt.specs.Lines.{Line, line_1d}
 use Rattle.hayro_ccitt.specs.EndOfLine.{after_eol, one_more, all_eols, next_eol}
-use Rattle.hayro_ccitt.specs.PlainReading.{eols_of_end, Progress, row_before, line_by, eols_by, line_at_group3, aligned, limit_met, at_end, ends_with, eols_group3}
-use Rattle.hayro_ccitt.specs.PlainReading.{after_line_group3, move_group3}
+use Rattle.hayro_ccitt.specs.PlainReading.{eols_of_end, Progress, row_before, line_by, eols_by, line_here, aligned, limit_met, at_end, ends_with, eols_here}
+use Rattle.hayro_ccitt.specs.PlainReading.{after_line, move_on}
 use Rattle.hayro_ccitt.specs.Locality.{row_of, row_at}
 use Rattle.hayro_ccitt.proofs.Readings.TurnsMoveOn.{one_more-count}
 use Rattle.hayro_ccitt.proofs.DamagedLines.PastEol.{past, past-eol, past_is, then_after, all_eols-some, all_eols-none}
-use Rattle.hayro_ccitt.proofs.Readings.RowsAndGaps.{unless_over, seek_from, after_row, add_row, after_whole-is, after_damage-is}
+use Rattle.hayro_ccitt.proofs.Readings.RowsAndGaps.{unless_over, seek_from, after_row, row_added, after_whole-is, after_damage-is}
 
 -- a run that seeks EOLs
 abbrev pub sought : List Row → Bits → Progress
@@ -40,8 +40,8 @@ not_past_end (b ∷ here) after e = refl
 
 module _ (settings : DecodeSettings) (encoding : settings.encoding ≡ Group3_1D) (lenient : settings.strict ≡ false) where
   -- EOLs of one-dimensional data have no tags
-  pub eols_group3_is : (here : Bits) → eols_group3 settings here ≡ all_eols here
-  eols_group3_is here = ap (λ (e : EncodingMode). eols_by e settings.end_of_block here) encoding
+  pub eols_here_is : (here : Bits) → eols_here settings here ≡ all_eols here
+  eols_here_is here = ap (λ (e : EncodingMode). eols_by e settings.end_of_block here) encoding
 
   -- where an EOL follows and the limit isn't met, the EOLs are counted that begin with the next
   pub after_row_past : (rows : List Row) (here after : Bits) → limit_met settings (length rows) ≡ false → past 0 here ≡ Some after
@@ -52,53 +52,53 @@ module _ (settings : DecodeSettings) (encoding : settings.encoding ≡ Group3_1D
       run = sought rows here
 
       test : Bool
-      test = ((eqb (eols_group3 settings here).0 0 && true) && not (limit_met settings (length rows))) && not (at_end here)
+      test = ((eqb (eols_here settings here).0 0 && true) && not (limit_met settings (length rows))) && not (at_end here)
 
       by : (o : Option Bits) → after_eol 0 here ≡ o
           → after_row settings (sought rows here) ≡ unless_over settings (sought rows here) (one_more (all_eols after))
       by (Some next) f =
           let g : ◌≡◌ {A = Option Bits} (Some next) (Some after) = sym (past-eol 0 here next f) ∙ e in
           let same : next ≡ after = cc in
-          let counted : eols_group3 settings here ≡ one_more (all_eols after) = eols_group3_is here ∙ all_eols-some here next f
+          let counted : eols_here settings here ≡ one_more (all_eols after) = eols_here_is here ∙ all_eols-some here next f
           ∙ ap (λ (x : Bits). one_more (all_eols x)) same in
-          let some : eqb (eols_group3 settings here).0 0 ≡ false
-          = ne_eqb (eols_group3 settings here).0 0 (λ z. absurd (omega (arith, z, ap (λ (x : ℕ × Bits). x.0) counted, one_more-count (all_eols after)))) in
-          let untrue : test ≡ false = and_left ((eqb (eols_group3 settings here).0 0 && true) && not (limit_met settings (length rows))) (not (at_end here))
-          (and_left (eqb (eols_group3 settings here).0 0 && true) (not (limit_met settings (length rows)))
-          (and_left (eqb (eols_group3 settings here).0 0) true some)) in
+          let some : eqb (eols_here settings here).0 0 ≡ false
+          = ne_eqb (eols_here settings here).0 0 (λ z. absurd (omega (arith, z, ap (λ (x : ℕ × Bits). x.0) counted, one_more-count (all_eols after)))) in
+          let untrue : test ≡ false = and_left ((eqb (eols_here settings here).0 0 && true) && not (limit_met settings (length rows))) (not (at_end here))
+          (and_left (eqb (eols_here settings here).0 0 && true) (not (limit_met settings (length rows)))
+          (and_left (eqb (eols_here settings here).0 0) true some)) in
           cond-false test _ _ untrue ∙ ap (unless_over settings run) counted
       by None f =
-          let none : eqb (eols_group3 settings here).0 0 ≡ true = ap (λ (x : ℕ × Bits). eqb x.0 0) (eols_group3_is here ∙ all_eols-none here f) in
-          let is_true : test ≡ true = and_from ((eqb (eols_group3 settings here).0 0 && true) && not (limit_met settings (length rows))) (not (at_end here))
-          (and_from (eqb (eols_group3 settings here).0 0 && true) (not (limit_met settings (length rows)))
-          (and_from (eqb (eols_group3 settings here).0 0) true none refl) (not_from_false (limit_met settings (length rows)) short))
+          let none : eqb (eols_here settings here).0 0 ≡ true = ap (λ (x : ℕ × Bits). eqb x.0 0) (eols_here_is here ∙ all_eols-none here f) in
+          let is_true : test ≡ true = and_from ((eqb (eols_here settings here).0 0 && true) && not (limit_met settings (length rows))) (not (at_end here))
+          (and_from (eqb (eols_here settings here).0 0 && true) (not (limit_met settings (length rows)))
+          (and_from (eqb (eols_here settings here).0 0) true none refl) (not_from_false (limit_met settings (length rows)) short))
           (not_from_false (at_end here) (not_past_end here after e)) in
           let next = found_next here after e in
-          let counted : eols_group3 settings next.0 ≡ one_more (all_eols after) = eols_group3_is next.0 ∙ all_eols-some next.0 after next.2 in
+          let counted : eols_here settings next.0 ≡ one_more (all_eols after) = eols_here_is next.0 ∙ all_eols-some next.0 after next.2 in
           cond-true test _ _ is_true ∙ cond-false settings.strict _ _ lenient ∙ ap (seek_from settings run) next.1 ∙ ap (unless_over settings run) counted
 
   -- its lines have no reference row
-  pub line_is : (reference : Row) (here : Bits) → line_at_group3 settings reference here ≡ line_1d false settings.columns here
+  pub line_is : (reference : Row) (here : Bits) → line_here settings reference here ≡ line_1d false settings.columns here
   line_is reference here = ap (λ (e : EncodingMode). line_by e settings.strict settings.columns reference here) encoding
       ∙ ap (λ (s : Bool). line_1d s settings.columns here) lenient
 
   -- a line's row is added, and the EOLs after it are counted
   pub move_line : (rows : List Row) (here : Bits)
-      → move_group3 settings (sought rows here) ≡ after_row settings
+      → move_on settings (sought rows here) ≡ after_row settings
       (sought (rows ++ row_at settings.columns here ∷ []) (rest_of (line_1d false settings.columns here) here))
-  move_line rows here = ap (after_line_group3 settings (sought rows here)) (line_is (row_before settings.columns rows) here)
+  move_line rows here = ap (after_line settings (sought rows here)) (line_is (row_before settings.columns rows) here)
       ∙ by (line_1d false settings.columns here)
     where
       no_align : (settings.rows_are_byte_aligned && false) ≡ false
       no_align = and_right settings.rows_are_byte_aligned false refl
 
-      by : (line : Line) → after_line_group3 settings (sought rows here) line ≡ after_row settings
+      by : (line : Line) → after_line settings (sought rows here) line ≡ after_row settings
           (sought (rows ++ row_of settings.columns line ∷ []) (rest_of line here))
       by (Line.whole row rest) = after_whole-is settings (sought rows here) row rest ∙ ap (λ (x : Bits). after_row settings (sought (rows ++ row ∷ []) x))
           (cond-false (settings.rows_are_byte_aligned && false) (aligned rest) rest no_align)
       by (Line.broken front fault) =
           let row : Row = front ++ replicate (settings.columns - length front) false in
-          after_damage-is settings (sought rows here) front fault ∙ cond-false (settings.strict || false) (ends_with (sought rows here) (Err fault)) (add_row settings (sought rows here) row here)
+          after_damage-is settings (sought rows here) front fault ∙ cond-false (settings.strict || false) (ends_with (sought rows here) (Err fault)) (row_added settings (sought rows here) row here)
           (or_from settings.strict false lenient refl)
           ∙ ap (λ (x : Bits). after_row settings (sought (rows ++ row ∷ []) x))
           (cond-false (settings.rows_are_byte_aligned && false) (aligned here) here no_align)
@@ -107,12 +107,12 @@ module _ (settings : DecodeSettings) (encoding : settings.encoding ≡ Group3_1D
   pub limit_done : (rows : List Row) (here : Bits) → limit_met settings (length rows) ≡ true
       → after_row settings (sought rows here) ≡ ends_with (sought rows here) (Ok (all_eols here).1)
   limit_done rows here met =
-      let first : Bool = eqb (eols_group3 settings here).0 0 && true in
+      let first : Bool = eqb (eols_here settings here).0 0 && true in
       let none : ((first && not (limit_met settings (length rows))) && not (at_end here)) ≡ false
       = and_left (first && not (limit_met settings (length rows))) (not (at_end here))
       (and_right first (not (limit_met settings (length rows))) (not_from_true (limit_met settings (length rows)) met)) in
       cond-false ((first && not (limit_met settings (length rows))) && not (at_end here)) _ _ none
-      ∙ ap (unless_over settings (sought rows here)) (eols_group3_is here) ∙ over (all_eols here)
+      ∙ ap (unless_over settings (sought rows here)) (eols_here_is here) ∙ over (all_eols here)
     where
       over : (found : ℕ × Bits) → unless_over settings (sought rows here) found ≡ ends_with (sought rows here) (Ok found.1)
       over (count, rest) = cond-true (((settings.end_of_block && leb (eols_of_end settings.encoding) count) || limit_met settings (length rows)) || at_end rest) _ _

@@ -9,7 +9,7 @@ use Rattle.hayro_ccitt.specs.Context.{Held, redrawn}
 use Rattle.hayro_ccitt.specs.Decoding.{SinkState, TakesOneRow}
 use Rattle.hayro_ccitt.specs.Lines.{Line}
 use Rattle.hayro_ccitt.specs.Rows.{Row}
-use Rattle.hayro_ccitt.specs.PlainReading.{row_group3}
+use Rattle.hayro_ccitt.specs.PlainReading.{row_of_line}
 use Rattle.hayro_ccitt.proofs.DrawingLines.DrawnLines.{memory_has_black, last_black}
 
 module _ {M : Type 0} (line : Line) (row : Result (Row × Bits) DecodeError) (step : M → List ℕ → M) (sink : SinkState M) (old new : Held) (held : new ≡ redrawn old new.front new.color) (rest : Bits) where
@@ -43,7 +43,7 @@ wants_rest line row step sink old new rest held black =
 
 module _ {M : Type 0} (line : Line) (start : Bits) (step : M → List ℕ → M) (sink : SinkState M) (old new : Held) (held : new ≡ redrawn old new.front new.color) (rest : Bits) where
   abbrev row : Result (Row × Bits) DecodeError
-  row = row_group3 old.settings old.has_eols start line
+  row = row_of_line old.settings old.has_eols start line
 
   -- the answer of a repair that failed with an error
   pub isnt_repaired : (e answer : DecodeError) → DrawsLine line (Err e) new.front rest
@@ -96,7 +96,7 @@ module _ {M : Type 0} (line : Line) (start : Bits) (step : M → List ℕ → M)
 
       by : (b : Bool) → (old.settings.strict || not old.has_eols) ≡ b → TakesOneRow line row step sink sink old new (Err answer) rest
       by true is =
-          itself e draws (λ fault broken. ap (row_group3 old.settings old.has_eols start) broken ∙ cond-true (old.settings.strict || not old.has_eols) _ _ is)
+          itself e draws (λ fault broken. ap (row_of_line old.settings old.has_eols start) broken ∙ cond-true (old.settings.strict || not old.has_eols) _ _ is)
           (otherwise (λ r. let both : true ≡ false = sym is ∙ or_from old.settings.strict (not old.has_eols) (sym same_strict ∙ r.lenient) (not_from_true old.has_eols (sym same_eols ∙ r.has_eols)) in cc))
       by false is = lenient e draws is (λ r. stores (broken e draws r.fault) r) otherwise
 

@@ -1,24 +1,25 @@
 -- What follows EOFB changes nothing.
-use Rattle.std.proofs.Common.{◌≡◌, ℕ, zero, suc, ◌+◌, ◌-◌, ◌*◌, ◌/◌, ◌%◌, ◌<◌, Bool, true, false, cond, ◌&&◌, ◌||◌, eqb, leb, [], ◌∷◌}
+use Rattle.std.proofs.Common.{◌≡◌, ℕ, zero, suc, ◌+◌, ◌-◌, ◌*◌, ◌/◌, ◌%◌, ◌<◌, Bool, true, false, cond, not, ◌&&◌, eqb, leb, [], ◌∷◌}
 use Rattle.std.proofs.Common.{◌++◌, length, take, drop, Option, Some, None, Result, Ok, refl, sym, ap, subst, ◌∙◌, append_assoc, arith, ◌⊎◌, inl, inr}
 use Rattle.std.proofs.lemmas.Bool.{or_parts, or_from, cond-true, cond-false, cases_lt, eq-eqb}
 use Rattle.std.proofs.lemmas.List.{length-append, length-take-le, take-append-drop, drop_at}
 use Rattle.hayro_ccitt.specs.declared.error.DecodeError.{DecodeError}
+use Rattle.hayro_ccitt.specs.declared.settings.EncodingMode.{EncodingMode}
 use Rattle.hayro_ccitt.specs.declared.settings.EncodingMode.TheVariants.{Group4}
 use Rattle.hayro_ccitt.specs.declared.settings.DecodeSettings.{DecodeSettings}
 use Rattle.hayro_ccitt.specs.Bits.{Bits, AreWholeBytes}
 use Rattle.hayro_ccitt.specs.Repetition.{Turn, Reaches}
 use Rattle.hayro_ccitt.specs.Lines.{Line, line_2d}
-use Rattle.hayro_ccitt.specs.EndOfLine.{after_eol, one_more, eols, all_eols}
-use Rattle.hayro_ccitt.specs.PlainReading.{eols_group4, Progress, Ending, row_before, aligned, at_end, limit_met, ends_with, after_line_group4, Reading, nothing_read, whole_reading, move_group4, end_of, plain}
-use Rattle.hayro_ccitt.specs.Laws.{AfterEofb}
+use Rattle.hayro_ccitt.specs.EndOfLine.{after_eol, one_more, eols}
+use Rattle.hayro_ccitt.specs.PlainReading.{eols_by, eols_here, is_over, Progress, Ending, row_before, aligned, line_by, line_of_turn, row_of_line, ends_with, pass_gap, at_front, Reading, nothing_read, whole_reading, end_of, plain}
+use Rattle.hayro_ccitt.specs.Laws.{AfterEofb, add_row_alone, row_behind, gap_and_row, for_t6}
 use Rattle.hayro_ccitt.proofs.Readings.TurnsMoveOn.{eols-none, next_is, not_next}
-use Rattle.hayro_ccitt.proofs.Readings.Repeated.{after_turn}
 use Rattle.hayro_ccitt.proofs.CodeWords.ReadRuns.{chosen}
 use Rattle.hayro_ccitt.proofs.BitReading.ZerosInWords.{prefix_of_prefix}
 use Rattle.hayro_ccitt.proofs.DrawingLines.WhatFollows.{line_2d_found}
-use Rattle.hayro_ccitt.proofs.EncodedPictures.PicturesT6.{IsLineStart, mode_starts, goes, goes_is, between, move_group4_eofb, late_group4, end_of_goes, plain_ends}
-use Rattle.hayro_ccitt.proofs.Readings.RowsAndGaps.{line_at_group4, move_group4-is}
+use Rattle.hayro_ccitt.proofs.EncodedPictures.Bodies.{gap_at_eofb}
+use Rattle.hayro_ccitt.proofs.EncodedPictures.PictureLines.{IsLineStart, mode_starts, between, plain_ends}
+use Rattle.hayro_ccitt.proofs.Readings.GapsAndRows.{gap_and_row_unsought, row_behind_eols, t6_end}
 
 -- ---- EOLs.
 after_eol_found : (seen : ℕ) (here rest : Bits) → after_eol seen here ≡ Some rest → (w : Bits) × (here ≡ w ++ rest)
@@ -78,27 +79,42 @@ aligned_split true j =
     let sum : length j ≡ length pad + length (drop n j) = ap length whole ∙ length-append pad (drop n j) in
     (pad, whole, λ more e. drop_at pad more (length (pad ++ more) % 8) (omega (arith, len, sum, e, length-append pad more)))
 
--- ---- A line of a run.
+-- ---- A row of a run, and the gap before it.
 record MoveFound (settings : DecodeSettings) (run after : Progress) : Type 0 where
   bits : Bits
   is : run.rest ≡ bits ++ after.rest
+  unsought : after.has_eols ≡ false
   again : (more : Bits) → length more % 8 ≡ length after.rest % 8
-      → move_group4 settings (record run { rest = bits ++ more }) ≡ Turn.next (record after { rest = more })
+      → gap_and_row settings (record run { rest = bits ++ more }) ≡ Turn.next (record after { rest = more })
 
 -- the line that is read from a state
 abbrev reader : DecodeSettings → Progress → Bits → Line
 reader settings run = line_2d settings.strict settings.columns (row_before settings.columns run.rows)
 
--- the reading ends in front of a line
-abbrev is_over : DecodeSettings → Progress → ℕ → Bits → Bool
-is_over settings run count rest = ((settings.end_of_block && (eqb count 2)) || limit_met settings (length run.rows)) || at_end rest
+-- a run that comes to its end so
+abbrev Ends : DecodeSettings → Progress → Ending → Type 0
+Ends settings run end = (last : Progress) × Reaches (gap_and_row settings) run last × (pass_gap settings last ≡ Turn.done end)
 
-module _ (settings : DecodeSettings) (block : settings.end_of_block ≡ true) (wide : 0 < settings.columns) where
-  by_line : (run after : Progress) (count : ℕ) (t : Bits) (line : Line) → eols 2 run.rest ≡ (count, t) → is_over settings run count t ≡ false
-      → reader settings run t ≡ line → after_line_group4 settings run line ≡ Turn.next after → MoveFound settings run after
-  by_line run after count t (Line.broken front fault) counted over read e = absurd (not_next _ after e)
-  by_line run after count t (Line.whole row j) counted over read e =
-      let b : Bool = settings.rows_are_byte_aligned in
+module _ (settings : DecodeSettings) (four : settings.encoding ≡ Group4) (block : settings.end_of_block ≡ true) (wide : 0 < settings.columns) where
+  -- the EOLs that are counted, at most two, and the line behind them
+  counts_two : (here : Bits) → eols_here settings here ≡ eols 2 here
+  counts_two here = ap (λ (e : EncodingMode). eols_by e settings.end_of_block here) four ∙ ap (λ (b : Bool). eols_by Group4 b here) block
+
+  line_is : (run : Progress) (here : Bits) → line_of_turn settings (record run { rest = here }) ≡ reader settings run here
+  line_is run here = ap (λ (e : EncodingMode). line_by e settings.strict settings.columns (row_before settings.columns run.rows) here) four
+
+  by_line : (run after : Progress) (count : ℕ) (t : Bits) (line : Line) → run.has_eols ≡ false → eols 2 run.rest ≡ (count, t)
+      → is_over settings (length run.rows) (count, t) ≡ false → reader settings run t ≡ line
+      → add_row_alone (record run { rest = t }) (row_of_line settings run.has_eols t line) ≡ Turn.next after → MoveFound settings run after
+  by_line run after count t (Line.broken front fault) unsought counted over read e =
+      by settings.strict (ap (λ (h : Bool). add_row_alone (record run { rest = t }) (row_of_line settings h t (Line.broken front fault))) (sym unsought) ∙ e)
+    where
+      by : (strict : Bool) → add_row_alone (record run { rest = t }) (row_of_line (record settings { strict = strict }) false t (Line.broken front fault)) ≡ Turn.next after
+          → MoveFound settings run after
+      by true e = absurd (not_next _ after e)
+      by false e = absurd (not_next _ after e)
+  by_line run after count t (Line.whole row j) unsought counted over read e =
+      let b : Bool = settings.rows_are_byte_aligned && not run.has_eols in
       let line = line_2d_found settings.strict settings.columns (row_before settings.columns run.rows) t row j read in
       let eol = subst (EolsFound 2 run.rest) counted (eols_found 2 run.rest) in
       let split = aligned_split b j in
@@ -111,69 +127,73 @@ module _ (settings : DecodeSettings) (block : settings.end_of_block ≡ true) (w
         bits = eol.0 ++ (line.bits ++ pad);
         is = eol.1 ∙ ap (λ (x : Bits). eol.0 ++ x) (line.is ∙ ap (λ (x : Bits). line.bits ++ x) split.1 ∙ sym (append_assoc line.bits pad then.rest))
             ∙ sym (append_assoc eol.0 (line.bits ++ pad) then.rest);
+        unsought = unsought;
         again = λ more same.
             let t2 : Bits = line.bits ++ (pad ++ more) in
             let here : (eol.0 ++ (line.bits ++ pad)) ++ more ≡ eol.0 ++ t2 = append_assoc eol.0 (line.bits ++ pad) more
             ∙ ap (λ (x : Bits). eol.0 ++ x) (append_assoc line.bits pad more) in
             let run2 : Progress = record run { rest = (eol.0 ++ (line.bits ++ pad)) ++ more } in
+            let at : Progress = record run { rest = t2 } in
             let begins = at_start (pad ++ more) in
-            let counted2 : eols_group4 settings run2.rest ≡ (count, t2) = cond-true settings.end_of_block _ _ block ∙ ap (eols 2) here
-            ∙ eol.2 t2 (inr begins.no_eol) in
-            let over2 : is_over settings run2 count t2 ≡ false = or_from _ _ (or_parts _ _ over).0 begins.open_end in
-            move_group4-is settings run2 ∙ ap (line_at_group4 settings run2) counted2
-            ∙ cond-false (is_over settings run2 count t2) (ends_with run2 (Ok t2)) (after_line_group4 settings run2 (reader settings run2 t2)) over2
-            ∙ ap (after_line_group4 settings run2) (line.again (pad ++ more))
+            let counted2 : eols_here settings run2.rest ≡ (count, t2) = counts_two run2.rest ∙ ap (eols 2) here ∙ eol.2 t2 (inr begins.no_eol) in
+            let over2 : is_over settings (length run.rows) (count, t2) ≡ false = or_from _ _ (or_parts _ _ over).0 begins.open_end in
+            gap_and_row_unsought settings run2 unsought ∙ ap (row_behind_eols settings run2) counted2
+            ∙ cond-false (is_over settings (length run.rows) (count, t2)) (ends_with run2 (Ok t2)) (row_behind settings (Turn.next at)) over2
+            ∙ ap (λ (l : Line). add_row_alone at (row_of_line settings run.has_eols t2 l)) (line_is run t2 ∙ line.again (pad ++ more))
             ∙ ap (λ (x : Bits). Turn.next (record then { rest = x })) (split.2 more same);
       } in
       subst (MoveFound settings run) (next_is then after e) moved
 
-  by_eols : (run after : Progress) (found : ℕ × Bits) → eols 2 run.rest ≡ found → line_at_group4 settings run found ≡ Turn.next after
-      → MoveFound settings run after
-  by_eols run after (count, t) counted e = elim (chosen (is_over settings run count t) _ _ _ e) [
+  by_eols : (run after : Progress) (found : ℕ × Bits) → run.has_eols ≡ false → eols 2 run.rest ≡ found
+      → row_behind_eols settings run found ≡ Turn.next after → MoveFound settings run after
+  by_eols run after (count, t) unsought counted e = elim (chosen (is_over settings (length run.rows) (count, t)) _ _ _ e) [
     | inl a ↦ absurd (not_next _ after a.1)
-    | inr a ↦ by_line run after count t (reader settings run t) counted a.0 refl a.1
+    | inr a ↦ by_line run after count t (reader settings run t) unsought counted a.0 refl
+        (ap (λ (l : Line). add_row_alone (record run { rest = t }) (row_of_line settings run.has_eols t l)) (sym (line_is run t)) ∙ a.1)
   ]
 
-  move_group4_found : (run after : Progress) → move_group4 settings run ≡ Turn.next after → MoveFound settings run after
-  move_group4_found run after e = by_eols run after (eols 2 run.rest) refl
-      (sym (move_group4-is settings run ∙ ap (line_at_group4 settings run) (cond-true settings.end_of_block (eols 2 run.rest) (all_eols run.rest) block)) ∙ e)
+  move_found : (run after : Progress) → run.has_eols ≡ false → gap_and_row settings run ≡ Turn.next after → MoveFound settings run after
+  move_found run after unsought e = by_eols run after (eols 2 run.rest) unsought refl
+      (sym (gap_and_row_unsought settings run unsought ∙ ap (row_behind_eols settings run) (counts_two run.rest)) ∙ e)
 
   -- ---- A run that comes to two EOLs.
   abbrev ended_at : Progress → Bits → Ending
   ended_at last rest = record { rows = last.rows; has_eols = last.has_eols; outcome = Ok rest }
 
   -- what was read up to two EOLs gives the same rows again, whatever follows
-  pub closed_found : (late : Ending) (run last : Progress) (rest : Bits) → Reaches (move_group4 settings) run last → eols 2 last.rest ≡ (2, rest)
+  pub closed_found : (run last : Progress) (rest : Bits) → run.has_eols ≡ false → Reaches (gap_and_row settings) run last → eols 2 last.rest ≡ (2, rest)
       → (w : Bits) × (run.rest ≡ w ++ rest) × ((more : Bits) → length more % 8 ≡ length rest % 8
-      → goes settings late (record run { rest = w ++ more }) ≡ ended_at last more)
-  closed_found late run last rest (Reaches.stays same) two =
+      → Ends settings (record run { rest = w ++ more }) (ended_at last more))
+  closed_found run last rest unsought (Reaches.stays same) two =
       let eol = subst (EolsFound 2 run.rest) two (eols_found 2 run.rest) in (
         eol.0,
         eol.1,
-        λ more e. goes_is settings late (record run { rest = eol.0 ++ more }) wide
-            ∙ ap (after_turn (goes settings late)) (move_group4_eofb settings (record run { rest = eol.0 ++ more }) more block (eol.2 more (inl refl))),
+        λ more e.
+            let run2 : Progress = record run { rest = eol.0 ++ more } in
+            (run2, Reaches.stays run2, gap_at_eofb settings run2 more unsought four block (eol.2 more (inl refl))),
       )
-  closed_found late run last rest (Reaches.moves run2 after last2 moved reaches) two =
-      let one = move_group4_found run after moved in
-      let on = closed_found late after last rest reaches two in (
+  closed_found run last rest unsought (Reaches.moves run2 after last2 moved reaches) two =
+      let one = move_found run after unsought moved in
+      let on = closed_found after last rest one.unsought reaches two in (
         one.bits ++ on.0,
         one.is ∙ ap (λ (x : Bits). one.bits ++ x) on.1 ∙ sym (append_assoc one.bits on.0 rest),
         λ more e.
             let same : length (on.0 ++ more) % 8 ≡ length after.rest % 8 = omega (arith, e, length-append on.0 more, ap length on.1, length-append on.0 rest) in
-            ap (λ (x : Bits). goes settings late (record run { rest = x })) (append_assoc one.bits on.0 more)
-            ∙ goes_is settings late (record run { rest = one.bits ++ (on.0 ++ more) }) wide
-            ∙ ap (after_turn (goes settings late)) (one.again (on.0 ++ more) same) ∙ on.2 more e,
+            let (end, leads, over) = on.2 more e in
+            subst (λ (x : Bits). Ends settings (record run { rest = x }) (ended_at last more)) (sym (append_assoc one.bits on.0 more))
+            (end, Reaches.moves (record run { rest = one.bits ++ (on.0 ++ more) }) (record after { rest = on.0 ++ more }) end (one.again (on.0 ++ more) same) leads, over),
       )
 
 -- ---- Over whole data.
 closed_plain : (settings : DecodeSettings) (last : Progress) (w rest : Bits) → settings.encoding ≡ Group4 → 0 < settings.columns
     → ((more : Bits) → length more % 8 ≡ length rest % 8
-    → goes settings late_group4 (between [] (w ++ more)) ≡ record { rows = last.rows; has_eols = last.has_eols; outcome = Ok more })
+    → Ends settings (between [] (w ++ more)) (record { rows = last.rows; has_eols = last.has_eols; outcome = Ok more }))
     → (stream more : Bits) → stream ≡ w ++ more → length more % 8 ≡ length rest % 8
     → plain settings stream ≡ record { rows = last.rows; outcome = Ok ((length w + 7) / 8); has_eols = last.has_eols }
 closed_plain settings last w rest four wide ends stream more is whole =
     let end : Ending = record { rows = last.rows; has_eols = last.has_eols; outcome = Ok more } in
-    let here : end_of settings stream ≡ end = ap (end_of settings) is ∙ end_of_goes settings (w ++ more) four wide ∙ ends more whole in
+    let (state, leads, over) = ends more whole in
+    let here : end_of settings stream ≡ end = ap (end_of settings) is ∙ t6_end settings wide (w ++ more) state end four leads over in
     let n : (length stream - length more + 7) / 8 ≡ (length w + 7) / 8 = omega (arith, ap length is, length-append w more) in
     plain_ends settings stream end more wide here refl ∙ ap {B = Reading} (λ (k : ℕ). record { rows = last.rows; outcome = Ok k; has_eols = last.has_eols }) n
 
@@ -203,7 +223,9 @@ after_eofb settings one two count are whole_one whole_two four block comes count
   | inl wide ↦
       let rest : Bits = (eols 2 comes.0.rest).1 in
       let closes : eols 2 comes.0.rest ≡ (2, rest) = ap (λ (n : ℕ). (n, rest)) comes.2 in
-      let found = closed_found settings block wide late_group4 (between [] one) comes.0 rest comes.1 closes in
+      let same_settings : for_t6 settings ≡ settings = ap (λ (e : EncodingMode). record settings { encoding = e }) (sym four) in
+      let comes_so = subst (λ (s : DecodeSettings). Reaches (gap_and_row s) (at_front one) comes.0) same_settings comes.1 in
+      let found = closed_found settings four block wide (between [] one) comes.0 rest refl comes_so closes in
       let first : plain settings one ≡ record { rows = comes.0.rows; outcome = Ok ((length found.0 + 7) / 8); has_eols = comes.0.has_eols }
       = closed_plain settings comes.0 found.0 rest four wide found.2 one rest found.1 refl in
       let count_is : (length found.0 + 7) / 8 ≡ count = let f : ◌≡◌ {A = Result ℕ DecodeError} (Ok ((length found.0 + 7) / 8)) (Ok count)

@@ -5,7 +5,7 @@ use Rattle.hayro_ccitt.specs.Pictures.{IsClosedPicture, IsLimitedPicture}
 use Rattle.hayro_ccitt.specs.Laws.{ReadsClosedPictures, ReadsLimitedPictures}
 use Rattle.hayro_ccitt.proofs.EncodedPictures.PicturesT6.{closed_picture_t6, limited_rows_t6}
 use Rattle.hayro_ccitt.proofs.EncodedPictures.PicturesT4.{closed_picture_t4, limited_picture_t4}
-use Rattle.hayro_ccitt.proofs.EncodedPictures.BodiesT4.{limited_rows_t4}
+use Rattle.hayro_ccitt.proofs.EncodedPictures.Bodies.{limited_rows_t4}
 
 -- the law
 pub closed_pictures : ReadsClosedPictures

@@ -18,8 +18,8 @@ use Rattle.hayro_ccitt.specs.Rows.{Row}
 use Rattle.hayro_ccitt.specs.Runs.{codes_of}
 use Rattle.hayro_ccitt.specs.Lines.{Line, line_1d, line_2d}
 use Rattle.hayro_ccitt.specs.EndOfLine.{after_eol, one_more, eols, all_eols, past_tag, eols_with_tags, pass_last_tag, tagged_eols}
-use Rattle.hayro_ccitt.specs.PlainReading.{eols_of_end, end_by, Progress, Ending, row_before, aligned, at_end, limit_met, ends_with, line_at_group3, eols_group3, Reading}
-use Rattle.hayro_ccitt.specs.PlainReading.{after_line_group3, move_group3, ending_from, plain_group3}
+use Rattle.hayro_ccitt.specs.PlainReading.{eols_of_end, ending_behind, Progress, Ending, row_before, aligned, at_end, limit_met, ends_with, line_here, eols_here, Reading}
+use Rattle.hayro_ccitt.specs.PlainReading.{after_line, move_on, ending_from}
 use Rattle.hayro_ccitt.specs.PlainReading.{end_of}
 use Rattle.hayro_ccitt.specs.Encodings.{Spells, EncodesLine1D, EncodesLine2D, EncodesLine, eol, tag_of, IsPicture, EncodesRowsWithEols}
 use Rattle.hayro_ccitt.specs.Encodings.{ClosesWithEols, PictureT4}
@@ -30,7 +30,8 @@ use Rattle.hayro_ccitt.proofs.Readings.Repeated.{after_turn}
 use Rattle.hayro_ccitt.proofs.BitReading.ZerosInWords.{each_word_at}
 use Rattle.hayro_ccitt.proofs.EncodedPictures.EncodedRuns.{line_1d_again}
 use Rattle.hayro_ccitt.proofs.EncodedPictures.EncodedLines.{line_2d_again}
-use Rattle.hayro_ccitt.proofs.EncodedPictures.PicturesT6.{closed_settings, misses_eol, missed, goes_on, IsLineStart, not_met, row_before_push, plain_ends}
+use Rattle.hayro_ccitt.proofs.EncodedPictures.PictureLines.{closed_settings, misses_eol, missed, goes_on, IsLineStart, not_met, row_before_push, plain_ends}
+use Rattle.hayro_ccitt.proofs.Readings.GapsAndRows.{first_gap_t4, ending_t4}
 use Rattle.hayro_ccitt.proofs.Readings.RowsAndGaps.{unless_over, after_row, seek_eol, after_whole-is}
 
 -- ---- What a line begins with.
@@ -110,18 +111,18 @@ one_tagged fill here at =
     ap pass_last_tag one ∙ pass_none here
 
 -- ---- Kinds.
-pub eols_group3_one : (settings : DecodeSettings) (here : Bits) → settings.encoding ≡ Group3_1D → eols_group3 settings here ≡ all_eols here
-eols_group3_one settings here e = rw (e, eols_group3) refl
+pub eols_here_one : (settings : DecodeSettings) (here : Bits) → settings.encoding ≡ Group3_1D → eols_here settings here ≡ all_eols here
+eols_here_one settings here e = rw (e, eols_here) refl
 
 -- in two-dimensional data EOLs are counted with their tags
-pub eols_group3_two : (settings : DecodeSettings) (here : Bits) → settings.encoding ≡ Group3_2D → eols_group3 settings here ≡ tagged_eols here
-eols_group3_two settings here e = rw (e, eols_group3) refl
+pub eols_here_two : (settings : DecodeSettings) (here : Bits) → settings.encoding ≡ Group3_2D → eols_here settings here ≡ tagged_eols here
+eols_here_two settings here e = rw (e, eols_here) refl
 
 tagged_line : (settings : DecodeSettings) (reference : Row) (tag : Bool) (here : Bits) → settings.encoding ≡ Group3_2D
-    → line_at_group3 settings reference (tag ∷ here) ≡ cond tag (line_1d settings.strict settings.columns here)
+    → line_here settings reference (tag ∷ here) ≡ cond tag (line_1d settings.strict settings.columns here)
     (line_2d settings.strict settings.columns reference here)
-tagged_line settings reference true here e = rw (e, line_at_group3) refl
-tagged_line settings reference false here e = rw (e, line_at_group3) refl
+tagged_line settings reference true here e = rw (e, line_here) refl
+tagged_line settings reference false here e = rw (e, line_here) refl
 
 -- ---- The EOLs that close a picture.
 eols_closing : (n most : ℕ) (closing more : Bits) → ClosesWithEols Group3_1D n closing → n ≤ most → n ≤ (eols most (closing ++ more)).0
@@ -194,32 +195,38 @@ matches_itself settings three = by settings.encoding refl
     by Group3_1D e = e
     by Group3_2D e = e
 
+-- and so are not for Group 4
+matches_t4 : (settings : DecodeSettings) (encoding : EncodingMode) → Matches encoding settings → settings.encoding ≢ Group4
+matches_t4 settings Group4 matches = absurd matches
+matches_t4 settings Group3_1D matches = λ e. let other : Group3_1D ≡ Group4 = sym matches ∙ e in cc
+matches_t4 settings Group3_2D matches = λ e. let other : Group3_2D ≡ Group4 = sym matches ∙ e in cc
+
 -- the end of lines that were read with EOLs
 abbrev ends_well : List Row → Bits → Ending
 ends_well rows rest = record { rows = rows; has_eols = true; outcome = Ok rest }
 
 six_close : (settings : DecodeSettings) (encoding : EncodingMode) (closing more : Bits) → Matches encoding settings → ClosesWithEols encoding 6 closing
-    → 6 ≤ (eols_group3 settings (closing ++ more)).0
+    → 6 ≤ (eols_here settings (closing ++ more)).0
 six_close settings Group4 closing more matches is = absurd matches
 six_close settings Group3_1D closing more matches is =
-    rw (eols_group3_one settings (closing ++ more) matches)
+    rw (eols_here_one settings (closing ++ more) matches)
     (eols_closing 6 (length (closing ++ more)) closing more is (length-closing Group3_1D 6 closing more is))
-six_close settings Group3_2D closing more matches is = rw (eols_group3_two settings (closing ++ more) matches) (six_tagged closing more is)
+six_close settings Group3_2D closing more matches is = rw (eols_here_two settings (closing ++ more) matches) (six_tagged closing more is)
 
 module _ (settings : DecodeSettings) (wide : 0 < settings.columns) (small : settings.columns ≤ 4294967295) where
   -- a line is read
   pub line_t4_again : (encoding : EncodingMode) (reference row : Row) (line more : Bits) → Matches encoding settings → EncodesLine encoding reference row line
-      → length reference ≡ settings.columns → length row ≡ settings.columns → line_at_group3 settings reference (line ++ more) ≡ Line.whole row more
+      → length reference ≡ settings.columns → length row ≡ settings.columns → line_here settings reference (line ++ more) ≡ Line.whole row more
   line_t4_again Group4 reference row line more matches is ref_len row_len = absurd matches
   line_t4_again Group3_1D reference row line more matches is ref_len row_len =
       let len : length {A = Bool} [] + length row ≡ settings.columns = omega arith in
-      rw (matches, line_at_group3) (line_1d_again settings.strict settings.columns [] row White line more is small len)
+      rw (matches, line_here) (line_1d_again settings.strict settings.columns [] row White line more is small len)
   line_t4_again Group3_2D reference row line more matches (rest, inl is) ref_len row_len =
       let len : length {A = Bool} [] + length row ≡ settings.columns = omega arith in
-      ap (λ (x : Bits). line_at_group3 settings reference (x ++ more)) is.0 ∙ tagged_line settings reference true (rest ++ more) matches
+      ap (λ (x : Bits). line_here settings reference (x ++ more)) is.0 ∙ tagged_line settings reference true (rest ++ more) matches
       ∙ line_1d_again settings.strict settings.columns [] row White rest more is.1 small len
   line_t4_again Group3_2D reference row line more matches (rest, inr is) ref_len row_len =
-      ap (λ (x : Bits). line_at_group3 settings reference (x ++ more)) is.0 ∙ tagged_line settings reference false (rest ++ more) matches
+      ap (λ (x : Bits). line_here settings reference (x ++ more)) is.0 ∙ tagged_line settings reference false (rest ++ more) matches
       ∙ line_2d_again settings.strict settings.columns reference row rest more is.1 wide small ref_len row_len
 
   -- where it begins no EOL stands
@@ -240,12 +247,12 @@ module _ (settings : DecodeSettings) (wide : 0 < settings.columns) (small : sett
 
   -- one EOL is counted before a line
   eol_before : (encoding : EncodingMode) (reference row : Row) (fill : ℕ) (line more : Bits) → Matches encoding settings → EncodesLine encoding reference row line
-      → length row ≡ settings.columns → eols_group3 settings (eol fill ++ (line ++ more)) ≡ (1, line ++ more)
+      → length row ≡ settings.columns → eols_here settings (eol fill ++ (line ++ more)) ≡ (1, line ++ more)
   eol_before Group4 reference row fill line more matches is row_len = absurd matches
-  eol_before Group3_1D reference row fill line more matches is row_len = eols_group3_one settings (eol fill ++ (line ++ more)) matches
+  eol_before Group3_1D reference row fill line more matches is row_len = eols_here_one settings (eol fill ++ (line ++ more)) matches
       ∙ one_eol fill (line ++ more) (line_t4_starts Group3_1D reference row line more matches is row_len).no_eol
   eol_before Group3_2D reference row fill line more matches is row_len =
-      eols_group3_two settings (eol fill ++ (line ++ more)) matches
+      eols_here_two settings (eol fill ++ (line ++ more)) matches
       ∙ one_tagged fill (line ++ more) (record
       { start = line_t4_starts Group3_2D reference row line more matches is row_len; no_tag = tag_starts reference row line more is row_len })
 
@@ -254,22 +261,22 @@ module _ (settings : DecodeSettings) (wide : 0 < settings.columns) (small : sett
   with_eols rows rest = record { rows = rows; has_eols = true; rest = rest }
 
   -- where EOLs came after a row they are passed
-  counted_row : (rows : List Row) (here : Bits) (found : ℕ × Bits) → eols_group3 settings here ≡ found → 0 < found.0
+  counted_row : (rows : List Row) (here : Bits) (found : ℕ × Bits) → eols_here settings here ≡ found → 0 < found.0
       → after_row settings (with_eols rows here) ≡ unless_over settings (with_eols rows here) found
   counted_row rows here found is some =
-      let none : eqb (eols_group3 settings here).0 0 ≡ false = rw is (ne_eqb found.0 0 (λ z. absurd (omega arith))) in
-      let test : ((eqb (eols_group3 settings here).0 0) && true && not (limit_met settings (length rows)) && not (at_end here)) ≡ false
+      let none : eqb (eols_here settings here).0 0 ≡ false = rw is (ne_eqb found.0 0 (λ z. absurd (omega arith))) in
+      let test : ((eqb (eols_here settings here).0 0) && true && not (limit_met settings (length rows)) && not (at_end here)) ≡ false
       = and_left _ _ (and_left _ _ (and_left _ _ none)) in
-      cond-false ((eqb (eols_group3 settings here).0 0) && true && not (limit_met settings (length rows)) && not (at_end here))
-      (seek_eol settings (with_eols rows here)) (unless_over settings (with_eols rows here) (eols_group3 settings here)) test
+      cond-false ((eqb (eols_here settings here).0 0) && true && not (limit_met settings (length rows)) && not (at_end here))
+      (seek_eol settings (with_eols rows here)) (unless_over settings (with_eols rows here) (eols_here settings here)) test
       ∙ ap (unless_over settings (with_eols rows here)) is
 
   -- one row is added
   row_added : (before : List Row) (row : Row) (here tail : Bits)
-      → line_at_group3 settings (row_before settings.columns before) here ≡ Line.whole row tail
-      → move_group3 settings (with_eols before here) ≡ after_row settings (with_eols (before ++ row ∷ []) tail)
+      → line_here settings (row_before settings.columns before) here ≡ Line.whole row tail
+      → move_on settings (with_eols before here) ≡ after_row settings (with_eols (before ++ row ∷ []) tail)
   row_added before row here tail read =
-      ap (after_line_group3 settings (with_eols before here)) read ∙ after_whole-is settings (with_eols before here) row tail
+      ap (after_line settings (with_eols before here)) read ∙ after_whole-is settings (with_eols before here) row tail
       ∙ ap (λ (x : Bits). after_row settings (with_eols (before ++ row ∷ []) x))
       (cond-false (settings.rows_are_byte_aligned && false) (aligned tail) tail (and_right settings.rows_are_byte_aligned false refl))
 
@@ -278,17 +285,17 @@ module _ (settings : DecodeSettings) (wide : 0 < settings.columns) (small : sett
     lines_t4_again : (before : List Row) (row : Row) (rows : List Row) (line next : Bits) (fuel : ℕ) → before ++ row ∷ rows ≡ whole
         → length (row_before settings.columns before) ≡ settings.columns → All (λ row. length row ≡ settings.columns) (row ∷ rows)
         → EncodesLine encoding (row_before settings.columns before) row line → EncodesRowsWithEols encoding row rows next → length rows < fuel
-        → repeated (move_group3 settings) late fuel (with_eols before (line ++ (next ++ tail))) ≡ ends_well whole last
+        → repeated (move_on settings) late fuel (with_eols before (line ++ (next ++ tail))) ≡ ends_well whole last
     lines_t4_again before row rows line next zero all ref_len widths is lines lt = absurd (omega arith)
     lines_t4_again before row [] line next (suc fuel) all ref_len widths is lines lt =
         let row_len : length row ≡ settings.columns = All-head (λ row. length row ≡ settings.columns) row [] widths in
         let here : line ++ (next ++ tail) ≡ line ++ tail = ap (λ (x : Bits). line ++ (x ++ tail)) lines in
-        let read : line_at_group3 settings (row_before settings.columns before) (line ++ (next ++ tail)) ≡ Line.whole row tail
-        = ap (line_at_group3 settings (row_before settings.columns before)) here
+        let read : line_here settings (row_before settings.columns before) (line ++ (next ++ tail)) ≡ Line.whole row tail
+        = ap (line_here settings (row_before settings.columns before)) here
         ∙ line_t4_again encoding (row_before settings.columns before) row line tail matches is ref_len row_len in
-        let moved : move_group3 settings (with_eols before (line ++ (next ++ tail))) ≡ Turn.done (ends_well whole last)
+        let moved : move_on settings (with_eols before (line ++ (next ++ tail))) ≡ Turn.done (ends_well whole last)
         = row_added before row (line ++ (next ++ tail)) tail read ∙ ap (λ (rs : List Row). after_row settings (with_eols rs tail)) all ∙ stops in
-        ap (after_turn (repeated (move_group3 settings) late fuel)) moved
+        ap (after_turn (repeated (move_on settings) late fuel)) moved
     lines_t4_again before row (row2 ∷ rows) line next (suc fuel) all ref_len widths is (fill, line_2d, next2, is2, lines2, split) lt =
         let row_len : length row ≡ settings.columns = All-head (λ row. length row ≡ settings.columns) row (row2 ∷ rows) widths in
         let widths2 = All-tail (λ row. length row ≡ settings.columns) row (row2 ∷ rows) widths in
@@ -298,31 +305,31 @@ module _ (settings : DecodeSettings) (wide : 0 < settings.columns) (small : sett
         let here : line ++ (next ++ tail) ≡ line ++ after
         = ap (λ (x : Bits). line ++ x) (ap (λ (x : Bits). x ++ tail) split ∙ append_assoc (eol fill ++ line_2d) next2 tail
         ∙ append_assoc (eol fill) line_2d (next2 ++ tail)) in
-        let read : line_at_group3 settings (row_before settings.columns before) (line ++ (next ++ tail)) ≡ Line.whole row after
-        = ap (line_at_group3 settings (row_before settings.columns before)) here
+        let read : line_here settings (row_before settings.columns before) (line ++ (next ++ tail)) ≡ Line.whole row after
+        = ap (line_here settings (row_before settings.columns before)) here
         ∙ line_t4_again encoding (row_before settings.columns before) row line after matches is ref_len row_len in
         let rows1 : List Row = before ++ row ∷ [] in
-        let one : eols_group3 settings after ≡ (1, rest) = eol_before encoding row row2 fill line_2d (next2 ++ tail) matches is2 row2_len in
+        let one : eols_here settings after ≡ (1, rest) = eol_before encoding row row2 fill line_2d (next2 ++ tail) matches is2 row2_len in
         let all2 : rows1 ++ row2 ∷ rows ≡ whole = append_assoc before (row ∷ []) (row2 ∷ rows) ∙ all in
         let count : length rows1 < length whole = omega (arith, ap length all2, length-append rows1 (row2 ∷ rows)) in
         let open_end : at_end rest ≡ false = (line_t4_starts encoding row row2 line_2d (next2 ++ tail) matches is2 row2_len).open_end in
         let over : ((settings.end_of_block && (leb (eols_of_end settings.encoding) 1)) || limit_met settings (length rows1) || at_end rest) ≡ false
         = or_from _ _ (or_from _ _ (and_right settings.end_of_block (leb (eols_of_end settings.encoding) 1) (few_eols settings.encoding 1 (omega arith))) (not_met settings (length whole) (length rows1) allows count)) open_end in
-        let moved : move_group3 settings (with_eols before (line ++ (next ++ tail))) ≡ Turn.next (with_eols rows1 rest)
+        let moved : move_on settings (with_eols before (line ++ (next ++ tail))) ≡ Turn.next (with_eols rows1 rest)
         = row_added before row (line ++ (next ++ tail)) after read ∙ counted_row rows1 after (1, rest) one (omega arith)
         ∙ cond-false ((settings.end_of_block && (leb (eols_of_end settings.encoding) 1)) || limit_met settings (length rows1) || at_end rest)
         (ends_with (with_eols rows1 after) (Ok rest)) (Turn.next (with_eols rows1 rest)) over in
         let pushed : row_before settings.columns rows1 ≡ row = row_before_push settings.columns before row in
-        ap (after_turn (repeated (move_group3 settings) late fuel)) moved
+        ap (after_turn (repeated (move_on settings) late fuel)) moved
         ∙ lines_t4_again rows1 row2 rows line_2d next2 fuel all2 (ap length pushed ∙ row_len) widths2
         (subst (λ (r : Row). EncodesLine encoding r row2 line_2d) (sym pushed) is2) lines2 (omega arith)
 
   -- ---- How a run ends.
   -- six EOLs end it
-  six_stop : (rows : List Row) (here : Bits) → settings.end_of_block ≡ true → 6 ≤ (eols_group3 settings here).0
-      → after_row settings (with_eols rows here) ≡ Turn.done (ends_well rows (eols_group3 settings here).1)
+  six_stop : (rows : List Row) (here : Bits) → settings.end_of_block ≡ true → 6 ≤ (eols_here settings here).0
+      → after_row settings (with_eols rows here) ≡ Turn.done (ends_well rows (eols_here settings here).1)
   six_stop rows here block six =
-      let found : ℕ × Bits = eols_group3 settings here in
+      let found : ℕ × Bits = eols_here settings here in
       let over : ((settings.end_of_block && (leb (eols_of_end settings.encoding) found.0)) || limit_met settings (length rows) || at_end found.1) ≡ true
       = or_left _ _ (or_left _ _ (and_from settings.end_of_block (leb (eols_of_end settings.encoding) found.0) block (many_eols settings.encoding found.0 six))) in
       counted_row rows here found refl (omega (arith, six))
@@ -331,9 +338,9 @@ module _ (settings : DecodeSettings) (wide : 0 < settings.columns) (small : sett
 
   -- and so does the limit
   limit_stops : (rows : List Row) (here : Bits) → limit_met settings (length rows) ≡ true
-      → after_row settings (with_eols rows here) ≡ Turn.done (ends_well rows (eols_group3 settings here).1)
+      → after_row settings (with_eols rows here) ≡ Turn.done (ends_well rows (eols_here settings here).1)
   limit_stops rows here met =
-      let found : ℕ × Bits = eols_group3 settings here in
+      let found : ℕ × Bits = eols_here settings here in
       let test : ((eqb found.0 0) && true && not (limit_met settings (length rows)) && not (at_end here)) ≡ false
       = and_left _ _ (and_right _ _ (not_from_true (limit_met settings (length rows)) met)) in
       let over : ((settings.end_of_block && (leb (eols_of_end settings.encoding) found.0)) || limit_met settings (length rows) || at_end found.1) ≡ true = or_left _ _ (or_right _ _ met) in
@@ -343,10 +350,8 @@ module _ (settings : DecodeSettings) (wide : 0 < settings.columns) (small : sett
       (ends_with (with_eols rows here) (Ok found.1)) (Turn.next (with_eols rows found.1)) over
 
   -- data of Group 3 are read as such
-  pub end_of_three : (encoding : EncodingMode) (bits : Bits) → Matches encoding settings → end_of settings bits ≡ plain_group3 settings bits
-  end_of_three Group4 bits matches = absurd matches
-  end_of_three Group3_1D bits matches = ap (λ (m : EncodingMode). end_by m settings bits) matches
-  end_of_three Group3_2D bits matches = ap (λ (m : EncodingMode). end_by m settings bits) matches
+  pub end_of_three : (encoding : EncodingMode) (bits : Bits) → Matches encoding settings → end_of settings bits ≡ ending_t4 settings bits
+  end_of_three encoding bits matches = ap (ending_behind settings) (first_gap_t4 settings bits (matches_t4 settings encoding matches))
 
   length-lines : (encoding : EncodingMode) (reference : Row) (rows : List Row) (bits : Bits) → EncodesRowsWithEols encoding reference rows bits → length rows ≤ length bits
   length-lines encoding reference [] bits lines = omega arith
@@ -368,11 +373,11 @@ module _ (settings : DecodeSettings) (wide : 0 < settings.columns) (small : sett
       let one : all_eols (eol fill ++ rest) ≡ (1, rest)
       = one_eol fill rest (line_t4_starts encoding (replicate settings.columns false) row line (next ++ tail) matches is row_len).no_eol in
       let late : Ending = record { rows = []; has_eols = true; outcome = Err UnexpectedEof } in
-      let started : plain_group3 settings (eol fill ++ rest) ≡ repeated (move_group3 settings) late (suc (suc (length rest))) (with_eols [] rest)
-      = ap (λ (f : ℕ × Bits). ending_from (move_group3 settings) (record { rows = []; has_eols = ltb 0 f.0 || settings.end_of_line; rest = f.1 })) one in
+      let started : ending_t4 settings (eol fill ++ rest) ≡ repeated (move_on settings) late (suc (suc (length rest))) (with_eols [] rest)
+      = ap (λ (f : ℕ × Bits). ending_from (move_on settings) (record { rows = []; has_eols = ltb 0 f.0 || settings.end_of_line; rest = f.1 })) one in
       let short : length rows < suc (suc (length rest))
       = omega (arith, length-lines encoding row rows next more, length-append line (next ++ tail), length-append next tail) in
-      end_of_three encoding (lines ++ tail) matches ∙ ap (plain_group3 settings) here ∙ started
+      end_of_three encoding (lines ++ tail) matches ∙ ap (ending_t4 settings) here ∙ started
       ∙ lines_t4_again encoding matches late tail last (row ∷ rows) allows stops [] row rows line next (suc (suc (length rest))) refl
       (length-replicate settings.columns false) is_picture.1 is more short
 
@@ -380,20 +385,20 @@ module _ (settings : DecodeSettings) (wide : 0 < settings.columns) (small : sett
   pub closed_t4_end : (encoding : EncodingMode) (rows : List Row) (lines closing more : Bits) → Matches encoding settings → settings.end_of_block ≡ true
       → 0 < length rows → IsPicture settings.columns rows → EncodesRowsWithEols encoding (replicate settings.columns false) rows lines
       → ClosesWithEols encoding 6 closing
-      → Allows settings (length rows) → end_of settings (lines ++ (closing ++ more)) ≡ ends_well rows (eols_group3 settings (closing ++ more)).1
+      → Allows settings (length rows) → end_of settings (lines ++ (closing ++ more)) ≡ ends_well rows (eols_here settings (closing ++ more)).1
   closed_t4_end encoding rows lines closing more matches block some is_picture are closed allows =
-      lines_t4_end encoding rows lines (closing ++ more) (eols_group3 settings (closing ++ more)).1 matches some is_picture are allows
+      lines_t4_end encoding rows lines (closing ++ more) (eols_here settings (closing ++ more)).1 matches some is_picture are allows
       (six_stop rows (closing ++ more) block (six_close settings encoding closing more matches closed))
 
   -- lines with EOLs are read as their rows, up to the limit
   pub limited_t4_end : (encoding : EncodingMode) (rows : List Row) (lines more : Bits) → Matches encoding settings → settings.rows ≡ length rows → 0 < length rows
       → IsPicture settings.columns rows → EncodesRowsWithEols encoding (replicate settings.columns false) rows lines
-      → end_of settings (lines ++ more) ≡ ends_well rows (eols_group3 settings more).1
+      → end_of settings (lines ++ more) ≡ ends_well rows (eols_here settings more).1
   limited_t4_end encoding rows lines more matches limit some is_picture are =
       let met : limit_met settings (length rows) ≡ true
       = and_from (not (eqb settings.rows 0)) (eqb settings.rows (length rows))
       (not_from_false (eqb settings.rows 0) (ne_eqb settings.rows 0 (λ e. absurd (omega arith)))) (eq-eqb settings.rows (length rows) limit) in
-      lines_t4_end encoding rows lines more (eols_group3 settings more).1 matches some is_picture are (inr (omega arith)) (limit_stops rows more met)
+      lines_t4_end encoding rows lines more (eols_here settings more).1 matches some is_picture are (inr (omega arith)) (limit_stops rows more met)
 
 -- ---- Over whole data.
 pub closed_picture_t4 : ReadsPictureT4
@@ -401,12 +406,12 @@ closed_picture_t4 settings rows bits behind stream are begins =
     let wide : 0 < settings.columns = begins.picture.0 in
     let closing : Bits = begins.closing.0 in
     let more : Bits = begins.closing.2.0 in
-    let found : Bits = (eols_group3 settings behind).1 in
+    let found : Bits = (eols_here settings behind).1 in
     let is : stream ≡ bits ++ (closing ++ more) = begins.begins ∙ ap (λ (x : Bits). bits ++ x) begins.closing.2.1 in
     let matches : Matches settings.encoding settings = matches_itself settings begins.encoding in
     let ends : end_of settings (bits ++ (closing ++ more)) ≡ ends_well rows found
     = closed_t4_end settings wide (omega (arith, are.columns)) settings.encoding rows bits closing more matches begins.end_of_block begins.some begins.picture
-    begins.lines begins.closing.1 begins.limit ∙ ap (λ (x : Bits). ends_well rows (eols_group3 settings x).1) (sym begins.closing.2.1) in
+    begins.lines begins.closing.1 begins.limit ∙ ap (λ (x : Bits). ends_well rows (eols_here settings x).1) (sym begins.closing.2.1) in
     plain_ends settings stream (ends_well rows found) found wide (ap (end_of settings) is ∙ ends) refl
 
 -- the law
@@ -414,7 +419,7 @@ pub limited_picture_t4 : ReadsLimitedPictureT4
 limited_picture_t4 settings rows bits stream are begins =
     let wide : 0 < settings.columns = begins.picture.0 in
     let more : Bits = begins.begins.0 in
-    let found : Bits = (eols_group3 settings more).1 in
+    let found : Bits = (eols_here settings more).1 in
     let ends = limited_t4_end settings wide (omega (arith, are.columns)) settings.encoding rows bits more (matches_itself settings begins.encoding)
     begins.limit begins.some begins.picture begins.lines in
     let e = plain_ends settings stream (ends_well rows found) found wide (ap (end_of settings) begins.begins.1 ∙ ends) refl in

@@ -1,5 +1,5 @@
 -- A limit of rows cuts what comes without one.
-use Rattle.std.proofs.Common.{◌≡◌, ℕ, suc, ◌-◌, ◌<◌, ◌≤◌, Bool, true, false, cond, not, ◌&&◌, ◌||◌, eqb, ltb, leb, List, [], ◌∷◌, ◌++◌, length, take}
+use Rattle.std.proofs.Common.{◌≡◌, ℕ, suc, ◌-◌, ◌<◌, ◌≤◌, Bool, true, false, cond, not, ◌&&◌, ◌||◌, eqb, leb, List, [], ◌∷◌, ◌++◌, length, take}
 use Rattle.std.proofs.Common.{replicate, Option, Some, None, Result, Ok, Err, refl, sym, ap, subst, ◌∙◌, arith, inl, inr}
 use Rattle.std.specs.Prelude.{IsOk}
 use Rattle.std.proofs.lemmas.List.{append-nil, length-append, take_all, take-append-le}
@@ -13,16 +13,14 @@ use Rattle.hayro_ccitt.specs.declared.settings.EncodingMode.TheVariants.{Group4,
 use Rattle.hayro_ccitt.specs.Bits.{Bits, IsPrefix}
 use Rattle.hayro_ccitt.specs.Repetition.{Turn, repeated}
 use Rattle.hayro_ccitt.specs.Rows.{Row}
-use Rattle.hayro_ccitt.specs.Lines.{Line, line_2d}
-use Rattle.hayro_ccitt.specs.EndOfLine.{eols, all_eols, next_eol}
-use Rattle.hayro_ccitt.specs.PlainReading.{eols_of_end, Progress, Ending, Move, row_before, aligned, ends_with, after_line_group4, move_group4}
-use Rattle.hayro_ccitt.specs.PlainReading.{limit_met, at_end, plain_group3, plain_group4, end_by, bytes_before, eols_group3, line_at_group3}
-use Rattle.hayro_ccitt.specs.PlainReading.{after_line_group3, move_group3}
+use Rattle.hayro_ccitt.specs.Lines.{Line}
+use Rattle.hayro_ccitt.specs.EndOfLine.{next_eol}
+use Rattle.hayro_ccitt.specs.PlainReading.{eols_of_end, Progress, Ending, Move, row_before, aligned, ends_with, limit_met, at_end, bytes_before, eols_here, line_here, after_line, move_on, at_front, first_gap, ending_from, ending_behind, end_of}
 use Rattle.hayro_ccitt.specs.Laws.{RowLimit}
 use Rattle.hayro_ccitt.proofs.Readings.Repeated.{Follows, after_turn, repeated_follows}
-use Rattle.hayro_ccitt.proofs.Readings.TurnsMoveOn.{left, move_group4_shrinks, left_group3, left_group3_below, move_group3_shrinks}
-use Rattle.hayro_ccitt.proofs.Readings.TurnsAddRows.{Adds, move_group4_adds, Keeps, after_row_keeps, move_group3_adds, repeated_adds, prefix_trans}
-use Rattle.hayro_ccitt.proofs.Readings.RowsAndGaps.{line_at_group4, unless_over, seek_from, after_row, move_group4-is, after_whole-is, after_damage-is}
+use Rattle.hayro_ccitt.proofs.Readings.TurnsMoveOn.{left_to_read, left_below, move_shrinks}
+use Rattle.hayro_ccitt.proofs.Readings.TurnsAddRows.{Keeps, after_row_keeps, move_adds, repeated_adds}
+use Rattle.hayro_ccitt.proofs.Readings.RowsAndGaps.{unless_over, seek_from, after_row, pass_gap-is, after_whole-is, after_damage-is}
 
 module _ (settings : DecodeSettings) (limit : ℕ) (some : 0 < limit) (wide : 0 < settings.columns) where
   -- the settings with the limit, and without one
@@ -40,10 +38,6 @@ module _ (settings : DecodeSettings) (limit : ℕ) (some : 0 < limit) (wide : 0 
   -- the rows are cut, and as many as the limit are no fault
   abbrev Cut : Ending → Ending → Type 0
   Cut r q = (r.rows ≡ take limit q.rows) × (length r.rows ≡ limit → IsOk r.outcome)
-
-  -- the same run, at most at the limit
-  abbrev SameGroup4 : Progress → Progress → Type 0
-  SameGroup4 s t = (s ≡ t) × (length s.rows ≤ limit)
 
   cut_rows : (rows more : List Row) → length rows ≡ limit → IsPrefix rows more → rows ≡ take limit more
   cut_rows rows more full front = sym (ap (take limit) front.1 ∙ ap (λ (n : ℕ). take n (rows ++ front.0)) (sym full)
@@ -88,7 +82,7 @@ module _ (settings : DecodeSettings) (limit : ℕ) (some : 0 < limit) (wide : 0 
 
     seek_from_open : (run : Progress) (o : Option Bits) → limit_met limited (length run.rows) ≡ false → seek_from limited run o ≡ seek_from unlimited run o
     seek_from_open run None e = refl
-    seek_from_open run (Some found) e = unless_over_open run (eols_group3 settings found) e
+    seek_from_open run (Some found) e = unless_over_open run (eols_here settings found) e
 
     after_row_open : (run : Progress) → limit_met limited (length run.rows) ≡ false → after_row limited run ≡ after_row unlimited run
     after_row_open run e = rw (e, seek_from_open run (next_eol run.rest) e) refl
@@ -98,27 +92,27 @@ module _ (settings : DecodeSettings) (limit : ℕ) (some : 0 < limit) (wide : 0 
       | inl lt ↦ rw (after_row_open run (is_open (length run.rows) lt)) (same_turn run.rows (after_row unlimited run) lt (after_row_keeps unlimited run))
       | inr ge ↦
           let full : length run.rows ≡ limit = omega arith in
-          let first : Bool = eqb (eols_group3 limited run.rest).0 0 && run.has_eols in
+          let first : Bool = eqb (eols_here limited run.rest).0 0 && run.has_eols in
           let none : ((first && not (limit_met limited (length run.rows))) && not (at_end run.rest)) ≡ false
           = and_left (first && not (limit_met limited (length run.rows))) (not (at_end run.rest))
           (and_right first (not (limit_met limited (length run.rows))) (not_from_true (limit_met limited (length run.rows)) (rw full is_met))) in
-          let over : after_row limited run ≡ unless_over limited run (eols_group3 limited run.rest)
+          let over : after_row limited run ≡ unless_over limited run (eols_here limited run.rest)
           = cond-false ((first && not (limit_met limited (length run.rows))) && not (at_end run.rest)) _ _ none in
-          rw over (cut_turn run (eols_group3 limited run.rest) (after_row unlimited run) full (after_row_keeps unlimited run))
+          rw over (cut_turn run (eols_here limited run.rest) (after_row unlimited run) full (after_row_keeps unlimited run))
     ]
 
     one_longer : (rows : List Row) (row : Row) → length rows < limit → length (rows ++ row ∷ []) ≤ limit
     one_longer rows row lt = omega (arith, length-append rows (row ∷ []))
 
-    after_line_group3_follows : (run : Progress) (line : Line) → length run.rows < limit
-        → Follows Same Cut rest (after_line_group3 limited run line) (after_line_group3 unlimited run line)
-    after_line_group3_follows run (Line.whole row here) lt =
+    after_line_follows : (run : Progress) (line : Line) → length run.rows < limit
+        → Follows Same Cut rest (after_line limited run line) (after_line unlimited run line)
+    after_line_follows run (Line.whole row here) lt =
         rw (after_whole-is limited run row here, after_whole-is unlimited run row here) (after_row_follows (record run {
           rows = run.rows ++ row ∷ [];
           rest =
               cond (settings.rows_are_byte_aligned && not run.has_eols) (aligned here) here;
         }) (one_longer run.rows row lt))
-    after_line_group3_follows run (Line.broken front fault) lt =
+    after_line_follows run (Line.broken front fault) lt =
         rw (after_damage-is limited run front fault, after_damage-is unlimited run front fault) (by (settings.strict || not run.has_eols))
       where
         more : Progress
@@ -133,87 +127,49 @@ module _ (settings : DecodeSettings) (limit : ℕ) (some : 0 < limit) (wide : 0 
         by true = short (record { rows = run.rows; has_eols = run.has_eols; outcome = Err fault }) lt
         by false = after_row_follows more (one_longer run.rows (front ++ replicate (settings.columns - length front) false) lt)
 
-    move_group3_follows : (s t : Progress) → Same s t → Follows Same Cut rest (move_group3 limited s) (move_group3 unlimited t)
-    move_group3_follows s t same = subst (λ (r : Progress). Follows Same Cut rest (move_group3 limited s) (move_group3 unlimited r)) same.0
-        (after_line_group3_follows s (line_at_group3 settings (row_before settings.columns s.rows) s.rest) same.1)
-
-    after_line_group4_follows : (run : Progress) (line : Line) → length run.rows < limit
-        → Follows SameGroup4 Cut rest (after_line_group4 limited run line) (after_line_group4 unlimited run line)
-    after_line_group4_follows run (Line.whole row here) lt = (refl, one_longer run.rows row lt)
-    after_line_group4_follows run (Line.broken front fault) lt = short (record { rows = run.rows; has_eols = run.has_eols; outcome = Err fault }) lt
-
-    turn_group4_extends : (rows : List Row) (m : Move) → Adds rows m → IsPrefix rows (after_turn rest m).rows
-    turn_group4_extends rows (Turn.next t) k = prefix_trans rows t.rows (rest t).rows k (extends t)
-    turn_group4_extends rows (Turn.done e) k = k
-
-    line_at_group4_follows : (run : Progress) (found : ℕ × Bits) → length run.rows ≤ limit → Adds run.rows (line_at_group4 unlimited run found)
-        → Follows SameGroup4 Cut rest (line_at_group4 limited run found) (line_at_group4 unlimited run found)
-    line_at_group4_follows run (count, here) le adds = elim (cases_lt (length run.rows) limit) [
-      | inl lt ↦ rw (is_open (length run.rows) lt) (by ((settings.end_of_block && eqb count 2) || false || at_end here) lt)
-      | inr ge ↦
-          let full : length run.rows ≡ limit = omega arith in
-          let over : (((settings.end_of_block && (eqb count 2)) || limit_met limited (length run.rows)) || at_end here) ≡ true
-          = or_left ((settings.end_of_block && (eqb count 2)) || limit_met limited (length run.rows)) (at_end here)
-          (or_right (settings.end_of_block && (eqb count 2)) (limit_met limited (length run.rows)) (rw full is_met)) in
-          let is_done : line_at_group4 limited run (count, here) ≡ ends_with run (Ok here)
-          = cond-true (((settings.end_of_block && (eqb count 2)) || limit_met limited (length run.rows)) || at_end here) _ _ over in
-          subst (λ (x : Move). Follows SameGroup4 Cut rest x (line_at_group4 unlimited run (count, here))) (sym is_done) (
-            cut_rows run.rows (after_turn rest (line_at_group4 unlimited run (count, here))).rows full
-                (turn_group4_extends run.rows (line_at_group4 unlimited run (count, here)) adds),
-            λ same. refl,
-          )
-    ]
-      where
-        line : Line
-        line = line_2d settings.strict settings.columns (row_before settings.columns run.rows) here
-
-        by : (b : Bool) → length run.rows < limit
-            → Follows SameGroup4 Cut rest (cond b (ends_with run (Ok here)) (after_line_group4 limited run line))
-            (cond b (ends_with run (Ok here)) (after_line_group4 unlimited run line))
-        by true lt = short (record { rows = run.rows; has_eols = run.has_eols; outcome = Ok here }) lt
-        by false lt = after_line_group4_follows run line lt
-
-    move_group4_follows : (s t : Progress) → SameGroup4 s t → Follows SameGroup4 Cut rest (move_group4 limited s) (move_group4 unlimited t)
-    move_group4_follows s t same = subst (λ (r : Progress). Follows SameGroup4 Cut rest (move_group4 limited s) (move_group4 unlimited r)) same.0
-        (rw (move_group4-is limited s, move_group4-is unlimited s)
-        (line_at_group4_follows s (cond settings.end_of_block (eols 2 s.rest) (all_eols s.rest)) same.1
-        (subst (Adds s.rows) (move_group4-is unlimited s) (move_group4_adds unlimited s))))
+    move_follows : (s t : Progress) → Same s t → Follows Same Cut rest (move_on limited s) (move_on unlimited t)
+    move_follows s t same = subst (λ (r : Progress). Follows Same Cut rest (move_on limited s) (move_on unlimited r)) same.0
+        (after_line_follows s (line_here settings (row_before settings.columns s.rows) s.rest) same.1)
 
   -- ---- The whole
-  cut_group3 : (n m : ℕ) (run : Progress) (late : Ending) → left_group3 run < n → left_group3 run < m → length run.rows < limit
-      → Cut (repeated (move_group3 limited) late n run) (repeated (move_group3 unlimited) late m run)
-  cut_group3 n m run late lt lt2 short =
-      repeated_follows (move_group3 limited) late left_group3 (move_group3_shrinks limited wide) (move_group3 unlimited) late left_group3
-      (move_group3_shrinks unlimited wide) Same Cut
-      (move_group3_follows (λ t. repeated (move_group3 unlimited) late (suc (left_group3 t)) t)
-      (λ t. repeated_adds (move_group3 unlimited) late left_group3 (move_group3_shrinks unlimited wide) (move_group3_adds unlimited)
-      (suc (left_group3 t)) t (omega arith)))
+  cut_from : (n m : ℕ) (run : Progress) (late : Ending) → left_to_read run < n → left_to_read run < m → length run.rows < limit
+      → Cut (repeated (move_on limited) late n run) (repeated (move_on unlimited) late m run)
+  cut_from n m run late lt lt2 short =
+      repeated_follows (move_on limited) late left_to_read (move_shrinks limited wide) (move_on unlimited) late left_to_read
+      (move_shrinks unlimited wide) Same Cut
+      (move_follows (λ t. repeated (move_on unlimited) late (suc (left_to_read t)) t)
+      (λ t. repeated_adds (move_on unlimited) late left_to_read (move_shrinks unlimited wide) (move_adds unlimited)
+      (suc (left_to_read t)) t (omega arith)))
       n m run run lt lt2 (refl, short)
 
-  cut_group4 : (n m : ℕ) (run : Progress) (late : Ending) → length run.rest < n → length run.rest < m → length run.rows ≤ limit
-      → Cut (repeated (move_group4 limited) late n run) (repeated (move_group4 unlimited) late m run)
-  cut_group4 n m run late lt lt2 short =
-      repeated_follows (move_group4 limited) late left (move_group4_shrinks limited wide) (move_group4 unlimited) late left
-      (move_group4_shrinks unlimited wide) SameGroup4 Cut
-      (move_group4_follows (λ t. repeated (move_group4 unlimited) late (suc (left t)) t)
-      (λ t. repeated_adds (move_group4 unlimited) late left (move_group4_shrinks unlimited wide) (move_group4_adds unlimited) (suc (left t)) t
-      (omega arith)))
-      n m run run lt lt2 (refl, short)
+  -- how the unlimited reading ends from a line on
+  abbrev unlimited_end : Progress → Ending
+  unlimited_end = ending_from (move_on unlimited)
 
-  cut_end_group3 : (bits : Bits) → Cut (plain_group3 limited bits) (plain_group3 unlimited bits)
-  cut_end_group3 bits =
-      let first : Progress = record { rows = []; has_eols = ltb 0 (all_eols bits).0 || settings.end_of_line; rest = (all_eols bits).1 } in
-      cut_group3 (suc (suc (length first.rest))) (suc (suc (length first.rest))) first
-      (record { rows = []; has_eols = first.has_eols; outcome = Err UnexpectedEof }) (left_group3_below first) (left_group3_below first) some
+  unlimited_extends : (t : Progress) → IsPrefix t.rows (unlimited_end t).rows
+  unlimited_extends t = repeated_adds (move_on unlimited) (record { rows = t.rows; has_eols = t.has_eols; outcome = Err UnexpectedEof }) left_to_read
+      (move_shrinks unlimited wide) (move_adds unlimited) (suc (suc (length t.rest))) t (left_below t)
 
-  cut_end_group4 : (bits : Bits) → Cut (plain_group4 limited bits) (plain_group4 unlimited bits)
-  cut_end_group4 bits = cut_group4 (suc (suc (length bits))) (suc (suc (length bits))) (record { rows = []; has_eols = false; rest = bits })
-      (record { rows = []; has_eols = false; outcome = Err UnexpectedEof }) (omega arith) (omega arith) (omega arith)
+  cut_line : (s t : Progress) → Same s t → Cut (ending_from (move_on limited) s) (unlimited_end t)
+  cut_line s t same = subst (λ (r : Progress). Cut (ending_from (move_on limited) s) (unlimited_end r)) same.0
+      (cut_from (suc (suc (length s.rest))) (suc (suc (length s.rest))) s
+      (record { rows = s.rows; has_eols = s.has_eols; outcome = Err UnexpectedEof }) (left_below s) (left_below s) same.1)
 
-  cut_end : (encoding : EncodingMode) (bits : Bits) → Cut (end_by encoding limited bits) (end_by encoding unlimited bits)
-  cut_end Group4 bits = cut_end_group4 bits
-  cut_end Group3_1D bits = cut_end_group3 bits
-  cut_end Group3_2D bits = cut_end_group3 bits
+  cut_behind : (gap other : Move) → Follows Same Cut unlimited_end gap other → Cut (ending_behind limited gap) (ending_behind unlimited other)
+  cut_behind (Turn.next s) (Turn.next t) same = cut_line s t same
+  cut_behind (Turn.next s) (Turn.done q) same = absurd same
+  cut_behind (Turn.done r) (Turn.next t) cuts = cuts
+  cut_behind (Turn.done r) (Turn.done q) cuts = cuts
+
+  first_gap_follows : (encoding : EncodingMode) (bits : Bits)
+      → Follows Same Cut unlimited_end (first_gap encoding limited bits) (first_gap encoding unlimited bits)
+  first_gap_follows Group4 bits = rw (pass_gap-is limited (at_front bits), pass_gap-is unlimited (at_front bits))
+      (after_row_follows unlimited_end unlimited_extends (at_front bits) (omega arith))
+  first_gap_follows Group3_1D bits = (refl, some)
+  first_gap_follows Group3_2D bits = (refl, some)
+
+  cut_end : (bits : Bits) → Cut (end_of limited bits) (end_of unlimited bits)
+  cut_end bits = cut_behind (first_gap settings.encoding limited bits) (first_gap settings.encoding unlimited bits) (first_gap_follows settings.encoding bits)
 
 ok_bytes : (bits : Bits) (r : Result Bits DecodeError) → IsOk r → IsOk (bytes_before bits r)
 ok_bytes bits (Ok rest) ok = refl
@@ -228,6 +184,6 @@ row_limit settings limit bits are some small = elim (cases_eq settings.columns 0
   | inr not_none ↦
       let wide : 0 < settings.columns = elim (cases_lt 0 settings.columns) [ inl lt ↦ lt | inr ge ↦ absurd (not_none (omega arith)) ] in
       let columns : eqb settings.columns 0 ≡ false = ne_eqb settings.columns 0 not_none in
-      let cut = cut_end settings limit some wide settings.encoding bits in
-      rw columns (cut.0, λ full. ok_bytes bits (end_by settings.encoding (record settings { rows = limit }) bits).outcome (cut.1 full))
+      let cut = cut_end settings limit some wide bits in
+      rw columns (cut.0, λ full. ok_bytes bits (end_of (record settings { rows = limit }) bits).outcome (cut.1 full))
 ]

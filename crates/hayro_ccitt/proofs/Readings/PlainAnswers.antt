@@ -9,7 +9,7 @@ use Rattle.hayro_ccitt.specs.Bits.{Bits}
 use Rattle.hayro_ccitt.specs.Context.{Held}
 use Rattle.hayro_ccitt.specs.Decoding.{SinkState, TakesRows, StopsShort}
 use Rattle.hayro_ccitt.specs.Lines.{Line}
-use Rattle.hayro_ccitt.specs.PlainReading.{Ending, Reading, plain, end_of, lines_of, lines_by, bytes_before, whole_reading}
+use Rattle.hayro_ccitt.specs.PlainReading.{Ending, Reading, plain, end_of, lines_of, gathered_of, line_of_turn, bytes_before, whole_reading}
 
 -- some columns are not none
 some_columns : (n : ℕ) → n ≢ 0 → eqb n 0 ≡ false
@@ -47,7 +47,7 @@ module _ {M : Type 0} (settings : DecodeSettings) (bits : Bits) (step : M → Li
     end = end_of settings bits
 
     abbrev lines : List Line
-    lines = lines_by settings.encoding settings bits
+    lines = gathered_of settings (line_of_turn settings) bits
 
     known : (answer : Result ℕ DecodeError) → Leaves (whole_reading bits end) lines step before after held answer → LeavesRows settings bits step before after held answer
     known answer leaves =
@@ -102,14 +102,14 @@ module _ {M : Type 0} (settings : DecodeSettings) (bits : Bits) (step : M → Li
 pub driver_left : {M : Type 0} (given settings : DecodeSettings) (read whole : Bits) (step : M → List ℕ → M) (before after : SinkState M) (held : Held) (answer : Result Bits DecodeError)
     → given ≡ settings → read ≡ whole
     → TakesRows (end_of given read).rows (end_of given read).outcome (end_of given read).has_eols step before after held answer
-    → StopsShort (end_of given read).rows (lines_by given.encoding given read) before after held answer
+    → StopsShort (end_of given read).rows (gathered_of given (line_of_turn given) read) before after held answer
     → TakesRows (end_of settings whole).rows (end_of settings whole).outcome (end_of settings whole).has_eols step before after held answer
-    × StopsShort (end_of settings whole).rows (lines_by settings.encoding settings whole) before after held answer
+    × StopsShort (end_of settings whole).rows (gathered_of settings (line_of_turn settings) whole) before after held answer
 driver_left given settings read whole step before after held answer same same_bits takes short =
     subst (λ (b : Bits). TakesRows (end_of settings b).rows (end_of settings b).outcome (end_of settings b).has_eols step before after held answer
-    × StopsShort (end_of settings b).rows (lines_by settings.encoding settings b) before after held answer) same_bits
+    × StopsShort (end_of settings b).rows (gathered_of settings (line_of_turn settings) b) before after held answer) same_bits
     (subst (λ (s : DecodeSettings). TakesRows (end_of s read).rows (end_of s read).outcome (end_of s read).has_eols step before after held answer
-    × StopsShort (end_of s read).rows (lines_by s.encoding s read) before after held answer) same (takes, short))
+    × StopsShort (end_of s read).rows (gathered_of s (line_of_turn s) read) before after held answer) same (takes, short))
 
 -- ---- What a driver left, as what `decode` leaves
 
@@ -120,7 +120,7 @@ module _ {M : Type 0} (given settings : DecodeSettings) (read whole : Bits) (sam
 
   -- where the driver failed
   pub left_badly : (error : DecodeError) → TakesRows (end_of given read).rows (end_of given read).outcome (end_of given read).has_eols step before after held (Err error)
-      → StopsShort {A = Bits} (end_of given read).rows (lines_by given.encoding given read) before after held (Err error) → LeavesRows settings whole step before after held (Err error)
+      → StopsShort {A = Bits} (end_of given read).rows (gathered_of given (line_of_turn given) read) before after held (Err error) → LeavesRows settings whole step before after held (Err error)
   left_badly error takes short =
       let left = driver_left given settings read whole step before after held (Err error) same same_bits takes short in
       decodes_badly settings whole step before after held columns error left.0 left.1
@@ -128,11 +128,11 @@ module _ {M : Type 0} (given settings : DecodeSettings) (read whole : Bits) (sam
   -- where it ended well at a place, and so many bytes lie before that
   pub left_well : (place : ℕ) (bits : Bits) (count : ℕ) → bits ≡ read → place ≤ length bits → (place + 7) / 8 ≡ count
       → TakesRows (end_of given read).rows (end_of given read).outcome (end_of given read).has_eols step before after held (Ok (drop place bits))
-      → StopsShort {A = Bits} (end_of given read).rows (lines_by given.encoding given read) before after held (Ok (drop place bits))
+      → StopsShort {A = Bits} (end_of given read).rows (gathered_of given (line_of_turn given) read) before after held (Ok (drop place bits))
       → LeavesRows settings whole step before after held (Ok count)
   left_well place bits count are within counted takes short =
       let left = driver_left given settings read whole step before after held (Ok (drop place bits)) same same_bits takes short in
       let moved = subst (λ (x : Bits). TakesRows (end_of settings whole).rows (end_of settings whole).outcome (end_of settings whole).has_eols step before after held (Ok (drop place x))
-      × StopsShort {A = Bits} (end_of settings whole).rows (lines_by settings.encoding settings whole) before after held (Ok (drop place x))) (are ∙ same_bits) left in
+      × StopsShort {A = Bits} (end_of settings whole).rows (gathered_of settings (line_of_turn settings) whole) before after held (Ok (drop place x))) (are ∙ same_bits) left in
       subst (λ (n : ℕ). LeavesRows settings whole step before after held (Ok n)) counted
       (decodes_well settings whole step before after held columns place (omega (arith, within, ap length (are ∙ same_bits))) moved.0 moved.1)

@@ -19,7 +19,7 @@ use Rattle.hayro_ccitt.specs.Repetition.{Turn, repeated, gathered}
 use Rattle.hayro_ccitt.specs.Rows.{Row, changes}
 use Rattle.hayro_ccitt.proofs.Readings.Gathered.{gathered_after, gathered_turn, gathered_same}
 use Rattle.hayro_ccitt.proofs.Readings.TurnsAddRows.{Adds, repeated_adds, prefix_trans}
-use Rattle.hayro_ccitt.proofs.EncodedPictures.PicturesT6.{row_before_push}
+use Rattle.hayro_ccitt.proofs.EncodedPictures.PictureLines.{row_before_push}
 use Rattle.hayro_ccitt.proofs.Readings.Repeated.{Shrinks, after_turn, repeated_turn, repeated_same}
 
 -- the element at an index begins what stands from there on

@@ -1,5 +1,5 @@
 -- What a strict run reads, a lenient run reads too.
-use Rattle.std.proofs.Common.{◌≡◌, ℕ, suc, ◌-◌, ◌<◌, Bool, true, false, cond, not, ◌&&◌, ◌||◌, eqb, ltb, leb, List, [], ◌∷◌, ◌++◌, length, replicate}
+use Rattle.std.proofs.Common.{◌≡◌, ℕ, suc, ◌-◌, ◌<◌, Bool, true, false, cond, not, ◌&&◌, eqb, ltb, leb, List, [], ◌∷◌, ◌++◌, length, replicate}
 use Rattle.std.proofs.Common.{min, Result, Ok, Err, refl, sym, ap, subst, ◌∙◌, arith, inl, inr}
 use Rattle.std.specs.Prelude.{IsOk, pos, ◌+ℤ◌}
 use Rattle.std.proofs.lemmas.List.{append-nil}
@@ -21,16 +21,14 @@ use Rattle.hayro_ccitt.specs.Runs.{run_from}
 use Rattle.hayro_ccitt.specs.Lines.{Line, Pen, start, line_1d, line_2d, place_from}
 use Rattle.hayro_ccitt.proofs.DrawingLines.Drawings.{try, run_then, mode_step, step_unless_full, step_1d, step_2d, step_1d_is, step_2d_is, horizontal_is}
 use Rattle.hayro_ccitt.specs.Answers.{Step}
-use Rattle.hayro_ccitt.specs.EndOfLine.{eols, all_eols, next_eol}
-use Rattle.hayro_ccitt.specs.PlainReading.{Progress, Ending, Move, row_before, aligned, ends_with, after_line_group4, move_group4, whole_reading}
-use Rattle.hayro_ccitt.specs.PlainReading.{limit_met, at_end, plain_group3, plain_group4, end_by, bytes_before, eols_group3, line_by}
-use Rattle.hayro_ccitt.specs.PlainReading.{after_line_group3, move_group3}
+use Rattle.hayro_ccitt.specs.EndOfLine.{next_eol}
+use Rattle.hayro_ccitt.specs.PlainReading.{Progress, Ending, Move, row_before, aligned, ends_with, whole_reading, limit_met, at_end, bytes_before, eols_here, line_by, after_line, move_on, at_front, first_gap, ending_from, ending_behind, end_of}
 use Rattle.hayro_ccitt.specs.Laws.{StrictThenLenient}
 use Rattle.hayro_ccitt.proofs.Readings.Repeated.{Follows, after_turn, repeated_follows}
 use Rattle.hayro_ccitt.proofs.DrawingLines.ReadLines.{left as pen_left, step_1d_shrinks, step_2d_shrinks}
-use Rattle.hayro_ccitt.proofs.Readings.TurnsMoveOn.{left, move_group4_shrinks, left_group3, left_group3_below, move_group3_shrinks}
-use Rattle.hayro_ccitt.proofs.Readings.TurnsAddRows.{Keeps, Adds, seek_from_keeps, after_line_group4_adds, move_group3_adds, move_group4_adds, repeated_adds, prefix_trans}
-use Rattle.hayro_ccitt.proofs.Readings.RowsAndGaps.{line_at_group4, unless_over, seek_from, after_row, move_group4-is, after_whole-is}
+use Rattle.hayro_ccitt.proofs.Readings.TurnsMoveOn.{left_to_read, left_below, move_shrinks}
+use Rattle.hayro_ccitt.proofs.Readings.TurnsAddRows.{Keeps, Adds, seek_from_keeps, move_adds, repeated_adds, prefix_trans}
+use Rattle.hayro_ccitt.proofs.Readings.RowsAndGaps.{unless_over, seek_from, after_row, pass_gap-is, after_whole-is}
 
 -- ---- Lines
 
@@ -176,82 +174,67 @@ module _ (settings : DecodeSettings) (wide : 0 < settings.columns) where
     same_turn (Turn.done e) = (([], sym (append-nil e.rows)), λ ok. refl)
 
     after_row_follows : (run : Progress) → Follows SameRun Precedes rest (after_row strictly run) (after_row leniently run)
-    after_row_follows run = by ((((eqb (eols_group3 settings run.rest).0 0) && run.has_eols) && not (limit_met settings (length run.rows))) && not
+    after_row_follows run = by ((((eqb (eols_here settings run.rest).0 0) && run.has_eols) && not (limit_met settings (length run.rows))) && not
         (at_end run.rest))
       where
         by : (b : Bool) → Follows SameRun Precedes rest
-            (cond b (ends_with run (Err InvalidCode)) (unless_over strictly run (eols_group3 settings run.rest)))
-            (cond b (seek_from leniently run (next_eol run.rest)) (unless_over leniently run (eols_group3 settings run.rest)))
+            (cond b (ends_with run (Err InvalidCode)) (unless_over strictly run (eols_here settings run.rest)))
+            (cond b (seek_from leniently run (next_eol run.rest)) (unless_over leniently run (eols_here settings run.rest)))
         by true = (
           keeps_extends run.rows (seek_from leniently run (next_eol run.rest))
               (seek_from_keeps leniently run (next_eol run.rest)),
           λ ok. absurd (false≢true ok),
         )
-        by false = same_turn (unless_over leniently run (eols_group3 settings run.rest))
+        by false = same_turn (unless_over leniently run (eols_here settings run.rest))
 
-    after_line_group3_follows : (run : Progress) (line other : Line) → Agrees line other → Adds run.rows (after_line_group3 leniently run other)
-        → Follows SameRun Precedes rest (after_line_group3 strictly run line) (after_line_group3 leniently run other)
-    after_line_group3_follows run (Line.whole row here) other agrees adds =
+    after_line_follows : (run : Progress) (line other : Line) → Agrees line other → Adds run.rows (after_line leniently run other)
+        → Follows SameRun Precedes rest (after_line strictly run line) (after_line leniently run other)
+    after_line_follows run (Line.whole row here) other agrees adds =
         rw (agrees, after_whole-is strictly run row here, after_whole-is leniently run row here) (after_row_follows (record run
         { rows = run.rows ++ row ∷ []; rest = cond (settings.rows_are_byte_aligned && not run.has_eols) (aligned here) here }))
-    after_line_group3_follows run (Line.broken front fault) other agrees adds =
-        (turn_extends run.rows (after_line_group3 leniently run other) adds, λ ok. absurd (false≢true ok))
+    after_line_follows run (Line.broken front fault) other agrees adds =
+        (turn_extends run.rows (after_line leniently run other) adds, λ ok. absurd (false≢true ok))
 
-    move_group3_follows : (s t : Progress) → SameRun s t → Follows SameRun Precedes rest (move_group3 strictly s) (move_group3 leniently t)
-    move_group3_follows s t same = subst (λ (r : Progress). Follows SameRun Precedes rest (move_group3 strictly s) (move_group3 leniently r)) same
-        (after_line_group3_follows s _ _ (line_by_agrees settings.encoding settings.columns (row_before settings.columns s.rows) s.rest)
-        (move_group3_adds leniently s))
+    move_follows : (s t : Progress) → SameRun s t → Follows SameRun Precedes rest (move_on strictly s) (move_on leniently t)
+    move_follows s t same = subst (λ (r : Progress). Follows SameRun Precedes rest (move_on strictly s) (move_on leniently r)) same
+        (after_line_follows s _ _ (line_by_agrees settings.encoding settings.columns (row_before settings.columns s.rows) s.rest)
+        (move_adds leniently s))
 
-    after_line_group4_follows : (run : Progress) (line other : Line) → Agrees line other → Adds run.rows (after_line_group4 leniently run other)
-        → Follows SameRun Precedes rest (after_line_group4 strictly run line) (after_line_group4 leniently run other)
-    after_line_group4_follows run (Line.whole row here) other agrees adds = rw agrees refl
-    after_line_group4_follows run (Line.broken front fault) other agrees adds =
-        (turn_extends run.rows (after_line_group4 leniently run other) adds, λ ok. absurd (false≢true ok))
+  -- how the lenient reading ends from a line on
+  abbrev lenient_end : Progress → Ending
+  lenient_end = ending_from (move_on leniently)
 
-    line_at_group4_follows : (run : Progress) (found : ℕ × Bits)
-        → Follows SameRun Precedes rest (line_at_group4 strictly run found) (line_at_group4 leniently run found)
-    line_at_group4_follows run (count, here) = by (((settings.end_of_block && (eqb count 2)) || limit_met settings (length run.rows)) || at_end here)
-      where
-        line : Bool → Line
-        line strict = line_2d strict settings.columns (row_before settings.columns run.rows) here
+  lenient_extends : (t : Progress) → IsPrefix t.rows (lenient_end t).rows
+  lenient_extends t = repeated_adds (move_on leniently) (record { rows = t.rows; has_eols = t.has_eols; outcome = Err UnexpectedEof }) left_to_read
+      (move_shrinks leniently wide) (move_adds leniently) (suc (suc (length t.rest))) t (left_below t)
 
-        by : (b : Bool) → Follows SameRun Precedes rest (cond b (ends_with run (Ok here)) (after_line_group4 strictly run (line true)))
-            (cond b (ends_with run (Ok here)) (after_line_group4 leniently run (line false)))
-        by true = same_turn (ends_with run (Ok here))
-        by false = after_line_group4_follows run (line true) (line false)
-            (line_2d_agrees settings.columns (row_before settings.columns run.rows) here) (after_line_group4_adds leniently run (line false))
+  precedes_line : (s t : Progress) → SameRun s t → Precedes (ending_from (move_on strictly) s) (lenient_end t)
+  precedes_line s t same = subst (λ (r : Progress). Precedes (ending_from (move_on strictly) s) (lenient_end r)) same
+      (repeated_follows (move_on strictly) late left_to_read (move_shrinks strictly wide) (move_on leniently) late left_to_read
+      (move_shrinks leniently wide) SameRun Precedes
+      (move_follows (λ t. repeated (move_on leniently) late (suc (left_to_read t)) t)
+      (λ t. repeated_adds (move_on leniently) late left_to_read (move_shrinks leniently wide) (move_adds leniently)
+      (suc (left_to_read t)) t (omega arith)))
+      (suc (suc (length s.rest))) (suc (suc (length s.rest))) s s (left_below s) (left_below s) refl)
+    where
+      late : Ending
+      late = record { rows = s.rows; has_eols = s.has_eols; outcome = Err UnexpectedEof }
 
-    move_group4_follows : (s t : Progress) → SameRun s t → Follows SameRun Precedes rest (move_group4 strictly s) (move_group4 leniently t)
-    move_group4_follows s t same = subst (λ (r : Progress). Follows SameRun Precedes rest (move_group4 strictly s) (move_group4 leniently r)) same
-        (rw (move_group4-is strictly s, move_group4-is leniently s)
-        (line_at_group4_follows s (cond settings.end_of_block (eols 2 s.rest) (all_eols s.rest))))
+  precedes_behind : (gap other : Move) → Follows SameRun Precedes lenient_end gap other → Precedes (ending_behind strictly gap) (ending_behind leniently other)
+  precedes_behind (Turn.next s) (Turn.next t) same = precedes_line s t same
+  precedes_behind (Turn.next s) (Turn.done q) same = absurd same
+  precedes_behind (Turn.done r) (Turn.next t) precedes = precedes
+  precedes_behind (Turn.done r) (Turn.done q) precedes = precedes
 
-  precedes_group3 : (bits : Bits) → Precedes (plain_group3 strictly bits) (plain_group3 leniently bits)
-  precedes_group3 bits =
-      let first : Progress = record { rows = []; has_eols = ltb 0 (all_eols bits).0 || settings.end_of_line; rest = (all_eols bits).1 } in
-      let late : Ending = record { rows = []; has_eols = first.has_eols; outcome = Err UnexpectedEof } in
-      repeated_follows (move_group3 strictly) late left_group3 (move_group3_shrinks strictly wide) (move_group3 leniently) late left_group3
-      (move_group3_shrinks leniently wide) SameRun Precedes
-      (move_group3_follows (λ t. repeated (move_group3 leniently) late (suc (left_group3 t)) t)
-      (λ t. repeated_adds (move_group3 leniently) late left_group3 (move_group3_shrinks leniently wide) (move_group3_adds leniently)
-      (suc (left_group3 t)) t (omega arith)))
-      (suc (suc (length first.rest))) (suc (suc (length first.rest))) first first (left_group3_below first) (left_group3_below first) refl
+  first_gap_follows : (encoding : EncodingMode) (bits : Bits)
+      → Follows SameRun Precedes lenient_end (first_gap encoding strictly bits) (first_gap encoding leniently bits)
+  first_gap_follows Group4 bits = rw (pass_gap-is strictly (at_front bits), pass_gap-is leniently (at_front bits))
+      (after_row_follows lenient_end lenient_extends (at_front bits))
+  first_gap_follows Group3_1D bits = refl
+  first_gap_follows Group3_2D bits = refl
 
-  precedes_group4 : (bits : Bits) → Precedes (plain_group4 strictly bits) (plain_group4 leniently bits)
-  precedes_group4 bits =
-      let first : Progress = record { rows = []; has_eols = false; rest = bits } in
-      let late : Ending = record { rows = []; has_eols = false; outcome = Err UnexpectedEof } in
-      repeated_follows (move_group4 strictly) late left (move_group4_shrinks strictly wide) (move_group4 leniently) late left
-      (move_group4_shrinks leniently wide) SameRun Precedes
-      (move_group4_follows (λ t. repeated (move_group4 leniently) late (suc (left t)) t)
-      (λ t. repeated_adds (move_group4 leniently) late left (move_group4_shrinks leniently wide) (move_group4_adds leniently) (suc (left t)) t
-      (omega arith)))
-      (suc (suc (length first.rest))) (suc (suc (length first.rest))) first first (omega arith) (omega arith) refl
-
-  precedes : (encoding : EncodingMode) (bits : Bits) → Precedes (end_by encoding strictly bits) (end_by encoding leniently bits)
-  precedes Group4 bits = precedes_group4 bits
-  precedes Group3_1D bits = precedes_group3 bits
-  precedes Group3_2D bits = precedes_group3 bits
+  precedes : (bits : Bits) → Precedes (end_of strictly bits) (end_of leniently bits)
+  precedes bits = precedes_behind (first_gap settings.encoding strictly bits) (first_gap settings.encoding leniently bits) (first_gap_follows settings.encoding bits)
 
 ok_outcome : (bits : Bits) (r : Result Bits DecodeError) → IsOk (bytes_before bits r) → IsOk r
 ok_outcome bits (Ok rest) ok = refl
@@ -266,10 +249,10 @@ strict_then_lenient settings bits are = elim (cases_eq settings.columns 0) [
   | inr not_none ↦
       let wide : 0 < settings.columns = elim (cases_lt 0 settings.columns) [ inl lt ↦ lt | inr ge ↦ absurd (not_none (omega arith)) ] in
       let columns : eqb settings.columns 0 ≡ false = ne_eqb settings.columns 0 not_none in
-      let both = precedes settings wide settings.encoding bits in
+      let both = precedes settings wide bits in
       rw columns (
         both.0,
         λ ok. ap (whole_reading bits)
-            (both.1 (ok_outcome bits (end_by settings.encoding (record settings { strict = true }) bits).outcome ok)),
+            (both.1 (ok_outcome bits (end_of (record settings { strict = true }) bits).outcome ok)),
       )
 ]

@@ -7,13 +7,15 @@ use Rattle.hayro_ccitt.specs.declared.settings.DecodeSettings.{DecodeSettings}
 use Rattle.hayro_ccitt.specs.Bits.{Bits, IsPrefix}
 use Rattle.hayro_ccitt.specs.Repetition.{Turn, repeated}
 use Rattle.hayro_ccitt.specs.Rows.{Row}
-use Rattle.hayro_ccitt.specs.Lines.{Line, line_2d}
-use Rattle.hayro_ccitt.specs.EndOfLine.{eols, all_eols, next_eol}
-use Rattle.hayro_ccitt.specs.PlainReading.{eols_of_end, Progress, Ending, Move, row_before, aligned, ends_with, after_line_group4, move_group4}
-use Rattle.hayro_ccitt.specs.PlainReading.{limit_met, at_end, eols_group3, line_at_group3}
-use Rattle.hayro_ccitt.specs.PlainReading.{after_line_group3, move_group3}
+use Rattle.hayro_ccitt.specs.Lines.{Line}
+use Rattle.hayro_ccitt.specs.EndOfLine.{next_eol}
+use Rattle.hayro_ccitt.specs.PlainReading.{eols_of_end, Progress, Ending, Move, row_before, aligned, ends_with}
+use Rattle.hayro_ccitt.specs.PlainReading.{limit_met, at_end, eols_here, line_here}
+use Rattle.hayro_ccitt.specs.PlainReading.{after_line, move_on, at_front, first_gap}
+use Rattle.hayro_ccitt.specs.declared.settings.EncodingMode.{EncodingMode}
+use Rattle.hayro_ccitt.specs.declared.settings.EncodingMode.TheVariants.{Group4, Group3_1D, Group3_2D}
 use Rattle.hayro_ccitt.proofs.Readings.Repeated.{Shrinks, repeated_induct}
-use Rattle.hayro_ccitt.proofs.Readings.RowsAndGaps.{line_at_group4, unless_over, seek_from, seek_eol, after_row, add_row, move_group4-is, after_whole-is, after_damage-is}
+use Rattle.hayro_ccitt.proofs.Readings.RowsAndGaps.{unless_over, seek_from, seek_eol, after_row, row_added, pass_gap-is, after_whole-is, after_damage-is}
 
 -- a turn that leaves the rows as they are
 abbrev pub Keeps : List Row → Move → Type 0
@@ -33,16 +35,22 @@ unless_over_keeps settings run (count, rest) =
 -- and where an EOL is looked for
 pub seek_from_keeps : (settings : DecodeSettings) (run : Progress) (o : Option Bits) → Keeps run.rows (seek_from settings run o)
 seek_from_keeps settings run None = refl
-seek_from_keeps settings run (Some found) = unless_over_keeps settings run (eols_group3 settings found)
+seek_from_keeps settings run (Some found) = unless_over_keeps settings run (eols_here settings found)
 
 -- and after a row
 pub after_row_keeps : (settings : DecodeSettings) (run : Progress) → Keeps run.rows (after_row settings run)
 after_row_keeps settings run =
-    keeps_cond run.rows ((((eqb (eols_group3 settings run.rest).0 0) && run.has_eols) && not (limit_met settings (length run.rows))) && not
-    (at_end run.rest)) (seek_eol settings run) (unless_over settings run (eols_group3 settings run.rest))
+    keeps_cond run.rows ((((eqb (eols_here settings run.rest).0 0) && run.has_eols) && not (limit_met settings (length run.rows))) && not
+    (at_end run.rest)) (seek_eol settings run) (unless_over settings run (eols_here settings run.rest))
     (keeps_cond run.rows settings.strict (ends_with run (Err InvalidCode)) (seek_from settings run (next_eol run.rest)) refl
     (seek_from_keeps settings run (next_eol run.rest)))
-    (unless_over_keeps settings run (eols_group3 settings run.rest))
+    (unless_over_keeps settings run (eols_here settings run.rest))
+
+-- the first gap leaves no rows
+pub first_gap_keeps : (settings : DecodeSettings) (encoding : EncodingMode) (bits : Bits) → Keeps [] (first_gap encoding settings bits)
+first_gap_keeps settings Group4 bits = subst (Keeps []) (sym (pass_gap-is settings (at_front bits))) (after_row_keeps settings (at_front bits))
+first_gap_keeps settings Group3_1D bits = refl
+first_gap_keeps settings Group3_2D bits = refl
 
 -- a turn that adds rows, or none
 abbrev pub Adds : List Row → Move → Type 0
@@ -57,34 +65,19 @@ pub keeps_adds : (rows more : List Row) (m : Move) → Keeps (rows ++ more) m �
 keeps_adds rows more (Turn.next t) k = (more, k)
 keeps_adds rows more (Turn.done e) k = (more, k)
 
-after_line_group3_adds : (settings : DecodeSettings) (run : Progress) (line : Line) → Adds run.rows (after_line_group3 settings run line)
-after_line_group3_adds settings run (Line.whole row rest) =
+after_line_adds : (settings : DecodeSettings) (run : Progress) (line : Line) → Adds run.rows (after_line settings run line)
+after_line_adds settings run (Line.whole row rest) =
     subst (Adds run.rows) (sym (after_whole-is settings run row rest)) (keeps_adds run.rows (row ∷ []) _ (after_row_keeps settings
     (record run { rows = run.rows ++ row ∷ []; rest = cond (settings.rows_are_byte_aligned && not run.has_eols) (aligned rest) rest })))
-after_line_group3_adds settings run (Line.broken front fault) =
+after_line_adds settings run (Line.broken front fault) =
     let row : Row = front ++ replicate (settings.columns - length front) false in
-    subst (Adds run.rows) (sym (after_damage-is settings run front fault)) (adds_cond run.rows (settings.strict || not run.has_eols) (ends_with run (Err fault)) (add_row settings run row run.rest) ([], sym (append-nil run.rows))
+    subst (Adds run.rows) (sym (after_damage-is settings run front fault)) (adds_cond run.rows (settings.strict || not run.has_eols) (ends_with run (Err fault)) (row_added settings run row run.rest) ([], sym (append-nil run.rows))
     (keeps_adds run.rows (row ∷ []) _ (after_row_keeps settings
     (record run { rows = run.rows ++ row ∷ []; rest = cond (settings.rows_are_byte_aligned && not run.has_eols) (aligned run.rest) run.rest }))))
 
--- a turn of Group 3 adds a row
-pub move_group3_adds : (settings : DecodeSettings) (run : Progress) → Adds run.rows (move_group3 settings run)
-move_group3_adds settings run = after_line_group3_adds settings run (line_at_group3 settings (row_before settings.columns run.rows) run.rest)
-
--- a line of Group 4 adds its row
-pub after_line_group4_adds : (settings : DecodeSettings) (run : Progress) (line : Line) → Adds run.rows (after_line_group4 settings run line)
-after_line_group4_adds settings run (Line.whole row rest) = (row ∷ [], refl)
-after_line_group4_adds settings run (Line.broken front fault) = ([], sym (append-nil run.rows))
-
-line_at_group4_adds : (settings : DecodeSettings) (run : Progress) (found : ℕ × Bits) → Adds run.rows (line_at_group4 settings run found)
-line_at_group4_adds settings run (count, rest) =
-    let line : Line = line_2d settings.strict settings.columns (row_before settings.columns run.rows) rest in
-    adds_cond run.rows (((settings.end_of_block && (eqb count 2)) || limit_met settings (length run.rows)) || at_end rest) (ends_with run (Ok rest))
-    (after_line_group4 settings run line) ([], sym (append-nil run.rows)) (after_line_group4_adds settings run line)
-
--- a turn of Group 4 adds a row, or ends
-pub move_group4_adds : (settings : DecodeSettings) (run : Progress) → Adds run.rows (move_group4 settings run)
-move_group4_adds settings run = subst (Adds run.rows) (sym (move_group4-is settings run)) (line_at_group4_adds settings run (cond settings.end_of_block (eols 2 run.rest) (all_eols run.rest)))
+-- a turn adds a row, or ends
+pub move_adds : (settings : DecodeSettings) (run : Progress) → Adds run.rows (move_on settings run)
+move_adds settings run = after_line_adds settings run (line_here settings (row_before settings.columns run.rows) run.rest)
 
 -- a front of a front is a front
 pub prefix_trans : {A : Type 0} (a b c : List A) → IsPrefix a b → IsPrefix b c → IsPrefix a c

@@ -13,11 +13,11 @@ use Rattle.hayro_ccitt.specs.declared.settings.EncodingMode.TheVariants.{Group4,
 use Rattle.hayro_ccitt.specs.declared.error.DecodeError.TheVariants.{InvalidCode}
 use Rattle.hayro_ccitt.specs.Lines.{Line, line_1d, line_2d}
 use Rattle.hayro_ccitt.specs.EndOfLine.{after_eol, one_more, eols, all_eols, next_eol, past_tag, eols_with_tags, pass_last_tag, tagged_eols}
-use Rattle.hayro_ccitt.specs.PlainReading.{eols_of_end, Progress, Ending, Move, row_before, aligned, ends_with, after_line_group4, move_group4, limit_met, at_end, line_by, eols_by, eols_group3, line_at_group3, after_line_group3, move_group3}
+use Rattle.hayro_ccitt.specs.PlainReading.{eols_of_end, Progress, Ending, Move, row_before, aligned, ends_with, limit_met, at_end, line_by, eols_by, eols_here, line_here, after_line, move_on}
 use Rattle.hayro_ccitt.proofs.Readings.Repeated.{Shrinks}
 use Rattle.hayro_ccitt.proofs.CodeWords.ReadRuns.{chosen}
 use Rattle.hayro_ccitt.proofs.DrawingLines.ReadLines.{TookBits, line_1d_took_bits, line_2d_took_bits}
-use Rattle.hayro_ccitt.proofs.Readings.RowsAndGaps.{line_at_group4, unless_over, seek_from, seek_eol, after_row, move_group4-is, after_whole-is, after_damage-is}
+use Rattle.hayro_ccitt.proofs.Readings.RowsAndGaps.{unless_over, seek_from, seek_eol, after_row, after_whole-is, after_damage-is}
 
 -- enough zeros and a one are an EOL
 pub eol_of : (seen k : ℕ) (rest : Bits) → 11 ≤ seen + k → after_eol seen (replicate k false ++ true ∷ rest) ≡ Some rest
@@ -48,10 +48,6 @@ eols_shorter (suc most) here =
     ] in
     by (after_eol 0 here) refl
 
--- the bits that are left
-abbrev pub left : Progress → ℕ
-left run = length run.rest
-
 -- states of equal turns are equal
 pub next_is : (s t : Progress) → ◌≡◌ {A = Move} (Turn.next s) (Turn.next t) → s ≡ t
 next_is s t e = cc
@@ -69,36 +65,6 @@ unless_next false run outcome on t e = e
 pub cond_le : (b : Bool) (x y : Bits) (n : ℕ) → length x ≤ n → length y ≤ n → length (cond b x y) ≤ n
 cond_le true x y n p q = p
 cond_le false x y n p q = q
-
-after_line_group4_next : (settings : DecodeSettings) (run t : Progress) (n : ℕ) (line : Line) → TookBits n line
-    → after_line_group4 settings run line ≡ Turn.next t → left t < n
-after_line_group4_next settings run t n (Line.broken front fault) took e = absurd (not_next _ t e)
-after_line_group4_next settings run t n (Line.whole row rest) took e =
-    let shorter : length (cond settings.rows_are_byte_aligned (aligned rest) rest) ≤ length rest
-    = cond_le settings.rows_are_byte_aligned (aligned rest) rest (length rest) (omega (arith, length-drop (length rest % 8) rest)) (omega arith) in
-    subst (λ (r : Progress). left r < n) (next_is _ t e) (omega (arith, shorter, took))
-
--- a turn of Group 4 leaves fewer bits
-pub move_group4_shrinks : (settings : DecodeSettings) → 0 < settings.columns → Shrinks (move_group4 settings) left
-move_group4_shrinks settings wide run t e = by_eols (cond settings.end_of_block (eols 2 run.rest) (all_eols run.rest)) at_most (sym (move_group4-is settings run) ∙ e)
-  where
-    at_most : length (cond settings.end_of_block (eols 2 run.rest) (all_eols run.rest)).1 ≤ length run.rest
-    at_most = by settings.end_of_block
-      where
-        by : (b : Bool) → length (cond b (eols 2 run.rest) (all_eols run.rest)).1 ≤ length run.rest
-        by true = eols_shorter 2 run.rest
-        by false = eols_shorter (length run.rest) run.rest
-
-    by_eols : (found : ℕ × Bits) → length found.1 ≤ length run.rest → line_at_group4 settings run found ≡ Turn.next t → left t < left run
-    by_eols (count, rest) le k =
-        let line : Line = line_2d settings.strict settings.columns (row_before settings.columns run.rows) rest in
-        let over : Bool = ((settings.end_of_block && (eqb count 2)) || limit_met settings (length run.rows)) || at_end rest in
-        let on = unless_next over run (Ok rest) (after_line_group4 settings run line) t k in
-        let f = after_line_group4_next settings run t (length rest) line
-        (line_2d_took_bits settings.strict settings.columns (row_before settings.columns run.rows) rest wide) on in
-        omega (arith, f, le)
-
--- ---- Group 3
 
 -- one more EOL
 pub one_more-count : (found : ℕ × Bits) → (one_more found).0 ≡ suc found.0
@@ -221,8 +187,8 @@ tagged_eols_counted here =
     )
 
 -- so many EOLs took bits
-pub eols_group3_counted : (settings : DecodeSettings) (here : Bits) → Counted here (eols_group3 settings here)
-eols_group3_counted settings here = by settings.encoding settings.end_of_block
+pub eols_here_counted : (settings : DecodeSettings) (here : Bits) → Counted here (eols_here settings here)
+eols_here_counted settings here = by settings.encoding settings.end_of_block
   where
     by : (encoding : EncodingMode) (block : Bool) → Counted here (eols_by encoding block here)
     by Group3_1D block = all_counted here
@@ -237,8 +203,8 @@ tagged_eols_some_counts (bit ∷ here) rest e =
     rw (eols_with_tags-some (length here) (bit ∷ here) rest e) (omega (arith, last_tag_count (one_more found), one_more-count found))
 
 -- where an EOL stands, one is counted
-pub eols_group3_some : (settings : DecodeSettings) (here rest : Bits) → after_eol 0 here ≡ Some rest → 0 < (eols_group3 settings here).0
-eols_group3_some settings here rest e = by settings.encoding settings.end_of_block
+pub eols_here_some : (settings : DecodeSettings) (here rest : Bits) → after_eol 0 here ≡ Some rest → 0 < (eols_here settings here).0
+eols_here_some settings here rest e = by settings.encoding settings.end_of_block
   where
     by : (encoding : EncodingMode) (block : Bool) → 0 < (eols_by encoding block here).0
     by Group3_1D block = eols_some_counts here rest e
@@ -247,8 +213,8 @@ eols_group3_some settings here rest e = by settings.encoding settings.end_of_blo
     by Group4 false = eols_some_counts here rest e
 
 -- what is left of a run: its bits, and the EOLs that may be given up once
-abbrev pub left_group3 : Progress → ℕ
-left_group3 run = cond run.has_eols (suc (length run.rest)) (length run.rest)
+abbrev pub left_to_read : Progress → ℕ
+left_to_read run = cond run.has_eols (suc (length run.rest)) (length run.rest)
 
 -- where the reading goes on, it does so behind the EOLs
 pub unless_over_next : (settings : DecodeSettings) (run t : Progress) (found : ℕ × Bits) → unless_over settings run found ≡ Turn.next t
@@ -274,16 +240,16 @@ not_at_end [] e = refl
 not_at_end (b ∷ rest) e = absurd (false≢true e)
 
 seek_left : (settings : DecodeSettings) (run t : Progress) (o : Option Bits) → run.has_eols ≡ true → next_eol run.rest ≡ o
-    → seek_from settings run o ≡ Turn.next t → left_group3 t ≤ length run.rest
+    → seek_from settings run o ≡ Turn.next t → left_to_read t ≤ length run.rest
 seek_left settings run t None h e k =
     let given_up : Progress = record run { has_eols = false } in
     let same : given_up ≡ t = let turn : ◌≡◌ {A = Move} (Turn.next given_up) (Turn.next t) = k in cc in
-    subst (λ (r : Progress). left_group3 r ≤ length run.rest) same (omega arith)
+    subst (λ (r : Progress). left_to_read r ≤ length run.rest) same (omega arith)
 seek_left settings run t (Some found) h e k =
     let f = next_eol_found run.rest found e in
-    let g = eols_group3_counted settings found in
-    subst (λ (r : Progress). left_group3 r ≤ length run.rest) (unless_over_next settings run t (eols_group3 settings found) k)
-    (rw h (omega (arith, f.0, g.1 (eols_group3_some settings found f.1.0 f.1.1))))
+    let g = eols_here_counted settings found in
+    subst (λ (r : Progress). left_to_read r ≤ length run.rest) (unless_over_next settings run t (eols_here settings found) k)
+    (rw h (omega (arith, f.0, g.1 (eols_here_some settings found f.1.0 f.1.1))))
 
 seek_eol_next : (settings : DecodeSettings) (run t : Progress) → seek_eol settings run ≡ Turn.next t → seek_from settings run (next_eol run.rest) ≡ Turn.next t
 seek_eol_next settings run t e = unless_next settings.strict run (Err InvalidCode) (seek_from settings run (next_eol run.rest)) t e
@@ -292,8 +258,8 @@ at_end_length : (rest : Bits) → at_end rest ≡ false → 0 < length rest
 at_end_length [] e = absurd (false≢true (sym e))
 at_end_length (b ∷ rest) e = omega arith
 
-left_group3_least : (run : Progress) → length run.rest ≤ left_group3 run
-left_group3_least run = by run.has_eols
+left_least : (run : Progress) → length run.rest ≤ left_to_read run
+left_least run = by run.has_eols
   where
     by : (b : Bool) → length run.rest ≤ cond b (suc (length run.rest)) (length run.rest)
     by true = omega arith
@@ -321,21 +287,21 @@ went_on settings run found counted open_limit open_end e =
     ]
 
 -- the EOLs after a row leave less than there was before its line: it took bits, or EOLs are sought
-pub after_row_next : (settings : DecodeSettings) (run t : Progress) (n : ℕ) → after_row settings run ≡ Turn.next t → length run.rest < n → left_group3 t < n
+pub after_row_next : (settings : DecodeSettings) (run t : Progress) (n : ℕ) → after_row settings run ≡ Turn.next t → length run.rest < n → left_to_read t < n
 after_row_next settings run t n e small = elim
-    (chosen ((((eqb (eols_group3 settings run.rest).0 0) && run.has_eols) && not (limit_met settings (length run.rows))) && not (at_end run.rest)) _ _ _ e) [
+    (chosen ((((eqb (eols_here settings run.rest).0 0) && run.has_eols) && not (limit_met settings (length run.rows))) && not (at_end run.rest)) _ _ _ e) [
       | inl a ↦
-          let b = (and_parts ((eqb (eols_group3 settings run.rest).0 0 && run.has_eols) && not (limit_met settings (length run.rows)))
+          let b = (and_parts ((eqb (eols_here settings run.rest).0 0 && run.has_eols) && not (limit_met settings (length run.rows)))
           (not (at_end run.rest)) a.0).0 in
-          let c = (and_parts (eqb (eols_group3 settings run.rest).0 0 && run.has_eols) (not (limit_met settings (length run.rows))) b).0 in
-          let d = (and_parts (eqb (eols_group3 settings run.rest).0 0) run.has_eols c).1 in
+          let c = (and_parts (eqb (eols_here settings run.rest).0 0 && run.has_eols) (not (limit_met settings (length run.rows))) b).0 in
+          let d = (and_parts (eqb (eols_here settings run.rest).0 0) run.has_eols c).1 in
           omega (arith, seek_left settings run t (next_eol run.rest) d refl (seek_eol_next settings run t a.1), small)
       | inr a ↦
-          let open_run = unless_over_open settings run t (eols_group3 settings run.rest) a.1 in
-          let counted = eols_group3_counted settings run.rest in
-          subst (λ (r : Progress). left_group3 r < n) (unless_over_next settings run t (eols_group3 settings run.rest) a.1)
-          (elim (went_on settings run (eols_group3 settings run.rest) counted open_run.0 open_run.1 a.0) [
-            | inl some ↦ either run.has_eols (length (eols_group3 settings run.rest).1) (omega (arith, counted.1 some, small))
+          let open_run = unless_over_open settings run t (eols_here settings run.rest) a.1 in
+          let counted = eols_here_counted settings run.rest in
+          subst (λ (r : Progress). left_to_read r < n) (unless_over_next settings run t (eols_here settings run.rest) a.1)
+          (elim (went_on settings run (eols_here settings run.rest) counted open_run.0 open_run.1 a.0) [
+            | inl some ↦ either run.has_eols (length (eols_here settings run.rest).1) (omega (arith, counted.1 some, small))
             | inr gave_up ↦ rw gave_up (omega (arith, counted.0, small))
           ])
     ]
@@ -355,15 +321,15 @@ line_by_took Group3_2D strict columns reference (false ∷ rest) wide =
     took_more (line_2d strict columns reference rest) (length rest) (line_2d_took_bits strict columns reference rest wide)
 line_by_took Group4 strict columns reference here wide = line_2d_took_bits strict columns reference here wide
 
-after_line_group3_next : (settings : DecodeSettings) (run t : Progress) (line : Line) → TookBits (length run.rest) line
-    → after_line_group3 settings run line ≡ Turn.next t → left_group3 t < left_group3 run
-after_line_group3_next settings run t (Line.whole row rest) took e =
+after_line_next : (settings : DecodeSettings) (run t : Progress) (line : Line) → TookBits (length run.rest) line
+    → after_line settings run line ≡ Turn.next t → left_to_read t < left_to_read run
+after_line_next settings run t (Line.whole row rest) took e =
     let al : Bool = settings.rows_are_byte_aligned && not run.has_eols in
     let shorter : length (cond al (aligned rest) rest) ≤ length rest
     = cond_le al (aligned rest) rest (length rest) (omega (arith, length-drop (length rest % 8) rest)) (omega arith) in
-    after_row_next settings (record run { rows = run.rows ++ row ∷ []; rest = cond al (aligned rest) rest }) t (left_group3 run) (sym (after_whole-is settings run row rest) ∙ e)
-    (omega (arith, shorter, took, left_group3_least run))
-after_line_group3_next settings run t (Line.broken front fault) took e =
+    after_row_next settings (record run { rows = run.rows ++ row ∷ []; rest = cond al (aligned rest) rest }) t (left_to_read run) (sym (after_whole-is settings run row rest) ∙ e)
+    (omega (arith, shorter, took, left_least run))
+after_line_next settings run t (Line.broken front fault) took e =
     elim (chosen (settings.strict || not run.has_eols) _ _ _ (sym (after_damage-is settings run front fault) ∙ e)) [
       | inl a ↦ absurd (not_next _ t a.1)
       | inr a ↦
@@ -376,20 +342,20 @@ after_line_group3_next settings run t (Line.broken front fault) took e =
           } in
           let shorter : length (cond al (aligned run.rest) run.rest) ≤ length run.rest
           = cond_le al (aligned run.rest) run.rest (length run.rest) (omega (arith, length-drop (length run.rest % 8) run.rest)) (omega arith) in
-          let left_is : left_group3 run ≡ suc (length run.rest) = rw sought refl in
+          let left_is : left_to_read run ≡ suc (length run.rest) = rw sought refl in
           rw left_is (after_row_next settings more t (suc (length run.rest)) a.1 (omega (arith, shorter)))
     ]
 
 -- a turn of Group 3 leaves fewer bits, or gives up EOLs
-pub move_group3_shrinks : (settings : DecodeSettings) → 0 < settings.columns → Shrinks (move_group3 settings) left_group3
-move_group3_shrinks settings wide run t e =
+pub move_shrinks : (settings : DecodeSettings) → 0 < settings.columns → Shrinks (move_on settings) left_to_read
+move_shrinks settings wide run t e =
     let reference : Row = row_before settings.columns run.rows in
-    after_line_group3_next settings run t (line_at_group3 settings reference run.rest)
+    after_line_next settings run t (line_here settings reference run.rest)
     (line_by_took settings.encoding settings.strict settings.columns reference run.rest wide) e
 
 -- a run is allowed more turns than that
-pub left_group3_below : (run : Progress) → left_group3 run < suc (suc (length run.rest))
-left_group3_below run = by run.has_eols
+pub left_below : (run : Progress) → left_to_read run < suc (suc (length run.rest))
+left_below run = by run.has_eols
   where
     by : (b : Bool) → cond b (suc (length run.rest)) (length run.rest) < suc (suc (length run.rest))
     by true = omega arith

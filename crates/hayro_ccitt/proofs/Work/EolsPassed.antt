@@ -1,5 +1,5 @@
 -- The EOLs that are passed where a line follows, and the bits that are looked at ahead of it.
-use Rattle.std.proofs.Common.{◌≡◌, ℕ, suc, ◌+◌, ◌-◌, ◌*◌, ◌≤◌, Bool, true, false, not, ◌&&◌, ◌||◌, eqb, leb, [], ◌∷◌, ◌++◌, length, replicate, drop}
+use Rattle.std.proofs.Common.{◌<◌, ◌≡◌, ℕ, suc, ◌+◌, ◌-◌, ◌*◌, ◌≤◌, Bool, true, false, not, ◌&&◌, ◌||◌, eqb, leb, [], ◌∷◌, ◌++◌, length, replicate, drop}
 use Rattle.std.proofs.Common.{Option, Some, None, Result, Ok, Err, refl, sym, ap, ◌∙◌, subst, arith, ◌⊎◌, inl, inr}
 use Rattle.std.proofs.lemmas.Bool.{and_parts, or_parts, false≢true}
 use Rattle.std.proofs.lemmas.List.{length-append, length-replicate, replicate-append-replicate}
@@ -10,13 +10,13 @@ use Rattle.hayro_ccitt.specs.declared.settings.EncodingMode.TheVariants.{Group4,
 use Rattle.hayro_ccitt.specs.declared.settings.DecodeSettings.{DecodeSettings}
 use Rattle.hayro_ccitt.specs.Bits.{Bits}
 use Rattle.hayro_ccitt.specs.EndOfLine.{after_eol, all_eols, next_eol, past_tag, eols_with_tags, eols, pass_last_tag, tagged_eols}
-use Rattle.hayro_ccitt.specs.PlainReading.{eols_of_end, Gap, at_end, limit_met, eols_by, eols_group3, behind_eols_group3, from_next_eol, gap_group3}
-use Rattle.hayro_ccitt.specs.Ticks.{looked, looked_ahead}
+use Rattle.hayro_ccitt.specs.PlainReading.{eols_of_end, Gap, at_end, limit_met, eols_by, eols_here, behind_eols, from_next_eol, gap_behind_row}
+use Rattle.hayro_ccitt.specs.Ticks.{looked, looked_ahead, tag_tests}
 use Rattle.hayro_ccitt.proofs.BitReading.ZeroRuns.{looked_eol}
 use Rattle.hayro_ccitt.proofs.CodeWords.ReadRuns.{chosen}
 use Rattle.hayro_ccitt.proofs.DamagedLines.LineTails.{after_eol_is}
 use Rattle.hayro_ccitt.proofs.DamagedLines.PastEol.{all_eols-none}
-use Rattle.hayro_ccitt.proofs.Readings.TurnsMoveOn.{eols-none, length-one_more, eols_shorter, eols-some, eols_with_tags-some, eols_with_tags-none, eols_with_tags_shorter, past_tag_shorter, last_tag_shorter, eols_group3_counted, eols_group3_some, next_eol_found}
+use Rattle.hayro_ccitt.proofs.Readings.TurnsMoveOn.{eols-none, length-one_more, eols_shorter, eols-some, eols_with_tags-some, eols_with_tags-none, eols_with_tags_shorter, past_tag_shorter, last_tag_shorter, eols_here_counted, eols_here_some, next_eol_found}
 
 -- ---- An EOL that stands here or further on
 
@@ -61,8 +61,8 @@ length-within here after eol =
 -- ---- EOLs that are counted
 
 -- counting EOLs leaves at most the bits that were there
-pub eols_group3_shorter : (settings : DecodeSettings) (here : Bits) → length (eols_group3 settings here).1 ≤ length here
-eols_group3_shorter settings here = (eols_group3_counted settings here).0
+pub eols_here_shorter : (settings : DecodeSettings) (here : Bits) → length (eols_here settings here).1 ≤ length here
+eols_here_shorter settings here = (eols_here_counted settings here).0
 
 all_eols_past : (here after : Bits) → after_eol 0 here ≡ Some after → length (all_eols here).1 ≤ length after
 all_eols_past [] after e = absurd cc
@@ -83,8 +83,8 @@ tagged_eols_past (bit ∷ here) after e =
     omega (arith, last_tag_shorter (eols_with_tags (length (bit ∷ here)) (bit ∷ here)), passed)
 
 -- where an EOL stands, counting passes it
-pub eols_group3_past : (settings : DecodeSettings) (here after : Bits) → after_eol 0 here ≡ Some after → length (eols_group3 settings here).1 ≤ length after
-eols_group3_past settings here after e = by settings.encoding settings.end_of_block
+pub eols_here_past : (settings : DecodeSettings) (here after : Bits) → after_eol 0 here ≡ Some after → length (eols_here settings here).1 ≤ length after
+eols_here_past settings here after e = by settings.encoding settings.end_of_block
   where
     by : (encoding : EncodingMode) (block : Bool) → length (eols_by encoding block here).1 ≤ length after
     by Group3_1D block = all_eols_past here after e
@@ -102,8 +102,8 @@ tagged_eols-none here e = rw (eols_with_tags-none (length here) here e, tagged_e
     by (true ∷ here) = refl
 
 -- where no EOL stands, none is counted
-pub eols_group3-none : (settings : DecodeSettings) (here : Bits) → after_eol 0 here ≡ None → eols_group3 settings here ≡ (0, here)
-eols_group3-none settings here e = by settings.encoding settings.end_of_block
+pub eols_here-none : (settings : DecodeSettings) (here : Bits) → after_eol 0 here ≡ None → eols_here settings here ≡ (0, here)
+eols_here-none settings here e = by settings.encoding settings.end_of_block
   where
     by : (encoding : EncodingMode) (block : Bool) → eols_by encoding block here ≡ (0, here)
     by Group3_1D block = all_eols-none here e
@@ -112,12 +112,12 @@ eols_group3-none settings here e = by settings.encoding settings.end_of_block
     by Group4 false = all_eols-none here e
 
 -- where none is counted, the place stays
-pub eols_group3_stay : (settings : DecodeSettings) (here rest : Bits) → eols_group3 settings here ≡ (0, rest) → rest ≡ here
-eols_group3_stay settings here rest is = by (after_eol 0 here) refl
+pub eols_here_stay : (settings : DecodeSettings) (here rest : Bits) → eols_here settings here ≡ (0, rest) → rest ≡ here
+eols_here_stay settings here rest is = by (after_eol 0 here) refl
   where
     by : (o : Option Bits) → after_eol 0 here ≡ o → rest ≡ here
-    by None e = sym (ap (λ (found : ℕ × Bits). found.1) (sym (eols_group3-none settings here e) ∙ is))
-    by (Some after) e = absurd (omega (arith, eols_group3_some settings here after e, ap (λ (found : ℕ × Bits). found.0) is))
+    by None e = sym (ap (λ (found : ℕ × Bits). found.1) (sym (eols_here-none settings here e) ∙ is))
+    by (Some after) e = absurd (omega (arith, eols_here_some settings here after e, ap (λ (found : ℕ × Bits). found.0) is))
 
 -- ---- A line that stands behind a row
 
@@ -129,7 +129,7 @@ over_no_line outcome h rest e = cc
 
 -- a line stands behind EOLs neither at the limit nor at the end
 behind_line : (settings : DecodeSettings) (taken : ℕ) (h k : Bool) (found : ℕ × Bits) (rest : Bits)
-    → behind_eols_group3 settings taken h found ≡ Gap.line_at k rest
+    → behind_eols settings taken h found ≡ Gap.line_at k rest
     → (h ≡ k) × (found.1 ≡ rest) × (limit_met settings taken ≡ false) × (at_end found.1 ≡ false)
 behind_line settings taken h k (count, here) rest e =
     elim (chosen (((settings.end_of_block && leb (eols_of_end settings.encoding) count) || limit_met settings taken) || at_end here) _ _ _ e) [
@@ -143,11 +143,11 @@ behind_line settings taken h k (count, here) rest e =
 
 -- The line stands behind the EOLs that stand here.
 record AfterEols (settings : DecodeSettings) (taken : ℕ) (h k : Bool) (here rest : Bits) : Type 0 where
-  unsought : (((eqb (eols_group3 settings here).0 0 && h) && not (limit_met settings taken)) && not (at_end here)) ≡ false
+  unsought : (((eqb (eols_here settings here).0 0 && h) && not (limit_met settings taken)) && not (at_end here)) ≡ false
   flag : h ≡ k
-  place : (eols_group3 settings here).1 ≡ rest
+  place : (eols_here settings here).1 ≡ rest
   open_limit : limit_met settings taken ≡ false
-  open_end : at_end (eols_group3 settings here).1 ≡ false
+  open_end : at_end (eols_here settings here).1 ≡ false
 
 -- The line stands behind the next EOL, which was sought.
 record AfterNextEol (settings : DecodeSettings) (h k : Bool) (here rest : Bits) : Type 0 where
@@ -155,7 +155,7 @@ record AfterNextEol (settings : DecodeSettings) (h k : Bool) (here rest : Bits) 
   kept : k ≡ true
   found : Bits
   next : next_eol here ≡ Some found
-  place : (eols_group3 settings found).1 ≡ rest
+  place : (eols_here settings found).1 ≡ rest
 
 -- No EOL is left, and the line stands here.
 record GivenUp (h k : Bool) (here rest : Bits) : Type 0 where
@@ -164,56 +164,56 @@ record GivenUp (h k : Bool) (here rest : Bits) : Type 0 where
   place : here ≡ rest
 
 -- the ways in which a line stands behind a row
-line_behind : (settings : DecodeSettings) (taken : ℕ) (h k : Bool) (here rest : Bits) → gap_group3 settings taken h here ≡ Gap.line_at k rest
+line_behind : (settings : DecodeSettings) (taken : ℕ) (h k : Bool) (here rest : Bits) → gap_behind_row settings taken h here ≡ Gap.line_at k rest
     → AfterEols settings taken h k here rest ⊎ (AfterNextEol settings h k here rest ⊎ GivenUp h k here rest)
 line_behind settings taken h k here rest e =
-    elim (chosen (((eqb (eols_group3 settings here).0 0 && h) && not (limit_met settings taken)) && not (at_end here)) _ _ _ e) [
+    elim (chosen (((eqb (eols_here settings here).0 0 && h) && not (limit_met settings taken)) && not (at_end here)) _ _ _ e) [
       | inl a ↦
-          let b = (and_parts ((eqb (eols_group3 settings here).0 0 && h) && not (limit_met settings taken)) (not (at_end here)) a.0).0 in
-          let c = (and_parts (eqb (eols_group3 settings here).0 0 && h) (not (limit_met settings taken)) b).0 in
-          let sought = (and_parts (eqb (eols_group3 settings here).0 0) h c).1 in
+          let b = (and_parts ((eqb (eols_here settings here).0 0 && h) && not (limit_met settings taken)) (not (at_end here)) a.0).0 in
+          let c = (and_parts (eqb (eols_here settings here).0 0 && h) (not (limit_met settings taken)) b).0 in
+          let sought = (and_parts (eqb (eols_here settings here).0 0) h c).1 in
           elim (chosen settings.strict _ _ _ a.1) [
             | inl b ↦ absurd (over_no_line (Err InvalidCode) k rest b.1)
             | inr b ↦ inr (by sought (next_eol here) refl b.1)
           ]
       | inr a ↦
-          let is = behind_line settings taken h k (eols_group3 settings here) rest a.1 in
+          let is = behind_line settings taken h k (eols_here settings here) rest a.1 in
           inl (record { unsought = a.0; flag = is.0; place = is.1; open_limit = is.2; open_end = is.3 })
     ]
   where
     by : h ≡ true → (o : Option Bits) → next_eol here ≡ o → from_next_eol settings taken here o ≡ Gap.line_at k rest
         → AfterNextEol settings h k here rest ⊎ GivenUp h k here rest
     by sought (Some found) next f =
-        let is = behind_line settings taken true k (eols_group3 settings found) rest f in
+        let is = behind_line settings taken true k (eols_here settings found) rest f in
         inl (record { sought = sought; kept = sym is.0; found = found; next = next; place = is.1 })
     by sought None next f =
         let same = lines_same false k here rest f in
         inr (record { sought = sought; given_up = sym same.0; place = same.1 })
 
 -- where EOLs are still sought, one stood here or further on, and the line begins behind it
-pub line_past_eol : (settings : DecodeSettings) (taken : ℕ) (here rest : Bits) → gap_group3 settings taken true here ≡ Gap.line_at true rest
+pub line_past_eol : (settings : DecodeSettings) (taken : ℕ) (here rest : Bits) → gap_behind_row settings taken true here ≡ Gap.line_at true rest
     → (after : Bits) × EolWithin here after × (length rest ≤ length after)
 line_past_eol settings taken here rest e = elim (line_behind settings taken true true here rest e) [
   | inl is ↦ by is (after_eol 0 here) refl
   | inr (inl is) ↦
       let eol = next_eol_within here is.found is.next in
-      (eol.0, eol.2, subst (λ (x : Bits). length x ≤ length eol.0) is.place (eols_group3_past settings is.found eol.0 eol.1))
+      (eol.0, eol.2, subst (λ (x : Bits). length x ≤ length eol.0) is.place (eols_here_past settings is.found eol.0 eol.1))
   | inr (inr is) ↦ absurd (false≢true (sym is.given_up))
 ]
   where
     by : AfterEols settings taken true true here rest → (o : Option Bits) → after_eol 0 here ≡ o
         → (after : Bits) × EolWithin here after × (length rest ≤ length after)
     by is (Some after) f =
-        (after, eol_within here after f, subst (λ (x : Bits). length x ≤ length after) is.place (eols_group3_past settings here after f))
+        (after, eol_within here after f, subst (λ (x : Bits). length x ≤ length after) is.place (eols_here_past settings here after f))
     by is None f =
-        let none = eols_group3-none settings here f in
+        let none = eols_here-none settings here f in
         let open_end : at_end here ≡ false = let g = is.open_end in rw none at g in
-        let seeks : (((eqb (eols_group3 settings here).0 0 && true) && not (limit_met settings taken)) && not (at_end here)) ≡ true
+        let seeks : (((eqb (eols_here settings here).0 0 && true) && not (limit_met settings taken)) && not (at_end here)) ≡ true
         = rw (none, is.open_limit, open_end) refl in
         absurd (false≢true (sym is.unsought ∙ seeks))
 
 -- where EOLs are given up, the line stands here
-pub line_given_up : (settings : DecodeSettings) (taken : ℕ) (here rest : Bits) → gap_group3 settings taken true here ≡ Gap.line_at false rest → rest ≡ here
+pub line_given_up : (settings : DecodeSettings) (taken : ℕ) (here rest : Bits) → gap_behind_row settings taken true here ≡ Gap.line_at false rest → rest ≡ here
 line_given_up settings taken here rest e = elim (line_behind settings taken true false here rest e) [
   | inl is ↦ absurd (false≢true (sym is.flag))
   | inr (inl is) ↦ absurd (false≢true is.kept)
@@ -221,16 +221,16 @@ line_given_up settings taken here rest e = elim (line_behind settings taken true
 ]
 
 -- a line that stands behind a row begins there or further on
-pub line_behind_shorter : (settings : DecodeSettings) (taken : ℕ) (h k : Bool) (here rest : Bits) → gap_group3 settings taken h here ≡ Gap.line_at k rest
+pub line_behind_shorter : (settings : DecodeSettings) (taken : ℕ) (h k : Bool) (here rest : Bits) → gap_behind_row settings taken h here ≡ Gap.line_at k rest
     → length rest ≤ length here
 line_behind_shorter settings taken h k here rest e = elim (line_behind settings taken h k here rest e) [
-  | inl is ↦ omega (arith, ap length is.place, eols_group3_shorter settings here)
-  | inr (inl is) ↦ omega (arith, ap length is.place, eols_group3_shorter settings is.found, (next_eol_found here is.found is.next).0)
+  | inl is ↦ omega (arith, ap length is.place, eols_here_shorter settings here)
+  | inr (inl is) ↦ omega (arith, ap length is.place, eols_here_shorter settings is.found, (next_eol_found here is.found is.next).0)
   | inr (inr is) ↦ omega (arith, ap length is.place)
 ]
 
 -- without EOLs none are sought
-pub line_without_eols : (settings : DecodeSettings) (taken : ℕ) (k : Bool) (here rest : Bits) → gap_group3 settings taken false here ≡ Gap.line_at k rest
+pub line_without_eols : (settings : DecodeSettings) (taken : ℕ) (k : Bool) (here rest : Bits) → gap_behind_row settings taken false here ≡ Gap.line_at k rest
     → (k ≡ false) × (length rest ≤ length here)
 line_without_eols settings taken k here rest e = (
   elim (line_behind settings taken false k here rest e) [
@@ -241,7 +241,26 @@ line_without_eols settings taken k here rest e = (
   line_behind_shorter settings taken false k here rest e,
 )
 
+-- where a line stands, bits are left
+pub line_has_bits : (settings : DecodeSettings) (taken : ℕ) (k : Bool) (here rest : Bits) → gap_behind_row settings taken false here ≡ Gap.line_at k rest
+    → 0 < length rest
+line_has_bits settings taken k here rest e = elim (line_behind settings taken false k here rest e) [
+  | inl is ↦ by (eols_here settings here).1 rest is.open_end is.place
+  | inr (inl is) ↦ absurd (false≢true is.sought)
+  | inr (inr is) ↦ absurd (false≢true is.sought)
+]
+  where
+    by : (next rest : Bits) → at_end next ≡ false → next ≡ rest → 0 < length rest
+    by [] rest open_end same = absurd (false≢true (sym open_end))
+    by (bit ∷ next) rest open_end same = omega (arith, ap length (sym same))
+
 -- ---- What is looked at ahead
+
+-- there are few tests of tags
+pub few_tag_tests : (encoding : EncodingMode) → tag_tests encoding ≤ 3
+few_tag_tests Group3_1D = omega arith
+few_tag_tests Group3_2D = omega arith
+few_tag_tests Group4 = omega arith
 
 -- no more than the bits here are looked at
 pub looked_most : (here : Bits) → looked here ≤ length here
@@ -290,10 +309,10 @@ looked_to_eol here after eol = rw eol.place (by eol.fill)
 -- Where the next EOL is found and counted, no bit behind it is looked at: not where none stood before, and not where it
 -- was found.
 pub sought_looks : (settings : DecodeSettings) (here found : Bits) → next_eol here ≡ Some found
-    → looked here + looked found + 2 * length (eols_group3 settings found).1 ≤ length here + length found
+    → looked here + looked found + 2 * length (eols_here settings found).1 ≤ length here + length found
 sought_looks settings here found next =
     let eol = next_eol_within here found next in
-    omega (arith, (looked_to_eol here eol.0 eol.2).0, looked_eol 0 found eol.0 eol.1, eols_group3_past settings found eol.0 eol.1)
+    omega (arith, (looked_to_eol here eol.0 eol.2).0, looked_eol 0 found eol.0 eol.1, eols_here_past settings found eol.0 eol.1)
 
 -- where an EOL stands here or further on, no bit behind it is looked at ahead
 pub looked_ahead_to_eol : (encoding : EncodingMode) (here after : Bits) → EolWithin here after → looked_ahead encoding here + length after ≤ length here

@@ -7,10 +7,10 @@ use Rattle.hayro_ccitt.specs.declared.settings.EncodingMode.{EncodingMode}
 use Rattle.hayro_ccitt.specs.declared.settings.EncodingMode.TheVariants.{Group4, Group3_1D, Group3_2D}
 use Rattle.hayro_ccitt.specs.Bits.{Bits}
 use Rattle.hayro_ccitt.specs.Lines.{Line, line_found}
-use Rattle.hayro_ccitt.specs.PlainReading.{Gap, aligned, behind_row, gap_group3, line_by, line_at_group3, row_group3}
+use Rattle.hayro_ccitt.specs.PlainReading.{Gap, aligned, behind_row, gap_behind_row, line_by, line_here, row_of_line}
 use Rattle.hayro_ccitt.specs.Rows.{Row, repaired}
 use Rattle.hayro_ccitt.specs.Ticks.{looked_ahead}
-use Rattle.hayro_ccitt.specs.Work.{found_at_group3}
+use Rattle.hayro_ccitt.specs.Work.{found_here}
 use Rattle.hayro_ccitt.proofs.Work.EolsPassed.{length-within, line_past_eol, line_given_up, line_behind_shorter, line_without_eols, looked_ahead_most, looked_ahead_to_eol}
 use Rattle.hayro_ccitt.proofs.Work.WordsPay.{line_1d_paid, line_2d_paid, either_shorter, found_within, found_before_eol}
 
@@ -59,7 +59,7 @@ behind_with_eols false rest = refl
 
 -- a broken line is repaired in lenient data with EOLs alone, and its place is where it began
 broken_row : (settings : DecodeSettings) (h : Bool) (here rest : Bits) (front row : Row) (fault : DecodeError)
-    → row_group3 settings h here (Line.broken front fault) ≡ Ok (row, rest) → (h ≡ true) × (rest ≡ here)
+    → row_of_line settings h here (Line.broken front fault) ≡ Ok (row, rest) → (h ≡ true) × (rest ≡ here)
 broken_row settings true here rest front row fault is = by settings.strict is
   where
     by : (strict : Bool) → cond {A = Result (Row × Bits) DecodeError} (strict || not true) (Err fault) (Ok (repaired settings.columns front, behind_row settings true here)) ≡ Ok (row, rest)
@@ -75,10 +75,10 @@ broken_row settings false here rest front row fault is = by settings.strict is
 
 -- a row ends no sooner than its line begins
 pub row_shorter : (settings : DecodeSettings) (h : Bool) (reference : Row) (here rest : Bits) (row : Row) → 0 < settings.columns
-    → row_group3 settings h here (line_at_group3 settings reference here) ≡ Ok (row, rest) → length rest ≤ length here
-row_shorter settings h reference here rest row wide is = by (line_at_group3 settings reference here) refl is
+    → row_of_line settings h here (line_here settings reference here) ≡ Ok (row, rest) → length rest ≤ length here
+row_shorter settings h reference here rest row wide is = by (line_here settings reference here) refl is
   where
-    by : (line : Line) → line_at_group3 settings reference here ≡ line → row_group3 settings h here line ≡ Ok (row, rest) → length rest ≤ length here
+    by : (line : Line) → line_here settings reference here ≡ line → row_of_line settings h here line ≡ Ok (row, rest) → length rest ≤ length here
     by (Line.whole whole behind) e given =
         let pays = whole_pays settings.encoding settings.strict settings.columns reference here whole behind wide e in
         let same : behind_row settings h behind ≡ rest = ap rest_of given in
@@ -87,23 +87,23 @@ row_shorter settings h reference here rest row wide is = by (line_at_group3 sett
 
 -- a row behind which the reading goes on, seeking EOLs as before, is paid by the bits up to there
 turn_pays : (settings : DecodeSettings) (h : Bool) (taken : ℕ) (reference : Row) (here rest next : Bits) (row : Row) → 0 < settings.columns
-    → row_group3 settings h here (line_at_group3 settings reference here) ≡ Ok (row, rest) → gap_group3 settings taken h rest ≡ Gap.line_at h next
-    → PaysLine settings.encoding here next (length (found_at_group3 settings reference here))
-turn_pays settings h taken reference here rest next row wide is gap = by (line_at_group3 settings reference here) refl is
+    → row_of_line settings h here (line_here settings reference here) ≡ Ok (row, rest) → gap_behind_row settings taken h rest ≡ Gap.line_at h next
+    → PaysLine settings.encoding here next (length (found_here settings reference here))
+turn_pays settings h taken reference here rest next row wide is gap = by (line_here settings reference here) refl is
   where
     found : ℕ
-    found = length (found_at_group3 settings reference here)
+    found = length (found_here settings reference here)
 
-    by : (line : Line) → line_at_group3 settings reference here ≡ line → row_group3 settings h here line ≡ Ok (row, rest) → PaysLine settings.encoding here next found
+    by : (line : Line) → line_here settings reference here ≡ line → row_of_line settings h here line ≡ Ok (row, rest) → PaysLine settings.encoding here next found
     by (Line.whole whole behind) e given =
         let same : behind_row settings h behind ≡ rest = ap rest_of given in
         further_pays settings.encoding here behind next found (whole_pays settings.encoding settings.strict settings.columns reference here whole behind wide e)
         (omega (arith, ap length same, behind_shorter settings h behind, line_behind_shorter settings taken h h rest next gap))
     by (Line.broken front fault) e given =
         let repaired = broken_row settings h here rest front row fault given in
-        let stands : gap_group3 settings taken true here ≡ Gap.line_at true next
-        = subst (λ (b : Bool). gap_group3 settings taken b here ≡ Gap.line_at b next) repaired.0
-        (subst (λ (x : Bits). gap_group3 settings taken h x ≡ Gap.line_at h next) repaired.1 gap) in
+        let stands : gap_behind_row settings taken true here ≡ Gap.line_at true next
+        = subst (λ (b : Bool). gap_behind_row settings taken b here ≡ Gap.line_at b next) repaired.0
+        (subst (λ (x : Bits). gap_behind_row settings taken h x ≡ Gap.line_at h next) repaired.1 gap) in
         let (after, eol, behind) = line_past_eol settings taken here next stands in
         let words = found_before_eol settings.encoding settings.strict settings.columns reference here eol.fill after eol.place in
         record {
@@ -122,9 +122,9 @@ IsPaidUpTo begun bits giving_up encoding has_eols ticks changes here =
 
 module _ (settings : DecodeSettings) (wide : 0 < settings.columns) (begun bits giving_up : ℕ) (reference : Row) (h : Bool) (here : Bits) (within : length here ≤ bits)
     (ticks changes : ℕ) (paid : IsPaidUpTo begun bits giving_up settings.encoding h ticks changes here) (now : ℕ)
-    (line : now ≤ ticks + 4 * length (found_at_group3 settings reference here) + 2 + changes) where
+    (line : now ≤ ticks + 4 * length (found_here settings reference here) + 2 + changes) where
   abbrev found : ℕ
-  found = length (found_at_group3 settings reference here)
+  found = length (found_here settings reference here)
 
   found_fits : found ≤ length here
   found_fits = found_within settings.encoding settings.strict settings.columns reference here
@@ -137,7 +137,7 @@ module _ (settings : DecodeSettings) (wide : 0 < settings.columns) (begun bits g
   pub line_ends : now ≤ begun + (16 * bits + 6 + giving_up)
   line_ends = omega (arith, paid, line, within, found_fits, looked_ahead_most settings.encoding here, either_given h)
 
-  module _ (row : Row) (rest : Bits) (is : row_group3 settings h here (line_at_group3 settings reference here) ≡ Ok (row, rest)) where
+  module _ (row : Row) (rest : Bits) (is : row_of_line settings h here (line_here settings reference here) ≡ Ok (row, rest)) where
     row_fits : length rest ≤ length here
     row_fits = row_shorter settings h reference here rest row wide is
 
@@ -152,7 +152,7 @@ module _ (settings : DecodeSettings) (wide : 0 < settings.columns) (begun bits g
         omega (arith, paid, line, within, found_fits, row_fits, counted, looked_ahead_most settings.encoding here, looked_ahead_most settings.encoding left_over, either_given h)
 
     -- else the account goes on
-    pub turn_goes_on : (taken : ℕ) (k : Bool) (next : Bits) (last stored : ℕ) → gap_group3 settings taken h rest ≡ Gap.line_at k next → stored ≤ found + 1
+    pub turn_goes_on : (taken : ℕ) (k : Bool) (next : Bits) (last stored : ℕ) → gap_behind_row settings taken h rest ≡ Gap.line_at k next → stored ≤ found + 1
         → (k ≡ h → last + 4 * length next ≤ now + 4 * length rest + 3 + looked_ahead settings.encoding next) → (k ≢ h → last ≤ now + 2 * length rest)
         → (h ≡ true → 8 * bits + 8 ≤ giving_up) → IsPaidUpTo begun bits giving_up settings.encoding k last stored next
     turn_goes_on taken k next last stored gap few kept given_up enough = by h k refl refl
@@ -167,8 +167,8 @@ module _ (settings : DecodeSettings) (wide : 0 < settings.columns) (begun bits g
         by true true h_is k_is = same true h_is k_is
         by false false h_is k_is = same false h_is k_is
         by true false h_is k_is =
-            let stands : gap_group3 settings taken true rest ≡ Gap.line_at false next
-            = ap (λ (x : Bool). gap_group3 settings taken x rest) (sym h_is) ∙ gap ∙ ap (λ (x : Bool). Gap.line_at x next) k_is in
+            let stands : gap_behind_row settings taken true rest ≡ Gap.line_at false next
+            = ap (λ (x : Bool). gap_behind_row settings taken x rest) (sym h_is) ∙ gap ∙ ap (λ (x : Bool). Gap.line_at x next) k_is in
             let before = subst (λ (x : Bool). IsPaidUpTo begun bits giving_up settings.encoding x ticks changes here) h_is paid in
             omega (
               arith,
@@ -184,6 +184,6 @@ module _ (settings : DecodeSettings) (wide : 0 < settings.columns) (begun bits g
               ap length (line_given_up settings taken rest next stands),
             )
         by false true h_is k_is =
-            let stands : gap_group3 settings taken false rest ≡ Gap.line_at true next
-            = ap (λ (x : Bool). gap_group3 settings taken x rest) (sym h_is) ∙ gap ∙ ap (λ (x : Bool). Gap.line_at x next) k_is in
+            let stands : gap_behind_row settings taken false rest ≡ Gap.line_at true next
+            = ap (λ (x : Bool). gap_behind_row settings taken x rest) (sym h_is) ∙ gap ∙ ap (λ (x : Bool). Gap.line_at x next) k_is in
             absurd (false≢true (sym (line_without_eols settings taken true rest next stands).0))

@@ -2,17 +2,17 @@ use Rattle.std.proofs.Common.{◌≡◌, ℕ, Bool, cond, length, Option, Some, 
 use Rattle.hayro_ccitt.specs.Bits.{Bits, here}
 use Rattle.hayro_ccitt.specs.Context.{Context, Held}
 use Rattle.hayro_ccitt.specs.EndOfLine.{next_eol}
-use Rattle.hayro_ccitt.specs.Ticks.{looked, looked_ahead}
+use Rattle.hayro_ccitt.specs.Ticks.{looked, looked_ahead, tag_tests}
 use Rattle.hayro_ccitt.proofs.Readings.TurnsMoveOn.{next_eol_found}
-use Rattle.hayro_ccitt.proofs.Work.EolsPassed.{eols_group3_shorter, eols_group3_stay, looked_most, sought_looks}
-use Rattle.hayro_ccitt.proofs.group3.gap_behind_row.Goals as goal
+use Rattle.hayro_ccitt.proofs.Work.EolsPassed.{eols_here_shorter, eols_here_stay, looked_most, sought_looks}
+use Rattle.hayro_ccitt.proofs.group3.pass_gap.Goals as goal
 
 pub returns-then-count-gt0-clause-work : goal.returns-then-count-gt0-clause-work
 returns-then-count-gt0-clause-work c = λ kept.
     omega (
       arith,
       c.read_eols-count.ensures.work,
-      eols_group3_shorter c.args.ctx.now.held.settings (here c.args.reader.now),
+      eols_here_shorter c.args.ctx.now.held.settings (here c.args.reader.now),
       ap (λ (found : ℕ × Bits). length found.1) c.read_eols-count.ensures.eols,
     )
 
@@ -26,7 +26,7 @@ returns-then-not-skip_to_eol-clause-work_given_up c = λ given_up.
     let none : c.read_eols-count.result ≡ 0 = omega (arith, c.if-count-gt0.false) in
     let now = here c.read_eols-count.new.reader in
     let rest = here c.skip_to_eol.new.self in
-    let stays = eols_group3_stay c.args.ctx.now.held.settings (here c.args.reader.now) now
+    let stays = eols_here_stay c.args.ctx.now.held.settings (here c.args.reader.now) now
     (c.read_eols-count.ensures.eols ∙ ap (λ (n : ℕ). (n, now)) none) in
     omega (
       arith,
@@ -48,7 +48,7 @@ returns-clause-work c = λ kept.
     let rest = here c.read_eols-count-2.new.reader in
     let next : next_eol now ≡ Some found
     = c.skip_to_eol.ensures.next ∙ ap (λ (b : Bool). cond {A = Option Bits} b (Some found) None) c.if-not-skip_to_eol.false in
-    let stays = eols_group3_stay c.args.ctx.now.held.settings (here c.args.reader.now) now
+    let stays = eols_here_stay c.args.ctx.now.held.settings (here c.args.reader.now) now
     (c.read_eols-count.ensures.eols ∙ ap (λ (n : ℕ). (n, now)) none) in
     omega (
       arith,
@@ -63,6 +63,7 @@ returns-clause-work c = λ kept.
       sought_looks settings now found next,
       (next_eol_found now found next).0,
       ap (λ (held : Held). looked_ahead held.settings.encoding rest) c.read_eols-count.ensures.held,
+      ap (λ (held : Held). tag_tests held.settings.encoding) c.read_eols-count.ensures.held,
     )
 
 pub returns-clause-counts : goal.returns-clause-counts

@@ -1,0 +1,44 @@
+-- What a driver leaves of whole data, from what the loop over rows leaves from a line on.
+use Rattle.std.proofs.Common.{◌≡◌, ◌≤◌, ◌+◌, ℕ, List, [], take, length, Result, sym, ap, subst, ◌∙◌, arith}
+use Rattle.std.specs.Prelude.{sum_by}
+use Rattle.hayro_ccitt.specs.declared.error.DecodeError.{DecodeError}
+use Rattle.hayro_ccitt.specs.declared.settings.DecodeSettings.{DecodeSettings}
+use Rattle.hayro_ccitt.specs.Bits.{Bits}
+use Rattle.hayro_ccitt.specs.Context.{Context}
+use Rattle.hayro_ccitt.specs.Decoding.{SinkState, TakesAll, DecodesRows, DecodesFrom}
+use Rattle.hayro_ccitt.specs.PlainReading.{Progress, Ending, Move, move_on, line_of_turn, first_gap, ending_from, ending_behind, one_each, gathered_from, gathered_behind}
+use Rattle.hayro_ccitt.specs.Repetition.{Turn}
+use Rattle.hayro_ccitt.specs.Work.{words_of_turn, most_counted}
+use Rattle.hayro_ccitt.proofs.Readings.RunsOverRows.{Leaves}
+
+module _ {M : Type 0} (bits : Bits) (step : M → List ℕ → M) (before after : SinkState M) (old new : Context) (answer : Result Bits DecodeError)
+    (most : new.ticks ≤ old.ticks + most_counted old.held.settings.encoding (length bits)) where
+  abbrev settings : DecodeSettings
+  settings = old.held.settings
+
+  -- what is known behind a gap
+  abbrev LeavesBehind : Move → Type 0
+  LeavesBehind gap =
+      Leaves (ending_behind settings gap) (gathered_behind settings (line_of_turn settings) gap) step before after new.held answer
+      × (old.ticks + sum_by length (take new.held.taken (gathered_behind settings (words_of_turn settings) gap)) ≤ new.ticks)
+
+  all_rows : (gap : Move) → first_gap settings.encoding settings bits ≡ gap → new.held.settings ≡ settings → LeavesBehind gap
+      → DecodesRows bits step before after old new answer
+  all_rows gap is same leaves =
+      let whole = subst LeavesBehind (sym is) leaves in
+      record { settings = same; reading = whole.0.0; short = whole.0.1; work = record { at_least = whole.1; at_most = most } }
+
+  -- the first gap leads to a line, and the rows are read from there
+  pub decodes_from : (middle : Context) (first : Progress) (most_from : ℕ) → first_gap settings.encoding settings bits ≡ Turn.next first
+      → middle.held.settings ≡ settings → old.ticks ≤ middle.ticks → DecodesFrom first most_from step before after middle new answer
+      → DecodesRows bits step before after old new answer
+  decodes_from middle first most_from is same counts from =
+      let known = subst (λ (s : DecodeSettings). TakesAll (ending_from (move_on s) first) (gathered_from (move_on s) (one_each (line_of_turn s)) first)
+      (gathered_from (move_on s) (one_each (words_of_turn s)) first) most_from step before after middle new answer) same from in
+      all_rows (Turn.next first) is (from.settings ∙ same) ((known.reading, known.short), omega (arith, known.work.at_least, counts))
+
+  -- the first gap is the end
+  pub decodes_none : (end : Ending) → first_gap settings.encoding settings bits ≡ Turn.done end → new.held.settings ≡ settings → new.held.taken ≡ 0
+      → old.ticks ≤ new.ticks → Leaves end [] step before after new.held answer → DecodesRows bits step before after old new answer
+  decodes_none end is same none counts leaves =
+      all_rows (Turn.done end) is same (leaves, omega (arith, counts, ap (λ (n : ℕ). sum_by (λ (word : List Bits). length word) (take n [])) none))
