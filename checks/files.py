@@ -107,6 +107,14 @@ def files_by_other_programs():
                 assert done.returncode == 0 and picture[1] in (b"1728 1754", b"1240 1754"), f"{name}: {done}"
                 right += 1
                 tools.add(tool)
+        if shutil.which("tiffset"):
+            for orientation in range(2, 9):
+                made(folder, "tiffset", f"tiffcp -c g4 page.tif {{}}; tiffset -s 274 {orientation} {{}}", "turned.tif")
+                in_c, in_python = pictures_of(folder, "turned.tif", "picture")
+                size = b"1240 1754" if orientation < 5 else b"1754 1240"
+                assert in_c[:2] == in_python[:2] and in_c[0] == 0, f"orientation {orientation}"
+                assert in_c[1].startswith(b"P4\n" + size) and in_c[1] != page, f"orientation {orientation}"
+                right += 2
         for name in OTHERS:
             made(folder, "tiffcp", f"tiffcp -c {name} page.tif {{}}", f"{name}.tif")
             for answer in pictures_of(folder, f"{name}.tif", "other"):
