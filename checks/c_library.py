@@ -45,7 +45,7 @@ def build():
 
 
 def compiled(out, *words):
-    command = ["gcc", "-O2", "-Wall", "-Wextra", "-Werror", "-std=c11", "-o", out, *words]
+    command = ["gcc", "-O2", "-Wall", "-Wextra", "-Werror", "-std=c11", "-Ic", "-o", out, *words]
     subprocess.run(command, check=True)
     return out
 

@@ -90,7 +90,7 @@ def pictures_come_back():
         for words, picture, status in [
             (("g4", "-"), b"P4\n# a comment\n 8\t2\n\x18\x18", 0), (("g4", "-"), b"P4\n8 2\n\x18", 1), (("g4", "-"), b"P5\n8 1\n\x18", 1),
             (("g4", "-"), b"P4\n8 1", 1), (("g4", "-"), b"P4\n4294967296 1\n", 1), (("1d", "-"), b"P4\n8 0\n", 1), (("g4", "-"), b"P4\n0 8\n", 1),
-            (("g4", "-"), b"P4\n4294967295 4294967295\n\x18", 1), (("2d", "-"), b"P4\n8 1\n\x18", 2), (("1d", "a"), b"P4\n8 1\n\x18", 2), (("g4", "-", "/none"), b"", 1),
+            (("g4", "-"), b"P4\n4294967295 4294967295\n\x18", 1), (("2d", "-"), b"P4\n8 1\n\x18", 2), (("1d", "a"), b"P4\n8 1\n\x18", 2), (("g4", "-", "/none"), b"", 2),
         ]:
             done = run(picture, encode, *words)
             assert done.returncode == status and (status == 0) == (done.stderr == b"") and (status == 0) == (done.stdout != b""), (words, picture, done)

@@ -18,7 +18,9 @@ import cost  # noqa: E402
 import cuts  # noqa: E402
 import devices  # noqa: E402
 import encoder  # noqa: E402
+import files  # noqa: E402
 import hostile  # noqa: E402
+import installed  # noqa: E402
 import large  # noqa: E402
 import memory  # noqa: E402
 import program  # noqa: E402
@@ -45,9 +47,11 @@ def build():
 
 def main():
     passed = failed = 0
-    files = [repository, program, built_tests, c_library, encoder, refusals, devices, cuts, hostile, memory, large, users, cost]
+    all_files = [
+        repository, program, built_tests, c_library, encoder, refusals, devices, cuts, hostile, memory, large, installed, users, files, cost,
+    ]
     words = sys.argv[1:]
-    chosen = [it for it in files if not words or (it.__name__ in words) != (words[0] == "--without")]
+    chosen = [it for it in all_files if not words or (it.__name__ in words) != (words[0] == "--without")]
     if {*chosen} - {repository, built_tests}:
         build()
     for check in [check for file in chosen for check in file.CHECKS]:

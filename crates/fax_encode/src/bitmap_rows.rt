@@ -11,7 +11,7 @@ ghost use Rattle.fax_encode.specs.Scanning.{differences, ones_from};
 use crate::painting::plain_word;
 use std::alloc::{AllocError, Global};
 
-/// The byte at an index, 0 past the end.
+/// Returns the byte at an index, 0 past the end.
 fn byte_or_zero(bytes: &[u8], index: usize) -> u8
     ensures { result ≡ slice_index bytes.now index }
 {
@@ -40,7 +40,7 @@ fn last_word(bytes: &[u8]) -> u64
     u64::from_be_bytes(first)
 }
 
-/// A one where a pixel differs from the one left of it; left of the first stands the last pixel of the word before.
+/// Returns a one for each pixel that differs from the one left of it; left of the first is the last pixel of the word before.
 #[inline(always)]
 fn turns(before: u64, word: u64) -> u64
     ensures { low_bits 64 result ≡ differences (bit_of before 0) (low_bits 64 word) }
@@ -48,7 +48,7 @@ fn turns(before: u64, word: u64) -> u64
     word ^ (before << 63 | word >> 1)
 }
 
-/// Adds the places of the ones among the first bits of a word, so many, counted from a first place on.
+/// Adds the offsets of the ones among the first bits of a word, counted from a first offset on.
 #[inline(always)]
 fn push_ones(list: &mut Vec<u32>, first: u32, count: u32, word: u64) -> Result<(), AllocError>
     requires few { count ≤ 64 }
@@ -103,7 +103,7 @@ fn four_are_plain(bytes: &[u8], is_black: bool) -> bool
     two_are_plain(&bytes[16..], is_black)
 }
 
-/// How many words of pixels at the front are of this colour alone, so many at most; four at a time, and then one by one.
+/// Returns how many words of pixels at the start are of this colour alone, up to a most; four at a time, and then one by one.
 #[inline(always)]
 fn count_plain(bytes: &[u8], most: usize, is_black: bool) -> usize
     requires { 8 * most ≤ length bytes.now }
@@ -121,7 +121,7 @@ fn count_plain(bytes: &[u8], most: usize, is_black: bool) -> usize
     count
 }
 
-/// How many words of pixels at the front are of this colour alone, so many at most.
+/// Returns how many words of pixels at the start are of this colour alone, up to a most.
 #[inline(always)]
 fn plain_words(bytes: &[u8], most: usize, is_black: bool) -> usize
     requires { 8 * most ≤ length bytes.now }
@@ -166,9 +166,9 @@ pub fn scan_row(list: &mut Vec<u32>, columns: u32, bitmap: &[u8]) -> Result<(), 
     push_ones(list, start, columns - start, turns(before, word_of(rest)))
 }
 
-/// The rows of a bitmap, as lists of changes. A row takes (columns + 7) / 8 bytes, one bit a pixel, 1 for black, the
-/// leftmost pixel in a byte's highest bit; what stands behind it up to a whole byte is passed over. Bytes behind the last
-/// whole row are no row, and where there are no columns there are no rows.
+/// Returns the rows of a bitmap, as lists of changes. A row takes (columns + 7) / 8 bytes, one bit a pixel, 1 for black, the
+/// leftmost pixel in a byte's highest bit; bits after the last pixel are ignored. Bytes after the last whole row are no row,
+/// and without columns there are no rows.
 pub fn rows_of_bitmap(
     alloc: Global,
     columns: u32,

@@ -1,9 +1,9 @@
-//! `faxrows`: decodes a fax image from standard input, and writes its rows as text on standard output.
+//! `faxrows`: decodes a fax image from standard input, and writes its rows as text to standard output.
 //!
 //! It is called as `faxrows MODE COLUMNS ROWS FLAGS`, or as `faxrows -o MODE COLUMNS ROWS FLAGS` to write the rows as a
 //! bitmap of one bit a pixel. The mode is `g4`, `1d` or `2d`, columns and rows are decimal numbers, and the flags are `-`
-//! or letters: `b` for an end of block, `l` for ends of line, `a` for aligned rows, `s` for a strict reading, `r` for
-//! the lowest bit of each byte first.
+//! or letters: `b` if EOFB or RTC may end the data, `l` if EOLs precede its lines, `a` for aligned rows, `s` for a strict
+//! reading, `r` for the lowest bit of each byte first.
 #![tactic(auto)]
 
 ghost use Rattle.std.specs.Prelude.{◌≡◌, ◌<◌, IfOk, IsTrue, length, map, string_bytes};
@@ -37,8 +37,8 @@ fn main(rt: HostRuntime) -> ExitCode {
     }
 }
 
-/// Runs with the words of the environment, on standard input and output. Returns the status to end with. The error of
-/// a bitmap's decoding is printed.
+/// Runs with the arguments of the environment, on standard input and output. Returns the exit status. The error of a
+/// bitmap's decoding is printed.
 fn run_words(rt: &HostRuntime) -> Result<u8, RunFault>
     ensures status { IfOk result IsStatusOfRun }
 {

@@ -1,12 +1,12 @@
 //! A decoder for CCITT fax images: ITU-T T.4 (Group 3, one- and two-dimensional) and T.6 (Group 4).
 //!
 //! [`decode`] takes the encoded bytes and a [`DecoderContext`], made with the [`DecodeSettings`] that belong to them,
-//! and hands each row as a list of colour changes to a [`Decoder`]. It answers how many bytes were read. Data from
-//! strangers does no harm: every call returns, and what is wrong with the data is a [`DecodeError`].
+//! and passes each row as a list of colour changes to a [`Decoder`]. It returns the number of bytes consumed. Every call
+//! returns, whatever the data is, and what is wrong with it is a [`DecodeError`].
 //!
-//! The modules are the decoder's parts, for drivers of one's own: [`bit_reader`] and [`codes`] read bits, code words
-//! and EOLs, [`context`] draws lines, [`group3`] and [`group4`] run over rows, and [`laws`] states what holds of the
-//! data whatever program reads them.
+//! The modules are the decoder's parts, for other drivers: [`bit_reader`] and [`codes`] read bits, code words and EOLs,
+//! [`context`] draws lines, [`group3`] and [`group4`] read rows, and [`laws`] states what holds of the data whatever program
+//! reads it.
 #![tactic(auto)]
 
 ghost use Rattle.std.specs.Prelude.{◌≡◌, ◌*◌, ◌<◌, ◌≤◌, ◌↔◌, ℕ, List, Bool, true, false, Ok, OnOk, OnErr, IfOk, IsOkUnless, IsTrue, length};
@@ -155,28 +155,28 @@ fn decode_bits<D: Decoder>(
     Ok(reader.byte_pos())
 }
 
-/// Decodes an image: hands its rows to the sink, and answers how many bytes were read, the last one whole. Each byte's
-/// highest bit comes first. The context is reset first, so what it decoded before doesn't matter; after any answer it
-/// may be used again.
+/// Decodes an image: passes its rows to the sink, and returns the number of bytes consumed, the last one whole. Each byte's
+/// highest bit comes first. The context is reset first, so what it decoded before has no effect; it may be used again
+/// after an error too.
 ///
 /// The image ends at EOFB or RTC with `end_of_block` (T.6 section 2.4.1.1, T.4 section 4.1.4), at the row limit, or at
 /// the end of the data, whichever comes first.
 ///
 /// # Errors
 ///
-/// - `UnexpectedEof`, `InvalidCode` and `Overflow` say that the data is at fault. All rows before the fault were handed
-///   over. A lenient reading of Group 3 with EOLs repairs a damaged line instead, and goes on at the next EOL (T.4
+/// - `UnexpectedEof`, `InvalidCode` and `Overflow` say that the data is at fault. All rows before the fault were passed
+///   on. A lenient reading of Group 3 with EOLs repairs a damaged line instead, and goes on at the next EOL (T.4
 ///   section 4.1.2).
-/// - `OutOfMemory` comes only while a change of a row is stored, so in a line that paints a black pixel.
-/// - `Refused` comes only where the sink refuses a row.
+/// - `OutOfMemory` occurs only while a change of a row is stored, so in a line that paints a black pixel.
+/// - `Refused` occurs only if the sink refuses a row.
 ///
-/// After the last two the rows handed over are the first of the image's; [`DecoderContext::decoded_rows`] is their
+/// After the last two the rows passed on are the first of the image's; [`DecoderContext::decoded_rows`] is their
 /// number.
 ///
 /// # Example
 ///
 /// In Group 4 with 8 columns and `end_of_block` the bytes 31 C0 04 00 40 are 001 1000 11 1, which is horizontal mode, 3
-/// white pixels, 2 black ones and a vertical mode, and then EOFB. The sink takes one row, `[3, 5]`, and the answer is
+/// white pixels, 2 black ones and a vertical mode, and then EOFB. The sink takes one row, `[3, 5]`, and the result is
 /// `Ok(5)`:
 ///
 /// ```text
@@ -213,10 +213,10 @@ pub fn decode<D: Decoder>(data: &[u8], decoder: &mut D, ctx: &mut DecoderContext
     decode_bits(&mut BitReader::new(data), decoder, ctx)
 }
 
-/// Decodes an image as [`decode`] does, but with each byte's lowest bit first: TIFF's FillOrder 2, and what most fax modems
-/// hold. The data need not be reversed before.
+/// Decodes an image as [`decode`] does, but with each byte's lowest bit first: TIFF's FillOrder 2, and the order in which fax
+/// modems send. The data need not be reversed before.
 ///
-/// Rows, answers and errors are those of [`decode`] over these bits. So 8C 03, which is 31 C0 with each byte's bits in
+/// Rows, results and errors are those of [`decode`] over these bits. So 8C 03, which is 31 C0 with each byte's bits in
 /// the other order, is the row `[3, 5]` of 8 columns.
 pub fn decode_low_first<D: Decoder>(
     data: &[u8],
