@@ -91,10 +91,12 @@ def no_proof_has_a_hole():
     assert not found, found
 
 
-# Where a count of work is made, or made of another one: a context has one, which `decode` begins anew.
+# Where a count of work is made, or made of another one: a context has one, which `decode` begins anew, and a reader of
+# rows keeps a context.
 COUNTS = {
     "crates/hayro_ccitt/src/codes.rt": {"new", "after", "tick"},
     "crates/hayro_ccitt/src/context.rt": {"new", "restart"},
+    "crates/hayro_ccitt/src/row_reader.rt": {"new"},
 }
 MAKES_A_COUNT = re.compile(
     r"\bTicks>?\s*::|\bTicks\s*\{\s*\}|\bTicks\s+as\b|\btype\b.*\bTicks\b"
