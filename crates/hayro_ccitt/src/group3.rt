@@ -78,6 +78,7 @@ fn read_eols_of_t6(ctx: &mut DecoderContext, reader: &mut BitReader<'_>) -> usiz
 
 /// Reads the EOLs that stand here, in two-dimensional data with their tags, and answers how many there were. Each bit
 /// that is looked at is a tick: one that is passed at most twice.
+#[inline(always)]
 fn read_eols(ctx: &mut DecoderContext, reader: &mut BitReader<'_>) -> usize
     ensures eols { eols_here ctx.old.held.settings (here reader.old) ≡ (result, here reader.new) }
     ensures same_bits { reader.new.bits ≡ reader.old.bits }
@@ -97,6 +98,7 @@ fn read_eols(ctx: &mut DecoderContext, reader: &mut BitReader<'_>) -> usize
 
 /// Whether the image ends behind a row, where so many EOLs were counted: at RTC, at the row limit or at the end of
 /// the data.
+#[inline(always)]
 fn is_over(ctx: &DecoderContext, reader: &BitReader<'_>, count: usize) -> bool
     ensures over { result ≡ is_over ctx.now.held.settings ctx.now.held.taken (count, here reader.now) }
 {
@@ -115,6 +117,7 @@ fn is_over(ctx: &DecoderContext, reader: &BitReader<'_>, count: usize) -> bool
 /// none came although the data has EOLs, the next one is looked for, and where none is left EOLs are given up; strict data
 /// is then at fault, which is `InvalidCode`. It takes no memory. Each bit that is looked at is a tick: one that is passed at
 /// most four times.
+#[inline(always)]
 pub(crate) fn pass_gap(ctx: &mut DecoderContext, reader: &mut BitReader<'_>) -> Result<bool>
     ensures gap { gap_behind_row ctx.old.held.settings ctx.old.held.taken ctx.old.held.has_eols (here reader.old)
         ≡ gap_said result ctx.new.held.has_eols (here reader.new) }
@@ -201,6 +204,7 @@ fn decode_tagged_line(ctx: &mut DecoderContext, reader: &mut BitReader<'_>) -> R
 }
 
 /// Decodes the line that stands here.
+#[inline(never)]
 fn decode_line(ctx: &mut DecoderContext, reader: &mut BitReader<'_>) -> Result<()>
     requires begun { ctx.old.held.front ≡ [] }
     ensures line { DrawsLine (line_here ctx.old.held.settings ctx.old.held.reference (here reader.old))
@@ -223,6 +227,7 @@ fn decode_line(ctx: &mut DecoderContext, reader: &mut BitReader<'_>) -> Result<(
 
 /// Reads a line, repairs it where it is damaged and may be, and hands its row over. The errors are those of the line
 /// that isn't repaired, `OutOfMemory` while a change is stored, and `Refused` where the sink refuses.
+#[inline(always)]
 fn read_row<D: Decoder>(
     ctx: &mut DecoderContext,
     reader: &mut BitReader<'_>,
