@@ -5,7 +5,7 @@ pub mod PlainAnswers
 pub mod Repeated
 pub mod RowWidths
 pub mod RowsAndGaps
-pub mod RowsOfGroup3
+pub mod RowsTaken
 pub mod RunsOverRows
 pub mod Strictness
 pub mod WholeRuns

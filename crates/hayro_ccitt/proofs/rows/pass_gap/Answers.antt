@@ -5,7 +5,7 @@ use Rattle.hayro_ccitt.specs.EndOfLine.{next_eol}
 use Rattle.hayro_ccitt.specs.Ticks.{looked, looked_ahead, tag_tests}
 use Rattle.hayro_ccitt.proofs.Readings.TurnsMoveOn.{next_eol_found}
 use Rattle.hayro_ccitt.proofs.Work.EolsPassed.{eols_here_shorter, eols_here_stay, looked_most, sought_looks}
-use Rattle.hayro_ccitt.proofs.group3.pass_gap.Goals as goal
+use Rattle.hayro_ccitt.proofs.rows.pass_gap.Goals as goal
 
 pub returns-then-count-gt0-clause-work : goal.returns-then-count-gt0-clause-work
 returns-then-count-gt0-clause-work c = λ kept.

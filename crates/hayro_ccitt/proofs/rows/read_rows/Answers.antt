@@ -8,7 +8,7 @@ use Rattle.hayro_ccitt.specs.Context.{Held}
 use Rattle.hayro_ccitt.specs.PlainReading.{move_on, one_each, line_of_turn, gathered_from, gap_behind_row}
 use Rattle.hayro_ccitt.proofs.Readings.TurnsMoveOn.{left_to_read}
 use Rattle.hayro_ccitt.proofs.Readings.RunsOverRows.{comes_first}
-use Rattle.hayro_ccitt.proofs.Readings.RowsOfGroup3.{from_line, by_rows_left, left_start, turn_fails, turn_misses, turn_ends, next_between, next_counted, next_paid, next_shorter, counted_last, fails_paid, giving_up_is_paid, misses_paid, ends_paid, words_are}
+use Rattle.hayro_ccitt.proofs.Readings.RowsTaken.{from_line, by_rows_left, left_start, turn_fails, turn_misses, turn_ends, next_between, next_counted, next_paid, next_shorter, counted_last, fails_paid, giving_up_is_paid, misses_paid, ends_paid, words_are}
 use Rattle.hayro_ccitt.specs.Work.{CountsRun, most_given_up, most_from_line, words_of_turn}
 use Rattle.hayro_ccitt.specs.declared.error.DecodeError.{DecodeError}
 use Rattle.hayro_ccitt.specs.Decoding.{gap_said}
@@ -16,9 +16,9 @@ use Rattle.hayro_ccitt.specs.Rows.{changes}
 use Rattle.hayro_ccitt.proofs.Work.ChangesStored.{changes_white}
 use Rattle.hayro_ccitt.proofs.Work.RunsCount.{counted_ends}
 use Rattle.hayro_ccitt.proofs.Work.EolsPassed.{looked_most, line_without_eols, few_tag_tests}
-use Rattle.hayro_ccitt.proofs.group3.decode_rows.Given.{Over}
-use Rattle.hayro_ccitt.proofs.group3.decode_rows.Goals.{After-pass_gap}
-use Rattle.hayro_ccitt.proofs.group3.decode_rows.Goals as goal
+use Rattle.hayro_ccitt.proofs.rows.read_rows.Given.{Over}
+use Rattle.hayro_ccitt.proofs.rows.read_rows.Goals.{After-pass_gap}
+use Rattle.hayro_ccitt.proofs.rows.read_rows.Goals as goal
 
 pub rows-init : goal.rows-init
 rows-init g c =

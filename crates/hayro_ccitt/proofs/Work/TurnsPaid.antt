@@ -1,4 +1,4 @@
--- What a turn of Group 3 counts is paid by the bits that it passes, or by giving up EOLs, which is done once.
+-- What a turn counts is paid by the bits that it passes, or by giving up EOLs, which is done once.
 use Rattle.std.proofs.Common.{◌≡◌, ◌≢◌, ℕ, ◌+◌, ◌*◌, ◌<◌, ◌≤◌, Bool, true, false, not, ◌&&◌, ◌||◌, cond, [], ◌∷◌, length, Result, Ok, Err, refl, sym, ap, ◌∙◌, subst, arith}
 use Rattle.std.proofs.lemmas.Bool.{false≢true}
 use Rattle.hayro_ccitt.specs.declared.error.DecodeError.{DecodeError}

@@ -10,8 +10,8 @@ use Rattle.hayro_ccitt.specs.Context.{Context, Held}
 use Rattle.hayro_ccitt.specs.PlainReading.{line_here}
 use Rattle.hayro_ccitt.proofs.DrawingLines.FullRows.{IsFull, line_by_full, repaired_full}
 use Rattle.hayro_ccitt.proofs.DrawingLines.UnreadRows.{isnt_repaired, line_breaks}
-use Rattle.hayro_ccitt.proofs.group3.read_row.Goals.{in-Err+in_ok-recover, in_default}
-use Rattle.hayro_ccitt.proofs.group3.read_row.Goals as goal
+use Rattle.hayro_ccitt.proofs.rows.read_row.Goals.{in-Err+in_ok-recover, in_default}
+use Rattle.hayro_ccitt.proofs.rows.read_row.Goals as goal
 
 pub returns-in_err-recover-clause-row : goal.returns-in_err-recover-clause-row
 returns-in_err-recover-clause-row g c =

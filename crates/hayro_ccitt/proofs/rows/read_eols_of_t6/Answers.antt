@@ -2,7 +2,7 @@ use Rattle.std.proofs.Common.{ℕ, cond, eqb, ap, arith}
 use Rattle.hayro_ccitt.specs.Bits.{here}
 use Rattle.hayro_ccitt.specs.Ticks.{looked}
 use Rattle.hayro_ccitt.proofs.BitReading.EolCounts.{eols_leave, all_eols_leave}
-use Rattle.hayro_ccitt.proofs.group3.read_eols_of_t6.Goals as goal
+use Rattle.hayro_ccitt.proofs.rows.read_eols_of_t6.Goals as goal
 
 pub returns-then-settings-clause-counts : goal.returns-then-settings-clause-counts
 returns-then-settings-clause-counts c =

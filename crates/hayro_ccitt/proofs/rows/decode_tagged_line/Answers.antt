@@ -3,7 +3,7 @@ use Rattle.hayro_ccitt.specs.declared.settings.EncodingMode.TheVariants.{Group3_
 use Rattle.hayro_ccitt.specs.Bits.{Bits}
 use Rattle.hayro_ccitt.specs.Lines.{line_found}
 use Rattle.hayro_ccitt.proofs.DrawingLines.CountedLines.{on_answer_weaker}
-use Rattle.hayro_ccitt.proofs.group3.decode_tagged_line.Goals as goal
+use Rattle.hayro_ccitt.proofs.rows.decode_tagged_line.Goals as goal
 
 pub returns-then-tag-eq1-clause-line : goal.returns-then-tag-eq1-clause-line
 returns-then-tag-eq1-clause-line c =

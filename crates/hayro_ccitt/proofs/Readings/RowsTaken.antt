@@ -1,4 +1,4 @@
--- The turns of Group 3: a line, and what stands behind its row.
+-- The turns of the loop over rows: a line, and the gap behind its row.
 use Rattle.std.proofs.Common.{◌≡◌, ◌≢◌, ◌+◌, ◌*◌, ◌<◌, ◌≤◌, ℕ, suc, Bool, true, false, cond, List, [], ◌∷◌, ◌++◌, length, append-nil, Result, Ok, Err, refl, sym, ap, ◌∙◌, subst, arith}
 use Rattle.std.proofs.lemmas.List.{length-append}
 use Rattle.std.proofs.lemmas.Bool.{false≢true}
@@ -15,7 +15,7 @@ use Rattle.hayro_ccitt.specs.Work.{CountsRun, found_here, most_counted, most_giv
 use Rattle.hayro_ccitt.specs.Ticks.{looked_ahead}
 use Rattle.hayro_ccitt.specs.declared.settings.EncodingMode.{EncodingMode}
 use Rattle.hayro_ccitt.specs.declared.settings.EncodingMode.TheVariants.{Group4, Group3_1D, Group3_2D}
-use Rattle.hayro_ccitt.proofs.Work.TurnsOfGroup3.{IsPaidUpTo, line_ends, missing_ends, gap_ends, turn_goes_on}
+use Rattle.hayro_ccitt.proofs.Work.TurnsPaid.{IsPaidUpTo, line_ends, missing_ends, gap_ends, turn_goes_on}
 use Rattle.hayro_ccitt.proofs.Work.RunsCount.{WordsCounted, counted_next, counted_ends_behind}
 use Rattle.hayro_ccitt.proofs.Readings.TurnsAddRows.{Adds, Keeps, after_row_keeps, keeps_adds, move_adds}
 use Rattle.hayro_ccitt.proofs.Readings.TurnsMoveOn.{left_to_read, left_below, move_shrinks}
@@ -56,7 +56,7 @@ module _ (settings : DecodeSettings) (so_far : Progress) where
       → gap_behind_row settings (length (so_far.rows ++ taken ∷ [])) so_far.has_eols rest ≡ gap → move_on settings so_far ≡ at_gap (with_row so_far taken rest) gap
   turn_is taken rest gap is stands = ap (add_row settings so_far) is ∙ ap (at_gap (with_row so_far taken rest)) stands
 
--- ---- A turn of the driver, between two rows
+-- ---- A turn of the loop, between two rows
 
 -- what is counted most in data of Group 3
 pub most_counted_t4 : (encoding : EncodingMode) (bits : ℕ) → encoding ≢ Group4 → most_counted encoding bits ≡ 36 * bits + 14
@@ -74,7 +74,7 @@ pub giving_up_is_paid : (sought has_eols : Bool) (bits : ℕ) → (sought ≡ fa
 giving_up_is_paid true has_eols bits unsought is = omega arith
 giving_up_is_paid false has_eols bits unsought is = absurd (false≢true (sym (unsought refl) ∙ is))
 
--- a row of Group 3 is read and handed over, where these bits stand
+-- a row is read and handed over, where these bits stand
 abbrev pub TakesRow : {M : Type 0} → (M → List ℕ → M) → SinkState M → SinkState M → Held → Bits → Held → Result (Unit {0}) DecodeError → Bits → Type 0
 TakesRow step now after held here new answer rest =
     TakesOneRow (line_here held.settings held.reference here) (row_of_line held.settings held.has_eols here (line_here held.settings held.reference here))

@@ -7,7 +7,7 @@ use Rattle.hayro_ccitt.specs.Ticks.{looked, looked_ahead, tag_tests}
 use Rattle.hayro_ccitt.proofs.BitReading.EolCounts.{all_eols_leave}
 use Rattle.hayro_ccitt.proofs.Readings.TurnsMoveOn.{tagged_eols_counted}
 use Rattle.hayro_ccitt.proofs.Work.EolsPassed.{eols_here_stay}
-use Rattle.hayro_ccitt.proofs.group3.read_eols.Goals as goal
+use Rattle.hayro_ccitt.proofs.rows.read_eols.Goals as goal
 
 pub returns-in-Group3_2D-clause-counts : goal.returns-in-Group3_2D-clause-counts
 returns-in-Group3_2D-clause-counts c =

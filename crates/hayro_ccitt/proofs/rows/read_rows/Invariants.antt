@@ -4,11 +4,11 @@ use Rattle.hayro_ccitt.specs.PlainReading.{move_on, one_each, line_of_turn}
 use Rattle.hayro_ccitt.specs.Rows.{changes}
 use Rattle.hayro_ccitt.specs.Work.{most_given_up, words_of_turn}
 use Rattle.hayro_ccitt.proofs.Work.RunsCount.{WordsCounted}
-use Rattle.hayro_ccitt.proofs.Work.TurnsOfGroup3.{IsPaidUpTo}
+use Rattle.hayro_ccitt.proofs.Work.TurnsPaid.{IsPaidUpTo}
 use Rattle.hayro_ccitt.proofs.Readings.TurnsMoveOn.{left_to_read}
 use Rattle.hayro_ccitt.proofs.Readings.RunsOverRows.{Between}
-use Rattle.hayro_ccitt.proofs.Readings.RowsOfGroup3.{from_line}
-use Rattle.hayro_ccitt.proofs.group3.decode_rows.Given as goal
+use Rattle.hayro_ccitt.proofs.Readings.RowsTaken.{from_line}
+use Rattle.hayro_ccitt.proofs.rows.read_rows.Given as goal
 
 -- some rows were read and taken, and the reading comes to them with what is left
 abbrev pub invariant-rows : goal.invariant-rows
