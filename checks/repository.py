@@ -1,4 +1,5 @@
 """Checks of the repository's files: what must be there, and what must not."""
+import collections
 import os
 import re
 import subprocess
@@ -183,6 +184,37 @@ def each_edit_can_be_applied():
     assert not found, "\n".join(found)
 
 
+# A name of a proof: anything but spaces, brackets, commas, semicolons, colons and points.
+NAME = r"[^\s(){}\[\],;:.]+"
+# The goals of functions, which the checker names.
+NOT_CITED = ("/Answers.antt", "/Invariants.antt", "/Proof.antt")
+DECLARED = re.compile(rf"^( *)((?:pub |abbrev |unfoldable )*)({NAME}) :(?=\s)", re.MULTILINE)
+
+
+def each_lemma_is_cited():
+    """A lemma of the library that nothing cites proves nothing: each is named somewhere but where it is declared."""
+    texts = {}
+    for name in tracked():
+        if name.endswith((".antt", ".rt")):
+            with open(name, encoding="utf-8") as file:
+                texts[name] = re.sub(r"--.*" if name.endswith(".antt") else r"//.*", "", file.read())
+    # How often a name stands in each file, and in how many files.
+    words = {name: collections.Counter(re.findall(NAME, text)) for name, text in texts.items()}
+    files = collections.Counter(word for count in words.values() for word in count)
+    dead = []
+    for name, text in texts.items():
+        if not name.startswith("crates/hayro_ccitt/proofs/") or name.endswith(NOT_CITED):
+            continue
+        for indent, modifiers, lemma in DECLARED.findall(text):
+            head = rf"^{indent}(?:(?:pub|abbrev|unfoldable) )*{re.escape(lemma)} (?::|[^\n]*=$|[^\n]* = |=)"
+            given = len(re.findall(head, text, re.MULTILINE))
+            cited_here = words[name][lemma] > given
+            cited_elsewhere = "pub" in modifiers and files[lemma] > 1
+            if not cited_here and not cited_elsewhere:
+                dead.append(f"{name}: {lemma}")
+    assert not dead, "\n".join(dead)
+
+
 CHECKS = [
     handles_are_none,
     two_proofs_by_hand,
@@ -191,6 +223,7 @@ CHECKS = [
     readme_names_the_kit,
     no_proof_has_a_hole,
     no_work_is_thrown_away,
+    each_lemma_is_cited,
     nothing_is_unsafe,
     rust_is_unsafe_in_one_file_only,
     each_public_function_has_an_edit,

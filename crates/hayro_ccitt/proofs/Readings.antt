@@ -6,7 +6,7 @@ pub mod Repeated
 pub mod RowWidths
 pub mod RowsAndGaps
 pub mod RowByRow
-pub mod RowsOfGroup3
+pub mod RowsTaken
 pub mod RunsOverRows
 pub mod Strictness
 pub mod WholeRuns

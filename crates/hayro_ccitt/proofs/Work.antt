@@ -1,5 +1,5 @@
 pub mod ChangesStored
 pub mod EolsPassed
 pub mod RunsCount
-pub mod TurnsOfGroup3
+pub mod TurnsPaid
 pub mod WordsPay

@@ -7,7 +7,7 @@ ghost use Rattle.hayro_ccitt.specs.Decoding.{DecodesRows, leaving};
 
 use crate::bit_reader::BitReader;
 use crate::context::DecoderContext;
-use crate::group3::{decode_rows, pass_gap};
+use crate::rows::{pass_gap, read_rows};
 use crate::{Decoder, EncodingMode, Result};
 
 /// Decodes the rows of Group 4 data until EOFB (with `end_of_block`), the row limit or the end of the data. The
@@ -33,5 +33,5 @@ pub fn decode<D: Decoder>(
     if pass_gap(ctx, reader)? {
         return Ok(());
     }
-    decode_rows(ctx, reader, decoder)
+    read_rows(ctx, reader, decoder)
 }

@@ -8,7 +8,8 @@ ghost use Rattle.hayro_ccitt.specs.RowsRead.{Stands, ComesToLine, ReadsNext, sta
 
 use crate::bit_reader::{BitOrder, BitReader};
 use crate::context::DecoderContext;
-use crate::group3::{pass_gap, read_leading_eols, read_row};
+use crate::group3::read_leading_eols;
+use crate::rows::{pass_gap, read_row};
 use crate::settings::{DecodeSettings, EncodingMode};
 use crate::{DecodeError, Decoder, Result};
 use std::alloc::Global;

@@ -1,17 +1,23 @@
-//! What the three drivers share of a row's turn: the limit of rows, and handing a row over.
+//! The loop over rows that all encodings share: a row, and the gap behind it (T.4 section 4.1, T.6 section 2).
 
-ghost use Rattle.std.specs.Prelude.{◌≡◌, ◌+◌, ◌^◌, ◌<◌, ◌≤◌, OnOk, OnErr, IsOkUnless, true, length};
+ghost use Rattle.std.specs.Prelude.{false, ◌≡◌, ◌≢◌, ◌<◌, ◌≤◌, ◌+◌, ◌*◌, Err, OnOk, OnErr, IfOk, IsOkUnless, true, ◌||◌, [], length, ◌^◌};
+ghost use Rattle.hayro_ccitt.specs.Answers.{DrawsLine, OnAnswer};
 ghost use Rattle.hayro_ccitt.specs.Bits.{here};
-ghost use Rattle.hayro_ccitt.specs.Decoding.{with_row_taken};
-ghost use Rattle.hayro_ccitt.specs.PlainReading.{behind_row, limit_met};
+ghost use Rattle.hayro_ccitt.specs.Context.{fresh, redrawn};
+ghost use Rattle.hayro_ccitt.specs.Decoding.{DecodesFrom, TakesOneRow, behind_line, leaving, gap_said, with_row_taken};
+ghost use Rattle.hayro_ccitt.specs.PlainReading.{eols_by, eols_here, is_over, gap_behind_row, row_of_line, line_by, line_here, behind_row, limit_met};
+ghost use Rattle.hayro_ccitt.specs.Lines.{line_found};
 ghost use Rattle.hayro_ccitt.specs.Rows.{changes};
+ghost use Rattle.hayro_ccitt.specs.Ticks.{looked, looked_ahead, tag_tests};
+ghost use Rattle.hayro_ccitt.specs.Work.{found_here, most_from_line};
 
 use crate::bit_reader::BitReader;
-use crate::context::DecoderContext;
-use crate::{DecodeError, Decoder, Result};
+use crate::context::{DecoderContext, decode_1d_line, decode_2d_line};
+use crate::group3::recover;
+use crate::{DecodeError, Decoder, EncodingMode, Result};
 
 /// Whether the limit of rows is met; a limit of 0 is none.
-pub(crate) fn limit_met(ctx: &DecoderContext) -> bool
+fn limit_met(ctx: &DecoderContext) -> bool
     ensures { result ≡ limit_met ctx.now.held.settings ctx.now.held.taken }
 {
     let limit = u64::from(ctx.settings().rows);
@@ -31,7 +37,7 @@ fn align_row(ctx: &DecoderContext, reader: &mut BitReader<'_>)
 /// Hands a full row over to the sink, and moves to where the next line, or its EOL, begins. Its only refusal is
 /// `Refused`: then the context, the place and the sink's meaning are as before.
 #[inline(always)]
-pub(crate) fn take_row<D: Decoder>(
+fn take_row<D: Decoder>(
     ctx: &mut DecoderContext,
     reader: &mut BitReader<'_>,
     decoder: &mut D,
@@ -58,4 +64,214 @@ pub(crate) fn take_row<D: Decoder>(
     ctx.next_line(decoder)?;
     align_row(ctx, reader);
     Ok(())
+}
+
+/// Reads the EOLs of T.6 data that stand here, with `end_of_block` at most the two of EOFB (T.6 section 2.4.1.1), and
+/// returns how many there were.
+#[inline(always)]
+fn read_eols_of_t6(ctx: &mut DecoderContext, reader: &mut BitReader<'_>) -> usize
+    ensures eols { eols_by EncodingMode.Group4 ctx.old.held.settings.end_of_block (here reader.old) ≡ (result, here reader.new) }
+    ensures same_bits { reader.new.bits ≡ reader.old.bits }
+    ensures held { ctx.new.held ≡ ctx.old.held }
+    ensures counts { ctx.old.ticks ≤ ctx.new.ticks }
+    ensures at_least { ctx.old.ticks + length (here reader.old) ≤ ctx.new.ticks + length (here reader.new) }
+    ensures work_none { result ≡ 0 → ctx.new.ticks + length (here reader.new)
+        ≡ ctx.old.ticks + length (here reader.old) + looked (here reader.new) }
+    ensures work { ctx.new.ticks + length (here reader.new)
+        ≤ ctx.old.ticks + length (here reader.old) + looked (here reader.new) }
+    ensures forward { length (here reader.new) ≤ length (here reader.old) }
+{
+    if ctx.settings().end_of_block {
+        reader.read_eols(2, ctx.ticks())
+    } else {
+        reader.read_eol_if_available(ctx.ticks())
+    }
+}
+
+/// Reads the EOLs that stand here, in two-dimensional data with their tags, and answers how many there were. Each bit
+/// that is looked at is a tick: one that is passed at most twice.
+#[inline(always)]
+fn read_eols(ctx: &mut DecoderContext, reader: &mut BitReader<'_>) -> usize
+    ensures eols { eols_here ctx.old.held.settings (here reader.old) ≡ (result, here reader.new) }
+    ensures same_bits { reader.new.bits ≡ reader.old.bits }
+    ensures held { ctx.new.held ≡ ctx.old.held }
+    ensures counts { ctx.old.ticks ≤ ctx.new.ticks }
+    ensures at_least { ctx.old.ticks + length (here reader.old) ≤ ctx.new.ticks + length (here reader.new) }
+    ensures work { ctx.new.ticks + 2 * length (here reader.new) ≤ ctx.old.ticks + 2 * length (here reader.old)
+        + tag_tests ctx.old.held.settings.encoding + looked_ahead ctx.old.held.settings.encoding (here reader.new) }
+    ensures work_none { result ≡ 0 → ctx.new.ticks ≡ ctx.old.ticks + looked (here reader.old) }
+{
+    match ctx.settings().encoding {
+        EncodingMode::Group3_2D => reader.read_tagged_eols(ctx.ticks()),
+        EncodingMode::Group3_1D => reader.read_eol_if_available(ctx.ticks()),
+        EncodingMode::Group4 => read_eols_of_t6(ctx, reader),
+    }
+}
+
+/// Whether the image ends behind a row, where so many EOLs were counted: at RTC, at the row limit or at the end of
+/// the data.
+#[inline(always)]
+fn is_over(ctx: &DecoderContext, reader: &BitReader<'_>, count: usize) -> bool
+    ensures over { result ≡ is_over ctx.now.held.settings ctx.now.held.taken (count, here reader.now) }
+{
+    let eols_of_end = match ctx.settings().encoding {
+        EncodingMode::Group4 => 2, // EOFB
+        EncodingMode::Group3_1D | EncodingMode::Group3_2D => 6, // RTC
+    };
+    let at_rtc = ctx.settings().end_of_block && count >= eols_of_end;
+    let at_limit = limit_met(ctx);
+    let at_end = reader.at_end();
+    at_rtc || at_limit || at_end
+}
+
+/// Passes the gap before a line, and returns whether the image ends there: at EOFB or RTC with `end_of_block`, at the row
+/// limit or at the end of the data (T.4 sections 4.1.2 and 4.1.4, T.6 section 2.4.1.1). It counts the EOLs there. Where
+/// none came although the data has EOLs, the next one is looked for, and where none is left EOLs are given up; strict data
+/// is then at fault, which is `InvalidCode`. It takes no memory. Each bit that is looked at is a tick: one that is passed at
+/// most four times.
+#[inline(always)]
+pub(crate) fn pass_gap(ctx: &mut DecoderContext, reader: &mut BitReader<'_>) -> Result<bool>
+    ensures gap { gap_behind_row ctx.old.held.settings ctx.old.held.taken ctx.old.held.has_eols (here reader.old)
+        ≡ gap_said result ctx.new.held.has_eols (here reader.new) }
+    ensures held { ctx.new.held ≡ record ctx.old.held { has_eols = ctx.new.held.has_eols } }
+    ensures given_up { IfOk result (λ over. over ≡ true → ctx.new.held.has_eols ≡ ctx.old.held.has_eols) }
+    ensures kept { OnErr result (ctx.new.held.has_eols ≡ ctx.old.held.has_eols) }
+    ensures only_code { IsOkUnless result DecodeError.InvalidCode }
+    ensures only_strict { OnErr result (ctx.old.held.settings.strict ≡ true) }
+    ensures same_bits { reader.new.bits ≡ reader.old.bits }
+    ensures counts { ctx.old.ticks ≤ ctx.new.ticks }
+    ensures at_least { OnOk result (ctx.old.ticks + length (here reader.old) ≤ ctx.new.ticks + length (here reader.new)) }
+    ensures work { OnOk result (ctx.new.held.has_eols ≡ ctx.old.held.has_eols
+        → ctx.new.ticks + 4 * length (here reader.new) ≤ ctx.old.ticks + 4 * length (here reader.old)
+        + tag_tests ctx.old.held.settings.encoding + looked_ahead ctx.old.held.settings.encoding (here reader.new)) }
+    ensures work_given_up { OnOk result (ctx.new.held.has_eols ≢ ctx.old.held.has_eols
+        → ctx.new.ticks ≤ ctx.old.ticks + 2 * length (here reader.old)) }
+    ensures work_refused { OnErr result (ctx.new.ticks ≡ ctx.old.ticks + looked (here reader.old)) }
+{
+    let count = read_eols(ctx, reader);
+    if count > 0 || !ctx.has_eols() || limit_met(ctx) || reader.at_end() {
+        return Ok(is_over(ctx, reader, count));
+    }
+    if ctx.settings().strict {
+        return Err(DecodeError::InvalidCode);
+    }
+    if !reader.skip_to_eol(ctx.ticks()) {
+        ctx.set_has_eols(false);
+        return Ok(false);
+    }
+    let count = read_eols(ctx, reader);
+    Ok(is_over(ctx, reader, count))
+}
+
+/// Decodes a line of the kind that its tag says (T.4 section 4.2.2). A missing tag is `UnexpectedEof`, with nothing
+/// painted.
+fn decode_tagged_line(ctx: &mut DecoderContext, reader: &mut BitReader<'_>) -> Result<()>
+    requires begun { ctx.old.held.front ≡ [] }
+    ensures line { DrawsLine (line_by EncodingMode.Group3_2D ctx.old.held.settings.strict ctx.old.held.settings.columns
+        ctx.old.held.reference (here reader.old)) result ctx.new.held.front (here reader.new) }
+    ensures held { ctx.new.held ≡ redrawn ctx.old.held ctx.new.held.front ctx.new.held.color }
+    ensures same_bits { reader.new.bits ≡ reader.old.bits }
+    ensures counts { ctx.old.ticks ≤ ctx.new.ticks }
+    ensures no_tag { here reader.old ≡ [] → ctx.new.ticks ≡ ctx.old.ticks }
+    ensures at_least { OnAnswer result (ctx.old.ticks + length (line_found EncodingMode.Group3_2D
+        ctx.old.held.settings.strict ctx.old.held.settings.columns ctx.old.held.reference (here reader.old))
+        ≤ ctx.new.ticks) }
+    ensures at_most { ctx.new.ticks ≤ ctx.old.ticks + 4 * length (line_found EncodingMode.Group3_2D
+        ctx.old.held.settings.strict ctx.old.held.settings.columns ctx.old.held.reference (here reader.old)) + 2
+        + length (changes ctx.old.held.reference) }
+{
+    let tag = reader.read_bit()?;
+    ctx.ticks().tick();
+    if tag == 1 {
+        decode_1d_line(ctx, reader)
+    } else {
+        decode_2d_line(ctx, reader)
+    }
+}
+
+/// Decodes the line that stands here.
+#[inline(never)]
+fn decode_line(ctx: &mut DecoderContext, reader: &mut BitReader<'_>) -> Result<()>
+    requires begun { ctx.old.held.front ≡ [] }
+    ensures line { DrawsLine (line_here ctx.old.held.settings ctx.old.held.reference (here reader.old))
+        result ctx.new.held.front (here reader.new) }
+    ensures held { ctx.new.held ≡ redrawn ctx.old.held ctx.new.held.front ctx.new.held.color }
+    ensures same_bits { reader.new.bits ≡ reader.old.bits }
+    ensures counts { ctx.old.ticks ≤ ctx.new.ticks }
+    ensures at_least { OnAnswer result (ctx.old.ticks
+        + length (found_here ctx.old.held.settings ctx.old.held.reference (here reader.old)) ≤ ctx.new.ticks) }
+    ensures at_most { ctx.new.ticks ≤ ctx.old.ticks
+        + 4 * length (found_here ctx.old.held.settings ctx.old.held.reference (here reader.old)) + 2
+        + length (changes ctx.old.held.reference) }
+{
+    match ctx.settings().encoding {
+        EncodingMode::Group3_1D => decode_1d_line(ctx, reader),
+        EncodingMode::Group3_2D => decode_tagged_line(ctx, reader),
+        EncodingMode::Group4 => decode_2d_line(ctx, reader),
+    }
+}
+
+/// Reads a line, repairs it where it is damaged and may be, and hands its row over. The errors are those of the line
+/// that isn't repaired, `OutOfMemory` while a change is stored, and `Refused` where the sink refuses.
+#[inline(always)]
+pub(crate) fn read_row<D: Decoder>(
+    ctx: &mut DecoderContext,
+    reader: &mut BitReader<'_>,
+    decoder: &mut D,
+) -> Result<()>
+    requires width { ctx.old.held.settings.columns ≤ D.width decoder.old }
+    requires rows { ctx.old.held.taken ≤ length reader.old.bits + 1 }
+    requires begun { ctx.old.held.front ≡ [] }
+    ensures width { D.width decoder.new ≡ D.width decoder.old }
+    ensures row { TakesOneRow (line_here ctx.old.held.settings ctx.old.held.reference (here reader.old))
+        (row_of_line ctx.old.held.settings ctx.old.held.has_eols (here reader.old)
+        (line_here ctx.old.held.settings ctx.old.held.reference (here reader.old)))
+        (D.step (D.width decoder.old))
+        (record { meaning = D.meaning decoder.old; refused = D.has_refused decoder.old; refuses = D.refuses decoder.old })
+        (record { meaning = D.meaning decoder.new; refused = D.has_refused decoder.new; refuses = D.refuses decoder.new })
+        ctx.old.held ctx.new.held result (here reader.new) }
+    ensures refused_place { result ≡ Err DecodeError.Refused → here reader.new
+        ≡ behind_line (line_here ctx.old.held.settings ctx.old.held.reference (here reader.old)) (here reader.old) }
+    ensures same_bits { reader.new.bits ≡ reader.old.bits }
+    ensures counts { ctx.old.ticks ≤ ctx.new.ticks }
+    ensures at_least { OnOk result (ctx.old.ticks
+        + length (found_here ctx.old.held.settings ctx.old.held.reference (here reader.old)) ≤ ctx.new.ticks) }
+    ensures at_most { ctx.new.ticks ≤ ctx.old.ticks
+        + 4 * length (found_here ctx.old.held.settings ctx.old.held.reference (here reader.old)) + 2
+        + length (changes ctx.old.held.reference) }
+    ensures stored { OnOk result (length (changes ctx.new.held.reference)
+        ≤ length (found_here ctx.old.held.settings ctx.old.held.reference (here reader.old)) + 1) }
+{
+    let line_start = reader.copy();
+    if let Err(error) = decode_line(ctx, reader) {
+        recover(ctx, reader, line_start, error)?;
+    }
+    take_row(ctx, reader, decoder)
+}
+
+/// Reads rows from a line on, in every encoding, until EOFB or RTC (with `end_of_block`), the row limit or the end of the
+/// data.
+pub(crate) fn read_rows<D: Decoder>(
+    ctx: &mut DecoderContext,
+    reader: &mut BitReader<'_>,
+    decoder: &mut D,
+) -> Result<()>
+    requires columns { 0 < ctx.old.held.settings.columns }
+    requires first { ctx.old.held ≡ record (fresh ctx.old.held.settings) { has_eols = ctx.old.held.has_eols } }
+    requires width { ctx.old.held.settings.columns ≤ D.width decoder.old }
+    ensures width { D.width decoder.new ≡ D.width decoder.old }
+    ensures rows { DecodesFrom (record { rows = []; has_eols = ctx.old.held.has_eols; rest = here reader.old })
+        (most_from_line ctx.old.held.has_eols (length reader.old.bits)) (D.step (D.width decoder.old))
+        (record { meaning = D.meaning decoder.old; refused = D.has_refused decoder.old; refuses = D.refuses decoder.old })
+        (record { meaning = D.meaning decoder.new; refused = D.has_refused decoder.new; refuses = D.refuses decoder.new })
+        ctx.old ctx.new (leaving result (here reader.new)) }
+    ensures no_eols { ctx.old.held.has_eols ≡ false → ctx.new.held.has_eols ≡ false }
+    ensures same_bits { reader.new.bits ≡ reader.old.bits }
+{
+    'rows: loop {
+        read_row(ctx, reader, decoder)?;
+        if pass_gap(ctx, reader)? {
+            return Ok(());
+        }
+    }
 }

@@ -218,9 +218,6 @@ more_left [] lt = absurd (omega arith)
 more_left (b ∷ here) lt = refl
 
 module _ (bits : Bits) where
-  first : Bits
-  first = (all_eols bits).1
-
   leaves_first : FirstLeaves bits (all_eols bits).1
   leaves_first = first_leaves (suc (length bits)) bits (omega arith)
 

@@ -58,12 +58,6 @@ unless_full_words : (full : Bool) (line : Line) (pen : Pen) (words : Pen → Lis
 unless_full_words true line pen words open_row = absurd (false≢true (sym open_row))
 unless_full_words false line pen words open_row = refl
 
--- a full row finds no word more
-full_words : (full : Bool) (line : Line) (pen : Pen) (words : Pen → List Bits) (step : Pen → Step) (rest : Pen → List Bits) → full ≡ true
-    → ◌≡◌ {A = List Bits} (([] ++ words_behind (cond full (Turn.done line) (Turn.next pen)) words) ++ found_after rest (turn_behind (cond full (Turn.done line) (Turn.next pen)) step)) []
-full_words true line pen words step rest whole = refl
-full_words false line pen words step rest whole = absurd (false≢true whole)
-
 -- and it is that drawing
 unless_full_step : (full : Bool) (line : Line) (pen : Pen) (step : Pen → Step) → full ≡ false
     → turn_behind (cond full (Turn.done line) (Turn.next pen)) step ≡ step pen
@@ -116,11 +110,6 @@ found_2d_on strict columns reference pen mode rest open_row reads =
       length-append (word_found mode_codes pen.rest) drawing.words,
       one_word mode_codes pen.rest (mode, rest) reads,
     )
-
--- and where none stands, no word more
-pub found_2d_missed : (strict : Bool) (columns : ℕ) (reference : Row) (pen : Pen) (fault : DecodeError) → length pen.front < columns
-    → read_code mode_codes pen.rest ≡ Err fault → found_2d_from strict columns reference pen ≡ []
-found_2d_missed strict columns reference pen fault open_row reads = found_2d_turn strict columns reference pen open_row ∙ rw (reads, word_found) refl
 
 -- ---- What the calls that draw a step need of them.
 

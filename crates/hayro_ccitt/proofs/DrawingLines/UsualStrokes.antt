@@ -23,9 +23,6 @@ use Rattle.hayro_ccitt.proofs.PixelRows.ChangesAndPixels.{turned, turned-even, A
 use Rattle.hayro_ccitt.proofs.Readings.Repeated.{after_turn}
 
 -- ---- Drawing goes on.
-pub goes_on_still : (strict : Bool) (columns : ℕ) (pen : Pen) (ticks : ℕ) → GoesOn strict columns pen pen ticks ticks
-goes_on_still strict columns pen ticks = record { line = refl; counts = omega arith; counted = refl }
-
 pub goes_on_twice : (strict : Bool) (columns : ℕ) (a b c : Pen) (m n o : ℕ) → GoesOn strict columns a b m n → GoesOn strict columns b c n o → GoesOn strict columns a c m o
 goes_on_twice strict columns a b c m n o first second = record {
   line = second.line ∙ first.line;
@@ -184,11 +181,6 @@ reached_both columns place run row between new some short lawful even first seco
     })
 
 -- ---- A row that is taken up, and laid down.
-
--- a row of an odd number of changes is taken up with one where it ends
-pub taken_up : (painted : ℕ) (row new : List ℕ) → AreChanges painted row → length row % 2 ≢ 0 → new ≡ row ++ painted ∷ [] → AreChanges (painted + 1) new × (length new % 2 ≡ 0)
-taken_up painted row new lawful odd is =
-    rw is (AreChanges-push painted 1 row (omega arith) lawful, omega (arith, odd, length-append row (painted ∷ [])))
 
 -- the last of ascending places
 last_from : (first width : ℕ) (row : List ℕ) (last : ℕ) → AscendFrom first width (row ++ last ∷ []) → (first ≤ last) × (last < width)

@@ -26,7 +26,7 @@ use Rattle.hayro_ccitt.proofs.Readings.PlainAnswers.{some_columns, bytes_before-
 use Rattle.hayro_ccitt.proofs.Readings.TurnsAddRows.{Keeps, first_gap_keeps}
 use Rattle.hayro_ccitt.proofs.Readings.TurnsMoveOn.{left_to_read, left_below, next_is, not_next}
 use Rattle.hayro_ccitt.proofs.Readings.RunsOverRows.{Comes, Between, Leaves, held_between-more, comes_first, comes_next, comes_done, comes_more, comes_line, get_or-behind, row_fails}
-use Rattle.hayro_ccitt.proofs.Readings.RowsOfGroup3.{by_rows_left, row_of_turn, reads_row, turn_is}
+use Rattle.hayro_ccitt.proofs.Readings.RowsTaken.{by_rows_left, row_of_turn, reads_row, turn_is}
 
 -- what the sink means that keeps nothing, and refuses no row
 abbrev pub nothing_kept : SinkState (Unit {0})

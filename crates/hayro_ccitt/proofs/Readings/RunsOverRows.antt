@@ -267,16 +267,6 @@ module _ {M : Type 0} (move : Progress → Move) (gives : Progress → List Line
   abbrev the_lines : List Line
   the_lines = gathered_from move gives start
 
-  -- a run that ends here, all its rows being taken
-  pub between_ends : (end : Ending) (new : Held) → move between.so_far ≡ Turn.done end → end.rows ≡ between.so_far.rows → new ≡ held → end.has_eols ≡ held.has_eols
-      → (rest : Bits) → end.outcome ≡ Ok rest → Leaves the_end the_lines step before now new (Ok rest)
-  between_ends end new is rows same eols rest outcome =
-      let known : the_end ≡ end = comes_done move gives left by_rows start begins between.so_far between.comes end is in
-      let taken : new.taken ≡ length end.rows = ap (λ (h : Held). h.taken) (same ∙ between.held) ∙ ap length (sym rows) in
-      subst (λ (e : Ending). Leaves e the_lines step before now new (Ok rest)) (sym known)
-      (ends_well step before now new end the_lines taken (between.meaning ∙ ap (meaning_after step before.meaning) (sym rows))
-      (ap (λ (h : Held). h.has_eols) same ∙ sym eols) between.refused rest outcome)
-
   module _ (line : Line) (row : Result (Row × Bits) DecodeError) (reads : ReadsRow move gives between.so_far line row) (after : SinkState M) (new : Held) (rest : Bits) where
     -- a row that isn't taken ends the run
     pub row_fails : (e : DecodeError) → TakesOneRow line row step now after held new (Err e) rest → Leaves the_end the_lines step before after new (Err e)

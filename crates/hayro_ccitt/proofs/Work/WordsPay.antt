@@ -64,11 +64,6 @@ pub record IsPaid (here rest : Bits) (found : List Bits) : Type 0 where
   pub words : length found + length rest ≤ length here
   pub zeros : looked here + length rest ≤ length here
 
--- what was taken further on is paid as well
-pub shorter_paid : (here rest further : Bits) (found : List Bits) → IsPaid here rest found → length further ≤ length rest → IsPaid here further found
-shorter_paid here rest further found paid le =
-    record { some = paid.some; words = omega (arith, paid.words, le); zeros = omega (arith, paid.zeros, le) }
-
 -- a whole byte is further on
 pub either_shorter : (aligns : Bool) (rest : Bits) → length (cond aligns (aligned rest) rest) ≤ length rest
 either_shorter true rest = omega (arith, length-drop (length rest % 8) rest)

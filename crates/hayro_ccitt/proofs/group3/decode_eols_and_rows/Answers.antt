@@ -6,7 +6,7 @@ use Rattle.hayro_ccitt.specs.EndOfLine.{all_eols}
 use Rattle.hayro_ccitt.specs.PlainReading.{Progress, first_line}
 use Rattle.hayro_ccitt.specs.Repetition.{Turn}
 use Rattle.hayro_ccitt.proofs.Readings.GapsAndRows.{first_gap_t4}
-use Rattle.hayro_ccitt.proofs.Readings.RowsOfGroup3.{given_up_at_most, most_counted_t4}
+use Rattle.hayro_ccitt.proofs.Readings.RowsTaken.{given_up_at_most, most_counted_t4}
 use Rattle.hayro_ccitt.proofs.Readings.WholeRuns.{decodes_from}
 use Rattle.hayro_ccitt.proofs.Work.EolsPassed.{looked_most}
 use Rattle.hayro_ccitt.proofs.group3.decode_eols_and_rows.Goals as goal
@@ -15,7 +15,7 @@ pub returns-clause-rows : goal.returns-clause-rows
 returns-clause-rows g c =
     let settings = c.args.ctx.now.held.settings in
     let bits = c.args.reader.now.bits in
-    let from = c.decode_rows.ensures.rows in
+    let from = c.read_rows.ensures.rows in
     let eols = c.read_leading_eols.ensures.has_eols in
     let middle = c.read_leading_eols.new.ctx in
     let rest = here c.read_leading_eols.new.reader in
@@ -24,8 +24,8 @@ returns-clause-rows g c =
     = sym (ap (λ (b : Bool). record { rows = []; has_eols = b; rest = rest }) (ap (λ (h : Held). h.has_eols) eols)
     ∙ ap (λ (x : Bits). record { rows = []; has_eols = ltb 0 (all_eols (here c.args.reader.now)).0 || settings.end_of_line; rest = x }) c.read_leading_eols.ensures.rest
     ∙ ap (λ (x : Bits). first_line settings x) at) in
-    decodes_from bits (g.D.Decoder.step (g.D.Decoder.width c.args.decoder.now)) _ _ c.args.ctx.now c.decode_rows.new.ctx
-    (leaving c.decode_rows.result (here c.decode_rows.new.reader))
+    decodes_from bits (g.D.Decoder.step (g.D.Decoder.width c.args.decoder.now)) _ _ c.args.ctx.now c.read_rows.new.ctx
+    (leaving c.read_rows.result (here c.read_rows.new.reader))
     (omega (
       arith,
       most_counted_t4 settings.encoding (length bits) c.requires.encoding,

@@ -86,14 +86,14 @@ returns-clause-rows g c =
     let bits = c.args.reader.now.bits in
     let rest = here c.pass_gap.new.reader in
     let middle = c.pass_gap.new.ctx in
-    let from = c.decode_rows.ensures.rows in
+    let from = c.read_rows.ensures.rows in
     let is : c.pass_gap.result ≡ Ok false = c.in_ok-pass_gap.was ∙ ap (λ (b : Bool). Ok b) c.if-branch.false in
     let gap = gap_is g at ∙ ap (λ (a : Result Bool DecodeError). gap_said a middle.held.has_eols rest) is in
     let first = first_is g at ∙ ap (λ (a : Result Bool DecodeError). at_gap (at_front bits) (gap_said a middle.held.has_eols rest)) is in
     let unsought : middle.held.has_eols ≡ false = (line_without_eols settings 0 middle.held.has_eols bits rest gap).0 in
     let kept : middle.held.has_eols ≡ c.args.ctx.now.held.has_eols = unsought ∙ sym (ap (λ (h : Held). h.has_eols) c.requires.fresh) in
-    decodes_from bits (g.D.Decoder.step (g.D.Decoder.width c.args.decoder.now)) _ _ c.args.ctx.now c.decode_rows.new.ctx
-    (leaving c.decode_rows.result (here c.decode_rows.new.reader))
+    decodes_from bits (g.D.Decoder.step (g.D.Decoder.width c.args.decoder.now)) _ _ c.args.ctx.now c.read_rows.new.ctx
+    (leaving c.read_rows.result (here c.read_rows.new.reader))
     (omega (
       arith,
       ap (λ (e : EncodingMode). most_counted e (length bits)) c.requires.encoding,

@@ -1,0 +1,195 @@
+use Rattle.std.proofs.Common.{rules, ◌≡◌, ◌≤◌, ◌+◌, Result, Bool, true, false, length, Ok, refl, sym, ap, ◌∙◌, subst, arith}
+use Rattle.std.proofs.lemmas.Result.{err_from_is_err_and}
+use Rattle.std.proofs.lemmas.List.{length-drop}
+use Rattle.hayro_ccitt.specs.declared.error.DecodeError.TheVariants.{InvalidCode}
+use Rattle.hayro_ccitt.specs.Answers.{IsFault}
+use Rattle.hayro_ccitt.specs.Bits.{here}
+use Rattle.hayro_ccitt.specs.Context.{Held}
+use Rattle.hayro_ccitt.specs.PlainReading.{move_on, one_each, line_of_turn, gathered_from, gap_behind_row}
+use Rattle.hayro_ccitt.proofs.Readings.TurnsMoveOn.{left_to_read}
+use Rattle.hayro_ccitt.proofs.Readings.RunsOverRows.{comes_first}
+use Rattle.hayro_ccitt.proofs.Readings.RowsTaken.{from_line, by_rows_left, left_start, turn_fails, turn_misses, turn_ends, next_between, next_counted, next_paid, next_shorter, counted_last, fails_paid, giving_up_is_paid, misses_paid, ends_paid, words_are}
+use Rattle.hayro_ccitt.specs.Work.{CountsRun, most_given_up, most_from_line, words_of_turn}
+use Rattle.hayro_ccitt.specs.declared.error.DecodeError.{DecodeError}
+use Rattle.hayro_ccitt.specs.Decoding.{gap_said}
+use Rattle.hayro_ccitt.specs.Rows.{changes}
+use Rattle.hayro_ccitt.proofs.Work.ChangesStored.{changes_white}
+use Rattle.hayro_ccitt.proofs.Work.RunsCount.{counted_ends}
+use Rattle.hayro_ccitt.proofs.Work.EolsPassed.{looked_most, line_without_eols, few_tag_tests}
+use Rattle.hayro_ccitt.proofs.rows.read_rows.Given.{Over}
+use Rattle.hayro_ccitt.proofs.rows.read_rows.Goals.{After-pass_gap}
+use Rattle.hayro_ccitt.proofs.rows.read_rows.Goals as goal
+
+pub rows-init : goal.rows-init
+rows-init g c =
+    let settings = c.args.ctx.now.held.settings in
+    let first = from_line c.args.ctx.now.held.has_eols (here c.args.reader.now) in (
+      record {
+        so_far = first;
+        comes = comes_first (move_on settings) (one_each (line_of_turn settings)) left_to_read (by_rows_left settings c.requires.columns) first refl;
+        held = c.requires.first;
+        here = refl;
+        meaning = refl;
+        refused = refl;
+      },
+      (λ none. none),
+      refl,
+      refl,
+      record {
+        comes = comes_first (move_on settings) (one_each (words_of_turn settings)) left_to_read (by_rows_left settings c.requires.columns) first refl;
+        at_least = omega arith;
+      },
+      omega (
+        arith,
+        ap (λ (h : Held). length (changes h.reference)) c.requires.first,
+        changes_white settings.columns,
+        length-drop c.args.reader.now.place c.args.reader.now.bits,
+      ),
+    )
+
+pub read_row-requires-clause-rows : goal.read_row-requires-clause-rows
+read_row-requires-clause-rows g c =
+    let (between, unsought, same, width, words, paid) = c.rows.invariant in
+    let settings = c.args.ctx.now.held.settings in
+    let sought = c.args.ctx.now.held.has_eols in
+    let rest0 = here c.args.reader.now in
+    let bits = c.args.reader.now.bits in
+    let taken = ap (λ (h : Held). h.taken) between.held in
+    omega (arith, taken, between.comes.room, left_start sought rest0, length-drop c.args.reader.now.place c.args.reader.now.bits, ap length same)
+
+pub rows-smaller : goal.rows-smaller
+rows-smaller g c =
+    let (between, unsought, same, width, words, paid) = c.rows.invariant in
+    let settings = c.args.ctx.now.held.settings in
+    let sought = c.args.ctx.now.held.has_eols in
+    let rest0 = here c.args.reader.now in
+    let bits = c.args.reader.now.bits in
+    let is : c.pass_gap.result ≡ Ok false = c.in_ok-pass_gap.was ∙ ap (λ (b : Bool). Ok b) c.if-branch.false in
+    next_shorter settings c.requires.columns sought rest0 bits g.D.Decoder.step _ _ _ _ _ between _ width _ _ _
+    c.in_ok-read_row.ensures.row c.pass_gap.new.ctx.held (here c.pass_gap.new.reader) c.pass_gap.result c.pass_gap.ensures.gap c.pass_gap.ensures.held is
+
+pub rows-preserved : goal.rows-preserved
+rows-preserved g c =
+    let (between, unsought, same, width, words, paid) = c.rows.invariant in
+    let settings = c.args.ctx.now.held.settings in
+    let sought = c.args.ctx.now.held.has_eols in
+    let rest0 = here c.args.reader.now in
+    let bits = c.args.reader.now.bits in
+    let is : c.pass_gap.result ≡ Ok false = c.in_ok-pass_gap.was ∙ ap (λ (b : Bool). Ok b) c.if-branch.false in
+    let next = next_between settings c.requires.columns sought rest0 bits g.D.Decoder.step _ _ _ _ _ between _ width _ _ _
+    c.in_ok-read_row.ensures.row c.pass_gap.new.ctx.held (here c.pass_gap.new.reader) c.pass_gap.result c.pass_gap.ensures.gap c.pass_gap.ensures.held is in
+    let within : length (here c.rows.reader) ≤ length bits = omega (arith, length-drop c.rows.reader.place c.rows.reader.bits, ap length same) in
+    let found = words_are settings sought rest0 bits between in
+    let counted = next_counted settings c.requires.columns sought rest0 bits g.D.Decoder.step _ _ _ _ _ between _ width _ _ _
+    c.in_ok-read_row.ensures.row c.pass_gap.new.ctx.held (here c.pass_gap.new.reader) c.pass_gap.result c.pass_gap.ensures.gap c.pass_gap.ensures.held is
+    c.args.ctx.now.ticks c.rows.ctx.ticks c.pass_gap.new.ctx.ticks words (omega (arith, found, c.in_ok-read_row.ensures.at_least, c.pass_gap.ensures.counts)) in
+    let gap = c.pass_gap.ensures.gap ∙ ap (λ (a : Result Bool DecodeError). gap_said a c.pass_gap.new.ctx.held.has_eols (here c.pass_gap.new.reader)) is in
+    let goes_on = next_paid settings c.requires.columns sought rest0 bits g.D.Decoder.step _ _ _ _ _ between _ width _ _ _
+    within c.args.ctx.now.ticks (most_given_up sought (length bits)) c.rows.ctx.ticks paid c.read_row.new.ctx.ticks c.in_ok-read_row.ensures.at_most c.in_ok-read_row.ensures.row
+    c.pass_gap.new.ctx.ticks c.pass_gap.new.ctx.held (here c.pass_gap.new.reader) gap c.pass_gap.ensures.held c.in_ok-read_row.ensures.stored
+    (λ kept. omega (arith, c.in_ok-pass_gap.ensures.work kept, few_tag_tests c.read_row.new.ctx.held.settings.encoding)) c.in_ok-pass_gap.ensures.work_given_up (giving_up_is_paid sought c.rows.ctx.held.has_eols (length bits) unsought) in
+    let row = ap (λ (h : Held). h.has_eols) c.in_ok-read_row.ensures.row.taken.held in
+    let none = λ (sought_not : sought ≡ false). (line_without_eols c.read_row.new.ctx.held.settings c.read_row.new.ctx.held.taken c.pass_gap.new.ctx.held.has_eols (here c.read_row.new.reader) (here c.pass_gap.new.reader)
+    (ap (λ (b : Bool). gap_behind_row c.read_row.new.ctx.held.settings c.read_row.new.ctx.held.taken b (here c.read_row.new.reader)) (sym (row ∙ unsought sought_not)) ∙ gap)).0 in
+    (next, none, c.pass_gap.ensures.same_bits ∙ c.read_row.ensures.same_bits ∙ same, c.read_row.ensures.width ∙ width, counted, goes_on)
+
+pub returns-in_err-read_row-clause-rows : goal.returns-in_err-read_row-clause-rows
+returns-in_err-read_row-clause-rows g c =
+    let (between, unsought, same, width, words, paid) = c.rows.invariant in
+    let settings = c.args.ctx.now.held.settings in
+    let sought = c.args.ctx.now.held.has_eols in
+    let rest0 = here c.args.reader.now in
+    let bits = c.args.reader.now.bits in
+    let answer = err_from_is_err_and c.from_residual.result c.from_residual.ensures.1 in
+    let leaves = turn_fails settings c.requires.columns sought rest0 bits g.D.Decoder.step _ _ _ _ _ between _ width _ _ _ c.in_err-read_row.field-0.0 c.in_err-read_row.ensures.row in
+    let within : length (here c.rows.reader) ≤ length bits = omega (arith, length-drop c.rows.reader.place c.rows.reader.bits, ap length same) in
+    let taken = ap (λ (h : Held). h.taken) c.in_err-read_row.ensures.row.held in
+    rw (answer.1, answer.2) (
+    record {
+      settings = search rules;
+      reading = leaves.0;
+      short = leaves.1;
+      work = counted_ends (move_on settings) (one_each (words_of_turn settings)) left_to_read (by_rows_left settings c.requires.columns) (from_line sought rest0) refl between.so_far
+          c.args.ctx.now.ticks c.rows.ctx.ticks words c.read_row.new.ctx.held.taken c.read_row.new.ctx.ticks (most_from_line sought (length bits))
+          (taken ∙ ap (λ (h : Held). h.taken) between.held) c.in_err-read_row.ensures.counts
+          (fails_paid settings c.requires.columns sought rest0 bits g.D.Decoder.step _ _ _ _ _ between _ width
+          (record { meaning = g.D.Decoder.meaning c.read_row.new.decoder; refused = g.D.Decoder.has_refused c.read_row.new.decoder; refuses = g.D.Decoder.refuses c.read_row.new.decoder }) c.read_row.new.ctx.held (here c.read_row.new.reader) within
+          c.args.ctx.now.ticks (most_given_up sought (length bits)) c.rows.ctx.ticks paid c.read_row.new.ctx.ticks c.in_err-read_row.ensures.at_most);
+    }
+    )
+
+-- what is counted where what stands behind a row ends the run, within the bound
+last_counted : (g : Over) (c : After-pass_gap g) → c.pass_gap.new.ctx.ticks ≤ c.args.ctx.now.ticks + (most_from_line c.args.ctx.now.held.has_eols (length c.args.reader.now.bits))
+    → CountsRun (gathered_from (move_on c.args.ctx.now.held.settings) (one_each (words_of_turn c.args.ctx.now.held.settings)) (from_line c.args.ctx.now.held.has_eols (here c.args.reader.now))) c.pass_gap.new.ctx.held.taken c.args.ctx.now.ticks c.pass_gap.new.ctx.ticks
+    (most_from_line c.args.ctx.now.held.has_eols (length c.args.reader.now.bits))
+last_counted g c most =
+    let (between, unsought, same, width, words, paid) = c.rows.invariant in
+    let settings = c.args.ctx.now.held.settings in
+    let sought = c.args.ctx.now.held.has_eols in
+    let rest0 = here c.args.reader.now in
+    let bits = c.args.reader.now.bits in
+    let found = words_are settings sought rest0 bits between in
+    counted_last settings c.requires.columns sought rest0 bits g.D.Decoder.step _ _ _ _ _ between _ width _ _ _
+    c.in_ok-read_row.ensures.row c.pass_gap.new.ctx.held (here c.pass_gap.new.reader) c.pass_gap.result c.pass_gap.ensures.gap c.pass_gap.ensures.held
+    c.args.ctx.now.ticks c.rows.ctx.ticks c.pass_gap.new.ctx.ticks (most_from_line sought (length bits)) words (omega (arith, found, c.in_ok-read_row.ensures.at_least, c.pass_gap.ensures.counts)) most
+
+pub returns-in_err-pass_gap-clause-rows : goal.returns-in_err-pass_gap-clause-rows
+returns-in_err-pass_gap-clause-rows g c =
+    let (between, unsought, same, width, words, paid) = c.rows.invariant in
+    let settings = c.args.ctx.now.held.settings in
+    let sought = c.args.ctx.now.held.has_eols in
+    let rest0 = here c.args.reader.now in
+    let bits = c.args.reader.now.bits in
+    let answer = err_from_is_err_and c.from_residual-in_err-pass_gap.result c.from_residual-in_err-pass_gap.ensures.1 in
+    let code : c.in_err-pass_gap.field-0.0 ≡ InvalidCode = c.in_err-pass_gap.ensures.only_code in
+    let leaves = turn_misses settings c.requires.columns sought rest0 bits g.D.Decoder.step _ _ _ _ _ between _ width _ _ _
+    c.in_ok-read_row.ensures.row c.pass_gap.new.ctx.held (here c.pass_gap.new.reader) c.pass_gap.result c.pass_gap.ensures.gap c.pass_gap.ensures.held c.in_err-pass_gap.field-0.0 c.in_err-pass_gap.was (subst IsFault (sym code) tt) c.in_err-pass_gap.ensures.kept in
+    let within : length (here c.rows.reader) ≤ length bits = omega (arith, length-drop c.rows.reader.place c.rows.reader.bits, ap length same) in
+    rw (answer.1, answer.2) (
+    record {
+      settings = search rules;
+      reading = leaves.0;
+      short = leaves.1;
+      work = last_counted g (goal.at.returns-in_err-pass_gap-clause-rows g c).After-pass_gap
+          (misses_paid settings c.requires.columns sought rest0 bits g.D.Decoder.step _ _ _ _ _ between _ width _ _ _
+          within c.args.ctx.now.ticks (most_given_up sought (length bits)) c.rows.ctx.ticks paid c.read_row.new.ctx.ticks c.in_ok-read_row.ensures.at_most c.in_ok-read_row.ensures.row
+          c.pass_gap.new.ctx.ticks (omega (arith, c.in_err-pass_gap.ensures.work_refused, looked_most (here c.read_row.new.reader))));
+    }
+    )
+
+pub returns-then-branch-clause-rows : goal.returns-then-branch-clause-rows
+returns-then-branch-clause-rows g c =
+    let (between, unsought, same, width, words, paid) = c.rows.invariant in
+    let settings = c.args.ctx.now.held.settings in
+    let sought = c.args.ctx.now.held.has_eols in
+    let rest0 = here c.args.reader.now in
+    let bits = c.args.reader.now.bits in
+    let is : c.pass_gap.result ≡ Ok true = c.in_ok-pass_gap.was ∙ ap (λ (b : Bool). Ok b) c.if-branch.true in
+    let leaves = turn_ends settings c.requires.columns sought rest0 bits g.D.Decoder.step _ _ _ _ _ between _ width _ _ _
+    c.in_ok-read_row.ensures.row c.pass_gap.new.ctx.held (here c.pass_gap.new.reader) c.pass_gap.result c.pass_gap.ensures.gap c.pass_gap.ensures.held is (c.in_ok-pass_gap.ensures.given_up c.if-branch.true) in
+    let within : length (here c.rows.reader) ≤ length bits = omega (arith, length-drop c.rows.reader.place c.rows.reader.bits, ap length same) in
+    record {
+      settings = search rules;
+      reading = leaves.0;
+      short = leaves.1;
+      work = last_counted g (goal.at.returns-then-branch-clause-rows g c).After-pass_gap
+          (ends_paid settings c.requires.columns sought rest0 bits g.D.Decoder.step _ _ _ _ _ between _ width _ _ _
+          within c.args.ctx.now.ticks (most_given_up sought (length bits)) c.rows.ctx.ticks paid c.read_row.new.ctx.ticks c.in_ok-read_row.ensures.at_most c.in_ok-read_row.ensures.row
+          c.pass_gap.new.ctx.ticks (here c.pass_gap.new.reader)
+          (omega (arith, c.in_ok-pass_gap.ensures.work (c.in_ok-pass_gap.ensures.given_up c.if-branch.true), few_tag_tests c.read_row.new.ctx.held.settings.encoding)));
+    }
+
+pub returns-in_err-read_row-clause-no_eols : goal.returns-in_err-read_row-clause-no_eols
+returns-in_err-read_row-clause-no_eols g c = λ none.
+    let (between, unsought, same, width, words, paid) = c.rows.invariant in
+    ap (λ (h : Held). h.has_eols) c.in_err-read_row.ensures.row.held ∙ unsought none
+
+pub returns-in_err-pass_gap-clause-no_eols : goal.returns-in_err-pass_gap-clause-no_eols
+returns-in_err-pass_gap-clause-no_eols g c = λ none.
+    let (between, unsought, same, width, words, paid) = c.rows.invariant in
+    c.in_err-pass_gap.ensures.kept ∙ ap (λ (h : Held). h.has_eols) c.in_ok-read_row.ensures.row.taken.held ∙ unsought none
+
+pub returns-then-branch-clause-no_eols : goal.returns-then-branch-clause-no_eols
+returns-then-branch-clause-no_eols g c = λ none.
+    let (between, unsought, same, width, words, paid) = c.rows.invariant in
+    c.in_ok-pass_gap.ensures.given_up c.if-branch.true ∙ ap (λ (h : Held). h.has_eols) c.in_ok-read_row.ensures.row.taken.held ∙ unsought none
