@@ -1,5 +1,81 @@
 #!/usr/bin/env bash
-# All tests: the gate, which proves every crate from nothing, and then the repository's own checks.
+# All tests, in three parts side by side. `rt ci` proves every crate from nothing, here. Over a copy of the repository in a
+# folder of their own run the edits (checks/edits.py), and, once the crates are checked there, the repository's other checks
+# (checks/run.py), but for those of the test programs that `rt ci` builds, which come last. What each part says is printed when it
+# has ended. The exit status is 0 where all passed.
 cd "$(dirname "$0")" || exit 1
-rt ci || exit 1
-exec python3 checks/run.py
+copy=$(mktemp -d) || exit 1
+said=$(mktemp -d) || exit 1
+parts=()
+# What is still running is ended, by its group, and the folders go.
+clean() {
+    for part in "${parts[@]}"; do
+        kill -- "-$part" 2>/dev/null
+    done
+    rm -rf "$copy" "$said"
+}
+trap clean EXIT
+trap 'exit 130' INT TERM
+set -m
+
+# The copy has the files that git knows or would know, and what earlier checks kept in crates/*/out.
+git ls-files -z --cached --others --exclude-standard | while IFS= read -r -d '' name; do
+    [ -f "$name" ] && printf '%s\0' "$name"
+done | tar --null --files-from - -cf - | tar -C "$copy" -xf - || exit 1
+git -C "$copy" init -q && git -C "$copy" add -A || exit 1
+for crate in crates/*/; do
+    for kept in incremental rlib; do
+        [ -d "$crate/out/$kept" ] && mkdir -p "$copy/$crate/out" && cp -r "$crate/out/$kept" "$copy/$crate/out/"
+    done
+done
+
+# Runs a part: what it says goes into a file of its name, and the second at which it ends into another.
+part() {
+    local name=$1 status
+    shift
+    "$@" >"$said/$name" 2>&1
+    status=$?
+    echo "$SECONDS" >"$said/$name.end"
+    exit "$status"
+}
+# The repository's other checks, once the crates are checked in the copy.
+other_checks() {
+    while [ ! -e "$said/ready" ] && [ ! -e "$said/edits.end" ]; do
+        sleep 1
+    done
+    python3 "$copy/checks/run.py" --without built_tests
+}
+part ci rt ci &
+ci=$!
+part edits nice -n 5 python3 "$copy/checks/edits.py" --ready "$said/ready" &
+edits=$!
+part run other_checks &
+run=$!
+parts+=("$ci" "$edits" "$run")
+
+failed=0
+minutes() {
+    printf '%d:%02d' $(($1 / 60)) $(($1 % 60))
+}
+totals=()
+# Waits for a part, prints what it said, and notes its last line and its minutes.
+end() {
+    local title=$1 name=$2 process=$3 status
+    wait "$process"
+    status=$?
+    [ "$status" -eq 0 ] || failed=1
+    printf '== %s\n' "$title"
+    cat "$said/$name"
+    totals+=("$title: $(tail -n 1 "$said/$name") (status $status, ended at $(minutes "$(cat "$said/$name.end")"))")
+}
+end "checks/run.py" run "$run"
+end "checks/edits.py" edits "$edits"
+end "rt ci" ci "$ci"
+part tests python3 checks/run.py built_tests &
+parts+=("$!")
+end "checks/run.py built_tests" tests "$!"
+printf '== all\n'
+printf '%s\n' "${totals[@]}"
+[ "$failed" -eq 0 ] && printf 'passed' || printf 'FAILED'
+printf ', %s minutes\n' "$(minutes "$SECONDS")"
+exit "$failed"

@@ -1,11 +1,14 @@
 """python3 bench/run.py [--crate FOLDER]: prints a table of instructions, as callgrind counts them, of one decoding of each
-strip: of this library, which counts the rows or paints them; of libtiff, which paints; and of the Rust crate `hayro-ccitt`
-whose Cargo project FOLDER is. Figures are instructions a change; for blank pages, a row. The last two ratios are those of the
-same strip with the lowest bit of each byte first.
+strip of bench/strips.py: of this library, which counts the rows or paints them; of the Rust crate `hayro-ccitt` whose Cargo
+project FOLDER is, which does the same; and of libtiff, which paints. Pages, then strips of few rows, pages of few columns, and
+damaged pages; below them the geometric means of the ratios over the pages. The last two columns are the same strip with the
+lowest bit of each byte first.
 
-It takes gcc, valgrind, libtiff-dev, for the Rust crate cargo, and libhayro_ccitt_c.a as `rt lib` builds it. All pictures are
-compared first."""
+It takes gcc, valgrind, libtiff-dev, for the Rust crate cargo, and libhayro_ccitt_c.a as `rt lib` builds it. The pictures are
+compared first: all of them, where the data isn't damaged, and otherwise this library's and the crate's, since libtiff repairs
+in another way."""
 import argparse
+import math
 import os
 import re
 import subprocess
@@ -60,36 +63,52 @@ def instructions(folder, command):
         return int(re.search(r"^(?:summary|totals): (\d+)", file.read(), re.MULTILINE)[1])
 
 
+def told_by(program, decoder, settings):
+    return subprocess.run([program, decoder, *settings], capture_output=True, text=True, check=True).stdout.split()
+
+
+def measured(folder, program, strip, decoders):
+    """The instructions of each decoder, once what they say has been compared, and those of the lowest bit first."""
+    encoding, flags = MODES[strip.mode]
+    for name, data in (("strip", strip.data), ("low", strip.data.translate(MIRRORED))):
+        with open(f"{folder}/{name}", "wb") as file:
+            file.write(data)
+    settings = [encoding, str(strip.columns), str(strip.rows), flags, f"{folder}/strip"]
+    low_first = [*settings[:3], str(int(flags) + LOW_FIRST), f"{folder}/low"]
+    told = {name: told_by(program, name, settings) for name in decoders}
+    alike = [name for name in decoders if strip.changes is not None or "tiff" not in name]
+    if strip.changes is not None:
+        assert told["rows"][:3] == ["0", str(strip.rows), str(strip.changes)], (strip.name, told["rows"])
+    assert len({tuple(told[name][:3]) for name in alike if "tiff" not in name}) == 1, (strip.name, told)
+    assert len({told[name][3] for name in alike if "packed" in name}) == 1, (strip.name, told)
+    assert told_by(program, "packed", low_first) == told["packed"], strip.name
+    cost = {name: instructions(folder, [program, name, *settings]) for name in decoders}
+    low = {name: instructions(folder, [program, name, *low_first]) for name in ("rows", "packed")}
+    return cost, low
+
+
 def main():
     words = argparse.ArgumentParser()
     words.add_argument("--crate")
     crate = words.parse_args().crate
-    decoders = ["rows", "packed", "tiff-packed"] + (["crate-rows", "crate-packed"] if crate else [])
-    ratios = [("packed", "tiff-packed")] + ([("rows", "crate-rows"), ("packed", "crate-packed")] if crate else [])
-    print("| strip | changes | " + " | ".join(decoders) + " | " + " | ".join(f"{a} / {b}" for a, b in ratios) + " | low / rows | low / packed |")
-    print("|---" * (4 + len(decoders) + len(ratios)) + "|")
+    decoders = ["rows", *(["crate-rows"] if crate else []), "packed", *(["crate-packed"] if crate else []), "tiff-packed"]
+    ratios = [*([("rows", "crate-rows"), ("packed", "crate-packed")] if crate else []), ("packed", "tiff-packed")]
+    titles = ["strip", "instructions", *decoders, *(f"{a} / {b}" for a, b in ratios), "low / rows", "low / packed"]
+    print("| " + " | ".join(titles) + " |\n" + "|---" * len(titles) + "|")
     with tempfile.TemporaryDirectory() as folder:
         program = driver(folder, crate)
-        for picture in strips.PICTURES:
-            columns, rows = picture()
-            changes = sum(map(len, rows))
-            for mode, (encoding, flags) in MODES.items():
-                strip = strips.encoded(mode, columns, rows)
-                with open(f"{folder}/strip", "wb") as file:
-                    file.write(strip)
-                with open(f"{folder}/low", "wb") as file:
-                    file.write(strip.translate(MIRRORED))
-                settings = [encoding, str(columns), str(len(rows)), flags, f"{folder}/strip"]
-                low_first = [*settings[:3], str(int(flags) + LOW_FIRST), f"{folder}/low"]
-                told = {name: subprocess.run([program, name, *settings], capture_output=True, text=True, check=True).stdout.split() for name in decoders}
-                assert told["rows"][:3] == ["0", str(len(rows)), str(changes)], (picture.__name__, mode, told["rows"])
-                mirrored = subprocess.run([program, "packed", *low_first], capture_output=True, text=True, check=True).stdout.split()
-                assert mirrored == told["packed"], (picture.__name__, mode, mirrored)
-                assert len({told[name][3] for name in decoders if "packed" in name}) == 1, (picture.__name__, mode, told)
-                cost = {name: instructions(folder, [program, name, *settings]) for name in decoders}
-                figures = [f"{cost[name] / (changes or len(rows)):.0f}" for name in decoders]
-                low = [instructions(folder, [program, name, *low_first]) / cost[name] for name in ("rows", "packed")]
-                print(f"| {picture.__name__} {mode} | {changes} | " + " | ".join(figures + [f"{cost[a] / cost[b]:.2f}" for a, b in ratios] + [f"{ratio:.3f}" for ratio in low]) + " |", flush=True)
+        logarithms = {pair: [] for pair in ratios}
+        for group in (strips.pages, strips.small, strips.narrow, strips.damaged):
+            for strip in group():
+                cost, low = measured(folder, program, strip, decoders)
+                figures = [f"{cost[name] / strip.count:.{0 if strip.unit != 'byte' else 1}f}" for name in decoders]
+                figures += [f"{cost[a] / cost[b]:.2f}" for a, b in ratios] + [f"{low[name] / cost[name]:.3f}" for name in low]
+                print(f"| {strip.name} | a {strip.unit} | " + " | ".join(figures) + " |", flush=True)
+                if group is strips.pages:
+                    for a, b in ratios:
+                        logarithms[a, b].append(math.log(cost[a] / cost[b]))
+        for (a, b), each in logarithms.items():
+            print(f"\npages, {a} / {b}: geometric mean {math.exp(sum(each) / len(each)):.3f}, at most {math.exp(max(each)):.2f}")
 
 
 if __name__ == "__main__":

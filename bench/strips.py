@@ -1,6 +1,8 @@
-"""Pictures, and a plain encoder of T.4 and T.6 for them. Rows are lists of changes. Words come from the code lists."""
+"""Pictures, a plain encoder of T.4 and T.6 for them, and the strips that are measured. Rows are lists of changes. Words come
+from the code lists."""
 import random
 import re
+from dataclasses import dataclass
 
 LISTS = "crates/hayro_ccitt/specs/CodeLists.antt"
 EOL = "000000000001"
@@ -123,3 +125,93 @@ def blank():
 
 
 PICTURES = [page, halftone, dither, noise, blank]
+
+
+MODES = ["g4", "1d", "2d"]
+
+
+@dataclass
+class Strip:
+    """A strip of data. Its figures are instructions for each of `count` units."""
+
+    name: str
+    mode: str
+    columns: int
+    rows: int
+    data: bytes
+    unit: str
+    count: int
+    # so many changes, where the strip isn't damaged
+    changes: int | None = None
+
+
+def strip_of(name, mode, columns, rows, unit, count):
+    return Strip(f"{name} {mode}", mode, columns, len(rows), encoded(mode, columns, rows), unit, count, sum(map(len, rows)))
+
+
+def pages():
+    """The pictures, in each mode."""
+    for picture in PICTURES:
+        columns, rows = picture()
+        changes = sum(map(len, rows))
+        for mode in MODES:
+            yield strip_of(picture.__name__, mode, columns, rows, "change" if changes else "row", changes or len(rows))
+
+
+def small():
+    """A few rows of the page of text."""
+    columns, rows = page()
+    for count in (1, 8, 27):
+        for mode in MODES:
+            yield strip_of(f"{count} of page", mode, columns, rows[400 : 400 + count], "strip", 1)
+
+
+def narrow():
+    """Pages of a few columns, whose pixels are black as often as white."""
+    chance = random.Random(11)
+    for columns in (1, 2, 3, 8, 17, 32, 64):
+        rows = [changes_of([chance.randrange(2) for _ in range(columns)]) for _ in range(1000)]
+        for mode in MODES:
+            yield strip_of(f"{columns} columns", mode, columns, rows, "row", len(rows))
+
+
+def damaged_strip(name, mode, columns, rows, data):
+    return Strip(f"{name} {mode}", mode, columns, rows, data, "byte", len(data))
+
+
+def flipped(mode):
+    """The page of text with one bit in every 100 bytes flipped."""
+    columns, rows = page()
+    data, chance = bytearray(encoded(mode, columns, rows)), random.Random(7)
+    for start in range(0, len(data), 100):
+        data[start + chance.randrange(min(100, len(data) - start))] ^= 1 << chance.randrange(8)
+    return damaged_strip("flipped bits", mode, columns, len(rows), bytes(data))
+
+
+def without_eols(mode):
+    """The page of text with every second EOL lost."""
+    columns, rows = page()
+    text, reference = [], []
+    for index, row in enumerate(rows):
+        text.append(EOL if index % 2 == 0 else "")
+        if mode == "1d" or index % 4 == 0:
+            text.append(("1" if mode == "2d" else "") + line_1d(columns, row))
+        else:
+            text.append("0" + line_2d(columns, reference, row))
+        reference = row
+    return damaged_strip("lost EOLs", mode, columns, len(rows), packed("".join(text)))
+
+
+def bad_words(mode, name, body):
+    """Lines that begin with a word that isn't one, and have 1000 bytes behind it."""
+    tag = "1" if mode == "2d" else ""
+    return damaged_strip(f"bad words, {name}", mode, 1240, 100, packed("".join(EOL + tag + "0000000011" + body() for _ in range(100))))
+
+
+def damaged():
+    chance = random.Random(5)
+    yield from map(flipped, MODES)
+    for mode in ("1d", "2d"):
+        yield without_eols(mode)
+        yield bad_words(mode, "ones", lambda: "1" * 8000)
+        yield bad_words(mode, "noise", lambda: f"{chance.getrandbits(8000):08000b}".replace("0" * 11, "1" * 11))

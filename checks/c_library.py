@@ -1,5 +1,6 @@
 """Checks of the library for C: the example on real strips, and each call on cases with known answers."""
 import ctypes
+import functools
 import os
 import subprocess
 import tempfile
@@ -36,14 +37,15 @@ def settings_of(mode, columns, rows, flags):
     return Settings(int(columns), int(rows), MODES.index(mode), sum(1 << LETTERS.index(letter) for letter in flags if letter != "-"))
 
 
+@functools.cache
 def build():
-    """The static library, proved and built."""
+    """The static library, proved and built: once, however many checks call it."""
     done = subprocess.run(["rt", "lib"], cwd=CRATE, capture_output=True, text=True, check=False)
     assert done.returncode == 0 and os.path.exists(LIBRARY), done.stdout[-2000:] + done.stderr[-2000:]
 
 
 def compiled(out, *words):
-    command = ["gcc", "-O2", "-Wall", "-Wextra", "-Werror", "-std=c11", "-o", out, *words]
+    command = ["gcc", "-O2", "-Wall", "-Wextra", "-Werror", "-std=c11", "-Ic", "-o", out, *words]
     subprocess.run(command, check=True)
     return out
 

@@ -1,4 +1,6 @@
-"""Checks of what decoding costs: data that is made to be slow costs in proportion to its length."""
+"""Checks of what decoding and encoding cost: data that is made to be slow costs in proportion to its length, and no more
+instructions a byte than are listed here. The results are compared with known ones, which follow by rule."""
+import collections
 import os
 import re
 import shutil
@@ -7,21 +9,33 @@ import sys
 import tempfile
 
 import c_library
+import program
+from left_out import leave_out
 
 sys.path.append("bench")
 
 import strips  # noqa: E402
 
-GROUP_4, ONE_DIMENSIONAL, TWO_DIMENSIONAL = "0", "1", "2"
-WITH_EOLS = "2"
+GROUP_4, ONE_DIMENSIONAL, TWO_DIMENSIONAL = 0, 1, 2
+WITH_EOLS, LOW_FIRST = 2, 16
 SIZES = (1 << 16, 1 << 18)
 # how many times the instructions four times the data may cost
 MOST = 4.5
+# how many times the instructions a byte that were measured a shape may cost
+SLACK = 1.5
+# how many seconds a run under callgrind may take
+LIMIT = 120
 
 EOL = "000000000001"
 HORIZONTAL, PASS, V0 = "001", "0001", "1"
 WHITE_0, WHITE_1, BLACK_1, LONG_RUN = "00110101", "000111", "010", "000000011111"
 NO_WORD = "000000001"
+# a row of 8 pixels with the changes 3 and 5
+LINE = "1000" + "11" + "1000"
+OK, UNEXPECTED_EOF, INVALID_CODE = 0, 1, 2
+
+# Data and its known result: the status, the rows and the changes.
+Made = collections.namedtuple("Made", "columns data status rows changes")
 
 
 def filled(text, size, before=""):
@@ -30,95 +44,269 @@ def filled(text, size, before=""):
     return int(text[: 8 * size], 2).to_bytes(size, "big")
 
 
+def lines_in(size, before, lines):
+    """How many lines are whole in so many bytes, of those before and of others that come again and again, given by their lengths
+    and their changes; the changes of these; and whether a part of one is left, in which the data ends."""
+    rest, rows, changes = 8 * size, 0, 0
+    for bits, more in before:
+        rest, rows, changes = rest - bits, rows + 1, changes + more
+    period = sum(bits for bits, _ in lines)
+    times, rest = divmod(rest, period)
+    rows, changes = rows + times * len(lines), changes + times * sum(more for _, more in lines)
+    for bits, more in lines:
+        if rest < bits:
+            break
+        rest, rows, changes = rest - bits, rows + 1, changes + more
+    return UNEXPECTED_EOF if rest else OK, rows, changes
+
+
 def dense(columns):
     """A row of alternate pixels, without a reference row."""
     return (HORIZONTAL + WHITE_1 + BLACK_1) * (columns // 2)
 
 
+def of_zeros(rows):
+    """Data of zeros: no word begins with so many. With EOLs a damaged line is a white row, until no EOL is found."""
+    return lambda size: Made(1728, bytes(size), INVALID_CODE, rows, 0)
+
+
+def white_rows(columns):
+    """Below a white row, V0 is another."""
+    return lambda size: Made(columns, filled(V0, size), OK, 8 * size, 0)
+
+
 def dense_and_copies(size):
     columns = 8 * size // 12
-    return columns, filled(V0, size, dense(columns))
+    return Made(columns, filled(V0, size, dense(columns)), *lines_in(size, [(6 * columns, columns - 1)], [(columns, columns - 1)]))
 
 
 def dense_and_passes(size):
+    """Passes over the dense row make a white one; below that a pass is a row."""
     columns = 8 * size // 12
-    return columns, filled(PASS, size, dense(columns))
+    first = [(6 * columns, columns - 1), (2 * columns, 0)]
+    return Made(columns, filled(PASS, size, dense(columns)), *lines_in(size, first, [(4, 0)]))
 
 
 def alternate_rows(size):
-    """Dense rows, and white ones that pass each of their runs."""
+    """Dense rows, and white ones that pass each of their runs, and then a white row more."""
     columns = size // 4
-    return columns, filled(dense(columns) + PASS * (columns // 2) + V0, size)
+    data = filled(dense(columns) + PASS * (columns // 2) + V0, size)
+    return Made(columns, data, *lines_in(size, [], [(6 * columns, columns - 1), (2 * columns, 0), (1, 0)]))
 
 
 def far_edges(size):
     """Dense rows, and rows of one black pixel at the left and one at the right edge, so that b1 is far from a0."""
     columns = size // 16 // 2560 * 2560 + 2
     line = HORIZONTAL + WHITE_0 + BLACK_1 + HORIZONTAL + LONG_RUN * (columns // 2560) + WHITE_0 + BLACK_1
-    return columns, filled(dense(columns) + line, size)
+    return Made(columns, filled(dense(columns) + line, size), *lines_in(size, [], [(6 * columns, columns - 1), (len(line), 3)]))
 
 
 def shifted_edges(size):
     """Dense rows, each shifted by a pixel to the left or to the right against the one before, so that b1 falls back."""
     columns = size // 8
     right, left = list(range(1, columns)), list(range(columns - 1))
-    return columns, filled(strips.line_2d(columns, right, left) + strips.line_2d(columns, left, right), size, strips.line_2d(columns, [], right))
+    first = strips.line_2d(columns, [], right)
+    lines = [strips.line_2d(columns, right, left), strips.line_2d(columns, left, right)]
+    known = lines_in(size, [(len(first), columns - 1)], [(len(line), columns - 1) for line in lines])
+    return Made(columns, filled("".join(lines), size, first), *known)
 
 
-# A name, an encoding, flags, and from a size the columns and the data.
+def makeup_words(before):
+    """A run that never ends."""
+    return lambda size: Made(1728, filled(LONG_RUN, size, before), UNEXPECTED_EOF, 0, 0)
+
+
+def eols(rows):
+    """EOLs are passed over. The eight zeros behind the last begin no word: with EOLs a damaged line, which is a white row."""
+
+    def made(size):
+        assert 8 * size % 12 == 8
+        return Made(1728, filled(EOL, size), INVALID_CODE, rows, 0)
+
+    return made
+
+
+def eols_2d(size):
+    """Behind the last EOL: a tag and so many zeros, which begin a mode where they are fewer than seven."""
+    zeros = 8 * size % 13
+    return Made(1728, filled(EOL + "0", size), UNEXPECTED_EOF if zeros < 7 else INVALID_CODE, 1, 0)
+
+
+def eols_and_faults(size):
+    """Each EOL begins a damaged line, which is a white row. Behind the last no EOL is found, and the fault is the result."""
+    assert 8 * size % 21 < 12
+    return Made(1728, filled(EOL + NO_WORD, size), INVALID_CODE, 8 * size // 21, 0)
+
+
+def without_eols(tag, before=""):
+    """Rows of Group 3 one behind the other; before them there may be one EOL."""
+
+    def made(size):
+        status, rows, changes = lines_in(size, [], [(len(tag + LINE), 2)])
+        if before:
+            rows, rest = divmod(8 * size - len(before), len(tag + LINE))
+            status, changes = UNEXPECTED_EOF if rest else OK, 2 * rows
+        return Made(8, filled(tag + LINE, size, before), status, rows, changes)
+
+    return made
+
+
+def long_bodies(size):
+    """Damaged lines: each has alternate pixels, and then a fault. The rest of the row is white."""
+    pairs = size // 32
+    line = EOL + (WHITE_1 + BLACK_1) * pairs + NO_WORD
+    rows, rest = divmod(8 * size, len(line))
+    assert rest > len(EOL), "the last line is damaged by its end"
+    cut = rest - len(EOL)
+    painted = 2 * (cut // 9) + (cut % 9 >= 6)
+    # a black end has a change where the white begins, and a white one has none
+    return Made(8 * size, filled(line, size), *ended_line(rows, 2 * pairs, painted))
+
+
+def ended_line(rows, changes, painted):
+    """Rows of so many changes, and a line that is cut, of which so many alternate pixels were painted: it is a row too, but no
+    EOL is found behind it, and then its fault is the result."""
+    return UNEXPECTED_EOF, rows + 1, rows * changes + painted - painted % 2
+
+
+def faults_before_bodies(size):
+    """Damaged lines: each begins with a fault, and behind it are words up to the next EOL."""
+    line = EOL + NO_WORD + (WHITE_1 + BLACK_1) * (size // 32)
+    rows, rest = divmod(8 * size, len(line))
+    assert rest > len(EOL + NO_WORD)
+    return Made(1728, filled(line, size), INVALID_CODE, rows + 1, 0)
+
+
+# A name, an encoding, flags, how data and its result are made from a size, and the instructions a byte that were measured.
 SHAPES = [
-    ("zeros", GROUP_4, "0", lambda size: (1728, bytes(size))),
-    ("zeros 1d", ONE_DIMENSIONAL, WITH_EOLS, lambda size: (1728, bytes(size))),
-    ("zeros 2d", TWO_DIMENSIONAL, WITH_EOLS, lambda size: (1728, bytes(size))),
-    ("V0", GROUP_4, "0", lambda size: (1728, filled(V0, size))),
-    ("V0, one column", GROUP_4, "0", lambda size: (1, filled(V0, size))),
-    ("a dense row and copies", GROUP_4, "0", dense_and_copies),
-    ("a dense row and passes", GROUP_4, "0", dense_and_passes),
-    ("alternate rows", GROUP_4, "0", alternate_rows),
-    ("edges at both ends", GROUP_4, "0", far_edges),
-    ("edges shifted left and right", GROUP_4, "0", shifted_edges),
-    ("make-up words", GROUP_4, "0", lambda size: (1728, filled(LONG_RUN, size, HORIZONTAL))),
-    ("make-up words 1d", ONE_DIMENSIONAL, "0", lambda size: (1728, filled(LONG_RUN, size))),
-    ("EOLs", GROUP_4, "0", lambda size: (1728, filled(EOL, size))),
-    ("EOLs 1d", ONE_DIMENSIONAL, WITH_EOLS, lambda size: (1728, filled(EOL, size))),
-    ("EOLs 2d", TWO_DIMENSIONAL, WITH_EOLS, lambda size: (1728, filled(EOL + "0", size))),
-    ("EOLs and faults", ONE_DIMENSIONAL, WITH_EOLS, lambda size: (1728, filled(EOL + NO_WORD, size))),
+    ("zeros", GROUP_4, 0, of_zeros(0), 8),
+    ("zeros 1d", ONE_DIMENSIONAL, WITH_EOLS, of_zeros(1), 24),
+    ("zeros 2d", TWO_DIMENSIONAL, WITH_EOLS, of_zeros(1), 24),
+    ("V0", GROUP_4, 0, white_rows(1728), 1045),
+    ("V0, one column", GROUP_4, 0, white_rows(1), 1045),
+    ("a dense row and copies", GROUP_4, 0, dense_and_copies, 406),
+    ("a dense row and passes", GROUP_4, 0, dense_and_passes, 178),
+    ("alternate rows", GROUP_4, 0, alternate_rows, 126),
+    ("edges at both ends", GROUP_4, 0, far_edges, 103),
+    ("edges shifted left and right", GROUP_4, 0, shifted_edges, 254),
+    ("make-up words", GROUP_4, 0, makeup_words(HORIZONTAL), 20),
+    ("make-up words 1d", ONE_DIMENSIONAL, 0, makeup_words(""), 19),
+    ("EOLs", GROUP_4, 0, eols(0), 26),
+    ("EOLs 1d", ONE_DIMENSIONAL, WITH_EOLS, eols(1), 26),
+    ("EOLs 2d", TWO_DIMENSIONAL, WITH_EOLS, eols_2d, 25),
+    ("EOLs and faults", ONE_DIMENSIONAL, WITH_EOLS, eols_and_faults, 188),
+    ("rows without EOLs 1d", ONE_DIMENSIONAL, 0, without_eols(""), 385),
+    ("rows without EOLs 2d", TWO_DIMENSIONAL, 0, without_eols("1"), 361),
+    ("one EOL, then none 1d", ONE_DIMENSIONAL, 0, without_eols("", EOL), 684),
+    ("one EOL, then none 2d", TWO_DIMENSIONAL, 0, without_eols("1", EOL), 700),
+    ("damaged lines with long bodies", ONE_DIMENSIONAL, WITH_EOLS, long_bodies, 378),
+    ("faults before long bodies", ONE_DIMENSIONAL, WITH_EOLS, faults_before_bodies, 332),
+    ("V0, lowest bit first", GROUP_4, LOW_FIRST, white_rows(1728), 1046),
+    ("a dense row and copies, lowest bit first", GROUP_4, LOW_FIRST, dense_and_copies, 408),
+    ("zeros 1d, lowest bit first", ONE_DIMENSIONAL, WITH_EOLS + LOW_FIRST, of_zeros(1), 28),
+    ("rows without EOLs 1d, lowest bit first", ONE_DIMENSIONAL, LOW_FIRST, without_eols(""), 403),
 ]
 
 
-def instructions(folder, driver, name, encoding, columns, flags):
-    """What counting the rows costs, and the answer."""
+def instructions(folder, command, whole=False, stdin=None):
+    """What the call `measured` of a command costs, or all of it, and what it prints."""
     out = f"{folder}/callgrind"
-    words = ["valgrind", "--tool=callgrind", "--toggle-collect=measured", f"--callgrind-out-file={out}", driver]
-    done = subprocess.run([*words, "rows", encoding, str(columns), "0", flags, name], capture_output=True, text=True, check=True)
+    words = ["valgrind", "--tool=callgrind", f"--callgrind-out-file={out}", *([] if whole else ["--toggle-collect=measured"])]
+    done = subprocess.run([*words, *command], stdin=stdin, capture_output=True, check=True, timeout=LIMIT)
     with open(out, encoding="utf-8", errors="replace") as file:
-        return int(re.search(r"^(?:summary|totals): (\d+)", file.read(), re.MULTILINE)[1]), done.stdout.split()
+        return int(re.search(r"^(?:summary|totals): (\d+)", file.read(), re.MULTILINE)[1]), done.stdout
+
+
+def too_slow(shape, costs, sizes, measured, worse):
+    """Prints what a shape costs, and notes it where that is too much."""
+    growth, each = costs[1] / costs[0], costs[1] / sizes[1]
+    print(f"  {shape}: {each:.1f} instructions a byte, {growth:.2f} times for four times the data")
+    if growth > MOST:
+        worse.append(f"{shape}: {growth:.2f} times for four times the data")
+    if each > SLACK * measured:
+        worse.append(f"{shape}: {each:.1f} instructions a byte, not {measured}")
 
 
 def slow_shapes():
-    """Four times the data costs at most 4.5 times the instructions, whatever the data."""
+    """The known result, at most 4.5 times the instructions for four times the data, and a bound on those a byte, whatever the
+    data."""
     if not shutil.which("valgrind"):
-        print("  skipped: there is no valgrind")
+        leave_out("the cost of decoding", "valgrind")
         return
     c_library.build()
     worse = []
     with tempfile.TemporaryDirectory() as folder:
         driver = c_library.compiled(f"{folder}/driver", "bench/driver.c", "c/heap.c", c_library.LIBRARY)
-        for shape, encoding, flags, made in SHAPES:
+        for shape, encoding, flags, of_size, measured in SHAPES:
             costs = []
             for size in SIZES:
-                columns, data = made(size)
-                assert len(data) == size, shape
+                made = of_size(size)
+                assert len(made.data) == size, shape
                 with open(f"{folder}/data", "wb") as file:
-                    file.write(data)
-                cost, told = instructions(folder, driver, f"{folder}/data", encoding, columns, flags)
+                    file.write(made.data.translate(c_library.MIRRORED) if flags & LOW_FIRST else made.data)
+                command = [driver, "rows", str(encoding), str(made.columns), "0", str(flags), f"{folder}/data"]
+                cost, printed = instructions(folder, command)
+                known = f"{made.status} {made.rows} {made.changes}"
+                assert printed.decode().split()[:3] == known.split(), f"{shape}, {size} bytes: {printed.decode()}, not {known}"
                 costs.append(cost)
-            growth = costs[1] / costs[0]
-            print(f"  {shape}: {costs[1] / SIZES[1]:.0f} instructions a byte, {growth:.2f} times for four times the data, {told[1]} rows")
-            if growth > MOST:
-                worse.append(shape)
+            too_slow(shape, costs, SIZES, measured, worse)
     assert not worse, worse
     print(f"  {len(SHAPES)} shapes")
 
 
-CHECKS = [slow_shapes]
+# An encoding, how many bits a row of so many alternate pixels takes with what is around it, and the instructions a byte that
+# were measured. In Group 4 the last four pixels are vertical modes, since b1 is the row's end: 7, 6, 3 and 1 bits.
+DENSE_ROWS = [
+    ("Group 4", GROUP_4, lambda columns: 12 * (columns - 4) // 2 + 17 + 24, 915),
+    ("Group 3", ONE_DIMENSIONAL, lambda columns: 12 + 9 * columns // 2 + 72, 625),
+]
+WIDTHS = (1 << 15, 1 << 17)
+
+
+def encoding_dense_rows():
+    """The encoder's work on one row is in proportion to its changes."""
+    if not shutil.which("valgrind"):
+        leave_out("the cost of encoding", "valgrind")
+        return
+    c_library.build()
+    worse = []
+    with tempfile.TemporaryDirectory() as folder:
+        driver = c_library.compiled(f"{folder}/driver", "checks/measured_encoding.c", "c/heap.c", c_library.LIBRARY)
+        for shape, encoding, bits, measured in DENSE_ROWS:
+            costs = []
+            for columns in WIDTHS:
+                cost, printed = instructions(folder, [driver, str(encoding), str(columns)])
+                assert printed == f"0 1 {(bits(columns) + 7) // 8}\n".encode(), (shape, columns, printed)
+                costs.append(cost)
+            too_slow(f"a dense row by {shape}", costs, [columns // 8 for columns in WIDTHS], measured, worse)
+    assert not worse, worse
+
+
+# The words of a run, what a row is written as, the last line, and the instructions a byte of its data that were measured: white
+# rows of 8 columns, as a bitmap of a byte each and as text.
+RUNS = [("-o g4 8 0 -", b"\0", b"", 1505), ("-o g4 8 0 r", b"\0", b"", 1507), ("g4 8 0 -", b"r\n", b"ok %d\n", 1353)]
+RUN_SIZES = (1 << 14, 1 << 16)
+
+
+def runs_of_the_program():
+    """The program's work is in proportion to its data, also where it writes a bitmap."""
+    if not shutil.which("valgrind"):
+        leave_out("the cost of the program", "valgrind")
+        return
+    assert os.path.exists(program.PROGRAM)
+    worse = []
+    with tempfile.TemporaryDirectory() as folder:
+        for words, row, last, measured in RUNS:
+            costs = []
+            for size in RUN_SIZES:
+                with open(f"{folder}/data", "wb") as file:
+                    file.write(b"\xff" * size)
+                with open(f"{folder}/data", "rb") as stdin:
+                    cost, written = instructions(folder, [program.PROGRAM, *words.split()], whole=True, stdin=stdin)
+                assert written == row * (8 * size) + (last and last % size), (words, size)
+                costs.append(cost)
+            too_slow(f"faxrows {words}", costs, RUN_SIZES, measured, worse)
+    assert not worse, worse
+
+
+CHECKS = [slow_shapes, encoding_dense_rows, runs_of_the_program]

@@ -7,6 +7,7 @@ import subprocess
 import tempfile
 
 import c_library
+from left_out import leave_out
 
 # what the example is told, and then its counterpart, with as many rows as there are
 WAYS = [("g4", "-", "b"), ("g4", "a", "ba"), ("1d", "-", "b")]
@@ -89,7 +90,7 @@ def pictures_come_back():
         for words, picture, status in [
             (("g4", "-"), b"P4\n# a comment\n 8\t2\n\x18\x18", 0), (("g4", "-"), b"P4\n8 2\n\x18", 1), (("g4", "-"), b"P5\n8 1\n\x18", 1),
             (("g4", "-"), b"P4\n8 1", 1), (("g4", "-"), b"P4\n4294967296 1\n", 1), (("1d", "-"), b"P4\n8 0\n", 1), (("g4", "-"), b"P4\n0 8\n", 1),
-            (("g4", "-"), b"P4\n4294967295 4294967295\n\x18", 1), (("2d", "-"), b"P4\n8 1\n\x18", 2), (("1d", "a"), b"P4\n8 1\n\x18", 2), (("g4", "-", "/none"), b"", 1),
+            (("g4", "-"), b"P4\n4294967295 4294967295\n\x18", 1), (("2d", "-"), b"P4\n8 1\n\x18", 2), (("1d", "a"), b"P4\n8 1\n\x18", 2), (("g4", "-", "/none"), b"", 2),
         ]:
             done = run(picture, encode, *words)
             assert done.returncode == status and (status == 0) == (done.stderr == b"") and (status == 0) == (done.stdout != b""), (words, picture, done)
@@ -166,7 +167,7 @@ def beside_libtiff():
         built = run(b"", "gcc", "-O2", "-Wall", "-Wextra", "-Werror", "-std=c11", "-o", tool, "checks/by_libtiff.c", "-ltiff")
         if built.returncode:
             assert b"tiffio.h" in built.stderr, built.stderr
-            print("  left out, without libtiff")
+            leave_out("the encoder beside libtiff", "libtiff")
             return
         encode, decode = examples(folder)
         for columns, bitmap in pictures():
@@ -203,7 +204,7 @@ DECODE = """/buffer 65536 string def
 def beside_ghostscript():
     """Our strips decoded by Ghostscript, which has Group 4 with aligned rows too."""
     if not shutil.which("gs"):
-        print("  left out, without gs")
+        leave_out("the encoder beside Ghostscript", "gs")
         return
     c_library.build()
     with tempfile.TemporaryDirectory() as folder:

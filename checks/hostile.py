@@ -8,6 +8,7 @@ import tempfile
 import c_library
 import called
 import program
+from left_out import leave_out
 
 # each so manieth case is decoded under valgrind, by the library and by the program
 IN_LIBRARY, IN_PROGRAM = 5, 180
@@ -50,7 +51,7 @@ def answer_of(words):
 def without_errors_of_memory():
     """A part of the cases under valgrind: no error, and no block that is left."""
     if not shutil.which("valgrind"):
-        print("  skipped: there is no valgrind")
+        leave_out("accesses of memory", "valgrind")
         return
     c_library.build()
     cases = [case[1:] for case in called.lines_of("hostile.tsv") if "*" not in case[2]]

@@ -4,6 +4,8 @@ import os
 import re
 import subprocess
 
+import edits
+
 
 def tracked():
     """The files that git knows, or would know."""
@@ -90,6 +92,38 @@ def no_proof_has_a_hole():
     assert not found, found
 
 
+# Where a count of work is made, or made of another one: a context has one, which `decode` begins anew.
+COUNTS = {
+    "crates/hayro_ccitt/src/codes.rt": {"new", "after", "tick"},
+    "crates/hayro_ccitt/src/context.rt": {"new", "restart"},
+}
+MAKES_A_COUNT = re.compile(
+    r"\bTicks>?\s*::|\bTicks\s*\{\s*\}|\bTicks\s+as\b|\btype\b.*\bTicks\b"
+    r"|\bSelf\s*(?:::\s*new\b|\{\s*\})|\bDecoderContext\s*::\s*new\b"
+)
+
+
+def is_test(place):
+    return re.search(r"(^|[/_])tests(\.rt|/)", place) is not None
+
+
+def no_work_is_thrown_away():
+    """Contracts bound the count of the context alone. So inside the crate no other count may be made, into which work
+    would be counted and lost: only the functions named above make one. Tests may."""
+    found = []
+    function = {}
+    for place, line in lines_of_code(".rt", "//"):
+        name = place.rsplit(":", 1)[0]
+        if not name.startswith("crates/hayro_ccitt/src/") or is_test(name):
+            continue
+        begun = re.search(r"\bfn (\w+)", line)
+        if begun:
+            function[name] = begun[1]
+        if MAKES_A_COUNT.search(line) and function.get(name) not in COUNTS.get(name, ()):
+            found.append(f"{place}: {line.strip()}")
+    assert not found, "\n".join(found)
+
+
 def nothing_is_unsafe():
     """No code is unsafe. The names that C calls stand in an attribute of that word."""
     lines = ((place, line.replace("#[unsafe(no_mangle)]", "")) for place, line in lines_of_code(".rt", "//"))
@@ -106,7 +140,46 @@ def rust_is_unsafe_in_one_file_only():
     with open(name, encoding="utf-8") as file:
         text = file.read()
     blocks = len(re.findall(r"\bunsafe\b", re.sub(r"//.*", "", text)))
-    assert blocks == text.count("// SAFETY: ") == 3, blocks
+    assert blocks == text.count("// SAFETY: ") == 5, blocks
+
+
+# Public functions with a contract that no edit of a body can break.
+NO_WRONG_BODY = {
+    "hayro_ccitt": {
+        # A count has no bytes, so its body writes nothing down: the number is in the proof by hand alone.
+        "codes::Ticks::new",
+        # The trait's declaration. Each impl has edits of its own.
+        "Decoder::push_row",
+    },
+    # It hands out the one value of a type parameter that it has.
+    "faxrows": {"device::Device::into_inner"},
+}
+
+
+def each_public_function_has_an_edit():
+    """Each function that another crate can name, and each sink's `push_row`, is broken by an edit, unless it states a law alone."""
+    lacking = []
+    for crate in sorted(os.listdir("crates")):
+        source = edits.Source(f"crates/{crate}")
+        touched = {item.name for edit in edits.edits_in(f"crates/{crate}", crate, source) for item in edit.touched}
+        for item in source.public():
+            if item.has_contract and item.has_body and item.name not in touched | NO_WRONG_BODY.get(crate, set()):
+                lacking.append(f"{crate}: {item.name}")
+    assert not lacking, f"no edit breaks {lacking}"
+
+
+def each_edit_can_be_applied():
+    """Each edit's old texts stand once in the file, in an item, and it says what it breaks."""
+    rt, found = edits.kit(), []
+    for crate in sorted(os.listdir("crates")):
+        source = edits.Source(f"crates/{crate}")
+        for edit in edits.edits_in(f"crates/{crate}", crate, source):
+            _, why = rt.read_edit(edit.file, f"crates/{crate}")
+            if why or not edit.changed:
+                found.append(f"{edit.label}: {why or 'it changes no item'}")
+            elif not edit.function:
+                found.append(f"{edit.label}: it has no line 'breaks: FUNCTION: CLAUSE'")
+    assert not found, "\n".join(found)
 
 
 # A name of a proof: anything but spaces, brackets, commas, semicolons, colons and points.
@@ -148,6 +221,9 @@ CHECKS = [
     readme_names_the_kit,
     no_proof_has_a_hole,
     each_lemma_is_cited,
+    no_work_is_thrown_away,
     nothing_is_unsafe,
     rust_is_unsafe_in_one_file_only,
+    each_public_function_has_an_edit,
+    each_edit_can_be_applied,
 ]

@@ -1,5 +1,5 @@
-"""Checks of what users are shown: the commands of docs/USING.md, and the Cargo package. What a tool that isn't installed is
-needed for is left out, and said so."""
+"""Checks of what users are shown: the commands of the README and of docs/USING.md, the programs of examples/, and the Cargo package.
+What a tool that isn't installed is needed for is left out, and said so."""
 import itertools
 import os
 import re
@@ -8,12 +8,18 @@ import subprocess
 import tempfile
 
 import c_library
-import program
+from left_out import leave_out
 
-PAGE = "docs/USING.md"
+PAGES = ["README.md", "docs/USING.md"]
 # Tools that a command may need and that needn't be here.
-TOOLS = ["ppm2tiff", "tiffcp", "tiffdump", "gs", "img2pdf", "pdfimages", "strings"]
+TOOLS = ["cargo", "ppm2tiff", "tiffcp", "tiffdump", "gs", "img2pdf", "pdfimages", "strings"]
 PACKAGE = "bindings/rust"
+
+
+def make():
+    """The library and the programs in build/, as the pages' commands want them."""
+    done = subprocess.run(["make"], capture_output=True, text=True, check=False)
+    assert done.returncode == 0, done.stdout[-2000:] + done.stderr[-2000:]
 
 
 def commands(page):
@@ -27,45 +33,65 @@ def commands(page):
             yield "".join([first, *(line[2:] for line in rest[:more])]), "".join(rest[more:])
 
 
+def files_of_users(folder):
+    """FILE.tif and FILE.pdf, for the commands that take a file of the user's, as far as the tools are here."""
+    steps = [
+        ("ppm2tiff", "(printf 'P4\\n1240 1754\\n'; cat corpus/pictures/page) > FILE.pbm; ppm2tiff -c none FILE.pbm FILE.none"),
+        ("tiffcp", "tiffcp -c g4 -r 1754 FILE.none FILE.tif"),
+        ("img2pdf", "img2pdf FILE.tif -o FILE.pdf"),
+    ]
+    for tool, command in steps:
+        if not shutil.which(tool):
+            return
+        subprocess.run(["bash", "-c", command], cwd=folder, check=True, capture_output=True)
+
+
 def outcomes(page):
     """Each command, the text below it, and what it prints: None where it is left out, for want of a tool or of a file that one
-    that was left out would have made."""
+    that was left out would have made. What is printed of a user's file isn't on the page."""
     with tempfile.TemporaryDirectory() as folder:
-        for name in ("c", "corpus", "crates", "examples"):
+        for name in ("bindings", "build", "c", "corpus", "crates", "examples"):
             os.symlink(os.path.abspath(name), f"{folder}/{name}")
         os.mkdir(f"{folder}/out")
+        files_of_users(folder)
         lost = []  # files, and fronts of the names of several
         for command, text in commands(page):
-            files = re.findall(r"out/[\w.-]+", command.replace("crates/faxrows/out/", ""))
+            if command.startswith("make "):
+                continue  # `installed` makes and installs
+            files = re.findall(r"out/[\w.-]+|FILE\.\w+", command)
             absent = [name for name in files if not os.path.exists(f"{folder}/{name}")]
-            missing = [tool for tool in TOOLS if re.search(rf"(^|[|;&(]) *{tool} ", command) and not shutil.which(tool)]
+            missing = [tool for tool in TOOLS if re.search(rf"(^|[|;&(]|&&) *{tool} ", command) and not shutil.which(tool)]
             if "pdf_pages.py" in command and not shutil.which("pdfimages"):
                 missing.append("pdfimages")
-            if missing or any(name.startswith(tuple(lost)) for name in absent):
+            if missing or any(name.startswith(("FILE.", *lost)) for name in absent):
                 lost += absent
                 yield command, text, None
                 continue
             done = subprocess.run(
-                ["bash", "-c", command], cwd=folder, stdout=subprocess.PIPE, stderr=subprocess.STDOUT, check=False, timeout=120
+                ["bash", "-c", command], cwd=folder, stdout=subprocess.PIPE, stderr=subprocess.STDOUT, check=False, timeout=600
             )
-            yield command, text, done.stdout.decode(errors="replace")
+            printed = done.stdout.decode(errors="replace")
+            assert "FILE." not in command or done.returncode == 0, f"{command}\n{printed}"
+            yield command, text, text if "FILE." in command else printed
 
 
-def commands_of_the_page():
-    """Each command prints what stands below it."""
-    if not os.path.exists(program.PROGRAM):
-        raise AssertionError("faxrows isn't built")
+def commands_of_the_pages():
+    """Each command prints what is below it."""
+    make()
     run = 0
     left_out = []
-    for command, text, printed in outcomes(PAGE):
-        if printed is None:
-            left_out.append(command)
-            continue
-        assert printed == text, f"{command}\nprints\n{printed}and not\n{text}"
-        run += 1
+    for page in PAGES:
+        for command, text, printed in outcomes(page):
+            if printed is None:
+                left_out.append(command)
+                continue
+            assert printed == text, f"{page}: {command}\nprints\n{printed}and not\n{text}"
+            run += 1
     assert run > 0
-    absent = [tool for tool in TOOLS if not shutil.which(tool)]
-    print(f"  {run} commands run; {len(left_out)} left out" + (f", without {', '.join(absent)}" if absent else ""))
+    print(f"  {run} commands run")
+    if left_out:
+        absent = [tool for tool in TOOLS if not shutil.which(tool)]
+        leave_out(f"{len(left_out)} commands of the pages", ", ".join(absent))
 
 
 def manifest():
@@ -84,7 +110,7 @@ def damaged(data):
 def the_cargo_package():
     """Its cases, and its example against the C program: on each strip with its first settings, whole and damaged."""
     if not shutil.which("cargo"):
-        print("  left out, without cargo")
+        leave_out("the Cargo package", "cargo")
         return
     c_library.build()
     same = 0
@@ -111,7 +137,7 @@ def the_cargo_package():
     print(f"  the stored cases, and {same} runs as in C")
 
 
-CHECKS = [commands_of_the_page, the_cargo_package]
+CHECKS = [commands_of_the_pages, the_cargo_package]
 
 if __name__ == "__main__":
     for check in CHECKS:

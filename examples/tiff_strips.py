@@ -1,88 +1,169 @@
-"""Lists the strips of a TIFF file's fax pages, and decodes each page to a PBM picture:
+"""Lists the strips or tiles of a TIFF file's fax pages, and decodes each page to a PBM picture:
 
     python3 examples/tiff_strips.py FILE.tif [PICTURES]
 
-With PICTURES, page 0 is written to PICTURES-0.pbm, and so on. Each line names a strip: its page, its place and length in the
-file, the words for `faxrows`, and what was answered. Compression 2, 3 and 4 are read, from classic TIFF files of either byte
-order; tiles, BigTIFF and uncompressed mode are not. It takes the program that `rt run` leaves in crates/faxrows/out."""
+With PICTURES, page 0 is written to PICTURES-0.pbm, and so on. Each line names a strip: its page, its length and offset in the
+file, the words for `faxrows`, and the answer. TIFF and BigTIFF of either byte order are read; of them the pages of compression 2, 3
+and 4. The status is 0 if all rows of all pages were decoded, 1 if some weren't or a page has another compression, and 2 where the
+file can't be read."""
 import struct
 import sys
 
 import pictures
+from pictures import Unreadable
 
-SIZES = {1: "B", 3: "H", 4: "I"}  # BYTE, SHORT, LONG
-WIDTH, LENGTH, COMPRESSION, PHOTOMETRIC, FILL_ORDER = 256, 257, 259, 262, 266
-STRIP_OFFSETS, ROWS_PER_STRIP, STRIP_BYTE_COUNTS, T4_OPTIONS, T6_OPTIONS = 273, 278, 279, 292, 293
+SIZES = {1: "B", 3: "H", 4: "I", 16: "Q"}  # BYTE, SHORT, LONG, LONG8
+WIDTH, LENGTH, BITS_PER_SAMPLE, COMPRESSION, PHOTOMETRIC, FILL_ORDER = 256, 257, 258, 259, 262, 266
+STRIP_OFFSETS, ORIENTATION, SAMPLES_PER_PIXEL, ROWS_PER_STRIP, STRIP_BYTE_COUNTS = 273, 274, 277, 278, 279
+T4_OPTIONS, TILE_WIDTH, TILE_LENGTH, TILE_OFFSETS, TILE_BYTE_COUNTS = 292, 322, 323, 324, 325
 
 
-def pages(file):
-    """The tags of each directory, as lists of numbers. A loop of directories ends it."""
-    order = {b"II*\0": "<", b"MM\0*": ">"}[file[:4]]
-    (place,) = struct.unpack_from(order + "I", file, 4)
-    seen = set()
-    while place and place not in seen:
-        seen.add(place)
-        (count,) = struct.unpack_from(order + "H", file, place)
+class Tiff:
+    """The bytes of a file, its byte order, and whether its offsets have eight bytes."""
+
+    def __init__(self, file):
+        self.file = file
+        starts = {b"II*\0": ("<", False), b"MM\0*": (">", False), b"II+\0": ("<", True), b"MM\0+": (">", True)}
+        if file[:4] not in starts:
+            raise Unreadable("no TIFF file")
+        self.order, self.is_big = starts[file[:4]]
+
+    def read(self, form, at):
+        try:
+            return struct.unpack_from(self.order + form, self.file, at)
+        except (struct.error, OverflowError):
+            raise Unreadable("the file ends early") from None
+
+    def tags_at(self, directory):
+        """The tags of a directory as lists of numbers, and the offset of the next one. Values that aren't in the file are left
+        out."""
+        count_form, entry_form, word, size = ("Q", "HHQ", "Q", 20) if self.is_big else ("H", "HHI", "I", 12)
+        (count,) = self.read(count_form, directory)
+        first = directory + struct.calcsize("<" + count_form)
+        if count > len(self.file) // size:
+            raise Unreadable("the file ends early")
         tags = {}
-        for entry in range(place + 2, place + 2 + 12 * count, 12):
-            tag, kind, number = struct.unpack_from(order + "HHI", file, entry)
-            if kind in SIZES:
-                form = f"{order}{number}{SIZES[kind]}"
-                start = entry + 8
-                if struct.calcsize(form) > 4:
-                    (start,) = struct.unpack_from(order + "I", file, start)
-                tags[tag] = struct.unpack_from(form, file, start)
-        yield tags
-        (place,) = struct.unpack_from(order + "I", file, place + 2 + 12 * count)
+        for entry in range(first, first + size * count, size):
+            tag, kind, number = self.read(entry_form, entry)
+            if kind not in SIZES:
+                continue
+            start = entry + struct.calcsize("<" + entry_form)
+            length = number * struct.calcsize("<" + SIZES[kind])
+            if length > struct.calcsize("<" + word):
+                (start,) = self.read(word, start)
+            if start + length <= len(self.file) and number:
+                tags[tag] = self.read(f"{number}{SIZES[kind]}", start)
+        (following,) = self.read(word, first + size * count)
+        return tags, following
+
+    def pages(self):
+        """The tags of each directory. A loop of directories ends it."""
+        (directory,) = self.read("Q", 8) if self.is_big else self.read("I", 4)
+        seen = set()
+        while directory and directory not in seen:
+            seen.add(directory)
+            tags, directory = self.tags_at(directory)
+            yield tags
 
 
-def mode_and_flags(compression, t4_options, fill_order):
-    """The words of `faxrows` for a compression and an order of bits."""
-    if compression == 2:
-        mode, letters = "1d", "a"  # no EOLs; each row begins at a byte
-    elif compression == 3:
-        mode, letters = ("2d" if t4_options & 1 else "1d"), ""  # an EOL before each row, which is found; no RTC
-    else:
-        mode, letters = "g4", "b"  # EOFB may end a strip
-    if fill_order == 2:
-        letters += "r"  # the lowest bit of each byte first
-    return mode, letters or "-"
+class Page:
+    """How a page's strips or tiles lie, and the words that decode them."""
+
+    def __init__(self, tags, size):
+        def first(tag, usual):
+            return tags.get(tag, (usual,))[0]
+
+        self.compression = first(COMPRESSION, 1)
+        if self.compression not in (2, 3, 4):
+            raise Unreadable(f"compression {self.compression} is not fax (2, 3 or 4)")
+        if first(BITS_PER_SAMPLE, 1) != 1 or first(SAMPLES_PER_PIXEL, 1) != 1:
+            raise Unreadable("more than one bit a pixel")
+        self.columns, self.rows = first(WIDTH, 0), first(LENGTH, 0)
+        self.is_tiled = TILE_OFFSETS in tags
+        self.offsets = tags.get(TILE_OFFSETS if self.is_tiled else STRIP_OFFSETS, ())
+        self.lengths = tags.get(TILE_BYTE_COUNTS if self.is_tiled else STRIP_BYTE_COUNTS, (size,) * len(self.offsets))
+        self.width = first(TILE_WIDTH, 0) if self.is_tiled else self.columns
+        self.height = first(TILE_LENGTH, 0) if self.is_tiled else min(first(ROWS_PER_STRIP, self.rows), self.rows) or self.rows
+        if not self.columns or not self.rows or not self.width or not self.height or not self.offsets:
+            raise Unreadable("no width, no height, or no strips")
+        if max(self.columns, self.rows, self.width, self.height) >= 1 << 32 or (self.is_tiled and self.width % 8):
+            raise Unreadable("a width or height that no fax page has")
+        self.is_inverted = first(PHOTOMETRIC, 0) == 1
+        self.orientation = first(ORIENTATION, 1)
+        if self.compression == 2:
+            self.mode, letters = "1d", "a"  # no EOLs; each row begins at a byte
+        elif self.compression == 3:
+            self.mode, letters = ("2d" if first(T4_OPTIONS, 0) & 1 else "1d"), ""  # EOLs are found; no RTC
+        else:
+            self.mode, letters = "g4", "b"  # EOFB may end a strip
+        self.flags = letters + ("r" if first(FILL_ORDER, 1) == 2 else "") or "-"  # r: the lowest bit of each byte first
+
+    def parts(self):
+        """Of each strip or tile, its first row and column, and where its bytes begin and how many there are."""
+        across = -(-self.columns // self.width)
+        for part, (start, length) in enumerate(zip(self.offsets, self.lengths)):
+            top = part // across * self.height
+            if top >= self.rows:
+                return
+            yield top, part % across * self.width, start, length
+
+
+def decode_page(number, page, file):
+    """The packed rows of a page, and whether all were decoded. Rows that are missing are white; where the file can't hold so many
+    rows as it says, the picture has those that were decoded."""
+    width = pictures.row_bytes(page.columns)
+    is_whole, end = True, 0
+    height = min(page.rows, 8 * sum(min(length, len(file)) for _, _, _, length in page.parts()))  # a row takes at least one bit
+    if height * width > pictures.MOST_BYTES:
+        raise Unreadable(f"{page.columns} columns and {page.rows} rows are too large")
+    picture = bytearray(height * width)
+    kind = "tile" if page.is_tiled else "strip"
+    seen = 0
+    for part, (top, left, start, length) in enumerate(page.parts()):
+        rows = min(page.height, page.rows - top)
+        words = [page.mode, str(page.width), str(rows), page.flags]
+        packed, answer = pictures.decoded(words, file[start : start + length])
+        one = pictures.row_bytes(page.width)
+        have = len(packed) // one
+        if one == width:
+            picture[top * width : (top + have) * width] = packed
+        else:
+            for row in range(have):
+                at, wide = (top + row) * width + left // 8, min(one, width - left // 8)
+                picture[at : at + wide] = packed[row * one : row * one + wide]
+        end = max(end, top + have)
+        seen += rows * min(page.width, page.columns - left)
+        is_whole = is_whole and have == rows
+        print(f"page {number} {kind} {part}: {length} bytes at {start}: {' '.join(words)}: {pictures.told(answer, page.width, packed, rows)}")
+    if seen < page.columns * page.rows:
+        print(f"page {number}: it has too few {kind}s")
+        is_whole = False
+    if height < page.rows:
+        print(f"page {number}: {page.rows} rows are more than the data can have; the picture has {end}")
+        del picture[end * width :]
+    return bytes(picture[: height * width]), is_whole
 
 
 def main(path, name=None):
     with open(path, "rb") as opened:
         file = opened.read()
-    status = 0
-    for page, tags in enumerate(pages(file)):
-        compression, fill_order, photometric, t4_options, t6_options = (
-            tags.get(tag, (usual,))[0]
-            for tag, usual in ((COMPRESSION, 1), (FILL_ORDER, 1), (PHOTOMETRIC, 0), (T4_OPTIONS, 0), (T6_OPTIONS, 0))
-        )
-        if compression not in (2, 3, 4) or (t4_options | t6_options) & 2 or not {STRIP_OFFSETS, STRIP_BYTE_COUNTS} <= tags.keys():
-            print(f"page {page}: not read: compression {compression}, or tiles, or uncompressed mode")
+    status, seen = 0, 0
+    for number, tags in enumerate(Tiff(file).pages()):
+        try:
+            page = Page(tags, len(file))
+            picture, is_whole = decode_page(number, page, file)
+        except Unreadable as error:
+            print(f"page {number}: not decoded: {error}")
+            status = 1
             continue
-        columns, rows = tags[WIDTH][0], tags[LENGTH][0]
-        limit = min(tags.get(ROWS_PER_STRIP, (rows,))[0], rows) or rows
-        mode, flags = mode_and_flags(compression, t4_options, fill_order)
-        picture = b""
-        for strip, (start, length) in enumerate(zip(tags[STRIP_OFFSETS], tags[STRIP_BYTE_COUNTS])):
-            here = min(limit, rows - strip * limit)
-            if here < 1:
-                break  # 0 rows would be no limit
-            data = file[start : start + length]
-            words = [mode, str(columns), str(here), flags]
-            packed, is_whole, answer = pictures.decoded(words, data)
-            if not is_whole:
-                status = 1
-            print(f"page {page} strip {strip}: {length} bytes at {start}: {' '.join(words)}: {answer}")
-            picture += packed
-        picture = picture.ljust((columns + 7) // 8 * rows, b"\0")  # strips that are missing are white
-        if name:  # with PhotometricInterpretation 1 what is encoded as black is white
-            pictures.write_picture(f"{name}-{page}.pbm", columns, rows, picture, photometric == 1)
-    return status
+        seen += 1
+        if not is_whole:
+            status = 1
+        if name:
+            columns, picture = pictures.turned(page.columns, picture, page.orientation)
+            pictures.write_picture(f"{name}-{number}.pbm", columns, picture, page.is_inverted)
+    return status if seen else 1
 
 
 if __name__ == "__main__":
-    if len(sys.argv) not in (2, 3):
-        sys.exit(__doc__)
-    sys.exit(main(*sys.argv[1:]))
+    sys.exit(pictures.run(main, sys.argv, __doc__))

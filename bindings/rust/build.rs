@@ -1,14 +1,19 @@
-//! Links with the static library, and with `c/heap.c`, which gives it memory by malloc.
+//! Links with the static library, and with `c/heap.c`, its allocator. `CC`, `CFLAGS` and `AR` of the environment are heeded.
 
 use std::env;
 use std::path::Path;
 use std::process::Command;
 
-fn run(tool: &str, words: &[&str]) {
-    let status = Command::new(tool).args(words).status();
+/// Runs a tool that a variable of the environment names, with its first words there, or else the usual one.
+fn run(variable: &str, usual: &str, words: &[&str]) {
+    println!("cargo:rerun-if-env-changed={variable}");
+    let named = env::var(variable).unwrap_or_default();
+    let mut tool = named.split_whitespace();
+    let program = tool.next().unwrap_or(usual);
+    let status = Command::new(program).args(tool).args(words).status();
     assert!(
         status.is_ok_and(|status| status.success()),
-        "{tool} {words:?} failed"
+        "{program} {words:?} failed"
     );
 }
 
@@ -21,7 +26,7 @@ fn main() {
     println!("cargo:rerun-if-changed={}", heap.display());
     assert!(
         library.exists(),
-        "no {}: run `rt lib` in crates/hayro_ccitt_c",
+        "no {}: run `make`, or `rt lib` in crates/hayro_ccitt_c",
         library.display()
     );
 
@@ -30,11 +35,12 @@ fn main() {
         format!("{out}/heap.o"),
         format!("{out}/libhayro_ccitt_heap.a"),
     );
-    run(
-        "cc",
-        &["-O2", "-fPIC", "-c", heap.to_str().unwrap(), "-o", &object],
-    );
-    run("ar", &["crs", &archive, &object]);
+    println!("cargo:rerun-if-env-changed=CFLAGS");
+    let flags = env::var("CFLAGS").unwrap_or_default();
+    let mut words: Vec<&str> = flags.split_whitespace().collect();
+    words.extend(["-O2", "-fPIC", "-c", heap.to_str().unwrap(), "-o", &object]);
+    run("CC", "cc", &words);
+    run("AR", "ar", &["crs", &archive, &object]);
     println!("cargo:rustc-link-search=native={}", built.display());
     println!("cargo:rustc-link-search=native={out}");
     println!("cargo:rustc-link-lib=static=hayro_ccitt_c");

@@ -1,6 +1,6 @@
-//! The calls of `c/hayro_ccitt.h`. All that is unsafe stands here.
+//! The calls of `c/hayro_ccitt.h` and `c/fax_encode.h`. All unsafe code is here.
 
-use crate::{DecodeSettings, EncodingMode};
+use crate::{DecodeSettings, EncodedAs, EncodingMode};
 
 pub(crate) const OK: u32 = 0;
 pub(crate) const UNEXPECTED_EOF: u32 = 1;
@@ -9,6 +9,7 @@ pub(crate) const OVERFLOW: u32 = 3;
 pub(crate) const OUT_OF_MEMORY: u32 = 4;
 
 const LOW_FIRST: u32 = 16;
+const ALIGNED_ROWS: u32 = 4;
 
 /// `hayro_ccitt_settings`.
 #[repr(C)]
@@ -62,7 +63,38 @@ pub(crate) struct Outcome {
     pub(crate) bytes_read: u64,
 }
 
-// SAFETY: these are the declarations of c/hayro_ccitt.h, and the structures above are its structures.
+/// `fax_encode_settings`.
+#[repr(C)]
+pub(crate) struct EncodeSettings {
+    columns: u32,
+    encoding: u32,
+    flags: u32,
+}
+
+impl EncodeSettings {
+    pub(crate) fn new(columns: u32, encoded_as: EncodedAs) -> Self {
+        let (encoding, flags) = match encoded_as {
+            EncodedAs::Group4 => (0, 0),
+            EncodedAs::AlignedGroup4 => (0, ALIGNED_ROWS),
+            EncodedAs::Group3_1D => (1, 0),
+        };
+        Self {
+            columns,
+            encoding,
+            flags,
+        }
+    }
+}
+
+/// `fax_encode_outcome`.
+#[repr(C)]
+#[derive(Default)]
+pub(crate) struct EncodeOutcome {
+    pub(crate) rows: u64,
+    pub(crate) bytes: u64,
+}
+
+// SAFETY: these are the declarations of c/hayro_ccitt.h and c/fax_encode.h, and the structures above are their structures.
 unsafe extern "C" {
     fn hayro_ccitt_measure(
         data: *const u8,
@@ -78,25 +110,41 @@ unsafe extern "C" {
         lists_length: usize,
         outcome: *mut Outcome,
     ) -> u32;
+    fn hayro_ccitt_decode_packed(
+        data: *const u8,
+        data_length: usize,
+        settings: *const Settings,
+        bitmap: *mut u8,
+        bitmap_length: usize,
+        outcome: *mut Outcome,
+    ) -> u32;
+    fn fax_encode_bitmap(
+        bitmap: *const u8,
+        bitmap_length: usize,
+        settings: *const EncodeSettings,
+        data: *mut u8,
+        data_length: usize,
+        outcome: *mut EncodeOutcome,
+    ) -> u32;
 }
 
-/// The answer, and how many rows and changes there are.
+/// The status, and how many rows and changes there are.
 pub(crate) fn measure(data: &[u8], settings: &Settings) -> (u32, Outcome) {
     let mut outcome = Outcome::default();
     // SAFETY: pointers of references and slices are not null and valid for their lengths, and `outcome` is this call's own.
-    let answer = unsafe { hayro_ccitt_measure(data.as_ptr(), data.len(), settings, &mut outcome) };
-    (answer, outcome)
+    let status = unsafe { hayro_ccitt_measure(data.as_ptr(), data.len(), settings, &mut outcome) };
+    (status, outcome)
 }
 
-/// Lists the rows, and gives the answer and what was taken.
+/// Lists the rows, and gives the status and what was taken.
 pub(crate) fn decode_changes(
     data: &[u8],
     settings: &Settings,
     lists: &mut [u32],
 ) -> (u32, Outcome) {
     let mut outcome = Outcome::default();
-    // SAFETY: as above; and nobody else holds `lists`, since it is lent to be changed.
-    let answer = unsafe {
+    // SAFETY: as above; and nothing else refers to `lists`, since it is borrowed mutably.
+    let status = unsafe {
         hayro_ccitt_decode_changes(
             data.as_ptr(),
             data.len(),
@@ -106,5 +154,43 @@ pub(crate) fn decode_changes(
             &mut outcome,
         )
     };
-    (answer, outcome)
+    (status, outcome)
+}
+
+/// Packs the rows, and gives the status and what was taken.
+pub(crate) fn decode_packed(data: &[u8], settings: &Settings, bitmap: &mut [u8]) -> (u32, Outcome) {
+    let mut outcome = Outcome::default();
+    // SAFETY: as above; and nothing else refers to `bitmap`, since it is borrowed mutably.
+    let status = unsafe {
+        hayro_ccitt_decode_packed(
+            data.as_ptr(),
+            data.len(),
+            settings,
+            bitmap.as_mut_ptr(),
+            bitmap.len(),
+            &mut outcome,
+        )
+    };
+    (status, outcome)
+}
+
+/// Encodes a bitmap, and gives the status and how many bytes there are.
+pub(crate) fn encode_bitmap(
+    bitmap: &[u8],
+    settings: &EncodeSettings,
+    data: &mut [u8],
+) -> (u32, EncodeOutcome) {
+    let mut outcome = EncodeOutcome::default();
+    // SAFETY: as above; and nothing else refers to `data`, since it is borrowed mutably.
+    let status = unsafe {
+        fax_encode_bitmap(
+            bitmap.as_ptr(),
+            bitmap.len(),
+            settings,
+            data.as_mut_ptr(),
+            data.len(),
+            &mut outcome,
+        )
+    };
+    (status, outcome)
 }

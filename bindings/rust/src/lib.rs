@@ -1,11 +1,50 @@
-//! A proved decoder for CCITT fax images, ITU-T T.4 (Group 3) and T.6 (Group 4), under the names of the Rust crate
-//! `hayro-ccitt` 0.5.0.
+//! A decoder for CCITT fax images: ITU-T T.4 (Group 3) and T.6 (Group 4), the bi-level compressions of fax machines, TIFF files
+//! and PDF documents.
 //!
-//! [`decode`] takes encoded bytes and hands each row to a [`Decoder`] as the places at which its colour changes. What
-//! is proved is the library behind it; this package only calls its C functions.
+//! [`decode`] takes encoded data and a [`DecoderContext`], and passes each row to a [`Decoder`] as the places at which its colour
+//! changes. [`decode_packed`] gives a bitmap instead, and [`encode_bitmap`] encodes one.
 //!
-//! Rows are decoded before the first is handed over: they take four bytes a row and four a change, which is at most some
-//! sixty-four bytes for a byte of data.
+//! The names are those of the crate `hayro-ccitt` 0.5.0, and a program that uses that crate needs no change. What runs is a C
+//! library that is proved: for every input its rows, results and byte counts are those that a formalization of T.4 and T.6
+//! prescribes, and no input makes it panic, loop, or read outside of its memory.
+//!
+//! # Example
+//!
+//! Two bytes of Group 4 are a row of eight pixels: three white, two black, three white.
+//!
+//! ```
+//! use hayro_ccitt::{decode, DecodeSettings, Decoder, DecoderContext, EncodingMode};
+//!
+//! struct Rows(Vec<Vec<u32>>);
+//!
+//! impl Decoder for Rows {
+//!     fn push_row(&mut self, changes: &[u32]) {
+//!         self.0.push(changes.to_vec());
+//!     }
+//! }
+//!
+//! let mut context = DecoderContext::new(DecodeSettings {
+//!     columns: 8,
+//!     rows: 1,
+//!     end_of_block: false,
+//!     end_of_line: false,
+//!     rows_are_byte_aligned: false,
+//!     encoding: EncodingMode::Group4,
+//!     strict: false,
+//! });
+//! let mut rows = Rows(Vec::new());
+//! let bytes_read = decode(&[0x31, 0xC0], &mut rows, &mut context)?;
+//! assert_eq!(bytes_read, 2);
+//! assert_eq!(rows.0, [[3, 5]]);
+//! # Ok::<(), hayro_ccitt::DecodeError>(())
+//! ```
+//!
+//! # Differences from that crate
+//!
+//! All rows are decoded before the first is passed on; they take four bytes a row and four a change, some sixty-four bytes for a
+//! byte of data at most. If an allocation fails, the program ends, as with a [`Vec`].
+//! `decode_low_first`, [`decode_packed`] and [`encode_bitmap`] are added. The package is `no_std`, and needs an allocator and a C
+//! compiler.
 
 #![no_std]
 #![warn(missing_docs)]
@@ -14,25 +53,30 @@
 extern crate alloc;
 
 mod c;
+mod encoding;
+
+pub use encoding::{EncodeError, EncodedAs, encode_bitmap};
 
 use alloc::alloc::{Layout, handle_alloc_error};
 use alloc::vec::Vec;
 use core::fmt;
 
-/// Decodes the data, pushes each row, and answers how many bytes were read.
+/// Decodes an image, and returns the number of bytes that were read.
 ///
-/// On an error the rows before it were pushed: they are the picture as far as it goes. `columns` 0 is `Ok(0)`.
+/// Each row is passed to the decoder once, from the top. The context may be used again, also after an error.
 ///
 /// # Errors
-/// As the variants of [`DecodeError`] say. Where memory ends, the program ends, as with a `Vec`.
+///
+/// An error says that the data is damaged, or isn't what the settings say. The rows before it were passed to the decoder, and can be used:
+/// they are the image as far as it goes. `columns` 0 is `Ok(0)`.
 pub fn decode(data: &[u8], decoder: &mut impl Decoder, ctx: &mut DecoderContext) -> Result<usize> {
-    decode_by(data, decoder, &c::Settings::from(&ctx.settings))
+    push_rows(data, decoder, &c::Settings::from(&ctx.settings))
 }
 
-/// Decodes as [`decode`] does, with the lowest bit of each byte first, as TIFF's FillOrder 2 has it. The Rust crate has no such
-/// call.
+/// Decodes as [`decode`] does, with the lowest bit of each byte first, as in TIFF files of FillOrder 2.
 ///
 /// # Errors
+///
 /// Those of [`decode`].
 pub fn decode_low_first(
     data: &[u8],
@@ -40,56 +84,120 @@ pub fn decode_low_first(
     ctx: &mut DecoderContext,
 ) -> Result<usize> {
     let settings = c::Settings::from(&ctx.settings).low_first();
-    decode_by(data, decoder, &settings)
+    push_rows(data, decoder, &settings)
 }
 
-fn decode_by(data: &[u8], decoder: &mut impl Decoder, settings: &c::Settings) -> Result<usize> {
+/// The rows of an image as a bitmap.
+#[derive(Clone, Debug, PartialEq, Eq)]
+pub struct PackedRows {
+    /// The number of rows.
+    pub rows: usize,
+    /// The rows, from the top, `columns.div_ceil(8)` bytes each: one bit a pixel, 1 for black, the leftmost pixel in a byte's
+    /// highest bit, and zeros after the last pixel.
+    pub bytes: Vec<u8>,
+    /// What [`decode`] returns for the same data. After an error, the rows before it are here.
+    pub result: Result<usize>,
+}
+
+/// Decodes an image to a bitmap.
+///
+/// # Example
+///
+/// ```
+/// # use hayro_ccitt::{decode_packed, DecodeSettings, DecoderContext, EncodingMode};
+/// # let mut context = DecoderContext::new(DecodeSettings {
+/// #     columns: 8, rows: 1, end_of_block: false, end_of_line: false, rows_are_byte_aligned: false,
+/// #     encoding: EncodingMode::Group4, strict: false,
+/// # });
+/// let image = decode_packed(&[0x31, 0xC0], &mut context);
+/// assert_eq!(image.bytes, [0b00011000]);
+/// assert_eq!(image.result, Ok(2));
+/// ```
+pub fn decode_packed(data: &[u8], ctx: &mut DecoderContext) -> PackedRows {
+    pack_rows(data, ctx, c::Settings::from(&ctx.settings))
+}
+
+/// Decodes to a bitmap with the lowest bit of each byte of the data first. The bitmap's leftmost pixel is in the highest bit all
+/// the same.
+pub fn decode_packed_low_first(data: &[u8], ctx: &mut DecoderContext) -> PackedRows {
+    pack_rows(data, ctx, c::Settings::from(&ctx.settings).low_first())
+}
+
+fn push_rows(data: &[u8], decoder: &mut impl Decoder, settings: &c::Settings) -> Result<usize> {
     // The rows are counted first, which says how many numbers they take.
-    let (answer, counted) = c::measure(data, settings);
-    let numbers = numbers_of(&counted);
-    let mut lists = Vec::new();
-    if answer == c::OUT_OF_MEMORY || lists.try_reserve_exact(numbers).is_err() {
-        no_memory(numbers);
+    let (status, counted) = c::measure(data, settings);
+    let numbers = usize_of(counted.rows.saturating_add(counted.changes));
+    if status == c::OUT_OF_MEMORY {
+        out_of_memory::<u32>(0);
     }
-    lists.resize(numbers, 0);
-    let (answer, outcome) = c::decode_changes(data, settings, &mut lists);
+    let mut lists = zeros(numbers);
+    let (status, outcome) = c::decode_changes(data, settings, &mut lists);
 
     let mut rest = &lists[..];
     for _ in 0..outcome.rows {
-        let Some((&changes, behind)) = rest.split_first() else {
+        let Some((&changes, after)) = rest.split_first() else {
             break;
         };
-        let (row, behind) = behind.split_at(changes as usize);
+        let (row, after) = after.split_at(changes as usize);
         decoder.push_row(row);
-        rest = behind;
+        rest = after;
     }
-    match answer {
+    result_of(status, &outcome)
+}
+
+fn pack_rows(data: &[u8], ctx: &DecoderContext, settings: c::Settings) -> PackedRows {
+    let (status, counted) = c::measure(data, &settings);
+    if status == c::OUT_OF_MEMORY {
+        out_of_memory::<u8>(0);
+    }
+    let width = ctx.settings.columns.div_ceil(8) as usize;
+    let mut bytes = zeros(usize_of(counted.rows).saturating_mul(width));
+    let (status, outcome) = c::decode_packed(data, &settings, &mut bytes);
+    let rows = usize_of(outcome.rows);
+    bytes.truncate(rows * width);
+    PackedRows {
+        rows,
+        bytes,
+        result: result_of(status, &outcome),
+    }
+}
+
+/// What a call's status says. No room was missing, since the rows were counted, and no slice is as long as what isn't taken; so
+/// the last arm is for an allocation that failed.
+fn result_of(status: u32, outcome: &c::Outcome) -> Result<usize> {
+    match status {
         // It is at most the length of the data.
         c::OK => Ok(outcome.bytes_read as usize),
         c::UNEXPECTED_EOF => Err(DecodeError::UnexpectedEof),
         c::INVALID_CODE => Err(DecodeError::InvalidCode),
         c::OVERFLOW => Err(DecodeError::Overflow),
-        c::OUT_OF_MEMORY => no_memory(numbers),
-        // No slice is as long as what is not taken, each settings are some, and the rows were counted.
-        _ => unreachable!("hayro_ccitt_decode_changes answered {answer}"),
+        _ => out_of_memory::<u32>(0),
     }
 }
 
-/// How many numbers the rows that were counted take.
-fn numbers_of(counted: &c::Outcome) -> usize {
-    let numbers = counted.rows.saturating_add(counted.changes);
-    usize::try_from(numbers).unwrap_or(usize::MAX)
+fn usize_of(number: u64) -> usize {
+    usize::try_from(number).unwrap_or(usize::MAX)
 }
 
-/// Ends the program for want of memory.
-fn no_memory(numbers: usize) -> ! {
-    match Layout::array::<u32>(numbers) {
+/// A vector of zeros. If there is no memory for it, the program ends.
+fn zeros<T: Copy + Default>(length: usize) -> Vec<T> {
+    let mut made = Vec::new();
+    if made.try_reserve_exact(length).is_err() {
+        out_of_memory::<T>(length);
+    }
+    made.resize(length, T::default());
+    made
+}
+
+/// Ends the program after an allocation that failed.
+fn out_of_memory<T>(length: usize) -> ! {
+    match Layout::array::<T>(length) {
         Ok(layout) => handle_alloc_error(layout),
-        Err(_) => panic!("out of memory"),
+        Err(_) => panic!("capacity overflow"),
     }
 }
 
-/// Takes the rows of a picture.
+/// A sink for the rows of an image.
 pub trait Decoder {
     /// Takes the next row: the places at which its colour changes, strictly ascending and below `columns`. A row starts
     /// white, so it is black from the first place up to the second, from the third up to the fourth, and so on; with an
@@ -97,56 +205,56 @@ pub trait Decoder {
     fn push_row(&mut self, changes: &[u32]);
 }
 
-/// What a run of [`decode`] goes by. It may be used again.
+/// The settings of an image, for any number of calls of [`decode`].
 pub struct DecoderContext {
     settings: DecodeSettings,
 }
 
 impl DecoderContext {
-    /// A context of these settings.
+    /// A context with these settings.
     pub fn new(settings: DecodeSettings) -> Self {
         Self { settings }
     }
 }
 
-/// How the data is to be read.
+/// How the data is encoded, and how much of it is decoded.
 #[derive(Copy, Clone, Debug)]
 pub struct DecodeSettings {
-    /// The width in pixels.
+    /// The width of the image in pixels.
     pub columns: u32,
-    /// The largest number of rows; 0: no limit.
+    /// The largest number of rows; 0 for no limit.
     pub rows: u32,
-    /// Whether EOFB or RTC may end the data. It doesn't have to stand there.
+    /// Whether EOFB or RTC may end the data. It needn't be there.
     pub end_of_block: bool,
-    /// Whether EOLs stand between the lines of Group 3. EOLs are read without it too.
+    /// Whether an EOL precedes each line of Group 3. EOLs are recognized without it too.
     pub end_of_line: bool,
     /// Whether each row is padded up to a whole byte.
     pub rows_are_byte_aligned: bool,
     /// How the lines are encoded.
     pub encoding: EncodingMode,
-    /// Whether data that breaks a rule is refused, rather than decoded as well as possible.
+    /// Whether data that breaks a rule is an error, rather than repaired or cut.
     pub strict: bool,
 }
 
-/// How the lines are encoded.
+/// How the lines of an image are encoded.
 #[derive(Copy, Clone, Debug, PartialEq, Eq)]
 pub enum EncodingMode {
-    /// Group 4 (T.6, MMR): each line by the one before.
+    /// Group 4 (T.6, MMR): each line by the one before it.
     Group4,
     /// Group 3, one-dimensional (T.4, MH): each line by itself.
     Group3_1D,
-    /// Group 3, two-dimensional (T.4, MR): a tag before each line says which.
+    /// Group 3, two-dimensional (T.4, MR): a tag before each line says which of both.
     Group3_2D,
 }
 
-/// Why a run ended early. The rows before stand.
+/// Why decoding stopped early. The rows before were passed on.
 #[derive(Debug, Clone, Copy, PartialEq, Eq)]
 pub enum DecodeError {
-    /// The data ends inside a code word, or where a line has to begin.
+    /// The data ends inside a code word, or where a line must begin.
     UnexpectedEof,
-    /// No code word stands at a place, or strict data breaks a rule.
+    /// The bits are no code word, or strict data breaks a rule.
     InvalidCode,
-    /// A length or a place is not a number of 32 bits, or a place is left of the row's front.
+    /// A length or a place exceeds 32 bits, or a changing element lies left of a0.
     Overflow,
 }
 
@@ -162,5 +270,5 @@ impl fmt::Display for DecodeError {
 
 impl core::error::Error for DecodeError {}
 
-/// What [`decode`] answers.
+/// The result of [`decode`].
 pub type Result<T> = core::result::Result<T, DecodeError>;

@@ -1,3 +1,5 @@
 mod FirstTaken
+mod OnceTaken
 mod PagesCut
 mod RunsCounted
+mod WhiteTaken

@@ -1,3 +1,4 @@
+pub mod Blank
 pub mod Counting
 pub mod FirstRows
 pub mod Pages

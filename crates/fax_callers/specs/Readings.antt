@@ -1,17 +1,29 @@
--- The reading that a caller's answer is about.
-use Rattle.std.specs.Prelude.{◌≡◌, ℕ, List, Result, Ok, Err, IsOk}
+-- The reading that a caller's result is about.
+use Rattle.std.specs.Prelude.{◌≡◌, ◌<◌, ◌≤◌, ◌⊎◌, ℕ, List, [], length, take, get_or, Result, Ok, Err, IsOk}
+use Rattle.hayro_ccitt.specs.declared.bit_reader.BitOrder.{BitOrder}
 use Rattle.hayro_ccitt.specs.declared.error.DecodeError.{DecodeError}
+use Rattle.hayro_ccitt.specs.declared.error.DecodeError.TheVariants.{OutOfMemory, Refused}
 use Rattle.hayro_ccitt.specs.declared.settings.DecodeSettings.{DecodeSettings}
-use Rattle.hayro_ccitt.specs.Answers.{IsFault}
-use Rattle.hayro_ccitt.specs.Bits.{bits_of}
-use Rattle.hayro_ccitt.specs.PlainReading.{Reading, plain}
+use Rattle.hayro_ccitt.specs.Answers.{IsFault, PaintsBlack, meaning_after}
+use Rattle.hayro_ccitt.specs.Bits.{Bits, bits_in}
+use Rattle.hayro_ccitt.specs.PlainReading.{Reading, plain, lines_of}
+use Rattle.hayro_ccitt.specs.Rows.{changes}
 
--- the plain reading of some bytes, each byte's highest bit first
-abbrev pub reading_of : DecodeSettings → List ℕ → Reading
-reading_of settings bytes = plain settings (bits_of bytes)
+-- the plain reading of some bytes, whose bits come in this order
+abbrev pub reading_of : DecodeSettings → BitOrder → List ℕ → Reading
+reading_of settings order bytes = plain settings (bits_in order bytes)
 
 -- Where a call answers without an error the reading ends without one, and where it answers a fault of the data the reading ends
 -- with that fault. Want of memory and a refused row say nothing of the reading.
 abbrev pub EndsAs : {T : Type 0} → Result T DecodeError → Result ℕ DecodeError → Type 0
 EndsAs (Ok x) outcome = IsOk outcome
 EndsAs (Err error) outcome = IsFault error → outcome ≡ Err error
+
+-- Which rows a sink took: the first of the reading. Where an allocation failed, it was for the context, or in a line that paints
+-- a black pixel; where a row was refused, it is the next one, and the sink refuses it.
+pub record TakesFirst {M : Type 0} (settings : DecodeSettings) (bits : Bits) (step : M → List ℕ → M) (before after : M) (refuses : List ℕ → Type 0) (answer : Result ℕ DecodeError) : Type 0 where
+  pub taken : ℕ
+  pub within : taken ≤ length (plain settings bits).rows
+  pub meaning : after ≡ meaning_after step before (take taken (plain settings bits).rows)
+  pub memory : answer ≡ Err OutOfMemory → (taken ≡ 0) ⊎ PaintsBlack (lines_of settings bits) taken
+  pub refused : answer ≡ Err Refused → (taken < length (plain settings bits).rows) × refuses (changes (get_or (plain settings bits).rows taken []))

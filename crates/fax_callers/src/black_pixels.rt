@@ -2,13 +2,14 @@
 
 ghost use Rattle.std.specs.Prelude.{◌≡◌, ◌≢◌, ◌+◌, ℕ, List, IfOk};
 ghost use Rattle.hayro_ccitt.specs.Answers.{OnAnswer};
-ghost use Rattle.hayro_ccitt.specs.Bits.{BitsFit, bits_of};
-ghost use Rattle.hayro_ccitt.specs.Pictures.{IsClosedPicture};
+ghost use Rattle.hayro_ccitt.specs.Bits.{BitsFit, bits_in};
+ghost use Rattle.hayro_ccitt.specs.Pictures.{IsClosedPicture, IsLimitedPicture};
 ghost use Rattle.hayro_ccitt.specs.Rows.{Row, AreChanges, pixels};
 ghost use Rattle.fax_callers.specs.Counting.{black_in_row, black_in, in_64_bits};
 ghost use Rattle.fax_callers.specs.Readings.{reading_of, EndsAs};
 
 use crate::once::decode_once;
+use hayro_ccitt::bit_reader::BitOrder;
 use hayro_ccitt::laws::steps_on_rows;
 use hayro_ccitt::{DecodeError, DecodeSettings, Decoder, Result};
 use std::alloc::Global;
@@ -95,16 +96,23 @@ fn black_in_row(columns: u32, changes: &[u32]) -> u64
 /// `OutOfMemory` where there is no memory to decode.
 ///
 /// In Group 4 with 8 columns the bytes 31 C0 04 00 40 are a row whose pixels 3 and 4 are black, and EOFB: the answer is 2.
-pub fn count_black(alloc: Global, settings: DecodeSettings, data: &[u8]) -> Result<u64>
+pub fn count_black(
+    alloc: Global,
+    settings: DecodeSettings,
+    order: BitOrder,
+    data: &[u8],
+) -> Result<u64>
     requires fit { BitsFit «data».now }
-    ensures counted { IfOk result (λ n. n ≡ in_64_bits (black_in (reading_of settings «data».now).rows)) }
-    ensures ended { EndsAs result (reading_of settings «data».now).outcome }
+    ensures counted { IfOk result (λ n. n ≡ in_64_bits (black_in (reading_of settings order «data».now).rows)) }
+    ensures ended { EndsAs result (reading_of settings order «data».now).outcome }
     ensures never_refused { result ≢ Err DecodeError.Refused }
-    ensures closed { (rows : List Row) (count : ℕ) → IsClosedPicture settings rows count (bits_of «data».now)
+    ensures closed { (rows : List Row) (count : ℕ) → IsClosedPicture settings rows count (bits_in order «data».now)
+        → OnAnswer result (result ≡ Ok (in_64_bits (black_in rows))) }
+    ensures limited { (rows : List Row) → IsLimitedPicture settings rows (bits_in order «data».now)
         → OnAnswer result (result ≡ Ok (in_64_bits (black_in rows))) }
 {
     steps_on_rows::<BlackPixels>();
     let mut sink = BlackPixels::new(settings.columns);
-    decode_once(alloc, settings, data, &mut sink)?;
+    decode_once(alloc, settings, order, data, &mut sink)?;
     Ok(sink.black())
 }

@@ -1,11 +1,14 @@
 //! The first rows of an image.
 
-ghost use Rattle.std.specs.Prelude.{◌≡◌, ◌<◌, ◌≤◌, ◌≢◌, IfErr, IsOk, length, min, take, true, false};
-ghost use Rattle.hayro_ccitt.specs.Answers.{IsFault, OnAnswer, meaning_after};
-ghost use Rattle.hayro_ccitt.specs.Bits.{BitsFit};
+ghost use Rattle.std.specs.Prelude.{◌≡◌, ◌<◌, ◌≤◌, ◌≢◌, IfErr, IsOk, length, min, take, get_or, [], true, false};
+ghost use Rattle.hayro_ccitt.specs.Answers.{IsFault, OnAnswer, PaintsBlack, meaning_after};
+ghost use Rattle.hayro_ccitt.specs.Bits.{BitsFit, bits_in};
+ghost use Rattle.hayro_ccitt.specs.PlainReading.{lines_of};
+ghost use Rattle.hayro_ccitt.specs.Rows.{changes};
 ghost use Rattle.fax_callers.specs.Readings.{reading_of, EndsAs};
 
-use hayro_ccitt::{DecodeError, Decoder, DecoderContext, Result, decode};
+use hayro_ccitt::bit_reader::BitOrder;
+use hayro_ccitt::{DecodeError, Decoder, DecoderContext, Result, decode_in};
 
 /// A sink that hands the first rows on to another one, so many of them at most, and refuses the next, so that decoding ends
 /// there.
@@ -40,7 +43,7 @@ impl<D> FirstRows<D> {
 }
 
 impl<D: Decoder> Decoder for FirstRows<D> {
-    ghost use Rattle.std.specs.Prelude.{◌+◌, ◌||◌};
+    ghost use Rattle.std.specs.Prelude.{◌≡◌, ◌+◌, ◌||◌, ◌⊎◌};
     ghost use Rattle.fax_callers.specs.FirstRows.{Firsts};
 
     ghost Meaning = { Firsts D.Meaning };
@@ -52,6 +55,8 @@ impl<D: Decoder> Decoder for FirstRows<D> {
     ghost width = { λ first. D.width first.sink };
 
     ghost has_refused = { λ first. first.has_refused || D.has_refused first.sink };
+
+    ghost refuses = { λ first row. (first.rows ≡ first.most) ⊎ D.refuses first.sink row };
 
     fn push_row(&mut self, changes: &[u32]) -> Result<()> {
         if self.rows == self.most {
@@ -66,6 +71,7 @@ impl<D: Decoder> Decoder for FirstRows<D> {
 
 /// Decodes into a sink of first rows that has taken none, up to the row that it refuses.
 fn take_first<D: Decoder>(
+    order: BitOrder,
     data: &[u8],
     first: &mut FirstRows<D>,
     ctx: &mut DecoderContext,
@@ -75,15 +81,19 @@ fn take_first<D: Decoder>(
     requires begun { first.old.rows ≡ 0 }
     ensures rows { D.meaning first.new.sink
         ≡ meaning_after (D.step (D.width first.old.sink)) (D.meaning first.old.sink)
-        (take first.new.rows (reading_of ctx.old.held.settings «data».now).rows) }
-    ensures taken { first.new.rows ≤ length (reading_of ctx.old.held.settings «data».now).rows }
-    ensures all { OnAnswer result (first.new.rows ≡ length (reading_of ctx.old.held.settings «data».now).rows) }
-    ensures ended { EndsAs result (reading_of ctx.old.held.settings «data».now).outcome }
+        (take first.new.rows (reading_of ctx.old.held.settings order «data».now).rows) }
+    ensures taken { first.new.rows ≤ length (reading_of ctx.old.held.settings order «data».now).rows }
+    ensures all { OnAnswer result (first.new.rows ≡ length (reading_of ctx.old.held.settings order «data».now).rows) }
+    ensures ended { EndsAs result (reading_of ctx.old.held.settings order «data».now).outcome }
     ensures most { first.new.most ≡ first.old.most }
     ensures refused { result ≡ Err DecodeError.Refused → first.new.rows ≢ first.new.most → D.has_refused first.new.sink ≡ true }
+    ensures refused_row { result ≡ Err DecodeError.Refused → first.new.rows ≢ first.new.most → D.refuses first.new.sink
+        (changes (get_or (reading_of ctx.old.held.settings order «data».now).rows first.new.rows [])) }
+    ensures memory { result ≡ Err DecodeError.OutOfMemory
+        → PaintsBlack (lines_of ctx.old.held.settings (bits_in order «data».now)) first.new.rows }
     ensures settings { ctx.new.held.settings ≡ ctx.old.held.settings }
 {
-    decode(data, first, ctx)
+    decode_in(order, data, first, ctx)
 }
 
 /// Decodes the first rows of an image, as for a thumbnail, and answers whether there are as many as are wanted. At most one row
@@ -95,6 +105,7 @@ fn take_first<D: Decoder>(
 /// In Group 4 with 8 columns the bytes 31 F8 00 80 08 are two rows whose pixels 3 and 4 are black, and EOFB: where one row is
 /// wanted it is taken and the answer is true; where three are, both are taken and the answer is false.
 pub fn decode_first_rows<D: Decoder>(
+    order: BitOrder,
     data: &[u8],
     first: &mut FirstRows<D>,
     ctx: &mut DecoderContext,
@@ -104,21 +115,25 @@ pub fn decode_first_rows<D: Decoder>(
     requires begun { first.old.rows ≡ 0 }
     ensures rows { D.meaning first.new.sink
         ≡ meaning_after (D.step (D.width first.old.sink)) (D.meaning first.old.sink)
-        (take first.new.rows (reading_of ctx.old.held.settings «data».now).rows) }
+        (take first.new.rows (reading_of ctx.old.held.settings order «data».now).rows) }
     ensures count { OnAnswer result (first.new.rows
-        ≡ min first.old.most (length (reading_of ctx.old.held.settings «data».now).rows)) }
+        ≡ min first.old.most (length (reading_of ctx.old.held.settings order «data».now).rows)) }
     ensures as_many { result ≡ Ok true
-        → first.old.most ≤ length (reading_of ctx.old.held.settings «data».now).rows }
+        → first.old.most ≤ length (reading_of ctx.old.held.settings order «data».now).rows }
     ensures fewer { result ≡ Ok false
-        → (length (reading_of ctx.old.held.settings «data».now).rows < first.old.most)
-        × IsOk (reading_of ctx.old.held.settings «data».now).outcome }
+        → (length (reading_of ctx.old.held.settings order «data».now).rows < first.old.most)
+        × IsOk (reading_of ctx.old.held.settings order «data».now).outcome }
     ensures fault { IfErr result (λ e. IsFault e
-        → (length (reading_of ctx.old.held.settings «data».now).rows < first.old.most)
-        × ((reading_of ctx.old.held.settings «data».now).outcome ≡ Err e)) }
+        → (length (reading_of ctx.old.held.settings order «data».now).rows < first.old.most)
+        × ((reading_of ctx.old.held.settings order «data».now).outcome ≡ Err e)) }
     ensures refused { result ≡ Err DecodeError.Refused → D.has_refused first.new.sink ≡ true }
+    ensures refused_row { result ≡ Err DecodeError.Refused → D.refuses first.new.sink
+        (changes (get_or (reading_of ctx.old.held.settings order «data».now).rows first.new.rows [])) }
+    ensures memory { result ≡ Err DecodeError.OutOfMemory
+        → PaintsBlack (lines_of ctx.old.held.settings (bits_in order «data».now)) first.new.rows }
     ensures settings { ctx.new.held.settings ≡ ctx.old.held.settings }
 {
-    let answer = take_first(data, first, ctx);
+    let answer = take_first(order, data, first, ctx);
     if first.rows == first.most {
         return Ok(true);
     }

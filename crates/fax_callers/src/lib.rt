@@ -5,12 +5,14 @@
 #![tactic(auto)]
 
 mod black_pixels;
+mod blank;
 mod first_rows;
 mod once;
 mod pages;
 mod strip;
 
 pub use black_pixels::{BlackPixels, count_black};
+pub use blank::is_blank;
 pub use first_rows::{FirstRows, decode_first_rows};
 pub use once::decode_once;
 pub use pages::{group4_pages, page_end, page_ends};

@@ -2,14 +2,15 @@
 
 ghost use Rattle.std.specs.Prelude.{◌≡◌, ◌≢◌, ◌≤◌, ◌+◌, ◌⊎◌, ℕ, List, IfOk, IfErr, IsOk, length};
 ghost use Rattle.hayro_ccitt.specs.Answers.{OnAnswer, IsFault};
-ghost use Rattle.hayro_ccitt.specs.Bits.{BitsFit, bits_of};
+ghost use Rattle.hayro_ccitt.specs.Bits.{BitsFit, bits_in};
 ghost use Rattle.hayro_ccitt.specs.Pictures.{IsClosedPicture};
 ghost use Rattle.hayro_ccitt.specs.Rows.{Row};
 ghost use Rattle.fax_callers.specs.Pages.{page_settings, page_from, ReadsClosedPages, EndAt, StandAt};
 
+use hayro_ccitt::bit_reader::BitOrder;
 use hayro_ccitt::laws::{bits_of_bytes, pictures};
 use hayro_ccitt::{
-    DecodeError, DecodeSettings, Decoder, DecoderContext, EncodingMode, Result, decode,
+    DecodeError, DecodeSettings, Decoder, DecoderContext, EncodingMode, Result, decode_in,
 };
 use std::alloc::Global;
 
@@ -51,23 +52,23 @@ pub fn group4_pages(columns: u32) -> DecodeSettings
 }
 
 /// How many bytes the page takes that begins at a place. Its rows are let go.
-fn skip_page(data: &[u8], begin: usize, ctx: &mut DecoderContext) -> Result<usize>
+fn skip_page(order: BitOrder, data: &[u8], begin: usize, ctx: &mut DecoderContext) -> Result<usize>
     requires fit { BitsFit «data».now }
     requires begin { begin ≤ length «data».now }
     ensures settings { ctx.new.held.settings ≡ ctx.old.held.settings }
     ensures page { (columns : ℕ) → ctx.old.held.settings ≡ page_settings columns
-        → OnAnswer result (result ≡ page_from columns «data».now begin) }
+        → OnAnswer result (result ≡ page_from columns order «data».now begin) }
     ensures within { IfOk result (λ n. begin + n ≤ length «data».now) }
     ensures never_refused { result ≢ Err DecodeError.Refused }
 {
     // A number's range is known once it is read.
     let _settings = ctx.settings();
-    decode(&data[begin..], &mut NoRows, ctx)
+    decode_in(order, &data[begin..], &mut NoRows, ctx)
 }
 
 /// A closed page is read up to its end, whatever follows it.
-fn closed_pages(columns: u32)
-    ensures { ReadsClosedPages columns }
+fn closed_pages(columns: u32, order: BitOrder)
+    ensures { ReadsClosedPages columns order }
 {
     pictures();
     bits_of_bytes();
@@ -81,19 +82,19 @@ fn closed_pages(columns: u32)
 ///
 /// With 8 columns the bytes 31 C0 04 00 40 are a row whose pixels 3 and 4 are black, and EOFB: the answer is 5, whatever stands
 /// behind them.
-pub fn page_end(alloc: Global, columns: u32, data: &[u8]) -> Result<usize>
+pub fn page_end(alloc: Global, columns: u32, order: BitOrder, data: &[u8]) -> Result<usize>
     requires fit { BitsFit «data».now }
-    ensures page { OnAnswer result (result ≡ page_from columns «data».now 0) }
+    ensures page { OnAnswer result (result ≡ page_from columns order «data».now 0) }
     ensures within { IfOk result (λ n. n ≤ length «data».now) }
     ensures never_refused { result ≢ Err DecodeError.Refused }
 
     // A page closed by EOFB ends where its picture does, whatever follows it.
     ensures closed { (rows : List Row) (count : ℕ)
-        → IsClosedPicture (page_settings columns) rows count (bits_of «data».now) → OnAnswer result (result ≡ Ok count) }
+        → IsClosedPicture (page_settings columns) rows count (bits_in order «data».now) → OnAnswer result (result ≡ Ok count) }
 {
-    closed_pages(columns);
+    closed_pages(columns, order);
     let mut ctx = DecoderContext::new(alloc, group4_pages(columns))?;
-    skip_page(data, 0, &mut ctx)
+    skip_page(order, data, 0, &mut ctx)
 }
 
 /// Where the pages end that stand one behind the other in the data, from its front on: each begins where the one before ends.
@@ -102,24 +103,24 @@ pub fn page_end(alloc: Global, columns: u32, data: &[u8]) -> Result<usize>
 /// The errors are those of [`page_end`], for the first page that has one.
 ///
 /// With 8 columns the bytes 31 C0 04 00 40 31 C0 04 00 40 are two pages: the answer is 5 and 10.
-pub fn page_ends(alloc: Global, columns: u32, data: &[u8]) -> Result<Vec<usize>>
+pub fn page_ends(alloc: Global, columns: u32, order: BitOrder, data: &[u8]) -> Result<Vec<usize>>
     requires fit { BitsFit «data».now }
-    ensures pages { IfOk result (λ ends. (last : ℕ) × EndAt columns «data».now 0 ends.items last
-        × ((last ≡ length «data».now) ⊎ (page_from columns «data».now last ≡ Ok 0))) }
-    ensures fault { IfErr result (λ e. IsFault e → (ends : List ℕ) × (begin : ℕ) × EndAt columns «data».now 0 ends begin
-        × (page_from columns «data».now begin ≡ Err e)) }
+    ensures pages { IfOk result (λ ends. (last : ℕ) × EndAt columns order «data».now 0 ends.items last
+        × ((last ≡ length «data».now) ⊎ (page_from columns order «data».now last ≡ Ok 0))) }
+    ensures fault { IfErr result (λ e. IsFault e → (ends : List ℕ) × (begin : ℕ) × EndAt columns order «data».now 0 ends begin
+        × (page_from columns order «data».now begin ≡ Err e)) }
     ensures never_refused { result ≢ Err DecodeError.Refused }
 
     // Where the data are closed pages and nothing else, these are cut.
-    ensures closed { (ends : List ℕ) → StandAt columns «data».now 0 ends
+    ensures closed { (ends : List ℕ) → StandAt columns order «data».now 0 ends
         → OnAnswer result (IsOk result × IfOk result (λ found. found.items ≡ ends)) }
 {
-    closed_pages(columns);
+    closed_pages(columns, order);
     let mut ctx = DecoderContext::new(alloc, group4_pages(columns))?;
     let mut ends = Vec::new(alloc);
     let mut begin = 0;
     while begin < data.len() {
-        let count = skip_page(data, begin, &mut ctx)?;
+        let count = skip_page(order, data, begin, &mut ctx)?;
         if count == 0 {
             break;
         }

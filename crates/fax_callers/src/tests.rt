@@ -5,14 +5,15 @@
 //! and V0: 001 1000 11 1. Below a row like itself it is three times V0: 111. EOFB is 000000000001 twice.
 
 use crate::{
-    BlackPixels, FirstRows, count_black, decode_first_rows, decode_once, group4_pages, page_end,
-    page_ends, strip_to_bitmap,
+    BlackPixels, FirstRows, count_black, decode_first_rows, decode_once, group4_pages, is_blank,
+    page_end, page_ends, strip_to_bitmap,
 };
 use fax_encode::BitmapSink;
-use hayro_ccitt::DecodeError::{OutOfMemory, Refused, UnexpectedEof};
+use hayro_ccitt::DecodeError::{InvalidCode, OutOfMemory, Refused, UnexpectedEof};
+use hayro_ccitt::bit_reader::BitOrder::{HighestFirst, LowestFirst};
 use hayro_ccitt::{DecodeError, Decoder, DecoderContext, EncodingMode, Result, bits_fit};
 use named_requests::made_at_last;
-use std::alloc::AllocGlobal;
+use std::alloc::{AllocError, AllocGlobal, Global};
 use std::process::Abort;
 use std::test::Fail;
 
@@ -42,7 +43,7 @@ fn takes_first(
     };
     let mut first = FirstRows::new(BitmapSink::new(rt.alloc(), 8), most);
     assert_eq!(rt;
-        decode_first_rows(data, &mut first, &mut ctx),
+        decode_first_rows(HighestFirst, data, &mut first, &mut ctx),
         answer,
         "at most {most} rows"
     );
@@ -65,15 +66,21 @@ fn settings_of_pages(rt: HostRuntime) {
 #[test]
 fn black_pixels(rt: HostRuntime) {
     let alloc = rt.alloc();
-    assert_eq!(&rt; count_black(alloc, group4_pages(8), &ONE_ROW), Ok(2));
-    assert_eq!(&rt; count_black(alloc, group4_pages(8), &TWO_ROWS), Ok(4));
     assert_eq!(&rt;
-        count_black(alloc, group4_pages(8), &CUT_ROW),
+        count_black(alloc, group4_pages(8), HighestFirst, &ONE_ROW),
+        Ok(2)
+    );
+    assert_eq!(&rt;
+        count_black(alloc, group4_pages(8), HighestFirst, &TWO_ROWS),
+        Ok(4)
+    );
+    assert_eq!(&rt;
+        count_black(alloc, group4_pages(8), HighestFirst, &CUT_ROW),
         Err(UnexpectedEof)
     );
     let mut sink = BlackPixels::new(8);
     assert_eq!(&rt;
-        decode_once(alloc, group4_pages(8), &TWO_PAGES, &mut sink),
+        decode_once(alloc, group4_pages(8), HighestFirst, &TWO_PAGES, &mut sink),
         Ok(5)
     );
     assert_eq!(&rt; sink.black(), 2);
@@ -91,13 +98,27 @@ fn black_pixels(rt: HostRuntime) {
 
 #[test]
 fn bitmaps_of_strips(rt: HostRuntime) -> std::result::Result<(), Fail> {
-    let one = strip_to_bitmap(rt.alloc(), group4_pages(8), &ONE_ROW)?;
+    let one = strip_to_bitmap(rt.alloc(), group4_pages(8), HighestFirst, &ONE_ROW)?;
     assert_eq!(&rt; one.as_slice(), [0x18u8].as_slice());
-    let two = strip_to_bitmap(rt.alloc(), group4_pages(8), &TWO_ROWS)?;
+    let two = strip_to_bitmap(rt.alloc(), group4_pages(8), HighestFirst, &TWO_ROWS)?;
     assert_eq!(&rt; two.as_slice(), [0x18u8, 0x18].as_slice());
-    let cut = strip_to_bitmap(rt.alloc(), group4_pages(8), &CUT_ROW);
+    let cut = strip_to_bitmap(rt.alloc(), group4_pages(8), HighestFirst, &CUT_ROW);
     assert_eq!(&rt; cut.err(), Some(UnexpectedEof));
     Ok(())
+}
+
+#[test]
+fn blank_images(rt: HostRuntime) {
+    let alloc = rt.alloc();
+    let blank = |data: &[u8], order| is_blank(alloc, group4_pages(8), order, data);
+    // V0 twice, and EOFB: 11 000000000001 000000000001.
+    assert_eq!(&rt; blank(&[0xC0, 0x04, 0x00, 0x40], HighestFirst), Ok(true));
+    assert_eq!(&rt; blank(&[0x03, 0x20, 0x00, 0x02], LowestFirst), Ok(true));
+    assert_eq!(&rt; blank(&ONE_ROW, HighestFirst), Ok(false));
+    // A white row, and one whose pixels 3 and 4 are black: what follows it doesn't matter.
+    assert_eq!(&rt; blank(&[0x98, 0xE0], HighestFirst), Ok(false));
+    // A white row, and no word.
+    assert_eq!(&rt; blank(&[0x80, 0x00], HighestFirst), Err(InvalidCode));
 }
 
 #[test]
@@ -116,12 +137,18 @@ fn rows_that_are_refused(rt: HostRuntime) -> std::result::Result<(), Fail> {
     let one = FirstRows::new(BitmapSink::new(rt.alloc(), 8), 1);
     let mut first = FirstRows::new(one, 3);
     assert_eq!(&rt;
-        decode_first_rows(&TWO_ROWS, &mut first, &mut ctx),
+        decode_first_rows(HighestFirst, &TWO_ROWS, &mut first, &mut ctx),
         Err(Refused)
     );
     assert_eq!(&rt; first.sink.sink.bytes(), [0x18u8].as_slice());
     let mut one = FirstRows::new(BitmapSink::new(rt.alloc(), 8), 1);
-    let answer = decode_once(rt.alloc(), group4_pages(8), &TWO_ROWS, &mut one);
+    let answer = decode_once(
+        rt.alloc(),
+        group4_pages(8),
+        HighestFirst,
+        &TWO_ROWS,
+        &mut one,
+    );
     assert_eq!(&rt; answer, Err(Refused));
     Ok(())
 }
@@ -129,25 +156,88 @@ fn rows_that_are_refused(rt: HostRuntime) -> std::result::Result<(), Fail> {
 #[test]
 fn pages(rt: HostRuntime) -> std::result::Result<(), Fail> {
     let alloc = rt.alloc();
-    assert_eq!(&rt; page_end(alloc, 8, &ONE_ROW), Ok(5));
-    assert_eq!(&rt; page_end(alloc, 8, &TWO_PAGES), Ok(5));
-    assert_eq!(&rt; page_end(alloc, 8, &CUT_ROW), Err(UnexpectedEof));
+    assert_eq!(&rt; page_end(alloc, 8, HighestFirst, &ONE_ROW), Ok(5));
+    assert_eq!(&rt; page_end(alloc, 8, HighestFirst, &TWO_PAGES), Ok(5));
     assert_eq!(&rt;
-        page_ends(alloc, 8, &TWO_PAGES)?.as_slice(),
+        page_end(alloc, 8, HighestFirst, &CUT_ROW),
+        Err(UnexpectedEof)
+    );
+    assert_eq!(&rt;
+        page_ends(alloc, 8, HighestFirst, &TWO_PAGES)?.as_slice(),
         [5usize, 10].as_slice()
     );
     assert_eq!(&rt;
-        page_ends(alloc, 8, &[])?.as_slice(),
+        page_ends(alloc, 8, HighestFirst, &[])?.as_slice(),
         [].as_slice(),
         "nothing"
     );
     assert_eq!(&rt;
-        page_ends(alloc, 0, &ONE_ROW)?.as_slice(),
+        page_ends(alloc, 0, HighestFirst, &ONE_ROW)?.as_slice(),
         [].as_slice(),
         "no columns"
     );
-    let cut = page_ends(alloc, 8, &[0x31, 0xC0, 0x04, 0x00, 0x40, 0x31]);
+    let cut = page_ends(
+        alloc,
+        8,
+        HighestFirst,
+        &[0x31, 0xC0, 0x04, 0x00, 0x40, 0x31],
+    );
     assert_eq!(&rt; cut.err(), Some(UnexpectedEof));
+    Ok(())
+}
+
+/// So many copies of a piece between a front and an end.
+fn repeated(
+    alloc: Global,
+    front: &[u8],
+    piece: &[u8],
+    times: usize,
+    end: &[u8],
+) -> std::result::Result<Vec<u8>, AllocError> {
+    let mut data = front.to_vec(alloc)?;
+    for _ in 0..times {
+        data.extend_from_slice(piece)?;
+    }
+    data.extend_from_slice(end)?;
+    Ok(data)
+}
+
+#[test]
+fn many_pages(rt: HostRuntime) -> std::result::Result<(), Fail> {
+    let data = repeated(rt.alloc(), &[], &ONE_ROW, 10000, &[])?;
+    assert!(&rt; bits_fit(&data));
+    let ends = page_ends(rt.alloc(), 8, &data)?;
+    assert_eq!(&rt; ends.len(), 10000);
+    let mut end = 0usize;
+    for found in ends.iter() {
+        end = end.wrapping_add(ONE_ROW.len());
+        assert_eq!(&rt; *found, end);
+    }
+    Ok(())
+}
+
+/// A row with the changes 3 and 5 and two copies of it take two bytes, eight more copies three, each three times V0.
+#[test]
+fn long_strips(rt: HostRuntime) -> std::result::Result<(), Fail> {
+    let alloc = rt.alloc();
+    let times = 1 << 19;
+    let eofb = [0x00, 0x10, 0x01];
+    let data = repeated(alloc, &[0x31, 0xFF], &[0xFF; 3], times, &eofb)?;
+    assert!(&rt; bits_fit(&data));
+    let expected = repeated(alloc, &[0x18; 3], &[0x18; 8], times, &[])?;
+    let bitmap = strip_to_bitmap(alloc, group4_pages(8), &data)?;
+    assert_eq!(&rt; bitmap.len(), expected.len());
+    assert!(&rt; bitmap.as_slice() == expected.as_slice());
+    assert_eq!(&rt;
+        count_black(alloc, group4_pages(8), &data),
+        Ok(2 * expected.len() as u64)
+    );
+    assert_eq!(&rt; page_end(alloc, 8, &data), Ok(data.len()));
+    let mut first = FirstRows::new(BitmapSink::new(alloc, 8), u64::MAX);
+    let mut ctx = DecoderContext::new(alloc, group4_pages(8))?;
+    assert_eq!(&rt; decode_first_rows(&data, &mut first, &mut ctx), Ok(false));
+    assert_eq!(&rt; first.rows, expected.len() as u64);
+    assert!(&rt; first.sink.bytes() == expected.as_slice());
     Ok(())
 }
 
@@ -157,20 +247,23 @@ fn refused_memory(rt: HostRuntime) {
     let is_want = |error: &DecodeError| matches!(error, OutOfMemory | Refused);
     let black = made_at_last(
         alloc,
-        &|| count_black(alloc, group4_pages(8), &TWO_ROWS),
+        &|| count_black(alloc, group4_pages(8), HighestFirst, &TWO_ROWS),
         &is_want,
     )
     .expect(&rt, "requests");
     assert_eq!(&rt; black, 4);
     let bitmap = made_at_last(
         alloc,
-        &|| strip_to_bitmap(alloc, group4_pages(8), &TWO_ROWS),
+        &|| strip_to_bitmap(alloc, group4_pages(8), HighestFirst, &TWO_ROWS),
         &is_want,
     )
     .expect(&rt, "requests");
     assert_eq!(&rt; bitmap.as_slice(), [0x18u8, 0x18].as_slice());
-    let ends = made_at_last(alloc, &|| page_ends(alloc, 8, &TWO_PAGES), &is_want).expect(
-        &rt, "requests",
-    );
+    let ends = made_at_last(
+        alloc,
+        &|| page_ends(alloc, 8, HighestFirst, &TWO_PAGES),
+        &is_want,
+    )
+    .expect(&rt, "requests");
     assert_eq!(&rt; ends.as_slice(), [5usize, 10].as_slice());
 }

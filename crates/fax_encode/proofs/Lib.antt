@@ -11,5 +11,6 @@ pub mod RowLists
 pub mod RunsWritten
 pub mod ScannedRows
 pub mod ScannedWords
+pub mod StoredWords
 pub mod WordTables
 pub mod WrittenBits

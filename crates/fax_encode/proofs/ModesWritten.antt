@@ -1,5 +1,5 @@
 -- The bits of one mode, by what an encoder finds.
-use Rattle.std.proofs.Common.{◌≡◌, ℕ, ◌+◌, ◌-◌, ◌%◌, ◌<◌, ◌≤◌, Bool, true, false, cond, ltb, leb, List, [], ◌∷◌, ◌++◌, length, get_or, drop, map, replicate, refl, sym, ap, ◌∙◌, arith, append_assoc}
+use Rattle.std.proofs.Common.{◌≡◌, ℕ, suc, ◌+◌, ◌-◌, ◌%◌, ◌<◌, ◌≤◌, Bool, true, false, cond, ltb, leb, List, [], ◌∷◌, ◌++◌, length, get_or, drop, map, replicate, refl, sym, ap, ◌∙◌, arith, append_assoc}
 use Rattle.std.proofs.lemmas.Bool.{lt-ltb, le-ltb, false≢true}
 use Rattle.std.proofs.lemmas.List.{append-nil, length-append, length-replicate}
 use Rattle.hayro_ccitt.specs.declared.codes.Mode.{Mode}
@@ -47,6 +47,27 @@ module _ (reference row : Row) (at : Place) (inside : at.from ≤ length row) wh
         → bits_at reference row at ≡ word_of_mode Horizontal
         ++ (chosen_run at.color (a1 row at.from - (at.from - 1)) ++ chosen_run (opposite at.color) (a2 row at.from - a1 row at.from))
     horizontal_bits near = open_bits Horizontal (rw (not_left, near) refl)
+
+  pub pass_place : b2 reference at.from at.color < a1 row at.from
+      → place_after reference row at (chosen_mode reference row at) ≡ record at { from = suc (b2 reference at.from at.color) }
+  pass_place lt =
+      let left : ltb (b2 reference at.from at.color) (a1 row at.from) ≡ true = lt-ltb (b2 reference at.from at.color) (a1 row at.from) lt in
+      rw left refl
+
+  turned_place : (start to : ℕ) → place_after reference row at (vertical_mode start to) ≡ record { from = suc (a1 row at.from); color = opposite at.color }
+  turned_place start to = by (leb start to) refl
+    where
+      by : (t : Bool) → leb start to ≡ t → place_after reference row at (vertical_mode start to) ≡ record { from = suc (a1 row at.from); color = opposite at.color }
+      by true e = rw e refl
+      by false e = rw e refl
+
+  pub vertical_place : a1 row at.from ≤ b2 reference at.from at.color → is_near (b1 reference at.from at.color) (a1 row at.from) ≡ true
+      → place_after reference row at (chosen_mode reference row at) ≡ record { from = suc (a1 row at.from); color = opposite at.color }
+  vertical_place right near = rw (not_left right, near) (turned_place (b1 reference at.from at.color) (a1 row at.from))
+
+  pub horizontal_place : a1 row at.from ≤ b2 reference at.from at.color → is_near (b1 reference at.from at.color) (a1 row at.from) ≡ false
+      → place_after reference row at (chosen_mode reference row at) ≡ record at { from = suc (a2 row at.from) }
+  horizontal_place right near = rw (not_left right, near) refl
 
 -- the runs of horizontal mode are not negative
 pub first_run : (row : Row) (from : ℕ) → from ≤ length row → from - 1 ≤ a1 row from

@@ -18,14 +18,6 @@ use Rattle.fax_encode.proofs.RunsWritten.{next_is, next_right, next_within, next
 use Rattle.hayro_ccitt.specs.declared.codes.Color.TheVariants.{White}
 
 -- ---- moving to another word
--- bytes of one colour
-bits_of_plain : (byte n : ℕ) (color : Bool) → bits_of_byte HighestFirst byte ≡ replicate 8 color → bits_of (replicate n byte) ≡ replicate (8 * n) color
-bits_of_plain byte zero color plain = refl
-bits_of_plain byte (suc n) color plain =
-    let sum : 8 + 8 * n ≡ 8 * suc n = omega arith in
-    ap (λ (b : Bits). b ++ bits_of (replicate n byte)) plain ∙ ap (λ (b : Bits). replicate 8 color ++ b) (bits_of_plain byte n color plain)
-    ∙ replicate-append-replicate 8 (8 * n) color ∙ ap (λ (m : ℕ). replicate m color) sum
-
 -- what is written over a part leaves the length
 length-put_mid : (start count : ℕ) (row part : List ℕ) → start + count ≤ length row → length part ≡ count → length (put_mid start count row part) ≡ length row
 length-put_mid start count row part within long =
@@ -38,54 +30,30 @@ length-put_mid start count row part within long =
       length-drop start row,
     )
 
--- the word goes to the row
-module _ (start count next word : ℕ) (old now now' bytes : List ℕ) (color : Bool) (eight : length bytes ≡ 8) (spelled : bits_of bytes ≡ low_bits 64 word)
-    (is_eight : count ≡ 8) (within : start + 8 ≤ length old) (put : now ≡ put_mid start count old bytes) where
-  word_written : bits_of (take (start + 8) now) ≡ bits_of (take start old) ++ low_bits 64 word
-  word_written =
-      let behind : start + 8 ≡ start + length bytes = omega arith in
-      ap (λ (row : List ℕ). bits_of (take (start + 8) row)) put ∙ ap bits_of (take-put_mid start count old bytes (start + 8) behind (omega arith))
-      ∙ flat_map-append (bits_of_byte HighestFirst) (take start old) bytes ∙ ap (λ (b : Bits). bits_of (take start old) ++ b) spelled
+-- the word goes to the row, and one of the colour is begun
+pub word_written : (start count word word' : ℕ) (old now bytes : List ℕ) (color : Bool) → length bytes ≡ 8 → bits_of bytes ≡ low_bits 64 word → count ≡ 8 → start + 8 ≤ length old
+    → now ≡ put_mid start count old bytes → low_bits 64 word' ≡ replicate 64 color
+    → bits_of (take (start + 8) now) ++ low_bits 64 word' ≡ (bits_of (take start old) ++ low_bits 64 word) ++ replicate 64 color
+word_written start count word word' old now bytes color eight spelled is_eight within put plain =
+    let behind : start + 8 ≡ start + length bytes = omega arith in
+    let written : bits_of (take (start + 8) now) ≡ bits_of (take start old) ++ low_bits 64 word
+    = ap (λ (row : List ℕ). bits_of (take (start + 8) row)) put ∙ ap bits_of (take-put_mid start count old bytes (start + 8) behind (omega arith))
+    ∙ flat_map-append (bits_of_byte HighestFirst) (take start old) bytes ∙ ap (λ (b : Bits). bits_of (take start old) ++ b) spelled in
+    ap (λ (b : Bits). b ++ low_bits 64 word') written ∙ ap (λ (b : Bits). (bits_of (take start old) ++ low_bits 64 word) ++ b) plain
 
-  length-now : length now ≡ length old
-  length-now = ap length put ∙ length-put_mid start count old bytes (omega arith) (omega arith)
+-- some words of the colour, and one more
+pub word_more : (before now new : Bits) (start at : ℕ) (color : Bool) → start ≤ at → now ≡ before ++ replicate (8 * (at - start)) color
+    → new ≡ now ++ replicate 64 color → new ≡ before ++ replicate (8 * (at + 8 - start)) color
+word_more before now new start at color forward done more =
+    let sum : 8 * (at - start) + 64 ≡ 8 * (at + 8 - start) = omega arith in
+    more ∙ ap (λ (b : Bits). b ++ replicate 64 color) done ∙ append_assoc before (replicate (8 * (at - start)) color) (replicate 64 color)
+    ∙ ap (λ (b : Bits). before ++ b) (replicate-append-replicate (8 * (at - start)) 64 color ∙ ap (λ (n : ℕ). replicate n color) sum)
 
-  -- bytes of the colour follow
-  pub filled_in : (byte : ℕ) (fill : List ℕ) → start + 8 < next → bits_of_byte HighestFirst byte ≡ replicate 8 color → now' ≡ put_mid (start + 8) (next - (start + 8)) now fill
-      → next ≤ length old → fill ≡ replicate (length (take (next - (start + 8)) (drop (start + 8) now))) byte
-      → bits_of (take next now') ≡ (bits_of (take start old) ++ low_bits 64 word) ++ replicate (8 * (next - (start + 8))) color
-  filled_in byte fill lt plain put' room filled =
-      let more : ℕ = next - (start + 8) in
-      let part : length (take more (drop (start + 8) now)) ≡ more
-      = omega (arith, length-take more (drop (start + 8) now), length-drop (start + 8) now, length-now) in
-      let is : fill ≡ replicate more byte = filled ∙ ap (λ (n : ℕ). replicate n byte) part in
-      let long : length fill ≡ more = ap length is ∙ length-replicate more byte in
-      let behind : next ≡ (start + 8) + length fill = omega arith in
-      ap (λ (row : List ℕ). bits_of (take next row)) put' ∙ ap bits_of (take-put_mid (start + 8) more now fill next behind (omega (arith, length-now)))
-      ∙ flat_map-append (bits_of_byte HighestFirst) (take (start + 8) now) fill
-      ∙ ap (λ (b : Bits). b ++ bits_of fill) word_written
-      ∙ ap (λ (b : Bits). (bits_of (take start old) ++ low_bits 64 word) ++ b) (ap bits_of is ∙ bits_of_plain byte more color plain)
-
-  -- or none are missing
-  pub none_between : start + 8 ≡ next → now' ≡ now
-      → bits_of (take next now') ≡ (bits_of (take start old) ++ low_bits 64 word) ++ replicate (8 * (next - (start + 8))) color
-  none_between same is =
-      let none : 0 ≡ 8 * (next - (start + 8)) = omega arith in
-      ap (λ (row : List ℕ). bits_of (take next row)) is ∙ ap (λ (n : ℕ). bits_of (take n now)) (sym same) ∙ word_written
-      ∙ sym (append-nil (bits_of (take start old) ++ low_bits 64 word))
-      ∙ ap (λ (n : ℕ). (bits_of (take start old) ++ low_bits 64 word) ++ replicate n color) none
-
--- and a word of that colour is begun
-pub moved_on : (start next word word' : ℕ) (old now : List ℕ) (color : Bool) → start + 8 ≤ next → low_bits 64 word' ≡ replicate 64 color
-    → bits_of (take next now) ≡ (bits_of (take start old) ++ low_bits 64 word) ++ replicate (8 * (next - (start + 8))) color
-    → bits_of (take next now) ++ low_bits 64 word' ≡ (bits_of (take start old) ++ low_bits 64 word) ++ replicate (8 * (next - start)) color
-moved_on start next word word' old now color behind plain written =
-    let more : ℕ = next - (start + 8) in
-    let before : Bits = bits_of (take start old) ++ low_bits 64 word in
-    let sum : 8 * more + 64 ≡ 8 * (next - start) = omega arith in
-    ap (λ (b : Bits). b ++ low_bits 64 word') written ∙ ap (λ (b : Bits). (before ++ replicate (8 * more) color) ++ b) plain
-    ∙ append_assoc before (replicate (8 * more) color) (replicate 64 color)
-    ∙ ap (λ (b : Bits). before ++ b) (replicate-append-replicate (8 * more) 64 color ∙ ap (λ (n : ℕ). replicate n color) sum)
+-- no words of the colour
+pub no_word : (before : Bits) (start : ℕ) (color : Bool) → before ≡ before ++ replicate (8 * (start - start)) color
+no_word before start color =
+    let none : 0 ≡ 8 * (start - start) = omega arith in
+    sym (append-nil before) ∙ ap (λ (n : ℕ). before ++ replicate n color) none
 
 -- ---- what is left to paint
 -- A row is painted up to a place, behind which the word goes on in its colour; so many changes are done.
@@ -196,6 +164,39 @@ one_change columns changes done brush at new row row' lt room is there forward c
           ∙ ap (λ (b : Bool). front ++ replicate (8 * new.start + 64 - c) b) (sym turned);
     }
 
+-- one change more, in the word at hand
+pub change_at_hand : (columns : ℕ) (changes : List ℕ) (done : ℕ) (brush new : Brush) (row : List ℕ) → done < length changes → columns ≤ 8 * length row
+    → IsPainted columns changes done brush row → StandsAt brush (get_or changes done 0) → new.start ≡ brush.start → new.is_black ≡ not brush.is_black
+    → TurnsAt brush new (get_or changes done 0) → IsPainted columns changes (done + 1) new row
+change_at_hand columns changes done brush new row lt room is there same turned turns =
+    one_change columns changes done brush brush new row row lt room is there (omega arith) refl (no_word (under brush row) brush.start brush.is_black) same turned turns
+
+-- a black run, or a white one, in the word at hand
+pub run_at_hand : (columns : ℕ) (changes : List ℕ) (done : ℕ) (brush one new : Brush) (row : List ℕ) → done + 1 < length changes → columns ≤ 8 * length row
+    → IsPainted columns changes done brush row → get_or changes (done + 1) 0 < 8 * brush.start + 64
+    → one.start ≡ brush.start → one.is_black ≡ not brush.is_black → TurnsAt brush one (get_or changes done 0)
+    → new.start ≡ one.start → new.is_black ≡ not one.is_black → TurnsAt one new (get_or changes (done + 1) 0) → IsPainted columns changes (done + 2) new row
+run_at_hand columns changes done brush one new row lt room is near same turned turns same' turned' turns' =
+    let first : ℕ = get_or changes done 0 in
+    let second : ℕ = get_or changes (done + 1) 0 in
+    let lt' : done < length changes = omega arith in
+    let stands = is.stands in
+    let right : is.place ≤ first = next_right columns is.place done White changes lt' is.ascend in
+    let further : first ≤ second = next_right columns first (done + 1) White changes lt (next_ascends columns is.place done White changes lt' is.ascend) in
+    let at_first : StandsAt brush first = record {
+      begun = stands.begun;
+      from = omega (arith, stands.from, right);
+      below = omega (arith, further, near);
+    } in
+    let at_second : StandsAt one second = record {
+      begun = omega (arith, stands.begun, same);
+      from = omega (arith, stands.from, right, further, same);
+      below = omega (arith, near, same);
+    } in
+    let two : (done + 1) + 1 ≡ done + 2 = omega arith in
+    let done_first = change_at_hand columns changes done brush one row lt' room is at_first same turned turns in
+    rw (← two) (change_at_hand columns changes (done + 1) one new row lt room done_first at_second same' turned' turns')
+
 -- ---- the end of a row
 -- all changes are done: the row is painted, and goes on in its last colour
 pub all_painted : (columns : ℕ) (changes : List ℕ) (done : ℕ) (brush at : Brush) (row row' : List ℕ) → length changes ≤ done
@@ -249,6 +250,14 @@ finished start row row' bytes word within last eight spelled put =
     ap bits_of all ∙ flat_map-append (bits_of_byte HighestFirst) head part
     ∙ ap (λ (b : Bits). bits_of head ++ b) (bits_of-take count bytes ∙ ap (take (8 * count)) spelled)
     ∙ sym (take-append-add (bits_of head) (low_bits 64 word) (8 * count)) ∙ sym (ap (λ (n : ℕ). take n (bits_of head ++ low_bits 64 word)) split)
+
+-- bytes of one colour
+bits_of_plain : (byte n : ℕ) (color : Bool) → bits_of_byte HighestFirst byte ≡ replicate 8 color → bits_of (replicate n byte) ≡ replicate (8 * n) color
+bits_of_plain byte zero color plain = refl
+bits_of_plain byte (suc n) color plain =
+    let sum : 8 + 8 * n ≡ 8 * suc n = omega arith in
+    ap (λ (b : Bits). b ++ bits_of (replicate n byte)) plain ∙ ap (λ (b : Bits). replicate 8 color ++ b) (bits_of_plain byte n color plain)
+    ∙ replicate-append-replicate 8 (8 * n) color ∙ ap (λ (m : ℕ). replicate m color) sum
 
 -- a row without changes is white
 pub white : (columns : ℕ) (changes row row' : List ℕ) → length changes ≡ 0 → length row ≡ (columns + 7) / 8 → row' ≡ replicate (length row) 0

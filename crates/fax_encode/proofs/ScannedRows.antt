@@ -82,6 +82,21 @@ plain_more count word color bytes behind room is word-is plain before =
     ∙ ap (λ (b : Bits). b ++ bits_of first) before ∙ ap (λ (b : Bits). replicate (64 * count) color ++ b) (here ∙ plain)
     ∙ replicate-append-replicate (64 * count) 64 color ∙ ap (λ (m : ℕ). replicate m color) more
 
+-- bytes of one colour behind bytes of that colour
+pub plain_both : (m n k : ℕ) (color : Bool) (bytes behind : List ℕ) → k ≡ m + n → behind ≡ drop m bytes → bits_of (take m bytes) ≡ replicate (8 * m) color
+    → bits_of (take n behind) ≡ replicate (8 * n) color → bits_of (take k bytes) ≡ replicate (8 * k) color
+plain_both m n k color bytes behind sum is front back =
+    let more : 8 * m + 8 * n ≡ 8 * k = omega arith in
+    ap (λ (j : ℕ). bits_of (take j bytes)) sum ∙ ap bits_of (take-add m n bytes) ∙ flat_map-append (bits_of_byte HighestFirst) (take m bytes) (take n (drop m bytes))
+    ∙ ap (λ (b : Bits). b ++ bits_of (take n (drop m bytes))) front
+    ∙ ap (λ (b : Bits). replicate (8 * m) color ++ b) (ap (λ (l : List ℕ). bits_of (take n l)) (sym is) ∙ back)
+    ∙ replicate-append-replicate (8 * m) (8 * n) color ∙ ap (λ (j : ℕ). replicate j color) more
+
+-- a word of one colour
+pub plain_word_there : (word : ℕ) (color : Bool) (bytes : List ℕ) → 8 ≤ length bytes → low_bits 64 word ≡ take 64 (bits_of bytes ++ replicate 64 false)
+    → low_bits 64 word ≡ replicate 64 color → bits_of (take 8 bytes) ≡ replicate 64 color
+plain_word_there word color bytes room is plain = plain_more 0 word color bytes bytes (omega arith) refl is plain refl
+
 -- words of the colour before them change nothing
 pub plain_scanned : (start n before words : ℕ) (color : Bool) (rest : List ℕ) → color ≡ bit_of before 0 → 64 * words ≤ n → 8 * words ≤ length rest
     → bits_of (take (8 * words) rest) ≡ replicate (64 * words) color

@@ -1,5 +1,5 @@
 -- What an encoder refuses, and how it says so.
-use Rattle.std.specs.Prelude.{ℕ, ◌<◌, List, ◌++◌, length, get_or, codes, decimal, [], All}
+use Rattle.std.specs.Prelude.{ℕ, ◌<◌, List, ◌++◌, length, get_or, codes, decimal, [], All, Option, Some, None}
 use Rattle.hayro_ccitt.specs.Rows.{AreChanges}
 use Rattle.fax_encode.specs.declared.error.EncodeError.{EncodeError}
 use Rattle.fax_encode.specs.declared.error.EncodeError.TheVariants.{NoColumns, NoRows, NotARow, OutOfMemory}
@@ -20,3 +20,10 @@ text_of_refusal NoColumns = codes "no columns"
 text_of_refusal NoRows = codes "no rows"
 text_of_refusal (NotARow k) = codes "row " ++ decimal k ++ codes " is not a list of changes"
 text_of_refusal OutOfMemory = codes "out of memory"
+
+-- the text of a refusal whatever width and other options it is printed with: nothing is said of the text with a number
+abbrev pub text_with_options : EncodeError → Option (List ℕ)
+text_with_options NoColumns = Some (text_of_refusal NoColumns)
+text_with_options NoRows = Some (text_of_refusal NoRows)
+text_with_options (NotARow k) = None
+text_with_options OutOfMemory = Some (text_of_refusal OutOfMemory)

@@ -3,7 +3,7 @@ use Rattle.std.specs.Prelude.{◌≡◌, ℕ, ◌^◌, ◌<◌, ◌≤◌, List,
 use Rattle.hayro_ccitt.specs.Bits.{Bits, bits_of, low_bits}
 use Rattle.fax_encode.specs.declared.words.Word.{Word}
 
--- the whole bytes, and the bits after them, fewer than a byte
+-- the whole bytes, and the bits after them, fewer than 64
 pub record Written : Type 0 where
   pub bytes : List ℕ
   pub rest : Bits

@@ -1,4 +1,4 @@
-//! Bitmaps, encoded row by row: in memory stand two rows and what was written.
+//! Encoding bitmaps, row by row: two rows and the encoded bytes are in memory.
 
 ghost use Rattle.std.specs.Prelude.{◌≡◌, ◌≢◌, ◌+◌, ◌%◌, ◌<◌, ◌++◌, ◌↔◌, ℕ, length, Err, IfOk, OnOk};
 ghost use Rattle.hayro_ccitt.specs.Bits.{bits_of};
@@ -65,7 +65,7 @@ fn put_lines_1d(
     Ok(())
 }
 
-/// The bytes of a picture of T.6.
+/// Returns the bytes of a picture of T.6.
 fn picture_g4(
     alloc: Global,
     columns: u32,
@@ -79,11 +79,10 @@ fn picture_g4(
     put_lines_2d(&mut writer, alloc, columns, bitmap, aligned)?;
     put_eol(&mut writer)?;
     put_eol(&mut writer)?;
-    writer.fill_up()?;
-    Ok(writer.into_bytes())
+    writer.finish()
 }
 
-/// The bytes of a picture of one-dimensional T.4.
+/// Returns the bytes of a picture of one-dimensional T.4.
 fn picture_1d(alloc: Global, columns: u32, bitmap: &[u8]) -> Result<Vec<u8>, AllocError>
     requires { 0 < columns }
     ensures { IfOk result (λ bytes. bits_of bytes.items ≡ filled_up (chosen_t4 (shown columns bitmap.now))) }
@@ -91,15 +90,16 @@ fn picture_1d(alloc: Global, columns: u32, bitmap: &[u8]) -> Result<Vec<u8>, All
     let mut writer = BitWriter::new(alloc);
     put_lines_1d(&mut writer, alloc, columns, bitmap)?;
     put_return_to_control(&mut writer)?;
-    writer.fill_up()?;
-    Ok(writer.into_bytes())
+    writer.finish()
 }
 
 /// Encodes the rows of a bitmap as Group 4 (T.6), as [`encode_g4`](crate::encode_g4) encodes lists of changes. A row takes
-/// (columns + 7) / 8 bytes, one bit a pixel, 1 for black, the leftmost pixel in a byte's highest bit; what stands behind it
-/// up to a whole byte is passed over, and so are bytes behind the last whole row.
+/// (columns + 7) / 8 bytes, one bit a pixel, 1 for black, the leftmost pixel in a byte's highest bit. Bits after the last pixel
+/// of a row are ignored, and so are bytes after the last whole row.
 ///
-/// `NoColumns` comes where `columns` is 0, and else `OutOfMemory` where memory was refused; nothing else.
+/// # Errors
+///
+/// `NoColumns` if `columns` is 0; else `OutOfMemory` if an allocation fails.
 pub fn encode_bitmap_g4(
     alloc: Global,
     columns: u32,
@@ -123,8 +123,9 @@ pub fn encode_bitmap_g4(
 /// Encodes the rows of a bitmap as one-dimensional Group 3 (T.4, section 4.1), as [`encode_1d`](crate::encode_1d) encodes
 /// lists of changes. Its rows are those of [`encode_bitmap_g4`].
 ///
-/// `NoColumns` comes where `columns` is 0, else `NoRows` where the bitmap has no whole row, and else `OutOfMemory` where
-/// memory was refused; nothing else.
+/// # Errors
+///
+/// `NoColumns` if `columns` is 0; else `NoRows` if the bitmap has no whole row; else `OutOfMemory` if an allocation fails.
 pub fn encode_bitmap_1d(
     alloc: Global,
     columns: u32,

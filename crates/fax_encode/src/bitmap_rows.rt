@@ -1,6 +1,6 @@
 //! The rows of a bitmap, as lists of changes: found 64 pixels at a time.
 
-ghost use Rattle.std.specs.Prelude.{◌≡◌, ◌+◌, ◌*◌, ◌^◌, ◌<◌, ◌≤◌, ◌++◌, false, map, length, replicate, take, IfOk, OnOk, slice_index};
+ghost use Rattle.std.specs.Prelude.{IsTrue, ◌≡◌, ◌+◌, ◌*◌, ◌^◌, ◌<◌, ◌≤◌, ◌++◌, false, map, length, replicate, take, IfOk, OnOk, slice_index};
 ghost use Rattle.hayro_ccitt.specs.Bits.{bits_of, bit_of, low_bits};
 ghost use Rattle.hayro_ccitt.specs.Rows.{AreChanges, pixels};
 ghost use Rattle.fax_encode.specs.Chosen.{rows_of};
@@ -11,7 +11,7 @@ ghost use Rattle.fax_encode.specs.Scanning.{differences, ones_from};
 use crate::painting::plain_word;
 use std::alloc::{AllocError, Global};
 
-/// The byte at an index, 0 past the end.
+/// Returns the byte at an index, 0 past the end.
 fn byte_or_zero(bytes: &[u8], index: usize) -> u8
     ensures { result ≡ slice_index bytes.now index }
 {
@@ -40,7 +40,7 @@ fn last_word(bytes: &[u8]) -> u64
     u64::from_be_bytes(first)
 }
 
-/// A one where a pixel differs from the one left of it; left of the first stands the last pixel of the word before.
+/// Returns a one for each pixel that differs from the one left of it; left of the first is the last pixel of the word before.
 #[inline(always)]
 fn turns(before: u64, word: u64) -> u64
     ensures { low_bits 64 result ≡ differences (bit_of before 0) (low_bits 64 word) }
@@ -48,7 +48,7 @@ fn turns(before: u64, word: u64) -> u64
     word ^ (before << 63 | word >> 1)
 }
 
-/// Adds the places of the ones among the first bits of a word, so many, counted from a first place on.
+/// Adds the offsets of the ones among the first bits of a word, counted from a first offset on.
 #[inline(always)]
 fn push_ones(list: &mut Vec<u32>, first: u32, count: u32, word: u64) -> Result<(), AllocError>
     requires few { count ≤ 64 }
@@ -79,22 +79,64 @@ fn word_of(bytes: &[u8]) -> u64
     }
 }
 
-/// How many words of pixels at the front are of this colour alone, so many at most.
+/// Whether the first two words of pixels are of this colour alone.
+#[inline(always)]
+fn two_are_plain(bytes: &[u8], is_black: bool) -> bool
+    requires { 16 ≤ length bytes.now }
+    ensures { IsTrue result → bits_of (take 16 bytes.now) ≡ replicate 128 is_black }
+{
+    if whole_word(bytes) != plain_word(is_black) {
+        return false;
+    }
+    whole_word(&bytes[8..]) == plain_word(is_black)
+}
+
+/// Whether the first four words of pixels are of this colour alone.
+#[inline(always)]
+fn four_are_plain(bytes: &[u8], is_black: bool) -> bool
+    requires { 32 ≤ length bytes.now }
+    ensures { IsTrue result → bits_of (take 32 bytes.now) ≡ replicate 256 is_black }
+{
+    if !two_are_plain(bytes, is_black) {
+        return false;
+    }
+    two_are_plain(&bytes[16..], is_black)
+}
+
+/// Returns how many words of pixels at the start are of this colour alone, up to a most; four at a time, and then one by one.
+#[inline(always)]
+fn count_plain(bytes: &[u8], most: usize, is_black: bool) -> usize
+    requires { 8 * most ≤ length bytes.now }
+    ensures within { result ≤ most }
+    ensures plain { bits_of (take (8 * result) bytes.now) ≡ replicate (64 * result) is_black }
+{
+    let mut count = 0;
+    'fours: while most - count >= 4 && four_are_plain(&bytes[8 * count..], is_black) {
+        count += 4;
+    }
+    let plain = plain_word(is_black);
+    'ones: while count < most && whole_word(&bytes[8 * count..]) == plain {
+        count += 1;
+    }
+    count
+}
+
+/// Returns how many words of pixels at the start are of this colour alone, up to a most.
 #[inline(always)]
 fn plain_words(bytes: &[u8], most: usize, is_black: bool) -> usize
     requires { 8 * most ≤ length bytes.now }
     ensures within { result ≤ most }
     ensures plain { bits_of (take (8 * result) bytes.now) ≡ replicate (64 * result) is_black }
 {
-    let plain = plain_word(is_black);
-    let mut count = 0;
-    while count < most && whole_word(&bytes[8 * count..]) == plain {
-        count += 1;
+    if is_black {
+        count_plain(bytes, most, true)
+    } else {
+        count_plain(bytes, most, false)
     }
-    count
 }
 
-/// Makes a list the changes of the first row of a bitmap.
+/// Makes a list the changes of the first row of a bitmap. Words of one colour are passed at once at the row's start and
+/// behind each word without a change.
 pub fn scan_row(list: &mut Vec<u32>, columns: u32, bitmap: &[u8]) -> Result<(), AllocError>
     requires { bytes_of_row columns ≤ length bitmap.now }
     ensures lawful { OnOk result (AreChanges columns list.new.items) }
@@ -104,15 +146,19 @@ pub fn scan_row(list: &mut Vec<u32>, columns: u32, bitmap: &[u8]) -> Result<(), 
     let mut rest = bitmap;
     let mut start = 0;
     let mut before = 0;
+    let mut is_plain = true;
     while columns - start >= 64 {
-        let plain = plain_words(rest, (columns - start) as usize / 64, before % 2 == 1);
-        if plain > 0 {
+        if is_plain {
+            is_plain = false;
+            let plain = plain_words(rest, (columns - start) as usize / 64, before % 2 == 1);
             start += 64 * plain as u32;
             rest = &rest[8 * plain..];
             continue;
         }
         let word = whole_word(rest);
-        push_ones(list, start, 64, turns(before, word))?;
+        let ones = turns(before, word);
+        push_ones(list, start, 64, ones)?;
+        is_plain = ones == 0;
         before = word;
         start += 64;
         rest = &rest[8..];
@@ -120,9 +166,9 @@ pub fn scan_row(list: &mut Vec<u32>, columns: u32, bitmap: &[u8]) -> Result<(), 
     push_ones(list, start, columns - start, turns(before, word_of(rest)))
 }
 
-/// The rows of a bitmap, as lists of changes. A row takes (columns + 7) / 8 bytes, one bit a pixel, 1 for black, the
-/// leftmost pixel in a byte's highest bit; what stands behind it up to a whole byte is passed over. Bytes behind the last
-/// whole row are no row, and where there are no columns there are no rows.
+/// Returns the rows of a bitmap, as lists of changes. A row takes (columns + 7) / 8 bytes, one bit a pixel, 1 for black, the
+/// leftmost pixel in a byte's highest bit; bits after the last pixel are ignored. Bytes after the last whole row are no row,
+/// and without columns there are no rows.
 pub fn rows_of_bitmap(
     alloc: Global,
     columns: u32,

@@ -11,8 +11,10 @@ use std::alloc::{AllocError, Global};
 use std::marker::Model;
 
 /// Rows as a bitmap, kept in memory: one bit a pixel, 1 for black, the leftmost pixel in each byte's highest bit, and
-/// zeros after each row up to a whole byte. Row k begins at byte k times (columns + 7) / 8. A row is refused where there is no
-/// memory for it, and those before stay.
+/// zeros after each row up to a whole byte. Row k begins at byte k times (columns + 7) / 8. A row is refused if the allocation
+/// for it fails, and those before stay.
+///
+/// # Example
 ///
 /// A row of 8 pixels of which 3 and 4 are black, `[3, 5]`, is the byte 18.
 #[derive(Drop)]
@@ -33,7 +35,7 @@ impl Model for BitmapSink {
 impl BitmapSink {
     ghost use Rattle.std.specs.Prelude.{◌≡◌, [], false};
 
-    /// A sink for rows of so many columns: no bytes yet, and nothing refused. It takes no memory.
+    /// Creates a sink for rows of `columns` pixels. It is empty, and allocates nothing.
     pub fn new(alloc: Global, columns: u32) -> BitmapSink
         ensures { result ≡ record { bytes = []; columns = columns; has_refused = false } }
     {
@@ -44,21 +46,21 @@ impl BitmapSink {
         }
     }
 
-    /// The bytes of the rows that were taken.
+    /// Returns the bytes of the rows that were taken.
     pub fn bytes(&self) -> &[u8]
         ensures { result.now ≡ self.now.bytes }
     {
         self.bytes.as_slice()
     }
 
-    /// The bytes of the rows that were taken, for who keeps them.
+    /// Returns the bytes of the rows that were taken, and drops the sink.
     pub fn into_bytes(self) -> Vec<u8>
         ensures { result.items ≡ self.bytes }
     {
         self.bytes
     }
 
-    /// Adds a row. It asks for its memory first; where there is none, the bytes stay.
+    /// Adds a row. Its bytes are allocated first; if that fails, nothing changes.
     fn add_row(&mut self, changes: &[u32]) -> Result<(), AllocError>
         requires { AreChanges self.old.columns changes.now }
         ensures added { OnOk result (bits_of self.new.bytes

@@ -16,9 +16,11 @@ pub enum EncodeError {
 
 impl fmt::Display for EncodeError {
     ghost use Rattle.std.specs.Prelude.{Some};
-    ghost use Rattle.fax_encode.specs.Refusals.{text_of_refusal};
+    ghost use Rattle.fax_encode.specs.Refusals.{text_of_refusal, text_with_options};
 
     ghost output = { λ error. Some (text_of_refusal error) };
+
+    ghost styled_output = { λ error _. text_with_options error };
 
     fn fmt<W: fmt::Write>(&self, f: &mut fmt::Formatter<W>) -> fmt::Result {
         match self {

@@ -55,8 +55,7 @@ fn picture(alloc: Global, columns: u32, rows: &[Vec<u32>]) -> Result<Vec<u8>, Al
     let mut writer = BitWriter::new(alloc);
     put_lines(&mut writer, columns, rows)?;
     put_return_to_control(&mut writer)?;
-    writer.fill_up()?;
-    Ok(writer.into_bytes())
+    writer.finish()
 }
 
 /// Encodes rows, given as lists of changes, as one-dimensional Group 3 (T.4, section 4.1): an EOL before each row, the

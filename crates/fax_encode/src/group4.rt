@@ -1,11 +1,12 @@
 //! Group 4 (T.6): two-dimensional lines (T.4, section 4.2).
 
-ghost use Rattle.std.specs.Prelude.{◌≡◌, ◌≢◌, ◌+◌, ◌%◌, ◌<◌, ◌≤◌, ◌++◌, ◌↔◌, ℕ, [], false, map, length, get_or, Err, IfOk, OnOk, if◌then◌else◌};
+ghost use Rattle.std.specs.Prelude.{◌≡◌, ◌≢◌, ◌+◌, ◌%◌, ◌<◌, ◌≤◌, ◌++◌, ◌↔◌, ℕ, [], false, map, length, get_or, Err, IfOk, OnOk, MatchOption, if◌then◌else◌};
 ghost use Rattle.hayro_ccitt.specs.Bits.{bits_of};
-ghost use Rattle.hayro_ccitt.specs.Rows.{AreChanges, pixels, white_row, a1, a2, b1, b2};
+ghost use Rattle.hayro_ccitt.specs.declared.codes.Mode.TheVariants.{Horizontal};
+ghost use Rattle.hayro_ccitt.specs.Rows.{AreChanges, pixels, opposite, white_row, b1, b2};
 ghost use Rattle.hayro_ccitt.specs.Encodings.{eol, padding};
-ghost use Rattle.fax_encode.specs.Chosen.{bits_at, place_after, chosen_mode, chosen_line_2d, chosen_lines_2d, chosen_t6, filled_up, rows_of};
-ghost use Rattle.fax_encode.specs.Coding.{AreLeft, place_of};
+ghost use Rattle.fax_encode.specs.Chosen.{bits_at, place_after, chosen_mode, chosen_run, word_of_mode, chosen_line_2d, chosen_lines_2d, chosen_t6, filled_up, rows_of};
+ghost use Rattle.fax_encode.specs.Coding.{AreLeft, AreAllLeft, place_of};
 ghost use Rattle.fax_encode.specs.Refusals.{AreRows, IsFirstUnlawful};
 ghost use Rattle.fax_encode.specs.Writing.{all_bits};
 
@@ -19,8 +20,8 @@ use hayro_ccitt::changes::change_or_end;
 use hayro_ccitt::codes::Color;
 use std::alloc::{AllocError, Global};
 
-/// How far a line is coded: the first place right of a0, the present colour, and how many changes of the row and of
-/// the reference row are known to be left of that place.
+/// How far a line is coded: the first place right of a0, the present colour, how many changes of the row are left of that
+/// place, and how many of the reference row are known to be.
 #[derive(Clone, Copy)]
 struct Coding {
     from: u64,
@@ -29,19 +30,19 @@ struct Coding {
     passed: usize,
 }
 
-/// Two changing elements, and how many changes are left of a0's right.
+/// Where b1 stands among the changes of a reference row: its index, and how many changes are left of a0's right. b2 is the
+/// next change.
 #[derive(Clone, Copy)]
-struct Elements {
-    first: u32,
-    second: u32,
+struct Above {
+    index: usize,
     left: usize,
 }
 
 /// How many changes are left of a place, where so many are known to be.
+#[inline(always)]
 fn count_left(changes: &[u32], known: usize, from: u64) -> usize
     requires { AreLeft changes.now from known }
-    ensures left { AreLeft changes.now from result }
-    ensures right { result < length changes.now → from ≤ get_or changes.now result 0 }
+    ensures { AreAllLeft changes.now from result }
 {
     let mut left = known;
     while left < changes.len() && u64::from(changes[left]) < from {
@@ -50,35 +51,15 @@ fn count_left(changes: &[u32], known: usize, from: u64) -> usize
     left
 }
 
-/// a1 and a2 of a row (T.4, section 4.2.1.1).
-fn elements_of_row(columns: u32, changes: &[u32], from: u64, known: usize) -> Elements
-    requires lawful { AreChanges columns changes.now }
-    requires known { AreLeft changes.now from known }
-    ensures a1 { result.first ≡ a1 (pixels columns changes.now) from }
-    ensures a2 { result.second ≡ a2 (pixels columns changes.now) from }
-    ensures left { AreLeft changes.now from result.left }
-{
-    let left = count_left(changes, known, from);
-    Elements {
-        first: change_or_end(changes, left, columns),
-        second: change_or_end(changes, left + 1, columns),
-        left,
-    }
-}
-
-/// b1 and b2 of a reference row (T.4, section 4.2.1.1).
-fn elements_of_reference(
-    columns: u32,
-    reference: &[u32],
-    from: u64,
-    color: Color,
-    known: usize,
-) -> Elements
+/// Finds b1 of a reference row (T.4, section 4.2.1.1).
+#[inline(always)]
+fn find_above(columns: u32, reference: &[u32], from: u64, color: Color, known: usize) -> Above
     requires lawful { AreChanges columns reference.now }
     requires known { AreLeft reference.now from known }
-    ensures b1 { result.first ≡ b1 (pixels columns reference.now) from color }
-    ensures b2 { result.second ≡ b2 (pixels columns reference.now) from color }
-    ensures left { AreLeft reference.now from result.left }
+    ensures b1 { b1 (pixels columns reference.now) from color ≡ get_or reference.now result.index columns }
+    ensures b2 { b2 (pixels columns reference.now) from color ≡ get_or reference.now (result.index + 1) columns }
+    ensures left { AreAllLeft reference.now from result.left }
+    ensures within { result.index ≤ length reference.now + 1 }
 {
     let left = count_left(reference, known, from);
     let mut index = left;
@@ -86,15 +67,45 @@ fn elements_of_reference(
     if left.is_multiple_of(2) != color.is_white() {
         index += 1;
     }
-    Elements {
-        first: change_or_end(reference, index, columns),
-        second: change_or_end(reference, index + 1, columns),
-        left,
+    Above { index, left }
+}
+
+/// b2, the change behind b1, where it is left of a1.
+#[inline(always)]
+fn b2_left_of(columns: u32, reference: &[u32], index: usize, b1: u32, a1: u32) -> Option<u32>
+    requires lawful { AreChanges columns reference.now }
+    requires within { index ≤ length reference.now + 1 }
+    requires first { b1 ≡ get_or reference.now index columns }
+    ensures { MatchOption result (a1 ≤ get_or reference.now (index + 1) columns)
+        (λ b2. (b2 ≡ get_or reference.now (index + 1) columns) × (b2 < a1)) }
+{
+    if a1 <= b1 {
+        return None;
     }
+    let b2 = change_or_end(reference, index + 1, columns);
+    if b2 < a1 { Some(b2) } else { None }
+}
+
+/// Writes horizontal mode and its two runs, the first of this colour (T.4, section 4.2.1.3.1).
+#[inline(never)]
+fn put_horizontal(
+    writer: &mut BitWriter,
+    color: Color,
+    first: u32,
+    second: u32,
+) -> Result<(), AllocError>
+    ensures { OnOk result (all_bits writer.new ≡ all_bits writer.old
+        ++ (word_of_mode Horizontal ++ (chosen_run color first ++ chosen_run (opposite color) second))) }
+{
+    put_word(writer, horizontal_word())?;
+    put_run(writer, color, first)?;
+    put_run(writer, color.opposite(), second)
 }
 
 /// Writes one mode: pass where b2 is left of a1; else vertical where a1 is at most three places from b1; else
-/// horizontal (T.4, section 4.2.1.3.2).
+/// horizontal (T.4, section 4.2.1.3.2). Afterwards all changes of the row that are left of the new place are counted, and all
+/// of the reference row that are left of the old one.
+#[inline(always)]
 fn put_mode(
     writer: &mut BitWriter,
     columns: u32,
@@ -106,46 +117,47 @@ fn put_mode(
     requires changes { AreChanges columns changes.now }
     requires inside { at.from ≤ columns }
     requires passed { AreLeft reference.now at.from at.passed }
-    requires next { AreLeft changes.now at.from at.next }
+    requires next { AreAllLeft changes.now at.from at.next }
     ensures written { OnOk result (all_bits writer.new ≡ all_bits writer.old
         ++ bits_at (pixels columns reference.now) (pixels columns changes.now) (place_of at)) }
     ensures place { IfOk result (λ after. place_of after
         ≡ place_after (pixels columns reference.now) (pixels columns changes.now) (place_of at)
         (chosen_mode (pixels columns reference.now) (pixels columns changes.now) (place_of at))) }
-    ensures passed { IfOk result (λ after. AreLeft reference.now at.from after.passed) }
-    ensures next { IfOk result (λ after. AreLeft changes.now at.from after.next) }
+    ensures passed { IfOk result (λ after. AreAllLeft reference.now at.from after.passed) }
+    ensures next { IfOk result (λ after. after.from ≤ columns → AreAllLeft changes.now after.from after.next) }
 {
-    let row = elements_of_row(columns, changes, at.from, at.next);
-    let above = elements_of_reference(columns, reference, at.from, at.color, at.passed);
-    if above.second < row.first {
+    let a1 = change_or_end(changes, at.next, columns);
+    let above = find_above(columns, reference, at.from, at.color, at.passed);
+    let b1 = change_or_end(reference, above.index, columns);
+    if let Some(b2) = b2_left_of(columns, reference, above.index, b1, a1) {
         put_word(writer, pass_word())?;
         return Ok(Coding {
-            from: u64::from(above.second) + 1,
+            from: u64::from(b2) + 1,
             color: at.color,
-            next: row.left,
+            next: at.next,
             passed: above.left,
         });
     }
-    if let Some(word) = vertical_word(above.first, row.first) {
+    if let Some(word) = vertical_word(b1, a1) {
         put_word(writer, word)?;
         return Ok(Coding {
-            from: u64::from(row.first) + 1,
+            from: u64::from(a1) + 1,
             color: at.color.opposite(),
-            next: row.left,
+            next: at.next + 1,
             passed: above.left,
         });
     }
-    put_word(writer, horizontal_word())?;
-    put_run(
+    let a2 = change_or_end(changes, at.next + 1, columns);
+    put_horizontal(
         writer,
         at.color,
-        row.first - at.from.saturating_sub(1) as u32,
+        a1 - at.from.saturating_sub(1) as u32,
+        a2 - a1,
     )?;
-    put_run(writer, at.color.opposite(), row.second - row.first)?;
     Ok(Coding {
-        from: u64::from(row.second) + 1,
+        from: u64::from(a2) + 1,
         color: at.color,
-        next: row.left,
+        next: at.next + 2,
         passed: above.left,
     })
 }
@@ -218,8 +230,7 @@ fn picture(
     put_lines(&mut writer, columns, rows, aligned)?;
     put_eol(&mut writer)?;
     put_eol(&mut writer)?;
-    writer.fill_up()?;
-    Ok(writer.into_bytes())
+    writer.finish()
 }
 
 /// Encodes rows, given as lists of changes, as Group 4 (T.6): the modes of each row against the row before it, with

@@ -27,4 +27,6 @@ pub use round_trip::{bitmap_by_group3, bitmap_by_group4};
 #[cfg(test)]
 mod bitmap_tests;
 #[cfg(test)]
+mod large_tests;
+#[cfg(test)]
 mod tests;

@@ -34,6 +34,24 @@ fn plain_byte(is_black: bool) -> u8
     if is_black { 255 } else { 0 }
 }
 
+/// Writes the word, and begins the next one.
+#[inline(always)]
+fn next_word(row: &mut [u8], brush: Brush) -> Brush
+    requires within { brush.start + 8 ≤ length row.old }
+    ensures start { result.start ≡ brush.start + 8 }
+    ensures color { result.is_black ≡ brush.is_black }
+    ensures painted { under result row.new ≡ under brush row.old ++ replicate 64 brush.is_black }
+    ensures length { length row.new ≡ length row.old }
+{
+    let behind = brush.start + 8;
+    row[brush.start..behind].copy_from_slice(&brush.word.to_be_bytes());
+    Brush {
+        start: behind,
+        word: plain_word(brush.is_black),
+        is_black: brush.is_black,
+    }
+}
+
 /// Moves to the word of a place, and writes the words before it.
 #[inline(always)]
 fn move_to(row: &mut [u8], brush: Brush, place: u32) -> Brush
@@ -48,19 +66,11 @@ fn move_to(row: &mut [u8], brush: Brush, place: u32) -> Brush
     ensures length { length row.new ≡ length row.old }
 {
     let start = place as usize / 64 * 8;
-    if start == brush.start {
-        return brush;
+    let mut at = brush;
+    'words: while at.start < start {
+        at = next_word(row, at);
     }
-    let behind = brush.start + 8;
-    row[brush.start..behind].copy_from_slice(&brush.word.to_be_bytes());
-    if behind < start {
-        row[behind..start].fill(plain_byte(brush.is_black));
-    }
-    Brush {
-        start,
-        word: plain_word(brush.is_black),
-        is_black: brush.is_black,
-    }
+    at
 }
 
 /// Turns the colour from a place of the word on.
@@ -102,9 +112,22 @@ fn paint_changes(row: &mut [u8], columns: u32, changes: &[u32])
         word: 0,
         is_black: false,
     };
-    for change in changes {
-        let at = move_to(row, brush, *change);
-        brush = turned(at, *change);
+    let mut done = 0;
+    'runs: while done + 1 < changes.len() {
+        let first = changes[done];
+        let behind = changes[done + 1];
+        if (behind as usize) < 8 * brush.start + 64 {
+            // The black run lies in the word.
+            brush = turned(turned(brush, first), behind);
+        } else {
+            brush = turned(move_to(row, brush, first), first);
+            brush = turned(move_to(row, brush, behind), behind);
+        }
+        done += 2;
+    }
+    if done < changes.len() {
+        let last = changes[done];
+        brush = turned(move_to(row, brush, last), last);
     }
     let mut at = move_to(row, brush, columns);
     if at.is_black {

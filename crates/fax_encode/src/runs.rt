@@ -12,12 +12,25 @@ use hayro_ccitt::codes::Color;
 use std::alloc::AllocError;
 
 /// Writes a word.
+#[inline(always)]
 pub fn put_word(writer: &mut BitWriter, word: Word) -> Result<(), AllocError>
     requires few { word.count ≤ 13 }
     requires fits { word.bits < 2 ^ word.count }
     ensures { OnOk result (all_bits writer.new ≡ all_bits writer.old ++ low_bits word.count word.bits) }
 {
-    writer.put(word.bits, word.count)
+    writer.put(u32::from(word.bits), u32::from(word.count))
+}
+
+/// Writes two words, the one behind the other.
+#[inline(always)]
+fn put_two_words(writer: &mut BitWriter, first: Word, second: Word) -> Result<(), AllocError>
+    requires few { (first.count ≤ 13) × (second.count ≤ 13) }
+    requires fits { (first.bits < 2 ^ first.count) × (second.bits < 2 ^ second.count) }
+    ensures { OnOk result (all_bits writer.new
+        ≡ all_bits writer.old ++ (low_bits first.count first.bits ++ low_bits second.count second.bits)) }
+{
+    let bits = u32::from(first.bits) << second.count | u32::from(second.bits);
+    writer.put(bits, u32::from(first.count + second.count))
 }
 
 /// Writes the words of less than 2560 pixels: a make-up word where there are 64 or more, and a terminating word.
@@ -28,12 +41,16 @@ fn put_rest(writer: &mut BitWriter, color: Color, pixels: u32) -> Result<(), All
     if pixels < 64 {
         return put_word(writer, terminating_word(color, pixels));
     }
-    put_word(writer, makeup_word(color, pixels / 64))?;
-    put_word(writer, terminating_word(color, pixels % 64))
+    put_two_words(
+        writer,
+        makeup_word(color, pixels / 64),
+        terminating_word(color, pixels % 64),
+    )
 }
 
-/// Writes the words of a run: as many of 2560 pixels as fit, and those of the rest (T.4, section 4.1.1).
-pub fn put_run(writer: &mut BitWriter, color: Color, pixels: u32) -> Result<(), AllocError>
+/// Writes the words of a long run: as many of 2560 pixels as fit, and those of the rest (T.4, section 4.1.1).
+#[inline(never)]
+fn put_long_run(writer: &mut BitWriter, color: Color, pixels: u32) -> Result<(), AllocError>
     ensures { OnOk result (all_bits writer.new ≡ all_bits writer.old ++ chosen_run color pixels) }
 {
     let mut left = pixels;
@@ -44,17 +61,36 @@ pub fn put_run(writer: &mut BitWriter, color: Color, pixels: u32) -> Result<(), 
     put_rest(writer, color, left)
 }
 
+/// Writes the words of a run (T.4, section 4.1.1).
+#[inline(always)]
+pub fn put_run(writer: &mut BitWriter, color: Color, pixels: u32) -> Result<(), AllocError>
+    ensures { OnOk result (all_bits writer.new ≡ all_bits writer.old ++ chosen_run color pixels) }
+{
+    if pixels >= 64 {
+        return put_long_run(writer, color, pixels);
+    }
+    put_word(writer, terminating_word(color, pixels))
+}
+
 /// Writes the runs of a row, white first, up to each change and up to the row's end.
 pub fn put_row(writer: &mut BitWriter, columns: u32, changes: &[u32]) -> Result<(), AllocError>
     requires { AreChanges columns changes.now }
     ensures { OnOk result (all_bits writer.new ≡ all_bits writer.old ++ chosen_runs columns Color.White 0 changes.now) }
 {
-    let mut color = Color::White;
     let mut place = 0;
-    for change in changes {
-        put_run(writer, color, *change - place)?;
-        place = *change;
-        color = color.opposite();
+    let mut next = 0;
+    while changes.len() - next >= 2 {
+        let black = changes[next];
+        let white = changes[next + 1];
+        put_run(writer, Color::White, black - place)?;
+        put_run(writer, Color::Black, white - black)?;
+        place = white;
+        next += 2;
     }
-    put_run(writer, color, columns - place)
+    if next == changes.len() {
+        return put_run(writer, Color::White, columns - place);
+    }
+    let black = changes[next];
+    put_run(writer, Color::White, black - place)?;
+    put_run(writer, Color::Black, columns - black)
 }

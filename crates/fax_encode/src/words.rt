@@ -1,8 +1,8 @@
 //! The code words of runs and of modes, as numbers of so many bits.
 
-ghost use Rattle.std.specs.Prelude.{◌≡◌, ◌-◌, ◌*◌, ◌^◌, ◌<◌, ◌≤◌, MatchOption, true, false, length, get_or, pos, negsuc};
+ghost use Rattle.std.specs.Prelude.{◌≡◌, ◌-◌, ◌*◌, ◌^◌, ◌<◌, ◌≤◌, MatchOption, true, false, length, get_or};
 ghost use Rattle.hayro_ccitt.specs.Bits.{low_bits};
-ghost use Rattle.hayro_ccitt.specs.declared.codes.Mode.TheVariants.{Pass, Horizontal, Vertical};
+ghost use Rattle.hayro_ccitt.specs.declared.codes.Mode.TheVariants.{Pass, Horizontal};
 ghost use Rattle.fax_encode.specs.Chosen.{word_of_length, word_of_mode, vertical_mode, is_near};
 ghost use Rattle.fax_encode.specs.Writing.{IsWord};
 
@@ -19,6 +19,7 @@ pub struct Word {
 }
 
 /// A word of a table of (run length, number of bits, word).
+#[inline(always)]
 fn word_at(table: &[(u16, u8, u16)], index: usize) -> Word
     requires { index < length table.now }
     ensures count { result.count ≡ (get_or table.now index (0, 0, 0)).1 }
@@ -29,6 +30,7 @@ fn word_at(table: &[(u16, u8, u16)], index: usize) -> Word
 }
 
 /// The terminating word of a colour for less than 64 pixels (T.4, table 2).
+#[inline(always)]
 pub fn terminating_word(color: Color, pixels: u32) -> Word
     requires { pixels < 64 }
     ensures { IsWord (word_of_length color pixels) result }
@@ -74,60 +76,27 @@ pub fn horizontal_word() -> Word
     }
 }
 
-/// The word of the vertical mode in which a1 is so many places right of b1, or just under it.
-fn word_to_the_right(places: u32) -> Option<Word>
-    ensures { MatchOption result (4 ≤ places) (λ word. (places < 4) × IsWord (word_of_mode (Vertical (pos places))) word) }
-{
-    match places {
-        0 => Some(Word {
-            count: 1,
-            bits: 0b1,
-        }),
-        1 => Some(Word {
-            count: 3,
-            bits: 0b011,
-        }),
-        2 => Some(Word {
-            count: 6,
-            bits: 0b000011,
-        }),
-        3 => Some(Word {
-            count: 7,
-            bits: 0b0000011,
-        }),
-        _ => None,
-    }
-}
-
-/// The word of the vertical mode in which a1 is one place more than so many left of b1.
-fn word_to_the_left(places: u32) -> Option<Word>
-    ensures { MatchOption result (3 ≤ places) (λ word. (places < 3) × IsWord (word_of_mode (Vertical (negsuc places))) word) }
-{
-    match places {
-        0 => Some(Word {
-            count: 3,
-            bits: 0b010,
-        }),
-        1 => Some(Word {
-            count: 6,
-            bits: 0b000010,
-        }),
-        2 => Some(Word {
-            count: 7,
-            bits: 0b0000010,
-        }),
-        _ => None,
-    }
-}
+/// The words of the vertical modes, as (place of a1, number of bits, word), where b1 is at place 3.
+const VERTICAL_WORDS: [(u16, u8, u16); 7] = [
+    (0, 7, 0b0000010),
+    (1, 6, 0b000010),
+    (2, 3, 0b010),
+    (3, 1, 0b1),
+    (4, 3, 0b011),
+    (5, 6, 0b000011),
+    (6, 7, 0b0000011),
+];
 
 /// The word of the vertical mode from b1 to a1, where a1 is at most three places from it.
+#[inline(always)]
 pub fn vertical_word(b1: u32, a1: u32) -> Option<Word>
     ensures { MatchOption result (is_near b1 a1 ≡ false)
         (λ word. (is_near b1 a1 ≡ true) × IsWord (word_of_mode (vertical_mode b1 a1)) word) }
 {
-    if b1 <= a1 {
-        word_to_the_right(a1 - b1)
-    } else {
-        word_to_the_left(b1 - a1 - 1)
+    let least = u64::from(b1);
+    let place = u64::from(a1) + 3;
+    if place < least || place - least > 6 {
+        return None;
     }
+    Some(word_at(&VERTICAL_WORDS, (place - least) as usize))
 }

@@ -1,4 +1,4 @@
-//! The words of a call, and what they mean.
+//! The arguments of a call, and what they mean.
 
 ghost use Rattle.std.specs.Prelude.{◌≡◌, map, string_bytes};
 ghost use Rattle.std.specs.Char.{is_ascii_digit};
@@ -8,16 +8,16 @@ ghost use Rattle.faxrows.specs.Arguments.{arguments_of_words, order_with, mode_o
 use hayro_ccitt::bit_reader::BitOrder;
 use hayro_ccitt::{DecodeSettings, EncodingMode};
 
-/// What the words of a call mean.
+/// What the arguments of a call mean.
 #[derive(Debug, Clone, Copy)]
 pub struct Arguments {
-    /// How the data is decoded.
+    /// The settings of decoding.
     pub settings: DecodeSettings,
     /// Which bit of each byte comes first.
     pub order: BitOrder,
 }
 
-/// What the words of a call mean: a mode, the columns, the rows and the flags.
+/// Returns what the arguments of a call mean, a mode, the columns, the rows and the flags, or `None` if they are invalid.
 pub fn arguments_of(words: &[String]) -> Option<Arguments>
     ensures { result ≡ arguments_of_words (map string_bytes words.now) }
 {
@@ -93,7 +93,7 @@ fn are_all_digits(word: &[u8]) -> bool
     word.iter().all(|byte| byte.is_ascii_digit())
 }
 
-/// How often a byte stands in a word.
+/// Returns how often a byte occurs in a word.
 fn times(word: &[u8], letter: u8) -> usize
     ensures { result ≡ times letter word.now }
 {
@@ -108,7 +108,7 @@ fn are_flags(word: &[u8]) -> bool
     is_none || (!word.is_empty() && are_letters(word) && are_apart(word))
 }
 
-/// Whether a word has only letters that stand for flags.
+/// Returns whether a word has only letters of flags.
 fn are_letters(word: &[u8]) -> bool
     ensures { result ≡ list_all is_flag word.now }
 {
@@ -116,7 +116,7 @@ fn are_letters(word: &[u8]) -> bool
         .all(|byte| matches!(*byte, b'b' | b'l' | b'a' | b's' | b'r'))
 }
 
-/// Whether no letter that stands for a flag stands twice in a word.
+/// Returns whether no letter of a flag occurs twice in a word.
 fn are_apart(word: &[u8]) -> bool
     ensures { result ≡ are_apart word.now }
 {
@@ -127,7 +127,7 @@ fn are_apart(word: &[u8]) -> bool
         && times(word, b'r') <= 1
 }
 
-/// Whether a letter stands in a word.
+/// Returns whether a letter occurs in a word.
 fn has_flag(word: &[u8], letter: u8) -> bool
     ensures { result ≡ has_flag letter word.now }
 {

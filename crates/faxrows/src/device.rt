@@ -1,6 +1,6 @@
 //! Readers and writers of which one can tell whether they have failed.
 
-ghost use Rattle.std.specs.Prelude.{◌≡◌, ◌<◌, OnOk, OnErr, IfOk, true, false, length};
+ghost use Rattle.std.specs.Prelude.{◌≡◌, ◌<◌, [], Ok, OnOk, OnErr, IfOk, true, false, length};
 ghost use Rattle.std.specs.Io.KnownBytes.{ReadConsumes, WriteAppends};
 ghost use Rattle.std.specs.Io.{ReadsAtMost, WritesAtMost};
 
@@ -27,7 +27,7 @@ impl<T> Model for Device<T> {
 }
 
 impl<T> Device<T> {
-    /// A device that hasn't failed.
+    /// Creates a device that hasn't failed.
     pub fn new(inner: T) -> Device<T>
         ensures inner { result.0 ≡ inner }
         ensures flag { result.1 ≡ false }
@@ -38,7 +38,7 @@ impl<T> Device<T> {
         }
     }
 
-    /// The reader or writer that was handed in.
+    /// Returns the reader or writer.
     pub fn into_inner(self) -> T
         ensures { result ≡ self.0 }
     {
@@ -60,8 +60,8 @@ impl<T> Device<T> {
 }
 
 impl<R: Read> Device<R> {
-    /// Reads once. It answers how many bytes were put at the buffer's start: none only at the end, or where the
-    /// buffer is empty.
+    /// Reads once, and returns the number of bytes read into the buffer's start: 0 only at the end, or if the buffer is
+    /// empty.
     pub fn read(&mut self, buf: &mut [u8]) -> Result<usize, Failed>
         ensures bound { ReadsAtMost result buf.new }
         ensures bytes { ReadConsumes (R.remaining self.old.0) (R.remaining self.new.0) result buf.new }
@@ -76,17 +76,21 @@ impl<R: Read> Device<R> {
 }
 
 impl<W: Write> Device<W> {
-    /// Writes once. It answers how many bytes from the front were taken. A writer that takes none, though there
-    /// are some, has failed.
+    /// Writes once, unless there are no bytes, and returns the number of bytes written from the start. A writer that takes
+    /// none, though there are some, has failed.
     pub fn write(&mut self, bytes: &[u8]) -> Result<usize, Failed>
         ensures bound { WritesAtMost result bytes.now }
         ensures bytes { WriteAppends (W.contents self.old.0) (W.contents self.new.0) result bytes.now }
         ensures some { IfOk result (λ count. 0 < length bytes.now → 0 < count) }
+        ensures none { bytes.now ≡ [] → (result ≡ Ok 0) × (self.new ≡ self.old) }
         ensures ok { OnOk result (self.new.1 ≡ self.old.1) }
         ensures err { OnErr result (self.new.1 ≡ true) }
     {
+        if bytes.is_empty() {
+            return Ok(0);
+        }
         match self.inner.write(bytes) {
-            Ok(count) if count > 0 || bytes.is_empty() => Ok(count),
+            Ok(count) if count > 0 => Ok(count),
             _ => Err(self.fail()),
         }
     }

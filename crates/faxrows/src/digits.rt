@@ -1,12 +1,12 @@
-//! Numbers in decimal digits, written into bytes that are there.
+//! Numbers in decimal digits, written into a buffer.
 
 ghost use Rattle.std.specs.Prelude.{◌≡◌, ◌≤◌, ◌+◌, ◌++◌, length, drop, decimal};
 
 /// The most digits that a number has.
 pub const MOST_DIGITS: usize = 20;
 
-/// Writes a number's decimal digits into the bytes before `end`, and answers where they begin. The bytes from
-/// `end` on stay.
+/// Writes a number's decimal digits into the bytes before `end`, and returns where they begin. The bytes from `end` on
+/// keep their values.
 pub fn put_decimal(number: u64, bytes: &mut [u8], end: usize) -> usize
     requires room { MOST_DIGITS ≤ end }
     requires within { end ≤ length bytes.old }

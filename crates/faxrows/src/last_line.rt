@@ -1,4 +1,4 @@
-//! The last line of the text, made without memory.
+//! The last line of the text, made without an allocation.
 
 ghost use Rattle.std.specs.Prelude.{◌≡◌, ◌≤◌, Ok, Err, drop};
 ghost use Rattle.faxrows.specs.Text.{line_of_outcome};
@@ -9,7 +9,7 @@ use hayro_ccitt::DecodeError;
 /// The room that `ok` and a count take: `ok `, twenty digits and the line's end.
 pub const ROOM: usize = 24;
 
-/// Writes the line of a good outcome at the end of the room, and answers where it begins.
+/// Writes the line of a good result at the end of the room, and returns where it begins.
 pub fn put_ok(count: usize, line: &mut [u8; ROOM]) -> usize
     ensures within { result ≤ ROOM }
     ensures line { drop result line.new ≡ line_of_outcome (Ok count) }
@@ -22,7 +22,7 @@ pub fn put_ok(count: usize, line: &mut [u8; ROOM]) -> usize
     digits - 3
 }
 
-/// The line of an error.
+/// Returns the line of an error.
 pub fn error_line(error: DecodeError) -> &'static [u8]
     ensures { result.now ≡ line_of_outcome (Err error) }
 {

@@ -1,16 +1,17 @@
-//! `faxrows`: decodes a fax image from standard input, and writes its rows as text on standard output.
+//! `faxrows`: decodes a fax image from standard input, and writes its rows as text to standard output.
 //!
 //! It is called as `faxrows MODE COLUMNS ROWS FLAGS`, or as `faxrows -o MODE COLUMNS ROWS FLAGS` to write the rows as a
 //! bitmap of one bit a pixel. The mode is `g4`, `1d` or `2d`, columns and rows are decimal numbers, and the flags are `-`
-//! or letters: `b` for an end of block, `l` for ends of line, `a` for aligned rows, `s` for a strict reading, `r` for
-//! the lowest bit of each byte first.
+//! or letters: `b` if EOFB or RTC may end the data, `l` if EOLs precede its lines, `a` for aligned rows, `s` for a strict
+//! reading, `r` for the lowest bit of each byte first.
 #![tactic(auto)]
 
-ghost use Rattle.std.specs.Prelude.{◌≡◌, ◌<◌, IsTrue, length, map, string_bytes};
+ghost use Rattle.std.specs.Prelude.{◌≡◌, ◌<◌, IfOk, IsTrue, length, map, string_bytes};
 ghost use Rattle.faxrows.specs.Arguments.{asks_for_bitmap, is_word_alone};
+ghost use Rattle.faxrows.specs.Faults.{status_of_fault};
+ghost use Rattle.faxrows.specs.Statuses.{IsStatusOfRun, status_of_answer, status_of_done};
 
 mod arguments;
-mod decoding;
 pub mod device;
 mod digits;
 mod last_line;
@@ -31,16 +32,16 @@ fn main(rt: HostRuntime) -> ExitCode {
         Ok(status) => ExitCode::from(status),
         Err(fault) => {
             let _ = eprintln!(rt; "faxrows: {fault}");
-            match fault {
-                RunFault::BadArguments => ExitCode::from(2),
-                _ => ExitCode::from(3),
-            }
+            ExitCode::from(status_of_fault(fault))
         }
     }
 }
 
-/// Runs with the words of the environment, on standard input and output. It answers the status to end with.
-fn run_words(rt: &HostRuntime) -> Result<u8, RunFault> {
+/// Runs with the arguments of the environment, on standard input and output. Returns the exit status. The error of a
+/// bitmap's decoding is printed.
+fn run_words(rt: &HostRuntime) -> Result<u8, RunFault>
+    ensures status { IfOk result IsStatusOfRun }
+{
     let Ok(all) = env::args(rt) else {
         return Err(RunFault::BadArguments);
     };
@@ -57,7 +58,10 @@ fn run_words(rt: &HostRuntime) -> Result<u8, RunFault> {
     }
     if has_bitmap_word(words) {
         let answer = run_packed(rt.alloc(), &words[1..], &mut reader, &mut writer)?;
-        return Ok(status_of_answer(rt, answer));
+        if let Err(error) = answer {
+            let _ = eprintln!(rt; "faxrows: {error}");
+        }
+        return Ok(status_of_answer(answer));
     }
     let done = run(rt.alloc(), words, &mut reader, &mut writer)?;
     Ok(status_of_done(done))
@@ -81,8 +85,20 @@ fn has_bitmap_word(words: &[String]) -> bool
     !words.is_empty() && words[0].as_str() == "-o"
 }
 
+/// The status of a run that ended without its text.
+fn status_of_fault(fault: RunFault) -> u8
+    ensures status { result ≡ status_of_fault fault }
+{
+    match fault {
+        RunFault::BadArguments => 2,
+        RunFault::Read | RunFault::Memory | RunFault::TooLong | RunFault::Write => 3,
+    }
+}
+
 /// The status of a run that wrote its text.
-fn status_of_done(done: Done) -> u8 {
+fn status_of_done(done: Done) -> u8
+    ensures status { result ≡ status_of_done done }
+{
     match done {
         Done::Good => 0,
         Done::Faulty => 1,
@@ -90,15 +106,14 @@ fn status_of_done(done: Done) -> u8 {
     }
 }
 
-/// The status of a run that wrote its bitmap. An error is printed.
-fn status_of_answer(rt: &HostRuntime, answer: Result<(), DecodeError>) -> u8 {
-    let Err(error) = answer else {
-        return 0;
-    };
-    let _ = eprintln!(rt; "faxrows: {error}");
-    match error {
-        DecodeError::OutOfMemory | DecodeError::Refused => 3,
-        _ => 1,
+/// The status of a run that wrote its bitmap.
+fn status_of_answer(answer: Result<(), DecodeError>) -> u8
+    ensures status { result ≡ status_of_answer answer }
+{
+    match answer {
+        Ok(()) => 0,
+        Err(DecodeError::OutOfMemory | DecodeError::Refused) => 3,
+        Err(_) => 1,
     }
 }
 

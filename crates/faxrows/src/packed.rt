@@ -1,4 +1,4 @@
-//! A run of the program that writes packed rows: all that a reader has is decoded, and written as a bitmap.
+//! A run of the program that writes packed rows: decodes all that a reader has, and writes it as a bitmap.
 
 ghost use Rattle.std.specs.Prelude.{◌≡◌, ◌≤◌, ◌↔◌, ◌≢◌, IfOk, IfErr, OnOk, OnErr, IfSome, true, false, map, string_bytes, None, Ok, Err, List, ℕ};
 ghost use Rattle.std.specs.Io.KnownBytes.{Appends, IsAtEnd};
@@ -8,23 +8,23 @@ ghost use Rattle.faxrows.specs.Runs.{OnKnown, WasRead};
 ghost use Rattle.faxrows.specs.PackedRuns.{IsPackedOf, answer_of};
 
 use crate::arguments::arguments_of;
-use crate::decoding::decode_in;
 use crate::device::Device;
 use crate::program::{RunFault, read_all, write_all};
 use fax_encode::BitmapSink;
 use fax_encode::laws::rows_are_packed;
 use hayro_ccitt::bit_reader::BitOrder;
-use hayro_ccitt::{DecodeError, DecoderContext};
+use hayro_ccitt::{DecodeError, DecoderContext, decode_in};
 use std::alloc::Global;
 use std::io::{Read, Write};
 
-/// Reads all that the reader has, decodes it with the settings and in the order of bits that the words mean, and writes
+/// Reads all that the reader has, decodes it with the settings and in the order of bits that the arguments mean, and writes
 /// the rows as a bitmap: one bit a pixel, 1 for black, the leftmost pixel in each byte's highest bit, and zeros after each
-/// row up to a whole byte.
-/// The inner answer says how the decoding ended.
+/// row up to a whole byte. The inner result is that of decoding.
 ///
-/// Where the data is at fault, the rows before the fault were written; with `OutOfMemory` and `Refused` the rows that
-/// were taken.
+/// # Errors
+///
+/// The outer ones are as the variants of [`RunFault`] say. With an inner one, the rows before the fault were written, or with
+/// `OutOfMemory` and `Refused` the rows that were taken.
 pub fn run_packed<R: Read, W: Write>(
     alloc: Global,
     words: &[String],

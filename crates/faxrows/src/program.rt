@@ -1,4 +1,4 @@
-//! A run of the program: all that a reader has is decoded, and written as text.
+//! A run of the program: decodes all that a reader has, and writes it as text.
 
 ghost use Rattle.std.specs.Prelude.{◌≡◌, ◌≤◌, ◌↔◌, ◌≢◌, IfOk, IfErr, OnOk, OnErr, IfSome, IsOk, IsErr, true, false, map, string_bytes, None, Ok, Err, List, ℕ};
 ghost use Rattle.std.specs.Io.KnownBytes.{Appends, IsAtEnd};
@@ -8,12 +8,11 @@ ghost use Rattle.faxrows.specs.Text.{line_of_outcome};
 ghost use Rattle.faxrows.specs.Runs.{Outcome, OnKnown, EndsAfter, IsTextOfWant, whole_text, text_after, outcome_of, done_of, WasRead};
 
 use crate::arguments::arguments_of;
-use crate::decoding::decode_in;
 use crate::device::Device;
 use crate::last_line::{ROOM, error_line, put_ok};
 use crate::text_sink::TextSink;
 use hayro_ccitt::bit_reader::BitOrder;
-use hayro_ccitt::{DecodeError, DecoderContext};
+use hayro_ccitt::{DecodeError, DecoderContext, decode_in};
 use std::alloc::Global;
 use std::fmt;
 use std::io::{Read, Write};
@@ -25,18 +24,18 @@ pub enum Done {
     Good,
     /// The data is at fault. The rows before the fault were written.
     Faulty,
-    /// There was no memory to go on. The rows that were taken were written.
+    /// An allocation failed while decoding. The rows that were taken were written.
     Memory,
 }
 
 /// Why a run ended without its text.
 #[derive(Debug, Clone, Copy, PartialEq, Eq)]
 pub enum RunFault {
-    /// The words mean nothing. Nothing was read or written.
+    /// The arguments are invalid. Nothing was read or written.
     BadArguments,
     /// The reader failed. Nothing was written.
     Read,
-    /// There was no memory to begin. Nothing was written.
+    /// An allocation failed before decoding. Nothing was written.
     Memory,
     /// There are more bytes than can be decoded. Nothing was written.
     TooLong,
@@ -63,8 +62,12 @@ impl fmt::Display for RunFault {
     }
 }
 
-/// Reads all that the reader has, decodes it with the settings and in the order of bits that the words mean, and
-/// writes a line for each row, and then a line that says how the decoding ended.
+/// Reads all that the reader has, decodes it with the settings and in the order of bits that the arguments mean, and
+/// writes a line for each row, and then a line with the result.
+///
+/// # Errors
+///
+/// As the variants of [`RunFault`] say. A fault of the data is no error of the run: it is written, and `Done::Faulty` returned.
 pub fn run<R: Read, W: Write>(
     alloc: Global,
     words: &[String],

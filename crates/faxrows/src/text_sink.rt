@@ -28,7 +28,7 @@ impl Model for TextSink {
 impl TextSink {
     ghost use Rattle.std.specs.Prelude.{◌≡◌, [], false};
 
-    /// A sink without text, that has refused nothing. It takes no memory.
+    /// Creates a sink without text. It allocates nothing.
     pub fn new(alloc: Global) -> TextSink
         ensures { result ≡ ([], false) }
     {
@@ -38,7 +38,7 @@ impl TextSink {
         }
     }
 
-    /// The lines of the rows that were taken.
+    /// Returns the lines of the rows that were taken.
     pub fn text(&self) -> &[u8]
         ensures { result.now ≡ self.now.0 }
     {
@@ -73,7 +73,7 @@ impl Decoder for TextSink {
     }
 }
 
-/// Adds a row's line. Where there is no memory, what stands afterwards begins with the text before.
+/// Adds a row's line. If an allocation fails, the text begins with what it was before.
 fn push_line(text: &mut Vec<u8>, changes: &[u32]) -> Result<(), AllocError>
     ensures ok { OnOk result (text.new.items ≡ text.old.items ++ line_of_row changes.now) }
     ensures err { OnErr result (StartsWith text.new.items text.old.items) }

@@ -4,6 +4,7 @@ pub mod EolCounts
 pub mod FilledWindows
 pub mod LookUpEntries
 pub mod PeekedBits
+pub mod PlainEols
 pub mod SoughtEols
 pub mod TablesAgree
 pub mod TaggedEols

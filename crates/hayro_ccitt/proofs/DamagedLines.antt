@@ -1,4 +1,5 @@
 pub mod BodyTests
+pub mod BodyWork
 pub mod Damage
 pub mod EolsAlike
 pub mod LineStarts

@@ -39,12 +39,14 @@ decodes settings bits step before after held ticks answer are whole (takes, shor
     record {
       work = work;
       reading = takes;
+      whole = on_answer answer (λ e. means (plain settings bits).rows e.0) end;
       widths = plain_width settings bits;
       no_eols = no_eols;
       short = short;
       closed = λ rows count picture. on_answer answer (λ e. e.1 ∙ (closed_pictures settings rows count bits are whole picture).1) end;
       closed_rows = λ rows count picture. (closed_pictures settings rows count bits are whole picture).0;
       picture = λ rows count picture. on_answer answer (λ e. means rows (e.0 ∙ (closed_pictures settings rows count bits are whole picture).0)) end;
+      limited_rows = λ rows picture. (limited_pictures settings rows bits are whole picture).0;
       limited = λ rows picture. on_answer answer (λ e. subst IsOk (sym e.1) (limited_pictures settings rows bits are whole picture).1) end;
       limited_picture = λ rows picture. on_answer answer (λ e. means rows (e.0 ∙ (limited_pictures settings rows bits are whole picture).0)) end;
       damage = on_answer answer (λ e. damage_stays settings bits (take held.taken (plain settings bits).rows) answer are whole e.0 e.1) end;

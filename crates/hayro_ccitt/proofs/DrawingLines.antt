@@ -6,5 +6,6 @@ pub mod LineWidths
 pub mod LinesLeaveBits
 pub mod ReadLines
 pub mod UnreadRows
+pub mod UsualModes
 pub mod UsualStrokes
 pub mod WhatFollows

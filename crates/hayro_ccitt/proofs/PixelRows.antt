@@ -1,3 +1,4 @@
+pub mod B1ByParity
 pub mod ChangePlaces
 pub mod ChangesAndPixels
 pub mod Painting

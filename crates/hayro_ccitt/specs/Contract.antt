@@ -20,6 +20,8 @@ pub record Decodes {M : Type 0} (settings : DecodeSettings) (bits : Bits) (step 
   pub work : CountsWork settings bits held.taken ticks
   -- The rows, the outcome and the count are those of the plain reading (T.4, 4.1 and 4.2; T.6, 2.2 and 2.4.1).
   pub reading : TakesRows (plain settings bits).rows (plain settings bits).outcome (plain settings bits).has_eols step before after held answer
+  -- Unless an allocation failed or the sink refused a row, the sink means all rows, one after another (T.4, 4.2.1.1).
+  pub whole : OnAnswer answer (after.meaning ≡ meaning_after step before.meaning (plain settings bits).rows)
   -- Each row has as many pixels as there are columns (T.4, 4.1.1).
   pub widths : HaveWidth settings.columns (plain settings bits).rows
   -- No EOL is sought in Group 4, nor without columns (T.6, 2.4.1).
@@ -34,6 +36,7 @@ pub record Decodes {M : Type 0} (settings : DecodeSettings) (bits : Bits) (step 
   pub picture : (rows : List Row) (count : ℕ) → IsClosedPicture settings rows count bits
       → OnAnswer answer (after.meaning ≡ meaning_after step before.meaning rows)
   -- So are as many lines as the limit (T.6, 2.2; T.4, 4.1.1, 4.1.2 and 4.2.1).
+  pub limited_rows : (rows : List Row) → IsLimitedPicture settings rows bits → (plain settings bits).rows ≡ rows
   pub limited : (rows : List Row) → IsLimitedPicture settings rows bits → OnAnswer answer (IsOk answer)
   pub limited_picture : (rows : List Row) → IsLimitedPicture settings rows bits
       → OnAnswer answer (after.meaning ≡ meaning_after step before.meaning rows)

@@ -79,6 +79,12 @@ pub record RowIsTaken {M : Type 0} (row : Result (Row × Bits) DecodeError) (ste
   pub held : new ≡ with_row_taken old taken
   pub meaning : after.meaning ≡ step before.meaning (changes taken)
 
+-- the bits behind a line that began here: those that follow a whole one; where a broken one is repaired, the place goes
+-- back to the line's start (T.4, 4.1.2)
+abbrev pub behind_line : Line → Bits → Bits
+behind_line (Line.whole row rest) start = rest
+behind_line (Line.broken front fault) start = start
+
 -- a row stands here that is refused
 abbrev pub IsRefusedBy : (List ℕ → Type 0) → Result (Row × Bits) DecodeError → Type 0
 IsRefusedBy refuses (Ok (row, rest)) = refuses (changes row)

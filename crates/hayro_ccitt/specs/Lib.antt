@@ -17,10 +17,12 @@ pub mod Pictures
 pub mod PlainReading
 pub mod Repetition
 pub mod Rows
+pub mod RowsRead
 pub mod Runs
 pub mod Settings
 pub mod Texts
 pub mod Ticks
+pub mod UsualModes
 pub mod UsualRuns
 pub mod Window
 pub mod Work

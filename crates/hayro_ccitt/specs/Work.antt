@@ -1,12 +1,13 @@
 -- What decoding counts: the words that its lines find, and how much at most.
-use Rattle.std.specs.Prelude.{ℕ, Bool, ◌+◌, ◌*◌, ◌≤◌, List, [], length, take, sum_by, ◌==◌, if◌then◌else◌}
+use Rattle.std.specs.Prelude.{ℕ, Bool, ◌+◌, ◌-◌, ◌*◌, ◌≤◌, List, [], length, take, drop, sum_by, ◌==◌, if◌then◌else◌}
 use Rattle.hayro_ccitt.specs.declared.settings.DecodeSettings.{DecodeSettings}
 use Rattle.hayro_ccitt.specs.declared.settings.EncodingMode.{EncodingMode}
 use Rattle.hayro_ccitt.specs.declared.settings.EncodingMode.TheVariants.{Group4, Group3_1D, Group3_2D}
 use Rattle.hayro_ccitt.specs.Bits.{Bits}
-use Rattle.hayro_ccitt.specs.Lines.{line_found}
+use Rattle.hayro_ccitt.specs.Lines.{found_1d, line_found}
 use Rattle.hayro_ccitt.specs.PlainReading.{Progress, row_before, gathered_of}
 use Rattle.hayro_ccitt.specs.Rows.{Row}
+use Rattle.hayro_ccitt.specs.Ticks.{looked}
 
 -- ---- glue: the words that the lines of a reading find, line by line
 
@@ -49,3 +50,11 @@ pub record CountsWork (settings : DecodeSettings) (bits : Bits) (taken ticks : �
   pub words : sum_by length (take taken (words_of settings bits)) ≤ ticks
   pub bound : ticks ≤ 128 * length bits + 256
   pub closer : ticks ≤ most_counted settings.encoding (length bits)
+
+-- ---- how much is counted where a body is tested
+
+-- The most that the tests of a body between two places count: each of its bits four times, those of the zeros behind it and
+-- of the one that follows them five times, the twelve bits before it, and each word of its line and one more (T.4, 4.1.2).
+abbrev pub most_for_body : DecodeSettings → Bits → ℕ → ℕ → ℕ
+most_for_body settings bits from to =
+    4 * (to - from) + 5 * looked (drop to bits) + length (found_1d settings.strict settings.columns (drop from bits)) + 13

@@ -4,7 +4,7 @@ ghost use Rattle.std.specs.Prelude.{◌≡◌, ◌+◌, ◌-◌, ◌*◌, ◌/�
 ghost use Rattle.hayro_ccitt.specs.Bits.{AreWholeBytes, BitsAt, BitsFit, bits_of, low_first_bits_of, bits_in, bit_of, here};
 ghost use Rattle.hayro_ccitt.specs.PlainReading.{at_end, aligned};
 ghost use Rattle.hayro_ccitt.specs.Window.{place_in_word, AtHand, moved};
-ghost use Rattle.hayro_ccitt.specs.LookUps.{padded, thirteen_bits};
+ghost use Rattle.hayro_ccitt.specs.LookUps.{padded, seven_bits, thirteen_bits};
 
 use crate::{DecodeError, Result};
 use std::marker::Model;
@@ -393,6 +393,17 @@ impl<'a> BitsAtHand<'a> {
         ensures bits { thirteen_bits result ≡ padded 13 (here (moved skip self.now.at)) }
     {
         (self.window << skip >> 51) as usize
+    }
+
+    /// The next seven bits, as a number.
+    #[inline(always)]
+    pub(crate) fn seven(&self) -> u32
+        requires within { 7 ≤ self.now.left }
+        ensures few { result < 128 }
+        ensures there { self.now.at.place + self.now.left ≤ length self.now.at.bits }
+        ensures bits { seven_bits result ≡ padded 7 (here self.now.at) }
+    {
+        (self.window >> 57) as u32
     }
 
     /// How many bits are at hand.

@@ -1,6 +1,6 @@
 //! Rows as lists of changes: the places at which a row's colour turns, white at first.
 
-ghost use Rattle.std.specs.Prelude.{◌≡◌, ◌≢◌, ◌+◌, ◌<◌, ◌≤◌, OnOk, OnErr, Err, IsOkUnless, false, length, get_or, ◌++◌, replicate};
+ghost use Rattle.std.specs.Prelude.{vec_len, vec_capacity, ◌≡◌, ◌≢◌, ◌+◌, ◌<◌, ◌≤◌, OnOk, OnErr, Err, IsOkUnless, false, length, get_or, ◌++◌, replicate};
 ghost use Rattle.hayro_ccitt.specs.Rows.{AreChanges, pixels, b1, b2, is_black, last_pixel};
 ghost use Rattle.hayro_ccitt.specs.Context.{right_of_painted, ArePassed, passed_changes};
 
@@ -56,7 +56,8 @@ pub fn change_or_end(changes: &[u32], index: usize, columns: u32) -> u32
 }
 
 /// Adds so many pixels of a colour to the changes of a front, of which so many are painted. A change is stored
-/// only where the last pixel has another colour. After an error nothing is changed.
+/// only where the last pixel has another colour. `OutOfMemory` comes only where the list is full. After an error
+/// nothing is changed.
 #[inline(always)]
 pub fn append_pixels(changes: &mut Vec<u32>, painted: u32, color: Color, count: u32) -> Result<()>
     requires { AreChanges painted changes.old.items }
@@ -65,6 +66,7 @@ pub fn append_pixels(changes: &mut Vec<u32>, painted: u32, color: Color, count: 
         ≡ pixels painted changes.old.items ++ replicate count (is_black color)) }
     ensures memory { result ≡ Err DecodeError.OutOfMemory
         → (0 < count) × (last_pixel false (pixels painted changes.old.items) ≢ is_black color) }
+    ensures full { OnErr result (vec_capacity changes.old ≤ vec_len changes.old) }
     ensures only_memory { IsOkUnless result DecodeError.OutOfMemory }
     ensures unchanged { OnErr result (changes.new.items ≡ changes.old.items) }
 {

@@ -1,6 +1,6 @@
 //! Colours, modes, and the code words and EOLs of the data.
 
-ghost use Rattle.std.specs.Prelude.{◌≡◌, ℕ, ◌+◌, ◌-◌, ◌*◌, ◌<◌, ◌≤◌, ◌==◌, ◌↔◌, ◌++◌, ◌∷◌, IsTrue, IfSome, IfNone, IfErr, MatchResult, Ok, Err, Some, None, true, false, length, replicate, nat_le, if◌then◌else◌, drop, [], slice_get, is_some, min};
+ghost use Rattle.std.specs.Prelude.{◌≡◌, ℕ, ◌+◌, ◌-◌, ◌*◌, ◌^◌, ◌<◌, ◌≤◌, ◌==◌, ◌↔◌, ◌++◌, ◌∷◌, IsTrue, IfSome, IfNone, IfErr, MatchResult, Ok, Err, Some, None, true, false, length, replicate, nat_le, if◌then◌else◌, drop, [], slice_get, is_some, min, pos};
 ghost use Rattle.std.specs.Borrow.{ftrue};
 ghost use Rattle.hayro_ccitt.specs.Answers.{IsFault};
 ghost use Rattle.hayro_ccitt.specs.Bits.{here};
@@ -108,30 +108,39 @@ impl Ticks {
 /// The mode whose word begins these seven bits, None where no word does, and the number of bits that tell so: those of
 /// the word, or one more than the bits that agree with any.
 #[inline(always)]
-fn mode_of(bits: u32) -> (Option<Mode>, usize)
+pub(crate) fn mode_of(bits: u32) -> (Option<Mode>, usize)
     requires { bits < 128 }
     ensures told { result ≡ mode_told (seven_bits bits) }
     ensures few { result.1 ≤ 7 }
+    ensures v0 { result.0 ≡ Some (Mode.Vertical (pos 0)) → result.1 ≡ 1 }
+    ensures horizontal { result.0 ≡ Some Mode.Horizontal → result.1 ≡ 3 }
+    ensures pass { result.0 ≡ Some Mode.Pass → result.1 ≡ 4 }
 {
-    // The words in the order of their bits: each begins where the next in this order ends.
-    if bits >= 0b1000000 {
+    // Each test is of one bit: those before it are zeros.
+    if (bits >> 6) % 2 == 1 {
         (Some(Mode::Vertical(0)), 1)
-    } else if bits >= 0b0110000 {
-        (Some(Mode::Vertical(1)), 3)
-    } else if bits >= 0b0100000 {
-        (Some(Mode::Vertical(-1)), 3)
-    } else if bits >= 0b0010000 {
+    } else if (bits >> 5) % 2 == 1 {
+        if (bits >> 4) % 2 == 1 {
+            (Some(Mode::Vertical(1)), 3)
+        } else {
+            (Some(Mode::Vertical(-1)), 3)
+        }
+    } else if (bits >> 4) % 2 == 1 {
         (Some(Mode::Horizontal), 3)
-    } else if bits >= 0b0001000 {
+    } else if (bits >> 3) % 2 == 1 {
         (Some(Mode::Pass), 4)
-    } else if bits >= 0b0000110 {
-        (Some(Mode::Vertical(2)), 6)
-    } else if bits >= 0b0000100 {
-        (Some(Mode::Vertical(-2)), 6)
-    } else if bits == 0b0000011 {
-        (Some(Mode::Vertical(3)), 7)
-    } else if bits == 0b0000010 {
-        (Some(Mode::Vertical(-3)), 7)
+    } else if (bits >> 2) % 2 == 1 {
+        if (bits >> 1) % 2 == 1 {
+            (Some(Mode::Vertical(2)), 6)
+        } else {
+            (Some(Mode::Vertical(-2)), 6)
+        }
+    } else if (bits >> 1) % 2 == 1 {
+        if bits % 2 == 1 {
+            (Some(Mode::Vertical(3)), 7)
+        } else {
+            (Some(Mode::Vertical(-3)), 7)
+        }
     } else {
         (None, 6)
     }
@@ -348,10 +357,51 @@ impl<'a> BitReader<'a> {
         count
     }
 
+    /// Passes an EOL without fill that stands here, and returns whether one does. Each bit that is passed is a tick.
+    #[inline(always)]
+    fn pass_plain_eol(&mut self, ticks: &mut Ticks) -> bool
+        ensures eol { result ≡ true → after_eol 0 (here self.old) ≡ Some (here self.new) }
+        ensures twelve { result ≡ true → self.new.place ≡ self.old.place + 12 }
+        ensures onward { length (here self.new) ≤ length (here self.old) }
+        ensures unchanged { result ≡ false → self.new ≡ self.old }
+        ensures same_bits { self.new.bits ≡ self.old.bits }
+        ensures ticks { ticks.new + length (here self.new) ≡ ticks.old + length (here self.old) }
+    {
+        if self.peek_u32() >> 20 != 1 {
+            return false;
+        }
+        ticks.tick_times(12);
+        // The eleven zeros and the one are there to be passed.
+        let _ = self.consume(12);
+        true
+    }
+
     /// Reads all EOLs in a row, and answers how many there were. It never fails. Each bit that is looked at is
     /// a tick.
     pub fn read_eol_if_available(&mut self, ticks: &mut Ticks) -> usize
         ensures eols { all_eols (here self.old) ≡ (result, here self.new) }
+        ensures same_bits { self.new.bits ≡ self.old.bits }
+        ensures ticks { ticks.new + length (here self.new)
+            ≡ ticks.old + length (here self.old) + looked (here self.new) }
+    {
+        // The usual cases are no EOL, and one without fill that no other follows.
+        if self.is_near_one(ticks) {
+            return 0;
+        }
+        if !self.pass_plain_eol(ticks) {
+            return self.read_all_eols(ticks);
+        }
+        if self.is_near_one(ticks) {
+            return 1;
+        }
+        1 + self.read_all_eols(ticks)
+    }
+
+    /// The same, with any fill and any number of EOLs.
+    #[inline(never)]
+    fn read_all_eols(&mut self, ticks: &mut Ticks) -> usize
+        ensures eols { all_eols (here self.old) ≡ (result, here self.new) }
+        ensures few { result + 1 < 2 ^ 64 }
         ensures same_bits { self.new.bits ≡ self.old.bits }
         ensures ticks { ticks.new + length (here self.new)
             ≡ ticks.old + length (here self.old) + looked (here self.new) }
@@ -361,6 +411,27 @@ impl<'a> BitReader<'a> {
         }
         // An EOL takes more than one bit, so that there are fewer.
         self.read_eols(usize::MAX, ticks)
+    }
+
+    /// Passes the next eleven bits up to the last one among them, before which no EOL begins, and returns whether there is
+    /// one. Each bit that is passed is a tick.
+    #[inline(always)]
+    fn pass_near_ones(&mut self, ticks: &mut Ticks) -> bool
+        ensures next { next_eol (here self.old) ≡ next_eol (here self.new) }
+        ensures onward { length (here self.new) ≤ length (here self.old) }
+        ensures fewer { result ≡ true → length (here self.new) < length (here self.old) }
+        ensures same_bits { self.new.bits ≡ self.old.bits }
+        ensures ticks { ticks.new + length (here self.new) ≡ ticks.old + length (here self.old) }
+    {
+        let next = self.peek_u32() >> 21;
+        if next == 0 {
+            return false;
+        }
+        let passed = 11 - next.trailing_zeros() as usize;
+        ticks.tick_times(passed);
+        // The last one is there to be passed.
+        let _ = self.consume(passed);
+        true
     }
 
     /// Moves to the start of the zeros of the next EOL at or after here (T.4 sections 4.1.2 and 4.1.3), without
@@ -373,16 +444,18 @@ impl<'a> BitReader<'a> {
         ensures ticks { ticks.new + length (here self.new)
             ≡ ticks.old + length (here self.old) + (if result then looked (here self.new) else length (here self.new)) }
     {
-        let mut reader = self.clone().unwrap();
+        let mut reader = self.copy();
         'eols: loop {
-            let (zeros, after) = reader.zero_run(ticks);
-            match after {
-                Some(_) if zeros >= 11 => {
-                    *self = reader;
-                    return true;
+            if !reader.pass_near_ones(ticks) {
+                let (zeros, after) = reader.zero_run(ticks);
+                match after {
+                    Some(_) if zeros >= 11 => {
+                        *self = reader;
+                        return true;
+                    }
+                    Some(after) => reader = after,
+                    None => return false,
                 }
-                Some(after) => reader = after,
-                None => return false,
             }
         }
     }
@@ -460,11 +533,46 @@ impl<'a> BitReader<'a> {
         count
     }
 
+    /// Passes an EOL without fill that stands here where no other follows, nor a tag and another, and returns whether it
+    /// did. Each bit that is passed is a tick.
+    #[inline(always)]
+    fn pass_single_tagged_eol(&mut self, ticks: &mut Ticks) -> bool
+        ensures eols { result ≡ true → tagged_eols (here self.old) ≡ (1, here self.new) }
+        ensures onward { length (here self.new) ≤ length (here self.old) }
+        ensures unchanged { result ≡ false → self.new ≡ self.old }
+        ensures same_bits { self.new.bits ≡ self.old.bits }
+        ensures ticks { ticks.new + length (here self.new) ≡ ticks.old + length (here self.old) }
+    {
+        // A one among the ten bits behind the tag is near, seen from the tag and from behind it.
+        let is_single = (self.peek_u32() >> 9) % 1024 != 0;
+        is_single && self.pass_plain_eol(ticks)
+    }
+
     /// Reads all EOLs in a row of two-dimensional data of Group 3, and answers how many there were (T.4
     /// sections 4.2.2 and 4.2.4). A tag of 1 between two EOLs is passed; after the last EOL it is passed where there
     /// were six or more, which are RTC. It never fails. Each bit that is looked at is a tick: one that is passed at
     /// most twice.
     pub fn read_tagged_eols(&mut self, ticks: &mut Ticks) -> usize
+        ensures eols { tagged_eols (here self.old) ≡ (result, here self.new) }
+        ensures same_bits { self.new.bits ≡ self.old.bits }
+        ensures at_least { ticks.old + length (here self.old) ≤ ticks.new + length (here self.new) }
+        ensures at_most { ticks.new + 2 * length (here self.new)
+            ≤ ticks.old + 2 * length (here self.old) + 3 + looked (drop 1 (here self.new)) }
+        ensures none { result ≡ 0 → ticks.new ≡ ticks.old + looked (here self.old) }
+    {
+        // The usual cases are no EOL, and one without fill that no other follows, nor a tag and another.
+        if self.is_near_one(ticks) {
+            return 0;
+        }
+        if self.pass_single_tagged_eol(ticks) {
+            return 1;
+        }
+        self.read_all_tagged_eols(ticks)
+    }
+
+    /// The same, with any fill and any number of EOLs.
+    #[inline(never)]
+    fn read_all_tagged_eols(&mut self, ticks: &mut Ticks) -> usize
         ensures eols { tagged_eols (here self.old) ≡ (result, here self.new) }
         ensures same_bits { self.new.bits ≡ self.old.bits }
         ensures at_least { ticks.old + length (here self.old) ≤ ticks.new + length (here self.new) }

@@ -4,12 +4,14 @@ ghost use Rattle.std.specs.Prelude.{◌≡◌, ◌+◌, ◌*◌, ◌^◌, ◌<�
 ghost use Rattle.hayro_ccitt.specs.Rows.{right_of, b1, b2, changes, opposite};
 ghost use Rattle.hayro_ccitt.specs.Bits.{here};
 ghost use Rattle.hayro_ccitt.specs.Context.{redrawn, painted_front, taken_row, after_repair, passed_changes};
+ghost use Rattle.hayro_ccitt.specs.UsualModes.{GoesOn2d};
 ghost use Rattle.hayro_ccitt.specs.UsualRuns.{GoesOn};
 ghost use Rattle.hayro_ccitt.specs.Answers.{DrawsLine, DrawsStep, OnAnswer, words_of_run, words_of_mode, words_from_1d, words_from_2d, StoresChange, RepairStoresChange, pen_of, step_of_run, step_of_mode, line_from_1d, line_from_2d};
 
 use crate::bit_reader::{BitOrder, BitReader, BitsAtHand};
 use crate::changes::{append_pixels, b1_index, change_or_end};
 use crate::codes::{Color, Mode, Ticks};
+use crate::modes::{draw_modes, lay_down_row};
 use crate::settings::DecodeSettings;
 use crate::tables::Tables;
 use crate::usual::{draw_runs, lay_down, take_up};
@@ -104,6 +106,13 @@ impl DecoderContext {
         ensures { result ≡ self.now.held.has_eols }
     {
         self.has_eols
+    }
+
+    /// The changes of the reference row: those of the last row that was taken, none before the first.
+    pub(crate) fn reference_row(&self) -> &[u32]
+        ensures { result.now ≡ changes self.now.held.reference }
+    {
+        self.ref_changes.as_slice()
     }
 
     /// Sets whether EOLs are sought between the lines. All else stands.
@@ -422,6 +431,64 @@ impl DecoderContext {
         }
     }
 
+    /// Draws modes from the start of a line as long as they are usual.
+    #[inline(always)]
+    fn draw_modes_at_hand(&mut self, hand: &mut BitsAtHand<'_>)
+        requires begins { self.old.held.front ≡ [] }
+        requires white { self.old.held.color ≡ Color.White }
+        requires none { self.old.passed ≡ 0 }
+        ensures drawn { GoesOn2d self.old.held.settings.strict self.old.held.settings.columns self.old.held.reference
+            (pen_of self.old.held (here hand.old.at)) (pen_of self.new.held (here hand.new.at)) self.old.ticks self.new.ticks
+            self.old.passed self.new.passed }
+        ensures held { self.new.held ≡ redrawn self.old.held self.new.held.front self.new.held.color }
+        ensures within { self.new.passed ≤ length (changes self.old.held.reference) }
+        ensures same_bits { hand.new.at.bits ≡ hand.old.at.bits }
+    {
+        if self.settings.columns == 0 {
+            return;
+        }
+        let ticks = &mut self.ticks;
+        let (place, index, color) = draw_modes(
+            hand,
+            &mut self.coding_changes,
+            self.settings.columns,
+            self.settings.strict,
+            self.ref_changes.as_slice(),
+            self.tables.lookup(Color::White).as_slice(),
+            self.tables.lookup(Color::Black).as_slice(),
+            ticks,
+        );
+        lay_down_row(&mut self.coding_changes, place, self.settings.columns);
+        self.pixels_decoded = place;
+        self.color = color;
+        // The change before b1 may be right of a0.
+        self.passed = index.saturating_sub(1);
+    }
+
+    /// The same of a reader, in whichever order its bits are.
+    #[inline(never)]
+    fn draw_usual_modes(&mut self, reader: &mut BitReader<'_>)
+        requires begins { self.old.held.front ≡ [] }
+        requires white { self.old.held.color ≡ Color.White }
+        requires none { self.old.passed ≡ 0 }
+        ensures drawn { GoesOn2d self.old.held.settings.strict self.old.held.settings.columns self.old.held.reference
+            (pen_of self.old.held (here reader.old)) (pen_of self.new.held (here reader.new)) self.old.ticks self.new.ticks
+            self.old.passed self.new.passed }
+        ensures held { self.new.held ≡ redrawn self.old.held self.new.held.front self.new.held.color }
+        ensures within { self.new.passed ≤ length (changes self.old.held.reference) }
+        ensures same_bits { reader.new.bits ≡ reader.old.bits }
+    {
+        if let Some(mut hand) = reader.at_hand(BitOrder::HighestFirst) {
+            self.draw_modes_at_hand(&mut hand);
+            *reader = hand.reader();
+            return;
+        }
+        if let Some(mut hand) = reader.at_hand(BitOrder::LowestFirst) {
+            self.draw_modes_at_hand(&mut hand);
+            *reader = hand.reader();
+        }
+    }
+
     /// Draws what a mode says (T.4 section 4.2.1.3).
     #[inline(always)]
     fn draw_mode(&mut self, mode: Mode, reader: &mut BitReader<'_>) -> Result<()>
@@ -504,6 +571,7 @@ pub fn decode_2d_line(ctx: &mut DecoderContext, reader: &mut BitReader<'_>) -> R
     ensures no_words { length (words_from_2d ctx.old.held (here reader.old)) ≡ 0 → ctx.new.ticks ≤ ctx.old.ticks + 1 }
 {
     ctx.begin_line(); // The place a0 is left of the row.
+    ctx.draw_usual_modes(reader);
     'modes: while !ctx.is_full() {
         let mode = reader.decode_mode(&mut ctx.ticks)?;
         ctx.draw_mode(mode, reader)?;

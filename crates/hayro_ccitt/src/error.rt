@@ -1,20 +1,22 @@
+//! The errors of decoding.
+
 ghost use Rattle.std.specs.Prelude.{Some};
 ghost use Rattle.hayro_ccitt.specs.Texts.{text_of};
 
 use std::alloc::{AllocError, AllocFailed};
 use std::fmt;
 
-/// Why decoding ended without a count of bytes. The first three are faults of the data.
+/// Why decoding ended early. The first three are faults of the data.
 #[derive(Debug, Clone, Copy, PartialEq, Eq)]
 pub enum DecodeError {
-    /// The data ends inside a code word, or where a line or a tag bit has to begin.
+    /// The data ends inside a code word, or where a line or a tag bit must begin.
     UnexpectedEof,
-    /// No code word stands at a place, or strict data breaks a rule.
+    /// The bits are no code word, or strict data breaks a rule.
     InvalidCode,
     /// A run is 2^32 pixels or longer, or a vertical mode leads to a place of 2^32 or more, below 0, or left of the
     /// pixels painted.
     Overflow,
-    /// There was no memory: for a change of a row, or for a new context.
+    /// An allocation failed: for a change of a row, or for a new context.
     OutOfMemory,
     /// The sink refused a row.
     Refused,
@@ -60,5 +62,5 @@ impl<T: Drop> From<AllocFailed<T>> for DecodeError {
     }
 }
 
-/// What decoding answers.
+/// The result of decoding.
 pub type Result<T> = std::result::Result<T, DecodeError>;

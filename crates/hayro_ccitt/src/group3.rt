@@ -80,7 +80,7 @@ pub fn check_eob(ctx: &mut DecoderContext, reader: &mut BitReader<'_>) -> Result
 
 /// Reads the EOLs at the front of the data, which have no tags. Any of them, or the settings, say that the data has
 /// EOLs.
-fn read_leading_eols(ctx: &mut DecoderContext, reader: &mut BitReader<'_>)
+pub(crate) fn read_leading_eols(ctx: &mut DecoderContext, reader: &mut BitReader<'_>)
     ensures rest { here reader.new ≡ (all_eols (here reader.old)).1 }
     ensures has_eols { ctx.new.held ≡ record ctx.old.held {
       has_eols = nat_lt 0 (all_eols (here reader.old)).0 || ctx.old.held.settings.end_of_line;

@@ -22,8 +22,8 @@ pub fn code_words()
     ensures mode { IsTrue (each_word (has_few_zeros 5 1) mode_codes) }
 {}
 
-/// Reading a code list answers the word of it that stands here, whatever follows it. Where none does, the end of the
-/// data is missing exactly if the bits up to it are a prefix of a word; else the code is wrong.
+/// Reading a code list gives the word of it that begins here, whatever follows it. If none does, the error is `UnexpectedEof`
+/// exactly if the bits up to the end of the data are a prefix of a word; else it is `InvalidCode`.
 pub fn code_reading()
     ensures runs { (color : Color) → ReadsCodes (codes_of color) }
     ensures modes { ReadsCodes mode_codes }
@@ -31,7 +31,7 @@ pub fn code_reading()
 
 /// The code words stay in step with EOLs. No word of a list is a prefix of another one. Words in a row, and a tag
 /// before them, never hold the eleven zeros of an EOL; so every word that the reading of a line finds ends before the
-/// one of each EOL that stands at or after the line's start.
+/// one of each EOL at or after the line's start.
 pub fn synchronised()
     ensures law { Synchronised }
     ensures white { IsTrue (is_prefix_free white_codes) }
@@ -39,12 +39,12 @@ pub fn synchronised()
     ensures mode { IsTrue (is_prefix_free mode_codes) }
 {}
 
-/// A strict reading gives the first rows of the lenient one; where it ends without a fault, both answer the same.
+/// A strict reading gives the first rows of the lenient one; if it ends without a fault, both have the same result.
 pub fn strict_then_lenient()
     ensures { StrictThenLenient }
 {}
 
-/// A limit of rows gives as many of the first rows as it allows; with so many rows the reading ends without a fault.
+/// A row limit gives as many of the first rows as it allows; with that many rows the reading ends without a fault.
 pub fn row_limit()
     ensures { RowLimit }
 {}

@@ -1,20 +1,23 @@
 //! A decoder for CCITT fax images: ITU-T T.4 (Group 3, one- and two-dimensional) and T.6 (Group 4).
 //!
 //! [`decode`] takes the encoded bytes and a [`DecoderContext`], made with the [`DecodeSettings`] that belong to them,
-//! and hands each row as a list of colour changes to a [`Decoder`]. It answers how many bytes were read. Data from
-//! strangers does no harm: every call returns, and what is wrong with the data is a [`DecodeError`].
+//! and passes each row as a list of colour changes to a [`Decoder`]. It returns the number of bytes consumed. Every call
+//! returns, whatever the data is, and what is wrong with it is a [`DecodeError`].
 //!
-//! The modules are the decoder's parts, for drivers of one's own: [`bit_reader`] and [`codes`] read bits, code words
-//! and EOLs, [`context`] draws lines, [`group3`] and [`group4`] run over rows, and [`laws`] states what holds of the
-//! data whatever program reads them.
+//! The modules are the decoder's parts, for other drivers: [`bit_reader`] and [`codes`] read bits, code words and EOLs,
+//! [`context`] draws lines, [`group3`] and [`group4`] read rows, and [`laws`] states what holds of the data whatever program
+//! reads it.
 #![tactic(auto)]
 
-ghost use Rattle.std.specs.Prelude.{◌≡◌, ◌*◌, ◌<◌, ◌≤◌, ◌↔◌, ℕ, List, Bool, true, false, OnOk, OnErr, IfOk, IsOkUnless, IsTrue, length};
-ghost use Rattle.hayro_ccitt.specs.Bits.{AreWholeBytes, BitsFit, bits_of, low_first_bits_of, here};
+ghost use Rattle.std.specs.Prelude.{◌≡◌, ◌*◌, ◌<◌, ◌≤◌, ◌↔◌, ℕ, List, Bool, true, false, Ok, OnOk, OnErr, IfOk, IsOkUnless, IsTrue, length};
+ghost use Rattle.hayro_ccitt.specs.Answers.{OnAnswer};
+ghost use Rattle.hayro_ccitt.specs.Bits.{AreWholeBytes, BitsFit, bits_in, bits_of, low_first_bits_of, here};
 ghost use Rattle.hayro_ccitt.specs.Context.{fresh};
 ghost use Rattle.hayro_ccitt.specs.Contract.{Decodes};
 ghost use Rattle.hayro_ccitt.specs.Decoding.{DecodesRows, leaving};
+ghost use Rattle.hayro_ccitt.specs.PlainReading.{end_of, gathered_of, plain};
 ghost use Rattle.hayro_ccitt.specs.Rows.{AreChanges};
+ghost use Rattle.hayro_ccitt.specs.Work.{CountsRun, CountsWork, words_of_turn, most_counted};
 
 pub mod bit_reader;
 pub mod changes;
@@ -25,15 +28,18 @@ pub mod group3;
 pub mod group4;
 pub mod laws;
 mod locality;
+mod modes;
+mod row_reader;
 mod rows;
 mod settings;
 pub mod tables;
 mod usual;
 
-use bit_reader::BitReader;
+use bit_reader::{BitOrder, BitReader};
 pub use context::DecoderContext;
 pub use error::{DecodeError, Result};
 pub use locality::body_is_local;
+pub use row_reader::RowReader;
 pub use settings::{DecodeSettings, EncodingMode};
 
 /// A sink for the rows of an image. [`decode`] calls `push_row` once for each row, from the top.
@@ -97,6 +103,13 @@ fn decode_rows<D: Decoder>(
     requires start { reader.old.place ≡ 0 }
     requires width { ctx.old.held.settings.columns ≤ D.width decoder.old }
     ensures width { D.width decoder.new ≡ D.width decoder.old }
+    ensures work { CountsRun
+        (gathered_of ctx.old.held.settings (words_of_turn ctx.old.held.settings) reader.old.bits)
+        ctx.new.held.taken ctx.old.ticks ctx.new.ticks
+        (most_counted ctx.old.held.settings.encoding (length reader.old.bits)) }
+    ensures rest { OnOk result ((end_of ctx.old.held.settings reader.old.bits).outcome ≡ Ok (here reader.new)) }
+    ensures row_number { OnAnswer result (ctx.new.held.taken
+        ≡ length (end_of ctx.old.held.settings reader.old.bits).rows) }
     ensures rows { DecodesRows reader.old.bits (D.step (D.width decoder.old))
         (record { meaning = D.meaning decoder.old; refused = D.has_refused decoder.old; refuses = D.refuses decoder.old })
         (record { meaning = D.meaning decoder.new; refused = D.has_refused decoder.new; refuses = D.refuses decoder.new })
@@ -124,6 +137,10 @@ fn decode_bits<D: Decoder>(
     ensures width { D.width decoder.new ≡ D.width decoder.old }
     ensures settings { ctx.new.held.settings ≡ ctx.old.held.settings }
     ensures within { IfOk result (λ n. 8 * n ≤ length reader.old.bits) }
+    ensures work { CountsWork ctx.old.held.settings reader.old.bits ctx.new.held.taken ctx.new.ticks }
+    ensures count { IfOk result (λ n. (plain ctx.old.held.settings reader.old.bits).outcome ≡ Ok n) }
+    ensures row_number { OnAnswer result (ctx.new.held.taken
+        ≡ length (plain ctx.old.held.settings reader.old.bits).rows) }
     ensures decodes { Decodes ctx.old.held.settings reader.old.bits (D.step (D.width decoder.old))
         (record { meaning = D.meaning decoder.old; refused = D.has_refused decoder.old; refuses = D.refuses decoder.old })
         (record { meaning = D.meaning decoder.new; refused = D.has_refused decoder.new; refuses = D.refuses decoder.new })
@@ -138,28 +155,28 @@ fn decode_bits<D: Decoder>(
     Ok(reader.byte_pos())
 }
 
-/// Decodes an image: hands its rows to the sink, and answers how many bytes were read, the last one whole. Each byte's
-/// highest bit comes first. The context is reset first, so what it decoded before doesn't matter; after any answer it
-/// may be used again.
+/// Decodes an image: passes its rows to the sink, and returns the number of bytes consumed, the last one whole. Each byte's
+/// highest bit comes first. The context is reset first, so what it decoded before has no effect; it may be used again
+/// after an error too.
 ///
 /// The image ends at EOFB or RTC with `end_of_block` (T.6 section 2.4.1.1, T.4 section 4.1.4), at the row limit, or at
 /// the end of the data, whichever comes first.
 ///
 /// # Errors
 ///
-/// - `UnexpectedEof`, `InvalidCode` and `Overflow` say that the data is at fault. All rows before the fault were handed
-///   over. A lenient reading of Group 3 with EOLs repairs a damaged line instead, and goes on at the next EOL (T.4
+/// - `UnexpectedEof`, `InvalidCode` and `Overflow` say that the data is at fault. All rows before the fault were passed
+///   on. A lenient reading of Group 3 with EOLs repairs a damaged line instead, and goes on at the next EOL (T.4
 ///   section 4.1.2).
-/// - `OutOfMemory` comes only while a change of a row is stored, so in a line that paints a black pixel.
-/// - `Refused` comes only where the sink refuses a row.
+/// - `OutOfMemory` occurs only while a change of a row is stored, so in a line that paints a black pixel.
+/// - `Refused` occurs only if the sink refuses a row.
 ///
-/// After the last two the rows handed over are the first of the image's; [`DecoderContext::decoded_rows`] is their
+/// After the last two the rows passed on are the first of the image's; [`DecoderContext::decoded_rows`] is their
 /// number.
 ///
 /// # Example
 ///
 /// In Group 4 with 8 columns and `end_of_block` the bytes 31 C0 04 00 40 are 001 1000 11 1, which is horizontal mode, 3
-/// white pixels, 2 black ones and a vertical mode, and then EOFB. The sink takes one row, `[3, 5]`, and the answer is
+/// white pixels, 2 black ones and a vertical mode, and then EOFB. The sink takes one row, `[3, 5]`, and the result is
 /// `Ok(5)`:
 ///
 /// ```text
@@ -182,6 +199,10 @@ pub fn decode<D: Decoder>(data: &[u8], decoder: &mut D, ctx: &mut DecoderContext
     ensures width { D.width decoder.new ≡ D.width decoder.old }
     ensures settings { ctx.new.held.settings ≡ ctx.old.held.settings }
     ensures within { IfOk result (λ n. n ≤ length «data».now) }
+    ensures work { CountsWork ctx.old.held.settings (bits_of «data».now) ctx.new.held.taken ctx.new.ticks }
+    ensures count { IfOk result (λ n. (plain ctx.old.held.settings (bits_of «data».now)).outcome ≡ Ok n) }
+    ensures row_number { OnAnswer result (ctx.new.held.taken
+        ≡ length (plain ctx.old.held.settings (bits_of «data».now)).rows) }
 
     // All that it leaves, field by field in `specs/Contract.antt`: over the bits in this order.
     ensures decodes { Decodes ctx.old.held.settings (bits_of «data».now) (D.step (D.width decoder.old))
@@ -192,10 +213,10 @@ pub fn decode<D: Decoder>(data: &[u8], decoder: &mut D, ctx: &mut DecoderContext
     decode_bits(&mut BitReader::new(data), decoder, ctx)
 }
 
-/// Decodes an image as [`decode`] does, but with each byte's lowest bit first: TIFF's FillOrder 2, and what most fax modems
-/// hold. The data need not be reversed before.
+/// Decodes an image as [`decode`] does, but with each byte's lowest bit first: TIFF's FillOrder 2, and the order in which fax
+/// modems send. The data need not be reversed before.
 ///
-/// Rows, answers and errors are those of [`decode`] over these bits. So 8C 03, which is 31 C0 with each byte's bits in
+/// Rows, results and errors are those of [`decode`] over these bits. So 8C 03, which is 31 C0 with each byte's bits in
 /// the other order, is the row `[3, 5]` of 8 columns.
 pub fn decode_low_first<D: Decoder>(
     data: &[u8],
@@ -207,6 +228,10 @@ pub fn decode_low_first<D: Decoder>(
     ensures width { D.width decoder.new ≡ D.width decoder.old }
     ensures settings { ctx.new.held.settings ≡ ctx.old.held.settings }
     ensures within { IfOk result (λ n. n ≤ length «data».now) }
+    ensures work { CountsWork ctx.old.held.settings (low_first_bits_of «data».now) ctx.new.held.taken ctx.new.ticks }
+    ensures count { IfOk result (λ n. (plain ctx.old.held.settings (low_first_bits_of «data».now)).outcome ≡ Ok n) }
+    ensures row_number { OnAnswer result (ctx.new.held.taken
+        ≡ length (plain ctx.old.held.settings (low_first_bits_of «data».now)).rows) }
 
     // All that it leaves, field by field in `specs/Contract.antt`: over the bits in this order.
     ensures decodes { Decodes ctx.old.held.settings (low_first_bits_of «data».now) (D.step (D.width decoder.old))
@@ -215,4 +240,30 @@ pub fn decode_low_first<D: Decoder>(
         ctx.new.held ctx.new.ticks result }
 {
     decode_bits(&mut BitReader::new_low_first(data), decoder, ctx)
+}
+
+/// Decodes an image whose bytes hold their bits in this order: as [`decode`] does for [`BitOrder::HighestFirst`], and as
+/// [`decode_low_first`] for [`BitOrder::LowestFirst`].
+pub fn decode_in<D: Decoder>(
+    order: BitOrder,
+    data: &[u8],
+    decoder: &mut D,
+    ctx: &mut DecoderContext,
+) -> Result<usize>
+    requires fit { BitsFit «data».now }
+    requires width { ctx.old.held.settings.columns ≤ D.width decoder.old }
+    ensures width { D.width decoder.new ≡ D.width decoder.old }
+    ensures settings { ctx.new.held.settings ≡ ctx.old.held.settings }
+    ensures within { IfOk result (λ n. n ≤ length «data».now) }
+
+    // All that it leaves, field by field in `specs/Contract.antt`: over the bits in this order.
+    ensures decodes { Decodes ctx.old.held.settings (bits_in order «data».now) (D.step (D.width decoder.old))
+        (record { meaning = D.meaning decoder.old; refused = D.has_refused decoder.old; refuses = D.refuses decoder.old })
+        (record { meaning = D.meaning decoder.new; refused = D.has_refused decoder.new; refuses = D.refuses decoder.new })
+        ctx.new.held ctx.new.ticks result }
+{
+    match order {
+        BitOrder::HighestFirst => decode(data, decoder, ctx),
+        BitOrder::LowestFirst => decode_low_first(data, decoder, ctx),
+    }
 }

@@ -1,11 +1,13 @@
 //! Whether damage to a line stays in that line.
 
-ghost use Rattle.std.specs.Prelude.{◌≡◌, ◌≢◌, ◌-◌, ◌*◌, ◌≤◌, ◌⊎◌, ◌↔◌, Err, Some, IsTrue, IfOk, IfSome, IsOkUnless, is_some, option_map, false, length, take, drop, replicate};
+ghost use Rattle.std.specs.Prelude.{◌≡◌, ◌≢◌, ◌+◌, ◌-◌, ◌*◌, ◌≤◌, ◌⊎◌, ◌↔◌, Err, Some, IsTrue, IfOk, IfSome, IsOkUnless, is_some, option_map, false, length, take, drop, replicate};
 ghost use Rattle.hayro_ccitt.specs.Answers.{HasBlack, front_of};
 ghost use Rattle.hayro_ccitt.specs.Bits.{BitsFit, bits_of};
 ghost use Rattle.hayro_ccitt.specs.EndOfLine.{after_eol, next_eol};
-ghost use Rattle.hayro_ccitt.specs.Lines.{line_1d};
-ghost use Rattle.hayro_ccitt.specs.Locality.{IsLocal, EndsBefore};
+ghost use Rattle.hayro_ccitt.specs.Lines.{line_1d, found_1d};
+ghost use Rattle.hayro_ccitt.specs.Locality.{IsLocal, IsEolAt, EndsBefore};
+ghost use Rattle.hayro_ccitt.specs.Ticks.{looked};
+ghost use Rattle.hayro_ccitt.specs.Work.{most_for_body};
 
 use crate::bit_reader::BitReader;
 use crate::codes::Ticks;
@@ -26,63 +28,71 @@ fn wants_memory(error: DecodeError) -> bool
     matches!(error, DecodeError::OutOfMemory)
 }
 
-/// Whether an EOL ends at a place, or the data begin there.
-fn is_behind_eol(data: &[u8], place: usize) -> bool
+/// Whether an EOL ends at a place, or the data begin there. Each bit that is looked at is a tick.
+fn is_behind_eol(data: &[u8], place: usize, ticks: &mut Ticks) -> bool
     requires fit { BitsFit «data».now }
     requires within { place ≤ 8 * length «data».now }
-    ensures { IsTrue result ↔ ((place ≡ 0) ⊎ ((12 ≤ place)
+    ensures behind { IsTrue result ↔ ((place ≡ 0) ⊎ ((12 ≤ place)
         × (after_eol 0 (drop (place - 12) (bits_of «data».now)) ≡ Some (drop place (bits_of «data».now))))) }
+    ensures counts { ticks.old ≤ ticks.new }
+    ensures at_most { ticks.new ≤ ticks.old + looked (drop (place - 12) (bits_of «data».now)) }
 {
     if place < 12 {
         return place == 0;
     }
     let before = BitReader::starting_at(data, place - 12);
-    let (zeros, after) = before.zero_run(&mut Ticks::new());
+    let (zeros, after) = before.zero_run(ticks);
     match after {
         Some(_) => zeros == 11,
         None => false,
     }
 }
 
-/// Whether a one stands between two places.
-fn holds_one(data: &[u8], from: usize, to: usize) -> bool
+/// Whether a one stands between two places. Each bit that is looked at is a tick.
+fn holds_one(data: &[u8], from: usize, to: usize, ticks: &mut Ticks) -> bool
     requires fit { BitsFit «data».now }
     requires order { from ≤ to }
     requires within { to ≤ 8 * length «data».now }
-    ensures { IsTrue result
+    ensures one { IsTrue result
         ↔ (take (to - from) (drop from (bits_of «data».now)) ≢ replicate (to - from) false) }
+    ensures work { ticks.new ≡ ticks.old + looked (drop from (bits_of «data».now)) }
 {
-    let (zeros, _) = BitReader::starting_at(data, from).zero_run(&mut Ticks::new());
+    let (zeros, _) = BitReader::starting_at(data, from).zero_run(ticks);
     zeros < to - from
 }
 
-/// The place behind the EOL that stands at a place.
-fn end_of_eol(data: &[u8], place: usize) -> Option<usize>
+/// The place behind the EOL that stands at a place. Each bit that is looked at is a tick.
+fn end_of_eol(data: &[u8], place: usize, ticks: &mut Ticks) -> Option<usize>
     requires fit { BitsFit «data».now }
     requires within { place ≤ 8 * length «data».now }
     ensures end { after_eol 0 (drop place (bits_of «data».now))
         ≡ option_map (λ end. drop end (bits_of «data».now)) result }
     ensures within { IfSome result (λ end. end ≤ 8 * length «data».now) }
+    ensures work { ticks.new ≡ ticks.old + looked (drop place (bits_of «data».now)) }
 {
     let mut reader = BitReader::starting_at(data, place);
-    if reader.read_eols(1, &mut Ticks::new()) == 0 {
+    if reader.read_eols(1, ticks) == 0 {
         return None;
     }
     Some(reader.bit_pos())
 }
 
-/// Whether an EOL stands between two places.
-fn holds_eol(data: &[u8], from: usize, to: usize) -> bool
+/// Whether an EOL stands between two places, the second of which is the start of one. Each bit that is looked at is a
+/// tick.
+fn holds_eol(data: &[u8], from: usize, to: usize, ticks: &mut Ticks) -> bool
     requires fit { BitsFit «data».now }
     requires order { from ≤ to }
     requires within { to ≤ 8 * length «data».now }
-    ensures { result ≡ is_some (next_eol (take (to - from) (drop from (bits_of «data».now)))) }
+    requires eol { IsEolAt (drop to (bits_of «data».now)) }
+    ensures eol { result ≡ is_some (next_eol (take (to - from) (drop from (bits_of «data».now)))) }
+    ensures counts { ticks.old ≤ ticks.new }
+    ensures at_most { ticks.new ≤ ticks.old + 2 * (to - from) + 2 * looked (drop to (bits_of «data».now)) }
 {
     let mut reader = BitReader::starting_at(data, from);
-    if !reader.skip_to_eol(&mut Ticks::new()) {
+    if !reader.skip_to_eol(ticks) {
         return false;
     }
-    match end_of_eol(data, reader.bit_pos()) {
+    match end_of_eol(data, reader.bit_pos(), ticks) {
         Some(end) => end <= to,
         None => false,
     }
@@ -102,6 +112,8 @@ fn line_ends_before(data: &[u8], ctx: &mut DecoderContext, from: usize, end: usi
     ensures only_memory { IsOkUnless result DecodeError.OutOfMemory }
     ensures settings { ctx.new.held.settings ≡ ctx.old.held.settings }
     ensures counts { ctx.old.ticks ≤ ctx.new.ticks }
+    ensures at_most { ctx.new.ticks ≤ ctx.old.ticks
+        + length (found_1d ctx.old.held.settings.strict ctx.old.held.settings.columns (drop from (bits_of «data».now))) + 1 }
 {
     ctx.reset();
     let mut reader = BitReader::starting_at(data, from);
@@ -120,23 +132,35 @@ fn line_ends_before(data: &[u8], ctx: &mut DecoderContext, from: usize, end: usi
 ///
 /// `OutOfMemory` comes only while a change of the line is stored, so where it paints a black pixel. The settings stay;
 /// what else the context holds isn't said, and it may be used again.
+///
+/// The work is in proportion to the bits between the places, the fill of the EOL at `to` and the words of the line: no
+/// other bits are looked at but the twelve before `from`.
 pub fn body_is_local(data: &[u8], ctx: &mut DecoderContext, from: usize, to: usize) -> Result<bool>
     requires fit { BitsFit «data».now }
     ensures local { IfOk result (λ local. IsTrue local ↔ IsLocal ctx.old.held.settings (bits_of «data».now) from to) }
     ensures memory { result ≡ Err DecodeError.OutOfMemory
-        → HasBlack (front_of (line_1d false ctx.old.held.settings.columns (drop from (bits_of «data».now)))) }
+        → HasBlack (front_of (line_1d ctx.old.held.settings.strict ctx.old.held.settings.columns
+        (drop from (bits_of «data».now)))) }
     ensures only_memory { IsOkUnless result DecodeError.OutOfMemory }
     ensures settings { ctx.new.held.settings ≡ ctx.old.held.settings }
     ensures counts { ctx.old.ticks ≤ ctx.new.ticks }
+    ensures at_most { ctx.new.ticks
+        ≤ ctx.old.ticks + most_for_body ctx.old.held.settings (bits_of «data».now) from to }
 {
     if !is_lenient_1d(ctx.settings()) || from > to || to > data.len() * 8 {
         return Ok(false);
     }
-    if !is_behind_eol(data, from) || !holds_one(data, from, to) || holds_eol(data, from, to) {
+    if !is_behind_eol(data, from, ctx.ticks()) {
         return Ok(false);
     }
-    match end_of_eol(data, to) {
-        Some(end) => line_ends_before(data, ctx, from, end),
-        None => Ok(false),
+    if !holds_one(data, from, to, ctx.ticks()) {
+        return Ok(false);
     }
+    let Some(end) = end_of_eol(data, to, ctx.ticks()) else {
+        return Ok(false);
+    };
+    if holds_eol(data, from, to, ctx.ticks()) {
+        return Ok(false);
+    }
+    line_ends_before(data, ctx, from, end)
 }

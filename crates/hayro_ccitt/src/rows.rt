@@ -4,7 +4,7 @@ ghost use Rattle.std.specs.Prelude.{false, ◌≡◌, ◌≢◌, ◌<◌, ◌≤
 ghost use Rattle.hayro_ccitt.specs.Answers.{DrawsLine, OnAnswer};
 ghost use Rattle.hayro_ccitt.specs.Bits.{here};
 ghost use Rattle.hayro_ccitt.specs.Context.{fresh, redrawn};
-ghost use Rattle.hayro_ccitt.specs.Decoding.{DecodesFrom, TakesOneRow, leaving, gap_said, with_row_taken};
+ghost use Rattle.hayro_ccitt.specs.Decoding.{DecodesFrom, TakesOneRow, behind_line, leaving, gap_said, with_row_taken};
 ghost use Rattle.hayro_ccitt.specs.PlainReading.{eols_by, eols_here, is_over, gap_behind_row, row_of_line, line_by, line_here, behind_row, limit_met};
 ghost use Rattle.hayro_ccitt.specs.Lines.{line_found};
 ghost use Rattle.hayro_ccitt.specs.Rows.{changes};
@@ -54,6 +54,7 @@ fn take_row<D: Decoder>(
     ensures flag { OnOk result (D.has_refused decoder.new ≡ D.has_refused decoder.old) }
     ensures kept { OnErr result (D.meaning decoder.new ≡ D.meaning decoder.old) }
     ensures held { OnErr result (ctx.new.held ≡ ctx.old.held) }
+    ensures unchanged { OnErr result ((ctx.new ≡ ctx.old) × (reader.new ≡ reader.old)) }
     ensures refused { OnErr result (D.has_refused decoder.new ≡ true) }
     ensures refused_row { OnErr result (D.refuses decoder.new (changes ctx.old.held.front)) }
     ensures only_refused { IsOkUnless result DecodeError.Refused }
@@ -171,6 +172,7 @@ fn decode_tagged_line(ctx: &mut DecoderContext, reader: &mut BitReader<'_>) -> R
     ensures held { ctx.new.held ≡ redrawn ctx.old.held ctx.new.held.front ctx.new.held.color }
     ensures same_bits { reader.new.bits ≡ reader.old.bits }
     ensures counts { ctx.old.ticks ≤ ctx.new.ticks }
+    ensures no_tag { here reader.old ≡ [] → ctx.new.ticks ≡ ctx.old.ticks }
     ensures at_least { OnAnswer result (ctx.old.ticks + length (line_found EncodingMode.Group3_2D
         ctx.old.held.settings.strict ctx.old.held.settings.columns ctx.old.held.reference (here reader.old))
         ≤ ctx.new.ticks) }
@@ -212,7 +214,7 @@ fn decode_line(ctx: &mut DecoderContext, reader: &mut BitReader<'_>) -> Result<(
 /// Reads a line, repairs it where it is damaged and may be, and hands its row over. The errors are those of the line
 /// that isn't repaired, `OutOfMemory` while a change is stored, and `Refused` where the sink refuses.
 #[inline(always)]
-fn read_row<D: Decoder>(
+pub(crate) fn read_row<D: Decoder>(
     ctx: &mut DecoderContext,
     reader: &mut BitReader<'_>,
     decoder: &mut D,
@@ -228,6 +230,8 @@ fn read_row<D: Decoder>(
         (record { meaning = D.meaning decoder.old; refused = D.has_refused decoder.old; refuses = D.refuses decoder.old })
         (record { meaning = D.meaning decoder.new; refused = D.has_refused decoder.new; refuses = D.refuses decoder.new })
         ctx.old.held ctx.new.held result (here reader.new) }
+    ensures refused_place { result ≡ Err DecodeError.Refused → here reader.new
+        ≡ behind_line (line_here ctx.old.held.settings ctx.old.held.reference (here reader.old)) (here reader.old) }
     ensures same_bits { reader.new.bits ≡ reader.old.bits }
     ensures counts { ctx.old.ticks ≤ ctx.new.ticks }
     ensures at_least { OnOk result (ctx.old.ticks

@@ -1,20 +1,27 @@
 //! Runs whose words are all at hand, drawn with the line's own values. What isn't usual is left to the calls of `context`.
 
-ghost use Rattle.std.specs.Prelude.{vec_len, vec_capacity, ◌≡◌, ◌≢◌, ◌+◌, ◌-◌, ◌%◌, ◌<◌, ◌≤◌, ◌⊎◌, ℕ, IfSome, IfNone, true, false, length, ◌++◌, ◌∷◌, []};
+ghost use Rattle.std.specs.Prelude.{vec_len, vec_capacity, get_or, ◌≡◌, ◌≢◌, ◌+◌, ◌-◌, ◌%◌, ◌<◌, ◌≤◌, ◌⊎◌, ℕ, IfSome, IfNone, true, false, length, ◌++◌, ◌∷◌, []};
 ghost use Rattle.hayro_ccitt.specs.Bits.{here};
 ghost use Rattle.hayro_ccitt.specs.LookUps.{AreEntries};
-ghost use Rattle.hayro_ccitt.specs.Rows.{AreChanges, pixels};
+ghost use Rattle.hayro_ccitt.specs.Rows.{AreChanges, pixels, opposite};
+ghost use Rattle.hayro_ccitt.specs.UsualModes.{IsNear, IsB1};
 ghost use Rattle.hayro_ccitt.specs.Runs.{codes_of};
 ghost use Rattle.hayro_ccitt.specs.UsualRuns.{IsWordHere, IsRunHere, IsReached, GoesOn, pen_at};
 ghost use Rattle.hayro_ccitt.specs.Window.{moved};
 
 use crate::bit_reader::BitsAtHand;
+use crate::changes::change_or_end;
 use crate::codes::{Color, Ticks};
 use crate::tables::LOOKUP_INVALID;
 
 /// The run and the number of bits of the word that stands so many bits on; the run is `LOOKUP_INVALID` where none does.
 #[inline(always)]
-fn word_at_hand(hand: &BitsAtHand<'_>, skip: usize, _color: Color, words: &[u16]) -> (u32, usize)
+pub(crate) fn word_at_hand(
+    hand: &BitsAtHand<'_>,
+    skip: usize,
+    _color: Color,
+    words: &[u16],
+) -> (u32, usize)
     requires within { skip + 13 ≤ hand.now.left }
     requires entries { AreEntries (codes_of _color) words.now }
     ensures word { result.0 ≢ 4095 → IsWordHere _color (moved skip hand.now.at) result.0 result.1 }
@@ -28,14 +35,14 @@ fn word_at_hand(hand: &BitsAtHand<'_>, skip: usize, _color: Color, words: &[u16]
 /// A run of one terminating word, or of one make-up word and one, so many bits on: its pixels, its bits and its words. None
 /// of any other.
 #[inline(always)]
-fn run_at_hand(
+pub(crate) fn run_at_hand(
     hand: &BitsAtHand<'_>,
     skip: usize,
     color: Color,
     words: &[u16],
 ) -> Option<(u32, usize, usize)>
     requires within { skip + 26 ≤ hand.now.left }
-    requires near { skip ≤ 26 }
+    requires near { skip ≤ 29 }
     requires entries { AreEntries (codes_of color) words.now }
     ensures run { IfSome result (λ run. IsRunHere color (moved skip hand.now.at) run.0 run.1 run.2) }
     ensures below { IfSome result (λ run. run.0 ≤ 4158) }
@@ -69,7 +76,7 @@ fn has_two_runs(hand: &mut BitsAtHand<'_>) -> bool
 
 /// Stores a change at the place reached, where there is room for it.
 #[inline(always)]
-fn turn_at(changes: &mut Vec<u32>, place: u32)
+pub(crate) fn turn_at(changes: &mut Vec<u32>, place: u32)
     requires room { vec_len changes.old < vec_capacity changes.old }
     ensures items { changes.new.items ≡ changes.old.items ++ place ∷ [] }
     ensures room { vec_capacity changes.new ≡ vec_capacity changes.old }
@@ -80,7 +87,7 @@ fn turn_at(changes: &mut Vec<u32>, place: u32)
 
 /// Whether a change at the end of a run so long is right of the last one.
 #[inline(always)]
-fn is_next(changes: &Vec<u32>, run: u32) -> bool
+pub(crate) fn is_next(changes: &Vec<u32>, run: u32) -> bool
     ensures { result ≡ true → (0 < run) ⊎ (changes.now.items ≡ []) }
 {
     run > 0 || changes.is_empty()
@@ -88,7 +95,7 @@ fn is_next(changes: &Vec<u32>, run: u32) -> bool
 
 /// Whether there is room for two changes.
 #[inline(always)]
-fn has_room(changes: &Vec<u32>) -> bool
+pub(crate) fn has_room(changes: &Vec<u32>) -> bool
     ensures { result ≡ true → vec_len changes.now + 2 ≤ vec_capacity changes.now }
 {
     changes.capacity() - changes.len() >= 2
@@ -343,4 +350,60 @@ pub(crate) fn lay_down(changes: &mut Vec<u32>, painted: u32)
         return;
     }
     changes.push_reserved(last);
+}
+
+/// The index of b1, going up by twos from an index that is near it. Each change that is looked at is a tick.
+#[inline(always)]
+pub(crate) fn seek_b1(
+    changes: &[u32],
+    painted: u32,
+    columns: u32,
+    start: usize,
+    ticks: &mut Ticks,
+) -> usize
+    requires lawful { AreChanges columns changes.now }
+    requires some { 0 < painted }
+    requires inside { painted < columns }
+    requires near { IsNear columns changes.now painted start }
+    ensures near { IsNear columns changes.now painted result }
+    ensures right { painted < get_or changes.now result columns }
+    ensures forward { start ≤ result }
+    ensures parity { result % 2 ≡ start % 2 }
+    ensures work { ticks.new + ticks.new + start ≡ ticks.old + ticks.old + result + 2 }
+{
+    let mut index = start;
+    ticks.tick();
+    while index < changes.len() && changes[index] <= painted {
+        ticks.tick();
+        index += 2;
+    }
+    index
+}
+
+/// The index of b1 after a mode that turns the colour left of b1, at a place right of a0.
+#[inline(always)]
+pub(crate) fn b1_after_left(
+    changes: &[u32],
+    _painted: u32,
+    columns: u32,
+    _color: Color,
+    index: usize,
+    place: u32,
+) -> usize
+    requires lawful { AreChanges columns changes.now }
+    requires at { IsB1 columns changes.now _painted index _color }
+    requires right { _painted < place }
+    requires left { place < get_or changes.now index columns }
+    ensures at { IsB1 columns changes.now place result (opposite _color) }
+    ensures near { index ≤ result + 1 }
+{
+    if index == 0 {
+        return 1;
+    }
+    let before = index - 1;
+    if change_or_end(changes, before, columns) > place {
+        before
+    } else {
+        before + 2
+    }
 }

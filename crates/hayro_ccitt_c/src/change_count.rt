@@ -5,7 +5,7 @@ ghost use Rattle.hayro_ccitt_c.specs.Packing.{counted};
 
 use hayro_ccitt::Decoder;
 
-/// A row's changes counted with those before, as far as 64 bits hold their number.
+/// Returns the number of changes with those of a row added, at most 2^64 - 1.
 pub(crate) fn counted(count: u64, changes: &[u32]) -> u64
     ensures { result ≡ counted count (length changes.now) }
 {
@@ -21,14 +21,14 @@ pub(crate) struct ChangeCount {
 impl ChangeCount {
     ghost use Rattle.std.specs.Prelude.{◌≡◌};
 
-    /// No row was taken yet.
+    /// Creates a sink without rows.
     pub(crate) fn new() -> ChangeCount
         ensures { result ≡ record { changes = 0 } }
     {
         ChangeCount { changes: 0 }
     }
 
-    /// The number of changes.
+    /// Returns the number of changes.
     pub(crate) fn changes(&self) -> u64
         ensures { result ≡ self.now.changes }
     {

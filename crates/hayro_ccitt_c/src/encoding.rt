@@ -1,4 +1,4 @@
-//! Encoding for callers in C: what they ask for, and what they are told. `c/fax_encode.h` declares it.
+//! Encoding for callers in C: what they ask for, and what is returned. `c/fax_encode.h` declares it.
 
 ghost use Rattle.std.specs.Prelude.{◌≡◌, ◌<◌, ◌↔◌, ◌%◌, ◌==◌, ◌&&◌, nat_lt, IfOk, IfSome};
 ghost use Rattle.hayro_ccitt.specs.Bits.{bits_of};
@@ -9,7 +9,7 @@ ghost use Rattle.hayro_ccitt_c.specs.Encoding.{asked, coded, coding_of};
 use fax_encode::{EncodeError, encode_bitmap_1d, encode_bitmap_g4};
 use std::alloc::Global;
 
-/// What encoding goes by, as C writes it.
+/// The settings of encoding as C writes them.
 #[repr(C)]
 #[derive(Copy, Clone)]
 pub struct EncodeSettings {
@@ -17,17 +17,17 @@ pub struct EncodeSettings {
     pub columns: u32,
     /// 0 for Group 4, 1 for Group 3 in one dimension.
     pub encoding: u32,
-    /// 4 where rows of Group 4 are aligned to whole bytes, else 0.
+    /// 4 if rows of Group 4 are aligned to whole bytes, else 0.
     pub flags: u32,
 }
 
-/// What encoding fills in for C.
+/// The outcome of encoding, for C.
 #[repr(C)]
 #[derive(Copy, Clone)]
 pub struct EncodeOutcome {
-    /// The number of rows of the bitmap, where the status is 0 or 5, else 0.
+    /// The number of rows of the bitmap if the status is 0 or 5, else 0.
     pub rows: u64,
-    /// The number of bytes that they are encoded in, where the status is 0 or 5, else 0.
+    /// The number of encoded bytes if the status is 0 or 5, else 0.
     pub bytes: u64,
 }
 
@@ -47,11 +47,11 @@ pub(crate) enum Coding {
 pub(crate) enum Unencoded {
     /// No encoding was asked for, or the bitmap has none in it.
     NotTaken,
-    /// There was no memory.
+    /// An allocation failed.
     OutOfMemory,
 }
 
-/// The encoding that C asks for, or nothing where it asks for none.
+/// Returns the encoding that C asks for, or `None` if it asks for none.
 fn coding_of(settings: &EncodeSettings) -> Option<Coding>
     ensures { result ≡ coding_of settings.now }
 {
@@ -66,7 +66,7 @@ fn coding_of(settings: &EncodeSettings) -> Option<Coding>
     }
 }
 
-/// The bytes of a bitmap's rows in an encoding.
+/// Encodes a bitmap's rows.
 fn bytes_of(
     alloc: Global,
     columns: u32,
@@ -90,7 +90,7 @@ fn bytes_of(
     }
 }
 
-/// Whether so many bytes are whole rows of a width that isn't 0.
+/// Returns whether this many bytes are whole rows of a width that isn't 0.
 fn is_whole(columns: u32, bytes: usize) -> bool
     ensures { result ≡ (nat_lt 0 columns && bytes % bytes_of_row columns == 0) }
 {
@@ -98,7 +98,7 @@ fn is_whole(columns: u32, bytes: usize) -> bool
     width > 0 && bytes % width == 0
 }
 
-/// The bytes that C asks for.
+/// Returns the bytes that C asks for.
 pub(crate) fn encoded(
     alloc: Global,
     bitmap: &[u8],

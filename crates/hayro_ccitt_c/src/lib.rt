@@ -1,8 +1,8 @@
 //! The decoder and the encoder for callers in C, and in other languages that call C. `c/hayro_ccitt.h` and
 //! `c/fax_encode.h` declare what is exported here.
 //!
-//! Each call decodes strips of bytes from strangers: it never reads or writes outside the memory that it is handed, and
-//! all memory that it asks for is let go when it returns.
+//! A call never reads or writes outside the memory that it is given, whatever the data is, and frees all that it has
+//! allocated before it returns.
 #![tactic(auto)]
 
 ghost use Rattle.std.specs.Prelude.{◌≡◌, ◌≢◌, ◌<◌, ◌≤◌, ◌+◌, ◌*◌, ◌⊎◌, ◌↔◌, None, IfSome, length, get_or, []};
@@ -33,10 +33,10 @@ pub use settings::Settings;
 use settings::{order_of, settings_for};
 use std::alloc::Global;
 
-/// Counts the rows of the data and their changes, and writes nothing down.
+/// Counts the rows of the data and their changes.
 ///
-/// `outcome` holds the number of rows, of their changes, and of the bytes read if the status is 0, else 0. A status of 6 says
-/// that the data is too long or the settings are none; no row is refused.
+/// `outcome` holds the number of rows, of their changes, and of the bytes consumed if the status is 0, else 0. A status of 6
+/// says that the data is too long or the settings are invalid; no row is refused.
 #[unsafe(no_mangle)]
 pub extern "C" fn hayro_ccitt_measure(
     alloc: Global,
@@ -61,10 +61,10 @@ pub extern "C" fn hayro_ccitt_measure(
 }
 
 /// Packs the rows of the data into `bitmap`, one below the other: a row takes (columns + 7) / 8 bytes, the leftmost pixel in
-/// a byte's highest bit, 1 for black, and zeros behind the row up to a whole byte. What lies behind the last row stays.
+/// a byte's highest bit, 1 for black, and zeros after the row up to a whole byte. The bytes after the last row keep their values.
 ///
-/// `outcome` holds the number of rows, of their changes, and of the bytes read if the status is 0, else 0. A status of 5 says
-/// that there is no room for the next row; 6, that the data is too long or the settings are none.
+/// `outcome` holds the number of rows, of their changes, and of the bytes consumed if the status is 0, else 0. A status of 5 says
+/// that there is no room for the next row; 6, that the data is too long or the settings are invalid.
 #[unsafe(no_mangle)]
 pub extern "C" fn hayro_ccitt_decode_packed(
     alloc: Global,
@@ -93,12 +93,11 @@ pub extern "C" fn hayro_ccitt_decode_packed(
     told(&report, rows.changes(), outcome)
 }
 
-/// Lists the changes of the rows of the data in `lists`, one row behind the other: of each row the number of its changes, and
-/// then the places at which its colour changes, white first, ascending. What lies behind the last row stays.
+/// Lists the changes of the rows of the data in `lists`, row after row: of each row the number of its changes, and then the
+/// offsets at which its colour changes, white first, ascending. The numbers after the last row keep their values.
 ///
-/// `outcome` holds the number of rows, of their changes, and of the bytes read if the status is 0, else 0. A status of 5 says
-/// that there is no room for the next row, and comes only where fewer than columns + 1 numbers are left; 6, that the data is
-/// too long or the settings are none.
+/// `outcome` holds the number of rows, of their changes, and of the bytes consumed if the status is 0, else 0. A status of 5 says
+/// that there is no room for the next row; 6, that the data is too long or the settings are invalid.
 #[unsafe(no_mangle)]
 pub extern "C" fn hayro_ccitt_decode_changes(
     alloc: Global,
@@ -129,11 +128,11 @@ pub extern "C" fn hayro_ccitt_decode_changes(
 }
 
 /// Encodes a bitmap into `data`: a row takes (columns + 7) / 8 bytes, the leftmost pixel in a byte's highest bit, 1 for
-/// black, and what stands behind it up to a whole byte is passed over. What lies behind the encoded bytes stays.
+/// black, and bits after the last pixel are ignored. The bytes after the encoded ones keep their values.
 ///
-/// `outcome` holds the number of rows and of the encoded bytes if the status is 0 or 5, else 0. A status of 4 says that there
-/// was no memory; 5, that `data` has no room for so many bytes; 6, that the settings are none, or that the bitmap isn't whole
-/// rows, or has none and Group 3 is asked for. With all but 0 `data` stays as it was.
+/// `outcome` holds the number of rows and of the encoded bytes if the status is 0 or 5, else 0. A status of 4 says that an
+/// allocation failed; 5, that `data` has no room for that many bytes; 6, that the settings are invalid, or that the bitmap isn't
+/// whole rows, or has none and Group 3 is asked for. With all but 0 `data` keeps its values.
 #[unsafe(no_mangle)]
 pub extern "C" fn fax_encode_bitmap(
     alloc: Global,

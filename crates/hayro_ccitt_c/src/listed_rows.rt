@@ -5,12 +5,12 @@ ghost use Rattle.std.specs.Prelude.{◌≡◌, ◌+◌, ◌<◌, ◌≤◌, true
 use crate::change_count::counted;
 use hayro_ccitt::{DecodeError, Decoder};
 
-/// Rows in lent memory, one behind the other: of each row the number of its changes, and then the changes. A row that
+/// Rows in the caller's memory, one after another: of each row the number of its changes, and then the changes. A row that
 /// doesn't fit is refused.
 #[derive(Drop)]
 pub(crate) struct ListedRows<'a> {
     lists: &'a mut [u32],
-    /// How many numbers the rows take so far.
+    /// The numbers that the rows take so far.
     end: usize,
     columns: u32,
     changes: u64,
@@ -22,7 +22,7 @@ pub(crate) struct ListedRows<'a> {
 impl<'a> ListedRows<'a> {
     ghost use Rattle.std.specs.Prelude.{◌≡◌, false};
 
-    /// No row was taken yet.
+    /// Creates a sink without rows.
     pub(crate) fn new(lists: &'a mut [u32], columns: u32) -> ListedRows<'a>
         ensures same_reference { result.lists.ghost_name ≡ lists.entry.ghost_name }
         ensures numbers { result.lists.now ≡ lists.old }
@@ -40,7 +40,7 @@ impl<'a> ListedRows<'a> {
         }
     }
 
-    /// The number of the changes of the rows that were taken.
+    /// Returns the number of the changes of the rows that were taken.
     pub(crate) fn changes(&self) -> u64
         ensures { result ≡ self.now.changes }
     {

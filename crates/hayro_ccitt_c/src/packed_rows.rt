@@ -6,12 +6,12 @@ use crate::change_count::counted;
 use fax_encode::paint_row;
 use hayro_ccitt::{DecodeError, Decoder};
 
-/// Rows as a bitmap in lent memory, one below the other: one bit a pixel, 1 for black, the leftmost pixel in each byte's
+/// Rows as a bitmap in the caller's memory, from the top: one bit a pixel, 1 for black, the leftmost pixel in each byte's
 /// highest bit, and zeros after each row up to a whole byte. A row that doesn't fit is refused.
 #[derive(Drop)]
 pub(crate) struct PackedRows<'a> {
     bitmap: &'a mut [u8],
-    /// How many bytes the rows take so far.
+    /// The bytes that the rows take so far.
     end: usize,
     columns: u32,
     changes: u64,
@@ -23,7 +23,7 @@ pub(crate) struct PackedRows<'a> {
 impl<'a> PackedRows<'a> {
     ghost use Rattle.std.specs.Prelude.{◌≡◌, false};
 
-    /// No row was taken yet.
+    /// Creates a sink without rows.
     pub(crate) fn new(bitmap: &'a mut [u8], columns: u32) -> PackedRows<'a>
         ensures same_reference { result.bitmap.ghost_name ≡ bitmap.entry.ghost_name }
         ensures bytes { result.bitmap.now ≡ bitmap.old }
@@ -41,7 +41,7 @@ impl<'a> PackedRows<'a> {
         }
     }
 
-    /// The number of the changes of the rows that were taken.
+    /// Returns the number of the changes of the rows that were taken.
     pub(crate) fn changes(&self) -> u64
         ensures { result ≡ self.now.changes }
     {

@@ -8,9 +8,7 @@ ghost use Rattle.hayro_ccitt.specs.PlainReading.{plain};
 ghost use Rattle.hayro_ccitt_c.specs.Reports.{IsReport, status_of, bytes_read_of};
 
 use hayro_ccitt::bit_reader::BitOrder;
-use hayro_ccitt::{
-    DecodeError, DecodeSettings, Decoder, DecoderContext, Result, decode, decode_low_first,
-};
+use hayro_ccitt::{DecodeError, DecodeSettings, Decoder, DecoderContext, Result, decode_in};
 use std::alloc::Global;
 
 /// What a call fills in for C.
@@ -112,10 +110,7 @@ pub(crate) fn decoded<D: Decoder>(
             bytes_read: 0,
         };
     };
-    let answer = match order {
-        BitOrder::HighestFirst => decode(data, sink, &mut ctx),
-        BitOrder::LowestFirst => decode_low_first(data, sink, &mut ctx),
-    };
+    let answer = decode_in(order, data, sink, &mut ctx);
     Report {
         status: status_of(&answer),
         rows: ctx.decoded_rows(),

@@ -1,4 +1,4 @@
-//! What C writes of the settings, and which settings that are.
+//! The settings as C writes them, and the settings that they mean.
 
 ghost use Rattle.std.specs.Prelude.{◌≡◌, ◌≤◌, IfSome};
 ghost use Rattle.hayro_ccitt.specs.Bits.{BitsFit};
@@ -8,7 +8,7 @@ ghost use Rattle.hayro_ccitt_c.specs.Settings.{settings_of, encoding_of, order_o
 use hayro_ccitt::bit_reader::BitOrder;
 use hayro_ccitt::{DecodeSettings, EncodingMode, bits_fit};
 
-/// What decoding goes by, as C writes it.
+/// The settings of decoding as C writes them.
 #[repr(C)]
 #[derive(Copy, Clone)]
 pub struct Settings {
@@ -18,8 +18,8 @@ pub struct Settings {
     pub rows: u32,
     /// 0 for Group 4, 1 for Group 3 in one dimension, 2 for Group 3 in two.
     pub encoding: u32,
-    /// A sum: 1 where EOFB or RTC may end the data, 2 where EOLs stand between the lines, 4 where rows are aligned to
-    /// whole bytes, 8 for a strict reading, 16 where each byte's lowest bit comes first.
+    /// A sum: 1 if EOFB or RTC may end the data, 2 if an EOL precedes each line, 4 if rows are aligned to whole bytes, 8 for a
+    /// strict reading, 16 if each byte's lowest bit comes first.
     pub flags: u32,
 }
 
@@ -46,7 +46,7 @@ pub(crate) fn order_of(settings: &Settings) -> BitOrder
     }
 }
 
-/// The settings that C means, or nothing where it means none: an encoding or a flag that isn't known.
+/// Returns the settings that C means, or `None` if they are invalid: an encoding or a flag that isn't known.
 fn settings_of(settings: &Settings) -> Option<DecodeSettings>
     ensures meant { result ≡ settings_of settings.now }
 {
@@ -65,7 +65,7 @@ fn settings_of(settings: &Settings) -> Option<DecodeSettings>
     })
 }
 
-/// The settings that C means for data, or nothing where it means none or the data is too long.
+/// Returns the settings that C means for data, or `None` if they are invalid or the data is too long.
 pub(crate) fn settings_for(data: &[u8], settings: &Settings) -> Option<DecodeSettings>
     ensures meant { BitsFit «data».now → result ≡ settings_of settings.now }
     ensures fit { IfSome result (λ _. BitsFit «data».now) }

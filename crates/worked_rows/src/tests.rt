@@ -12,13 +12,13 @@ mod most_work;
 mod refused_memory;
 
 use hayro_ccitt::DecodeError::{InvalidCode, OutOfMemory, Overflow, Refused, UnexpectedEof};
-use hayro_ccitt::bit_reader::BitReader;
+use hayro_ccitt::bit_reader::{BitOrder, BitReader};
 use hayro_ccitt::codes::{Color, Mode, Ticks};
 use hayro_ccitt::context::{decode_1d_line, decode_2d_line};
 use hayro_ccitt::tables::Tables;
 use hayro_ccitt::{
-    DecodeError, DecodeSettings, Decoder, DecoderContext, EncodingMode, Result, bits_fit, decode,
-    decode_low_first, group4,
+    DecodeError, DecodeSettings, Decoder, DecoderContext, EncodingMode, Result, RowReader,
+    bits_fit, decode, decode_low_first, group4,
 };
 use std::alloc::{AllocError, AllocGlobal, Global};
 use std::process::Abort;
@@ -618,6 +618,61 @@ fn decodes_from_a_reader(rt: HostRuntime) -> std::result::Result<(), Fail> {
     assert_eq!(rt; reader.bit_pos(), 25);
     has_rows(&rt, &sink, &[&[]], &data);
     Ok(())
+}
+
+/// What a reader of rows says of each row, and at the end.
+fn reads_rows(
+    rt: &(impl Abort + AllocGlobal),
+    data: &[u8],
+    settings: DecodeSettings,
+    rows: &[(&[u32], usize)],
+    end: Result<bool>,
+    bytes: usize,
+) {
+    assert!(rt; bits_fit(data));
+    let mut reader = RowReader::new(rt.alloc(), data, BitOrder::HighestFirst, settings).expect(
+        rt, "memory",
+    );
+    for (row, start) in rows {
+        assert_eq!(rt; reader.next_row(), Ok(true));
+        assert_eq!(rt; (reader.row(), reader.line_start()), (*row, *start));
+    }
+    assert_eq!(rt; reader.next_row(), end);
+    assert_eq!(rt; reader.next_row(), end, "it stays at the end");
+    assert_eq!(rt;
+        (reader.rows_read(), reader.bytes_read()),
+        (rows.len() as u64, bytes)
+    );
+}
+
+#[test]
+fn rows_one_at_a_time(rt: HostRuntime) {
+    // An EOL and a white line, an EOL and 3 white pixels, 2 black ones and 3 white ones, an EOL and a white line.
+    let lines = [0x00, 0x19, 0x80, 0x0C, 0x70, 0x00, 0x33];
+    let rows: [(&[u32], usize); 3] = [(&[], 12), (&[3, 5], 29), (&[], 51)];
+    reads_rows(&rt, &lines, group_3_1d(8, 0, "l"), &rows, Ok(false), 7);
+    reads_rows(&rt, &lines, group_3_1d(8, 2, "l"), &rows[..2], Ok(false), 7);
+    // Horizontal mode, 3 white pixels, 2 black ones, V0; then EOFB.
+    let page = [0x31, 0xC0, 0x04, 0x00, 0x40];
+    reads_rows(
+        &rt,
+        &page,
+        group_4(8, 0, "b"),
+        &[(&[3, 5], 0)],
+        Ok(false),
+        5,
+    );
+    // The same row, and then padding that is no mode.
+    let padded = [0x31, 0xC0];
+    reads_rows(
+        &rt,
+        &padded,
+        group_4(8, 0, ""),
+        &[(&[3, 5], 0)],
+        Err(InvalidCode),
+        2,
+    );
+    reads_rows(&rt, &padded, group_4(0, 0, ""), &[], Ok(false), 0);
 }
 
 #[test]

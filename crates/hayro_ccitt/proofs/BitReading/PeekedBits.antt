@@ -53,3 +53,8 @@ pub first_thirteen : (at : BitsAt) (word : ℕ) → ((k : ℕ) → k < 13 → bi
     → thirteen_bits (word / 2251799813685248) ≡ padded 13 (here at)
 unfolding thirteen_bits
 first_thirteen at word h = first_bits at word 13 (omega arith) h
+
+pub first_seven : (at : BitsAt) (word : ℕ) → ((k : ℕ) → k < 7 → bit_of word (63 - k) ≡ get_or at.bits (at.place + k) false)
+    → seven_bits (word / 144115188075855872) ≡ padded 7 (here at)
+unfolding seven_bits
+first_seven at word h = first_bits at word 7 (omega arith) h

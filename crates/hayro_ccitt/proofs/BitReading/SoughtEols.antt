@@ -1,5 +1,5 @@
 -- The next EOL, sought a count of zeros at a time.
-use Rattle.std.proofs.Common.{◌≡◌, ℕ, zero, suc, ◌+◌, ◌<◌, Bool, true, false, [], ◌∷◌, ◌++◌, length, replicate, Some, None, refl, ap, arith}
+use Rattle.std.proofs.Common.{◌≡◌, ℕ, zero, suc, ◌+◌, ◌<◌, Bool, true, false, [], ◌∷◌, ◌++◌, length, drop, get_or, replicate, Some, None, refl, ap, arith}
 use Rattle.std.proofs.lemmas.Bool.{lt-leb}
 use Rattle.hayro_ccitt.specs.Bits.{Bits}
 use Rattle.hayro_ccitt.specs.EndOfLine.{after_eol, next_eol}
@@ -14,6 +14,22 @@ few_zeros seen (suc k) rest lt = few_zeros (suc seen) k rest (omega arith)
 pub next_eol-behind : (k : ℕ) (rest : Bits) → k < 11 → next_eol (replicate k false ++ true ∷ rest) ≡ next_eol rest
 next_eol-behind zero rest lt = refl
 next_eol-behind (suc k) rest lt = rw (few_zeros 0 (suc k) rest (omega arith), next_eol) (next_eol-behind k rest (omega arith))
+
+-- where a one is near no EOL stands
+pub one_near : (seen n : ℕ) (here : Bits) → seen + n < 11 → get_or here n false ≡ true → after_eol seen here ≡ None
+one_near seen n [] lt e = absurd cc
+one_near seen n (true ∷ here) lt e = let below : seen < 11 = omega arith in rw (lt-leb 11 seen below) refl
+one_near seen zero (false ∷ here) lt e = absurd cc
+one_near seen (suc n) (false ∷ here) lt e = one_near (suc seen) n here (omega arith) e
+
+-- the next EOL is behind a one among the next eleven bits
+pub next_eol-behind_near : (n : ℕ) (here : Bits) → n < 11 → get_or here n false ≡ true → next_eol here ≡ next_eol (drop (n + 1) here)
+next_eol-behind_near n [] lt e = absurd cc
+next_eol-behind_near zero (true ∷ here) lt e = refl
+next_eol-behind_near zero (false ∷ here) lt e = absurd cc
+next_eol-behind_near (suc n) (b ∷ here) lt e =
+    let more : suc n + 1 ≡ suc (n + 1) = omega arith in
+    rw (more, one_near 0 (suc n) (b ∷ here) (omega arith) e, next_eol) (next_eol-behind_near n here (omega arith) e)
 
 -- an EOL that stands here is the next
 pub next_eol-here : (here after : Bits) → after_eol 0 here ≡ Some after → next_eol here ≡ Some here

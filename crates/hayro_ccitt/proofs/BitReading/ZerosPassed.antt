@@ -1,14 +1,17 @@
 -- Zeros that are passed by the word.
 use Rattle.std.proofs.Common.{◌≡◌, ◌≢◌, ℕ, zero, suc, ◌+◌, ◌-◌, ◌*◌, ◌/◌, ◌%◌, ◌^◌, ◌<◌, ◌≤◌, true, false, eqb, ◌∷◌, ◌++◌, length, get_or, slice_get, drop, replicate, min, Some, refl, sym, ap, ◌∙◌, append_assoc, arith, inl, inr}
-use lib.Count.{count_leading_zeros}
+use lib.Count.{count_leading_zeros, count_trailing_zeros}
+use Rattle.std.specs.Int.{bit_at, w32}
 use Rattle.std.proofs.lemmas.Bool.{cases_lt, false≢true}
-use Rattle.std.proofs.lemmas.List.{get_or_past, replicate-append-replicate}
-use Rattle.std.proofs.lemmas.Nat.{leading_top, leading_length, leading_le, div-mul-add, pow_pos}
+use Rattle.std.proofs.lemmas.List.{get_or_past, get_or-drop, length-drop, drop-drop, replicate-append-replicate}
+use Rattle.std.proofs.lemmas.Nat.{leading_top, leading_length, leading_le, div-mul-add, pow_pos, shr-shr}
 use Rattle.std.proofs.Math.Nat.{pow-suc, pow-le-pow_right}
-use Rattle.std.proofs.lemmas.Nat.Bits.{bit_at_above}
+use Rattle.std.proofs.lemmas.Nat.Bits.{bit_at_above, bit_at-trailing_zeros}
 use Rattle.std.proofs.lemmas.Option.{slice_get-get_or, slice_get_within}
 use Rattle.hayro_ccitt.specs.Bits.{Bits, BitsAt, here, bit_of}
+use Rattle.hayro_ccitt.specs.EndOfLine.{next_eol}
 use Rattle.hayro_ccitt.proofs.BitReading.BitLists.{drop_some}
+use Rattle.hayro_ccitt.proofs.BitReading.SoughtEols.{next_eol-behind_near}
 
 -- ---- The zeros at the front of a word.
 -- a number with fewer zeros in front than bits isn't zero
@@ -62,7 +65,7 @@ zeros_on first then rest a b e h =
     ∙ ap (λ (x : Bits). x ++ rest) (replicate-append-replicate a b false)
 
 -- a word holds the next 32 bits
-abbrev Holds : ℕ → BitsAt → Type 0
+abbrev pub Holds : ℕ → BitsAt → Type 0
 Holds w at = (k : ℕ) → k < 32 → bit_of w (31 - k) ≡ get_or at.bits (at.place + k) false
 
 -- The zeros at the front of the word are passed, up to the end at most, behind zeros that were passed before.
@@ -136,3 +139,44 @@ near_one w small some = elim (cases_lt (count_leading_zeros 32 w) 11) [
       let none : w / 2 ^ 21 ≡ 0 = omega (arith, room, long.2) in
       absurd (some none)
 ]
+
+-- ---- The last one among the next eleven bits.
+module _ (at : BitsAt) (w : ℕ) (small : w < 2 ^ 32) (held : Holds w at) (some : w / 2097152 ≡ 0 → ⊥) where
+  -- the zeros behind it
+  abbrev zeros_behind : ℕ
+  zeros_behind = count_trailing_zeros 32 (w / 2097152)
+
+  lowest : (zeros_behind < 32) × (bit_at (w / 2097152) zeros_behind ≡ 1)
+  lowest =
+      let there : 0 < w / 2097152 = elim (cases_lt 0 (w / 2097152)) [ inl lt ↦ lt | inr none ↦ absurd (some (omega arith)) ] in
+      let all = bit_at-trailing_zeros w32 (w / 2097152) there (omega arith) in
+      (all.0, all.1)
+
+  pub within_eleven : zeros_behind < 11
+  within_eleven = elim (cases_lt zeros_behind 11) [
+    | inl lt ↦ lt
+    | inr ge ↦ absurd (let none = bit_at_above (w / 2097152) 11 zeros_behind (omega arith) ge in let one = lowest.1 in omega (arith, none, one))
+  ]
+
+  one_there : get_or (here at) (10 - zeros_behind) false ≡ true
+  one_there =
+      let e : 21 + zeros_behind ≡ 31 - (10 - zeros_behind) = omega (arith, within_eleven) in
+      let bit : bit_of w (21 + zeros_behind) ≡ true = sym (ap (λ (m : ℕ). eqb (m % 2) 1) (shr-shr w 21 zeros_behind)) ∙ ap (λ (m : ℕ). eqb m 1) lowest.1 in
+      get_or-drop at.place at.bits (10 - zeros_behind) false ∙ sym (held (10 - zeros_behind) (omega arith)) ∙ ap (bit_of w) (sym e) ∙ bit
+
+  one_within : at.place + (11 - zeros_behind) ≤ length at.bits
+  one_within = elim (cases_lt (10 - zeros_behind) (length (here at))) [
+    | inl lt ↦ omega (arith, lt, within_eleven, length-drop at.place at.bits)
+    | inr past ↦ absurd (false≢true (sym (get_or_past (here at) (10 - zeros_behind) false past) ∙ one_there))
+  ]
+
+  -- what is behind it
+  pub behind_last_one : (next : BitsAt) → next ≡ record at { place = min (at.place + (11 - zeros_behind)) (length at.bits) }
+      → (next_eol (here at) ≡ next_eol (here next)) × (length (here next) + (11 - zeros_behind) ≡ length (here at))
+  behind_last_one next e =
+      let place : min (at.place + (11 - zeros_behind)) (length at.bits) ≡ at.place + (10 - zeros_behind + 1) = omega (arith, one_within, within_eleven) in
+      let rest : here next ≡ drop (10 - zeros_behind + 1) (here at)
+      = ap here e ∙ ap (λ (n : ℕ). drop n at.bits) place ∙ sym (drop-drop (10 - zeros_behind + 1) at.place at.bits) in (
+        next_eol-behind_near (10 - zeros_behind) (here at) (omega arith) one_there ∙ sym (ap next_eol rest),
+        omega (arith, ap length rest, length-drop (10 - zeros_behind + 1) (here at), length-drop at.place at.bits, one_within, within_eleven),
+      )

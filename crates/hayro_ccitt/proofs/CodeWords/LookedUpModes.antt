@@ -3,7 +3,7 @@ use Rattle.std.proofs.Common.{◌≡◌, ℕ, zero, suc, ◌-◌, ◌/◌, ◌^�
 use Rattle.std.proofs.lemmas.Bool.{eq-eqb, false≢true}
 use Rattle.hayro_ccitt.specs.declared.error.DecodeError.TheVariants.{UnexpectedEof, InvalidCode}
 use Rattle.hayro_ccitt.specs.declared.codes.Mode.{Mode}
-use Rattle.hayro_ccitt.specs.Bits.{Bits, low_bits}
+use Rattle.hayro_ccitt.specs.Bits.{Bits, BitsAt, low_bits, here}
 use Rattle.hayro_ccitt.specs.CodeLists.{mode_codes}
 use Rattle.hayro_ccitt.specs.CodeReading.{after, is_prefix, word_at, read_code, Has}
 use Rattle.hayro_ccitt.specs.LookUps.{padded, seven_bits, telling_bits, mode_told}
@@ -14,7 +14,9 @@ use Rattle.hayro_ccitt.proofs.CodeWords.LookedUp.{modes_tell}
 use Rattle.hayro_ccitt.proofs.BitReading.BitLists.{length-low_bits}
 use Rattle.hayro_ccitt.proofs.BitReading.WordRanges.{word_begins_of}
 use Rattle.hayro_ccitt.proofs.BitReading.ZerosInWords.{modes_free}
-use Rattle.std.proofs.lemmas.List.{length-append}
+use Rattle.std.proofs.lemmas.List.{length-append, drop-drop}
+use Rattle.std.specs.Prelude.{IfSome}
+use Rattle.hayro_ccitt.specs.Window.{moved}
 
 -- ---- The word that begins seven bits.
 begins : (width word n : ℕ) → width ≤ 7 → word < 2 ^ width → n < 128 → n / 2 ^ (7 - width) ≡ word → is_prefix (low_bits width word) (seven_bits n) ≡ true
@@ -74,3 +76,14 @@ some_mode_bits here = by (word_at mode_codes (padded 7 here)) refl
         let (w, has, at) = word_at_found mode_codes (padded 7 here) found e in
         omega (arith, telling_is 7 mode_codes modes_tell here found w e at, word_length mode_codes found.0 w refl has)
     by None e = omega (arith, telling_none 7 mode_codes modes_tell here e)
+
+-- what is told of the mode here, where seven bits are
+pub mode_stands : (at : BitsAt) (told : Option Mode × ℕ) → told ≡ mode_told (padded 7 (here at)) → told.1 ≤ length (here at)
+    → IfSome told.0 (λ mode. read_code mode_codes (here at) ≡ Ok (mode, here (moved told.1 at)))
+mode_stands at (None, width) e enough = tt
+mode_stands at (Some mode, width) e enough =
+    let first : ◌≡◌ {A = Option Mode} (Some mode) (mode_told (padded 7 (here at))).0 = ap (λ (t : Option Mode × ℕ). t.0) e in
+    let second : width ≡ telling_bits mode_codes (padded 7 (here at)) = ap (λ (t : Option Mode × ℕ). t.1) e in
+    mode_found (here at) mode first (omega (arith, enough, second))
+    ∙ ap (λ (n : ℕ). Ok (mode, drop n (here at))) (sym second)
+    ∙ ap (λ (bits : Bits). Ok (mode, bits)) (drop-drop width at.place at.bits)

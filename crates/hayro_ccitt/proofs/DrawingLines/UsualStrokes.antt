@@ -31,7 +31,7 @@ goes_on_twice strict columns a b c m n o first second = record {
 }
 
 -- ---- Painting where there is room, or where more is cut off.
-paint_fits : (strict : Bool) (columns : ℕ) (front : Row) (color : Color) (n : ℕ) → (n ≤ columns - length front) ⊎ (strict ≡ false)
+pub paint_fits : (strict : Bool) (columns : ℕ) (front : Row) (color : Color) (n : ℕ) → (n ≤ columns - length front) ⊎ (strict ≡ false)
     → paint strict columns front color n ≡ Ok (front ++ replicate (min n (columns - length front)) (is_black color))
 paint_fits true columns front color n (inl le) = rw (le-ltb (columns - length front) n le) refl
 paint_fits true columns front color n (inr e) = absurd cc
@@ -61,10 +61,10 @@ even_is_white : (row : List ℕ) → length row % 2 ≡ 0 → turned false row �
 even_is_white row even = turned-even false row ∙ rw even refl
 
 -- pixels of the colour behind the changes
-pixels-on : (place more : ℕ) (row : List ℕ) → AreChanges (suc place) row → pixels (place + more) row ≡ pixels place row ++ replicate more (turned false row)
+pub pixels-on : (place more : ℕ) (row : List ℕ) → AreChanges (suc place) row → pixels (place + more) row ≡ pixels place row ++ replicate more (turned false row)
 pixels-on place more row lawful = pixels_from-on 0 false place more row (omega arith) lawful
 
-length-pixels-on : (place : ℕ) (row : List ℕ) → AreChanges (suc place) row → length (pixels place row) ≡ place
+pub length-pixels-on : (place : ℕ) (row : List ℕ) → AreChanges (suc place) row → length (pixels place row) ≡ place
 length-pixels-on place row lawful =
     let one : suc place ≡ place + 1 = omega arith in
     let whole : length (pixels (place + 1) row) ≡ place + 1 = length-pixels (place + 1) row (rw one at lawful) in

@@ -34,7 +34,7 @@ turned zero color = color
 turned (suc n) color = turned n (not color)
 
 -- to turn first is to turn last
-turned-not : (n : ℕ) (color : Bool) → turned n (not color) ≡ not (turned n color)
+pub turned-not : (n : ℕ) (color : Bool) → turned n (not color) ≡ not (turned n color)
 turned-not zero color = refl
 turned-not (suc n) color = turned-not n (not color)
 
@@ -157,7 +157,7 @@ module _ (columns : ℕ) (places : List ℕ) (ascend : AreChanges columns places
   before_is zero (suc j) le split = absurd (omega (arith, split.before 0 (omega arith)))
   before_is (suc p) j le split = pixel_is p j (omega arith) split
 
-  order : (j k : ℕ) → j < k → k < length places → get_or places j 0 < get_or places k 0
+  pub order : (j k : ℕ) → j < k → k < length places → get_or places j 0 < get_or places k 0
   order = ascend_order 0 columns places ascend
 
   below : (j : ℕ) → j < length places → get_or places j 0 < columns
@@ -203,13 +203,13 @@ module _ (columns : ℕ) (places : List ℕ) (ascend : AreChanges columns places
   ]
 
   -- the change of an index, or the row's end, is at most the row's end; left of it, it is in the list
-  end_within : (j : ℕ) → change j ≤ columns
+  pub end_within : (j : ℕ) → change j ≤ columns
   end_within j = elim (cases_lt j (length places)) [
     | inl lt ↦ omega (arith, get_or_default_zero places j columns lt, below j lt)
     | inr ge ↦ omega (arith, get_or_past places j columns ge)
   ]
 
-  in_list_if_below : (j : ℕ) → change j < columns → j < length places
+  pub in_list_if_below : (j : ℕ) → change j < columns → j < length places
   in_list_if_below j lt = elim (cases_lt j (length places)) [
     | inl l ↦ l
     | inr ge ↦ absurd (omega (arith, get_or_past places j columns ge))
@@ -295,7 +295,7 @@ module _ (columns : ℕ) (places : List ℕ) (ascend : AreChanges columns places
       ]
 
   -- b1 is the change of the first index right of a0, or of the one after it where the first turns the other way
-  b1_is : (from first index : ℕ) (color : Color) → IsSplit places from first → turned index false ≡ is_black color
+  pub b1_is : (from first index : ℕ) (color : Color) → IsSplit places from first → turned index false ≡ is_black color
       → (index ≡ first) ⊎ ((index ≡ suc first) × (turned first false ≡ not (is_black color)))
       → b1 row from color ≡ change index
   b1_is from first index color split colored reach = least_unique (length row) (is_b1 from color) _ _ (is_least _ _) (record {
@@ -405,7 +405,7 @@ other_from false true e = refl
 other_from true true e = absurd (false≢true e)
 other_from false false e = absurd (false≢true e)
 
-not_not : (b : Bool) → not (not b) ≡ b
+pub not_not : (b : Bool) → not (not b) ≡ b
 not_not true = refl
 not_not false = refl
 

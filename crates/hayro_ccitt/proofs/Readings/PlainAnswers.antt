@@ -12,7 +12,7 @@ use Rattle.hayro_ccitt.specs.Lines.{Line}
 use Rattle.hayro_ccitt.specs.PlainReading.{Ending, Reading, plain, end_of, lines_of, gathered_of, line_of_turn, bytes_before, whole_reading}
 
 -- some columns are not none
-some_columns : (n : ℕ) → n ≢ 0 → eqb n 0 ≡ false
+pub some_columns : (n : ℕ) → n ≢ 0 → eqb n 0 ≡ false
 some_columns n some = by (eqb n 0) refl
   where
     by : (b : Bool) → eqb n 0 ≡ b → b ≡ false
@@ -31,7 +31,7 @@ Leaves reading lines step before after held answer =
     TakesRows reading.rows reading.outcome reading.has_eols step before after held answer × StopsShort reading.rows lines before after held answer
 
 -- the bits before a place, in whole bytes
-bytes_before-place : (bits : Bits) (place : ℕ) → place ≤ length bits → bytes_before bits (Ok (drop place bits)) ≡ Ok ((place + 7) / 8)
+pub bytes_before-place : (bits : Bits) (place : ℕ) → place ≤ length bits → bytes_before bits (Ok (drop place bits)) ≡ Ok ((place + 7) / 8)
 bytes_before-place bits place within =
     let taken : length bits - length (drop place bits) ≡ place = omega (arith, length-drop place bits, within) in
     ap {B = Result ℕ DecodeError} (λ (n : ℕ). Ok ((n + 7) / 8)) taken

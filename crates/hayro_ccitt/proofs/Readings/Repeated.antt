@@ -86,7 +86,7 @@ module _ {S R T U : Type 0} (step : S → Turn S R) (late : R) (size : S → ℕ
       (repeated_same other other_late other_size other_shrinks (suc (other_size t)) m t (omega arith) other_lt) (follows_for follows n s t lt p)
 
 -- a state that is led to leads on to what its turn leads to
-reaches_on : {S R : Type 0} (step : S → Turn S R) (first last after : S) → Reaches step first last → step last ≡ Turn.next after
+pub reaches_on : {S R : Type 0} (step : S → Turn S R) (first last after : S) → Reaches step first last → step last ≡ Turn.next after
     → Reaches step first after
 reaches_on step first last after (Reaches.stays same) e = Reaches.moves same after after e (Reaches.stays after)
 reaches_on step first last after (Reaches.moves same middle end e reaches) f =

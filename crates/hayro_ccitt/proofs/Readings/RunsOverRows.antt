@@ -36,7 +36,7 @@ drop-suc_cons (y ∷ xs) zero x more e = cc
 drop-suc_cons (y ∷ xs) (suc k) x more e = drop-suc_cons xs k x more e
 
 -- the element behind a list is the one of its length
-get_or-behind : {A : Type 0} (xs : List A) (x : A) (more : List A) (other : A) → get_or ((xs ++ x ∷ []) ++ more) (length xs) other ≡ x
+pub get_or-behind : {A : Type 0} (xs : List A) (x : A) (more : List A) (other : A) → get_or ((xs ++ x ∷ []) ++ more) (length xs) other ≡ x
 get_or-behind [] x more other = refl
 get_or-behind (y ∷ xs) x more other = get_or-behind xs x more other
 

@@ -1,4 +1,4 @@
-use Rattle.std.proofs.Common.{◌≡◌, ◌∙◌, ◌+◌, ◌≤◌, ◌<◌, get_or, length, arith, take, drop, refl, sym, ap, rules, Some, IfSome, ℕ, List, []}
+use Rattle.std.proofs.Common.{◌≡◌, ◌∙◌, ◌+◌, ◌<◌, get_or, length, arith, take, drop, refl, sym, ap, rules, Some, IfSome, ℕ, List, []}
 use Rattle.hayro_ccitt_c.specs.Listing.{Listing}
 use Rattle.hayro_ccitt.specs.PlainReading.{plain}
 use Rattle.hayro_ccitt.specs.Rows.{changes}

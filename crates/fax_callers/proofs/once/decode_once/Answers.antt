@@ -1,17 +1,26 @@
-use Rattle.std.proofs.Common.{◌≡◌, rules, sym, ap, subst, ◌∙◌}
-use Rattle.hayro_ccitt.specs.declared.settings.DecodeSettings.{DecodeSettings}
-use Rattle.hayro_ccitt.specs.Bits.{bits_of}
+use Rattle.std.proofs.Common.{ap}
+use Rattle.std.proofs.lemmas.Result.{err_from_is_err_and}
+use Rattle.hayro_ccitt.specs.Bits.{bits_in}
 use Rattle.hayro_ccitt.specs.Context.{Context}
-use Rattle.hayro_ccitt.specs.Pictures.{IsClosedPicture}
-use Rattle.fax_callers.specs.Readings.{reading_of}
+use Rattle.fax_callers.proofs.OnceTaken.{none_taken, first_taken, closed_rows, limited_rows}
 use Rattle.fax_callers.proofs.once.decode_once.Goals as goal
 
+pub returns-in_err-ctx-clause-front : goal.returns-in_err-ctx-clause-front
+returns-in_err-ctx-clause-front g c =
+    let answer = err_from_is_err_and c.from_residual.result c.from_residual.ensures.1 in
+    rw (answer.1, answer.2, c.in_err-ctx.ensures.only_memory) (none_taken c.args.settings (bits_in c.args.order c.args.«data».now) _ _ _)
+
+pub returns-clause-front : goal.returns-clause-front
+returns-clause-front g c = rw (← ap (λ (ctx : Context). ctx.held.settings) c.in_ok-ctx.ensures.made) (first_taken _ _ _ _ _ _ _ _ c.decode_in.ensures.decodes)
+
 pub returns-clause-closed : goal.returns-clause-closed
-returns-clause-closed g c = rw (← ap (λ (ctx : Context). ctx.held.settings) c.in_ok-ctx.ensures.made) c.decode.ensures.decodes.closed
+returns-clause-closed g c = rw (← ap (λ (ctx : Context). ctx.held.settings) c.in_ok-ctx.ensures.made) c.decode_in.ensures.decodes.closed
 
 pub returns-clause-picture : goal.returns-clause-picture
-returns-clause-picture g c = λ rows count is.
-    let same = ap (λ (ctx : Context). ctx.held.settings) c.in_ok-ctx.ensures.made in
-    let picture = c.decode.ensures.decodes.closed_rows rows count (subst (λ (s : DecodeSettings). IsClosedPicture s rows count (bits_of c.args.«data».now)) (sym same) is) in
-    let shown : (reading_of c.args.settings c.args.«data».now).rows ≡ rows = ap (λ (s : DecodeSettings). (reading_of s c.args.«data».now).rows) (sym same) ∙ picture in
-    search rules
+returns-clause-picture g c = rw (← ap (λ (ctx : Context). ctx.held.settings) c.in_ok-ctx.ensures.made) (closed_rows _ _ _ _ _ _ _ _ c.decode_in.ensures.decodes)
+
+pub returns-clause-limited : goal.returns-clause-limited
+returns-clause-limited g c = rw (← ap (λ (ctx : Context). ctx.held.settings) c.in_ok-ctx.ensures.made) c.decode_in.ensures.decodes.limited
+
+pub returns-clause-limited_picture : goal.returns-clause-limited_picture
+returns-clause-limited_picture g c = rw (← ap (λ (ctx : Context). ctx.held.settings) c.in_ok-ctx.ensures.made) (limited_rows _ _ _ _ _ _ _ _ c.decode_in.ensures.decodes)

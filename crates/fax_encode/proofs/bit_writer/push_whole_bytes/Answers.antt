@@ -6,6 +6,7 @@ use Rattle.fax_encode.proofs.bit_writer.push_whole_bytes.Goals as goal
 pub loop-left-preserved : goal.loop-left-preserved
 loop-left-preserved c = record {
   within = omega arith;
+  whole = omega (arith, c.loop-left.invariant.whole);
   written = ap (λ (xs : List ℕ). bits_of xs ++ low_bits (c.loop-left.left - 8) c.args.bits) c.in_ok-push.ensures.items
       ∙ push_byte c.loop-left.bytes.items c.loop-left.left (c.loop-left.left - 8) c.args.bits _ (omega arith) refl ∙ c.loop-left.invariant.written;
 }

@@ -1,4 +1,4 @@
-use Rattle.std.proofs.Common.{◌≡◌, ◌+◌, ◌-◌, ◌*◌, ◌/◌, ◌%◌, ◌^◌, ◌<◌, ◌≤◌, ◌++◌, nat_eq, List, ℕ, length, take, drop, sym, ap, subst, ◌∙◌, arith, append_assoc, false}
+use Rattle.std.proofs.Common.{◌≡◌, ◌≤◌, Bool, true, false, cond, eqb, ◌+◌, ◌-◌, ◌*◌, ◌/◌, ◌%◌, ◌^◌, ◌<◌, ◌≤◌, ◌++◌, nat_eq, List, ℕ, length, take, drop, sym, ap, subst, ◌∙◌, arith, append_assoc, false}
 use Rattle.std.specs.Prelude.{OnOk}
 use Rattle.std.proofs.lemmas.List.{take_rest, length-drop}
 use Rattle.std.proofs.lemmas.Result.{on_ok_weaker}
@@ -17,8 +17,8 @@ loop-start-init c = record {
   left = ap (λ (l : List ℕ). l ++ changes_from 0 false (take (c.args.columns - 0) (bits_of c.args.bitmap.now))) c.clear.ensures.items ∙ unscanned c.args.columns c.args.bitmap.now;
 }
 
-pub loop-start-preserved-then-plain-gt0 : goal.loop-start-preserved-then-plain-gt0
-loop-start-preserved-then-plain-gt0 c =
+pub loop-start-preserved-then-is_plain : goal.loop-start-preserved-then-is_plain
+loop-start-preserved-then-is_plain c =
     let start : ℕ = c.loop-start.start in
     let n : ℕ = c.args.columns - start in
     let words : ℕ = c.plain_words-plain.result in
@@ -46,9 +46,9 @@ loop-start-preserved c =
     let more : n - 64 ≡ c.args.columns - (start + 64) = omega arith in
     let behind : take (length rest - 8) (drop 8 rest) ≡ drop 8 rest = take_rest rest 8 in
     let some : 64 ≤ n = c.loop-start-test.true in
-    let scanned = word_scanned start n c.loop-start.before c.whole_word-word.result c.turns.result rest some c.loop-start.invariant.room c.whole_word-word.ensures c.turns.ensures in
+    let scanned = word_scanned start n c.loop-start.before c.whole_word-word.result c.turns-ones.result rest some c.loop-start.invariant.room c.whole_word-word.ensures c.turns-ones.ensures in
     let after : List ℕ → List ℕ = λ (l : List ℕ). changes_from (start + 64) (bit_of c.whole_word-word.result 0) (take (c.args.columns - (start + 64)) (bits_of l)) in
-    let found : List ℕ = ones_from start (take 64 (low_bits 64 c.turns.result)) in
+    let found : List ℕ = ones_from start (take 64 (low_bits 64 c.turns-ones.result)) in
     record {
       within = omega arith;
       room = omega (arith, c.loop-start.invariant.room, length-drop 8 rest, ap length behind);
@@ -64,7 +64,7 @@ found c =
     let start : ℕ = c.loop-start.start in
     let n : ℕ = c.args.columns - start in
     let few : n < 64 = omega (arith, c.loop-start-test.false) in
-    let scanned = last_scanned start n c.loop-start.before c.word_of.result c.turns-2.result c.loop-start.rest.now few c.loop-start.invariant.room c.word_of.ensures c.turns-2.ensures in
+    let scanned = last_scanned start n c.loop-start.before c.word_of.result c.turns.result c.loop-start.rest.now few c.loop-start.invariant.room c.word_of.ensures c.turns.ensures in
     let all = ap (λ (l : List ℕ). c.loop-start.list.items ++ l) (sym scanned) ∙ c.loop-start.invariant.left in
     subst (λ (l : List ℕ). OnOk c.push_ones-2.result (c.push_ones-2.new.list.items ≡ l)) all c.push_ones-2.ensures
 
@@ -79,3 +79,11 @@ returns-clause-pixels c =
     let row : Row = take c.args.columns (bits_of c.args.bitmap.now) in
     let shows = pixels_of_row c.args.columns row (length-row c.args.columns c.args.bitmap.now c.requires) in
     on_ok_weaker c.push_ones-2.result (λ same. ap (pixels c.args.columns) same ∙ shows) (found (goal.at.returns-clause-pixels c).After-push_ones-2)
+
+-- a test counts one at most
+one_at_most : (b : Bool) → cond b 1 0 ≤ 1
+one_at_most true = omega arith
+one_at_most false = omega arith
+
+pub loop-start-smaller : goal.loop-start-smaller
+loop-start-smaller c = omega (arith, c.loop-start-test.true, one_at_most (eqb c.turns-ones.result 0))

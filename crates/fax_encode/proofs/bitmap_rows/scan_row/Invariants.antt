@@ -1,4 +1,4 @@
-use Rattle.std.proofs.Common.{◌≡◌, ◌-◌, ◌≤◌, ◌++◌, length, take}
+use Rattle.std.proofs.Common.{◌≡◌, ◌+◌, ◌*◌, cond, ◌-◌, ◌≤◌, ◌++◌, length, take}
 use Rattle.hayro_ccitt.specs.Bits.{bits_of, bit_of}
 use Rattle.hayro_ccitt.specs.Rows.{changes}
 use Rattle.hayro_ccitt.proofs.PixelRows.RowChanges.{changes_from}
@@ -13,4 +13,4 @@ invariant-loop-start l = record {
 }
 
 abbrev pub decreases-loop-start : goal.decreases-loop-start
-decreases-loop-start l = l.columns - l.start
+decreases-loop-start l = 2 * (l.columns - l.start) + cond l.is_plain 1 0

@@ -21,8 +21,8 @@ modes-preserved c =
     c.in_ok-at.ensures.place in
     record {
       within = right.1;
-      passed = AreLeft-right c.args.reference.now c.modes.at.from c.in_ok-at.at.from c.in_ok-at.at.passed (omega (arith, right.0)) c.in_ok-at.ensures.passed;
-      next = AreLeft-right c.args.changes.now c.modes.at.from c.in_ok-at.at.from c.in_ok-at.at.next (omega (arith, right.0)) c.in_ok-at.ensures.next;
+      passed = AreLeft-right c.args.reference.now c.modes.at.from c.in_ok-at.at.from c.in_ok-at.at.passed (omega (arith, right.0)) c.in_ok-at.ensures.passed.left;
+      next = c.in_ok-at.ensures.next;
       written = one_part (all_bits c.put_mode.new.writer) (all_bits c.modes.writer)
           (chosen_from (pixels c.args.columns c.args.reference.now) (pixels c.args.columns c.args.changes.now) (place_of c.modes.at))
           (bits_at (pixels c.args.columns c.args.reference.now) (pixels c.args.columns c.args.changes.now) (place_of c.modes.at))
@@ -34,3 +34,6 @@ modes-preserved c =
 pub returns : goal.returns
 returns c = no_more c.args.columns c.args.reference.now c.args.changes.now c.requires.reference c.requires.changes (place_of c.modes.at) (all_bits c.modes.writer) _
     (omega (arith, c.from.ensures, c.modes-test.false)) c.modes.invariant.written
+
+pub put_mode-requires-clause-next : goal.put_mode-requires-clause-next
+put_mode-requires-clause-next c = c.modes.invariant.next (omega (arith, c.from.ensures, c.modes-test.true))

@@ -1,10 +1,14 @@
-use Rattle.std.proofs.Common.{◌≡◌, length}
+use Rattle.std.proofs.Common.{◌≡◌, ◌≤◌, ◌-◌, length}
 use Rattle.fax_encode.proofs.PaintedRows.{IsPainted}
 use Rattle.fax_encode.proofs.painting.paint_changes.Given as goal
 
-abbrev pub invariant-loop-change : goal.invariant-loop-change
-invariant-loop-change l =
+abbrev pub invariant-runs : goal.invariant-runs
+invariant-runs l =
     record {
-      painted : IsPainted l.columns l.changes l.change-index l.brush l.row;
+      painted : IsPainted l.columns l.changes l.done l.brush l.row;
+      within : l.done ≤ length l.changes;
       room : length l.row ≡ length l.fn.row;
     }
+
+abbrev pub decreases-runs : goal.decreases-runs
+decreases-runs l = length l.changes - l.done

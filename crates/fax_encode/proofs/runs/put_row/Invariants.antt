@@ -1,15 +1,19 @@
-use Rattle.std.proofs.Common.{◌≡◌, ◌≤◌, ◌++◌, drop}
+use Rattle.std.proofs.Common.{◌≡◌, ◌-◌, ◌≤◌, ◌++◌, length, drop}
 use Rattle.hayro_ccitt.specs.declared.codes.Color.TheVariants.{White}
 use Rattle.hayro_ccitt.specs.Rows.{AscendFrom}
 use Rattle.fax_encode.specs.Chosen.{chosen_runs}
 use Rattle.fax_encode.specs.Writing.{all_bits}
 use Rattle.fax_encode.proofs.runs.put_row.Given as goal
 
-abbrev pub invariant-loop-change : goal.invariant-loop-change
-invariant-loop-change l =
+abbrev pub invariant-loop-next : goal.invariant-loop-next
+invariant-loop-next l =
     record {
+      counted : l.next ≤ length l.changes;
       within : l.place ≤ l.columns;
-      ascend : AscendFrom l.place l.columns (drop l.change-index l.changes);
-      written : all_bits l.writer ++ chosen_runs l.columns l.color l.place (drop l.change-index l.changes)
+      ascend : AscendFrom l.place l.columns (drop l.next l.changes);
+      written : all_bits l.writer ++ chosen_runs l.columns White l.place (drop l.next l.changes)
           ≡ all_bits l.fn.writer ++ chosen_runs l.columns White 0 l.changes;
     }
+
+abbrev pub decreases-loop-next : goal.decreases-loop-next
+decreases-loop-next l = length l.changes - l.next

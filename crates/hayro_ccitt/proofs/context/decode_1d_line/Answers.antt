@@ -3,7 +3,7 @@ use Rattle.std.proofs.lemmas.Result.{err_from_is_err_and}
 use Rattle.hayro_ccitt.specs.declared.error.DecodeError.{DecodeError}
 use Rattle.hayro_ccitt.specs.Answers.{IsFault, DrawsLine, Step, pen_of, step_of_run}
 use Rattle.hayro_ccitt.specs.Bits.{Bits, BitsAt, here}
-use Rattle.hayro_ccitt.proofs.DrawingLines.UsualStrokes.{IsDrawn1d, begun_1d, drawn_on, not_longer}
+use Rattle.hayro_ccitt.proofs.DrawingLines.UsualStrokes.{IsDrawn1d, drawn_on, not_longer}
 use Rattle.hayro_ccitt.specs.Context.{Held, redrawn}
 use Rattle.hayro_ccitt.specs.Lines.{Line, Pen, line_1d}
 use Rattle.hayro_ccitt.proofs.DrawingLines.CountedLines.{found_1d_from, found_after, counted_by_run, none_after_fault}

@@ -13,8 +13,15 @@ use Rattle.hayro_ccitt.proofs.DrawingLines.Drawings.{drawn_by, step_2d}
 use Rattle.hayro_ccitt.specs.Repetition.{Turn}
 use Rattle.hayro_ccitt.proofs.Readings.Repeated.{after_turn}
 use Rattle.hayro_ccitt.proofs.DrawingLines.DrawnLines.{open_by, line_by_mode, line_2d_fails, mode_shorter}
+use Rattle.hayro_ccitt.proofs.DrawingLines.UsualModes.{begun_2d}
 use Rattle.hayro_ccitt.proofs.context.decode_2d_line.Goals.{In_err-draw_mode}
 use Rattle.hayro_ccitt.proofs.context.decode_2d_line.Goals as goal
+
+pub modes-init : goal.modes-init
+modes-init c =
+    let usual = c.draw_usual_modes.ensures in
+    let frame = c.begin_line.ensures.frame in
+    begun_2d c.args.ctx.now c.draw_usual_modes.new.self c.args.reader.now c.draw_usual_modes.new.reader (rw frame at usual.drawn) (rw frame at usual.held) usual.same_bits (rw frame at usual.within)
 
 pub modes-smaller : goal.modes-smaller
 modes-smaller c =

@@ -1,15 +1,17 @@
-use Rattle.std.proofs.Common.{◌≤◌, Bool, length, drop, IsTrue, sym, ap, ◌∙◌, arith}
+use Rattle.std.proofs.Common.{◌≡◌, ◌+◌, ◌-◌, ◌*◌, ◌≤◌, refl, Bool, length, drop, IsTrue, sym, ap, ◌∙◌, arith}
 use Rattle.std.specs.Prelude.{◌↔◌, is_some}
 use Rattle.std.proofs.lemmas.Bool.{false≢true}
 use Rattle.std.proofs.lemmas.Result.{IfOk-weaker}
 use Rattle.hayro_ccitt.specs.declared.settings.DecodeSettings.{DecodeSettings}
 use Rattle.hayro_ccitt.specs.Bits.{bits_of}
 use Rattle.hayro_ccitt.specs.Locality.{IsLocal, EndsBefore}
+use Rattle.hayro_ccitt.specs.Ticks.{looked}
 use Rattle.hayro_ccitt.proofs.BitReading.BitLists.{length-bits_of}
 use Rattle.hayro_ccitt.proofs.DamagedLines.BodyTests.{local_by_end, tests_of}
+use Rattle.hayro_ccitt.proofs.DamagedLines.BodyWork.{body_counted}
+use Rattle.hayro_ccitt.proofs.locality.body_is_local.Goals.{After-is_behind_eol, After-holds_one, After-end_of_eol, After-holds_eol}
 use Rattle.hayro_ccitt.proofs.locality.body_is_local.Goals as goal
 use Rattle.hayro_ccitt.proofs.locality.body_is_local.Goals.{then-not-is_lenient_1d-via-then-not-is_lenient_1d, then-not-is_lenient_1d-via-else-not-is_lenient_1d+then-from-to, then-not-is_lenient_1d-via-else-not-is_lenient_1d+else-from-to+then-to-data}
-use Rattle.hayro_ccitt.proofs.locality.body_is_local.Goals.{then-not-is_behind_eol-via-then-not-is_behind_eol, then-not-is_behind_eol-via-else-not-is_behind_eol+then-not-holds_one, then-not-is_behind_eol-via-else-not-is_behind_eol+else-not-holds_one+then-holds_eol}
 
 pub returns-then-not-is_lenient_1d-clause-local : goal.returns-then-not-is_lenient_1d-clause-local
 returns-then-not-is_lenient_1d-clause-local c = (
@@ -28,18 +30,29 @@ returns-then-not-is_lenient_1d-clause-local c = (
 pub returns-then-not-is_behind_eol-clause-local : goal.returns-then-not-is_behind_eol-clause-local
 returns-then-not-is_behind_eol-clause-local c = (
   λ test. absurd (false≢true test),
-  λ local. absurd (
+  λ local.
       let tests = tests_of c.args.ctx.now.held.settings (bits_of c.args.data.now) c.args.from c.args.to local in
-      elim c.then-not-is_behind_eol.branch [
-        | then-not-is_behind_eol-via-then-not-is_behind_eol w ↦ false≢true (sym w.if-not-is_behind_eol.true ∙ c.is_behind_eol.ensures.1 tests.starts)
-        | then-not-is_behind_eol-via-else-not-is_behind_eol+then-not-holds_one w ↦ false≢true (sym w.if-not-holds_one.true ∙ w.holds_one.ensures.1 tests.one)
-        | then-not-is_behind_eol-via-else-not-is_behind_eol+else-not-holds_one+then-holds_eol w ↦
-            false≢true (sym (ap is_some tests.no_eol) ∙ sym w.holds_eol.ensures ∙ w.if-holds_eol.true)
-      ]),
+      absurd (false≢true (sym c.if-not-is_behind_eol.true ∙ c.is_behind_eol.ensures.behind.1 tests.starts)),
 )
 
-pub returns-in-Some-clause-local : goal.returns-in-Some-clause-local
-returns-in-Some-clause-local c =
+pub returns-then-not-holds_one-clause-local : goal.returns-then-not-holds_one-clause-local
+returns-then-not-holds_one-clause-local c = (
+  λ test. absurd (false≢true test),
+  λ local.
+      let tests = tests_of c.args.ctx.now.held.settings (bits_of c.args.data.now) c.args.from c.args.to local in
+      absurd (false≢true (sym c.if-not-holds_one.true ∙ c.holds_one.ensures.one.1 tests.one)),
+)
+
+pub returns-then-holds_eol-clause-local : goal.returns-then-holds_eol-clause-local
+returns-then-holds_eol-clause-local c = (
+  λ test. absurd (false≢true test),
+  λ local.
+      let tests = tests_of c.args.ctx.now.held.settings (bits_of c.args.data.now) c.args.from c.args.to local in
+      absurd (false≢true (sym (ap is_some tests.no_eol) ∙ sym c.holds_eol.ensures.eol ∙ c.if-holds_eol.true)),
+)
+
+pub returns-clause-local : goal.returns-clause-local
+returns-clause-local c =
     let bits = bits_of c.args.data.now in
     let settings = c.args.ctx.now.held.settings in
     let here = c.is_lenient_1d.ensures.0 c.if-not-is_lenient_1d.false in
@@ -52,5 +65,64 @@ returns-in-Some-clause-local c =
     let body : Bool → Type 0 = λ before. IsTrue before ↔ IsLocal settings bits c.args.from c.args.to in
     IfOk-weaker c.line_ends_before.result ends body (λ before is.
     local_by_end settings bits c.args.from c.args.to c.in-Some.end before (encoding, lenient) c.if-from-to.false within
-    (c.is_behind_eol.ensures.0 c.if-not-is_behind_eol.false) (c.holds_one.ensures.0 c.if-not-holds_one.false)
-    (sym c.holds_eol.ensures ∙ c.if-holds_eol.false) eol is) c.line_ends_before.ensures.before
+    (c.is_behind_eol.ensures.behind.0 c.if-not-is_behind_eol.false) (c.holds_one.ensures.one.0 c.if-not-holds_one.false)
+    (sym c.holds_eol.ensures.eol ∙ c.if-holds_eol.false) eol is) c.line_ends_before.ensures.before
+
+pub returns-clause-memory : goal.returns-clause-memory
+returns-clause-memory c =
+    let here = c.is_lenient_1d.ensures.0 c.if-not-is_lenient_1d.false in
+    let lenient = sym (ap (λ (s : DecodeSettings). s.strict) c.settings.ensures.value) ∙ here.1 in
+    rw lenient c.line_ends_before.ensures.memory
+
+-- what the first test counts
+behind : (c : After-is_behind_eol) → c.is_behind_eol.new.ticks ≤ c.args.ctx.now.ticks + looked (drop (c.args.from - 12) (bits_of c.args.data.now))
+behind c = omega (arith, c.is_behind_eol.ensures.at_most, c.ticks.ensures.value)
+
+-- and the second
+one : (c : After-holds_one) → c.holds_one.new.ticks ≡ c.is_behind_eol.new.ticks + looked (drop c.args.from (bits_of c.args.data.now))
+one c = omega (arith, c.holds_one.ensures.work, c.ticks-2.ensures.value)
+
+-- and the third
+end : (c : After-end_of_eol) → c.end_of_eol.new.ticks ≡ c.holds_one.new.ticks + looked (drop c.args.to (bits_of c.args.data.now))
+end c = omega (arith, c.end_of_eol.ensures.work, c.ticks-3.ensures.value)
+
+-- and the last
+eol : (c : After-holds_eol) → c.holds_eol.new.ticks ≤ c.end_of_eol.new.ticks + 2 * (c.args.to - c.args.from) + 2 * looked (drop c.args.to (bits_of c.args.data.now))
+eol c = omega (arith, c.holds_eol.ensures.at_most, c.ticks-4.ensures.value)
+
+pub returns-then-not-is_behind_eol-clause-at_most : goal.returns-then-not-is_behind_eol-clause-at_most
+returns-then-not-is_behind_eol-clause-at_most c =
+    let bits = bits_of c.args.data.now in
+    let at = goal.at.returns-then-not-is_behind_eol-clause-at_most c in
+    body_counted bits c.args.from c.args.to c.if-from-to.false _ c.args.ctx.now.ticks c.is_behind_eol.new.ticks
+    (c.is_behind_eol.new.ticks + looked (drop c.args.from bits)) (c.is_behind_eol.new.ticks + looked (drop c.args.from bits) + looked (drop c.args.to bits))
+    c.is_behind_eol.new.ticks c.is_behind_eol.new.ticks (behind at.After-is_behind_eol) refl refl (omega arith) (omega arith)
+
+pub returns-then-not-holds_one-clause-at_most : goal.returns-then-not-holds_one-clause-at_most
+returns-then-not-holds_one-clause-at_most c =
+    let bits = bits_of c.args.data.now in
+    let at = goal.at.returns-then-not-holds_one-clause-at_most c in
+    body_counted bits c.args.from c.args.to c.if-from-to.false _ c.args.ctx.now.ticks c.is_behind_eol.new.ticks c.holds_one.new.ticks
+    (c.holds_one.new.ticks + looked (drop c.args.to bits)) c.holds_one.new.ticks c.holds_one.new.ticks (behind at.After-is_behind_eol) (one at.After-holds_one) refl
+    (omega arith) (omega arith)
+
+pub returns-in_default-clause-at_most : goal.returns-in_default-clause-at_most
+returns-in_default-clause-at_most c =
+    let at = goal.at.returns-in_default-clause-at_most c in
+    body_counted (bits_of c.args.data.now) c.args.from c.args.to c.if-from-to.false _ c.args.ctx.now.ticks c.is_behind_eol.new.ticks c.holds_one.new.ticks
+    c.end_of_eol.new.ticks c.end_of_eol.new.ticks c.end_of_eol.new.ticks (behind at.After-is_behind_eol) (one at.After-holds_one) (end at.After-end_of_eol)
+    (omega arith) (omega arith)
+
+pub returns-then-holds_eol-clause-at_most : goal.returns-then-holds_eol-clause-at_most
+returns-then-holds_eol-clause-at_most c =
+    let at = goal.at.returns-then-holds_eol-clause-at_most c in
+    body_counted (bits_of c.args.data.now) c.args.from c.args.to c.if-from-to.false _ c.args.ctx.now.ticks c.is_behind_eol.new.ticks c.holds_one.new.ticks
+    c.end_of_eol.new.ticks c.holds_eol.new.ticks c.holds_eol.new.ticks (behind at.After-is_behind_eol) (one at.After-holds_one) (end at.After-end_of_eol)
+    (eol at.After-holds_eol) (omega arith)
+
+pub returns-clause-at_most : goal.returns-clause-at_most
+returns-clause-at_most c =
+    let at = goal.at.returns-clause-at_most c in
+    body_counted (bits_of c.args.data.now) c.args.from c.args.to c.if-from-to.false _ c.args.ctx.now.ticks c.is_behind_eol.new.ticks c.holds_one.new.ticks
+    c.end_of_eol.new.ticks c.holds_eol.new.ticks c.line_ends_before.new.ctx.ticks (behind at.After-is_behind_eol) (one at.After-holds_one) (end at.After-end_of_eol)
+    (eol at.After-holds_eol) c.line_ends_before.ensures.at_most

@@ -6,8 +6,8 @@ use Rattle.hayro_ccitt.proofs.BitReading.BitLists.{length-bits_of}
 use Rattle.hayro_ccitt.proofs.DamagedLines.BodyTests.{one_by_zeros}
 use Rattle.hayro_ccitt.proofs.locality.holds_one.Goals as goal
 
-pub returns : goal.returns
-returns c =
+pub returns-clause-one : goal.returns-clause-one
+returns-clause-one c =
     let bits = bits_of c.args.data.now in
     let fits : c.args.to - c.args.from ≤ length (drop c.args.from bits)
     = omega (arith, length-drop c.args.from bits, length-bits_of c.args.data.now, c.requires.order, c.requires.within) in

@@ -5,8 +5,8 @@ use Rattle.hayro_ccitt.proofs.BitReading.BitLists.{length-bits_of}
 use Rattle.hayro_ccitt.proofs.DamagedLines.BodyTests.{behind_eol}
 use Rattle.hayro_ccitt.proofs.locality.is_behind_eol.Goals as goal
 
-pub returns-in-Some : goal.returns-in-Some
-returns-in-Some c =
+pub returns-in-Some-clause-behind : goal.returns-in-Some-clause-behind
+returns-in-Some-clause-behind c =
     let bits = bits_of c.args.data.now in
     let at = ap (λ (at : BitsAt). here at) c.starting_at-before.ensures in
     let one = rw c.in-Some.is at c.zero_run-zeros.ensures.one in

@@ -1,13 +1,15 @@
-use Rattle.std.proofs.Common.{◌≡◌, ◌≢◌, ℕ, ◌≤◌, false, length, drop, Err, refl, sym, ap, subst, ◌∙◌, arith}
+use Rattle.std.proofs.Common.{◌≡◌, ◌≢◌, ℕ, ◌+◌, ◌≤◌, false, length, drop, Err, refl, sym, ap, subst, ◌∙◌, arith}
 use Rattle.hayro_ccitt.specs.declared.error.DecodeError.TheVariants.{OutOfMemory}
 use Rattle.std.proofs.lemmas.Bool.{false≢true}
-use Rattle.hayro_ccitt.specs.Answers.{DrawsLine}
+use Rattle.hayro_ccitt.specs.Answers.{DrawsLine, words_from_1d}
 use Rattle.hayro_ccitt.specs.Bits.{Bits, BitsAt, bits_of, here}
 use Rattle.hayro_ccitt.specs.Context.{Context}
-use Rattle.hayro_ccitt.specs.Lines.{Line, line_1d}
+use Rattle.hayro_ccitt.specs.Lines.{Line, line_1d, found_1d}
 use Rattle.hayro_ccitt.proofs.BitReading.BitLists.{length-bits_of}
 use Rattle.hayro_ccitt.proofs.DamagedLines.BodyTests.{lenient_line, whole_ends, broken_ends}
 use Rattle.hayro_ccitt.proofs.DrawingLines.DrawnLines.{memory_has_black}
+use Rattle.hayro_ccitt.proofs.DamagedLines.BodyWork.{same_bound}
+use Rattle.hayro_ccitt.proofs.locality.line_ends_before.Goals.{After-decode_1d_line}
 use Rattle.hayro_ccitt.proofs.locality.line_ends_before.Goals as goal
 
 pub overflow_add-result : goal.overflow_add-result
@@ -53,3 +55,23 @@ returns-in-Err-2-clause-before c =
           (subst (λ (l : Line). DrawsLine l (Err c.in-Err.error) front rest) line draws),
       λ ends. refl,
     )
+
+-- what is counted while the line is read
+counted : (c : After-decode_1d_line) → c.decode_1d_line.new.ctx.ticks
+    ≤ c.args.ctx.now.ticks + length (found_1d c.args.ctx.now.held.settings.strict c.args.ctx.now.held.settings.columns (drop c.args.from (bits_of c.args.data.now))) + 1
+counted c =
+    let settings = c.args.ctx.now.held.settings in
+    let rest = drop c.args.from (bits_of c.args.data.now) in
+    let words = ap (λ (ctx : Context). words_from_1d ctx.held (here c.starting_at-reader.result)) c.reset.ensures.frame
+    ∙ ap (λ (at : BitsAt). found_1d settings.strict settings.columns (here at)) c.starting_at-reader.ensures in
+    same_bound c.decode_1d_line.new.ctx.ticks c.args.ctx.now.ticks c.reset.new.self.ticks (found_1d settings.strict settings.columns rest)
+    (words_from_1d c.reset.new.self.held (here c.starting_at-reader.result)) (ap (λ (ctx : Context). ctx.ticks) c.reset.ensures.frame) words c.decode_1d_line.ensures.at_most
+
+pub returns-in-Ok-clause-at_most : goal.returns-in-Ok-clause-at_most
+returns-in-Ok-clause-at_most c = counted (goal.at.returns-in-Ok-clause-at_most c).After-decode_1d_line
+
+pub returns-in-Err-clause-at_most : goal.returns-in-Err-clause-at_most
+returns-in-Err-clause-at_most c = counted (goal.at.returns-in-Err-clause-at_most c).After-decode_1d_line
+
+pub returns-in-Err-2-clause-at_most : goal.returns-in-Err-2-clause-at_most
+returns-in-Err-2-clause-at_most c = counted (goal.at.returns-in-Err-2-clause-at_most c).After-decode_1d_line

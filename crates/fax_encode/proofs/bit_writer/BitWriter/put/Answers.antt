@@ -1,8 +1,19 @@
-use Rattle.std.proofs.Common.{refl}
-use Rattle.fax_encode.proofs.WrittenBits.{written_more}
+use Rattle.std.proofs.Common.{◌-◌, ◌*◌, ◌%◌, ◌^◌, ℕ, length, ap, arith}
+use Rattle.std.specs.Int.RustNames.{bit_or}
+use Rattle.hayro_ccitt.proofs.BitReading.BitLists.{length-low_bits}
+use Rattle.fax_encode.specs.Writing.{Written}
+use Rattle.fax_encode.proofs.WrittenBits.{put_more}
 use Rattle.fax_encode.proofs.bit_writer.BitWriter.put.Goals as goal
 
+pub put_over-requires-clause-full : goal.put_over-requires-clause-full
+put_over-requires-clause-full c = omega (
+  arith,
+  c.if-count-self.true,
+  ap (λ (w : Written). length w.rest) c.self.view_is,
+  length-low_bits (64 - c.self.inside.room) c.self.inside.pending,
+  c.self.invariant.1,
+)
+
 pub returns : goal.returns
-returns c = rw (← c.self.view_is) (written_more c.self.inside.bytes.items c.push_whole_bytes.new.bytes.items c.self.inside.pending c.self.inside.count c.args.count
-    c.args.word _ c.in_ok-self-inside.field-0 c.from-count.result c.from.result c.self.invariant.1 c.requires.count c.requires.word c.from-count.ensures c.from.ensures refl
-    c.in_ok-self-inside.ensures.few c.in_ok-self-inside.ensures.written)
+returns c = rw (← c.self.view_is) (put_more c.self.inside.bytes.items c.self.inside.pending c.self.inside.room c.args.count c.args.word _ c.if-count-self.false c.self.invariant.1
+    c.requires.word (ap (λ (n : ℕ). bit_or (c.self.inside.pending * 2 ^ c.args.count % 2 ^ 64) n) c.from.ensures))

@@ -1,26 +1,17 @@
-use Rattle.std.proofs.Common.{ℕ, ◌+◌, ◌-◌, ◌<◌, ◌^◌, length, sym, ◌∙◌, arith}
-use Rattle.std.proofs.lemmas.List.{length-drop}
-use Rattle.hayro_ccitt.specs.Bits.{BitsAt, here}
-use Rattle.hayro_ccitt.proofs.BitReading.ZeroRuns.{eols_enough, eols_look_on}
+use Rattle.std.proofs.Common.{ℕ, ◌+◌, ap, ◌∙◌}
+use Rattle.hayro_ccitt.specs.Bits.{Bits, here}
+use Rattle.hayro_ccitt.proofs.BitReading.PlainEols.{eol_and_others}
+use Rattle.hayro_ccitt.proofs.DamagedLines.PastEol.{all_eols-none}
 use Rattle.hayro_ccitt.proofs.bit_reader.BitReader.read_eol_if_available.Goals as goal
 
--- as many EOLs as are asked for
-abbrev max : ℕ
-max = 2 ^ 64 - 1
-
--- bits that fit are fewer
-few : (at : BitsAt) → length at.bits + 64 < 2 ^ 64 → length (here at) < max
-few at fit = omega (arith, length-drop at.place at.bits, fit)
+pub returns-then-is_near_one-2-clause-eols : goal.returns-then-is_near_one-2-clause-eols
+returns-then-is_near_one-2-clause-eols c =
+    let rest = here c.pass_plain_eol.new.self in
+    let none = all_eols-none rest (c.is_near_one-2.ensures.near c.if-is_near_one-2.true) in
+    eol_and_others (here c.args.self.now) rest (c.pass_plain_eol.ensures.eol c.if-not-pass_plain_eol.false)
+    ∙ ap (λ (found : ℕ × Bits). (1 + found.0, found.1)) none
 
 pub returns-clause-eols : goal.returns-clause-eols
 returns-clause-eols c =
-    sym (eols_enough max (here c.args.self.now) (omega (arith, few c.args.self.now c.at_end.ensures.fit))) ∙ c.read_eols.ensures.eols
-
-pub returns-clause-ticks : goal.returns-clause-ticks
-returns-clause-ticks c =
-    omega (
-      arith,
-      c.read_eols.ensures.ticks,
-      eols_look_on max (here c.args.self.now) (here c.read_eols.new.self) c.read_eols.result
-          (few c.args.self.now c.at_end.ensures.fit) c.read_eols.ensures.eols,
-    )
+    eol_and_others (here c.args.self.now) (here c.pass_plain_eol.new.self) (c.pass_plain_eol.ensures.eol c.if-not-pass_plain_eol.false)
+    ∙ ap (λ (found : ℕ × Bits). (1 + found.0, found.1)) c.read_all_eols-2.ensures.eols

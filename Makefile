@@ -1,0 +1,108 @@
+# The library for C and the programs, built into build/ and installed.
+#
+#   make                      the library, static and shared, and the programs
+#   make check                the first program of hayro_ccitt.h and a picture, with what was built
+#   make install PREFIX=DIR   headers, libraries, hayro_ccitt.pc, manual pages and programs; DESTDIR is heeded
+#   make uninstall PREFIX=DIR
+#   make clean                removes build/; the proofs' own work in crates/*/out stays
+#
+# `rt`, of the Rattle kit, proves and compiles the crates first. JOBS=1 runs it with one job at a time.
+
+VERSION := $(shell sed -n 's/^\#define HAYRO_CCITT_VERSION_TEXT "\(.*\)"/\1/p' c/hayro_ccitt.h)
+INTERFACE := $(shell echo $(VERSION) | cut -d. -f1,2)
+
+CC ?= cc
+AR ?= ar
+OBJCOPY ?= objcopy
+INSTALL ?= install
+CFLAGS ?= -O2
+WARNINGS = -Wall -Wextra
+JOBS ?=
+RT = rt
+RT_JOBS = $(if $(JOBS),--jobs $(JOBS))
+
+PREFIX ?= /usr/local
+BINDIR ?= $(PREFIX)/bin
+LIBDIR ?= $(PREFIX)/lib
+INCLUDEDIR ?= $(PREFIX)/include
+MANDIR ?= $(PREFIX)/share/man
+
+BUILD = build
+PROVED = crates/hayro_ccitt_c/out/libhayro_ccitt_c.a
+FAXROWS = crates/faxrows/out/faxrows
+HEADERS = c/hayro_ccitt.h c/fax_encode.h c/hayro_ccitt_heap.h
+CALLS = hayro_ccitt_measure hayro_ccitt_decode_packed hayro_ccitt_decode_changes fax_encode_bitmap
+EXAMPLES = strip_to_pbm pbm_to_strip fax2pbm
+
+SHARED = libhayro_ccitt.so.$(VERSION)
+SONAME = libhayro_ccitt.so.$(INTERFACE)
+OBJECTS = $(BUILD)/proved.o $(BUILD)/calls.o $(BUILD)/heap.o
+
+.PHONY: all library programs check install uninstall clean prove-library prove-program
+
+all: library programs
+library: $(BUILD)/libhayro_ccitt.a $(BUILD)/libhayro_ccitt.so $(BUILD)/hayro_ccitt.pc
+programs: prove-program $(BUILD)/faxrows $(EXAMPLES:%=$(BUILD)/%)
+
+# rt knows what has changed; it rebuilds that, and what depends on it.
+prove-library:
+	cd crates/hayro_ccitt_c && $(RT) lib $(RT_JOBS)
+prove-program:
+	cd crates/faxrows && printf '\061\300' | $(RT) run $(RT_JOBS) -- g4 8 1 -
+
+$(PROVED): prove-library ;
+$(FAXROWS): prove-program ;
+
+$(BUILD):
+	mkdir -p $@
+
+$(BUILD)/proved.o: $(PROVED) | $(BUILD)
+	$(AR) p $< hayro_ccitt_c.o > $@.part
+	$(OBJCOPY) $(foreach call,$(CALLS),--redefine-sym $(call)=proved_$(call)) $@.part
+	mv $@.part $@
+$(BUILD)/%.o: c/%.c $(HEADERS) | $(BUILD)
+	$(CC) $(CFLAGS) $(WARNINGS) -fPIC -c -o $@ $<
+$(BUILD)/libhayro_ccitt.a: $(OBJECTS)
+	rm -f $@
+	$(AR) crs $@ $^
+$(BUILD)/libhayro_ccitt.so: $(OBJECTS) c/exports
+	$(CC) $(CFLAGS) $(LDFLAGS) -shared -Wl,-soname,$(SONAME) -Wl,--version-script=c/exports -o $(BUILD)/$(SHARED) $(OBJECTS)
+	ln -sf $(SHARED) $(BUILD)/$(SONAME)
+	ln -sf $(SONAME) $@
+$(BUILD)/hayro_ccitt.pc: c/hayro_ccitt.pc.in c/hayro_ccitt.h Makefile | $(BUILD)
+	sed -e 's|@PREFIX@|$(PREFIX)|' -e 's|@LIBDIR@|$(LIBDIR)|' -e 's|@INCLUDEDIR@|$(INCLUDEDIR)|' -e 's|@VERSION@|$(VERSION)|' $< > $@
+
+$(BUILD)/faxrows: $(FAXROWS) | $(BUILD)
+	cp $< $@
+$(BUILD)/%: examples/%.c $(HEADERS) $(BUILD)/libhayro_ccitt.a
+	$(CC) $(CFLAGS) $(WARNINGS) -std=c99 -Ic $(LDFLAGS) -o $@ $< $(BUILD)/libhayro_ccitt.a
+
+check: all
+	sed -n 's/^ \*   //p' c/hayro_ccitt.h | sed '/^cc first/d' > $(BUILD)/first.c
+	$(CC) $(CFLAGS) $(WARNINGS) -Ic -o $(BUILD)/first $(BUILD)/first.c $(BUILD)/libhayro_ccitt.a
+	test "$$($(BUILD)/first)" = 18
+	$(BUILD)/strip_to_pbm g4 1240 1754 b < corpus/strips/page/gs-g4 | tail -c +14 | cmp - corpus/pictures/page
+	@echo "the first program and a picture: as they should be"
+
+install: $(if $(wildcard $(BUILD)/faxrows),,all)
+	$(INSTALL) -d $(DESTDIR)$(BINDIR) $(DESTDIR)$(LIBDIR)/pkgconfig $(DESTDIR)$(INCLUDEDIR) $(DESTDIR)$(MANDIR)/man1 $(DESTDIR)$(MANDIR)/man3
+	rm -f $(BUILD)/hayro_ccitt.pc
+	$(MAKE) --no-print-directory $(BUILD)/hayro_ccitt.pc
+	$(INSTALL) -m 644 $(HEADERS) $(DESTDIR)$(INCLUDEDIR)
+	$(INSTALL) -m 644 $(BUILD)/libhayro_ccitt.a $(DESTDIR)$(LIBDIR)
+	$(INSTALL) -m 755 $(BUILD)/$(SHARED) $(DESTDIR)$(LIBDIR)
+	ln -sf $(SHARED) $(DESTDIR)$(LIBDIR)/$(SONAME)
+	ln -sf $(SONAME) $(DESTDIR)$(LIBDIR)/libhayro_ccitt.so
+	$(INSTALL) -m 644 $(BUILD)/hayro_ccitt.pc $(DESTDIR)$(LIBDIR)/pkgconfig
+	$(INSTALL) -m 755 $(BUILD)/faxrows $(BUILD)/fax2pbm $(DESTDIR)$(BINDIR)
+	$(INSTALL) -m 644 man/faxrows.1 $(DESTDIR)$(MANDIR)/man1
+	$(INSTALL) -m 644 man/hayro_ccitt.3 $(DESTDIR)$(MANDIR)/man3
+
+uninstall:
+	cd $(DESTDIR)$(INCLUDEDIR) && rm -f $(notdir $(HEADERS))
+	cd $(DESTDIR)$(LIBDIR) && rm -f libhayro_ccitt.a $(SHARED) $(SONAME) libhayro_ccitt.so pkgconfig/hayro_ccitt.pc
+	cd $(DESTDIR)$(BINDIR) && rm -f faxrows fax2pbm
+	cd $(DESTDIR)$(MANDIR) && rm -f man1/faxrows.1 man3/hayro_ccitt.3
+
+clean:
+	rm -rf $(BUILD)

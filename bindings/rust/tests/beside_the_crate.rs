@@ -1,0 +1,177 @@
+//! What a program that depends on the crate `hayro-ccitt` 0.5.0 relies on beside its results: borrowed sinks, panics in a sink, threads,
+//! and what its types can be used for. And the calls that the crate hasn't.
+
+use hayro_ccitt::{
+    DecodeError, DecodeSettings, Decoder, DecoderContext, EncodeError, EncodedAs, EncodingMode,
+    decode, decode_low_first, decode_packed, decode_packed_low_first, encode_bitmap,
+};
+use std::panic::{AssertUnwindSafe, catch_unwind};
+use std::thread;
+
+const TWO_ROWS: [u8; 2] = [0x31, 0xF8];
+
+fn settings(rows: u32) -> DecodeSettings {
+    DecodeSettings {
+        columns: 8,
+        rows,
+        end_of_block: true,
+        end_of_line: false,
+        rows_are_byte_aligned: false,
+        encoding: EncodingMode::Group4,
+        strict: false,
+    }
+}
+
+/// A sink that borrows what it writes to, and what it compares with.
+struct Borrowing<'a> {
+    rows: &'a mut Vec<Vec<u32>>,
+    wanted: &'a [u32],
+}
+
+impl Decoder for Borrowing<'_> {
+    fn push_row(&mut self, changes: &[u32]) {
+        assert_eq!(changes, self.wanted);
+        self.rows.push(changes.to_vec());
+    }
+}
+
+#[test]
+fn sinks_may_borrow() {
+    let (mut rows, wanted) = (Vec::new(), vec![3, 5]);
+    let mut context = DecoderContext::new(settings(2));
+    {
+        let data = TWO_ROWS.to_vec();
+        let mut sink = Borrowing {
+            rows: &mut rows,
+            wanted: &wanted,
+        };
+        assert_eq!(decode(&data, &mut sink, &mut context), Ok(2));
+    }
+    assert_eq!(rows, [[3, 5], [3, 5]]);
+}
+
+/// Panics at its second row.
+struct Panicking(usize);
+
+impl Decoder for Panicking {
+    fn push_row(&mut self, _changes: &[u32]) {
+        self.0 += 1;
+        assert!(self.0 < 2, "the second row");
+    }
+}
+
+#[test]
+fn a_panic_of_a_sink_reaches_the_caller() {
+    let mut context = DecoderContext::new(settings(2));
+    let mut sink = Panicking(0);
+    let caught = catch_unwind(AssertUnwindSafe(|| {
+        decode(&TWO_ROWS, &mut sink, &mut context)
+    }));
+    assert!(caught.is_err());
+    assert_eq!(sink.0, 2);
+    // The context decodes the next data as a new one would.
+    let mut rows = Vec::new();
+    let mut sink = Borrowing {
+        rows: &mut rows,
+        wanted: &[3, 5],
+    };
+    assert_eq!(decode(&TWO_ROWS, &mut sink, &mut context), Ok(2));
+}
+
+#[test]
+fn contexts_go_to_threads() {
+    fn is_thread_safe<
+        T: Send + Sync + Unpin + std::panic::UnwindSafe + std::panic::RefUnwindSafe,
+    >() {
+    }
+    is_thread_safe::<DecoderContext>();
+    is_thread_safe::<DecodeSettings>();
+    is_thread_safe::<DecodeError>();
+    let mut contexts: Vec<DecoderContext> =
+        (0..8).map(|_| DecoderContext::new(settings(2))).collect();
+    thread::scope(|scope| {
+        for context in &mut contexts {
+            scope.spawn(move || {
+                for _ in 0..1000 {
+                    let mut rows = Vec::new();
+                    let mut sink = Borrowing {
+                        rows: &mut rows,
+                        wanted: &[3, 5],
+                    };
+                    assert_eq!(decode(&TWO_ROWS, &mut sink, context), Ok(2));
+                    assert_eq!(rows.len(), 2);
+                }
+            });
+        }
+    });
+}
+
+#[test]
+fn errors_are_values() {
+    fn is_error<T: std::error::Error + Copy + Eq + std::fmt::Debug + 'static>() {}
+    is_error::<DecodeError>();
+    let settings = settings(1);
+    let copied = settings;
+    assert_eq!(format!("{settings:?}"), format!("{copied:?}"));
+    let boxed: Box<dyn std::error::Error + Send + Sync> = DecodeError::InvalidCode.into();
+    assert_eq!(boxed.to_string(), "invalid CCITT code sequence");
+}
+
+#[test]
+fn rows_before_an_error_are_there() {
+    let mut context = DecoderContext::new(settings(0));
+    let image = decode_packed(&[0x80], &mut context);
+    assert_eq!((image.rows, &image.bytes[..]), (1, &[0][..]));
+    assert_eq!(image.result, Err(DecodeError::InvalidCode));
+}
+
+#[test]
+fn packed_rows_in_either_order() {
+    let mut context = DecoderContext::new(settings(2));
+    let turned: Vec<u8> = TWO_ROWS.iter().map(|byte| byte.reverse_bits()).collect();
+    let image = decode_packed(&TWO_ROWS, &mut context);
+    assert_eq!((image.rows, &image.bytes[..]), (2, &[0x18, 0x18][..]));
+    assert_eq!(decode_packed_low_first(&turned, &mut context), image);
+    let mut rows = Vec::new();
+    let mut sink = Borrowing {
+        rows: &mut rows,
+        wanted: &[3, 5],
+    };
+    assert_eq!(decode_low_first(&turned, &mut sink, &mut context), Ok(2));
+}
+
+#[test]
+fn what_is_encoded_decodes_to_it() {
+    let mut context = DecoderContext::new(settings(0));
+    for bitmap in [&[][..], &[0x18], &[0xFF, 0x00, 0xA5]] {
+        let data = encode_bitmap(bitmap, 8, EncodedAs::Group4).unwrap();
+        let image = decode_packed(&data, &mut context);
+        assert_eq!((&image.bytes[..], image.result), (bitmap, Ok(data.len())));
+    }
+    let other = |encoding, rows_are_byte_aligned| {
+        DecoderContext::new(DecodeSettings {
+            encoding,
+            rows_are_byte_aligned,
+            ..settings(0)
+        })
+    };
+    for (encoded_as, mut context) in [
+        (EncodedAs::AlignedGroup4, other(EncodingMode::Group4, true)),
+        (EncodedAs::Group3_1D, other(EncodingMode::Group3_1D, false)),
+    ] {
+        let data = encode_bitmap(&[0xFF, 0x00, 0xA5], 8, encoded_as).unwrap();
+        assert_eq!(decode_packed(&data, &mut context).bytes, [0xFF, 0x00, 0xA5]);
+    }
+    assert_eq!(
+        encode_bitmap(&[0], 0, EncodedAs::Group4),
+        Err(EncodeError::NoColumns)
+    );
+    assert_eq!(
+        encode_bitmap(&[0], 9, EncodedAs::Group4),
+        Err(EncodeError::NotWholeRows)
+    );
+    assert_eq!(
+        encode_bitmap(&[], 8, EncodedAs::Group3_1D),
+        Err(EncodeError::NoRows)
+    );
+}

@@ -1,0 +1,55 @@
+/* The calls of the installed library: those that are proved, for which no pointer may be null, behind a look at each pointer that
+ * may be null where its length is 0. The Makefile renames the proved ones to proved_*, and links them with this file. It compiles
+ * as C89 and as C++. */
+#include "fax_encode.h"
+#include "hayro_ccitt.h"
+
+#ifdef __cplusplus
+extern "C" {
+#endif
+
+uint32_t proved_hayro_ccitt_measure(const uint8_t *, size_t, const hayro_ccitt_settings *, hayro_ccitt_outcome *);
+uint32_t proved_hayro_ccitt_decode_packed(const uint8_t *, size_t, const hayro_ccitt_settings *, uint8_t *, size_t,
+                                          hayro_ccitt_outcome *);
+uint32_t proved_hayro_ccitt_decode_changes(const uint8_t *, size_t, const hayro_ccitt_settings *, uint32_t *, size_t,
+                                           hayro_ccitt_outcome *);
+uint32_t proved_fax_encode_bitmap(const uint8_t *, size_t, const fax_encode_settings *, uint8_t *, size_t, fax_encode_outcome *);
+
+#ifdef __cplusplus
+}
+#endif
+
+/* What a pointer of length 0 points to in place of null. No bytes of it are read or written, and no two pointers of a call that
+ * may be written through are the same. */
+static const uint8_t no_data = 0;
+static uint8_t no_bytes;
+static uint32_t no_numbers;
+
+#define OR_NONE(pointer, length, none) ((length) ? (pointer) : &(none))
+
+uint32_t hayro_ccitt_measure(const uint8_t *data, size_t data_length, const hayro_ccitt_settings *settings,
+                             hayro_ccitt_outcome *outcome)
+{
+    return proved_hayro_ccitt_measure(OR_NONE(data, data_length, no_data), data_length, settings, outcome);
+}
+
+uint32_t hayro_ccitt_decode_packed(const uint8_t *data, size_t data_length, const hayro_ccitt_settings *settings,
+                                   uint8_t *bitmap, size_t bitmap_length, hayro_ccitt_outcome *outcome)
+{
+    return proved_hayro_ccitt_decode_packed(OR_NONE(data, data_length, no_data), data_length, settings,
+                                            OR_NONE(bitmap, bitmap_length, no_bytes), bitmap_length, outcome);
+}
+
+uint32_t hayro_ccitt_decode_changes(const uint8_t *data, size_t data_length, const hayro_ccitt_settings *settings,
+                                    uint32_t *lists, size_t lists_length, hayro_ccitt_outcome *outcome)
+{
+    return proved_hayro_ccitt_decode_changes(OR_NONE(data, data_length, no_data), data_length, settings,
+                                             OR_NONE(lists, lists_length, no_numbers), lists_length, outcome);
+}
+
+uint32_t fax_encode_bitmap(const uint8_t *bitmap, size_t bitmap_length, const fax_encode_settings *settings,
+                           uint8_t *data, size_t data_length, fax_encode_outcome *outcome)
+{
+    return proved_fax_encode_bitmap(OR_NONE(bitmap, bitmap_length, no_data), bitmap_length, settings,
+                                    OR_NONE(data, data_length, no_bytes), data_length, outcome);
+}

@@ -1,0 +1,559 @@
+"""Edits that the prover must refuse, each for its own reason.
+
+    python3 checks/edits.py                    every edit of every crate
+    python3 checks/edits.py --only WORD        the edits whose file names have WORD in them
+    python3 checks/edits.py --crate NAME       the edits of one crate
+    python3 checks/edits.py --lanes N          N checks side by side; without it, one for each processor
+    python3 checks/edits.py --show             also prints what refused each edit
+    python3 checks/edits.py --keep FOLDER      writes what each check printed into this folder
+    python3 checks/edits.py --write            writes into the edits what refused them: see below
+
+An edit is a file in crates/NAME/edits or crates/NAME/must-fail: a line 'file: src/x.rt', then pairs of lines 'old: TEXT' and
+'new: TEXT', and a line 'breaks: FUNCTION: CLAUSE', which says what has to refuse it: a goal of that function that names that
+clause. FUNCTION is its name as a check prints it, without the crate's: group3::check_eob. CLAUSE is the name of an `ensures`;
+`returns` where it has none; and `loop` where what breaks is what the function's loop keeps.
+
+An edit is refused for its reason where that goal stays open: a search for it ended without a proof, values were found at which it
+is false, or a given proof of it finds another value. A search that gave up at its limits, a name that a proof file lost, and a
+function that only calls one that isn't proved, show nothing. Where the check's own searches gave up at the goal, it is tried once
+more by `search rules` alone, which ends. A line 'search: GOAL' in the edit names such a goal, and saves the first try.
+
+Edits of different functions are checked together, each batch over a copy of the crate and over what a check of the crate without
+edits left. A goal of a function isn't searched for while one that it calls isn't proved. So what such a batch doesn't refuse for
+its reason is tried with functions that don't call one another, and then by itself.
+With --write an edit that another clause of its function refuses gets that clause's name, and one at whose goal the check's own
+searches gave up gets its line 'search: GOAL'. Look at what was written: a clause that has nothing to do with what the edit breaks
+says that the edit is a bad one.
+The last line is 'N refused, M not'.
+"""
+import argparse
+import importlib.machinery
+import importlib.util
+import os
+import queue
+import re
+import resource
+import shutil
+import subprocess
+import sys
+import tempfile
+import threading
+import time
+from concurrent.futures import ThreadPoolExecutor
+
+sys.dont_write_bytecode = True
+ROOT = os.path.realpath(os.path.join(os.path.dirname(os.path.abspath(__file__)), ".."))
+FOLDERS = ("must-fail", "edits")
+
+
+def kit():
+    """The kit's command `rt` as a module: it reads edits, and knows how a crate is checked."""
+    path = os.path.realpath(shutil.which("rt"))
+    loader = importlib.machinery.SourceFileLoader("rt", path)
+    made = importlib.util.module_from_spec(importlib.util.spec_from_loader("rt", loader))
+    loader.exec_module(made)
+    return made
+
+
+# The source's items.
+
+ITEM = re.compile(r"^( *)(?:pub(?:\([a-z]+\))? )?(?:extern \"C\" )?(?:const |ghost )*(fn|const|static) (\w+)", re.MULTILINE)
+
+
+class Item:
+    """A function or a constant of a file: where its text stands, and which names stand in it."""
+
+    def __init__(self, path, name, kind, begin, end, text, is_public):
+        self.path, self.name, self.kind, self.begin, self.end, self.is_public = path, name, kind, begin, end, is_public
+        self.words = set(re.findall(r"\b\w+\b", re.sub(r"//.*", "", text)))
+        self.has_contract = bool(re.search(r"^ *ensures\b", text, re.MULTILINE)) or name.endswith("Decoder::push_row")
+        self.has_body = not re.search(r"\{\}\s*$", text)
+
+    @property
+    def last(self):
+        return self.name.rpartition("::")[2]
+
+
+def items_of(path, text):
+    """The functions and constants of a file that `rt fmt` has laid out: each ends at a line with its own indent."""
+    module = path[len("src/") : -len(".rt")].replace("/", "::")
+    above = "" if module in ("lib", "main") else f"{module}::"
+    starts = [(found.start(), found[0]) for found in re.finditer(r"^(?:impl|trait|pub trait|mod)\b.*$", text, re.MULTILINE)]
+    made = []
+    for found in ITEM.finditer(text):
+        indent = found[1]
+        ends = re.compile(rf"^{indent}(?:\}}|.*(?<!=)[;}}]$)", re.MULTILINE).search(text, found.start())
+        if found[2] == "fn":
+            ends = re.compile(rf"^{indent}(?:\}}|[^ \n].*[;}}]$)|^{indent} +.*;\n(?={indent}\S|\n)", re.MULTILINE).search(text, found.start())
+        end = ends.end() if ends else len(text)
+        holder = ""
+        if indent:
+            head = [line for at, line in starts if at < found.start()]
+            holder = f"{holder_of(head[-1])}::" if head else ""
+        is_public = "pub " in found[0] and "pub(" not in found[0]
+        made.append(Item(path, f"{above}{holder}{found[3]}", found[2], found.start(), end, text[found.start() : end], is_public))
+    return made
+
+
+def holder_of(line):
+    """The name of the type of an impl, as a check prints it: of a trait's impl the type, the trait, and the trait's type."""
+    line = re.sub(r"^(pub )?(impl|trait|mod) ?(<[^>]*> )?", "", line.split(" where ")[0].rstrip("{ "))
+    of, _, own = line.rpartition(" for ")
+    name = re.sub(r"<.*", "", own).rpartition("::")[2].strip(" &")
+    trait, _, given = of.partition("<")
+    return name + trait.rpartition("::")[2] + re.sub(r"<.*|\W", "", given.rpartition("::")[2])
+
+
+class Source:
+    """The items of a crate's source, and which of them reach which by calls and constants, as far as names tell."""
+
+    def __init__(self, folder):
+        self.texts, self.items = {}, []
+        for at, _, names in sorted(os.walk(f"{folder}/src")):
+            for name in sorted(names):
+                path = os.path.relpath(f"{at}/{name}", folder)
+                with open(f"{folder}/{path}", encoding="utf-8") as file:
+                    self.texts[path] = file.read()
+                self.items += items_of(path, self.texts[path])
+        by_last = {}
+        for item in self.items:
+            by_last.setdefault(item.last, []).append(item)
+        self.below = {item: {it for word in item.words for it in by_last.get(word, []) if it is not item} for item in self.items}
+        for item in self.items:  # what is reached by way of others
+            seen, left = set(), [item]
+            while left:
+                for it in self.below[left.pop()] - seen:
+                    seen.add(it)
+                    left.append(it)
+            self.below[item] = seen
+
+    def item_at(self, path, place):
+        inside = [item for item in self.items if item.path == path and item.begin <= place < item.end]
+        return max(inside, key=lambda item: item.begin, default=None)
+
+    def public(self):
+        """The functions that another crate can name, and the sinks' `push_row`."""
+        root = self.texts.get("src/lib.rt") or self.texts.get("src/main.rt", "")
+        modules = set(re.findall(r"^pub mod (\w+);", root, re.MULTILINE))
+        for path, names in re.findall(r"^pub use (\w+)::(\{[^}]*\}|\w+);", root, re.MULTILINE):
+            modules |= {f"{path}::{name}" for name in re.findall(r"\w+", names)}
+        for item in self.items:
+            above = item.name.split("::")
+            is_named = len(above) == 1 or above[0] in modules or "::".join(above[:2]) in modules
+            if item.kind == "fn" and (item.is_public and is_named or item.last == "push_row") and "/tests" not in item.path:
+                yield item
+
+    def named(self, name):
+        """The items of this name. A check names a method by the module of its type, and not by that of the impl."""
+        found = [item for item in self.items if item.name == name]
+        parts = name.split("::")
+        return found or [item for item in self.items if len(parts) > 2 and item.name.split("::")[-2:] == parts[-2:]]
+
+
+class Edit:
+    """An edit: what it changes, and what has to refuse it."""
+
+    def __init__(self, crate, file, source):
+        self.crate, self.file, self.name = crate, file, os.path.basename(file)[: -len(".edit")]
+        with open(file, encoding="utf-8") as it:
+            self.text = it.read()
+        found = re.search(r"^breaks: ([\w:]+): (\S+)$", self.text, re.MULTILINE)
+        self.function, self.clause = (found[1], found[2]) if found else ("", "")
+        self.goals = re.findall(r"^search: (\S+)$", self.text, re.MULTILINE)
+        path = re.search(r"^file: (\S+)$", self.text, re.MULTILINE)
+        self.path = path[1] if path else ""
+        olds = re.findall(r"^old: (.*)$", self.text, re.MULTILINE)
+        places = [source.texts.get(self.path, "").find(old) for old in olds]
+        found = [source.item_at(self.path, at + len(old) - len(old.lstrip())) for at, old in zip(places, olds) if at >= 0]
+        self.changed, self.given_up, self.other = [item for item in found if item], [], ""
+        self.touched = {*self.changed, *source.named(self.function)}
+        self.made = set(re.findall(r"\bfn (\w+)", "\n".join(re.findall(r"^new:(.*)$", self.text, re.MULTILINE))))
+        self.reaches = set().union(*[source.below[item] for item in self.touched]) if self.touched else set()
+
+    @property
+    def label(self):
+        return f"{os.path.basename(os.path.dirname(os.path.dirname(self.file)))}/{self.name}"
+
+    def overlaps(self, other):
+        """Whether one changes what the other changes, or a constant that the other reaches, or both make a function of one name."""
+        constants = [{item for item in edit.touched if item.kind != "fn"} for edit in (self, other)]
+        reached = constants[0] & other.reaches or constants[1] & self.reaches
+        return bool(self.touched & other.touched or reached or self.made & other.made) or not self.touched or not other.touched
+
+    def meets(self, other):
+        """Whether they overlap, or one changes a function that the other reaches."""
+        return self.overlaps(other) or bool(self.touched & other.reaches or other.touched & self.reaches)
+
+
+def edits_in(folder, crate, source, only=()):
+    """The edits of a crate; of these words, where there are any, one stands in each edit's file name."""
+    made = []
+    for part in FOLDERS:
+        if os.path.isdir(f"{folder}/{part}"):
+            for name in sorted(os.listdir(f"{folder}/{part}")):
+                if name.endswith(".edit") and (not only or any(word in name for word in only)):
+                    made.append(Edit(crate, f"{folder}/{part}/{name}", source))
+    return made
+
+
+def batches_of(edits, most, meets):
+    """Puts each edit into the first batch that has none that it meets, those that meet most first."""
+    batches = []
+    for edit in sorted(edits, key=lambda it: -sum(meets(it, other) for other in edits)):
+        fitting = [batch for batch in batches if len(batch) < most and not any(meets(edit, other) for other in batch)]
+        if fitting:
+            fitting[0].append(edit)
+        else:
+            batches.append([edit])
+    return batches
+
+
+# What a check says.
+
+LOST = re.compile(r"is not in scope|has no field|has no `|was not admitted|no such|is no name|not checked: ")
+GAVE_UP = re.compile(r"gave up|could not tell|ran out")
+AT = re.compile(r"(?:\./)?proofs/(\S+)/(\w+)\.antt:\d+:\d+: error: (?:(?:in )?`([^`]*)`: )?(.*)")
+DEPENDS = re.compile(r"\d+ declarations? that depends? on `([^`]*)`, which [^,]*, (?:was|were) not checked: (.*)")
+OPEN = re.compile(r"note: (src/\S+?):\d+:\d+: (.*?) \(`([^`]+)`\)(.*)")
+
+
+class Said:
+    """What a check says of one function: whether it is proved, and what stays open, as pairs of a goal's name and why."""
+
+    def __init__(self):
+        self.line, self.open, self.weak = "", [], []
+
+
+def read(output, crate, is_mixed=False):
+    """What a check's output says of each function. Where a batch is mixed, a lemma may be refused for the sake of another's edit."""
+    said, notes, errors, lemmas = {}, [], {}, {}
+    lines = output.split("\n")
+    for number, line in enumerate(lines):
+        wrong = AT.match(line)
+        opened = OPEN.match(line)
+        if wrong:
+            declared, why = wrong[3] or "", wrong[4]
+            is_answer = wrong[2] in ("Answers", "Invariants", "Proof")
+            found = errors.setdefault(wrong[1].replace("/", "::"), []) if is_answer else []
+            depends = DEPENDS.match(why)
+            if depends:
+                goals = re.findall(r"([\w-]+)(?= \(via|,| and|$)", depends[2])
+                found += [(goal, depends[1], None) for goal in goals]
+                if not is_answer:
+                    lemmas |= {goal: lemmas[depends[1]] for goal in goals if depends[1] in lemmas}
+            else:
+                more = " ".join([why, *[it.strip() for it in lines[number + 1 : number + 4] if it.startswith("  ")]])
+                found.append((declared, "", more))
+                if not is_answer:
+                    lemmas[declared] = more
+        elif opened:
+            notes.append((opened[3], f"{opened[2]}{opened[4]}"))
+        elif line.startswith("fn "):
+            name, _, verdict = line[3:].partition(": ")
+            it = said.setdefault(name.removeprefix(f"{crate}::"), Said())
+            it.line = verdict
+            for goal, why in notes:
+                (it.weak if GAVE_UP.search(why) else it.open).append((goal, why))
+            notes = []
+    for function, found in errors.items():
+        it = said.setdefault(function, Said())
+        of = {goal: why for goal, by, why in found if why} | ({} if is_mixed else lemmas)
+        for goal, by, why in found:
+            why = why or of.get(by)
+            if why:
+                (it.weak if LOST.search(why) or GAVE_UP.search(why) else it.open).append((goal, why))
+    return said
+
+
+def names(goal, clause):
+    """Whether a goal is one of this clause. A goal of a function with a single clause, or of a loop, names no clause."""
+    if "-requires" in goal:
+        return False
+    if clause == "loop":
+        return not goal.startswith("returns")
+    return goal.endswith(f"-clause-{clause}") or f"-clause-{clause}-" in goal or ("-clause-" not in goal and goal.startswith("returns"))
+
+
+def clause_of(goal):
+    """The word that an edit's last line has for a goal's clause."""
+    found = re.search(r"-clause-(\w+)", goal)
+    return found[1] if found else "returns" if goal.startswith("returns") else "loop"
+
+
+def gave_up(edit, said):
+    """Whether a search gave up at a goal that names the edit's clause."""
+    it = said.get(edit.function)
+    return bool(it) and any(names(goal, edit.clause) and GAVE_UP.search(why) for goal, why in it.weak)
+
+
+def judged(edit, said, output):
+    """Whether the edit is refused for its reason, and what there is to say."""
+    it = said.get(edit.function)
+    if not said:
+        lines = [line for line in output.split("\n") if "error" in line] or output.split("\n")
+        return False, f"it did not reach the prover: {lines[0][:200]}"
+    if not it:
+        near = sorted(name for name in said if name.endswith(f"::{edit.function.rpartition('::')[2]}"))
+        return False, f"no function {edit.function or '(none)'} was checked{': ' + ', '.join(near) if near else ''}"
+    if it.line.startswith(("proved", "no holes")):
+        return False, f"{edit.function} is proved with this edit"
+    found = [(goal, why) for goal, why in it.open if names(goal, edit.clause)]
+    if found:
+        return True, f"{found[0][0]}: {found[0][1][:150]}"
+    others = [f"open: {goal}" for goal, _ in it.open]
+    clauses = [clause_of(goal) for goal, _ in it.open if "-requires" not in goal]
+    edit.other = max(clauses, key=clauses.count, default="")
+    weak = [f"{goal}: {why[:150]}" for goal, why in it.weak]
+    return False, f"no goal of {edit.function} that names `{edit.clause}` is refused by a value; {'; '.join([*others, *weak]) or it.line[:200]}"
+
+
+class Lane:
+    """One check at a time, over a copy of what the check of the crate without edits kept."""
+
+    def __init__(self, folder, rt, kept):
+        self.folder, self.rt, self.kept, self.stores = folder, rt, kept, {}
+
+    def store(self, crate):
+        """The lane's store of a crate, as it was after the check without edits."""
+        kept, own = f"{self.kept}/{crate.name}", f"{self.folder}/{crate.name}"
+        if crate.name not in self.stores:
+            shutil.copytree(kept, own)
+            self.stores[crate.name] = stamps(own)
+            return own
+        was, now = self.stores[crate.name], stamps(own)
+        for path in now.keys() - was.keys():
+            os.remove(f"{own}/{path}")
+        for path, stamp in was.items():
+            if now.get(path) != stamp:
+                os.makedirs(os.path.dirname(f"{own}/{path}"), exist_ok=True)
+                shutil.copy2(f"{kept}/{path}", f"{own}/{path}")
+        return own
+
+    def apply(self, crate, edits):
+        """Makes a copy of the crate with these edits. Returns those that couldn't be applied, with the reason."""
+        room, bad = f"{self.folder}/room", {}
+        shutil.rmtree(room, ignore_errors=True)
+        for part in self.rt.rtlib.PARTS:
+            if os.path.isdir(f"{crate.folder}/{part}"):
+                shutil.copytree(f"{crate.folder}/{part}", f"{room}/{part}")
+        for edit in edits:
+            texts, why = self.rt.read_edit(edit.file, room)
+            if why:
+                bad[edit] = why
+                continue
+            for path, text in texts.items():
+                with open(f"{room}/{path}", "w", encoding="utf-8") as file:
+                    file.write(text)
+        return bad
+
+    def check(self, crate, edits, store):
+        """Checks the functions that these edits are to break, in the copy and over a store, and returns what the check says."""
+        flags = ["--jobs", "1", *[word for edit in edits for word in ("--only", edit.function)]]
+        words = [self.rt.rtlib.RATTLE, "check", *crate.words(flags, keeps=False), "--incremental", store]
+        how = {"cwd": f"{self.folder}/room", "stdin": subprocess.DEVNULL, "stdout": subprocess.PIPE, "stderr": subprocess.STDOUT}
+        return subprocess.run([*self.rt.rtlib.guarded(), *words], **how, errors="replace", check=False).stdout
+
+    def judge(self, crate, edits, is_mixed, is_alone):
+        """Whether each edit is refused for its reason, with what there is to say; and all that the checks said.
+
+        The functions of a mixed batch may call one another. An edit that is tried alone has no goal answered before its check.
+        """
+        bad = self.apply(crate, edits)
+        for edit in edits if not is_alone else []:
+            answer_named(crate.name, f"{self.folder}/room", edit)
+        found = {edit: (False, f"it cannot be applied: {why}") for edit, why in bad.items()}
+        edits, store = [edit for edit in edits if edit not in bad], self.store(crate)
+        output = self.check(crate, edits, store)
+        said = read(output, crate.name, is_mixed)
+        found |= {edit: judged(edit, said, output) for edit in edits}
+        given_up = [edit for edit in edits if not found[edit][0] and gave_up(edit, said)]
+        if given_up:
+            answer(output, f"{self.folder}/room", {edit.function for edit in given_up})
+            more = self.check(crate, given_up, store)
+            said = read(more, crate.name, is_mixed)
+            found |= {edit: judged(edit, said, more) for edit in given_up}
+            for edit in given_up:
+                edit.given_up = [goal for goal, _ in said[edit.function].open if names(goal, edit.clause)] if edit.function in said else []
+            output += more
+        return found, output
+
+
+USE = re.compile(r"^use [^\n]*(?:\n[ }][^\n]*)*", re.MULTILINE)
+
+
+def answer(output, room, functions):
+    """Answers each goal of these functions at which the check's own searches gave up by `search rules`, which ends.
+
+    The check prints the lines to write, with a hole for each goal.
+    """
+    for found in re.finditer(r"^help: .*?proofs/(\S+)/Answers\.antt\b.*\n((?:    .*\n|\n)*)", output, re.MULTILINE):
+        if found[1].replace("/", "::") in functions:
+            lines = [line[4:] for line in found[2].split("\n")]
+            goals = [re.sub(r"= \?$", "= search rules", line) for line in lines if not line.startswith("use ")]
+            write_answers(room, found[1], [line for line in lines if line.startswith("use ")], goals)
+
+
+def answer_named(crate, room, edit):
+    """Answers the goals that the edit names by `search rules`."""
+    if edit.goals:
+        uses = ["use Rattle.std.proofs.Common.{rules}", f"use Rattle.{crate}.proofs.{edit.function.replace('::', '.')}.Goals as goal"]
+        lines = [f"pub {goal} : goal.{goal}\n{goal} c = search rules\n" for goal in edit.goals]
+        write_answers(room, edit.function.replace("::", "/"), uses, lines)
+
+
+def write_answers(room, folder, uses, goals):
+    """Adds answers to a function's file; what the file imports already isn't imported again."""
+    path, text = f"{room}/proofs/{folder}/Answers.antt", ""
+    if os.path.exists(path):
+        with open(path, encoding="utf-8") as file:
+            text = file.read()
+    has = {name for item in USE.findall(text) for name in re.findall(r"[^\s{},]+", item[item.find("{") :])}
+    kept = []
+    for line in uses:
+        several = re.fullmatch(r"use (\S+)\.\{(.*)\}", line)
+        if several:
+            names = [name for name in several[2].split(", ") if name not in has]
+            kept += [f"use {several[1]}.{{{', '.join(names)}}}"] if names else []
+        elif line not in text:
+            kept.append(line)
+    os.makedirs(os.path.dirname(path), exist_ok=True)
+    with open(path, "w", encoding="utf-8") as file:
+        file.write("\n".join([*kept, text, *goals, ""]))
+
+
+def stamps(folder):
+    """The time and size of each file."""
+    found = {}
+    for at, _, names in os.walk(folder):
+        for name in names:
+            it = os.stat(f"{at}/{name}")
+            found[os.path.relpath(f"{at}/{name}", folder)] = it.st_mtime_ns, it.st_size
+    return found
+
+
+def prepare(crates, chosen, kept):
+    """Checks the crates without edits, lowest first, and keeps what each check left. Their libraries are built by the way.
+
+    Returns the names of each crate's functions.
+    """
+    functions = {}
+    for crate in crates:
+        if crate.name in chosen:
+            began = time.time()
+            how = {"cwd": crate.folder, "stdout": subprocess.PIPE, "stderr": subprocess.STDOUT, "errors": "replace"}
+            ran = subprocess.run(["rt", "check"], check=False, **how)
+            if ran.returncode:
+                print(ran.stdout[-3000:])
+                sys.exit(f"{crate.name} isn't proved without edits")
+            functions[crate.name] = set(re.findall(rf"^fn {crate.name}::(\S+): ", ran.stdout, re.MULTILINE))
+            shutil.copytree(f"{crate.folder}/out/incremental", f"{kept}/{crate.name}")
+            print(f"{crate.name} without edits: {time.time() - began:.0f} s", flush=True)
+    return functions
+
+
+def main():
+    words = argparse.ArgumentParser(description=__doc__, formatter_class=argparse.RawDescriptionHelpFormatter)
+    words.add_argument("--only", action="append", help="a word of the names of the edits to run; may be given several times")
+    words.add_argument("--crate", default="", help="the crate whose edits to run")
+    words.add_argument("--lanes", type=int, default=len(os.sched_getaffinity(0)), help="how many checks run side by side")
+    words.add_argument("--most", type=int, default=24, help="how many edits a batch may have")
+    words.add_argument("--show", action="store_true", help="print what refused each edit")
+    words.add_argument("--keep", default="", help="a folder for what each check printed")
+    words.add_argument("--write", action="store_true", help="write into the edits what refused them")
+    words.add_argument("--ready", default="", help="a file to make once the crates are checked without edits")
+    words = words.parse_args()
+    began = time.time()
+    rt = kit()
+    rt.rtlib.guarded()
+    crates = sorted(rt.rtlib.crates_below(ROOT), key=lambda it: len(it.below()))
+    edits = [
+        edit
+        for crate in crates
+        if words.crate in ("", crate.name)
+        for edit in edits_in(crate.folder, crate, Source(crate.folder), words.only)
+    ]
+    if not edits:
+        sys.exit("no edit has such a name")
+    with tempfile.TemporaryDirectory(prefix="edits-") as room, ThreadPoolExecutor(words.lanes) as pool:
+        os.mkdir(f"{room}/kept")
+        functions = prepare(crates, {edit.crate.name for edit in edits}, f"{room}/kept")
+        if words.ready:
+            with open(words.ready, "w", encoding="utf-8"):
+                pass
+        lanes, printing, results, alone, number_of_batches = queue.SimpleQueue(), threading.Lock(), {}, set(), 0
+        for number in range(words.lanes):
+            lanes.put(Lane(f"{room}/{number}", rt, f"{room}/kept"))
+            os.mkdir(f"{room}/{number}")
+
+        def work(batch, is_mixed, is_alone):
+            crate = batch[0].crate
+            lane = lanes.get()
+            try:
+                start = time.time()
+                found, output = lane.judge(crate, batch, is_mixed, is_alone)
+                keep(words.keep, crate, batch, output)
+                with printing:
+                    print(f"{crate.name}: {len(batch)} edits in {time.time() - start:.0f} s", flush=True)
+                return found
+            finally:
+                lanes.put(lane)
+
+        for edit in edits:
+            if not edit.function:
+                guess = edit.changed[0].name if edit.changed else "FUNCTION"
+                results[edit] = False, f"it doesn't say what it breaks: add a line 'breaks: {guess}: CLAUSE'"
+            elif edit.function not in functions[edit.crate.name]:
+                last = edit.function.rpartition("::")[2]
+                near = sorted(name for name in functions[edit.crate.name] if name.rpartition("::")[2] == last)
+                results[edit] = False, f"a check names no function {edit.function}: is it {' or '.join(near) or 'another'}?"
+        told = {*results}
+        # First as many functions at once as there are, also where one calls another, which decides some; then those that don't
+        # call one another; then each by itself.
+        for meets, most in ((Edit.overlaps, words.most), (Edit.meets, words.most), (Edit.overlaps, 1)):
+            left = [it for it in edits if it not in told | alone and not results.get(it, (False,))[0]]
+            batches = [batch for crate in crates for batch in batches_of([it for it in left if it.crate is crate], most, meets)]
+            number_of_batches += len(batches)
+            alone |= {batch[0] for batch in batches if len(batch) == 1 and not batch[0].goals}
+            is_mixed, is_alone = meets is Edit.overlaps and most > 1, most == 1
+            for found in pool.map(lambda batch: work(batch, is_mixed, is_alone), batches):
+                results.update(found)
+    failed = []
+    for edit in edits:
+        refused, why = results[edit]
+        if not refused:
+            failed.append(edit)
+        if words.write:
+            write(edit, refused)
+        if edit.given_up and words.show:
+            print(f"{edit.label}: a line 'search: {edit.given_up[0]}' saves a check")
+        if words.show or not refused:
+            print(f"{'refused' if refused else 'NOT REFUSED'}: {edit.label}: {why}")
+    used = resource.getrusage(resource.RUSAGE_CHILDREN)
+    print(f"{number_of_batches} batches, {used.ru_utime + used.ru_stime:.0f} s of processor", end=", ")
+    print(f"{time.time() - began:.0f} s")
+    print(f"{len(edits) - len(failed)} refused, {len(failed)} not")
+    sys.exit(1 if failed else 0)
+
+
+def write(edit, refused):
+    """Writes the clause that refused the edit, where it is another, and the goals at which the check's own searches gave up."""
+    text = edit.text if edit.text.endswith("\n") else f"{edit.text}\n"
+    if not refused and edit.other:
+        text = re.sub(r"^breaks: .*$", f"breaks: {edit.function}: {edit.other}", text, flags=re.MULTILINE)
+    if refused and edit.given_up:
+        text = re.sub(r"^search: .*\n", "", text, flags=re.MULTILINE) + "".join(f"search: {goal}\n" for goal in edit.given_up)
+    if text != edit.text:
+        with open(edit.file, "w", encoding="utf-8") as file:
+            file.write(text)
+
+
+def keep(folder, crate, batch, output):
+    """Writes what a check printed into a folder, where one is given."""
+    if folder:
+        os.makedirs(folder, exist_ok=True)
+        with open(f"{folder}/{crate.name}-{batch[0].name}-{len(batch)}.txt", "w", encoding="utf-8") as file:
+            file.write("".join(f"# {edit.name} {edit.function} {edit.clause}\n" for edit in batch) + output)
+
+
+if __name__ == "__main__":
+    main()

@@ -1,0 +1,37 @@
+/* One encoding of a bitmap of one row of alternate pixels, for callgrind to count its instructions:
+ *
+ *   measured_encoding ENCODING COLUMNS
+ *
+ * It prints the status, the rows and the bytes. Callgrind is given --toggle-collect=measured. */
+#include <stdio.h>
+#include <stdlib.h>
+#include <string.h>
+
+#include "../c/fax_encode.h"
+
+static fax_encode_settings settings;
+static fax_encode_outcome outcome;
+static uint8_t *bitmap, *data;
+static size_t length, room;
+
+__attribute__((noinline)) static uint32_t measured(void)
+{
+    return fax_encode_bitmap(bitmap, length, &settings, data, room, &outcome);
+}
+
+int main(int count, char **words)
+{
+    if (count != 3)
+        return 2;
+    settings = (fax_encode_settings){strtoul(words[2], NULL, 10), strtoul(words[1], NULL, 10), 0};
+    length = ((size_t)settings.columns + 7) / 8;
+    room = 8 * length + 64;
+    bitmap = malloc(length);
+    data = malloc(room);
+    if (!bitmap || !data)
+        return 3;
+    memset(bitmap, 0x55, length);
+    uint32_t status = measured();
+    printf("%u %lu %lu\n", status, (unsigned long)outcome.rows, (unsigned long)outcome.bytes);
+    return 0;
+}

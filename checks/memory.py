@@ -1,0 +1,125 @@
+"""Checks of allocation: the exact number of requests of the library, the encoder and the program, and of the first two the exact
+number of bytes. The bytes of all requests are added up, so a list that grows from 16 bytes to 64 has requested 112."""
+import os
+import sys
+import tempfile
+
+import c_library
+import called
+import encoder
+import program
+import refusals
+
+sys.path.append("bench")
+
+import strips  # noqa: E402
+
+# The two lookup tables of each call that decodes: 8192 entries of two bytes each.
+TABLES, TABLE_BYTES = 2, 2 * 8192 * 2
+# A list of changes or of bytes has room for 4, and for 8 bytes, at first, and for twice as many when it is full.
+FIRST_CHANGES, FIRST_BYTES = 4 * 4, 8
+
+
+def doubled(first, most):
+    """The requests and the bytes of memory that grows from its first size to one that holds so many bytes."""
+    sizes = []
+    while not sizes or sizes[-1] < most:
+        sizes.append(2 * sizes[-1] if sizes else first)
+    return (len(sizes), sum(sizes)) if most else (0, 0)
+
+
+def together(*parts):
+    return sum(requests for requests, _ in parts), sum(size for _, size in parts)
+
+
+def changes_kept(row, lists):
+    """What so many lists ask for that hold a row's changes, of four bytes each."""
+    return together(*[doubled(FIRST_CHANGES, 4 * len(row))] * lists)
+
+
+# Rows of 64 columns, and how many equal ones there are at most.
+ROWS = [[3, 5], [0], [0, 1, 2, 63], list(range(1, 64))]
+HUNDRED = 100
+
+
+def white_data():
+    """Each call on white data allocates the two lookup tables, and nothing else."""
+    c_library.build()
+    seen = 0
+    with tempfile.TemporaryDirectory() as folder:
+        library = called.Library(folder)
+        for words, data in refusals.white_data():
+            library.refuse(0)
+            library.answer(called.settings_of(words), data)
+            asked = library.calls.requests_seen(), library.calls.bytes_asked()
+            assert asked == (TABLES, TABLE_BYTES), (words, asked)
+            seen += 1
+    print(f"  {seen} data, {TABLE_BYTES} bytes each")
+
+
+def equal_rows():
+    """A hundred equal rows take what two take: room for the row and for the one before it."""
+    c_library.build()
+    seen = 0
+    with tempfile.TemporaryDirectory() as folder:
+        library = called.Library(folder)
+        for mode in c_library.MODES:
+            for row in ROWS:
+                for count in (1, 2, HUNDRED):
+                    data = strips.encoded(mode, 64, [row] * count)
+                    library.refuse(0)
+                    answer = c_library.called(library.calls.hayro_ccitt_measure, data, called.settings_of(f"{mode} 64 0 b"))
+                    assert answer == (0, (count, count * len(row), len(data))), (mode, row, answer)
+                    asked = library.calls.requests_seen(), library.calls.bytes_asked()
+                    expected = together((TABLES, TABLE_BYTES), changes_kept(row, min(count, 2)))
+                    assert asked == expected, (mode, row, count, asked, expected)
+                    seen += 1
+    print(f"  {seen} data of up to {HUNDRED} equal rows")
+
+
+def encoded_rows():
+    """The encoder takes room for what it writes, and for the changes of a row: in Group 4 also for those of the row before."""
+    c_library.build()
+    seen = 0
+    with tempfile.TemporaryDirectory() as folder:
+        library = called.Library(folder)
+        for encoding, mode in enumerate(("g4", "1d")):
+            for row in [[], *ROWS]:
+                for count in (1, 2, HUNDRED):
+                    data = strips.encoded(mode, 64, [row] * count)
+                    library.refuse(0)
+                    answer = encoder.called(library.calls, 64, c_library.packed_row(64, row) * count, encoding, 0, len(data))
+                    assert answer[:2] == (0, (count, len(data))), (mode, row, answer)
+                    asked = library.calls.requests_seen(), library.calls.bytes_asked()
+                    kept = changes_kept(row, min(count, 2) if mode == "g4" else 1)
+                    expected = together(doubled(FIRST_BYTES, len(data)), kept)
+                    assert asked == expected, (mode, row, count, asked, expected)
+                    seen += 1
+        assert library.calls.blocks_held() == 0
+    print(f"  {seen} bitmaps of up to {HUNDRED} rows")
+
+
+def runs_of_the_program():
+    """What the program writes is kept in memory that doubles: a hundred rows ask as seldom as that, as text and as a bitmap."""
+    runs = 0
+    with tempfile.TemporaryDirectory() as folder:
+        counted = {**os.environ, "LD_PRELOAD": refusals.shim(folder, "refuse"), "COUNT": "1"}
+
+        def allocations(words, data):
+            return int(program.run(words.split(), data, env=counted).stderr.split()[-2])
+
+        for first in ("", "-o "):
+            alone = allocations(f"{first}g4 64 0 x", b"")
+            for row in ROWS:
+                data = strips.encoded("g4", 64, [row] * HUNDRED)
+                text = "".join(" ".join(["r", *map(str, row)]) + "\n" for _ in range(HUNDRED))
+                written = 8 * HUNDRED if first else len(text)
+                found = allocations(f"{first}g4 64 0 b", data) - alone
+                # the tables, one buffer for the data, what is written, and the lists
+                expected = together((TABLES + 1, 0), doubled(FIRST_BYTES, written), changes_kept(row, 2))[0]
+                assert found == expected, (first, row, found, expected)
+                runs += 1
+    print(f"  {runs} runs with exact numbers of allocations")
+
+
+CHECKS = [white_data, equal_rows, encoded_rows, runs_of_the_program]

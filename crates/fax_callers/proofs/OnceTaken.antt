@@ -1,0 +1,45 @@
+-- What decoding one image leaves, in the words of the callers.
+use Rattle.std.proofs.Common.{◌≡◌, inl, inr, ℕ, List, refl, Ok, Err, arith}
+use Rattle.std.specs.Prelude.{Result}
+use Rattle.hayro_ccitt.specs.declared.error.DecodeError.{DecodeError}
+use Rattle.hayro_ccitt.specs.declared.error.DecodeError.TheVariants.{OutOfMemory}
+use Rattle.hayro_ccitt.specs.declared.settings.DecodeSettings.{DecodeSettings}
+use Rattle.hayro_ccitt.specs.Answers.{OnAnswer}
+use Rattle.hayro_ccitt.specs.Bits.{Bits}
+use Rattle.hayro_ccitt.specs.Context.{Held}
+use Rattle.hayro_ccitt.specs.Contract.{Decodes}
+use Rattle.hayro_ccitt.specs.Decoding.{SinkState}
+use Rattle.hayro_ccitt.specs.Pictures.{IsClosedPicture, IsLimitedPicture}
+use Rattle.hayro_ccitt.specs.PlainReading.{plain}
+use Rattle.hayro_ccitt.specs.Rows.{Row}
+use Rattle.fax_callers.specs.Readings.{TakesFirst}
+
+-- what holds whatever the answer is
+on_all : {P : Type 0} (answer : Result ℕ DecodeError) → P → OnAnswer answer P
+on_all (Ok n) holds = holds
+on_all (Err error) holds = λ fault. holds
+
+-- where there is no memory for a context, no row is taken
+pub none_taken : {M : Type 0} (settings : DecodeSettings) (bits : Bits) (step : M → List ℕ → M) (meaning : M) (refuses : List ℕ → Type 0)
+    → TakesFirst settings bits step meaning meaning refuses (Err OutOfMemory)
+none_taken settings bits step meaning refuses = record { taken = 0; within = omega arith; meaning = refl; memory = λ e. inl refl; refused = λ e. cc }
+
+module _ {M : Type 0} (settings : DecodeSettings) (bits : Bits) (step : M → List ℕ → M) (before after : SinkState M) (held : Held) (ticks : ℕ) (answer : Result ℕ DecodeError) (left : Decodes settings bits step before after held ticks answer) where
+  -- the first rows are taken
+  pub first_taken : TakesFirst settings bits step before.meaning after.meaning after.refuses answer
+  first_taken =
+      record {
+        taken = held.taken;
+        within = left.reading.taken;
+        meaning = left.reading.meaning;
+        memory = λ e. inr (left.short.memory e);
+        refused = λ e. (left.short.refused e, left.short.refused_row e);
+      }
+
+  -- the rows of the reading are those of a closed picture
+  pub closed_rows : (rows : List Row) (count : ℕ) → IsClosedPicture settings rows count bits → OnAnswer answer ((plain settings bits).rows ≡ rows)
+  closed_rows rows count is = on_all answer (left.closed_rows rows count is)
+
+  -- and those of as many lines as the limit
+  pub limited_rows : (rows : List Row) → IsLimitedPicture settings rows bits → OnAnswer answer ((plain settings bits).rows ≡ rows)
+  limited_rows rows is = on_all answer (left.limited_rows rows is)

@@ -1,0 +1,21 @@
+use Rattle.std.proofs.Common.{◌≡◌, ◌*◌, ◌-◌, ◌≤◌, take, replicate}
+use Rattle.hayro_ccitt.specs.Bits.{bits_of}
+use Rattle.fax_encode.proofs.bitmap_rows.count_plain.Given as goal
+
+abbrev pub invariant-fours : goal.invariant-fours
+invariant-fours l = record {
+  within : l.count ≤ l.most;
+  same : bits_of (take (8 * l.count) l.bytes) ≡ replicate (64 * l.count) l.is_black;
+}
+
+abbrev pub decreases-fours : goal.decreases-fours
+decreases-fours l = l.most - l.count
+
+abbrev pub invariant-ones : goal.invariant-ones
+invariant-ones l = record {
+  within : l.count ≤ l.most;
+  same : bits_of (take (8 * l.count) l.bytes) ≡ replicate (64 * l.count) l.is_black;
+}
+
+abbrev pub decreases-ones : goal.decreases-ones
+decreases-ones l = l.most - l.count

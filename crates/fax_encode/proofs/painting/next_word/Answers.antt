@@ -1,0 +1,15 @@
+use Rattle.std.proofs.Common.{◌≡◌, ◌+◌, ◌-◌, length, ap, ◌∙◌, arith}
+use borrow.Rule.Slice.PartMut.{put_mid}
+use Rattle.hayro_ccitt.specs.Bits.{bits_of}
+use Rattle.fax_encode.proofs.PaintedRows.{word_written}
+use Rattle.fax_encode.proofs.PaintedWords.{bits_of_word}
+use Rattle.fax_encode.proofs.painting.next_word.Goals as goal
+
+pub returns-clause-painted : goal.returns-clause-painted
+returns-clause-painted c =
+    let start = c.args.brush.start in
+    let old = c.args.row.now in
+    let count : start + 8 - start ≡ 8 = omega arith in
+    word_written start (start + 8 - start) c.args.brush.word c.plain_word.result old _ c.to_be_bytes.result c.args.brush.is_black
+    (ap length c.to_be_bytes.ensures) (ap bits_of c.to_be_bytes.ensures ∙ bits_of_word c.args.brush.word) count c.requires.within
+    (ap (put_mid start (start + 8 - start) old) c.copy_from_slice.ensures.after) c.plain_word.ensures

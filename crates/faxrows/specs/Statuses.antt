@@ -1,0 +1,26 @@
+-- The status that the program ends with: 0 where the data was decoded, 1 where it is at fault, 2 where the words mean
+-- nothing, and 3 where memory or a device failed.
+use Rattle.std.specs.Prelude.{◌≡◌, ◌⊎◌, ℕ, Result, Ok, Err}
+use Rattle.hayro_ccitt.specs.declared.error.DecodeError.{DecodeError}
+use Rattle.hayro_ccitt.specs.declared.error.DecodeError.TheVariants.{UnexpectedEof, InvalidCode, Overflow, OutOfMemory, Refused}
+use Rattle.faxrows.specs.declared.program.Done.{Done}
+use Rattle.faxrows.specs.declared.program.Done.TheVariants.{Good, Faulty, Memory}
+
+-- the status of a run that wrote its text
+abbrev pub status_of_done : Done → ℕ
+status_of_done Good = 0
+status_of_done Faulty = 1
+status_of_done Memory = 3
+
+-- the status of a run that wrote its bitmap
+abbrev pub status_of_answer : Result (Unit {0}) DecodeError → ℕ
+status_of_answer (Ok x) = 0
+status_of_answer (Err UnexpectedEof) = 1
+status_of_answer (Err InvalidCode) = 1
+status_of_answer (Err Overflow) = 1
+status_of_answer (Err OutOfMemory) = 3
+status_of_answer (Err Refused) = 3
+
+-- the status of a run that wrote its text or its bitmap
+abbrev pub IsStatusOfRun : ℕ → Type 0
+IsStatusOfRun status = (status ≡ 0) ⊎ (status ≡ 1) ⊎ (status ≡ 3)

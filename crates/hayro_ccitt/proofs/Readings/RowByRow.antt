@@ -1,0 +1,351 @@
+-- Rows one at a time: where a reader of rows stands, the run of a driver stands whose sink keeps nothing.
+use Rattle.std.proofs.Common.{◌≡◌, ◌+◌, ◌-◌, ◌<◌, ◌≤◌, ℕ, zero, suc, Bool, true, false, eqb, List, [], ◌∷◌, ◌++◌, length, drop, get_or, Some, Result, Ok, Err, refl, sym, ap, ◌∙◌, subst, arith}
+use Rattle.std.proofs.lemmas.Bool.{cond-false, false≢true}
+use Rattle.std.proofs.lemmas.List.{length-append, length-drop}
+use Rattle.std.specs.Prelude.{slice_get, IsOkUnless, ◌≢◌, None}
+use Rattle.hayro_ccitt.specs.declared.error.DecodeError.{DecodeError}
+use Rattle.hayro_ccitt.specs.declared.error.DecodeError.TheVariants.{InvalidCode, OutOfMemory, Refused}
+use Rattle.hayro_ccitt.specs.declared.settings.DecodeSettings.{DecodeSettings}
+use Rattle.hayro_ccitt.specs.Answers.{PaintsBlack}
+use Rattle.hayro_ccitt.specs.Bits.{Bits, BitsAt, IsPrefix, here}
+use Rattle.hayro_ccitt.specs.Context.{Held, fresh}
+use Rattle.hayro_ccitt.specs.Decoding.{SinkState, TakesOneRow, gap_said}
+use Rattle.hayro_ccitt.specs.Lines.{Line}
+use Rattle.hayro_ccitt.specs.PlainReading.{Progress, Ending, Reading, Move, Gap, row_before, with_row, at_gap, gap_behind_row, row_of_line, add_row, line_here, line_of_turn, move_on, first_gap, first_line, at_front, ending_from, ending_behind, one_each, gathered_from, gathered_behind, gathered_of, bytes_before, whole_reading, plain, lines_of}
+use Rattle.hayro_ccitt.specs.Repetition.{Turn, Reaches}
+use Rattle.hayro_ccitt.specs.Rows.{Row}
+use Rattle.hayro_ccitt.specs.declared.row_reader.Stand.{Stand}
+use Rattle.hayro_ccitt.specs.declared.row_reader.Stand.TheVariants.{AtLine, BehindRow, AtEnd, AtFault}
+use Rattle.hayro_ccitt.specs.declared.row_reader.RowReader.TheInside.{Inside}
+use Rattle.hayro_ccitt.specs.declared.settings.EncodingMode.{EncodingMode}
+use Rattle.hayro_ccitt.specs.declared.settings.EncodingMode.TheVariants.{Group4}
+use Rattle.hayro_ccitt.proofs.Readings.GapsAndRows.{first_gap_t4}
+use Rattle.hayro_ccitt.proofs.Readings.Repeated.{reaches_on}
+use Rattle.hayro_ccitt.specs.RowsRead.{RowsRead, ComesToLine, read_so_far, line_after, IsReading, Stands, rows_read_of, ended, stand_after, is_at_line, StandsAtLine, StandsBehindRow, HasEnded, HasFailed, context_at, line_starts}
+use Rattle.hayro_ccitt.proofs.Readings.PlainAnswers.{some_columns, bytes_before-place}
+use Rattle.hayro_ccitt.proofs.Readings.TurnsAddRows.{Keeps, first_gap_keeps}
+use Rattle.hayro_ccitt.proofs.Readings.TurnsMoveOn.{left_to_read, left_below, next_is, not_next}
+use Rattle.hayro_ccitt.proofs.Readings.RunsOverRows.{Comes, Between, Leaves, held_between-more, comes_first, comes_next, comes_done, comes_more, comes_line, get_or-behind, row_fails}
+use Rattle.hayro_ccitt.proofs.Readings.RowsTaken.{by_rows_left, row_of_turn, reads_row, turn_is}
+
+-- what the sink means that keeps nothing, and refuses no row
+abbrev pub nothing_kept : SinkState (Unit {0})
+nothing_kept = record { meaning = tt; refused = false; refuses = λ row. ⊥ }
+
+abbrev pub no_step : Unit {0} → List ℕ → Unit {0}
+no_step before row = tt
+
+-- an element that is there is the one of its index
+get_or-there : {A : Type 0} (xs : List A) (k : ℕ) (x other : A) → slice_get xs k ≡ Some x → get_or xs k other ≡ x
+get_or-there [] k x other is = absurd cc
+get_or-there (y ∷ xs) zero x other is = cc
+get_or-there (y ∷ xs) (suc k) x other is = get_or-there xs k x other is
+
+-- a turn that goes on adds one row
+turn_adds : (settings : DecodeSettings) (s after : Progress) → move_on settings s ≡ Turn.next after → length after.rows ≡ suc (length s.rows)
+turn_adds settings s after e = by (row_of_turn settings s) e
+  where
+    by : (row : Result (Row × Bits) DecodeError) → add_row settings s row ≡ Turn.next after → length after.rows ≡ suc (length s.rows)
+    by (Err fault) e = absurd (not_next _ after e)
+    by (Ok (row, rest)) e = at (gap_behind_row settings (length (s.rows ++ row ∷ [])) s.has_eols rest) e
+      where
+        at : (gap : Gap) → at_gap (with_row s row rest) gap ≡ Turn.next after → length after.rows ≡ suc (length s.rows)
+        at (Gap.over outcome) e = absurd (not_next _ after e)
+        at (Gap.line_at has_eols here) e = omega (arith, ap (λ (p : Progress). length p.rows) (next_is _ after e), length-append s.rows (row ∷ []))
+
+module _ (settings : DecodeSettings) (wide : 0 < settings.columns) (bits : Bits) (first : Progress) (begins : first_gap settings.encoding settings bits ≡ Turn.next first) where
+  -- no row comes before the first line
+  none_first : first.rows ≡ []
+  none_first = subst (Keeps []) begins (first_gap_keeps settings settings.encoding bits)
+
+  -- the plain reading is that from the first line on
+  pub plain_is : plain settings bits ≡ whole_reading bits (ending_from (move_on settings) first)
+  plain_is =
+      cond-false (eqb settings.columns 0) _ _ (some_columns settings.columns (λ none. absurd (omega (arith, wide, none))))
+      ∙ ap (λ (gap : Move). whole_reading bits (ending_behind settings gap)) begins
+
+  gathered_is : {A : Type 0} (gives : Progress → A) → gathered_of settings gives bits ≡ gathered_from (move_on settings) (one_each gives) first
+  gathered_is gives = ap (gathered_behind settings gives) begins
+
+  pub lines_are : lines_of settings bits ≡ gathered_from (move_on settings) (one_each (line_of_turn settings)) first
+  lines_are =
+      cond-false (eqb settings.columns 0) _ _ (some_columns settings.columns (λ none. absurd (omega (arith, wide, none))))
+      ∙ gathered_is (line_of_turn settings)
+
+  -- it comes to each state that is reached
+  comes_along : {A : Type 0} (gives : Progress → A) (s t : Progress) → Comes (move_on settings) (one_each gives) left_to_read first s → Reaches (move_on settings) s t
+      → Comes (move_on settings) (one_each gives) left_to_read first t
+  comes_along gives s t comes (Reaches.stays same) = comes
+  comes_along gives s t comes (Reaches.moves same after last e on) =
+      comes_along gives after t
+      (comes_next (move_on settings) (one_each gives) left_to_read (by_rows_left settings wide) first none_first s comes (gives s) refl after e (turn_adds settings s after e)) on
+
+  module _ (so_far : Progress) (reaches : Reaches (move_on settings) first so_far) where
+    pub comes : {A : Type 0} (gives : Progress → A) → Comes (move_on settings) (one_each gives) left_to_read first so_far
+    comes gives = comes_along gives first so_far (comes_first (move_on settings) (one_each gives) left_to_read (by_rows_left settings wide) first none_first) reaches
+
+    -- there are at most as many rows as bits, and one more
+    pub few_rows : length first.rest ≤ length bits → length so_far.rows ≤ length bits + 1
+    few_rows room = omega (arith, (comes (line_of_turn settings)).room, left_below first, room)
+
+    -- where a turn is the last, it is known how the reading ends
+    pub ends_with_turn : (end : Ending) → move_on settings so_far ≡ Turn.done end → plain settings bits ≡ whole_reading bits end
+    ends_with_turn end is =
+        plain_is ∙ ap (whole_reading bits) (comes_done (move_on settings) (one_each (line_of_turn settings)) left_to_read (by_rows_left settings wide) first none_first so_far (comes (line_of_turn settings)) end is)
+
+    -- the offset of its line
+    pub line_start_is : get_or (line_starts settings bits) (length so_far.rows) 0 ≡ length bits - length so_far.rest
+    line_start_is =
+        let gives : Progress → ℕ = λ s. length bits - length s.rest in
+        get_or-there (line_starts settings bits) (length so_far.rows) (gives so_far) 0
+        (ap (λ (xs : List ℕ). slice_get xs (length so_far.rows)) (gathered_is gives)
+        ∙ comes_line (move_on settings) (one_each gives) left_to_read (by_rows_left settings wide) first none_first so_far (comes gives) (gives so_far) refl)
+
+    module _ (row : Row) (rest : Bits) (is : row_of_turn settings so_far ≡ Ok (row, rest)) where
+      prefix : IsPrefix (so_far.rows ++ row ∷ []) (plain settings bits).rows
+      prefix =
+          subst (λ (rows : List Row). IsPrefix (so_far.rows ++ row ∷ []) rows) (sym (ap (λ (r : Reading). r.rows) plain_is))
+          (comes_more (move_on settings) (one_each (line_of_turn settings)) left_to_read (by_rows_left settings wide) first none_first so_far (comes (line_of_turn settings))
+          (so_far.rows ++ row ∷ []) ((reads_row settings so_far).adds row rest is))
+
+      -- the row that is read is the next one of the plain reading
+      pub row_is_next : get_or (plain settings bits).rows (length so_far.rows) [] ≡ row
+      row_is_next = ap (λ (rows : List Row). get_or rows (length so_far.rows) []) prefix.1 ∙ get_or-behind so_far.rows row prefix.0 []
+
+      pub row_is_there : length so_far.rows + 1 ≤ length (plain settings bits).rows
+      row_is_there = omega (arith, ap length prefix.1, length-append (so_far.rows ++ row ∷ []) prefix.0, length-append so_far.rows (row ∷ []))
+
+    -- a driver whose sink keeps nothing stands there
+    abbrev pub between_of : Between (move_on settings) (one_each (line_of_turn settings)) left_to_read first settings no_step nothing_kept nothing_kept (context_at settings so_far) so_far.rest
+    between_of = record { so_far = so_far; comes = comes (line_of_turn settings); held = refl; here = refl; meaning = refl; refused = refl }
+
+    -- so where a row isn't read, the reading ends
+    pub row_not_read : (after : SinkState (Unit {0})) (new : Held) (left_over : Bits) (e : DecodeError)
+        → TakesOneRow (line_of_turn settings so_far) (row_of_turn settings so_far) no_step nothing_kept after (context_at settings so_far) new (Err e) left_over
+        → Leaves (ending_from (move_on settings) first) (gathered_from (move_on settings) (one_each (line_of_turn settings)) first) no_step nothing_kept after new (Err e)
+    row_not_read after new left_over e takes =
+        row_fails (move_on settings) (one_each (line_of_turn settings)) left_to_read (by_rows_left settings wide) first none_first settings no_step nothing_kept nothing_kept (context_at settings so_far) so_far.rest between_of
+        (line_of_turn settings so_far) (row_of_turn settings so_far) (reads_row settings so_far) after new left_over e takes
+
+-- ---- A reader of rows at a line
+
+module _ (settings : DecodeSettings) (bits : Bits) (held : Held) (here : Bits) (stands : StandsAtLine settings bits held here) where
+  abbrev so_far : Progress
+  so_far = stands.so_far
+
+  taken_is : held.taken ≡ length so_far.rows
+  taken_is = ap (λ (h : Held). h.taken) stands.held_is
+
+  pub settings_are : held.settings ≡ settings
+  settings_are = ap (λ (h : Held). h.settings) stands.held_is
+
+  pub few : held.taken ≤ length bits + 1
+  few = omega (arith, few_rows settings stands.wide bits stands.first stands.begins so_far stands.reaches stands.room, taken_is)
+
+  -- the line that stands here is that of the turn
+  module _ (new : Held) (left_over : Bits) (answer : Result (Unit {0}) DecodeError)
+      (takes : TakesOneRow (line_here held.settings held.reference here) (row_of_line held.settings held.has_eols here (line_here held.settings held.reference here))
+      no_step nothing_kept nothing_kept held new answer left_over) where
+    takes_turn : TakesOneRow (line_of_turn settings so_far) (row_of_turn settings so_far) no_step nothing_kept nothing_kept (context_at settings so_far) new answer left_over
+    takes_turn =
+        let known : TakesOneRow (line_here settings (row_before settings.columns so_far.rows) here)
+        (row_of_line settings so_far.has_eols here (line_here settings (row_before settings.columns so_far.rows) here)) no_step nothing_kept nothing_kept (context_at settings so_far) new answer left_over
+        = subst (λ (h : Held). TakesOneRow (line_here h.settings h.reference here) (row_of_line h.settings h.has_eols here (line_here h.settings h.reference here)) no_step nothing_kept nothing_kept h new answer left_over)
+        stands.held_is takes in
+        subst (λ (x : Bits). TakesOneRow (line_here settings (row_before settings.columns so_far.rows) x)
+        (row_of_line settings so_far.has_eols x (line_here settings (row_before settings.columns so_far.rows) x)) no_step nothing_kept nothing_kept (context_at settings so_far) new answer left_over) stands.rest_is known
+
+-- a row was read there
+pub record IsRead (settings : DecodeSettings) (bits : Bits) (held new : Held) (here left_over : Bits) : Type 0 where
+  pub stands : StandsBehindRow settings bits new left_over
+  pub settings_are : new.settings ≡ settings
+  pub more : new.taken ≡ held.taken + 1
+  pub within : new.taken ≤ length (plain settings bits).rows
+  pub row : new.reference ≡ get_or (plain settings bits).rows held.taken []
+  pub line_start : length bits - length here ≡ get_or (line_starts settings bits) held.taken 0
+
+pub is_read : (settings : DecodeSettings) (bits : Bits) (held : Held) (here : Bits) → StandsAtLine settings bits held here → (new : Held) (left_over : Bits)
+    → TakesOneRow (line_here held.settings held.reference here) (row_of_line held.settings held.has_eols here (line_here held.settings held.reference here))
+    no_step nothing_kept nothing_kept held new (Ok tt) left_over → IsRead settings bits held new here left_over
+is_read settings bits held here stands new left_over takes =
+    let so_far = stands.so_far in
+    let taken = (takes_turn settings bits held here stands new left_over (Ok tt) takes).taken in
+    let before : held.taken ≡ length so_far.rows = ap (λ (h : Held). h.taken) stands.held_is in
+    let after : new.taken ≡ length so_far.rows + 1 = ap (λ (h : Held). h.taken) taken.held in
+    let there = row_is_there settings stands.wide bits stands.first stands.begins so_far stands.reaches taken.taken left_over taken.is in
+    record {
+      stands = record {
+        wide = stands.wide;
+        first = stands.first;
+        so_far = so_far;
+        row = taken.taken;
+        begins = stands.begins;
+        room = stands.room;
+        reaches = stands.reaches;
+        row_is = taken.is;
+        held_is = taken.held ∙ held_between-more settings so_far taken.taken left_over;
+      };
+      settings_are = ap (λ (h : Held). h.settings) taken.held;
+      more = omega (arith, before, after);
+      within = omega (arith, after, there);
+      row = ap (λ (h : Held). h.reference) taken.held
+          ∙ sym (ap (λ (n : ℕ). get_or (plain settings bits).rows n []) before ∙ row_is_next settings stands.wide bits stands.first stands.begins so_far stands.reaches taken.taken left_over taken.is);
+      line_start = ap (λ (x : Bits). length bits - length x) stands.rest_is
+          ∙ sym (ap (λ (n : ℕ). get_or (line_starts settings bits) n 0) before ∙ line_start_is settings stands.wide bits stands.first stands.begins so_far stands.reaches);
+    }
+
+-- no row was read there
+pub isnt_read : (settings : DecodeSettings) (bits : Bits) (held : Held) (here : Bits) → StandsAtLine settings bits held here → (new : Held) (left_over : Bits) (e : DecodeError)
+    → TakesOneRow (line_here held.settings held.reference here) (row_of_line held.settings held.has_eols here (line_here held.settings held.reference here))
+    no_step nothing_kept nothing_kept held new (Err e) left_over → HasFailed settings bits new.taken e
+isnt_read settings bits held here stands new left_over e takes =
+    let so_far = stands.so_far in
+    let reading = plain_is settings stands.wide bits stands.first stands.begins in
+    let lines = lines_are settings stands.wide bits stands.first stands.begins in
+    let leaves = row_not_read settings stands.wide bits stands.first stands.begins so_far stands.reaches nothing_kept new left_over e
+    (takes_turn settings bits held here stands new left_over (Err e) takes) in
+    record {
+      all = λ fault. leaves.0.all fault ∙ ap (λ (r : Reading). length r.rows) (sym reading);
+      fault = λ fault. ap (λ (r : Reading). r.outcome) reading ∙ ap (bytes_before bits) (leaves.0.fault fault);
+      memory = λ is. subst (λ (ls : List Line). PaintsBlack ls new.taken) (sym lines) (leaves.1.memory (ap (λ (x : DecodeError). Err x) is));
+      not_refused = λ is. leaves.1.refused_row (ap (λ (x : DecodeError). Err x) is);
+    }
+
+-- where a line stands, the invariant says so
+at_line_stands : (stand : Stand) (settings : DecodeSettings) (bits : Bits) (held : Held) (place : ℕ) → is_at_line stand ≡ true → Stands stand settings bits held place
+    → StandsAtLine settings bits held (drop place bits)
+at_line_stands AtLine settings bits held place is stands = stands
+at_line_stands BehindRow settings bits held place is stands = absurd (false≢true is)
+at_line_stands AtEnd settings bits held place is stands = absurd (false≢true is)
+at_line_stands (AtFault error) settings bits held place is stands = absurd (false≢true is)
+
+pub reader_at_line : (inside : Inside) (now : RowsRead) → rows_read_of inside ≡ now → now.at_line ≡ true → IsReading inside
+    → StandsAtLine inside.ctx.held.settings inside.reader.bits inside.ctx.held (here inside.reader)
+reader_at_line inside now view is reading =
+    at_line_stands inside.stand inside.ctx.held.settings inside.reader.bits inside.ctx.held inside.reader.place (ap (λ (r : RowsRead). r.at_line) view ∙ is) reading
+
+-- so it does behind a row
+behind_row_stands : (stand : Stand) (settings : DecodeSettings) (bits : Bits) (held : Held) (place : ℕ) → ended stand ≡ None → is_at_line stand ≡ false
+    → Stands stand settings bits held place → StandsBehindRow settings bits held (drop place bits)
+behind_row_stands AtLine settings bits held place unended no_line stands = absurd (false≢true (sym no_line))
+behind_row_stands BehindRow settings bits held place unended no_line stands = stands
+behind_row_stands AtEnd settings bits held place unended no_line stands = absurd cc
+behind_row_stands (AtFault error) settings bits held place unended no_line stands = absurd cc
+
+pub reader_behind_row : (inside : Inside) (now : RowsRead) → rows_read_of inside ≡ now → now.end ≡ None → is_at_line inside.stand ≡ false → IsReading inside
+    → StandsBehindRow inside.ctx.held.settings inside.reader.bits inside.ctx.held (here inside.reader)
+reader_behind_row inside now view unended no_line reading =
+    behind_row_stands inside.stand inside.ctx.held.settings inside.reader.bits inside.ctx.held inside.reader.place (ap (λ (r : RowsRead). r.end) view ∙ unended) no_line reading
+
+-- ---- A gap is passed
+
+-- an allocation didn't fail in a gap, and no row was refused
+code_failed : (settings : DecodeSettings) (bits : Bits) (taken : ℕ) (e : DecodeError) → e ≡ InvalidCode → taken ≡ length (plain settings bits).rows → (plain settings bits).outcome ≡ Err e
+    → HasFailed settings bits taken e
+code_failed settings bits taken e is all outcome =
+    record { all = λ f. all; fault = λ f. outcome; memory = λ g. let never : InvalidCode ≡ OutOfMemory = sym is ∙ g in absurd cc; not_refused = λ g. let never : InvalidCode ≡ Refused = sym is ∙ g in absurd cc }
+
+-- where the gap before a turn ends the reading, it ends so
+module _ (settings : DecodeSettings) (bits : Bits) (rows : List Row) (last : Held) (place : ℕ) (within : place ≤ length bits) (taken : last.taken ≡ length rows) where
+  ended_well : (has_eols : Bool) → plain settings bits ≡ whole_reading bits (record { rows = rows; has_eols = has_eols; outcome = Ok (drop place bits) }) → HasEnded settings bits last.taken place
+  ended_well has_eols is = record {
+    all = taken ∙ ap (λ (r : Reading). length r.rows) (sym is);
+    count = ap (λ (r : Reading). r.outcome) is ∙ bytes_before-place bits place within;
+  }
+
+  ended_badly : (has_eols : Bool) (e : DecodeError) → e ≡ InvalidCode → plain settings bits ≡ whole_reading bits (record { rows = rows; has_eols = has_eols; outcome = Err e })
+      → HasFailed settings bits last.taken e
+  ended_badly has_eols e code is =
+      code_failed settings bits last.taken e code (taken ∙ ap (λ (r : Reading). length r.rows) (sym is)) (ap (λ (r : Reading). r.outcome) is)
+
+-- the gap behind a row leads to a line, or to the end
+module _ (settings : DecodeSettings) (bits : Bits) (held : Held) (here_now : Bits) (stands : StandsBehindRow settings bits held here_now) (last : Held) (place : ℕ) (within : place ≤ length bits)
+    (frame : last ≡ record held { has_eols = last.has_eols }) where
+  abbrev next : Progress
+  next = with_row stands.so_far stands.row here_now
+
+  turn_said : (answer : Result Bool DecodeError) → gap_behind_row held.settings held.taken held.has_eols here_now ≡ gap_said answer last.has_eols (drop place bits)
+      → move_on settings stands.so_far ≡ at_gap next (gap_said answer last.has_eols (drop place bits))
+  turn_said answer said =
+      turn_is settings stands.so_far stands.row here_now (gap_said answer last.has_eols (drop place bits)) stands.row_is
+      (ap (λ (h : Held). gap_behind_row h.settings h.taken h.has_eols here_now) (sym stands.held_is) ∙ said)
+
+  last_taken : last.taken ≡ length next.rows
+  last_taken = ap (λ (h : Held). h.taken) frame ∙ ap (λ (h : Held). h.taken) stands.held_is
+
+  pub passed_settings : last.settings ≡ settings
+  passed_settings = ap (λ (h : Held). h.settings) frame ∙ ap (λ (h : Held). h.settings) stands.held_is
+
+  pub gap_stands : (answer : Result Bool DecodeError) → gap_behind_row held.settings held.taken held.has_eols here_now ≡ gap_said answer last.has_eols (drop place bits)
+      → IsOkUnless answer InvalidCode → Stands (stand_after answer) settings bits last place
+  gap_stands (Ok true) said code =
+      ended_well settings bits next.rows last place within last_taken next.has_eols
+      (ends_with_turn settings stands.wide bits stands.first stands.begins stands.so_far stands.reaches _ (turn_said (Ok true) said))
+  gap_stands (Ok false) said code = record {
+    wide = stands.wide;
+    first = stands.first;
+    so_far = record next { has_eols = last.has_eols; rest = drop place bits };
+    begins = stands.begins;
+    room = stands.room;
+    reaches = reaches_on (move_on settings) stands.first stands.so_far (record next { has_eols = last.has_eols; rest = drop place bits }) stands.reaches (turn_said (Ok false) said);
+    held_is = frame ∙ ap (λ (h : Held). record h { has_eols = last.has_eols }) stands.held_is;
+    rest_is = refl;
+  }
+  gap_stands (Err e) said code =
+      ended_badly settings bits next.rows last place within last_taken next.has_eols e code
+      (ends_with_turn settings stands.wide bits stands.first stands.begins stands.so_far stands.reaches _ (turn_said (Err e) said))
+
+-- so does the first gap of Group 4
+module _ (settings : DecodeSettings) (wide : 0 < settings.columns) (bits : Bits) (is : settings.encoding ≡ Group4) (last : Held) (place : ℕ) (within : place ≤ length bits)
+    (frame : last ≡ record (fresh settings) { has_eols = last.has_eols }) where
+  first_said : (answer : Result Bool DecodeError) → gap_behind_row settings 0 false bits ≡ gap_said answer last.has_eols (drop place bits)
+      → first_gap settings.encoding settings bits ≡ at_gap (at_front bits) (gap_said answer last.has_eols (drop place bits))
+  first_said answer said = ap (λ (e : EncodingMode). first_gap e settings bits) is ∙ ap (at_gap (at_front bits)) said
+
+  first_ended : (end : Ending) → first_gap settings.encoding settings bits ≡ Turn.done end → plain settings bits ≡ whole_reading bits end
+  first_ended end ends =
+      cond-false (eqb settings.columns 0) _ _ (some_columns settings.columns (λ none. absurd (omega (arith, wide, none))))
+      ∙ ap (λ (gap : Move). whole_reading bits (ending_behind settings gap)) ends
+
+  none : last.taken ≡ length (at_front bits).rows
+  none = ap (λ (h : Held). h.taken) frame
+
+  pub first_gap_stands : (answer : Result Bool DecodeError) → gap_behind_row settings 0 false bits ≡ gap_said answer last.has_eols (drop place bits)
+      → IsOkUnless answer InvalidCode → Stands (stand_after answer) settings bits last place
+  first_gap_stands (Ok true) said code = ended_well settings bits [] last place within none false (first_ended _ (first_said (Ok true) said))
+  first_gap_stands (Ok false) said code = record {
+    wide = wide;
+    first = record { rows = []; has_eols = last.has_eols; rest = drop place bits };
+    so_far = record { rows = []; has_eols = last.has_eols; rest = drop place bits };
+    begins = first_said (Ok false) said;
+    room = omega (arith, length-drop place bits);
+    reaches = Reaches.stays (record { rows = []; has_eols = last.has_eols; rest = drop place bits });
+    held_is = frame;
+    rest_is = refl;
+  }
+  first_gap_stands (Err e) said code = ended_badly settings bits [] last place within none false e code (first_ended _ (first_said (Err e) said))
+
+-- data of Group 3 begin at a line
+pub first_line_stands : (settings : DecodeSettings) → 0 < settings.columns → (bits : Bits) → settings.encoding ≢ Group4 → (last : Held) (rest : Bits)
+    → last ≡ record (fresh settings) { has_eols = (first_line settings bits).has_eols } → rest ≡ (first_line settings bits).rest → length rest ≤ length bits
+    → StandsAtLine settings bits last rest
+first_line_stands settings wide bits other last rest frame is room = record {
+  wide = wide;
+  first = first_line settings bits;
+  so_far = first_line settings bits;
+  begins = first_gap_t4 settings bits other;
+  room = omega (arith, room, ap length is);
+  reaches = Reaches.stays (first_line settings bits);
+  held_is = frame;
+  rest_is = is;
+}
+
+-- what a call says that passes a gap
+pub comes_to_line : (old : RowsRead) (last : Held) (at : BitsAt) (n : ℕ) (answer : Result Bool DecodeError) → last.settings ≡ old.settings → at.bits ≡ old.bits → last.taken ≡ old.taken
+    → Stands (stand_after answer) old.settings old.bits last at.place → ComesToLine old (read_so_far last at n (stand_after answer)) (line_after answer)
+comes_to_line old last at n (Ok true) settings bits taken stands =
+    record { settings = settings; bits = bits; taken = taken; line = λ e. cc; end = λ e. (refl, stands); error = tt }
+comes_to_line old last at n (Ok false) settings bits taken stands =
+    record { settings = settings; bits = bits; taken = taken; line = λ e. refl; end = λ e. cc; error = tt }
+comes_to_line old last at n (Err error) settings bits taken stands =
+    record { settings = settings; bits = bits; taken = taken; line = λ e. cc; end = λ e. cc; error = (refl, stands) }

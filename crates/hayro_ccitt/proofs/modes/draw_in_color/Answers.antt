@@ -1,0 +1,31 @@
+use Rattle.std.proofs.Common.{◌∙◌, arith}
+use Rattle.hayro_ccitt.proofs.DrawingLines.UsualModes.{twice_2d}
+use Rattle.hayro_ccitt.proofs.modes.draw_in_color.Goals as goal
+
+pub returns-in-None-clause-drawn : goal.returns-in-None-clause-drawn
+returns-in-None-clause-drawn c =
+    let same = c.in-None.ensures.left in
+    rw (same.0, same.1, same.2) c.modes.invariant.drawn
+
+pub returns-in-None-clause-stroke : goal.returns-in-None-clause-stroke
+returns-in-None-clause-stroke c =
+    let same = c.in-None.ensures.left in
+    rw same.1 c.modes.invariant.stroke
+
+pub returns-then-next-columns-clause-drawn : goal.returns-then-next-columns-clause-drawn
+returns-then-next-columns-clause-drawn c = twice_2d _ _ _ _ _ _ _ _ _ _ _ _ c.modes.invariant.drawn c.in-Some.ensures.drawn
+
+pub returns-then-is_turned-clause-drawn : goal.returns-then-is_turned-clause-drawn
+returns-then-is_turned-clause-drawn c = twice_2d _ _ _ _ _ _ _ _ _ _ _ _ c.modes.invariant.drawn c.in-Some.ensures.drawn
+
+pub modes-preserved : goal.modes-preserved
+modes-preserved c =
+    let on = c.in-Some.ensures in
+    let same = c.is_turned.ensures.same c.if-is_turned.false in
+    record {
+      drawn = twice_2d _ _ _ _ _ _ _ _ _ _ _ _ c.modes.invariant.drawn (rw same at on.drawn);
+      stroke = rw same at on.stroke;
+      inside = omega (arith, on.stroke.within, c.if-next-columns.false);
+      same_bits = c.draw_mode_at_hand.ensures.same_bits ∙ c.modes.invariant.same_bits;
+      onward = omega (arith, on.onward, c.modes.invariant.onward);
+    }

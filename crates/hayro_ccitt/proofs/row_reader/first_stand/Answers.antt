@@ -1,0 +1,56 @@
+use Rattle.std.proofs.Common.{◌≡◌, ◌≢◌, ◌∙◌, ◌<◌, ℕ, false, inl, inr, length, drop, ap, sym, subst, arith}
+use Rattle.std.proofs.lemmas.List.{length-drop}
+use Rattle.hayro_ccitt.specs.declared.row_reader.Stand.{Stand}
+use Rattle.hayro_ccitt.specs.declared.settings.DecodeSettings.{DecodeSettings}
+use Rattle.hayro_ccitt.specs.declared.settings.EncodingMode.TheVariants.{Group4}
+use Rattle.hayro_ccitt.specs.Bits.{Bits, here}
+use Rattle.hayro_ccitt.specs.Context.{Held}
+use Rattle.hayro_ccitt.specs.Decoding.{gap_said}
+use Rattle.hayro_ccitt.specs.EndOfLine.{all_eols}
+use Rattle.hayro_ccitt.specs.PlainReading.{gap_behind_row, first_line}
+use Rattle.hayro_ccitt.specs.RowsRead.{Stands}
+use Rattle.hayro_ccitt.proofs.Readings.RowByRow.{first_gap_stands, first_line_stands}
+use Rattle.hayro_ccitt.proofs.row_reader.first_stand.Goals as goal
+
+pub returns-in-Group4-clause-stands : goal.returns-in-Group4-clause-stands
+returns-in-Group4-clause-stands c =
+    let held = c.args.ctx.now.held in
+    let settings = held.settings in
+    let bits = c.args.reader.now.bits in
+    let last = c.pass_gap-over.new.ctx.held in
+    let at = c.pass_gap-over.new.reader in
+    let wide : 0 < settings.columns = omega (arith, c.if-settings-eq0.false, ap (λ (s : DecodeSettings). s.columns) c.settings.ensures.value) in
+    let begins : here c.args.reader.now ≡ bits = ap (λ (n : ℕ). drop n bits) c.requires.start in
+    let said : gap_behind_row settings 0 false bits ≡ gap_said c.pass_gap-over.result last.has_eols (drop at.place bits)
+    = ap (λ (h : Held). gap_behind_row settings h.taken h.has_eols bits) (sym c.requires.fresh)
+    ∙ ap (λ (x : Bits). gap_behind_row settings held.taken held.has_eols x) (sym begins)
+    ∙ c.pass_gap-over.ensures.gap ∙ ap (λ (b : Bits). gap_said c.pass_gap-over.result last.has_eols (drop at.place b)) c.pass_gap-over.ensures.same_bits in
+    let frame = c.pass_gap-over.ensures.held ∙ ap (λ (h : Held). record h { has_eols = last.has_eols }) c.requires.fresh in
+    subst (λ (s : Stand). Stands s settings bits last at.place) (sym c.stand_after_gap.ensures)
+    (first_gap_stands settings wide bits (ap (λ (s : DecodeSettings). s.encoding) (sym c.settings-2.ensures.value) ∙ c.in-Group4.is) last at.place
+    (omega (arith, c.bit_pos-place.ensures.place, c.bit_pos-place.ensures.within, ap length c.pass_gap-over.ensures.same_bits)) frame c.pass_gap-over.result said c.pass_gap-over.ensures.only_code)
+
+pub returns-in-Group3_1D : goal.returns-in-Group3_1D
+returns-in-Group3_1D c =
+    let held = c.args.ctx.now.held in
+    let settings = held.settings in
+    let bits = c.args.reader.now.bits in
+    let last = c.read_leading_eols.new.ctx.held in
+    let at = c.read_leading_eols.new.reader in
+    let wide : 0 < settings.columns = omega (arith, c.if-settings-eq0.false, ap (λ (s : DecodeSettings). s.columns) c.settings.ensures.value) in
+    let begins : here c.args.reader.now ≡ bits = ap (λ (n : ℕ). drop n bits) c.requires.start in
+    let read : settings.encoding ≡ c.settings-2.result.encoding = ap (λ (s : DecodeSettings). s.encoding) (sym c.settings-2.ensures.value) in
+    let other : settings.encoding ≢ Group4 = λ is. elim c.in-Group3_1D.is [
+      | inl e ↦ let never = sym e ∙ sym read ∙ is in cc
+      | inr e ↦ let never = sym e ∙ sym read ∙ is in cc
+    ] in
+    let frame = c.read_leading_eols.ensures.has_eols ∙ ap (λ (x : Bits). record held { has_eols = (first_line settings x).has_eols }) begins
+    ∙ ap (λ (h : Held). record h { has_eols = (first_line settings bits).has_eols }) c.requires.fresh in
+    let rest : drop at.place bits ≡ (first_line settings bits).rest
+    = ap (λ (b : Bits). drop at.place b) (sym c.read_leading_eols.ensures.same_bits) ∙ c.read_leading_eols.ensures.rest ∙ ap (λ (x : Bits). (all_eols x).1) begins in
+    record {
+      none_taken = ap (λ (h : Held). h.taken) frame;
+      settings = ap (λ (h : Held). h.settings) frame;
+      same_bits = c.read_leading_eols.ensures.same_bits;
+      stands = first_line_stands settings wide bits other last (drop at.place bits) frame rest (omega (arith, length-drop at.place bits));
+    }

@@ -1,0 +1,16 @@
+use Rattle.std.proofs.Common.{ℕ, ◌≡◌, ◌+◌, ◌-◌, ◌<◌, get_or, arith}
+use Rattle.hayro_ccitt.specs.UsualModes.{IsB1}
+use Rattle.hayro_ccitt.proofs.PixelRows.B1ByParity.{after_vl_on}
+use Rattle.hayro_ccitt.proofs.usual.b1_after_left.Goals as goal
+
+pub returns-else-change_or_end-place : goal.returns-else-change_or_end-place
+returns-else-change_or_end-place c =
+    let a = c.args in
+    let before : ℕ = a.index - 1 in
+    let e : before + 1 ≡ a.index = omega (arith, c.if-index-eq0.false) in
+    let at : IsB1 a.columns a.changes.now a._painted (before + 1) a._color = rw e c.requires.at in
+    let left : a.place < get_or a.changes.now (before + 1) a.columns = rw e c.requires.left in
+    record {
+      at = after_vl_on a.columns a.changes.now c.requires.lawful a._painted before a._color at a.place c.requires.right left (omega (arith, c.if-change_or_end-place.false, c.change_or_end.ensures));
+      near = omega arith;
+    }

@@ -1,0 +1,527 @@
+//! Modes whose words are all at hand, drawn with the line's own values. What isn't usual is left to the calls of `context`.
+
+ghost use Rattle.std.specs.Prelude.{vec_len, vec_capacity, get_or, ◌≡◌, ◌≢◌, ◌+◌, ◌-◌, ◌%◌, ◌<◌, ◌≤◌, ◌⊎◌, ℕ, Ok, Some, IfSome, IfNone, true, false, pos, negsuc, length, ◌++◌, ◌∷◌, []};
+ghost use Rattle.hayro_ccitt.specs.Bits.{here};
+ghost use Rattle.hayro_ccitt.specs.CodeLists.{mode_codes};
+ghost use Rattle.hayro_ccitt.specs.CodeReading.{read_code};
+ghost use Rattle.hayro_ccitt.specs.LookUps.{AreEntries};
+ghost use Rattle.hayro_ccitt.specs.Rows.{AreChanges, pixels, opposite};
+ghost use Rattle.hayro_ccitt.specs.Runs.{codes_of};
+ghost use Rattle.hayro_ccitt.specs.UsualModes.{IsB1, IsStroke, AreRunsHere, GoesOn2d};
+ghost use Rattle.hayro_ccitt.specs.UsualRuns.{pen_at};
+ghost use Rattle.hayro_ccitt.specs.Window.{moved};
+
+use crate::bit_reader::BitsAtHand;
+use crate::changes::change_or_end;
+use crate::codes::{Color, Mode, Ticks, mode_of};
+use crate::usual::{
+    b1_after_left, has_room, is_next, lay_down, run_at_hand, seek_b1, turn_at, word_at_hand,
+};
+
+/// Fills the window, where fewer than 32 bits are at hand; false where that can't be.
+#[inline(always)]
+fn has_mode(hand: &mut BitsAtHand<'_>) -> bool
+    ensures same { hand.new.at ≡ hand.old.at }
+    ensures enough { result ≡ true → 32 ≤ hand.new.left }
+{
+    if hand.left() >= 32 {
+        return true;
+    }
+    hand.refill()
+}
+
+/// The mode whose word stands here, if one does, and the number of its bits.
+#[inline(always)]
+fn mode_at_hand(hand: &BitsAtHand<'_>) -> (Option<Mode>, usize)
+    requires within { 7 ≤ hand.now.left }
+    ensures mode { IfSome result.0 (λ mode. read_code mode_codes (here hand.now.at) ≡ Ok (mode, here (moved result.1 hand.now.at))) }
+    ensures some { 0 < result.1 }
+    ensures few { result.1 ≤ 7 }
+    ensures v0 { result.0 ≡ Some (Mode.Vertical (pos 0)) → result.1 ≡ 1 }
+    ensures horizontal { result.0 ≡ Some Mode.Horizontal → result.1 ≡ 3 }
+    ensures pass { result.0 ≡ Some Mode.Pass → result.1 ≡ 4 }
+    ensures there { hand.now.at.place < length hand.now.at.bits }
+{
+    mode_of(hand.seven())
+}
+
+/// Whether there is room for a change.
+#[inline(always)]
+fn has_place(changes: &Vec<u32>) -> bool
+    ensures { result ≡ true → vec_len changes.now < vec_capacity changes.now }
+{
+    changes.capacity() > changes.len()
+}
+
+/// Draws V0: a change below b1, or the rest of the row. None where there is no room for a change; then nothing is drawn.
+#[inline(always)]
+fn draw_v0(
+    hand: &mut BitsAtHand<'_>,
+    row: &mut Vec<u32>,
+    painted: u32,
+    columns: u32,
+    _strict: bool,
+    color: Color,
+    places: &[u32],
+    index: usize,
+    ticks: &mut Ticks,
+) -> Option<(u32, usize, Color)>
+    requires mode { read_code mode_codes (here hand.old.at) ≡ Ok (Mode.Vertical (pos 0), here (moved 1 hand.old.at)) }
+    requires enough { 1 ≤ hand.old.left }
+    requires open { painted < columns }
+    requires lawful { AreChanges columns places.now }
+    requires stroke { IsStroke columns places.now painted index color row.old.items }
+    ensures drawn { IfSome result (λ on. GoesOn2d _strict columns (pixels columns places.now) (pen_at painted row.old.items color hand.old.at)
+        (pen_at on.0 row.new.items on.2 hand.new.at) ticks.old ticks.new (index - 1) (on.1 - 1)) }
+    ensures stroke { IfSome result (λ on. IsStroke columns places.now on.0 on.1 on.2 row.new.items) }
+    ensures same_bits { hand.new.at.bits ≡ hand.old.at.bits }
+    ensures onward { IfSome result (λ on. hand.old.at.place < hand.new.at.place) }
+    ensures left { IfNone result ((hand.new.at ≡ hand.old.at) × (row.new.items ≡ row.old.items) × (ticks.new ≡ ticks.old)) }
+{
+    let place = change_or_end(places, index, columns);
+    if place >= columns {
+        hand.pass(1);
+        ticks.tick_times(2);
+        return Some((columns, index, color.opposite()));
+    }
+    if !has_place(row) {
+        return None;
+    }
+    hand.pass(1);
+    ticks.tick_times(2);
+    turn_at(row, place);
+    Some((place, index + 1, color.opposite()))
+}
+
+/// Draws VR: a change so many pixels right of b1. None where it isn't inside the row, or where there is no room for it; then
+/// nothing is drawn.
+#[inline(always)]
+fn draw_right(
+    hand: &mut BitsAtHand<'_>,
+    row: &mut Vec<u32>,
+    painted: u32,
+    columns: u32,
+    _strict: bool,
+    color: Color,
+    places: &[u32],
+    index: usize,
+    more: u32,
+    width: usize,
+    ticks: &mut Ticks,
+) -> Option<(u32, usize, Color)>
+    requires mode { read_code mode_codes (here hand.old.at) ≡ Ok (Mode.Vertical (pos more), here (moved width hand.old.at)) }
+    requires some { 0 < more }
+    requires bits { (0 < width) × (width < 64) }
+    requires enough { width ≤ hand.old.left }
+    requires open { painted < columns }
+    requires lawful { AreChanges columns places.now }
+    requires stroke { IsStroke columns places.now painted index color row.old.items }
+    ensures drawn { IfSome result (λ on. GoesOn2d _strict columns (pixels columns places.now) (pen_at painted row.old.items color hand.old.at)
+        (pen_at on.0 row.new.items on.2 hand.new.at) ticks.old ticks.new (index - 1) (on.1 - 1)) }
+    ensures stroke { IfSome result (λ on. IsStroke columns places.now on.0 on.1 on.2 row.new.items) }
+    ensures same_bits { hand.new.at.bits ≡ hand.old.at.bits }
+    ensures onward { IfSome result (λ on. hand.old.at.place < hand.new.at.place) }
+    ensures left { IfNone result ((hand.new.at ≡ hand.old.at) × (row.new.items ≡ row.old.items) × (ticks.new ≡ ticks.old)) }
+{
+    let b1 = change_or_end(places, index, columns);
+    if columns - b1 <= more {
+        return None;
+    }
+    if !has_place(row) {
+        return None;
+    }
+    let place = b1 + more;
+    hand.pass(width);
+    ticks.tick_times(2);
+    turn_at(row, place);
+    let next = seek_b1(places, place, columns, index + 1, ticks);
+    Some((place, next, color.opposite()))
+}
+
+/// Draws VL: a change so many pixels left of b1. None where it isn't right of a0, or where there is no room for it; then
+/// nothing is drawn.
+#[inline(always)]
+fn draw_left(
+    hand: &mut BitsAtHand<'_>,
+    row: &mut Vec<u32>,
+    painted: u32,
+    columns: u32,
+    _strict: bool,
+    color: Color,
+    places: &[u32],
+    index: usize,
+    less: u32,
+    width: usize,
+    ticks: &mut Ticks,
+) -> Option<(u32, usize, Color)>
+    requires mode { read_code mode_codes (here hand.old.at) ≡ Ok (Mode.Vertical (negsuc (less - 1)), here (moved width hand.old.at)) }
+    requires some { 0 < less }
+    requires bits { (0 < width) × (width < 64) }
+    requires enough { width ≤ hand.old.left }
+    requires open { painted < columns }
+    requires lawful { AreChanges columns places.now }
+    requires stroke { IsStroke columns places.now painted index color row.old.items }
+    ensures drawn { IfSome result (λ on. GoesOn2d _strict columns (pixels columns places.now) (pen_at painted row.old.items color hand.old.at)
+        (pen_at on.0 row.new.items on.2 hand.new.at) ticks.old ticks.new (index - 1) (on.1 - 1)) }
+    ensures stroke { IfSome result (λ on. IsStroke columns places.now on.0 on.1 on.2 row.new.items) }
+    ensures same_bits { hand.new.at.bits ≡ hand.old.at.bits }
+    ensures onward { IfSome result (λ on. hand.old.at.place < hand.new.at.place) }
+    ensures left { IfNone result ((hand.new.at ≡ hand.old.at) × (row.new.items ≡ row.old.items) × (ticks.new ≡ ticks.old)) }
+{
+    let b1 = change_or_end(places, index, columns);
+    if b1 - painted <= less {
+        return None;
+    }
+    if !has_place(row) {
+        return None;
+    }
+    let place = b1 - less;
+    hand.pass(width);
+    ticks.tick_times(3);
+    turn_at(row, place);
+    let next = b1_after_left(places, painted, columns, color, index, place);
+    Some((place, next, color.opposite()))
+}
+
+/// Draws a pass: the colour goes on to below b2.
+#[inline(always)]
+fn draw_pass(
+    hand: &mut BitsAtHand<'_>,
+    row: &mut Vec<u32>,
+    painted: u32,
+    columns: u32,
+    _strict: bool,
+    color: Color,
+    places: &[u32],
+    index: usize,
+    ticks: &mut Ticks,
+) -> Option<(u32, usize, Color)>
+    requires mode { read_code mode_codes (here hand.old.at) ≡ Ok (Mode.Pass, here (moved 4 hand.old.at)) }
+    requires enough { 4 ≤ hand.old.left }
+    requires open { painted < columns }
+    requires lawful { AreChanges columns places.now }
+    requires stroke { IsStroke columns places.now painted index color row.old.items }
+    ensures drawn { IfSome result (λ on. GoesOn2d _strict columns (pixels columns places.now) (pen_at painted row.old.items color hand.old.at)
+        (pen_at on.0 row.new.items on.2 hand.new.at) ticks.old ticks.new (index - 1) (on.1 - 1)) }
+    ensures stroke { IfSome result (λ on. IsStroke columns places.now on.0 on.1 on.2 row.new.items) }
+    ensures same_bits { hand.new.at.bits ≡ hand.old.at.bits }
+    ensures onward { IfSome result (λ on. hand.old.at.place < hand.new.at.place) }
+    ensures left { IfNone result ((hand.new.at ≡ hand.old.at) × (row.new.items ≡ row.old.items) × (ticks.new ≡ ticks.old)) }
+{
+    let b2 = change_or_end(places, index + 1, columns);
+    hand.pass(4);
+    ticks.tick_times(2);
+    if b2 >= columns {
+        return Some((columns, index, color));
+    }
+    Some((b2, index + 2, color))
+}
+
+/// Fills the window, where fewer than 55 bits are at hand; false where that can't be.
+#[inline(always)]
+fn has_long_runs(hand: &mut BitsAtHand<'_>) -> bool
+    ensures same { hand.new.at ≡ hand.old.at }
+    ensures enough { result ≡ true → 55 ≤ hand.new.left }
+{
+    if hand.left() >= 55 {
+        return true;
+    }
+    hand.refill()
+}
+
+/// Two runs of two colours behind a horizontal mode: of each its pixels, its bits and its words. None where one of them has
+/// other words than one terminating word, or one make-up word and one.
+#[inline(always)]
+fn runs_at_hand(
+    hand: &mut BitsAtHand<'_>,
+    color: Color,
+    own: &[u16],
+    other: &[u16],
+) -> Option<(u32, usize, usize, u32, usize, usize)>
+    requires enough { 32 ≤ hand.old.left }
+    requires own { AreEntries (codes_of color) own.now }
+    requires other { AreEntries (codes_of (opposite color)) other.now }
+    ensures same { hand.new.at ≡ hand.old.at }
+    ensures runs { IfSome result (λ two. AreRunsHere color (moved 3 hand.old.at) two.0 two.1 two.2 two.3 two.4 two.5) }
+    ensures below { IfSome result (λ two. (two.0 ≤ 4158) × (two.3 ≤ 4158)) }
+    ensures enough { IfSome result (λ two. 3 + two.1 + two.4 ≤ hand.new.left) }
+{
+    let (run, width) = word_at_hand(hand, 3, color, own);
+    let (run2, width2) = word_at_hand(hand, 3 + width, color.opposite(), other);
+    if run < 64 && run2 < 64 {
+        return Some((run, width, 1, run2, width2, 1));
+    }
+    if !has_long_runs(hand) {
+        return None;
+    }
+    let (run, width, words) = run_at_hand(hand, 3, color, own)?;
+    let (run2, width2, words2) = run_at_hand(hand, 3 + width, color.opposite(), other)?;
+    Some((run, width, words, run2, width2, words2))
+}
+
+/// Draws two runs. None where they aren't usual; then nothing is drawn.
+#[inline(always)]
+fn draw_horizontal(
+    hand: &mut BitsAtHand<'_>,
+    row: &mut Vec<u32>,
+    painted: u32,
+    columns: u32,
+    _strict: bool,
+    color: Color,
+    places: &[u32],
+    index: usize,
+    own: &[u16],
+    other: &[u16],
+    ticks: &mut Ticks,
+) -> Option<(u32, usize, Color)>
+    requires mode { read_code mode_codes (here hand.old.at) ≡ Ok (Mode.Horizontal, here (moved 3 hand.old.at)) }
+    requires enough { 32 ≤ hand.old.left }
+    requires own { AreEntries (codes_of color) own.now }
+    requires other { AreEntries (codes_of (opposite color)) other.now }
+    requires open { painted < columns }
+    requires lawful { AreChanges columns places.now }
+    requires stroke { IsStroke columns places.now painted index color row.old.items }
+    ensures drawn { IfSome result (λ on. GoesOn2d _strict columns (pixels columns places.now) (pen_at painted row.old.items color hand.old.at)
+        (pen_at on.0 row.new.items on.2 hand.new.at) ticks.old ticks.new (index - 1) (on.1 - 1)) }
+    ensures stroke { IfSome result (λ on. IsStroke columns places.now on.0 on.1 on.2 row.new.items) }
+    ensures same_bits { hand.new.at.bits ≡ hand.old.at.bits }
+    ensures onward { IfSome result (λ on. hand.old.at.place < hand.new.at.place) }
+    ensures left { IfNone result ((hand.new.at ≡ hand.old.at) × (row.new.items ≡ row.old.items) × (ticks.new ≡ ticks.old)) }
+{
+    let (run, width, words, run2, width2, words2) = runs_at_hand(hand, color, own, other)?;
+    if !is_next(row, run) {
+        return None;
+    }
+    if run2 == 0 {
+        return None;
+    }
+    let room = columns - painted;
+    if run + run2 > room {
+        return None;
+    }
+    if !has_room(row) {
+        return None;
+    }
+    hand.pass(3);
+    hand.pass(width);
+    hand.pass(width2);
+    ticks.tick();
+    ticks.tick_times(words);
+    ticks.tick_times(words2);
+    turn_at(row, painted + run);
+    if run + run2 == room {
+        return Some((columns, index, color));
+    }
+    let place = painted + run + run2;
+    turn_at(row, place);
+    let next = seek_b1(places, place, columns, index, ticks);
+    Some((place, next, color))
+}
+
+/// Draws the mode that stands here, for a colour. None where it isn't usual; then nothing is drawn.
+#[inline(always)]
+fn draw_mode_at_hand(
+    hand: &mut BitsAtHand<'_>,
+    row: &mut Vec<u32>,
+    painted: u32,
+    columns: u32,
+    strict: bool,
+    color: Color,
+    places: &[u32],
+    index: usize,
+    own: &[u16],
+    other: &[u16],
+    ticks: &mut Ticks,
+) -> Option<(u32, usize, Color)>
+    requires own { AreEntries (codes_of color) own.now }
+    requires other { AreEntries (codes_of (opposite color)) other.now }
+    requires open { painted < columns }
+    requires lawful { AreChanges columns places.now }
+    requires stroke { IsStroke columns places.now painted index color row.old.items }
+    ensures drawn { IfSome result (λ on. GoesOn2d strict columns (pixels columns places.now) (pen_at painted row.old.items color hand.old.at)
+        (pen_at on.0 row.new.items on.2 hand.new.at) ticks.old ticks.new (index - 1) (on.1 - 1)) }
+    ensures stroke { IfSome result (λ on. IsStroke columns places.now on.0 on.1 on.2 row.new.items) }
+    ensures same_bits { hand.new.at.bits ≡ hand.old.at.bits }
+    ensures onward { IfSome result (λ on. hand.old.at.place < hand.new.at.place) }
+    ensures there { IfSome result (λ on. hand.old.at.place < length hand.old.at.bits) }
+    ensures left { IfNone result ((hand.new.at ≡ hand.old.at) × (row.new.items ≡ row.old.items) × (ticks.new ≡ ticks.old)) }
+{
+    if !has_mode(hand) {
+        return None;
+    }
+    let (mode, width) = mode_at_hand(hand);
+    match mode? {
+        Mode::Vertical(0) => draw_v0(
+            hand, row, painted, columns, strict, color, places, index, ticks,
+        ),
+        Mode::Vertical(1) => draw_right(
+            hand, row, painted, columns, strict, color, places, index, 1, width, ticks,
+        ),
+        Mode::Vertical(2) => draw_right(
+            hand, row, painted, columns, strict, color, places, index, 2, width, ticks,
+        ),
+        Mode::Vertical(3) => draw_right(
+            hand, row, painted, columns, strict, color, places, index, 3, width, ticks,
+        ),
+        Mode::Vertical(-1) => draw_left(
+            hand, row, painted, columns, strict, color, places, index, 1, width, ticks,
+        ),
+        Mode::Vertical(-2) => draw_left(
+            hand, row, painted, columns, strict, color, places, index, 2, width, ticks,
+        ),
+        Mode::Vertical(-3) => draw_left(
+            hand, row, painted, columns, strict, color, places, index, 3, width, ticks,
+        ),
+        Mode::Vertical(_) => None,
+        Mode::Pass => draw_pass(
+            hand, row, painted, columns, strict, color, places, index, ticks,
+        ),
+        Mode::Horizontal => draw_horizontal(
+            hand, row, painted, columns, strict, color, places, index, own, other, ticks,
+        ),
+    }
+}
+
+/// Whether a colour is the other one.
+#[inline(always)]
+fn is_turned(color: Color, next: Color) -> bool
+    ensures same { result ≡ false → next ≡ color }
+    ensures other { result ≡ true → next ≡ opposite color }
+{
+    match color {
+        Color::White => match next {
+            Color::White => false,
+            Color::Black => true,
+        },
+        Color::Black => match next {
+            Color::White => true,
+            Color::Black => false,
+        },
+    }
+}
+
+/// Draws modes of one colour as long as they are usual, up to one that turns the colour, and tells how far the row reaches
+/// then, the index of b1, the colour, and whether that is all.
+#[inline(always)]
+fn draw_in_color(
+    hand: &mut BitsAtHand<'_>,
+    row: &mut Vec<u32>,
+    painted: u32,
+    columns: u32,
+    strict: bool,
+    color: Color,
+    places: &[u32],
+    index: usize,
+    own: &[u16],
+    other: &[u16],
+    ticks: &mut Ticks,
+) -> (u32, usize, Color, bool)
+    requires own { AreEntries (codes_of color) own.now }
+    requires other { AreEntries (codes_of (opposite color)) other.now }
+    requires open { painted < columns }
+    requires lawful { AreChanges columns places.now }
+    requires stroke { IsStroke columns places.now painted index color row.old.items }
+    ensures drawn { GoesOn2d strict columns (pixels columns places.now) (pen_at painted row.old.items color hand.old.at)
+        (pen_at result.0 row.new.items result.2 hand.new.at) ticks.old ticks.new (index - 1) (result.1 - 1) }
+    ensures stroke { IsStroke columns places.now result.0 result.1 result.2 row.new.items }
+    ensures same_bits { hand.new.at.bits ≡ hand.old.at.bits }
+    ensures onward { hand.old.at.place ≤ hand.new.at.place }
+    ensures turned { result.3 ≡ false → (result.0 < columns) × (result.2 ≡ opposite color)
+        × (hand.old.at.place < hand.new.at.place) × (hand.old.at.place < length hand.old.at.bits) }
+{
+    let mut place = painted;
+    let mut at = index;
+    'modes: loop {
+        match draw_mode_at_hand(
+            hand, row, place, columns, strict, color, places, at, own, other, ticks,
+        ) {
+            None => return (place, at, color, true),
+            Some((next, later, turned)) => {
+                if next == columns {
+                    return (next, later, turned, true);
+                }
+                if is_turned(color, turned) {
+                    return (next, later, turned, false);
+                }
+                place = next;
+                at = later;
+            }
+        }
+    }
+}
+
+/// Draws modes as long as they are usual, from a line's start on, and tells how far the row reaches then, the index of b1 and
+/// the colour.
+#[inline(always)]
+pub(crate) fn draw_modes(
+    hand: &mut BitsAtHand<'_>,
+    row: &mut Vec<u32>,
+    columns: u32,
+    strict: bool,
+    places: &[u32],
+    white: &[u16],
+    black: &[u16],
+    ticks: &mut Ticks,
+) -> (u32, usize, Color)
+    requires some { 0 < columns }
+    requires begins { row.old.items ≡ [] }
+    requires lawful { AreChanges columns places.now }
+    requires white { AreEntries (codes_of Color.White) white.now }
+    requires black { AreEntries (codes_of Color.Black) black.now }
+    ensures drawn { GoesOn2d strict columns (pixels columns places.now) (pen_at 0 row.old.items Color.White hand.old.at)
+        (pen_at result.0 row.new.items result.2 hand.new.at) ticks.old ticks.new 0 (result.1 - 1) }
+    ensures stroke { IsStroke columns places.now result.0 result.1 result.2 row.new.items }
+    ensures same_bits { hand.new.at.bits ≡ hand.old.at.bits }
+{
+    let mut place: u32 = 0;
+    let mut at: usize = 0;
+    'turns: loop {
+        let (next, later, color, is_over) = draw_in_color(
+            hand,
+            row,
+            place,
+            columns,
+            strict,
+            Color::White,
+            places,
+            at,
+            white,
+            black,
+            ticks,
+        );
+        if is_over {
+            return (next, later, color);
+        }
+        let (next, later, color, is_over) = draw_in_color(
+            hand,
+            row,
+            next,
+            columns,
+            strict,
+            Color::Black,
+            places,
+            later,
+            black,
+            white,
+            ticks,
+        );
+        if is_over {
+            return (next, later, color);
+        }
+        place = next;
+        at = later;
+    }
+}
+
+/// Lays down a front: a change that stands at its end isn't one yet, unless the row is full.
+#[inline(always)]
+pub(crate) fn lay_down_row(changes: &mut Vec<u32>, painted: u32, columns: u32)
+    requires lawful { AreChanges (painted + 1) changes.old.items }
+    requires whole { columns ≤ painted → AreChanges painted changes.old.items }
+    ensures lawful { AreChanges painted changes.new.items }
+    ensures same { pixels painted changes.new.items ≡ pixels painted changes.old.items }
+{
+    if painted < columns {
+        lay_down(changes, painted);
+    }
+}

@@ -1,0 +1,269 @@
+//! Rows one at a time.
+
+ghost use Rattle.std.specs.Prelude.{◌≡◌, ◌+◌, ◌/◌, true, None, Some, IfOk, IsOkUnless, Result};
+ghost use Rattle.hayro_ccitt.specs.Bits.{BitsFit, bits_in};
+ghost use Rattle.hayro_ccitt.specs.Context.{fresh};
+ghost use Rattle.hayro_ccitt.specs.Rows.{changes};
+ghost use Rattle.hayro_ccitt.specs.RowsRead.{Stands, ComesToLine, ReadsNext, stand_after, line_after, is_at_line, at_end_of_rows};
+
+use crate::bit_reader::{BitOrder, BitReader};
+use crate::context::DecoderContext;
+use crate::group3::read_leading_eols;
+use crate::rows::{pass_gap, read_row};
+use crate::settings::{DecodeSettings, EncodingMode};
+use crate::{DecodeError, Decoder, Result};
+use std::alloc::Global;
+use std::marker::Model;
+
+/// A sink that takes each row and keeps none.
+#[derive(Drop)]
+struct NoRows {
+    columns: u32,
+}
+
+impl Decoder for NoRows {
+    ghost use Rattle.std.specs.Prelude.{false};
+
+    ghost Meaning = { Unit {0} };
+
+    ghost meaning = { λ _. tt };
+
+    ghost step = { λ _ _ _. tt };
+
+    ghost width = { λ sink. sink.columns };
+
+    ghost has_refused = { λ _. false };
+
+    ghost refuses = { λ _ _. ⊥ };
+
+    fn push_row(&mut self, _changes: &[u32]) -> Result<()> {
+        Ok(())
+    }
+}
+
+/// Where a reader of rows is.
+#[derive(Copy, Clone)]
+enum Stand {
+    /// At the first bit of a line.
+    AtLine,
+    /// After a row, at the gap before the next line.
+    BehindRow,
+    /// At the end of the image.
+    AtEnd,
+    /// After an error.
+    AtFault(DecodeError),
+}
+
+/// Where a reading is after a gap, which says so.
+fn stand_after_gap(over: Result<bool>) -> Stand
+    ensures { result ≡ stand_after over }
+{
+    match over {
+        Ok(true) => Stand::AtEnd,
+        Ok(false) => Stand::AtLine,
+        Err(error) => Stand::AtFault(error),
+    }
+}
+
+/// Whether a line follows a gap, which says whether the image ends there.
+fn line_after_gap(over: Result<bool>) -> Result<bool>
+    ensures { result ≡ line_after over }
+{
+    match over {
+        Ok(over) => Ok(!over),
+        Err(error) => Err(error),
+    }
+}
+
+/// Whether a line stands here.
+fn is_at_line(stand: Stand) -> bool
+    ensures { result ≡ is_at_line stand }
+{
+    matches!(&stand, Stand::AtLine)
+}
+
+/// Passes what stands before the first line: in Group 4 EOFB may, and in Group 3 EOLs (T.6 section 2.4.1.1, T.4 section 4.1.2).
+fn first_stand(ctx: &mut DecoderContext, reader: &mut BitReader<'_>) -> Stand
+    requires fresh { ctx.old.held ≡ fresh ctx.old.held.settings }
+    requires start { reader.old.place ≡ 0 }
+    ensures none_taken { ctx.new.held.taken ≡ 0 }
+    ensures settings { ctx.new.held.settings ≡ ctx.old.held.settings }
+    ensures same_bits { reader.new.bits ≡ reader.old.bits }
+    ensures stands { Stands result ctx.old.held.settings reader.old.bits ctx.new.held reader.new.place }
+{
+    if ctx.settings().columns == 0 {
+        return Stand::AtEnd;
+    }
+    match ctx.settings().encoding {
+        EncodingMode::Group4 => {
+            let over = pass_gap(ctx, reader);
+            // That an offset is within the data is known once it is read.
+            let _place = reader.bit_pos();
+            stand_after_gap(over)
+        }
+        EncodingMode::Group3_1D | EncodingMode::Group3_2D => {
+            read_leading_eols(ctx, reader);
+            Stand::AtLine
+        }
+    }
+}
+
+/// Reads the rows of an image one at a time. It holds two rows in memory and the tables of the code words, however long the
+/// image is.
+///
+/// [`decode`](crate::decode) reads the same rows, and hands each to a sink.
+///
+/// # Example
+///
+/// ```text
+/// let mut rows = RowReader::new(alloc, data, BitOrder::HighestFirst, settings)?;
+/// for _ in 0..u64::MAX {
+///     if !rows.next_row()? {
+///         break;
+///     }
+///     show(rows.row());
+/// }
+/// ```
+#[derive(Drop)]
+pub struct RowReader<'a> {
+    ctx: DecoderContext,
+    reader: BitReader<'a>,
+    started_at: usize,
+    stand: Stand,
+}
+
+impl<'a> Model for RowReader<'a> {
+    ghost use Rattle.hayro_ccitt.specs.RowsRead.{RowsRead};
+
+    ghost Value = { RowsRead };
+
+    ghost use Rattle.hayro_ccitt.specs.RowsRead.{rows_read_of, IsReading};
+
+    ghost view = { rows_read_of };
+
+    ghost invariant = { IsReading };
+}
+
+impl<'a> RowReader<'a> {
+    /// A reader of the rows of an image, whose bytes hold their bits in this order. It stands before the first row.
+    ///
+    /// # Errors
+    ///
+    /// `OutOfMemory` where the tables of the code words can't be allocated.
+    pub fn new(
+        alloc: Global,
+        data: &'a [u8],
+        order: BitOrder,
+        settings: DecodeSettings,
+    ) -> Result<RowReader<'a>>
+        requires fit { BitsFit «data».now }
+        ensures settings { IfOk result (λ rows. rows.settings ≡ settings) }
+        ensures bits { IfOk result (λ rows. rows.bits ≡ bits_in order «data».now) }
+        ensures none_read { IfOk result (λ rows. rows.taken ≡ 0) }
+        ensures only_memory { IsOkUnless result DecodeError.OutOfMemory }
+    {
+        let mut ctx = DecoderContext::new(alloc, settings)?;
+        let mut reader = match order {
+            BitOrder::HighestFirst => BitReader::new(data),
+            BitOrder::LowestFirst => BitReader::new_low_first(data),
+        };
+        let stand = first_stand(&mut ctx, &mut reader);
+        Ok(RowReader {
+            ctx,
+            reader,
+            started_at: 0,
+            stand,
+        })
+    }
+
+    /// Passes the gap before the next line, and returns whether a line stands there.
+    fn come_to_line(&mut self) -> Result<bool>
+        requires { self.old.end ≡ None }
+        ensures { ComesToLine self.old self.new result }
+    {
+        if is_at_line(self.stand) {
+            return Ok(true);
+        }
+        let over = pass_gap(&mut self.ctx, &mut self.reader);
+        // That an offset is within the data is known once it is read.
+        let _place = self.reader.bit_pos();
+        self.stand = stand_after_gap(over);
+        line_after_gap(over)
+    }
+
+    /// Reads the line that stands here.
+    fn read_line(&mut self) -> Result<bool>
+        requires { self.old.at_line ≡ true }
+        ensures reads { ReadsNext self.old self.new result }
+        ensures more { IfOk result (λ more. more ≡ true) }
+    {
+        let mut sink = NoRows {
+            columns: self.ctx.settings().columns,
+        };
+        let line_start = self.reader.bit_pos();
+        match read_row(&mut self.ctx, &mut self.reader, &mut sink) {
+            Ok(()) => {
+                self.started_at = line_start;
+                self.stand = Stand::BehindRow;
+                Ok(true)
+            }
+            Err(error) => {
+                self.stand = Stand::AtFault(error);
+                Err(error)
+            }
+        }
+    }
+
+    /// Reads the next row, and returns whether there was one; its changes are those of [`row`](RowReader::row). At the end of
+    /// the image it returns `Ok(false)`, and so does each further call.
+    ///
+    /// # Errors
+    ///
+    /// Those of [`decode`](crate::decode), but for `Refused`. After an error each further call returns the same error.
+    pub fn next_row(&mut self) -> Result<bool>
+        ensures reads { self.old.end ≡ None → ReadsNext self.old self.new result }
+        ensures ended { (end : Result (Unit {0}) DecodeError) → self.old.end ≡ Some end
+            → (self.new ≡ self.old) × (result ≡ at_end_of_rows end) }
+    {
+        match self.stand {
+            Stand::AtEnd => Ok(false),
+            Stand::AtFault(error) => Err(error),
+            Stand::AtLine | Stand::BehindRow => {
+                if !self.come_to_line()? {
+                    return Ok(false);
+                }
+                self.read_line()
+            }
+        }
+    }
+
+    /// The changes of the last row that was read, in ascending order: the pixels at which its colour changes. There are none
+    /// before the first row.
+    pub fn row(&self) -> &[u32]
+        ensures { result.now ≡ changes self.now.row }
+    {
+        self.ctx.reference_row()
+    }
+
+    /// The number of rows that were read.
+    pub fn rows_read(&self) -> u64
+        ensures { result ≡ self.now.taken }
+    {
+        self.ctx.decoded_rows()
+    }
+
+    /// The offset in bits at which the line of the last row begins, after its EOL; in two-dimensional data of Group 3 that of
+    /// its tag bit (T.4 section 4.2.2).
+    pub fn line_start(&self) -> usize
+        ensures { result ≡ self.now.line_start }
+    {
+        self.started_at
+    }
+
+    /// The number of bytes consumed so far, the last one whole.
+    pub fn bytes_read(&self) -> usize
+        ensures { result ≡ (self.now.place + 7) / 8 }
+    {
+        self.reader.bit_pos().div_ceil(8)
+    }
+}
