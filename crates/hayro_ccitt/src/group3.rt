@@ -7,7 +7,7 @@ ghost use Rattle.hayro_ccitt.specs.Context.{after_repair, fresh};
 ghost use Rattle.hayro_ccitt.specs.EndOfLine.{all_eols};
 ghost use Rattle.hayro_ccitt.specs.Decoding.{DecodesRows, leaving, gap_said};
 ghost use Rattle.hayro_ccitt.specs.PlainReading.{gap_behind_row};
-ghost use Rattle.hayro_ccitt.specs.Ticks.{looked, looked_ahead, tag_tests};
+ghost use Rattle.hayro_ccitt.specs.Ticks.{looked, looked_ahead};
 
 use crate::bit_reader::BitReader;
 use crate::context::DecoderContext;

@@ -30,9 +30,6 @@ use Rattle.hayro_ccitt.proofs.PixelRows.ReferencePlaces.{end_within}
 use Rattle.hayro_ccitt.proofs.Readings.Repeated.{after_turn}
 
 -- ---- Drawing goes on.
-pub still_2d : (strict : Bool) (columns : ℕ) (reference : Row) (pen : Pen) (ticks passed : ℕ) → GoesOn2d strict columns reference pen pen ticks ticks passed passed
-still_2d strict columns reference pen ticks passed = record { line = refl; counts = omega arith; at_least = omega arith; at_most = omega arith; none = λ e. (refl, e) }
-
 pub twice_2d : (strict : Bool) (columns : ℕ) (reference : Row) (a b c : Pen) (m n o p q r : ℕ) → GoesOn2d strict columns reference a b m n p q → GoesOn2d strict columns reference b c n o q r
     → GoesOn2d strict columns reference a c m o p r
 twice_2d strict columns reference a b c m n o p q r first second = record {

@@ -225,10 +225,6 @@ IsDrawn1d before now begun at =
     × (now.ticks + length (found_1d_from before.held.settings.strict before.held.settings.columns (pen_of now.held (here at)))
     ≡ before.ticks + length (words_from_1d before.held (here begun)))
 
--- nothing, where the line begins
-pub begun_1d : (before now : Context) (at : BitsAt) → now ≡ record before { held = redrawn before.held [] White; passed = 0 } → IsDrawn1d before now at at
-begun_1d before now at is = rw is (record { line = refl; held = refl; same_bits = refl; counts = omega arith }, refl)
-
 -- and more, where drawing goes on
 pub drawn_on : (before now new : Context) (begun at next : BitsAt) → IsDrawn1d before now begun at
     → GoesOn now.held.settings.strict now.held.settings.columns (pen_of now.held (here at)) (pen_of new.held (here next)) now.ticks new.ticks

@@ -66,18 +66,6 @@ module _ (columns : ℕ) (places : List ℕ) (ascend : AreChanges columns places
       let le : get_or places j columns ≤ get_or places k columns = rising j k (omega arith) in
       rising_from j k lt (omega arith)
 
-  -- ---- An index from which b1 is found going up by twos.
-  -- the second change before it tells of all
-  pub near_by_second : (painted index : ℕ) → (2 ≤ index → (0 < painted) × (get_or places (index - 2) columns ≤ painted)) → IsNear columns places painted index
-  near_by_second painted index second = record {
-    left = λ k le. (let at = second (omega arith) in (at.0, omega (arith, at.1, rising k (index - 2) (omega arith))));
-  }
-
-  -- so it does with 0 for a change that isn't there, where the index is the number of changes and one more at most
-  pub near_by_zero : (painted index : ℕ) → index ≤ length places + 1 → (2 ≤ index → (0 < painted) × (get_or places (index - 2) 0 ≤ painted)) → IsNear columns places painted index
-  near_by_zero painted index within second =
-      near_by_second painted index (λ two. (let at = second two in (at.0, omega (arith, at.1, get_or_default_zero places (index - 2) columns (omega arith)))))
-
   -- it is the number of changes and one more at most
   pub near_within : (painted index : ℕ) → painted < columns → IsNear columns places painted index → index ≤ length places + 1
   near_within painted index inside near = elim (cases_lt index 2) [
@@ -138,33 +126,13 @@ module _ (columns : ℕ) (places : List ℕ) (ascend : AreChanges columns places
   b2_by_parity painted index color inside at =
       b2_after_b1 columns places (right_of_painted painted) index color ascend (b1_by_parity painted index color inside at)
 
-  -- the index is the number of changes that are not right of a0, or one more
-  pub b1_and_passed : (painted index : ℕ) (color : Color) → painted < columns → IsB1 columns places painted index color
-      → (passed_changes places painted ≤ index) × (index ≤ passed_changes places painted + 1)
-  b1_and_passed painted index color inside at =
-      let colored : turned index false ≡ is_black color = turns_by index color at.turns in
-      let split = split_near painted index color inside colored at.near at.right (cases_lt 0 painted) in
-      let passed : split.0 ≡ passed_changes places painted = split_passed columns places painted split.0 ascend split.1 in
-      elim split.2 [ inl same ↦ (omega arith, omega arith) | inr next ↦ (omega (arith, next.0), omega (arith, next.0)) ]
-
   -- the same of a front, which says where a0 is
   pub b1_of_front : (front : Row) (painted index : ℕ) (color : Color) → length front ≡ painted → painted < columns → IsB1 columns places painted index color
       → (b1 (pixels columns places) (right_of front) color ≡ get_or places index columns) × (b2 (pixels columns places) (right_of front) color ≡ get_or places (index + 1) columns)
   b1_of_front front painted index color len inside at =
       rw (right_of_length front painted len) (b1_by_parity painted index color inside at, b2_by_parity painted index color inside at)
 
-  -- and of a row of changes whose last one may stand at a0, in the colour of their number
-  pub b1_of_stroke : (row : List ℕ) (painted index : ℕ) (color : Color) → AreChanges (suc painted) row → TurnsFrom (length row) color → painted < columns
-      → index % 2 ≡ length row % 2 → IsNear columns places painted index → (0 < painted → painted < get_or places index columns)
-      → (b1 (pixels columns places) (right_of (pixels painted row)) color ≡ get_or places index columns) × (b2 (pixels columns places) (right_of (pixels painted row)) color ≡ get_or places (index + 1) columns)
-  b1_of_stroke row painted index color lawful colored inside same near right =
-      b1_of_front (pixels painted row) painted index color (length-pixels-on painted row lawful) inside
-      (record { turns = turns_alike index (length row) color same colored; near = near; right = right })
-
   -- ---- Where b1 is after a mode.
-  -- at a line's start
-  pub starts_b1 : IsB1 columns places 0 0 White
-  starts_b1 = record { turns = refl; near = record { left = λ k l. absurd (omega arith) }; right = λ l. absurd (omega arith) }
 
   -- the end of going up by twos
   pub ends_at_b1 : (painted index : ℕ) (color : Color) → TurnsFrom index color → IsNear columns places painted index → painted < get_or places index columns
@@ -187,14 +155,6 @@ module _ (columns : ℕ) (places : List ℕ) (ascend : AreChanges columns places
       record { left = λ k l. (omega arith, omega (arith, rising k index (omega arith))) },
     )
 
-    -- VL, where b1 is the first change: the second
-    pub after_vl_first : (place : ℕ) → index ≡ 0 → place < get_or places index columns → IsB1 columns places place (index + 1) (opposite color)
-    after_vl_first place first left = record {
-      turns = turns_next index color at.turns;
-      near = record { left = λ k l. absurd (omega arith) };
-      right = λ some. omega (arith, left, rising index (index + 1) (omega arith));
-    }
-
     -- pass: the second next
     pub after_pass : get_or places (index + 1) columns < columns → IsB1 columns places (get_or places (index + 1) columns) (index + 2) color
     after_pass below = record {
@@ -203,20 +163,8 @@ module _ (columns : ℕ) (places : List ℕ) (ascend : AreChanges columns places
       right = λ some. rising_from (index + 1) (index + 2) (omega arith) below;
     }
 
-    -- horizontal: from the same index on
-    pub after_horizontal : (later : ℕ) → painted ≤ later → TurnsFrom index color × IsNear columns places later index
-    after_horizontal later le = (at.turns, near_later painted later index le at.near)
-
   module _ (painted before : ℕ) (color : Color) (at : IsB1 columns places painted (before + 1) color) (place : ℕ) (right : painted < place) (left : place < get_or places (before + 1) columns) where
-    -- VL, where some change is before b1: that one, if it is right of where the front ends now
-    pub after_vl_back : place < get_or places before columns → IsB1 columns places place before (opposite color)
-    after_vl_back is_right = record {
-      turns = turns_before before color at.turns;
-      near = record { left = λ k l. (let u = at.near.left k (omega arith) in (omega arith, omega (arith, u.1))) };
-      right = λ some. is_right;
-    }
-
-    -- and else the one behind b1
+    -- the one behind b1
     pub after_vl_on : get_or places before columns ≤ place → IsB1 columns places place (before + 2) (opposite color)
     after_vl_on is_left = record {
       turns = turns_second before (opposite color) (turns_before before color at.turns);

@@ -273,9 +273,6 @@ module _ (settings : DecodeSettings) (bits : Bits) (held : Held) (here_now : Bit
   last_taken : last.taken ≡ length next.rows
   last_taken = ap (λ (h : Held). h.taken) frame ∙ ap (λ (h : Held). h.taken) stands.held_is
 
-  pub passed_settings : last.settings ≡ settings
-  passed_settings = ap (λ (h : Held). h.settings) frame ∙ ap (λ (h : Held). h.settings) stands.held_is
-
   pub gap_stands : (answer : Result Bool DecodeError) → gap_behind_row held.settings held.taken held.has_eols here_now ≡ gap_said answer last.has_eols (drop place bits)
       → IsOkUnless answer InvalidCode → Stands (stand_after answer) settings bits last place
   gap_stands (Ok true) said code =
