@@ -395,6 +395,20 @@ impl<'a> BitsAtHand<'a> {
         (self.window << skip >> 51) as usize
     }
 
+    /// The same bits at hand.
+    #[inline(always)]
+    pub(crate) fn copy(&self) -> BitsAtHand<'a>
+        ensures { result ≡ self.now }
+    {
+        BitsAtHand {
+            data: self.data,
+            window: self.window,
+            left: self.left,
+            limit: self.limit,
+            order: self.order,
+        }
+    }
+
     /// The next seven bits, as a number.
     #[inline(always)]
     pub(crate) fn seven(&self) -> u32

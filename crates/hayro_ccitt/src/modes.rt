@@ -473,11 +473,13 @@ pub(crate) fn draw_modes(
     ensures stroke { IsStroke columns places.now result.0 result.1 result.2 row.new.items }
     ensures same_bits { hand.new.at.bits ≡ hand.old.at.bits }
 {
+    // The window stands in values of this call alone.
+    let mut bits = hand.copy();
     let mut place: u32 = 0;
     let mut at: usize = 0;
     'turns: loop {
         let (next, later, color, is_over) = draw_in_color(
-            hand,
+            &mut bits,
             row,
             place,
             columns,
@@ -490,10 +492,11 @@ pub(crate) fn draw_modes(
             ticks,
         );
         if is_over {
+            *hand = bits;
             return (next, later, color);
         }
         let (next, later, color, is_over) = draw_in_color(
-            hand,
+            &mut bits,
             row,
             next,
             columns,
@@ -506,6 +509,7 @@ pub(crate) fn draw_modes(
             ticks,
         );
         if is_over {
+            *hand = bits;
             return (next, later, color);
         }
         place = next;
