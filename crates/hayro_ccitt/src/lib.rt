@@ -23,6 +23,7 @@ pub mod bit_reader;
 pub mod changes;
 pub mod codes;
 pub mod context;
+mod entries;
 mod error;
 pub mod group3;
 pub mod group4;

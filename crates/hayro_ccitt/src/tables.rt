@@ -7,6 +7,7 @@ ghost use Rattle.hayro_ccitt.specs.LookUps.{AreEntries, AreOfColors, entries_of,
 ghost use Rattle.hayro_ccitt.specs.Runs.{codes_of};
 
 use crate::codes::{Color, Mode};
+use crate::entries::{black_entries, white_entries};
 use crate::{DecodeError, Result};
 use std::alloc::Global;
 use std::marker::Model;
@@ -377,6 +378,22 @@ pub fn build_lookup(
     Ok(Lookup { entries })
 }
 
+/// A look-up with a copy of these entries. The only error is `OutOfMemory`.
+fn lookup_of(alloc: Global, entries: &[u16]) -> Result<Lookup>
+    requires count { length entries.now ≡ 8192 }
+    ensures entries { IfOk result (λ lookup. lookup ≡ entries.now) }
+    ensures only_memory { IsOkUnless result DecodeError.OutOfMemory }
+{
+    let mut copied = Vec::with_capacity(alloc, LOOKUP_ENTRIES)?;
+    // 1 KiB at a time: memcpy copies larger parts byte by byte on some processors.
+    let mut done = 0;
+    'parts: while done < LOOKUP_ENTRIES {
+        copied.extend_from_slice(&entries[done..done + 512])?;
+        done += 512;
+    }
+    Ok(Lookup { entries: copied })
+}
+
 /// What run codes are read by: the look-ups of both colours.
 #[derive(Drop)]
 pub struct Tables {
@@ -403,8 +420,8 @@ impl Tables {
         ensures only_memory { IsOkUnless result DecodeError.OutOfMemory }
     {
         Ok(Tables {
-            white: build_lookup(alloc, &WHITE_TERMINATING, &WHITE_MAKEUP)?,
-            black: build_lookup(alloc, &BLACK_TERMINATING, &BLACK_MAKEUP)?,
+            white: lookup_of(alloc, white_entries())?,
+            black: lookup_of(alloc, black_entries())?,
         })
     }
 

@@ -1,5 +1,5 @@
 -- The arrays of the code are the code lists, and the look-ups of the arrays those of the lists.
-use Rattle.std.proofs.Common.{◌≡◌, ℕ, ◌++◌, ◌⊎◌, inl, inr, List, refl, ap, subst, ◌∙◌}
+use Rattle.std.proofs.Common.{◌≡◌, ℕ, ◌++◌, ◌⊎◌, inl, inr, List, refl, ap, ◌∙◌}
 use Rattle.hayro_ccitt.specs.declared.codes.Color.{Color}
 use Rattle.hayro_ccitt.specs.declared.codes.Color.TheVariants.{White, Black}
 use Rattle.hayro_ccitt.specs.CodeLists.{white_codes, black_codes, numbered}
@@ -26,7 +26,6 @@ numbered_of terminating makeup (inr e) =
     (Black, ap (λ (t : Table). numbered (t ++ makeup ++ COMMON_MAKEUP)) e.0 ∙ ap (λ (m : Table). numbered (BLACK_TERMINATING ++ m ++ COMMON_MAKEUP)) e.1 ∙ numbered_black)
 
 -- the look-ups of both
-pub of_arrays : (white black : List ℕ) → AreEntries (numbered (WHITE_TERMINATING ++ WHITE_MAKEUP ++ COMMON_MAKEUP)) white
-    → AreEntries (numbered (BLACK_TERMINATING ++ BLACK_MAKEUP ++ COMMON_MAKEUP)) black → AreOfColors (record { white = white; black = black })
-of_arrays white black w b White = subst (λ list. AreEntries list white) numbered_white w
-of_arrays white black w b Black = subst (λ list. AreEntries list black) numbered_black b
+pub of_colors : (white black : List ℕ) → AreEntries white_codes white → AreEntries black_codes black → AreOfColors (record { white = white; black = black })
+of_colors white black w b White = w
+of_colors white black w b Black = b
