@@ -1,11 +1,11 @@
 -- The laws of the chosen encoding.
-use Rattle.std.specs.Prelude.{◌≡◌, ℕ, suc, ◌^◌, ◌<◌, ◌≤◌, Bool, true, false, List, ◌++◌, length, Ok}
+use Rattle.std.specs.Prelude.{◌≡◌, ℕ, suc, ◌^◌, ◌<◌, ◌≤◌, Bool, true, false, List, [], ◌∷◌, ◌++◌, length, Ok}
 use Rattle.hayro_ccitt.specs.declared.settings.EncodingMode.{EncodingMode}
 use Rattle.hayro_ccitt.specs.declared.settings.EncodingMode.TheVariants.{Group4, Group3_1D, Group3_2D}
 use Rattle.hayro_ccitt.specs.declared.settings.DecodeSettings.{DecodeSettings}
 use Rattle.hayro_ccitt.specs.Answers.{meaning_after}
 use Rattle.hayro_ccitt.specs.Bits.{Bits, bits_of}
-use Rattle.hayro_ccitt.specs.Rows.{Row, HaveWidth, white_row}
+use Rattle.hayro_ccitt.specs.Rows.{Row, HaveWidth, white_row, pixels}
 use Rattle.hayro_ccitt.specs.Encodings.{IsPicture, PictureT6, PictureT4, EncodesRows, EncodesRowsWithEols, ClosesWithEols}
 use Rattle.hayro_ccitt.specs.Laws.{Gives}
 use Rattle.hayro_ccitt.specs.PlainReading.{plain}
@@ -102,3 +102,44 @@ ChosenBySettings = (columns k : ℕ) (rows : List Row)
       rows_are_byte_aligned = false;
       end_of_block = true;
     }) columns rows ≡ chosen_t4 rows)
+
+-- glue: the bytes of what is chosen for rows of eight columns
+abbrev pub IsWritten : EncodeSettings → List Row → List ℕ → Type 0
+IsWritten settings rows bytes = filled_up (chosen settings 8 rows) ≡ bits_of bytes
+
+-- Two white rows as two-dimensional Group 3 with RTC, the second against the first: 00 1C C0 05 00 18 00 C0 06 00 30 01 80 0C. A row that is
+-- black from 3 to 5, twice as one-dimensional Group 3 with aligned rows: 8E 00 8E 00. Two white rows of it with EOLs that end at whole bytes:
+-- 00 01 98 00 01 98. The row as Group 4 without EOFB: 31 C0 (T.4, 4.1 and 4.2; T.6, 2.2).
+abbrev pub WorkedSettings : Type 0
+WorkedSettings = IsWritten (record {
+  encoding = Group3_2D;
+  k = 2;
+  end_of_line = true;
+  eols_end_at_bytes = false;
+  rows_are_byte_aligned = false;
+  end_of_block = true;
+}) (white_row 8 ∷ white_row 8 ∷ []) (0 ∷ 28 ∷ 192 ∷ 5 ∷ 0 ∷ 24 ∷ 0 ∷ 192 ∷ 6 ∷ 0 ∷ 48 ∷ 1 ∷ 128 ∷ 12 ∷ [])
+    × IsWritten (record {
+      encoding = Group3_1D;
+      k = 1;
+      end_of_line = false;
+      eols_end_at_bytes = false;
+      rows_are_byte_aligned = true;
+      end_of_block = false;
+    }) (pixels 8 (3 ∷ 5 ∷ []) ∷ pixels 8 (3 ∷ 5 ∷ []) ∷ []) (142 ∷ 0 ∷ 142 ∷ 0 ∷ [])
+    × IsWritten (record {
+      encoding = Group3_1D;
+      k = 1;
+      end_of_line = true;
+      eols_end_at_bytes = true;
+      rows_are_byte_aligned = false;
+      end_of_block = false;
+    }) (white_row 8 ∷ white_row 8 ∷ []) (0 ∷ 1 ∷ 152 ∷ 0 ∷ 1 ∷ 152 ∷ [])
+    × IsWritten (record {
+      encoding = Group4;
+      k = 1;
+      end_of_line = false;
+      eols_end_at_bytes = false;
+      rows_are_byte_aligned = false;
+      end_of_block = false;
+    }) (pixels 8 (3 ∷ 5 ∷ []) ∷ []) (49 ∷ 192 ∷ [])
