@@ -1,15 +1,18 @@
 -- The laws of the chosen encoding.
-use Rattle.std.specs.Prelude.{◌≡◌, ℕ, ◌^◌, ◌<◌, Bool, true, false, List, ◌++◌, length, Ok}
-use Rattle.hayro_ccitt.specs.declared.settings.EncodingMode.TheVariants.{Group4, Group3_1D}
+use Rattle.std.specs.Prelude.{◌≡◌, ℕ, suc, ◌^◌, ◌<◌, ◌≤◌, Bool, true, false, List, [], ◌∷◌, ◌++◌, length, Ok}
+use Rattle.hayro_ccitt.specs.declared.settings.EncodingMode.{EncodingMode}
+use Rattle.hayro_ccitt.specs.declared.settings.EncodingMode.TheVariants.{Group4, Group3_1D, Group3_2D}
 use Rattle.hayro_ccitt.specs.declared.settings.DecodeSettings.{DecodeSettings}
 use Rattle.hayro_ccitt.specs.Answers.{meaning_after}
 use Rattle.hayro_ccitt.specs.Bits.{Bits, bits_of}
-use Rattle.hayro_ccitt.specs.Rows.{Row, HaveWidth}
-use Rattle.hayro_ccitt.specs.Encodings.{IsPicture, PictureT6, PictureT4}
+use Rattle.hayro_ccitt.specs.Rows.{Row, HaveWidth, white_row, pixels}
+use Rattle.hayro_ccitt.specs.Encodings.{IsPicture, PictureT6, PictureT4, EncodesRows, EncodesRowsWithEols, ClosesWithEols}
+use Rattle.hayro_ccitt.specs.Laws.{Gives}
 use Rattle.hayro_ccitt.specs.PlainReading.{plain}
-use Rattle.fax_encode.specs.Chosen.{chosen_t6, chosen_t4, filled_up, rows_of}
+use Rattle.fax_encode.specs.Chosen.{chosen_line_1d, chosen_t6, chosen_t4, filled_up, rows_of}
 use Rattle.fax_encode.specs.Packed.{packed, shown, with_packed_row}
 use Rattle.fax_encode.specs.Refusals.{AreRows}
+use Rattle.fax_encode.specs.Settings.{EncodeSettings, chosen, chosen_line, chosen_lines, chosen_lines_with_eols, chosen_eols, decode_settings_for}
 
 -- what is chosen for a picture is an encoding of it
 abbrev pub ChosenIsAnEncoding : Type 0
@@ -59,3 +62,84 @@ BitmapRoundTripT4 = (settings : DecodeSettings) (columns : ℕ) (bitmap bytes : 
     → 0 < columns → columns < 2 ^ 32 → 0 < length (shown columns bitmap) → ReadToTheEnd settings columns → settings.encoding ≡ Group3_1D
     → bits_of bytes ≡ filled_up (chosen_t4 (shown columns bitmap))
     → plain settings (bits_of bytes) ≡ record { rows = shown columns bitmap; outcome = Ok (length bytes); has_eols = true }
+
+-- ---- by settings
+
+-- lines are chosen that encode the rows, with EOLs and without, and so is the end of a block
+abbrev pub ChosenLinesEncode : Type 0
+ChosenLinesEncode = (encoding : EncodingMode) (columns k : ℕ) (rows : List Row) → IsPicture columns rows
+    → ((aligned : Bool) → EncodesRows encoding aligned (white_row columns) rows (chosen_lines encoding k aligned 0 (white_row columns) rows))
+    × ((fills : Bool) → EncodesRowsWithEols encoding (white_row columns) rows (chosen_lines_with_eols encoding k fills 0 0 (white_row columns) rows))
+    × ((fills : Bool) (at : ℕ) → ClosesWithEols encoding 6 (chosen_eols encoding fills at 6))
+
+-- a line of two-dimensional Group 3 takes no more bits than the one-dimensional line and its tag
+abbrev pub NeverLonger : Type 0
+NeverLonger = (left : ℕ) (reference row : Row) → length (chosen_line Group3_2D left reference row) ≤ suc (length (chosen_line_1d row))
+
+-- What is chosen for a picture, for all settings, is read as its rows by the settings that match.
+abbrev pub ChosenIsRead : Type 0
+ChosenIsRead = (settings : EncodeSettings) (columns : ℕ) (rows : List Row) (bytes : List ℕ)
+    → columns < 2 ^ 32 → length rows < 2 ^ 32 → 0 < length rows → IsPicture columns rows
+    → bits_of bytes ≡ filled_up (chosen settings columns rows)
+    → Gives (decode_settings_for settings columns (length rows)) (bits_of bytes) rows
+
+-- what is chosen for T.6 and for one-dimensional T.4 is what is chosen by settings
+abbrev pub ChosenBySettings : Type 0
+ChosenBySettings = (columns k : ℕ) (rows : List Row)
+    → ((aligned : Bool) → chosen (record {
+      encoding = Group4;
+      k = k;
+      end_of_line = false;
+      eols_end_at_bytes = false;
+      rows_are_byte_aligned = aligned;
+      end_of_block = true;
+    }) columns rows ≡ chosen_t6 columns aligned rows)
+    × (chosen (record {
+      encoding = Group3_1D;
+      k = k;
+      end_of_line = true;
+      eols_end_at_bytes = false;
+      rows_are_byte_aligned = false;
+      end_of_block = true;
+    }) columns rows ≡ chosen_t4 rows)
+
+-- glue: the bytes of what is chosen for rows of eight columns
+abbrev pub IsWritten : EncodeSettings → List Row → List ℕ → Type 0
+IsWritten settings rows bytes = filled_up (chosen settings 8 rows) ≡ bits_of bytes
+
+-- Two white rows as two-dimensional Group 3 with RTC, the second against the first: 00 1C C0 05 00 18 00 C0 06 00 30 01 80 0C. A row that is
+-- black from 3 to 5, twice as one-dimensional Group 3 with aligned rows: 8E 00 8E 00. Two white rows of it with EOLs that end at whole bytes:
+-- 00 01 98 00 01 98. The row as Group 4 without EOFB: 31 C0 (T.4, 4.1 and 4.2; T.6, 2.2).
+abbrev pub WorkedSettings : Type 0
+WorkedSettings = IsWritten (record {
+  encoding = Group3_2D;
+  k = 2;
+  end_of_line = true;
+  eols_end_at_bytes = false;
+  rows_are_byte_aligned = false;
+  end_of_block = true;
+}) (white_row 8 ∷ white_row 8 ∷ []) (0 ∷ 28 ∷ 192 ∷ 5 ∷ 0 ∷ 24 ∷ 0 ∷ 192 ∷ 6 ∷ 0 ∷ 48 ∷ 1 ∷ 128 ∷ 12 ∷ [])
+    × IsWritten (record {
+      encoding = Group3_1D;
+      k = 1;
+      end_of_line = false;
+      eols_end_at_bytes = false;
+      rows_are_byte_aligned = true;
+      end_of_block = false;
+    }) (pixels 8 (3 ∷ 5 ∷ []) ∷ pixels 8 (3 ∷ 5 ∷ []) ∷ []) (142 ∷ 0 ∷ 142 ∷ 0 ∷ [])
+    × IsWritten (record {
+      encoding = Group3_1D;
+      k = 1;
+      end_of_line = true;
+      eols_end_at_bytes = true;
+      rows_are_byte_aligned = false;
+      end_of_block = false;
+    }) (white_row 8 ∷ white_row 8 ∷ []) (0 ∷ 1 ∷ 152 ∷ 0 ∷ 1 ∷ 152 ∷ [])
+    × IsWritten (record {
+      encoding = Group4;
+      k = 1;
+      end_of_line = false;
+      eols_end_at_bytes = false;
+      rows_are_byte_aligned = false;
+      end_of_block = false;
+    }) (pixels 8 (3 ∷ 5 ∷ []) ∷ []) (49 ∷ 192 ∷ [])

@@ -5,4 +5,5 @@ pub mod Packed
 pub mod Painting
 pub mod Refusals
 pub mod Scanning
+pub mod Settings
 pub mod Writing

@@ -1,5 +1,6 @@
 //! Laws of the chosen encoding: each is the contract of a function that does nothing.
 
+ghost use Rattle.fax_encode.specs.Laws.{ChosenBySettings, ChosenIsRead, ChosenLinesEncode, NeverLonger, WorkedSettings};
 ghost use Rattle.fax_encode.specs.Laws.{BitmapRoundTripT4, BitmapRoundTripT6, ChosenIsAnEncoding, PackedIsShown, RoundTripT6, RoundTripT4, RowsArePacked};
 
 /// What is chosen for a picture encodes it: as T.6, closed by EOFB, and as one-dimensional T.4 with an EOL before each
@@ -29,4 +30,21 @@ pub fn packed_is_shown()
 pub fn bitmap_round_trip()
     ensures t6 { BitmapRoundTripT6 }
     ensures t4 { BitmapRoundTripT4 }
+{}
+
+/// For all settings of an encoder, the lines that are chosen encode the rows, with EOLs and without, as T.6 and as T.4 of either
+/// kind, and so does the RTC that is chosen; a line of two-dimensional Group 3 is never longer than its one-dimensional line.
+/// What [`encode_g4`](crate::encode_g4) and [`encode_1d`](crate::encode_1d) choose is chosen by some settings.
+/// Four small pictures show the bytes.
+pub fn chosen_by_settings()
+    ensures lines { ChosenLinesEncode }
+    ensures shorter { NeverLonger }
+    ensures same { ChosenBySettings }
+    ensures worked { WorkedSettings }
+{}
+
+/// What is chosen for a picture by any settings of an encoder, in bytes, is read as its rows, without a fault, by the settings
+/// of the decoder that match: up to the end of the block where one is written, and else up to as many rows.
+pub fn chosen_is_read()
+    ensures { ChosenIsRead }
 {}

@@ -1,0 +1,246 @@
+-- What is chosen by settings is an encoding, and is read again.
+use Rattle.std.proofs.Common.{◌≡◌, ◌≢◌, ℕ, zero, suc, ◌+◌, ◌/◌, ◌^◌, ◌<◌, ◌≤◌, Bool, true, false, cond, leb, List, [], ◌∷◌, ◌++◌, length, refl, sym, ap, subst, ◌∙◌, arith, inl, inr, append_assoc}
+use Rattle.std.specs.Prelude.{IsOk, Result}
+use Rattle.std.proofs.lemmas.Bool.{leb-true}
+use Rattle.std.proofs.lemmas.List.{append-nil, length-replicate}
+use Rattle.std.proofs.lemmas.List.Elements.{All-head, All-tail}
+use Rattle.hayro_ccitt.specs.declared.settings.DecodeSettings.{DecodeSettings}
+use Rattle.hayro_ccitt.specs.declared.settings.EncodingMode.{EncodingMode}
+use Rattle.hayro_ccitt.specs.declared.settings.EncodingMode.TheVariants.{Group4, Group3_1D, Group3_2D}
+use Rattle.hayro_ccitt.specs.declared.bit_reader.BitOrder.TheVariants.{HighestFirst}
+use Rattle.hayro_ccitt.specs.Bits.{Bits, AreWholeBytes, bits_of}
+use Rattle.hayro_ccitt.specs.Rows.{Row, HaveWidth, white_row}
+use Rattle.hayro_ccitt.specs.Encodings.{IsPicture, EncodesLine, EncodesRows, EncodesRowsWithEols, ClosesWithEols, PictureT6, padding, eol, tag_of}
+use Rattle.hayro_ccitt.specs.Laws.{Gives}
+use Rattle.hayro_ccitt.specs.Pictures.{IsClosedPicture, IsLimitedPicture}
+use Rattle.hayro_ccitt.proofs.BitReading.BitLists.{bits_are_whole}
+use Rattle.hayro_ccitt.proofs.EncodedPictures.PicturesOfEachKind.{closed_pictures, limited_pictures}
+use Rattle.fax_encode.specs.Chosen.{chosen_line_1d, chosen_line_2d, chosen_lines_1d, chosen_lines_2d, filled_up, return_to_control}
+use Rattle.fax_encode.specs.Laws.{ChosenBySettings, ChosenIsRead, ChosenLinesEncode, NeverLonger}
+use Rattle.hayro_ccitt.specs.Settings.{AreSettings}
+use Rattle.hayro_ccitt.specs.declared.error.DecodeError.{DecodeError}
+use Rattle.fax_encode.specs.Settings.{is_closed, decode_settings_for, is_two_dimensional, chosen_line, left_after, chosen_lines, fill_of, chosen_lines_with_eols, chosen_eols, chosen_picture, chosen_with_eols, chosen_group4}
+use Rattle.fax_encode.proofs.ChosenLines.{line_1d_encodes, line_2d_encodes}
+
+-- ---- lines
+line_encodes : (encoding : EncodingMode) (left : ℕ) (reference row : Row) → length reference ≡ length row → 0 < length row
+    → EncodesLine encoding reference row (chosen_line encoding left reference row)
+line_encodes Group4 left reference row same some = line_2d_encodes reference row same
+line_encodes Group3_1D left reference row same some = line_1d_encodes row some
+line_encodes Group3_2D left reference row same some = by (is_two_dimensional left reference row)
+  where
+    by : (two : Bool) → EncodesLine Group3_2D reference row (cond two (false ∷ chosen_line_2d reference row) (true ∷ chosen_line_1d row))
+    by true = (chosen_line_2d reference row, inr (refl, line_2d_encodes reference row same))
+    by false = (chosen_line_1d row, inl (refl, line_1d_encodes row some))
+
+lines_encode : (encoding : EncodingMode) (columns k : ℕ) (aligned : Bool) (left : ℕ) (reference : Row) (rows : List Row) → 0 < columns → length reference ≡ columns
+    → HaveWidth columns rows → EncodesRows encoding aligned reference rows (chosen_lines encoding k aligned left reference rows)
+lines_encode encoding columns k aligned left reference [] wide same widths = refl
+lines_encode encoding columns k aligned left reference (row ∷ rows) wide same widths =
+    let width : length row ≡ columns = All-head (λ row. length row ≡ columns) row rows widths in (
+      chosen_line encoding left reference row,
+      chosen_lines encoding k aligned (left_after k left reference row) row rows,
+      line_encodes encoding left reference row (same ∙ sym width) (omega arith),
+      lines_encode encoding columns k aligned (left_after k left reference row) row rows wide width (All-tail (λ row. length row ≡ columns) row rows widths),
+      refl,
+    )
+
+lines_with_eols_encode : (encoding : EncodingMode) (columns k : ℕ) (fills : Bool) (at left : ℕ) (reference : Row) (rows : List Row) → 0 < columns → length reference ≡ columns
+    → HaveWidth columns rows → EncodesRowsWithEols encoding reference rows (chosen_lines_with_eols encoding k fills at left reference rows)
+lines_with_eols_encode encoding columns k fills at left reference [] wide same widths = refl
+lines_with_eols_encode encoding columns k fills at left reference (row ∷ rows) wide same widths =
+    let width : length row ≡ columns = All-head (λ row. length row ≡ columns) row rows widths in
+    let next : ℕ = at + 12 + fill_of fills at + length (chosen_line encoding left reference row) in (
+      fill_of fills at,
+      chosen_line encoding left reference row,
+      chosen_lines_with_eols encoding k fills next (left_after k left reference row) row rows,
+      line_encodes encoding left reference row (same ∙ sym width) (omega arith),
+      lines_with_eols_encode encoding columns k fills next (left_after k left reference row) row rows wide width (All-tail (λ row. length row ≡ columns) row rows widths),
+      refl,
+    )
+
+eols_close : (encoding : EncodingMode) (fills : Bool) (at n : ℕ) → ClosesWithEols encoding n (chosen_eols encoding fills at n)
+eols_close encoding fills at zero = refl
+eols_close encoding fills at (suc n) =
+    let next : ℕ = at + 12 + fill_of fills at + length (tag_of encoding) in
+    (fill_of fills at, chosen_eols encoding fills next n, eols_close encoding fills next n, refl)
+
+white_is_wide : (columns : ℕ) → length (white_row columns) ≡ columns
+white_is_wide columns = length-replicate columns false
+
+-- the law
+pub chosen_lines_encode : ChosenLinesEncode
+chosen_lines_encode encoding columns k rows is = (
+  λ aligned. lines_encode encoding columns k aligned 0 (white_row columns) rows is.0 (white_is_wide columns) is.1,
+  λ fills. lines_with_eols_encode encoding columns k fills 0 0 (white_row columns) rows is.0 (white_is_wide columns) is.1,
+  λ fills at. eols_close encoding fills at 6,
+)
+
+-- the shorter one of two lines, behind its tag, is no longer than the second
+shorter_one : (one two : Bits) → length (cond (leb (length one) (length two)) (false ∷ one) (true ∷ two)) ≤ suc (length two)
+shorter_one one two = by (leb (length one) (length two)) refl
+  where
+    by : (short : Bool) → leb (length one) (length two) ≡ short → length (cond short (false ∷ one) (true ∷ two)) ≤ suc (length two)
+    by true e = omega (arith, leb-true (length one) (length two) e)
+    by false e = omega arith
+
+tag_alone : (two : Bits) → length (true ∷ two) ≤ suc (length two)
+tag_alone two = omega arith
+
+-- the law
+pub never_longer : NeverLonger
+never_longer zero reference row = tag_alone (chosen_line_1d row)
+never_longer (suc left) reference row = shorter_one (chosen_line_2d reference row) (chosen_line_1d row)
+
+-- ---- what is chosen is read again
+-- settings of a decoder that match
+record Match (d : DecodeSettings) (encoding : EncodingMode) (eols aligned closed : Bool) (columns count : ℕ) : Type 0 where
+  columns_are : d.columns ≡ columns
+  encoding_is : d.encoding ≡ encoding
+  eols_are : d.end_of_line ≡ eols
+  aligned_is : d.rows_are_byte_aligned ≡ aligned
+  block_is : d.end_of_block ≡ closed
+  limit_is : d.rows ≡ cond closed 0 count
+
+closed_gives : (d : DecodeSettings) (rows : List Row) (count : ℕ) (whole : Bits) → AreSettings d → AreWholeBytes whole → IsClosedPicture d rows count whole → Gives d whole rows
+closed_gives d rows count whole are all is =
+    let p = closed_pictures d rows count whole are all is in
+    (p.0, subst (λ (o : Result ℕ DecodeError). IsOk o) (sym p.1) refl)
+
+module _ (d : DecodeSettings) (columns : ℕ) (rows : List Row) (bytes : List ℕ) (small : columns < 2 ^ 32) (few : length rows < 2 ^ 32) (some : 0 < length rows)
+    (is : IsPicture columns rows) where
+  abbrev whole : Bits
+  whole = bits_of bytes
+
+  abbrev white : Row
+  white = white_row columns
+
+  are_settings : (limit : ℕ) → d.columns ≡ columns → d.rows ≡ limit → limit < 2 ^ 32 → AreSettings d
+  are_settings limit c r lt = record { columns = omega (arith, c, small); rows = omega (arith, r, lt) }
+
+  of_group4 : (eols aligned closed : Bool) → Match d Group4 eols aligned closed columns (length rows) → whole ≡ filled_up (chosen_group4 aligned closed white rows)
+      → Gives d whole rows
+  of_group4 eols aligned true m e =
+      let body : Bits = chosen_lines Group4 1 aligned 0 white rows in
+      let bits : Bits = body ++ (eol 0 ++ eol 0) in
+      let lines = lines_encode Group4 columns 1 aligned 0 white rows is.0 (white_is_wide columns) is.1 in
+      closed_gives d rows ((length bits + 7) / 8) whole (are_settings 0 m.columns_are m.limit_is (omega arith)) (bits_are_whole HighestFirst bytes)
+      (IsClosedPicture.by_eofb bits (record {
+        encoding = m.encoding_is;
+        end_of_block = m.block_is;
+        limit = inl m.limit_is;
+        picture = subst (λ (n : ℕ). PictureT6 n d.rows_are_byte_aligned rows bits) (sym m.columns_are)
+            (subst (λ (a : Bool). PictureT6 columns a rows bits) (sym m.aligned_is) (body, is, lines, sym (append_assoc body (eol 0) (eol 0))));
+        begins = (padding (length bits), e);
+      }) refl)
+  of_group4 eols aligned false m e =
+      let body : Bits = chosen_lines Group4 1 aligned 0 white rows in
+      let lines = lines_encode Group4 columns 1 aligned 0 white rows is.0 (white_is_wide columns) is.1 in
+      limited_pictures d rows whole (are_settings (length rows) m.columns_are m.limit_is few) (bits_are_whole HighestFirst bytes)
+      (IsLimitedPicture.of_t6 body (record {
+        encoding = m.encoding_is;
+        limit = m.limit_is;
+        some = some;
+        picture = subst (λ (n : ℕ). IsPicture n rows) (sym m.columns_are) is;
+        lines = subst (λ (n : ℕ). EncodesRows Group4 d.rows_are_byte_aligned (white_row n) rows body) (sym m.columns_are)
+            (subst (λ (a : Bool). EncodesRows Group4 a white rows body) (sym m.aligned_is) lines);
+        begins = (padding (length (body ++ [])), e ∙ ap (λ (b : Bits). b ++ padding (length (body ++ []))) (append-nil body));
+      }))
+
+  module _ (encoding : EncodingMode) (k : ℕ) (fills : Bool) (not_t6 : encoding ≢ Group4) where
+    abbrev lines_there : Bits
+    lines_there = chosen_lines_with_eols encoding k fills 0 0 white rows
+
+    encoded_with_eols : d.columns ≡ columns → d.encoding ≡ encoding → EncodesRowsWithEols d.encoding (white_row d.columns) rows lines_there
+    encoded_with_eols c m =
+        subst (λ (n : ℕ). EncodesRowsWithEols d.encoding (white_row n) rows lines_there) (sym c)
+        (subst (λ (x : EncodingMode). EncodesRowsWithEols x white rows lines_there) (sym m)
+        (lines_with_eols_encode encoding columns k fills 0 0 white rows is.0 (white_is_wide columns) is.1))
+
+    of_eols : (aligned closed : Bool) → Match d encoding true aligned closed columns (length rows) → whole ≡ filled_up (chosen_with_eols encoding k fills closed white rows)
+        → Gives d whole rows
+    of_eols aligned true m e =
+        let closing : Bits = chosen_eols encoding fills (length lines_there) 6 in
+        let pad : Bits = padding (length (lines_there ++ closing)) in
+        closed_gives d rows _ whole (are_settings 0 m.columns_are m.limit_is (omega arith)) (bits_are_whole HighestFirst bytes)
+        (IsClosedPicture.by_rtc lines_there (closing ++ pad) (record {
+          encoding = λ x. not_t6 (sym m.encoding_is ∙ x);
+          end_of_block = m.block_is;
+          limit = inl m.limit_is;
+          some = some;
+          picture = subst (λ (n : ℕ). IsPicture n rows) (sym m.columns_are) is;
+          lines = encoded_with_eols m.columns_are m.encoding_is;
+          closing = (
+            closing,
+            subst (λ (x : EncodingMode). ClosesWithEols x 6 closing) (sym m.encoding_is) (eols_close encoding fills (length lines_there) 6),
+            (pad, refl),
+          );
+          begins = e ∙ append_assoc lines_there closing pad;
+        }) refl)
+    of_eols aligned false m e =
+        let pad : Bits = padding (length (lines_there ++ [])) in
+        limited_pictures d rows whole (are_settings (length rows) m.columns_are m.limit_is few) (bits_are_whole HighestFirst bytes)
+        (IsLimitedPicture.of_t4_with_eols lines_there (record {
+          encoding = λ x. not_t6 (sym m.encoding_is ∙ x);
+          limit = m.limit_is;
+          some = some;
+          picture = subst (λ (n : ℕ). IsPicture n rows) (sym m.columns_are) is;
+          lines = encoded_with_eols m.columns_are m.encoding_is;
+          begins = (pad, e ∙ ap (λ (b : Bits). b ++ pad) (append-nil lines_there));
+        }))
+
+    of_lines : (aligned : Bool) → Match d encoding false aligned false columns (length rows) → whole ≡ filled_up (chosen_lines encoding k aligned 0 white rows) → Gives d whole rows
+    of_lines aligned m e =
+        let body : Bits = chosen_lines encoding k aligned 0 white rows in
+        let lines = lines_encode encoding columns k aligned 0 white rows is.0 (white_is_wide columns) is.1 in
+        limited_pictures d rows whole (are_settings (length rows) m.columns_are m.limit_is few) (bits_are_whole HighestFirst bytes)
+        (IsLimitedPicture.of_t4 body (record {
+          encoding = λ x. not_t6 (sym m.encoding_is ∙ x);
+          end_of_line = m.eols_are;
+          limit = m.limit_is;
+          some = some;
+          picture = subst (λ (n : ℕ). IsPicture n rows) (sym m.columns_are) is;
+          lines = subst (λ (n : ℕ). EncodesRows d.encoding d.rows_are_byte_aligned (white_row n) rows body) (sym m.columns_are)
+              (subst (λ (a : Bool). EncodesRows d.encoding a white rows body) (sym m.aligned_is)
+              (subst (λ (x : EncodingMode). EncodesRows x aligned white rows body) (sym m.encoding_is) lines));
+          begins = (padding (length body), e);
+        }))
+
+  by_kind : (encoding : EncodingMode) (eols : Bool) (k : ℕ) (fills aligned closed : Bool) → Match d encoding eols aligned (is_closed encoding eols closed) columns (length rows)
+      → whole ≡ filled_up (chosen_picture encoding eols k fills aligned closed white rows) → Gives d whole rows
+  by_kind Group4 eols k fills aligned closed m e = of_group4 eols aligned closed m e
+  by_kind Group3_1D true k fills aligned closed m e = of_eols Group3_1D k fills (λ x. absurd cc) aligned closed m e
+  by_kind Group3_1D false k fills aligned closed m e = of_lines Group3_1D k fills (λ x. absurd cc) aligned m e
+  by_kind Group3_2D true k fills aligned closed m e = of_eols Group3_2D k fills (λ x. absurd cc) aligned closed m e
+  by_kind Group3_2D false k fills aligned closed m e = of_lines Group3_2D k fills (λ x. absurd cc) aligned m e
+
+-- the law
+pub chosen_is_read : ChosenIsRead
+chosen_is_read settings columns rows bytes small few some is e =
+    by_kind (decode_settings_for settings columns (length rows)) columns rows bytes small few some is settings.encoding settings.end_of_line settings.k settings.eols_end_at_bytes
+    settings.rows_are_byte_aligned settings.end_of_block
+    (record { columns_are = refl; encoding_is = refl; eols_are = refl; aligned_is = refl; block_is = refl; limit_is = refl }) e
+
+-- ---- the encoders that there are
+same_lines_2d : (k left : ℕ) (aligned : Bool) (reference : Row) (rows : List Row) → chosen_lines Group4 k aligned left reference rows ≡ chosen_lines_2d aligned reference rows
+same_lines_2d k left aligned reference [] = refl
+same_lines_2d k left aligned reference (row ∷ rows) =
+    ap (λ (b : Bits). (chosen_line_2d reference row ++ cond aligned (padding (length (chosen_line_2d reference row))) []) ++ b)
+    (same_lines_2d k (left_after k left reference row) aligned row rows)
+
+same_lines_1d : (k at left : ℕ) (reference : Row) (rows : List Row) → chosen_lines_with_eols Group3_1D k false at left reference rows ≡ chosen_lines_1d rows
+same_lines_1d k at left reference [] = refl
+same_lines_1d k at left reference (row ∷ rows) =
+    ap (λ (b : Bits). (eol 0 ++ chosen_line_1d row) ++ b) (same_lines_1d k (at + 12 + 0 + length (chosen_line_1d row)) (left_after k left reference row) row rows)
+
+same_eols : (at : ℕ) → chosen_eols Group3_1D false at 6 ≡ return_to_control
+same_eols at = refl
+
+-- the law
+pub chosen_by_settings : ChosenBySettings
+chosen_by_settings columns k rows = (
+  λ aligned. ap (λ (b : Bits). b ++ (eol 0 ++ eol 0)) (same_lines_2d 1 0 aligned (white_row columns) rows)
+      ∙ sym (append_assoc (chosen_lines_2d aligned (white_row columns) rows) (eol 0) (eol 0)),
+  ap (λ (b : Bits). b ++ chosen_eols Group3_1D false (length b) 6) (same_lines_1d k 0 0 (white_row columns) rows)
+      ∙ ap (λ (b : Bits). chosen_lines_1d rows ++ b) (same_eols (length (chosen_lines_1d rows))),
+)
