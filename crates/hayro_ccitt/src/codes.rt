@@ -10,6 +10,7 @@ ghost use Rattle.hayro_ccitt.specs.EndOfLine.{after_eol, eols, all_eols, next_eo
 ghost use Rattle.hayro_ccitt.specs.LookUps.{entry_of, mode_told, padded, seven_bits};
 ghost use Rattle.hayro_ccitt.specs.Rows.{opposite};
 ghost use Rattle.hayro_ccitt.specs.Runs.{codes_of, read_run};
+ghost use Rattle.hayro_ccitt.specs.Window.{moved};
 ghost use Rattle.hayro_ccitt.specs.Ticks.{run_found, missed, looked, looked_at_tag};
 
 use crate::bit_reader::BitReader;
@@ -146,6 +147,14 @@ pub(crate) fn mode_of(bits: u32) -> (Option<Mode>, usize)
     }
 }
 
+/// Whether a mode is V0.
+#[inline(always)]
+fn is_v0(mode: Option<Mode>) -> bool
+    ensures { result ≡ true → mode ≡ Some (Mode.Vertical (pos 0)) }
+{
+    matches!(mode, Some(Mode::Vertical(0)))
+}
+
 impl<'a> BitReader<'a> {
     /// The entry of the next thirteen bits, padded with zeros, in the look-up of a colour.
     #[inline(always)]
@@ -203,6 +212,22 @@ impl<'a> BitReader<'a> {
                 return Ok(total);
             }
         }
+    }
+
+    /// Passes V0, where it stands here, and returns whether it does; otherwise nothing changes.
+    #[inline(always)]
+    pub(crate) fn pass_v0(&mut self) -> bool
+        ensures mode { result ≡ true → read_code mode_codes (here self.old) ≡ Ok (Mode.Vertical (pos 0), here (moved 1 self.old)) }
+        ensures passed { result ≡ true → self.new ≡ moved 1 self.old }
+        ensures unchanged { result ≡ false → self.new ≡ self.old }
+    {
+        let (mode, _) = mode_of(self.peek_u32() >> 25);
+        if !is_v0(mode) {
+            return false;
+        }
+        // The bit is there to be passed.
+        let _ = self.consume(1);
+        true
     }
 
     /// Reads a mode of a two-dimensional line (T.4 table 4, T.6 table 1), which is one tick. `UnexpectedEof`

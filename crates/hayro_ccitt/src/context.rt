@@ -1,6 +1,6 @@
 //! What a decoder keeps from line to line, and the lines themselves.
 
-ghost use Rattle.std.specs.Prelude.{◌≡◌, ◌+◌, ◌*◌, ◌^◌, ◌<◌, ◌≤◌, ◌⊎◌, ◌↔◌, Ok, Err, OnOk, OnErr, IfOk, IfErr, true, IsOkUnless, IsTrue, length, get_or, []};
+ghost use Rattle.std.specs.Prelude.{◌≡◌, ◌+◌, ◌*◌, ◌^◌, ◌<◌, ◌≤◌, ◌⊎◌, ◌↔◌, Ok, Err, OnOk, OnErr, IfOk, IfErr, true, false, IsOkUnless, IsTrue, length, get_or, []};
 ghost use Rattle.hayro_ccitt.specs.Rows.{right_of, b1, b2, changes, opposite};
 ghost use Rattle.hayro_ccitt.specs.Bits.{here};
 ghost use Rattle.hayro_ccitt.specs.Context.{redrawn, painted_front, taken_row, after_repair, passed_changes};
@@ -11,7 +11,7 @@ ghost use Rattle.hayro_ccitt.specs.Answers.{DrawsLine, DrawsStep, OnAnswer, word
 use crate::bit_reader::{BitOrder, BitReader, BitsAtHand};
 use crate::changes::{append_pixels, b1_index, change_or_end};
 use crate::codes::{Color, Mode, Ticks};
-use crate::modes::{draw_modes, lay_down_row};
+use crate::modes::{draw_modes, is_white_row, lay_down_row};
 use crate::settings::DecodeSettings;
 use crate::tables::Tables;
 use crate::usual::{draw_runs, lay_down, take_up};
@@ -467,7 +467,7 @@ impl DecoderContext {
 
     /// The same of a reader, in whichever order its bits are.
     #[inline(never)]
-    fn draw_usual_modes(&mut self, reader: &mut BitReader<'_>)
+    fn draw_modes_of(&mut self, reader: &mut BitReader<'_>)
         requires begins { self.old.held.front ≡ [] }
         requires white { self.old.held.color ≡ Color.White }
         requires none { self.old.passed ≡ 0 }
@@ -487,6 +487,56 @@ impl DecoderContext {
             self.draw_modes_at_hand(&mut hand);
             *reader = hand.reader();
         }
+    }
+
+    /// Draws a white line under a white row, which V0 alone is, and returns whether one stands here; otherwise nothing changes.
+    #[inline(always)]
+    fn draw_white_line(&mut self, reader: &mut BitReader<'_>) -> bool
+        requires begins { self.old.held.front ≡ [] }
+        requires white { self.old.held.color ≡ Color.White }
+        requires none { self.old.passed ≡ 0 }
+        ensures drawn { result ≡ true → GoesOn2d self.old.held.settings.strict self.old.held.settings.columns self.old.held.reference
+            (pen_of self.old.held (here reader.old)) (pen_of self.new.held (here reader.new)) self.old.ticks self.new.ticks
+            self.old.passed self.new.passed }
+        ensures held { self.new.held ≡ redrawn self.old.held self.new.held.front self.new.held.color }
+        ensures none { self.new.passed ≡ 0 }
+        ensures same_bits { reader.new.bits ≡ reader.old.bits }
+        ensures unchanged { result ≡ false → (self.new ≡ self.old) × (reader.new ≡ reader.old) }
+    {
+        if !is_white_row(&self.ref_changes) {
+            return false;
+        }
+        if self.settings.columns == 0 {
+            return false;
+        }
+        if !reader.pass_v0() {
+            return false;
+        }
+        // The mode, and b1.
+        self.ticks.tick();
+        self.ticks.tick();
+        self.pixels_decoded = self.settings.columns;
+        self.color = Color::Black;
+        true
+    }
+
+    /// Draws modes from the start of a line as long as they are usual: a white line at once.
+    #[inline(always)]
+    fn draw_usual_modes(&mut self, reader: &mut BitReader<'_>)
+        requires begins { self.old.held.front ≡ [] }
+        requires white { self.old.held.color ≡ Color.White }
+        requires none { self.old.passed ≡ 0 }
+        ensures drawn { GoesOn2d self.old.held.settings.strict self.old.held.settings.columns self.old.held.reference
+            (pen_of self.old.held (here reader.old)) (pen_of self.new.held (here reader.new)) self.old.ticks self.new.ticks
+            self.old.passed self.new.passed }
+        ensures held { self.new.held ≡ redrawn self.old.held self.new.held.front self.new.held.color }
+        ensures within { self.new.passed ≤ length (changes self.old.held.reference) }
+        ensures same_bits { reader.new.bits ≡ reader.old.bits }
+    {
+        if self.draw_white_line(reader) {
+            return;
+        }
+        self.draw_modes_of(reader);
     }
 
     /// Draws what a mode says (T.4 section 4.2.1.3).

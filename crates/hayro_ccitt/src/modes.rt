@@ -525,3 +525,11 @@ pub(crate) fn lay_down_row(changes: &mut Vec<u32>, painted: u32, columns: u32)
         lay_down(changes, painted);
     }
 }
+
+/// Whether the row of a list of changes is white.
+#[inline(always)]
+pub(crate) fn is_white_row(changes: &Vec<u32>) -> bool
+    ensures { result ≡ true → changes.now.items ≡ [] }
+{
+    changes.is_empty()
+}

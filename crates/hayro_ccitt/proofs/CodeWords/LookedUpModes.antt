@@ -1,5 +1,5 @@
 -- What seven bits say of the mode that stands here.
-use Rattle.std.proofs.Common.{◌≡◌, ℕ, zero, suc, ◌-◌, ◌/◌, ◌^◌, ◌<◌, ◌≤◌, true, length, drop, Option, Some, None, option_map, Ok, Err, refl, sym, ap, ◌∙◌, arith}
+use Rattle.std.proofs.Common.{◌≡◌, ℕ, zero, suc, ◌-◌, ◌/◌, ◌^◌, ◌<◌, ◌≤◌, true, [], ◌∷◌, length, drop, Option, Some, None, option_map, Ok, Err, refl, sym, ap, ◌∙◌, arith}
 use Rattle.std.proofs.lemmas.Bool.{eq-eqb, false≢true}
 use Rattle.hayro_ccitt.specs.declared.error.DecodeError.TheVariants.{UnexpectedEof, InvalidCode}
 use Rattle.hayro_ccitt.specs.declared.codes.Mode.{Mode}
@@ -15,7 +15,8 @@ use Rattle.hayro_ccitt.proofs.BitReading.BitLists.{length-low_bits}
 use Rattle.hayro_ccitt.proofs.BitReading.WordRanges.{word_begins_of}
 use Rattle.hayro_ccitt.proofs.BitReading.ZerosInWords.{modes_free}
 use Rattle.std.proofs.lemmas.List.{length-append, drop-drop}
-use Rattle.std.specs.Prelude.{IfSome}
+use Rattle.std.specs.Prelude.{IfSome, pos}
+use Rattle.hayro_ccitt.specs.declared.codes.Mode.TheVariants.{Vertical}
 use Rattle.hayro_ccitt.specs.Window.{moved}
 
 -- ---- The word that begins seven bits.
@@ -87,3 +88,8 @@ mode_stands at (Some mode, width) e enough =
     mode_found (here at) mode first (omega (arith, enough, second))
     ∙ ap (λ (n : ℕ). Ok (mode, drop n (here at))) (sym second)
     ∙ ap (λ (bits : Bits). Ok (mode, bits)) (drop-drop width at.place at.bits)
+
+-- V0 doesn't stand where no bit is
+pub v0_there : (here : Bits) → ◌≡◌ {A = Option Mode} (Some (Vertical (pos 0))) (mode_told (padded 7 here)).0 → 0 < length here
+v0_there [] e = absurd (let f : ◌≡◌ {A = Option Mode} (Some (Vertical (pos 0))) None = e in cc)
+v0_there (b ∷ here) e = omega arith

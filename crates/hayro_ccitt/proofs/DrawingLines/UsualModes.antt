@@ -24,7 +24,7 @@ use Rattle.hayro_ccitt.proofs.DrawingLines.CountedLines.{IsCountedSoFar, found_2
 use Rattle.hayro_ccitt.proofs.DrawingLines.Drawings.{drawn_by, step_2d}
 use Rattle.hayro_ccitt.proofs.DrawingLines.DrawnLines.{IsDrawnSoFar, line_mode, place_ok}
 use Rattle.hayro_ccitt.proofs.DrawingLines.UsualStrokes.{next_lawful, paint_fits, pixels-on, length-pixels-on, pixels-pending, one_more}
-use Rattle.hayro_ccitt.proofs.PixelRows.B1ByParity.{turns_alike, turns_next, b1_of_front, rising, rising_to, near_within, near_later, ends_at_b1, after_v0, after_vr, after_pass}
+use Rattle.hayro_ccitt.proofs.PixelRows.B1ByParity.{turns_alike, turns_next, b1_of_front, rising, rising_to, near_within, near_later, starts_b1, ends_at_b1, after_v0, after_vr, after_pass}
 use Rattle.hayro_ccitt.proofs.PixelRows.ChangesAndPixels.{length-pixels, turned, turned-even, AreChanges-wider, AreChanges-push}
 use Rattle.hayro_ccitt.proofs.PixelRows.ReferencePlaces.{end_within}
 use Rattle.hayro_ccitt.proofs.Readings.Repeated.{after_turn}
@@ -349,3 +349,19 @@ begun_2d before new at next goes held same within = (
   record { line = goes.line; held = held; same_bits = same; counts = goes.counts },
   record { at_least = goes.at_least; at_most = omega (arith, goes.at_most); within = within; no_words = goes.none },
 )
+
+-- a white line under a white row: V0 alone
+start_stroke : (columns : ℕ) → IsStroke columns [] 0 0 White []
+start_stroke columns = record {
+  within = omega arith;
+  near = omega arith;
+  lawful = tt;
+  colored = λ lt. refl;
+  at = λ lt. starts_b1 columns [] tt;
+  whole = λ le. tt;
+}
+
+pub white_line : (strict : Bool) (columns : ℕ) (at : BitsAt) (ticks now : ℕ) → 0 < columns → columns ≤ 4294967295 → read_code mode_codes (here at) ≡ Ok (Vertical (pos 0), here (moved 1 at))
+    → now ≡ ticks + 2 → GoesOn2d strict columns (pixels columns []) (pen_at 0 [] White at) (pen_at columns [] Black (moved 1 at)) ticks now 0 0
+white_line strict columns at ticks now some fits reads counts =
+    vertical_on strict columns [] 0 0 White [] at tt some (start_stroke columns) columns 0 (pos 0) 1 ticks now fits reads (named_right columns columns 0 (omega arith)) (omega arith) (omega arith) (omega (arith, counts)) (omega (arith, counts))

@@ -1,0 +1,27 @@
+use Rattle.std.proofs.Common.{◌≡◌, ◌≤◌, ◌<◌, ◌+◌, ℕ, Option, Some, length, min, pos, refl, sym, ap, ◌∙◌, arith}
+use Rattle.std.proofs.lemmas.List.{length-drop}
+use Rattle.hayro_ccitt.specs.declared.codes.Mode.{Mode}
+use Rattle.hayro_ccitt.specs.declared.codes.Mode.TheVariants.{Vertical}
+use Rattle.hayro_ccitt.specs.Bits.{here}
+use Rattle.hayro_ccitt.specs.LookUps.{mode_told}
+use Rattle.hayro_ccitt.proofs.BitReading.PeekedBits.{peeked_seven}
+use Rattle.hayro_ccitt.proofs.CodeWords.LookedUpModes.{mode_stands, v0_there}
+use Rattle.hayro_ccitt.proofs.bit_reader.BitReader.pass_v0.Goals as goal
+
+pub returns-clause-mode : goal.returns-clause-mode
+returns-clause-mode c =
+    let at = c.args.self.now in
+    let told = c.mode_of-mode.ensures.told ∙ ap mode_told (peeked_seven at c.peek_u32.result c.peek_u32.ensures) in
+    let v0 : c.mode_of-mode.result.0 ≡ Some (Vertical (pos 0)) = c.if-not-is_v0.ensures refl in
+    let there : 0 < length (here at) = v0_there (here at) (sym v0 ∙ ap (λ (t : Option Mode × ℕ). t.0) told) in
+    let one : c.mode_of-mode.result.1 ≡ 1 = c.mode_of-mode.ensures.v0 v0 in
+    λ e. rw (v0, one) at (mode_stands at c.mode_of-mode.result told (omega (arith, there, one)))
+
+pub returns-clause-passed : goal.returns-clause-passed
+returns-clause-passed c =
+    let at = c.args.self.now in
+    let told = c.mode_of-mode.ensures.told ∙ ap mode_told (peeked_seven at c.peek_u32.result c.peek_u32.ensures) in
+    let v0 : c.mode_of-mode.result.0 ≡ Some (Vertical (pos 0)) = c.if-not-is_v0.ensures refl in
+    let there : 0 < length (here at) = v0_there (here at) (sym v0 ∙ ap (λ (t : Option Mode × ℕ). t.0) told) in
+    let place : min (at.place + 1) (length at.bits) ≡ at.place + 1 = omega (arith, there, length-drop at.place at.bits) in
+    λ e. rw (c.consume.ensures.moved, place) refl
