@@ -133,6 +133,9 @@ module _ (columns : ℕ) (places : List ℕ) (ascend : AreChanges columns places
       rw (right_of_length front painted len) (b1_by_parity painted index color inside at, b2_by_parity painted index color inside at)
 
   -- ---- Where b1 is after a mode.
+  -- at a line's start
+  pub starts_b1 : IsB1 columns places 0 0 White
+  starts_b1 = record { turns = refl; near = record { left = λ k l. absurd (omega arith) }; right = λ l. absurd (omega arith) }
 
   -- the end of going up by twos
   pub ends_at_b1 : (painted index : ℕ) (color : Color) → TurnsFrom index color → IsNear columns places painted index → painted < get_or places index columns
