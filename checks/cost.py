@@ -185,7 +185,7 @@ SHAPES = [
     ("V0", GROUP_4, 0, white_rows(1728), 1045),
     ("V0, one column", GROUP_4, 0, white_rows(1), 1045),
     ("a dense row and copies", GROUP_4, 0, dense_and_copies, 406),
-    ("a dense row and passes", GROUP_4, 0, dense_and_passes, 178),
+    ("a dense row and passes", GROUP_4, 0, dense_and_passes, 293),
     ("alternate rows", GROUP_4, 0, alternate_rows, 126),
     ("edges at both ends", GROUP_4, 0, far_edges, 103),
     ("edges shifted left and right", GROUP_4, 0, shifted_edges, 254),
