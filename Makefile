@@ -65,10 +65,11 @@ $(BUILD)/%.o: c/%.c $(HEADERS) | $(BUILD)
 $(BUILD)/libhayro_ccitt.a: $(OBJECTS)
 	rm -f $@
 	$(AR) crs $@ $^
+# Copies and no links, since `rt ci` refuses links below the repository.
 $(BUILD)/libhayro_ccitt.so: $(OBJECTS) c/exports
 	$(CC) $(CFLAGS) $(LDFLAGS) -shared -Wl,-soname,$(SONAME) -Wl,--version-script=c/exports -o $(BUILD)/$(SHARED) $(OBJECTS)
-	ln -sf $(SHARED) $(BUILD)/$(SONAME)
-	ln -sf $(SONAME) $@
+	cp $(BUILD)/$(SHARED) $(BUILD)/$(SONAME)
+	cp $(BUILD)/$(SHARED) $@
 $(BUILD)/hayro_ccitt.pc: c/hayro_ccitt.pc.in c/hayro_ccitt.h Makefile | $(BUILD)
 	sed -e 's|@PREFIX@|$(PREFIX)|' -e 's|@LIBDIR@|$(LIBDIR)|' -e 's|@INCLUDEDIR@|$(INCLUDEDIR)|' -e 's|@VERSION@|$(VERSION)|' $< > $@
 

@@ -206,7 +206,7 @@ fn repeated(
 fn many_pages(rt: HostRuntime) -> std::result::Result<(), Fail> {
     let data = repeated(rt.alloc(), &[], &ONE_ROW, 10000, &[])?;
     assert!(&rt; bits_fit(&data));
-    let ends = page_ends(rt.alloc(), 8, &data)?;
+    let ends = page_ends(rt.alloc(), 8, HighestFirst, &data)?;
     assert_eq!(&rt; ends.len(), 10000);
     let mut end = 0usize;
     for found in ends.iter() {
@@ -225,17 +225,20 @@ fn long_strips(rt: HostRuntime) -> std::result::Result<(), Fail> {
     let data = repeated(alloc, &[0x31, 0xFF], &[0xFF; 3], times, &eofb)?;
     assert!(&rt; bits_fit(&data));
     let expected = repeated(alloc, &[0x18; 3], &[0x18; 8], times, &[])?;
-    let bitmap = strip_to_bitmap(alloc, group4_pages(8), &data)?;
+    let bitmap = strip_to_bitmap(alloc, group4_pages(8), HighestFirst, &data)?;
     assert_eq!(&rt; bitmap.len(), expected.len());
     assert!(&rt; bitmap.as_slice() == expected.as_slice());
     assert_eq!(&rt;
-        count_black(alloc, group4_pages(8), &data),
+        count_black(alloc, group4_pages(8), HighestFirst, &data),
         Ok(2 * expected.len() as u64)
     );
-    assert_eq!(&rt; page_end(alloc, 8, &data), Ok(data.len()));
+    assert_eq!(&rt; page_end(alloc, 8, HighestFirst, &data), Ok(data.len()));
     let mut first = FirstRows::new(BitmapSink::new(alloc, 8), u64::MAX);
     let mut ctx = DecoderContext::new(alloc, group4_pages(8))?;
-    assert_eq!(&rt; decode_first_rows(&data, &mut first, &mut ctx), Ok(false));
+    assert_eq!(&rt;
+        decode_first_rows(HighestFirst, &data, &mut first, &mut ctx),
+        Ok(false)
+    );
     assert_eq!(&rt; first.rows, expected.len() as u64);
     assert!(&rt; first.sink.bytes() == expected.as_slice());
     Ok(())
