@@ -161,7 +161,7 @@ impl<'a> BitReader<'a> {
 
     /// A reader at a place among the bits.
     #[inline(never)]
-    fn at_place(data: &'a [u8], order: BitOrder, place: usize) -> BitReader<'a>
+    pub(crate) fn at_place(data: &'a [u8], order: BitOrder, place: usize) -> BitReader<'a>
         requires fit { BitsFit «data».now }
         requires within { place ≤ 8 * length «data».now }
         ensures { result ≡ record { bits = bits_in order «data».now; place = place } }
@@ -288,6 +288,14 @@ impl<'a> BitReader<'a> {
         ensures within { result ≤ length self.now.bits }
     {
         self.place
+    }
+
+    /// The number of bits, those before the place too.
+    pub(crate) fn bit_len(&self) -> usize
+        ensures length { result ≡ length self.now.bits }
+        ensures fit { length self.now.bits + 64 < 2 ^ 64 }
+    {
+        self.data.len() * 8
     }
 
     /// The same bits at the same place.

@@ -150,7 +150,7 @@ impl DecoderContext {
 
     /// Empties the front and sets the colour to white, as each line begins.
     #[inline(always)]
-    fn begin_line(&mut self)
+    pub(crate) fn begin_line(&mut self)
         ensures frame { self.new ≡ record self.old { held = redrawn self.old.held [] Color.White; passed = 0 } }
     {
         self.coding_changes.clear();

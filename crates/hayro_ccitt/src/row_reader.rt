@@ -17,8 +17,8 @@ use std::marker::Model;
 
 /// A sink that takes each row and keeps none.
 #[derive(Drop)]
-struct NoRows {
-    columns: u32,
+pub(crate) struct NoRows {
+    pub(crate) columns: u32,
 }
 
 impl Decoder for NoRows {
@@ -43,7 +43,7 @@ impl Decoder for NoRows {
 
 /// Where a reader of rows is.
 #[derive(Copy, Clone)]
-enum Stand {
+pub(crate) enum Stand {
     /// At the first bit of a line.
     AtLine,
     /// After a row, at the gap before the next line.
@@ -55,7 +55,7 @@ enum Stand {
 }
 
 /// Where a reading is after a gap, which says so.
-fn stand_after_gap(over: Result<bool>) -> Stand
+pub(crate) fn stand_after_gap(over: Result<bool>) -> Stand
     ensures { result ≡ stand_after over }
 {
     match over {
@@ -66,7 +66,7 @@ fn stand_after_gap(over: Result<bool>) -> Stand
 }
 
 /// Whether a line follows a gap, which says whether the image ends there.
-fn line_after_gap(over: Result<bool>) -> Result<bool>
+pub(crate) fn line_after_gap(over: Result<bool>) -> Result<bool>
     ensures { result ≡ line_after over }
 {
     match over {
@@ -76,14 +76,14 @@ fn line_after_gap(over: Result<bool>) -> Result<bool>
 }
 
 /// Whether a line stands here.
-fn is_at_line(stand: Stand) -> bool
+pub(crate) fn is_at_line(stand: Stand) -> bool
     ensures { result ≡ is_at_line stand }
 {
     matches!(&stand, Stand::AtLine)
 }
 
 /// Passes what stands before the first line: in Group 4 EOFB may, and in Group 3 EOLs (T.6 section 2.4.1.1, T.4 section 4.1.2).
-fn first_stand(ctx: &mut DecoderContext, reader: &mut BitReader<'_>) -> Stand
+pub(crate) fn first_stand(ctx: &mut DecoderContext, reader: &mut BitReader<'_>) -> Stand
     requires fresh { ctx.old.held ≡ fresh ctx.old.held.settings }
     requires start { reader.old.place ≡ 0 }
     ensures none_taken { ctx.new.held.taken ≡ 0 }

@@ -212,7 +212,7 @@ isnt_read settings bits held here stands new left_over e takes =
     }
 
 -- where a line stands, the invariant says so
-at_line_stands : (stand : Stand) (settings : DecodeSettings) (bits : Bits) (held : Held) (place : ℕ) → is_at_line stand ≡ true → Stands stand settings bits held place
+pub at_line_stands : (stand : Stand) (settings : DecodeSettings) (bits : Bits) (held : Held) (place : ℕ) → is_at_line stand ≡ true → Stands stand settings bits held place
     → StandsAtLine settings bits held (drop place bits)
 at_line_stands AtLine settings bits held place is stands = stands
 at_line_stands BehindRow settings bits held place is stands = absurd (false≢true is)
@@ -225,7 +225,7 @@ reader_at_line inside now view is reading =
     at_line_stands inside.stand inside.ctx.held.settings inside.reader.bits inside.ctx.held inside.reader.place (ap (λ (r : RowsRead). r.at_line) view ∙ is) reading
 
 -- so it does behind a row
-behind_row_stands : (stand : Stand) (settings : DecodeSettings) (bits : Bits) (held : Held) (place : ℕ) → ended stand ≡ None → is_at_line stand ≡ false
+pub behind_row_stands : (stand : Stand) (settings : DecodeSettings) (bits : Bits) (held : Held) (place : ℕ) → ended stand ≡ None → is_at_line stand ≡ false
     → Stands stand settings bits held place → StandsBehindRow settings bits held (drop place bits)
 behind_row_stands AtLine settings bits held place unended no_line stands = absurd (false≢true (sym no_line))
 behind_row_stands BehindRow settings bits held place unended no_line stands = stands
