@@ -1,7 +1,7 @@
 //! What a decoder keeps from line to line, and the lines themselves.
 
 ghost use Rattle.std.specs.Prelude.{◌≡◌, ◌+◌, ◌*◌, ◌^◌, ◌<◌, ◌≤◌, ◌⊎◌, ◌↔◌, Ok, Err, OnOk, OnErr, IfOk, IfErr, true, false, IsOkUnless, IsTrue, length, get_or, []};
-ghost use Rattle.hayro_ccitt.specs.Rows.{right_of, b1, b2, changes, opposite};
+ghost use Rattle.hayro_ccitt.specs.Rows.{AreChanges, right_of, b1, b2, changes, opposite};
 ghost use Rattle.hayro_ccitt.specs.Bits.{here};
 ghost use Rattle.hayro_ccitt.specs.Context.{redrawn, painted_front, taken_row, after_repair, passed_changes};
 ghost use Rattle.hayro_ccitt.specs.UsualModes.{GoesOn2d};
@@ -110,7 +110,9 @@ impl DecoderContext {
 
     /// The changes of the reference row: those of the last row that was taken, none before the first.
     pub(crate) fn reference_row(&self) -> &[u32]
-        ensures { result.now ≡ changes self.now.held.reference }
+        ensures changes { result.now ≡ changes self.now.held.reference }
+        ensures lawful { AreChanges self.now.held.settings.columns result.now }
+        ensures width { length self.now.held.reference ≡ self.now.held.settings.columns }
     {
         self.ref_changes.as_slice()
     }

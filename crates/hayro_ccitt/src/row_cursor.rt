@@ -2,7 +2,7 @@
 
 ghost use Rattle.std.specs.Prelude.{◌≡◌, ◌≤◌, ◌+◌, ◌/◌, ◌↔◌, true, None, Some, IfOk, IsOkUnless, Result, length};
 ghost use Rattle.hayro_ccitt.specs.Bits.{BitsFit, bits_in};
-ghost use Rattle.hayro_ccitt.specs.Rows.{changes};
+ghost use Rattle.hayro_ccitt.specs.Rows.{AreChanges, changes};
 ghost use Rattle.hayro_ccitt.specs.RowsRead.{ComesToLine, ReadsNext, at_end_of_rows, ended, is_at_line};
 ghost use Rattle.hayro_ccitt.specs.RowCursors.{IsReadingOf, IsStanding, IsStandingAtLine, rows_over, seen};
 
@@ -193,7 +193,9 @@ impl RowCursor {
     /// The changes of the last row that was read, in ascending order: the pixels at which its colour changes. There are none
     /// before the first row.
     pub fn row(&self) -> &[u32]
-        ensures { result.now ≡ changes self.now.held.reference }
+        ensures changes { result.now ≡ changes self.now.held.reference }
+        ensures lawful { AreChanges self.now.held.settings.columns result.now }
+        ensures width { length self.now.held.reference ≡ self.now.held.settings.columns }
     {
         self.rows.ctx.reference_row()
     }
