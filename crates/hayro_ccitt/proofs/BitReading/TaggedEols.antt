@@ -1,4 +1,4 @@
--- EOLs with tags between them, read one after another, and what is looked at.
+-- EOLs with tags between them, read one after another, and what is examined.
 use Rattle.std.proofs.Common.{◌≡◌, ℕ, suc, ◌+◌, ◌-◌, ◌*◌, ◌<◌, ◌≤◌, true, false, [], ◌∷◌, length, Option}
 use Rattle.std.proofs.Common.{Some, None, refl, sym, ap, ◌∙◌, arith}
 use Rattle.std.specs.Prelude.{is_some}
@@ -9,7 +9,7 @@ use Rattle.hayro_ccitt.specs.Ticks.{looked, looked_at_tag}
 use Rattle.hayro_ccitt.proofs.Readings.TurnsMoveOn.{eols_with_tags-some}
 use Rattle.hayro_ccitt.proofs.BitReading.ZeroRuns.{looked_eol}
 
--- one EOL is read where one stands
+-- one EOL is read if there is one
 pub one_eol_read : (here after : Bits) (count : ℕ) → eols 1 here ≡ (count, after) → (0 < count → (after_eol 0 here ≡ Some after) × (count ≡ 1))
     × (count ≡ 0 → (after_eol 0 here ≡ None) × (after ≡ here))
 one_eol_read here after count e = by (after_eol 0 here) refl
@@ -38,11 +38,11 @@ tagged_stepped max count start now after rest e h is lt =
     by : (found : ℕ × Bits) → one_more found ≡ (suc found.0, found.1)
     by (count, rest) = refl
 
--- the bits from here on that may have been looked at before: those of an EOL behind its tag, or those of a tag
+-- the bits from here on that may have been examined before: those of an EOL after its tag, or those of a tag
 abbrev pub looked_before : Bits → ℕ
 looked_before here = elim (after_eol 0 here) [ None ↦ looked_at_tag here | Some rest ↦ looked here ]
 
--- a tag is looked at, and perhaps the EOL behind it
+-- a tag is examined, and perhaps the EOL after it
 tag_looks : (here : Bits) → (length here ≤ looked_at_tag here + length (past_tag here)) × (length (past_tag here) ≤ length here)
     × (looked_at_tag here + 2 * length (past_tag here) ≤ 2 * length here + looked_before (past_tag here))
 tag_looks [] = (omega arith, omega arith, omega arith)
@@ -59,7 +59,7 @@ tag_looks (true ∷ here) = by (after_eol 0 here) refl
     by None e = rw (e, past_tag) (omega arith, omega arith, omega arith)
     by (Some rest) e = rw (e, past_tag) (omega arith, omega arith, rw (e, looked_before) (omega arith))
 
--- what an EOL and its tag count: each bit that is passed, and at most twice
+-- what an EOL and its tag count: each bit that is consumed, and at most twice
 pub tagged_looks : (here after rest : Bits) (ticks ticks1 ticks2 most : ℕ) → after_eol 0 here ≡ Some after → rest ≡ past_tag after
     → ticks1 + length after ≡ ticks + length here → ticks2 ≡ ticks1 + looked_at_tag after
     → (ticks + length here ≤ ticks2 + length rest) × (length rest < length here)
@@ -81,7 +81,7 @@ tagged_looks here after rest ticks ticks1 ticks2 most eol is first second =
     looked_some (false ∷ here) after e = omega arith
     looked_some (true ∷ here) after e = omega arith
 
--- a one before an EOL is passed as a tag, and no other
+-- a one before an EOL is consumed as a tag, and no other
 pub past_tag-eol : (here : Bits) → is_some (after_eol 0 here) ≡ true → past_tag (true ∷ here) ≡ here
 past_tag-eol here e = by (after_eol 0 here) e
   where
@@ -96,6 +96,6 @@ past_tag-none here e = by (after_eol 0 here) e
     by None e = refl
     by (Some rest) e = absurd (false≢true (sym e))
 
--- of six EOLs or more the last tag is passed
+-- of six EOLs or more the last tag is consumed
 pub last_tag-one : (count : ℕ) (here : Bits) → 6 ≤ count → pass_last_tag (count, true ∷ here) ≡ (count, here)
 last_tag-one count here le = rw (le-leb 6 count le) refl

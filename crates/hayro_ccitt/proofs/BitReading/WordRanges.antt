@@ -1,4 +1,4 @@
--- The numbers whose bits a word begins, and the entries that are written at them.
+-- The numbers whose bits begin with a word, and the entries that are written at them.
 use Rattle.std.proofs.Common.{◌≡◌, ℕ, zero, suc, ◌+◌, ◌-◌, ◌*◌, ◌/◌, ◌%◌, ◌^◌, ◌<◌, ◌≤◌, ◌⊎◌, inl, inr, true, false, eqb, [], ◌∷◌, ◌++◌, length, Option, Some, None, bit_or, refl, sym, ap, subst, ◌∙◌, arith}
 use Rattle.std.specs.Int.{bit_at}
 use Rattle.std.proofs.lemmas.Bool.{cases_eq, eq-eqb, ne_eqb, false≢true}
@@ -22,7 +22,7 @@ low_bits-append (suc width) rest n =
     sym (ap (λ (m : ℕ). eqb (m % 2) 1) (shr-shr n rest width ∙ ap (λ (k : ℕ). n / 2 ^ k) f)) in
     rw (e, high, low_bits-append width rest n) refl
 
--- a bit tells its number
+-- a bit determines its number
 bit_number : (a b : ℕ) → a < 2 → b < 2 → eqb a 1 ≡ eqb b 1 → a ≡ b
 bit_number zero zero h k e = refl
 bit_number zero (suc zero) h k e = absurd (false≢true e)
@@ -52,7 +52,7 @@ same_front (d ∷ a) (c ∷ b) x y h e =
     let on = same_front a b x y (omega arith) others in
     cc
 
--- a word begins the bits of the numbers that its own, with more bits behind it, are
+-- a word begins the bits of the numbers that its own bits, with more bits after them, spell
 pub word_begins : (width rest word n : ℕ) → word < 2 ^ width → n < 2 ^ width * 2 ^ rest → 0 < 2 ^ rest
     → is_prefix (low_bits width word) (low_bits (width + rest) n) ≡ eqb (n / 2 ^ rest) word
 word_begins width rest word n fits below some = rw (low_bits-append width rest n) (by (cases_eq (n / 2 ^ rest) word))
@@ -75,7 +75,7 @@ word_begins width rest word n fits below some = rw (low_bits-append width rest n
     by (inl same) = rw (same, eq-eqb word word refl, after_at (low_bits width word) (low_bits rest n), is_prefix) refl
     by (inr other) = differ (after (low_bits width word) (low_bits width (n / 2 ^ rest) ++ low_bits rest n)) refl other ∙ sym (ne_eqb (n / 2 ^ rest) word other)
 
--- of bits so many
+-- of n bits
 pub word_begins_of : (whole width word n : ℕ) → width ≤ whole → word < 2 ^ width → n < 2 ^ whole
     → is_prefix (low_bits width word) (low_bits whole n) ≡ eqb (n / 2 ^ (whole - width)) word
 word_begins_of whole width word n le fits below =
@@ -109,7 +109,7 @@ is_row_is run width word e =
     let two = and_parts _ _ both.0 in
     record { short = leb-true _ _ two.0; fits = ltb-true _ _ two.1; twelve = ltb-true _ _ both.1 }
 
--- the numbers whose bits a word begins are below 8192
+-- the numbers whose bits begin with a word are below 8192
 pub range_fits : (run width word : ℕ) → IsRow run width word → word * 2 ^ (13 - width) + 2 ^ (13 - width) ≤ 8192
 range_fits run width word is =
     let e : width + (13 - width) ≡ 13 = omega (arith, is.short) in
@@ -140,7 +140,7 @@ row_inside run width word k entry is below le lt =
     let same = inside (2 ^ (13 - width)) word k le lt in
     rw (row_test run width word k is below ∙ eq-eqb (k / 2 ^ (13 - width)) word same) refl
 
--- elsewhere it stays
+-- elsewhere it doesn't change
 pub row_outside : (run width word k entry : ℕ) → IsRow run width word → k < 8192
     → (k < word * 2 ^ (13 - width)) ⊎ (word * 2 ^ (13 - width) + 2 ^ (13 - width) ≤ k)
     → with_row (run, width, word) (thirteen_bits k) entry ≡ entry

@@ -19,7 +19,7 @@ pub leading_zeros-replicate : (n : ℕ) → leading_zeros (replicate n false) �
 leading_zeros-replicate zero = refl
 leading_zeros-replicate (suc n) = ap suc (leading_zeros-replicate n)
 
--- what is looked at where zeros and a one stand
+-- what is examined if there are zeros and a one
 pub looked_run : (k : ℕ) (rest : Bits) → looked (replicate k false ++ true ∷ rest) ≡ k + 1
 looked_run zero rest = refl
 looked_run (suc k) rest = omega (arith, looked_run k rest)
@@ -32,7 +32,7 @@ after_eol_run k rest = from 0 k ∙ let e : 0 + k ≡ k = omega arith in ap (λ 
     from seen zero = let e : seen + 0 ≡ seen = omega arith in rw e refl
     from seen (suc k) = let e : suc seen + k ≡ seen + suc k = omega arith in from (suc seen) k ∙ ap (λ (n : ℕ). cond (leb 11 n) (Some rest) None) e
 
--- a count of zeros looks at the bits of an EOL
+-- a count of zeros examines the bits of an EOL
 pub looked_eol : (seen : ℕ) (here after : Bits) → after_eol seen here ≡ Some after → looked here + length after ≡ length here
 looked_eol seen [] after e = absurd cc
 looked_eol seen (false ∷ here) after e = omega (arith, looked_eol (suc seen) here after e)
@@ -63,7 +63,7 @@ eols_stepped max count start now after e h lt =
     let m : count + suc (eols (max - (count + 1)) after).0 ≡ count + 1 + (eols (max - (count + 1)) after).0 = omega arith in
     e ∙ rw f (ap (λ (k : ℕ). (k, (eols (max - (count + 1)) after).1)) m)
 
--- an EOL takes a bit
+-- an EOL has at least one bit
 pub eols_fewer : (most : ℕ) (here : Bits) → (eols most here).0 + length (eols most here).1 ≤ length here
 eols_fewer zero here = omega arith
 eols_fewer (suc most) here = by (λ rest. eols_fewer most rest) (after_eol 0 here) refl
@@ -73,7 +73,7 @@ eols_fewer (suc most) here = by (λ rest. eols_fewer most rest) (after_eol 0 her
     by on None e = rw (e, eols) (omega arith)
     by on (Some rest) e = rw (e, eols) (omega (arith, length-one_more (eols most rest), one_more-count (eols most rest), on rest, after_eol_shorter 0 here rest e))
 
--- where at least as many EOLs as bits are looked for, all are
+-- if at least as many EOLs as bits are looked for, all are
 pub eols_enough : (most : ℕ) (here : Bits) → length here ≤ most → eols most here ≡ all_eols here
 eols_enough most here le = alike most (length here) here le (omega arith)
   where
@@ -94,7 +94,7 @@ eols_enough most here le = alike most (length here) here le (omega arith)
             let shorter = after_eol_shorter 0 (bit ∷ here) rest e in
             rw (e, eols) (ap one_more (on rest (omega (arith, le, shorter)) (omega (arith, le1, shorter))))
 
--- where more EOLs than bits are looked for, the bits after the last are looked at
+-- if more EOLs than bits are looked for, the bits after the last are examined
 pub eols_look_on : (most : ℕ) (here rest : Bits) (count : ℕ) → length here < most → eols most here ≡ (count, rest)
     → cond (eqb count most) 0 (looked rest) ≡ looked rest
 eols_look_on most here rest count lt e = by (eqb count most) refl
@@ -106,7 +106,7 @@ eols_look_on most here rest count lt e = by (eqb count most) refl
         absurd (omega (arith, counts, lt, eqb-true count most h))
 
 -- ---- A bit read.
--- a bit that stands at the place is the first here
+-- a bit at the position is the first here
 pub here_next : (old new : BitsAt) (bit : Bool) → slice_get old.bits old.place ≡ Some bit → new ≡ record old { place = old.place + 1 }
     → here old ≡ bit ∷ here new
 here_next old new bit h e = rw e (drop_some old.bits old.place bit h)

@@ -1,4 +1,4 @@
--- What seven bits say of the mode that stands here.
+-- What seven bits say of the mode here.
 use Rattle.std.proofs.Common.{◌≡◌, ℕ, zero, suc, ◌-◌, ◌/◌, ◌^◌, ◌<◌, ◌≤◌, true, [], ◌∷◌, length, drop, Option, Some, None, option_map, Ok, Err, refl, sym, ap, ◌∙◌, arith}
 use Rattle.std.proofs.lemmas.Bool.{eq-eqb, false≢true}
 use Rattle.hayro_ccitt.specs.declared.error.DecodeError.TheVariants.{UnexpectedEof, InvalidCode}
@@ -45,7 +45,7 @@ mode_none zero h = refl
 mode_none (suc zero) h = refl
 mode_none (suc (suc n)) h = absurd (omega arith)
 
--- ---- What they tell of the bits here.
+-- ---- What they say of the bits here.
 pub mode_cut : (here : Bits) → length here < telling_bits mode_codes (padded 7 here) → read_code mode_codes here ≡ Err UnexpectedEof
 mode_cut here h = tells_cut 7 mode_codes modes_tell here h
 
@@ -78,7 +78,7 @@ some_mode_bits here = by (word_at mode_codes (padded 7 here)) refl
         omega (arith, telling_is 7 mode_codes modes_tell here found w e at, word_length mode_codes found.0 w refl has)
     by None e = omega (arith, telling_none 7 mode_codes modes_tell here e)
 
--- what is told of the mode here, where seven bits are
+-- what is said of the mode here, if seven bits are
 pub mode_stands : (at : BitsAt) (told : Option Mode × ℕ) → told ≡ mode_told (padded 7 (here at)) → told.1 ≤ length (here at)
     → IfSome told.0 (λ mode. read_code mode_codes (here at) ≡ Ok (mode, here (moved told.1 at)))
 mode_stands at (None, width) e enough = tt
@@ -89,7 +89,7 @@ mode_stands at (Some mode, width) e enough =
     ∙ ap (λ (n : ℕ). Ok (mode, drop n (here at))) (sym second)
     ∙ ap (λ (bits : Bits). Ok (mode, bits)) (drop-drop width at.place at.bits)
 
--- V0 doesn't stand where no bit is
+-- there is no V0 where there is no bit
 pub v0_there : (here : Bits) → ◌≡◌ {A = Option Mode} (Some (Vertical (pos 0))) (mode_told (padded 7 here)).0 → 0 < length here
 v0_there [] e = absurd (let f : ◌≡◌ {A = Option Mode} (Some (Vertical (pos 0))) None = e in cc)
 v0_there (b ∷ here) e = omega arith

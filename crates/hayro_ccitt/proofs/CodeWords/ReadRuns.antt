@@ -83,7 +83,7 @@ shrinks_by color total here t (Ok found) h k =
 pub run_shrinks : (color : Color) → Shrinks (run_turn color) size
 run_shrinks color s t e = shrinks_by color s.0 s.1 t (read_code (codes_of color) s.1) refl e
 
--- ---- The rules of a run, by which a loop goes on.
+-- ---- The rules of a run, by which a loop continues.
 run_is : (color : Color) (total : ℕ) (here : Bits) → run_from color (total, here) ≡ after_turn (run_from color) (run_turn color (total, here))
 run_is color total here = repeated_turn (run_turn color) (Err UnexpectedEof) size (run_shrinks color) (total, here)
 

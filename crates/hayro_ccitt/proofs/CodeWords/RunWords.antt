@@ -13,7 +13,7 @@ use Rattle.hayro_ccitt.specs.Ticks.{word_found, run_gives, run_found}
 use Rattle.hayro_ccitt.proofs.CodeWords.ReadRuns.{size, run_shrinks}
 use Rattle.hayro_ccitt.proofs.Readings.Gathered.{gathered_after, gathered_turn}
 
--- what a turn gives, and then the turns after it
+-- the words of a turn, and then of the turns after it
 abbrev pub given : {S R A : Type 0} → List A → (S → List A) → Turn S R → List A
 given now rest turn = now ++ gathered_after rest turn
 
@@ -25,7 +25,7 @@ run_found_turn color total here = gathered_turn (run_turn color) (run_gives colo
 pub one_word : {V : Type 0} (list : List (Code V)) (here : Bits) (found : V × Bits) → read_code list here ≡ Ok found → length (word_found list here) ≡ 1
 one_word list here found e = rw (e, word_found) refl
 
--- a make-up word is one, and the run goes on
+-- a make-up word is one, and the run continues
 pub run_found_on : (color : Color) (total n : ℕ) (here rest : Bits) → read_code (codes_of color) here ≡ Ok (n, rest) → total + n ≤ 4294967295
     → 64 ≤ n → length (run_found color (total, here)) ≡ suc (length (run_found color (total + n, rest)))
 run_found_on color total n here rest h k l =

@@ -34,7 +34,7 @@ run_of_two color at run width rest more first second long short below =
       few = omega (arith, first.few, second.few);
     }
 
--- a run behind no bits stands here
+-- a run after no bits is here
 pub run_here_too : (color : Color) (at : BitsAt) (run width words : ℕ) → IsRunHere color (moved 0 at) run width words → IsRunHere color at run width words
 run_here_too color at run width words there =
     let none : at.place + 0 ≡ at.place = omega arith in

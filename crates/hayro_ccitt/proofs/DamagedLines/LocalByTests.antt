@@ -11,14 +11,14 @@ use Rattle.hayro_ccitt.proofs.DamagedLines.PastEol.{past_is, then_after}
 use Rattle.hayro_ccitt.proofs.DamagedLines.LineTails.{after_eol_is, drop_at, none_in_body}
 use Rattle.hayro_ccitt.proofs.DamagedLines.EolsAlike.{no_one}
 
--- bits that aren't all zeros hold a one
+-- bits that aren't all zeros contain a one
 holds_one : (bits : Bits) → bits ≢ replicate (length bits) false → (before after : Bits) × (bits ≡ before ++ true ∷ after)
 holds_one [] not_zeros = absurd (not_zeros refl)
 holds_one (true ∷ bits) not_zeros = ([], bits, refl)
 holds_one (false ∷ bits) not_zeros = let f
     = holds_one bits (λ e. not_zeros (ap (λ (b : Bits). false ∷ b) e)) in (false ∷ f.0, f.1, ap (λ (b : Bits). false ∷ b) f.2)
 
--- where none is found, none stands further on
+-- if none is found, there is none further on
 none_further : (before here : Bits) → next_eol (before ++ here) ≡ None → after_eol 0 here ≡ None
 none_further [] here e = by here e
   where

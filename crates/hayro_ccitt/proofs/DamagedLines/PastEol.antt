@@ -7,13 +7,13 @@ use Rattle.hayro_ccitt.specs.Bits.{Bits}
 use Rattle.hayro_ccitt.specs.EndOfLine.{after_eol, one_more, eols, all_eols, next_eol}
 use Rattle.hayro_ccitt.proofs.Readings.TurnsMoveOn.{eols-some, eols-none, after_eol_shorter}
 
--- what follows the next EOL that ends further on, so many zeros having been seen
+-- what follows the next EOL that ends further on, given the number of zeros just before
 abbrev pub past : ℕ → Bits → Option Bits
 past seen [] = None
 past seen (false ∷ here) = past (suc seen) here
 past seen (true ∷ here) = cond (leb 11 seen) (Some here) (past 0 here)
 
--- the EOL that stands here is the next
+-- the EOL here is the next
 pub past-eol : (seen : ℕ) (here after : Bits) → after_eol seen here ≡ Some after → past seen here ≡ Some after
 past-eol seen [] after e = absurd cc
 past-eol seen (false ∷ here) after e = past-eol (suc seen) here after e
@@ -22,7 +22,7 @@ past-eol seen (true ∷ here) after e = elim (cases_lt seen 11) [
   | inr ge ↦ rw (le-leb 11 seen ge) (rw (le-leb 11 seen ge) at e)
 ]
 
--- where none stands, a zero less makes no difference
+-- if there is none, a zero less makes no difference
 past-none : (seen : ℕ) (here : Bits) → after_eol (suc seen) here ≡ None → past (suc seen) here ≡ past seen here
 past-none seen [] e = refl
 past-none seen (false ∷ here) e = past-none (suc seen) here e
@@ -63,18 +63,18 @@ eols_same (suc n) (suc m) here h k = by (λ rest. eols_same n m rest) (after_eol
         let shorter = after_eol_shorter 0 here rest e in
         eols-some n here rest e ∙ ap one_more (on rest (omega arith) (omega arith)) ∙ sym (eols-some m here rest e)
 
--- where an EOL stands, it is counted, and those after it
+-- if there is an EOL, it is counted, and those after it
 pub all_eols-some : (here rest : Bits) → after_eol 0 here ≡ Some rest → all_eols here ≡ one_more (all_eols rest)
 all_eols-some [] rest e = absurd cc
 all_eols-some (b ∷ here) rest e =
     let shorter = after_eol_shorter 0 (b ∷ here) rest e in
     eols-some (length here) (b ∷ here) rest e ∙ ap one_more (eols_same (length here) (length rest) rest (omega arith) (omega arith))
 
--- where none stands, none is counted
+-- if there is none, none is counted
 pub all_eols-none : (here : Bits) → after_eol 0 here ≡ None → all_eols here ≡ (0, here)
 all_eols-none here e = eols-none (length here) here e
 
--- Where twelve bits are left before the end of the next EOL, it is also the next one from there.
+-- If twelve bits are left before the end of the next EOL, it is also the next one from there.
 pub past_here : (seen fewer : ℕ) (here after : Bits) → fewer ≤ seen → past seen here ≡ Some after → length after + 12 ≤ fewer + length here
     → past fewer here ≡ Some after
 past_here seen fewer [] after le e far = absurd cc

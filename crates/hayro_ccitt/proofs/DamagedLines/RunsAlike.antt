@@ -54,7 +54,7 @@ rows_more xs ys row (inr (before, a, b, more, e, f, begins)) =
 abbrev pub run_at : List Row → Bool → Bits → Progress
 run_at rows has_eols rest = record { rows = rows; has_eols = has_eols; rest = rest }
 
--- how two runs end: with one fault; at one place among the equal bits; past the EOL after the line; or at the limit
+-- how two runs end: with one fault; at one position among the equal bits; past the EOL after the line; or at the limit
 pub data EndsAlike (settings : DecodeSettings) (Begins : List Row → Type 0) (from : ℕ) (x y after : Bits) (r q : Ending) : Type 0 where
   faults : (fault : DecodeError) → r.outcome ≡ Err fault → q.outcome ≡ Err fault → RowsAlike Begins r.rows q.rows → EndsAlike settings Begins from x y after r q
   early : (bits : Bits) → length bits < from → r.outcome ≡ Ok (bits ++ true ∷ x) → q.outcome ≡ Ok (bits ++ true ∷ y) → r.rows ≡ q.rows
@@ -66,7 +66,8 @@ pub data EndsAlike (settings : DecodeSettings) (Begins : List Row → Type 0) (f
       → r.outcome ≡ Ok u → q.outcome ≡ Ok v → length u ≤ length x → length v ≤ length y
       → EndsAlike settings Begins from x y after r q
 
--- where two runs stand between lines: at one place among the equal bits; just past them; or past the EOL after the line
+-- where two runs are between lines: at one position among the equal bits; just past them; or past the EOL after the
+-- line
 pub data RunsAlike (Begins : List Row → Type 0) (from : ℕ) (x y after : Bits) (s t : Progress) : Type 0 where
   ahead : (rows : List Row) (bits : Bits) → Closes bits → length bits < from → s ≡ sought rows (bits ++ true ∷ x) → t ≡ sought rows (bits ++ true ∷ y)
       → RunsAlike Begins from x y after s t
@@ -74,7 +75,7 @@ pub data RunsAlike (Begins : List Row → Type 0) (from : ℕ) (x y after : Bits
   beyond : (xs ys : List Row) (has_eols : Bool) (rest : Bits) → RowsAlike Begins xs ys → length rest ≤ length after → s ≡ run_at xs has_eols rest
       → t ≡ run_at ys has_eols rest → RunsAlike Begins from x y after s t
 
--- the bits from the line on: no EOL stands there, the next is followed by some bits, and the line stays before it
+-- the bits from the line on: there is no EOL there, the next is followed by some bits, and the line stays before it
 pub record IsTail (columns : ℕ) (after x : Bits) : Type 0 where
   pub none : after_eol 0 x ≡ None
   pub next : past 0 x ≡ Some after
@@ -86,7 +87,7 @@ module _ (settings : DecodeSettings) (encoding : settings.encoding ≡ Group3_1D
   abbrev Both : Move → Move → Type 0
   Both m n = Follows (RunsAlike Begins from x y after) (EndsAlike settings Begins from x y after) rest m n
 
-  -- ---- Past the EOL after the line all is alike but one row
+  -- ---- Past the EOL after the line everything is alike except one row
   unless_beyond : (xs ys : List Row) (has_eols : Bool) (a b : Bits) (found : ℕ × Bits) → RowsAlike Begins xs ys → length found.1 ≤ length after
       → Both (unless_over settings (run_at xs has_eols a) found) (unless_over settings (run_at ys has_eols b) found)
   unless_beyond xs ys has_eols a b (count, here) alike short =

@@ -33,7 +33,7 @@ found_next here after e = by (next_eol here) refl
     by None f = absurd (let g : ◌≡◌ {A = Option Bits} None (Some after) = ap then_after (sym f) ∙ sym (past_is here) ∙ e in cc)
     by (Some found) f = (found, f, ap then_after (sym f) ∙ sym (past_is here) ∙ e)
 
--- where an EOL is to come the data go on
+-- where an EOL is due the data continue
 pub not_past_end : (here after : Bits) → past 0 here ≡ Some after → at_end here ≡ false
 not_past_end [] after e = absurd cc
 not_past_end (b ∷ here) after e = refl
@@ -43,7 +43,7 @@ module _ (settings : DecodeSettings) (encoding : settings.encoding ≡ Group3_1D
   pub eols_here_is : (here : Bits) → eols_here settings here ≡ all_eols here
   eols_here_is here = ap (λ (e : EncodingMode). eols_by e settings.end_of_block here) encoding
 
-  -- where an EOL follows and the limit isn't met, the EOLs are counted that begin with the next
+  -- if an EOL follows and the limit isn't met, the EOLs are counted that begin with the next
   pub after_row_past : (rows : List Row) (here after : Bits) → limit_met settings (length rows) ≡ false → past 0 here ≡ Some after
       → after_row settings (sought rows here) ≡ unless_over settings (sought rows here) (one_more (all_eols after))
   after_row_past rows here after short e = by (after_eol 0 here) refl

@@ -25,7 +25,7 @@ use Rattle.hayro_ccitt.proofs.EncodedPictures.EncodedLines.{line_2d_again}
 use Rattle.hayro_ccitt.proofs.EncodedPictures.PictureLines.{IsLineStart, line_2d_starts, allows_sum, not_met, same_pair, row_before_push, plain_ends, fill, aligned_again, aligned_on, between, ended}
 use Rattle.hayro_ccitt.proofs.EncodedPictures.PicturesT4.{line_t4_again, line_t4_starts}
 
--- ---- No EOL is counted where none stands.
+-- ---- No EOL is counted where there is none.
 pass_zero : (here : Bits) → pass_last_tag (0, here) ≡ (0, here)
 pass_zero [] = refl
 pass_zero (true ∷ here) = refl
@@ -112,7 +112,7 @@ module _ (settings : DecodeSettings) (wide : 0 < settings.columns) (small : sett
       ∙ ap (λ (x : Bits). Turn.next (between (rows ++ row ∷ []) x)) (aligned_again b line tail whole)
 
   module _ (encoding : EncodingMode) (same : settings.encoding ≡ encoding) where
-    -- from a line's start at a whole byte, where lines are aligned, the lines are read and what follows is left
+    -- from a line's start, at a whole byte if lines are aligned, the lines are read and what follows is left
     pub body_again : (before rows : List Row) (body more : Bits) → Allows settings (length before + length rows)
         → length (row_before settings.columns before) ≡ settings.columns → All (λ row. length row ≡ settings.columns) rows
         → (b ≡ true → length (body ++ more) % 8 ≡ 0) → EncodesRows encoding b (row_before settings.columns before) rows body
@@ -156,7 +156,7 @@ module _ (settings : DecodeSettings) (wide : 0 < settings.columns) (small : sett
           (body_again [] rows body more (allows_sum settings (length rows) allows) (length-replicate settings.columns false) is.1 whole lines)
           (gap_at_limit settings rows more met)
 
-      -- they begin where no EOL stands
+      -- they begin where there is no EOL
       pub body_starts : IsLineStart (body ++ more)
       body_starts = by rows some is.1 lines
         where

@@ -92,7 +92,7 @@ pub record IsAt (row front : Row) (from : ℕ) (color : Color) : Type 0 where
 length_at : (row front : Row) (from : ℕ) (color : Color) → from ≤ length row + 1 → IsAt row front from color → length front ≡ from - 1
 length_at row front from color le at = ap length at.painted ∙ length-take-le (from - 1) row (omega arith)
 
--- painting up to a place before which there is no change
+-- painting up to a position before which there is no change
 painted_to : (row front : Row) (from p : ℕ) (color : Color) → IsAt row front from color → from ≤ length row → from ≤ p → p ≤ length row
     → ((q : ℕ) → from ≤ q → q < p → is_change row q ≡ false)
     → front ++ replicate (p - length front) (is_black color) ≡ take p row

@@ -1,4 +1,4 @@
--- Where lines of pictures begin, their padding, and how readings that come to their end are said.
+-- Where lines of pictures begin, their padding, and how readings that reach their end are described.
 use Rattle.std.proofs.Common.{◌≡◌, ℕ, suc, ◌+◌, ◌-◌, ◌/◌, ◌%◌, ◌<◌, ◌≤◌, Bool, true, false, cond, not, eqb, leb, List, [], ◌∷◌}
 use Rattle.std.proofs.Common.{◌++◌, length, None, Result, Ok, refl, sym, ap, subst, ◌∙◌, append_assoc, arith, inl, inr}
 use Rattle.std.proofs.lemmas.Bool.{and_right, and_left, cond-false, not-true, eq-eqb, ne_eqb, false≢true}
@@ -24,13 +24,13 @@ abbrev pub closed_settings : EncodingMode → ℕ → Bool → DecodeSettings
 closed_settings encoding columns aligned =
     record { columns = columns; rows = 0; end_of_block = true; end_of_line = false; rows_are_byte_aligned = aligned; encoding = encoding; strict = false }
 
--- ---- No EOL stands where a mode word stands.
+-- ---- There is no EOL at a mode word.
 abbrev pub misses_eol : ℕ → Bits → Bool
 misses_eol seen [] = false
 misses_eol seen (false ∷ word) = misses_eol (suc seen) word
 misses_eol seen (true ∷ word) = not (leb 11 seen)
 
--- no EOL stands in front of such a word
+-- there is no EOL before such a word
 pub missed : (seen : ℕ) (word more : Bits) → misses_eol seen word ≡ true → after_eol seen (word ++ more) ≡ None
 missed seen [] more e = absurd (false≢true e)
 missed seen (false ∷ word) more e = missed (suc seen) word more e
@@ -121,7 +121,7 @@ between rows rest = record { rows = rows; has_eols = false; rest = rest }
 pub eofb_stands : (more : Bits) → eols 2 (eol 0 ++ (eol 0 ++ more)) ≡ (2, more)
 eofb_stands more = refl
 
--- the end of a run that came to its end
+-- the end of a run that reached its end
 abbrev pub ended : List Row → Bits → Ending
 ended rows rest = record { rows = rows; has_eols = false; outcome = Ok rest }
 

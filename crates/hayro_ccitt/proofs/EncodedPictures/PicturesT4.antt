@@ -68,12 +68,12 @@ line_2d_after_tag reference row from color bits more
     ap (after_eol 1) (append_assoc word (run1 ++ (run2 ++ next)) more)
     ∙ missed 1 word ((run1 ++ (run2 ++ next)) ++ more) (each_word_at (misses_eol 1) mode_codes _ word modes_miss_one has)
 
--- where a line of T.4 begins: no EOL stands there, nor behind a tag
+-- where a line of T.4 begins: there is no EOL there, nor after a tag
 record IsTagStart (here : Bits) : Type 0 where
   start : IsLineStart here
   no_tag : past_tag here ≡ here
 
--- ---- EOLs that stand.
+-- ---- EOLs that are there.
 eol_stands : (fill : ℕ) (more : Bits) → after_eol 0 (eol fill ++ more) ≡ Some more
 eol_stands fill more = ap (after_eol 0) (append_assoc (replicate (11 + fill) false) (true ∷ []) more) ∙ eol_of 0 (11 + fill) more (omega arith)
 
@@ -152,7 +152,7 @@ tag_after fill closing next more is = ap (λ (x : Bits). x ++ more) is ∙ appen
 tag_one : (fill : ℕ) (more : Bits) → past_tag (true ∷ (eol fill ++ more)) ≡ eol fill ++ more
 tag_one fill more = rw (eol_stands fill more, past_tag) refl
 
--- a tag before EOLs is passed
+-- a tag before EOLs is consumed
 tagged_eols_behind : (n most : ℕ) (closing more : Bits) → ClosesWithEols Group3_2D n closing → n ≤ (eols_with_tags most (closing ++ more)).0
     → n ≤ (eols_with_tags most (past_tag (true ∷ (closing ++ more)))).0
 tagged_eols_behind zero most closing more is le = omega arith
@@ -229,7 +229,7 @@ module _ (settings : DecodeSettings) (wide : 0 < settings.columns) (small : sett
       ap (λ (x : Bits). line_here settings reference (x ++ more)) is.0 ∙ tagged_line settings reference false (rest ++ more) matches
       ∙ line_2d_again settings.strict settings.columns reference row rest more is.1 wide small ref_len row_len
 
-  -- where it begins no EOL stands
+  -- where it begins there is no EOL
   pub line_t4_starts : (encoding : EncodingMode) (reference row : Row) (line more : Bits) → Matches encoding settings → EncodesLine encoding reference row line
       → length row ≡ settings.columns → IsLineStart (line ++ more)
   line_t4_starts Group4 reference row line more matches is row_len = absurd matches
@@ -260,7 +260,7 @@ module _ (settings : DecodeSettings) (wide : 0 < settings.columns) (small : sett
   abbrev with_eols : List Row → Bits → Progress
   with_eols rows rest = record { rows = rows; has_eols = true; rest = rest }
 
-  -- where EOLs came after a row they are passed
+  -- EOLs that came after a row are consumed
   counted_row : (rows : List Row) (here : Bits) (found : ℕ × Bits) → eols_here settings here ≡ found → 0 < found.0
       → after_row settings (with_eols rows here) ≡ unless_over settings (with_eols rows here) found
   counted_row rows here found is some =
@@ -425,7 +425,7 @@ limited_picture_t4 settings rows bits stream are begins =
     let e = plain_ends settings stream (ends_well rows found) found wide (ap (end_of settings) begins.begins.1 ∙ ends) refl in
     (ap (λ (a : Reading). a.rows) e, rw e refl)
 
--- ---- One beginning, one picture.
+-- ---- One prefix, one picture.
 one_picture_at : (settings : DecodeSettings) (encoding : EncodingMode) (rows others : List Row) (bits more : Bits) → settings.columns ≤ 4294967295
     → Matches encoding settings → settings.end_of_block ≡ true → settings.rows ≡ 0
     → PictureT4 encoding settings.columns rows bits → PictureT4 encoding settings.columns others (bits ++ more) → rows ≡ others

@@ -1,4 +1,4 @@
--- The places b1, b2, a1 and a2, and the pixels between changes.
+-- The positions b1, b2, a1 and a2, and the pixels between changes.
 use Rattle.std.proofs.Common.{◌≡◌, ℕ, zero, suc, ◌+◌, ◌-◌, ◌<◌, ◌≤◌, Bool, true, false, cond, not, ◌&&◌, ltb, leb, [], ◌∷◌, ◌++◌, length, take}
 use Rattle.std.proofs.Common.{replicate, Option, Some, refl, sym, ap, ◌∙◌, arith, inl, inr}
 use mathlib.Core.Bool.{beq}
@@ -9,7 +9,7 @@ use Rattle.hayro_ccitt.specs.declared.codes.Color.{Color}
 use Rattle.hayro_ccitt.specs.declared.codes.Color.TheVariants.{White, Black}
 use Rattle.hayro_ccitt.specs.Rows.{Row, is_black, opposite, pixel, pixel_before, is_change, least_below, right_of, b1, b2, a1, a2}
 
--- the least place from a start on that passes a test, or the bound
+-- the least position from a start on that passes a test, or the bound
 pub record IsLeast (from bound : ℕ) (test : ℕ → Bool) (p : ℕ) : Type 0 where
   pub above : from ≤ p
   pub within : p ≤ bound
@@ -33,11 +33,11 @@ first test from zero bound e = record { above = omega arith; within = omega arit
 first test from (suc n) bound e = first_step test from bound (test from) (find test (range_with_len (from + 1) n)) refl (omega arith)
     (first test (from + 1) n bound (omega arith))
 
--- the search finds the least place
+-- the search finds the least position
 pub is_least : (bound : ℕ) (test : ℕ → Bool) → IsLeast 0 bound test (least_below bound test)
 is_least bound test = first test 0 bound bound (omega arith)
 
--- two tests that agree have one least place
+-- two tests that agree have one least position
 pub least_same : (bound : ℕ) (f g : ℕ → Bool) → ((p : ℕ) → f p ≡ g p) → least_below bound f ≡ least_below bound g
 least_same bound f g same =
     let u = is_least bound f in
@@ -126,7 +126,7 @@ b1_black reference zero = by (is_change reference 0)
 b1_black reference (suc p) = let a : leb 0 (suc p) ≡ true = le-leb 0 (suc p) (omega arith) in let b : leb 1 (suc p) ≡ true
     = le-leb 1 (suc p) (omega arith) in rw (a, b) refl
 
--- the pen's place right of a0 serves as well as a0's own
+-- the position right of a0 that the pen has serves as well as a0's own
 pub b1_right : (reference front : Row) (from : ℕ) (color : Color) → length front ≡ from - 1 → (from ≡ 1 → color ≡ Black)
     → b1 reference (right_of front) color ≡ b1 reference from color
 b1_right reference [] zero color len first = refl
@@ -138,7 +138,7 @@ b1_right reference (p ∷ front) from color len first =
     let e : suc (suc (length front)) ≡ from = omega arith in
     ap (λ (n : ℕ). b1 reference n color) e
 
--- b2 of a front, by its place
+-- b2 of a front, by its position
 pub b2_right : (reference front : Row) (from : ℕ) (color : Color) → length front ≡ from - 1 → (from ≡ 1 → color ≡ Black)
     → b2 reference (right_of front) color ≡ b2 reference from color
 b2_right reference front from color len first =

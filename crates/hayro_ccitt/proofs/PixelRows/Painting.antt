@@ -66,7 +66,7 @@ other_color false false e same = false≢true (sym e)
 
 -- ---- Painting into a row.
 
--- where the row isn't strict, or has room, nothing is a wrong code
+-- if the row isn't strict, or has room, no code is wrong
 pub paint-fits : (strict : Bool) (columns width : ℕ) (places : List ℕ) (color : Color) (n : ℕ) → AreChanges width places
     → (strict ≡ false) ⊎ (n ≤ columns - width)
     → paint strict columns (pixels width places) color n ≡ Ok (pixels width places ++ replicate (min n (columns - width)) (is_black color))

@@ -43,7 +43,7 @@ gap_unsought settings run unsought =
     ∙ cond-false ((eqb found.0 0) && run.has_eols && not (limit_met settings (length run.rows)) && not (at_end run.rest))
     (seek_eol settings run) (unless_over settings run found) test
 
--- EOLs were counted, and the row of the line behind them is read
+-- EOLs were counted, and the row of the line after them is read
 abbrev pub row_behind_eols : DecodeSettings → Progress → ℕ × Bits → Move
 row_behind_eols settings run (count, rest) =
     cond (is_over settings (length run.rows) (count, rest)) (ends_with run (Ok rest)) (row_behind settings (Turn.next (record run { rest = rest })))
@@ -63,7 +63,7 @@ gap_and_row_unsought settings run unsought = ap (row_behind settings) (gap_unsou
 -- ---- Gaps and rows lead on as turns do
 
 module _ (settings : DecodeSettings) (wide : 0 < settings.columns) where
-  -- the answer of turns that never end, which never comes
+  -- the result of turns that never end, which never comes
   abbrev late : Ending
   late = record { rows = []; has_eols = false; outcome = Err UnexpectedEof }
 
@@ -88,7 +88,7 @@ module _ (settings : DecodeSettings) (wide : 0 < settings.columns) where
   ending_behind_goes (Turn.next run) = ending_goes run
   ending_behind_goes (Turn.done end) = refl
 
-  -- a row, and the gap behind it, are a turn
+  -- a row, and the gap after it, are a turn
   row_then_gap : (line next : Progress) → row_behind settings (Turn.next line) ≡ Turn.next next → move_on settings line ≡ pass_gap settings next
   row_then_gap line next e = by (row_of_line settings line.has_eols line.rest (line_of_turn settings line)) e
     where
@@ -106,7 +106,7 @@ module _ (settings : DecodeSettings) (wide : 0 < settings.columns) where
           repeated_turn (move_on settings) late left_to_read (move_shrinks settings wide) line ∙ ap (after_turn goes) (row_then_gap line after e)
       by (Turn.done end) e = absurd (not_next end after e)
 
-  -- where gaps and rows lead to a last gap, the reading from the first gap on ends with that
+  -- if gaps and rows lead to a last gap, the reading from the first gap on ends with that
   pub reaches_end : (from last : Progress) (end : Ending) → Reaches (gap_and_row settings) from last → pass_gap settings last ≡ Turn.done end
       → ending_behind settings (pass_gap settings from) ≡ end
   reaches_end from last end reaches over =

@@ -42,7 +42,7 @@ abbrev SamePen : Pen → Pen → Type 0
 SamePen s t = s ≡ t
 
 module _ (rest : Pen → Line) where
-  -- a strict step that goes on is the lenient one
+  -- a strict step that continues is the lenient one
   abbrev StepFollows : Step → Step → Type 0
   StepFollows a b = Follows SamePen Agrees rest a b
 
@@ -81,7 +81,7 @@ module _ (rest : Pen → Line) where
       by true = refl
       by false = on
 
-  -- two steps that are others, of which the second follows
+  -- two steps that differ, of which the second follows
   follows_as : (a b : Step) {x y : Step} → x ≡ a → y ≡ b → StepFollows a b → StepFollows x y
   follows_as a b is other on = rw (is, other) on
 

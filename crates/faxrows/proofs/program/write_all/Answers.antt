@@ -3,7 +3,7 @@ use Rattle.std.proofs.lemmas.List.{take_rest}
 use Rattle.std.proofs.KnownBytes.{Appends-trans}
 use Rattle.faxrows.proofs.program.write_all.Goals as goal
 
--- bytes that move from the rest's front to what is written
+-- bytes that move from the start of the rest to what is written
 moved : (all written rest : List ℕ) (n : ℕ) → all ≡ written ++ rest → all ≡ (written ++ take n rest) ++ take (length rest - n) (drop n rest)
 moved all written rest n e =
     e

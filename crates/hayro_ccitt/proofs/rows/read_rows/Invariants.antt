@@ -10,7 +10,7 @@ use Rattle.hayro_ccitt.proofs.Readings.RunsOverRows.{Between}
 use Rattle.hayro_ccitt.proofs.Readings.RowsTaken.{from_line}
 use Rattle.hayro_ccitt.proofs.rows.read_rows.Given as goal
 
--- some rows were read and taken, and the reading comes to them with what is left
+-- some rows were read and accepted, and the reading yields them with what is left
 abbrev pub invariant-rows : goal.invariant-rows
 invariant-rows g l =
     (between : Between (move_on l.fn.ctx.held.settings) (one_each (line_of_turn l.fn.ctx.held.settings)) left_to_read (from_line l.fn.ctx.held.has_eols (here l.fn.reader)) l.fn.ctx.held.settings
@@ -24,6 +24,6 @@ invariant-rows g l =
     l.fn.ctx.ticks l.ctx.ticks
     × IsPaidUpTo l.fn.ctx.ticks (length l.fn.reader.bits) (most_given_up l.fn.ctx.held.has_eols (length l.fn.reader.bits)) l.fn.ctx.held.settings.encoding l.ctx.held.has_eols l.ctx.ticks (length (changes l.ctx.held.reference)) (here l.reader)
 
--- the bits that are left, and the EOLs that may be given up once
+-- the bits that are left, and once ceasing to seek EOLs
 abbrev pub decreases-rows : goal.decreases-rows
 decreases-rows g l = cond l.ctx.held.has_eols (suc (length (here l.reader))) (length (here l.reader))
