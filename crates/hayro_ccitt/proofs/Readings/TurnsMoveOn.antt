@@ -212,7 +212,7 @@ eols_here_some settings here rest e = by settings.encoding settings.end_of_block
     by Group4 true = omega (arith, ap (λ (found : ℕ × Bits). found.0) (eols-some 1 here rest e), one_more-count (eols 1 rest))
     by Group4 false = eols_some_counts here rest e
 
--- what is left of a run: its bits, and once ceasing to seek EOLs
+-- what is left of a run: its bits, and one more while EOLs are sought
 abbrev pub left_to_read : Progress → ℕ
 left_to_read run = cond run.has_eols (suc (length run.rest)) (length run.rest)
 

@@ -24,6 +24,6 @@ invariant-rows g l =
     l.fn.ctx.ticks l.ctx.ticks
     × IsPaidUpTo l.fn.ctx.ticks (length l.fn.reader.bits) (most_given_up l.fn.ctx.held.has_eols (length l.fn.reader.bits)) l.fn.ctx.held.settings.encoding l.ctx.held.has_eols l.ctx.ticks (length (changes l.ctx.held.reference)) (here l.reader)
 
--- the bits that are left, and once ceasing to seek EOLs
+-- the bits that are left, and one more while EOLs are sought
 abbrev pub decreases-rows : goal.decreases-rows
 decreases-rows g l = cond l.ctx.held.has_eols (suc (length (here l.reader))) (length (here l.reader))
