@@ -1,6 +1,6 @@
-/* The calls of the installed library. The proved calls accept no null pointers; these replace each null pointer of length 0 and
- * then call them. The Makefile renames the proved ones to proved_*, and links them with this file. It compiles as C89 and as
- * C++. */
+/* The calls of the installed library. The proved calls accept no null pointers; these replace each pointer of length 0, which may
+ * be null, and then call them. The Makefile renames the proved ones to proved_*, and links them with this file. It compiles as
+ * C89 and as C++. */
 #include "fax_encode.h"
 #include "hayro_ccitt.h"
 
