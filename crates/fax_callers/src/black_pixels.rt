@@ -92,8 +92,11 @@ fn black_in_row(columns: u32, changes: &[u32]) -> u64
 
 /// Returns the number of black pixels of an image, saturated at 2^64 - 1.
 ///
-/// The errors are those of the decoder: `UnexpectedEof`, `InvalidCode` and `Overflow` if the data is invalid, and
-/// `OutOfMemory` if an allocation fails.
+/// # Errors
+///
+/// `UnexpectedEof`, `InvalidCode` and `Overflow` if the data is invalid, and `OutOfMemory` if an allocation fails.
+///
+/// # Example
 ///
 /// In Group 4 with 8 columns the bytes 31 C0 04 00 40 are a row whose pixels 3 and 4 are black, and EOFB: the result is
 /// `Ok(2)`.

@@ -99,8 +99,12 @@ fn take_first<D: Decoder>(
 /// Decodes the first rows of an image, as for a thumbnail, and returns whether it has as many as asked for. At most one further
 /// row is read; what follows the rows asked for doesn't matter, not even a fault.
 ///
-/// The errors are those of [`decode`], if they occur before that many rows are decoded; `Refused` comes only from the sink
-/// that the rows are passed to.
+/// # Errors
+///
+/// Those of [`decode`], if they occur before that many rows are decoded; `Refused` comes only from the sink that the
+/// rows are passed to.
+///
+/// # Example
 ///
 /// In Group 4 with 8 columns the bytes 31 F8 00 80 08 are two rows whose pixels 3 and 4 are black, and EOFB: if one row is
 /// asked for, it is decoded and the result is `Ok(true)`; if three are, both are decoded and the result is `Ok(false)`.

@@ -77,8 +77,11 @@ fn closed_pages(columns: u32, order: BitOrder)
 /// Returns where the page at the start of the data ends: the number of its bytes, the last one filled up. The next page
 /// begins there.
 ///
-/// The errors are those of the decoder: `UnexpectedEof`, `InvalidCode` and `Overflow` if the data is invalid, and
-/// `OutOfMemory` if an allocation fails.
+/// # Errors
+///
+/// `UnexpectedEof`, `InvalidCode` and `Overflow` if the data is invalid, and `OutOfMemory` if an allocation fails.
+///
+/// # Example
 ///
 /// With 8 columns the bytes 31 C0 04 00 40 are a row whose pixels 3 and 4 are black, and EOFB: the result is `Ok(5)`, whatever
 /// follows them.
@@ -100,7 +103,11 @@ pub fn page_end(alloc: Global, columns: u32, order: BitOrder, data: &[u8]) -> Re
 /// Returns where the consecutive pages of the data end, from its start on: each begins where the one before ends. It stops
 /// when no data is left, or when no byte of the rest is read, as with no columns.
 ///
-/// The errors are those of [`page_end`], for the first page that has one.
+/// # Errors
+///
+/// Those of [`page_end`], for the first page that has one.
+///
+/// # Example
 ///
 /// With 8 columns the bytes 31 C0 04 00 40 31 C0 04 00 40 are two pages: the result is 5 and 10.
 pub fn page_ends(alloc: Global, columns: u32, order: BitOrder, data: &[u8]) -> Result<Vec<usize>>

@@ -18,8 +18,12 @@ use std::alloc::Global;
 /// Returns the bitmap of a strip, as of a TIFF file: one bit a pixel, 1 for black, the leftmost pixel in each byte's highest
 /// bit, and zeros after each row up to a whole byte.
 ///
-/// The errors are those of the decoder: `UnexpectedEof`, `InvalidCode` and `Overflow` if the data is invalid,
-/// `OutOfMemory` if an allocation of the decoder fails, and `Refused` if the allocation for a row of the bitmap fails.
+/// # Errors
+///
+/// `UnexpectedEof`, `InvalidCode` and `Overflow` if the data is invalid, `OutOfMemory` if an allocation of the decoder
+/// fails, and `Refused` if the allocation for a row of the bitmap fails.
+///
+/// # Example
 ///
 /// In Group 4 with 8 columns the bytes 31 C0 04 00 40 are a row whose pixels 3 and 4 are black, and EOFB: the bitmap is the
 /// one byte 18.

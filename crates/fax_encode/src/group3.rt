@@ -61,6 +61,8 @@ fn picture(alloc: Global, columns: u32, rows: &[Vec<u32>]) -> Result<Vec<u8>, Al
 /// Encodes rows, given as lists of changes, as one-dimensional Group 3 (T.4, section 4.1): an EOL before each row, the
 /// runs of the row, and RTC after the last, with zeros up to a whole byte and no other fill.
 ///
+/// # Errors
+///
 /// `NoColumns` if `columns` is 0, else `NoRows` if there are no rows, else `NotARow` with the index of the first list
 /// that is not strictly ascending and below `columns`, else `OutOfMemory` if an allocation fails.
 pub fn encode_1d(

@@ -238,6 +238,8 @@ fn picture(
 /// are encoded as EOFB alone. With 8 columns and not aligned the one row `[3, 5]` is 31 C0 04 00 40: horizontal mode, 3
 /// white pixels, 2 black ones, a vertical mode, and EOFB (T.6 sections 2.2 and 2.4.1.1).
 ///
+/// # Errors
+///
 /// `NoColumns` if `columns` is 0, else `NotARow` with the index of the first list that is not strictly ascending and
 /// below `columns`, else `OutOfMemory` if an allocation fails; never `NoRows`.
 pub fn encode_g4(

@@ -58,8 +58,11 @@ fn bitmap_of(
     }
 }
 
-/// Returns the bitmap of rows that are encoded as Group 4 and decoded again. The errors are those of [`encode_g4`];
-/// `OutOfMemory` is also returned if an allocation of the decoder fails.
+/// Returns the bitmap of rows that are encoded as Group 4 and decoded again.
+///
+/// # Errors
+///
+/// Those of [`encode_g4`]; `OutOfMemory` is also returned if an allocation of the decoder fails.
 pub fn bitmap_by_group4(
     alloc: Global,
     columns: u32,
@@ -77,8 +80,11 @@ pub fn bitmap_by_group4(
     bitmap_of(alloc, settings, encoded.as_slice())
 }
 
-/// Returns the bitmap of rows that are encoded as one-dimensional Group 3 and decoded again. The errors are those of
-/// [`encode_1d`]; `OutOfMemory` is also returned if an allocation of the decoder fails.
+/// Returns the bitmap of rows that are encoded as one-dimensional Group 3 and decoded again.
+///
+/// # Errors
+///
+/// Those of [`encode_1d`]; `OutOfMemory` is also returned if an allocation of the decoder fails.
 pub fn bitmap_by_group3(
     alloc: Global,
     columns: u32,

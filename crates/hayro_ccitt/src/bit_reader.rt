@@ -179,7 +179,11 @@ impl<'a> BitReader<'a> {
         }
     }
 
-    /// Reads the next bit. At the end of the data it returns `UnexpectedEof`, and the offset doesn't change.
+    /// Reads the next bit.
+    ///
+    /// # Errors
+    ///
+    /// `UnexpectedEof` at the end of the data; the offset then doesn't change.
     #[inline(always)]
     pub fn read_bit(&mut self) -> Result<u32>
         ensures bit { IfOk result (λ bit. (bit ≤ 1) × (slice_get self.old.bits self.old.place ≡ Some (bit == 1))) }
@@ -202,7 +206,11 @@ impl<'a> BitReader<'a> {
         (self.window >> 32) as u32
     }
 
-    /// Consumes `n` bits, at most 32. If fewer are left, it consumes these and returns `UnexpectedEof`.
+    /// Consumes `n` bits, at most 32.
+    ///
+    /// # Errors
+    ///
+    /// `UnexpectedEof` if fewer are left; these are consumed.
     #[inline(always)]
     pub fn consume(&mut self, n: usize) -> Result<()>
         requires { n ≤ 32 }

@@ -56,8 +56,11 @@ pub fn change_or_end(changes: &[u32], index: usize, columns: u32) -> u32
 }
 
 /// Appends `count` pixels of a colour to the changes of a front of `painted` pixels. A change is stored only if the
-/// last pixel has another colour. `OutOfMemory` occurs only if the list is full and can't grow. After an error nothing
-/// has changed.
+/// last pixel has another colour.
+///
+/// # Errors
+///
+/// `OutOfMemory` if the list is full and can't grow. Then nothing has changed.
 #[inline(always)]
 pub fn append_pixels(changes: &mut Vec<u32>, painted: u32, color: Color, count: u32) -> Result<()>
     requires { AreChanges painted changes.old.items }

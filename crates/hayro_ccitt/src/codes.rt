@@ -191,8 +191,12 @@ impl<'a> BitReader<'a> {
     }
 
     /// Reads a run of a colour: make-up words and one terminating word (T.4 section 4.1.1). Each word that is looked
-    /// for is a tick. Returns `UnexpectedEof` if the data ends inside a word, `InvalidCode` if there is none, and
-    /// `Overflow` if the sum exceeds 32 bits; the offset is unspecified after an error.
+    /// for is a tick.
+    ///
+    /// # Errors
+    ///
+    /// `UnexpectedEof` if the data ends inside a word, `InvalidCode` if there is none, and `Overflow` if the sum
+    /// exceeds 32 bits. The offset is then unspecified.
     #[inline(always)]
     pub fn decode_run(&mut self, color: Color, tables: &Tables, ticks: &mut Ticks) -> Result<u32>
         ensures run { MatchResult result
@@ -230,8 +234,11 @@ impl<'a> BitReader<'a> {
         true
     }
 
-    /// Reads a mode of a two-dimensional line (T.4 table 4, T.6 table 1), which is one tick. Returns `UnexpectedEof` if
-    /// the data ends inside a word, and `InvalidCode` if there is none.
+    /// Reads a mode of a two-dimensional line (T.4 table 4, T.6 table 1), which is one tick.
+    ///
+    /// # Errors
+    ///
+    /// `UnexpectedEof` if the data ends inside a word, and `InvalidCode` if there is none.
     #[inline(always)]
     pub fn decode_mode(&mut self, ticks: &mut Ticks) -> Result<Mode>
         ensures mode { MatchResult result

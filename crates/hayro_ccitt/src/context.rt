@@ -58,7 +58,11 @@ impl DecoderContext {
     ghost use Rattle.hayro_ccitt.specs.Settings.{AreSettings};
 
     /// Creates a context for images with these settings: a white reference row, nothing painted, no row decoded. All
-    /// settings are valid, even 0 and 4294967295 columns. Its only error is `OutOfMemory`, and nothing is created then.
+    /// settings are valid, even 0 and 4294967295 columns.
+    ///
+    /// # Errors
+    ///
+    /// `OutOfMemory` if an allocation fails. Nothing is created then.
     ///
     /// ```text
     /// let mut ctx = DecoderContext::new(rt.alloc(), settings)?;
@@ -170,8 +174,12 @@ impl DecoderContext {
     }
 
     /// Paints `count` pixels of the present colour at the end of the front. More than the row has room for are cut off
-    /// at its end; in strict data they are `InvalidCode`. `OutOfMemory` occurs only while a change is stored, so only
-    /// if the last pixel has another colour. After an error nothing has changed.
+    /// at its end.
+    ///
+    /// # Errors
+    ///
+    /// `InvalidCode` if strict data has more than the row has room for. `OutOfMemory` occurs only while a change is
+    /// stored, so only if the last pixel has another colour. After an error nothing has changed.
     #[inline(always)]
     pub fn push_pixels(&mut self, count: u32) -> Result<()>
         ensures painted { OnOk result (painted_front self.old.held count ≡ Ok self.new.held.front) }
@@ -194,8 +202,12 @@ impl DecoderContext {
         Ok(())
     }
 
-    /// Paints the rest of the row white whatever the present colour, which then is white. `OutOfMemory` occurs only
-    /// while a change is stored, so only if the row isn't full and its last pixel is black; then nothing has changed.
+    /// Paints the rest of the row white whatever the present colour, which then is white.
+    ///
+    /// # Errors
+    ///
+    /// `OutOfMemory` occurs only while a change is stored, so only if the row isn't full and its last pixel is black.
+    /// Then nothing has changed.
     pub fn fill_white(&mut self) -> Result<()>
         ensures frame { OnOk result (self.new ≡ record self.old { held = after_repair self.old.held }) }
         ensures memory { result ≡ Err DecodeError.OutOfMemory → RepairStoresChange self.old.held }
@@ -321,9 +333,12 @@ impl DecoderContext {
         decoder.push_row(self.coding_changes.as_slice())
     }
 
-    /// Passes the row to the sink, continued in its last colour if it isn't full. If it returns `Ok`, the row is the
-    /// reference row, the front is empty, the colour is white and one more row was accepted. If the sink refuses it,
-    /// the context and the sink's meaning are as before. It allocates nothing.
+    /// Passes the row to the sink, continued in its last colour if it isn't full. Then it is the reference row, the
+    /// front is empty, the colour is white and one more row was accepted. It allocates nothing.
+    ///
+    /// # Errors
+    ///
+    /// `Refused` if the sink refuses the row. The context and the sink's meaning are then as before.
     #[tactic(auto, using(crate::proofs::PixelRows::ChangesAndPixels::front_fits))]
     #[inline(always)]
     pub fn next_line<D: Decoder>(&mut self, decoder: &mut D) -> Result<()>
@@ -580,9 +595,14 @@ impl DecoderContext {
     }
 }
 
-/// Decodes a one-dimensional line, whatever the front was before (T.4 section 4.1.1). After an error of the data the
-/// front is what was painted up to it. `OutOfMemory` occurs only while a change is stored: the front is then a prefix
-/// of the line's row, where the next pixel differs from the last one. The rest of the context doesn't change.
+/// Decodes a one-dimensional line, whatever the front was before (T.4 section 4.1.1). Of what the context holds, only
+/// the front and the colour change.
+///
+/// # Errors
+///
+/// After `UnexpectedEof`, `InvalidCode` or `Overflow` the front is what was painted up to the fault. `OutOfMemory`
+/// occurs only while a change is stored: the front is then a prefix of the line's row, where the next pixel differs
+/// from the last one.
 #[inline(never)]
 pub fn decode_1d_line(ctx: &mut DecoderContext, reader: &mut BitReader<'_>) -> Result<()>
     ensures line { DrawsLine (line_from_1d ctx.old.held (here reader.old))
@@ -605,9 +625,13 @@ pub fn decode_1d_line(ctx: &mut DecoderContext, reader: &mut BitReader<'_>) -> R
 }
 
 /// Decodes a two-dimensional line against the reference row, whatever the front was before (T.4 section 4.2, T.6
-/// section 2.2). After an error of the data the front is what was painted up to it. `OutOfMemory` occurs only while a
-/// change is stored: the front is then a prefix of the line's row, where the next pixel differs from the last one. The
-/// rest of the context doesn't change.
+/// section 2.2). Of what the context holds, only the front and the colour change.
+///
+/// # Errors
+///
+/// After `UnexpectedEof`, `InvalidCode` or `Overflow` the front is what was painted up to the fault. `OutOfMemory`
+/// occurs only while a change is stored: the front is then a prefix of the line's row, where the next pixel differs
+/// from the last one.
 #[inline(always)]
 pub fn decode_2d_line(ctx: &mut DecoderContext, reader: &mut BitReader<'_>) -> Result<()>
     ensures line { DrawsLine (line_from_2d ctx.old.held (here reader.old))

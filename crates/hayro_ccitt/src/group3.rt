@@ -24,10 +24,14 @@ fn is_fault(error: DecodeError) -> bool
     )
 }
 
-/// Handles a line that failed with this error and began at `line_start` (T.4 section 4.1.2). In lenient data with EOLs,
-/// a fault of the data is repaired: the rest of the row is white, and the reader goes back to the line's start, to look
-/// for the next EOL from there. `OutOfMemory` then occurs only while a change is stored. Otherwise the error itself is
-/// returned; allocation failures and refusals are never repaired. After an error nothing has changed.
+/// Repairs a line that failed with this error and began at `line_start` (T.4 section 4.1.2). In lenient data with EOLs,
+/// after a fault of the data, the rest of the row is white, and the reader goes back to the line's start, to look for
+/// the next EOL from there.
+///
+/// # Errors
+///
+/// The error itself if it isn't repaired, as allocation failures and refusals never are; `OutOfMemory` while a change
+/// is stored. After an error nothing has changed.
 pub fn recover<'a>(
     ctx: &mut DecoderContext,
     reader: &mut BitReader<'a>,
@@ -51,10 +55,14 @@ pub fn recover<'a>(
     Ok(())
 }
 
-/// Returns whether the image ends after a row (T.4 sections 4.1.2 and 4.1.4): true at RTC, the row limit or the end of the
-/// data. It counts the EOLs there. If there are none although the data has EOLs, the next one is looked for, and if none is
-/// left EOLs are no longer sought; in strict data a missing EOL is `InvalidCode`. It allocates nothing. Each bit that is
-/// examined is a tick: one that is consumed at most four times.
+/// Returns whether the image ends after a row (T.4 sections 4.1.2 and 4.1.4): true at RTC, the row limit or the end of
+/// the data. It counts the EOLs there. If there are none although the data has EOLs, the next one is looked for, and if
+/// none is left EOLs are no longer sought. It allocates nothing. Each bit that is examined is a tick: one that is
+/// consumed at most four times.
+///
+/// # Errors
+///
+/// `InvalidCode` if an EOL is missing in strict data.
 pub fn check_eob(ctx: &mut DecoderContext, reader: &mut BitReader<'_>) -> Result<bool>
     requires encoding { ctx.old.held.settings.encoding ≢ EncodingMode.Group4 }
     requires some { 0 < ctx.old.held.taken }
@@ -118,8 +126,12 @@ fn decode_eols_and_rows<D: Decoder>(
 }
 
 /// Decodes the rows of one-dimensional data of Group 3 (T.4 section 4.1) until RTC (with `end_of_block`), the row limit
-/// or the end of the data. The errors are those of a line that isn't repaired, `InvalidCode` if strict data misses an
-/// EOL, and `Refused` if the sink refuses a row.
+/// or the end of the data.
+///
+/// # Errors
+///
+/// Those of a line that isn't repaired, `InvalidCode` if strict data misses an EOL, and `Refused` if the sink refuses a
+/// row.
 pub fn decode_1d<D: Decoder>(
     ctx: &mut DecoderContext,
     reader: &mut BitReader<'_>,
@@ -141,8 +153,12 @@ pub fn decode_1d<D: Decoder>(
 }
 
 /// Decodes the rows of two-dimensional data of Group 3 (T.4 section 4.2), each after its tag, until RTC (with
-/// `end_of_block`), the row limit or the end of the data. The errors are those of a line that isn't repaired,
-/// `InvalidCode` if strict data misses an EOL, and `Refused` if the sink refuses a row.
+/// `end_of_block`), the row limit or the end of the data.
+///
+/// # Errors
+///
+/// Those of a line that isn't repaired, `InvalidCode` if strict data misses an EOL, and `Refused` if the sink refuses a
+/// row.
 pub fn decode_2d<D: Decoder>(
     ctx: &mut DecoderContext,
     reader: &mut BitReader<'_>,

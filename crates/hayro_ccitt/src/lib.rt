@@ -218,8 +218,11 @@ pub fn decode<D: Decoder>(data: &[u8], decoder: &mut D, ctx: &mut DecoderContext
 /// Decodes an image as [`decode`] does, but with each byte's lowest bit first: TIFF's FillOrder 2, and the order in which
 /// most fax modems transfer bytes. The data need not be reversed before.
 ///
-/// Rows, results and errors are those of [`decode`] over these bits. So 8C 03, which is 31 C0 with each byte's bits in
-/// the other order, is the row `[3, 5]` of 8 columns.
+/// So 8C 03, which is 31 C0 with each byte's bits in the other order, is the row `[3, 5]` of 8 columns.
+///
+/// # Errors
+///
+/// Those of [`decode`] over these bits.
 pub fn decode_low_first<D: Decoder>(
     data: &[u8],
     decoder: &mut D,
@@ -244,8 +247,12 @@ pub fn decode_low_first<D: Decoder>(
     decode_bits(&mut BitReader::new_low_first(data), decoder, ctx)
 }
 
-/// Decodes an image whose bytes have their bits in this order: as [`decode`] does for [`BitOrder::HighestFirst`], and as
-/// [`decode_low_first`] for [`BitOrder::LowestFirst`].
+/// Decodes an image whose bytes have their bits in this order: as [`decode`] does for [`BitOrder::HighestFirst`], and
+/// as [`decode_low_first`] for [`BitOrder::LowestFirst`].
+///
+/// # Errors
+///
+/// Those of [`decode`] over these bits.
 pub fn decode_in<D: Decoder>(
     order: BitOrder,
     data: &[u8],

@@ -130,11 +130,14 @@ fn line_ends_before(data: &[u8], ctx: &mut DecoderContext, from: usize, end: usi
 /// the last twelve bits of that EOL. Offsets are counted in bits; if they are out of range or order, and with other
 /// settings, the result is false.
 ///
-/// `OutOfMemory` occurs only while a change of the line is stored, so only if it paints a black pixel. The settings
-/// don't change; the rest of the context is unspecified afterwards, and it may be used again.
+/// The settings don't change; the rest of the context is unspecified afterwards, and it may be used again.
 ///
 /// The work is in proportion to the bits between the offsets, the fill of the EOL at `to` and the words of the line: no
 /// other bits are examined but the twelve before `from`.
+///
+/// # Errors
+///
+/// `OutOfMemory` occurs only while a change of the line is stored, so only if it paints a black pixel.
 pub fn body_is_local(data: &[u8], ctx: &mut DecoderContext, from: usize, to: usize) -> Result<bool>
     requires fit { BitsFit «data».now }
     ensures local { IfOk result (λ local. IsTrue local ↔ IsLocal ctx.old.held.settings (bits_of «data».now) from to) }

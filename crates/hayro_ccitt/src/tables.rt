@@ -360,8 +360,11 @@ fn put_words(entries: &mut Vec<u16>, words: &[(u16, u8, u16)])
     }
 }
 
-/// Creates the lookup table of a colour: of its terminating words, its make-up words and the common make-up words. The
-/// only error is `OutOfMemory`.
+/// Creates the lookup table of a colour: of its terminating words, its make-up words and the common make-up words.
+///
+/// # Errors
+///
+/// `OutOfMemory` if an allocation fails.
 pub fn build_lookup(
     alloc: Global,
     terminating: &[(u16, u8, u16)],
@@ -415,7 +418,11 @@ impl Model for Tables {
 }
 
 impl Tables {
-    /// Creates the tables of both colours. The only error is `OutOfMemory`, and nothing is created then.
+    /// Creates the tables of both colours.
+    ///
+    /// # Errors
+    ///
+    /// `OutOfMemory` if an allocation fails. Nothing is created then.
     pub fn new(alloc: Global) -> Result<Tables>
         ensures entries { IfOk result (λ tables. AreOfColors tables) }
         ensures only_memory { IsOkUnless result DecodeError.OutOfMemory }
