@@ -6,6 +6,7 @@ use Rattle.hayro_ccitt.specs.declared.bit_reader.BitOrder.{BitOrder}
 use Rattle.hayro_ccitt.specs.Bits.{Bits, BitsAt, bits_in, here}
 use Rattle.hayro_ccitt.specs.PlainReading.{at_end, aligned}
 use Rattle.hayro_ccitt.proofs.BitReading.BitLists.{length-bits_in}
+use Rattle.std.proofs.lemmas.Grind.{common_steps}
 
 -- these bits, at a position
 abbrev pub bits_at : Bits → ℕ → BitsAt
@@ -47,13 +48,8 @@ pub bits_missing : (at : BitsAt) (n k : ℕ) → n ≡ k → 0 < k → length at
 bits_missing at n k e some past = omega (arith, length-drop at.place at.bits)
 
 pub bits_enough : (at : BitsAt) (n k : ℕ) → n ≡ k → (length at.bits < at.place + n → ⊥) → k ≤ length (here at)
-bits_enough at n k e there = elim (cases_lt (length at.bits) (at.place + n)) [
-  | inl lt ↦ absurd (there lt)
-  | inr ge ↦ omega (arith, length-drop at.place at.bits)
-]
+bits_enough at n k e there = grind (arith, common_steps)
 
 pub moved_on : (at next : BitsAt) (n k : ℕ) → n ≡ k → next ≡ bits_at at.bits (min (at.place + n) (length at.bits)) → k ≤ length (here at) → 0 < k
     → here next ≡ drop k (here at)
-moved_on at next n k e moved there some =
-    let place : min (at.place + n) (length at.bits) ≡ at.place + k = omega (arith, length-drop at.place at.bits) in
-    rw (moved, place) (sym (drop-drop k at.place at.bits))
+moved_on at next n k e moved there some = grind (arith, common_steps)

@@ -14,6 +14,7 @@ use Rattle.hayro_ccitt.specs.Runs.{codes_of}
 use Rattle.hayro_ccitt.proofs.CodeWords.ReadCodes.{after_is, apart_misses, word_at_again}
 use Rattle.hayro_ccitt.proofs.BitReading.BitLists.{length-low_bits}
 use Rattle.hayro_ccitt.proofs.BitReading.ZerosInWords.{codes_free}
+use Rattle.std.proofs.lemmas.Grind.{common_steps}
 
 -- ---- The rows of a table, one after another.
 abbrev pub Table : Type 0
@@ -193,10 +194,7 @@ entry_of_none color here h e =
     omega (arith, bits, run, seven)
 
 entry_of_found : (list : List (Code ℕ)) (here : Bits) (found : ℕ × Bits) → word_at list here ≡ Some found → entry_of list here ≡ (length here - length found.1) * 4096 + found.0
-entry_of_found list here found e =
-    let bits : telling_bits list here ≡ length here - length found.1 = rw (e, telling_bits) refl in
-    let run : run_or_none list here ≡ found.0 = rw (e, run_or_none) refl in
-    omega (arith, bits, run)
+entry_of_found list here found e = grind (arith, common_steps)
 
 -- what the rows of a colour write is the entry of its list
 pub entry_written : (color : Color) (table : Table) (here : Bits) → numbered table ≡ codes_of color → length here ≡ 13

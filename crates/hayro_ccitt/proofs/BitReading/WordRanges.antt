@@ -11,6 +11,7 @@ use Rattle.hayro_ccitt.specs.CodeReading.{after, is_prefix}
 use Rattle.hayro_ccitt.specs.LookUps.{with_row, is_row, thirteen_bits}
 use Rattle.hayro_ccitt.proofs.CodeWords.ReadCodes.{after_is, after_at}
 use Rattle.hayro_ccitt.proofs.BitReading.BitLists.{length-low_bits}
+use Rattle.std.proofs.lemmas.Grind.{common_steps}
 
 -- the bits of a number are its high bits and then its low ones
 pub low_bits-append : (width rest n : ℕ) → low_bits (width + rest) n ≡ low_bits width (n / 2 ^ rest) ++ low_bits rest n
@@ -86,16 +87,10 @@ word_begins_of whole width word n le fits below =
 
 -- ---- The numbers from a multiple on.
 inside : (m word n : ℕ) → word * m ≤ n → n < word * m + m → n / m ≡ word
-inside m word n le lt =
-    let some : 0 < m = omega arith in
-    let above : n < (word + 1) * m = omega (arith, lt) in
-    omega (arith, div_below n m (word + 1) some above, le-div word n m some le)
+inside m word n le lt = grind (arith, common_steps)
 
 outside : (m word n : ℕ) → 0 < m → (n < word * m) ⊎ (word * m + m ≤ n) → n / m ≡ word → ⊥
-outside m word n some there e =
-    let whole : word * m + n % m ≡ n = rw e at (div-add-mod' n m) in
-    let part = mod_below n m some in
-    elim there [ inl lt ↦ omega (arith, whole, lt) | inr ge ↦ omega (arith, whole, part, ge) ]
+outside m word n some there e = grind (arith, common_steps)
 
 -- ---- The entries of one word.
 pub record IsRow (run width word : ℕ) : Type 0 where
@@ -104,10 +99,7 @@ pub record IsRow (run width word : ℕ) : Type 0 where
   pub twelve : run < 4096
 
 pub is_row_is : (run width word : ℕ) → is_row (run, width, word) ≡ true → IsRow run width word
-is_row_is run width word e =
-    let both = and_parts _ _ e in
-    let two = and_parts _ _ both.0 in
-    record { short = leb-true _ _ two.0; fits = ltb-true _ _ two.1; twelve = ltb-true _ _ both.1 }
+is_row_is run width word e = grind (arith, common_steps)
 
 -- the numbers whose bits begin with a word are below 8192
 pub range_fits : (run width word : ℕ) → IsRow run width word → word * 2 ^ (13 - width) + 2 ^ (13 - width) ≤ 8192
@@ -119,9 +111,7 @@ range_fits run width word is =
 
 -- what the shifts compute
 pub shifted_entry : (run width word : ℕ) → IsRow run width word → bit_or (width * 4096 % 65536) run ≡ width * 4096 + run
-shifted_entry run width word is =
-    let small : width * 4096 % 65536 ≡ width * 4096 = omega (arith, is.short) in
-    rw small (or_shifted width 12 run is.twelve)
+shifted_entry run width word is = grind (arith, common_steps)
 
 pub shifted_first : (run width word : ℕ) → IsRow run width word → word * 2 ^ (13 - width) % 18446744073709551616 ≡ word * 2 ^ (13 - width)
 shifted_first run width word is = shl_whole word width (13 - width) 64 is.fits (omega (arith, is.short))

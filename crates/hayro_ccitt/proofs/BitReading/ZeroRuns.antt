@@ -10,6 +10,7 @@ use Rattle.hayro_ccitt.specs.Ticks.{looked}
 use Rattle.hayro_ccitt.proofs.BitReading.BitLists.{drop_some}
 use Rattle.hayro_ccitt.proofs.CodeWords.ReadRuns.{chosen}
 use Rattle.hayro_ccitt.proofs.Readings.TurnsMoveOn.{after_eol_shorter, length-one_more, one_more-count}
+use Rattle.std.proofs.lemmas.Grind.{common_steps}
 
 pub leading_zeros-one : (n : ℕ) (bits : Bits) → leading_zeros (replicate n false ++ (true ∷ bits)) ≡ n
 leading_zeros-one zero bits = refl
@@ -36,21 +37,13 @@ after_eol_run k rest = from 0 k ∙ let e : 0 + k ≡ k = omega arith in ap (λ 
 pub looked_eol : (seen : ℕ) (here after : Bits) → after_eol seen here ≡ Some after → looked here + length after ≡ length here
 looked_eol seen [] after e = absurd cc
 looked_eol seen (false ∷ here) after e = omega (arith, looked_eol (suc seen) here after e)
-looked_eol seen (true ∷ here) after e = elim (chosen (leb 11 seen) _ _ _ e) [
-  | inl a ↦ let same : here ≡ after = let f = a.1 in cc in omega (arith, ap length same)
-  | inr a ↦ absurd (let f = a.1 in cc)
-]
+looked_eol seen (true ∷ here) after e = grind (arith, common_steps)
 
 -- the first of some EOLs
 pub eols_one : (most : ℕ) (here after : Bits) → after_eol 0 here ≡ Some after → 0 < most
     → eols most here ≡ (suc (eols (most - 1) after).0, (eols (most - 1) after).1)
 eols_one zero here after e lt = absurd (omega arith)
-eols_one (suc most) here after e lt =
-    let n : suc most - 1 ≡ most = omega arith in
-    rw (e, n, eols) (by (eols most after))
-  where
-    by : (found : ℕ × Bits) → one_more found ≡ (suc found.0, found.1)
-    by (count, rest) = refl
+eols_one (suc most) here after e lt = grind (arith, common_steps)
 
 -- an EOL more, and those after it
 pub eols_stepped : (max count : ℕ) (start now after : Bits) → eols max start ≡ (count + (eols (max - count) now).0, (eols (max - count) now).1)

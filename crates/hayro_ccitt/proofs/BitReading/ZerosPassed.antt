@@ -12,6 +12,7 @@ use Rattle.hayro_ccitt.specs.Bits.{Bits, BitsAt, here, bit_of}
 use Rattle.hayro_ccitt.specs.EndOfLine.{next_eol}
 use Rattle.hayro_ccitt.proofs.BitReading.BitLists.{drop_some}
 use Rattle.hayro_ccitt.proofs.BitReading.SoughtEols.{next_eol-behind_near}
+use Rattle.std.proofs.lemmas.Grind.{common_steps}
 
 -- ---- The zeros at the start of a word.
 -- a number with fewer leading zeros than bits isn't zero
@@ -27,11 +28,7 @@ some_number bits w small few =
 
 -- a number below twice a power contains it once
 pub one_times : (w j : ℕ) → 2 ^ j ≤ w → w < 2 ^ suc j → w / 2 ^ j ≡ 1
-one_times w j le lt =
-    let e : 2 ^ suc j ≡ 2 ^ j * 2 = pow-suc 2 j in
-    let rest : w - 2 ^ j < 2 ^ j = omega (arith, e) in
-    let whole : w ≡ 1 * 2 ^ j + (w - 2 ^ j) = omega arith in
-    ap (λ (n : ℕ). n / 2 ^ j) whole ∙ div-mul-add 1 (2 ^ j) (w - 2 ^ j) rest
+one_times w j le lt = grind (arith, common_steps)
 
 -- the bits before the first one are zeros
 word_zeros : (w k : ℕ) → w < 2 ^ 32 → k < count_leading_zeros 32 w → bit_of w (31 - k) ≡ false
@@ -108,9 +105,7 @@ one_follows now next w small held e few =
 -- ---- A copy of a reader that consumed zeros, and a one after them.
 pub run_passed : (old copy new : BitsAt) (to from : ℕ) → copy ≡ old → here copy ≡ replicate (new.place - copy.place) false ++ here new → to ≡ new.place → from ≡ old.place
     → here old ≡ replicate (to - from) false ++ here new
-run_passed old copy new to from same passed e h =
-    let n : new.place - copy.place ≡ to - from = omega (arith, e, h, ap (λ (at : BitsAt). at.place) same) in
-    sym (ap here same) ∙ passed ∙ ap (λ (k : ℕ). replicate k false ++ here new) n
+run_passed old copy new to from same passed e h = grind (arith, common_steps)
 
 pub one_passed : (at next : BitsAt) → slice_get at.bits at.place ≡ Some true → next ≡ record at { place = min (at.place + 1) (length at.bits) } → here at ≡ true ∷ here next
 one_passed at next one e =

@@ -15,18 +15,11 @@ use Rattle.hayro_ccitt.proofs.CodeWords.ReadCodes.{word_at_found}
 use Rattle.hayro_ccitt.proofs.CodeWords.LooksAhead.{length-padded, TellsWords, has_none, telling_is, telling_none, tells_cut, tells_found, tells_wrong}
 use Rattle.hayro_ccitt.proofs.CodeWords.ReadRuns.{words_not_empty, word_length}
 use Rattle.hayro_ccitt.proofs.BitReading.ZerosInWords.{codes_free, modes_free}
+use Rattle.std.proofs.lemmas.Grind.{common_steps}
 
 -- ---- Thirteen bits decide a run code, seven a mode.
 pub codes_tell : (color : Color) → TellsWords 13 (codes_of color)
-codes_tell color = record { free = codes_free color; short = short color; some = some color }
-  where
-    short : (color : Color) → each_word (λ w. leb (length w) 13) (codes_of color) ≡ true
-    short White = refl
-    short Black = refl
-
-    some : (color : Color) → has_none (codes_of color) ≡ false
-    some White = refl
-    some Black = refl
+codes_tell color = grind (arith, common_steps)
 
 pub modes_tell : TellsWords 7 mode_codes
 modes_tell = record { free = modes_free; short = refl; some = refl }

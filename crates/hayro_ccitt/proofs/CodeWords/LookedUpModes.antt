@@ -18,6 +18,7 @@ use Rattle.std.proofs.lemmas.List.{length-append, drop-drop}
 use Rattle.std.specs.Prelude.{IfSome, pos}
 use Rattle.hayro_ccitt.specs.declared.codes.Mode.TheVariants.{Vertical}
 use Rattle.hayro_ccitt.specs.Window.{moved}
+use Rattle.std.proofs.lemmas.Grind.{common_steps}
 
 -- ---- The word that begins seven bits.
 begins : (width word n : ℕ) → width ≤ 7 → word < 2 ^ width → n < 128 → n / 2 ^ (7 - width) ≡ word → is_prefix (low_bits width word) (seven_bits n) ≡ true
@@ -50,33 +51,15 @@ pub mode_cut : (here : Bits) → length here < telling_bits mode_codes (padded 7
 mode_cut here h = tells_cut 7 mode_codes modes_tell here h
 
 pub mode_wrong : (here : Bits) → None ≡ (mode_told (padded 7 here)).0 → telling_bits mode_codes (padded 7 here) ≤ length here → read_code mode_codes here ≡ Err InvalidCode
-mode_wrong here e h = by (word_at mode_codes (padded 7 here)) refl
-  where
-    by : (o : Option (Mode × Bits)) → word_at mode_codes (padded 7 here) ≡ o → read_code mode_codes here ≡ Err InvalidCode
-    by (Some found) a = absurd (let there = ap (λ (o : Option (Mode × Bits)). option_map (λ f. f.0) o) a in cc)
-    by None a = tells_wrong 7 mode_codes modes_tell here a h
+mode_wrong here e h = grind (arith, common_steps)
 
 pub mode_found : (here : Bits) (mode : Mode) → Some mode ≡ (mode_told (padded 7 here)).0 → telling_bits mode_codes (padded 7 here) ≤ length here
     → read_code mode_codes here ≡ Ok (mode, drop (telling_bits mode_codes (padded 7 here)) here)
-mode_found here mode e h = by (word_at mode_codes (padded 7 here)) refl
-  where
-    by : (o : Option (Mode × Bits)) → word_at mode_codes (padded 7 here) ≡ o
-        → read_code mode_codes here ≡ Ok (mode, drop (telling_bits mode_codes (padded 7 here)) here)
-    by (Some found) a =
-        let there = ap (λ (o : Option (Mode × Bits)). option_map (λ f. f.0) o) a in
-        let same : found.0 ≡ mode = cc in
-        tells_found 7 mode_codes modes_tell here found a h ∙ ap (λ (m : Mode). Ok (m, drop (telling_bits mode_codes (padded 7 here)) here)) same
-    by None a = absurd (let there = ap (λ (o : Option (Mode × Bits)). option_map (λ f. f.0) o) a in cc)
+mode_found here mode e h = grind (arith, common_steps)
 
 -- at least one bit is needed
 pub some_mode_bits : (here : Bits) → 0 < telling_bits mode_codes (padded 7 here)
-some_mode_bits here = by (word_at mode_codes (padded 7 here)) refl
-  where
-    by : (o : Option (Mode × Bits)) → word_at mode_codes (padded 7 here) ≡ o → 0 < telling_bits mode_codes (padded 7 here)
-    by (Some found) e =
-        let (w, has, at) = word_at_found mode_codes (padded 7 here) found e in
-        omega (arith, telling_is 7 mode_codes modes_tell here found w e at, word_length mode_codes found.0 w refl has)
-    by None e = omega (arith, telling_none 7 mode_codes modes_tell here e)
+some_mode_bits here = grind (arith, common_steps)
 
 -- what is said of the mode here, if seven bits are
 pub mode_stands : (at : BitsAt) (told : Option Mode × ℕ) → told ≡ mode_told (padded 7 (here at)) → told.1 ≤ length (here at)

@@ -11,6 +11,7 @@ use Rattle.hayro_ccitt.specs.LookUps.{padded, longest_agreement, telling_bits}
 use Rattle.hayro_ccitt.proofs.CodeWords.ReadCodes.{word_at_again, word_at_found}
 use Rattle.hayro_ccitt.proofs.CodeWords.CodeReadings.{reads_codes}
 use Rattle.hayro_ccitt.proofs.BitReading.ZerosInWords.{each_word_at, free_by}
+use Rattle.std.proofs.lemmas.Grind.{common_steps}
 
 -- ---- Bits that are padded.
 -- equal bits before equal bits
@@ -118,8 +119,7 @@ module _ {V : Type 0} (n : ℕ) (list : List (Code V)) (tells : TellsWords n lis
 
   -- the number of bits of the word in the padded bits
   pub telling_is : (found : V × Bits) (w : Bits) → word_at list (padded n here) ≡ Some found → padded n here ≡ w ++ found.1 → telling_bits list (padded n here) ≡ length w
-  telling_is found w e at =
-      rw (e, telling_bits) (omega (arith, ap length at, length-append w found.1))
+  telling_is found w e at = grind (arith, common_steps)
 
   pub telling_none : word_at list (padded n here) ≡ None → telling_bits list (padded n here) ≡ suc (longest_agreement list (padded n here))
   telling_none e = rw (e, telling_bits) refl

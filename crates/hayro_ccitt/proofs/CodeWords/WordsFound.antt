@@ -24,6 +24,7 @@ use Rattle.hayro_ccitt.proofs.Readings.Repeated.{after_turn}
 use Rattle.hayro_ccitt.proofs.CodeWords.ReadCodes.{read_code_found}
 use Rattle.hayro_ccitt.proofs.CodeWords.ReadRuns.{chosen, word_next, not_done, done_is}
 use Rattle.hayro_ccitt.proofs.BitReading.ZerosInWords.{codes_free, modes_free, free_by, no_one, holds_a_one, word_one, no_eleven_in, prefix_of_prefix}
+use Rattle.std.proofs.lemmas.Grind.{common_steps}
 
 -- the words of the turns after this one
 abbrev pub gathered_after : {S R A : Type 0} → (S → List A) → Turn S R → List A
@@ -94,8 +95,7 @@ word_stands {V} list here v rest is e =
 -- a reading that found no word
 pub no_word_stands : {V : Type 0} (list : List (Code V)) (here : Bits) (fault : DecodeError) → read_code list here ≡ Err fault
     → Stands here (word_found list here) here
-no_word_stands list here fault e = let found : word_found list here ≡ []
-    = rw (e, word_found) refl in subst (λ (x : List Bits). Stands here x here) (sym found) (stands_none here)
+no_word_stands list here fault e = grind (arith, common_steps)
 
 -- ---- The words of a run.
 abbrev pub RunEnds : Result (ℕ × Bits) DecodeError → Bits → Type 0
@@ -111,8 +111,7 @@ run_word color v w i = inl (color, v, i)
 
 run_goes : (color : Color) (total : ℕ) (here : Bits) (t : ℕ × Bits) (r : Result (ℕ × Bits) DecodeError) → read_code (codes_of color) here ≡ r
     → run_turn color (total, here) ≡ Turn.next t → Stands here (word_found (codes_of color) here) t.1
-run_goes color total here t (Err e) h k =
-    let g : ◌≡◌ {A = RunTurn} (Turn.done (Err e)) (Turn.next t) = rw (h, run_turn) at k in absurd (not_done _ t g)
+run_goes color total here t (Err e) h k = grind (arith, common_steps)
 run_goes color total here t (Ok found) h k =
     let g : run_of_word total found ≡ Turn.next t = rw (h, run_turn) at k in
     subst (λ (x : ℕ × Bits). Stands here (word_found (codes_of color) here) x.1) (word_next total found t g)
@@ -220,11 +219,7 @@ draw_run_stands strict columns pen =
 
 -- a full line finds nothing more
 pub unless_full_stands : (columns : ℕ) (pen : Pen) → DrawingStands pen.rest rest_of_pen (unless_full columns pen)
-unless_full_stands columns pen = by (leb columns (length pen.front))
-  where
-    by : (full : Bool) → TurnStands pen.rest rest_of_pen (cond full (Turn.done (Line.whole pen.front pen.rest)) (Turn.next pen)) []
-    by true = (pen.rest, stands_none pen.rest, refl)
-    by false = stands_none pen.rest
+unless_full_stands columns pen = grind (arith, common_steps)
 
 -- what a mode draws
 mode_stands : (strict : Bool) (columns : ℕ) (reference : Row) (pen : Pen) (mode : Mode) → DrawingStands pen.rest rest_of_pen (draw_mode strict columns reference pen mode)
@@ -320,8 +315,7 @@ found_end Group4 strict columns reference here = let found
 -- ---- A whole line ends with the last of its words.
 whole_rest : (line : Line) (row : Row) (end rest here words : Bits) → line ≡ Line.whole row rest → LineEnds line end → here ≡ words ++ end
     → here ≡ words ++ rest
-whole_rest line row end rest here words whole ends is = let same : rest ≡ end = subst (λ (l : Line). LineEnds l end) whole ends in is
-    ∙ ap (λ (b : Bits). words ++ b) (sym same)
+whole_rest line row end rest here words whole ends is = grind (arith, common_steps)
 
 found_to_the_end : (encoding : EncodingMode) (strict : Bool) (columns : ℕ) (reference row : Row) (here rest : Bits)
     → line_by encoding strict columns reference here ≡ Line.whole row rest

@@ -10,6 +10,7 @@ use Rattle.hayro_ccitt.specs.Locality.{IsLocal, StaysBefore}
 use Rattle.hayro_ccitt.proofs.DamagedLines.PastEol.{past, past-eol, past_is, then_after}
 use Rattle.hayro_ccitt.proofs.DamagedLines.SoughtTurns.{found_next}
 use Rattle.hayro_ccitt.proofs.DamagedLines.RunsAlike.{IsTail}
+use Rattle.std.proofs.lemmas.Grind.{common_steps}
 
 -- without a prefix the rest is left
 pub drop_front : {A : Type 0} (front rest : List A) → drop (length front) (front ++ rest) ≡ rest
@@ -22,10 +23,7 @@ drop_at whole front rest n e f = ap (drop n) e ∙ ap (λ (k : ℕ). drop k (fro
 
 -- at a one eleven zeros were seen, and what follows is the rest
 pub eol_at_one : (seen : ℕ) (here rest : Bits) → after_eol seen (true ∷ here) ≡ Some rest → (11 ≤ seen) × (here ≡ rest)
-eol_at_one seen here rest e = elim (cases_lt seen 11) [
-  | inl lt ↦ absurd (let f : ◌≡◌ {A = Option Bits} None (Some rest) = rw (lt-leb 11 seen lt) at e in cc)
-  | inr ge ↦ let f : ◌≡◌ {A = Option Bits} (Some here) (Some rest) = rw (le-leb 11 seen ge) at e in (ge, cc)
-]
+eol_at_one seen here rest e = grind (arith, common_steps)
 
 -- the zeros and the one of an EOL
 pub after_eol_is : (seen : ℕ) (here rest : Bits) → after_eol seen here ≡ Some rest → (k : ℕ) × (here ≡ replicate k false ++ true ∷ rest) × (11 ≤ seen + k)

@@ -19,6 +19,7 @@ use Rattle.hayro_ccitt.proofs.CodeWords.ReadCodes.{read_code_found, read_code_ag
 use Rattle.hayro_ccitt.proofs.CodeWords.ReadRuns.{run_shrinks, size}
 use Rattle.hayro_ccitt.proofs.BitReading.ZerosInWords.{scan, is_quiet, scan_below, scan-append, quiet_is, word_quiet, prefix_of_prefix, codes_free}
 use Rattle.hayro_ccitt.proofs.DrawingLines.ReadLines.{left, step_1d_shrinks}
+use Rattle.std.proofs.lemmas.Grind.{common_steps}
 
 scan_stays : (n : ℕ) (a b : Bits) → scan n a ≡ None → scan n (a ++ b) ≡ None
 scan_stays n [] b e = absurd cc
@@ -113,14 +114,7 @@ module _ (x y : Bits) where
   module _ (color : Color) (rest : ℕ × Bits → Result (ℕ × Bits) DecodeError) where
     word_alike : (total n : ℕ) (here there : Bits) → InFront x y here there
         → Follows Runs (FoundAlike x y) rest (run_of_word total (n, here)) (run_of_word total (n, there))
-    word_alike total n here there front = by (ltb 4294967295 (total + n)) (ltb n 64)
-      where
-        by : (b c : Bool) → Follows Runs (FoundAlike x y) rest
-            (cond b (Turn.done (Err Overflow)) (cond c (Turn.done (Ok (total + n, here))) (Turn.next (total + n, here))))
-            (cond b (Turn.done (Err Overflow)) (cond c (Turn.done (Ok (total + n, there))) (Turn.next (total + n, there))))
-        by true c = tt
-        by false true = (refl, front)
-        by false false = (refl, front)
+    word_alike total n here there front = grind (arith, common_steps)
 
     turn_alike : (total : ℕ) (bits : Bits) → Inside bits
         → Follows Runs (FoundAlike x y) rest (run_turn color (total, bits ++ x)) (run_turn color (total, bits ++ y))

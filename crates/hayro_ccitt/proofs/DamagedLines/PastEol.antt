@@ -6,6 +6,7 @@ use Rattle.std.proofs.lemmas.List.{length-append}
 use Rattle.hayro_ccitt.specs.Bits.{Bits}
 use Rattle.hayro_ccitt.specs.EndOfLine.{after_eol, one_more, eols, all_eols, next_eol}
 use Rattle.hayro_ccitt.proofs.Readings.TurnsMoveOn.{eols-some, eols-none, after_eol_shorter}
+use Rattle.std.proofs.lemmas.Grind.{common_steps}
 
 -- what follows the next EOL that ends further on, given the number of zeros just before
 abbrev pub past : ℕ → Bits → Option Bits
@@ -17,19 +18,13 @@ past seen (true ∷ here) = cond (leb 11 seen) (Some here) (past 0 here)
 pub past-eol : (seen : ℕ) (here after : Bits) → after_eol seen here ≡ Some after → past seen here ≡ Some after
 past-eol seen [] after e = absurd cc
 past-eol seen (false ∷ here) after e = past-eol (suc seen) here after e
-past-eol seen (true ∷ here) after e = elim (cases_lt seen 11) [
-  | inl lt ↦ absurd (let f : ◌≡◌ {A = Option Bits} None (Some after) = rw (lt-leb 11 seen lt) at e in cc)
-  | inr ge ↦ rw (le-leb 11 seen ge) (rw (le-leb 11 seen ge) at e)
-]
+past-eol seen (true ∷ here) after e = grind (arith, common_steps)
 
 -- if there is none, a zero less makes no difference
 past-none : (seen : ℕ) (here : Bits) → after_eol (suc seen) here ≡ None → past (suc seen) here ≡ past seen here
 past-none seen [] e = refl
 past-none seen (false ∷ here) e = past-none (suc seen) here e
-past-none seen (true ∷ here) e = elim (cases_lt (suc seen) 11) [
-  | inl lt ↦ let lt2 : seen < 11 = omega arith in rw (lt-leb 11 (suc seen) lt, lt-leb 11 seen lt2) refl
-  | inr ge ↦ absurd (let f : ◌≡◌ {A = Option Bits} (Some here) None = rw (le-leb 11 (suc seen) ge) at e in cc)
-]
+past-none seen (true ∷ here) e = grind (arith, common_steps)
 
 -- what follows the EOL that was found
 abbrev pub then_after : Option Bits → Option Bits
@@ -79,14 +74,7 @@ pub past_here : (seen fewer : ℕ) (here after : Bits) → fewer ≤ seen → pa
     → past fewer here ≡ Some after
 past_here seen fewer [] after le e far = absurd cc
 past_here seen fewer (false ∷ here) after le e far = past_here (suc seen) (suc fewer) here after (omega arith) e (omega arith)
-past_here seen fewer (true ∷ here) after le e far = elim (cases_lt seen 11) [
-  | inl lt ↦ let lt2 : fewer < 11 = omega arith in rw (lt-leb 11 fewer lt2) (rw (lt-leb 11 seen lt) at e)
-  | inr ge ↦
-      let f : ◌≡◌ {A = Option Bits} (Some here) (Some after) = rw (le-leb 11 seen ge) at e in
-      let same : here ≡ after = cc in
-      let ge2 : 11 ≤ fewer = omega (arith, far, ap length same) in
-      rw (le-leb 11 fewer ge2) f
-]
+past_here seen fewer (true ∷ here) after le e far = grind (arith, common_steps)
 
 -- an EOL with its last twelve bits still to come is the next one from further on too
 pub past_later : (seen : ℕ) (before here after : Bits) → past seen (before ++ here) ≡ Some after → length after + 12 ≤ length here → past 0 here ≡ Some after

@@ -24,6 +24,7 @@ use Rattle.hayro_ccitt.proofs.DamagedLines.LinesByEols.{line_past}
 use Rattle.hayro_ccitt.proofs.DamagedLines.LinesBeforeEol.{Inside, LineAlike, line_1d_alike}
 use Rattle.hayro_ccitt.proofs.DamagedLines.EolsAlike.{Closes, closes_inside, inside_after, after_shorter, past_alike, PastAlike, CountAlike, RestAlike, all_eols_alike}
 use Rattle.hayro_ccitt.proofs.Readings.RowsAndGaps.{unless_over, seek_from, seek_eol, after_row, row_added, after_whole-is, after_damage-is}
+use Rattle.std.proofs.lemmas.Grind.{common_steps}
 
 -- ---- Rows of which one may differ
 
@@ -38,17 +39,7 @@ rows_length xs ys (inr (before, a, b, more, e, f, begins)) = ap length e ∙ len
 
 rows_more : {Begins : List Row → Type 0} (xs ys : List Row) (row : Row) → RowsAlike Begins xs ys → RowsAlike Begins (xs ++ row ∷ []) (ys ++ row ∷ [])
 rows_more xs ys row (inl e) = inl (ap (λ (x : List Row). x ++ row ∷ []) e)
-rows_more xs ys row (inr (before, a, b, more, e, f, begins)) =
-    inr (
-      before,
-      a,
-      b,
-      more ++ row ∷ [],
-      ap (λ (x : List Row). x ++ row ∷ []) e
-          ∙ append_assoc before (a ∷ more) (row ∷ []),
-      ap (λ (x : List Row). x ++ row ∷ []) f ∙ append_assoc before (b ∷ more) (row ∷ []),
-      begins,
-    )
+rows_more xs ys row (inr (before, a, b, more, e, f, begins)) = grind (arith, common_steps)
 
 -- a state between lines
 abbrev pub run_at : List Row → Bool → Bits → Progress
@@ -270,10 +261,7 @@ module _ (settings : DecodeSettings) (encoding : settings.encoding ≡ Group3_1D
 
   -- ---- At the line
   limit_is : (rows : List Row) (row : Row) → limit_met settings (length (rows ++ row ∷ [])) ≡ true → settings.rows ≡ suc (length rows)
-  limit_is rows row met =
-      let same = eqb-true settings.rows (length (rows ++ row ∷ []))
-      (and_parts (not (eqb settings.rows 0)) (eqb settings.rows (length (rows ++ row ∷ []))) met).1 in
-      omega (arith, same, length-append rows (row ∷ []))
+  limit_is rows row met = grind (arith, common_steps)
 
   row_there : (rows : List Row) (a b : Row) (u v : Bits) → Begins rows → past 0 u ≡ Some after → past 0 v ≡ Some after → length u ≤ length x → length v ≤ length y
       → Both (after_row settings (sought (rows ++ a ∷ []) u)) (after_row settings (sought (rows ++ b ∷ []) v))

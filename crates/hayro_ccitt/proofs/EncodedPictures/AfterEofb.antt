@@ -20,6 +20,7 @@ use Rattle.hayro_ccitt.proofs.DrawingLines.WhatFollows.{line_2d_found}
 use Rattle.hayro_ccitt.proofs.EncodedPictures.Bodies.{gap_at_eofb}
 use Rattle.hayro_ccitt.proofs.EncodedPictures.PictureLines.{IsLineStart, mode_starts, between, plain_ends}
 use Rattle.hayro_ccitt.proofs.Readings.GapsAndRows.{gap_and_row_unsought, row_behind_eols, t6_end}
+use Rattle.std.proofs.lemmas.Grind.{common_steps}
 
 -- ---- EOLs.
 after_eol_found : (seen : ℕ) (here rest : Bits) → after_eol seen here ≡ Some rest → (w : Bits) × (here ≡ w ++ rest)
@@ -107,13 +108,7 @@ module _ (settings : DecodeSettings) (four : settings.encoding ≡ Group4) (bloc
   by_line : (run after : Progress) (count : ℕ) (t : Bits) (line : Line) → run.has_eols ≡ false → eols 2 run.rest ≡ (count, t)
       → is_over settings (length run.rows) (count, t) ≡ false → reader settings run t ≡ line
       → add_row_alone (record run { rest = t }) (row_of_line settings run.has_eols t line) ≡ Turn.next after → MoveFound settings run after
-  by_line run after count t (Line.broken front fault) unsought counted over read e =
-      by settings.strict (ap (λ (h : Bool). add_row_alone (record run { rest = t }) (row_of_line settings h t (Line.broken front fault))) (sym unsought) ∙ e)
-    where
-      by : (strict : Bool) → add_row_alone (record run { rest = t }) (row_of_line (record settings { strict = strict }) false t (Line.broken front fault)) ≡ Turn.next after
-          → MoveFound settings run after
-      by true e = absurd (not_next _ after e)
-      by false e = absurd (not_next _ after e)
+  by_line run after count t (Line.broken front fault) unsought counted over read e = grind (arith, common_steps)
   by_line run after count t (Line.whole row j) unsought counted over read e =
       let b : Bool = settings.rows_are_byte_aligned && not run.has_eols in
       let line = line_2d_found settings.strict settings.columns (row_before settings.columns run.rows) t row j read in
@@ -214,8 +209,7 @@ same_front one two count w rest whole_one whole_two is count_is same =
 
 -- without columns nothing is read
 plain_no_columns : (settings : DecodeSettings) (stream : Bits) → settings.columns ≡ 0 → plain settings stream ≡ nothing_read
-plain_no_columns settings stream none = cond-true (eqb settings.columns 0) nothing_read
-    (whole_reading stream (end_of settings stream)) (eq-eqb settings.columns 0 none)
+plain_no_columns settings stream none = grind (arith, common_steps)
 
 -- the law
 pub after_eofb : AfterEofb

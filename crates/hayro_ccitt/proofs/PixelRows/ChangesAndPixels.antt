@@ -7,6 +7,7 @@ use Rattle.std.proofs.lemmas.List.{length-replicate, replicate-append-replicate}
 use Rattle.hayro_ccitt.specs.Rows.{Row, pixel, pixel_before, is_change, changes, AscendFrom, AreChanges, pixels_from, pixels, last_pixel}
 use Rattle.hayro_ccitt.specs.Context.{continued}
 use Rattle.hayro_ccitt.proofs.PixelRows.RowChanges.{changes_from, changes_from-append, changes_from-same}
+use Rattle.std.proofs.lemmas.Grind.{common_steps}
 
 -- ---- Ascending positions.
 
@@ -83,10 +84,7 @@ turned color (place ∷ places) = turned (not color) places
 
 -- one more number is even where the number is odd
 eqb-suc_even : (n : ℕ) → eqb (suc n % 2) 0 ≡ not (eqb (n % 2) 0)
-eqb-suc_even n = elim (cases_eq (n % 2) 0) [
-  | inl even ↦ let one : suc n % 2 ≡ 1 = omega arith in rw (even, one) refl
-  | inr odd ↦ let none : suc n % 2 ≡ 0 = omega arith in let one : n % 2 ≡ 1 = omega arith in rw (none, one) refl
-]
+eqb-suc_even n = grind (arith, common_steps)
 
 -- comparing the other colour is the other comparison
 beq-not : (a b color : Bool) → b ≡ not a → beq a (not color) ≡ beq b color
@@ -201,11 +199,7 @@ is_change-next front here row =
 -- a position is listed where the pixel differs
 listed : (differs : Bool) (x y : Bool) (place : ℕ) (places others : List ℕ) → differs ≡ not (beq x y) → places ≡ others
     → cond differs (place ∷ places) places ≡ cond (beq x y) others (place ∷ others)
-listed differs x y place places others e same = rw (e, same) (by (beq x y))
-  where
-    by : (b : Bool) → cond (not b) (place ∷ others) others ≡ cond b others (place ∷ others)
-    by true = refl
-    by false = refl
+listed differs x y place places others e same = grind (arith, common_steps)
 
 -- the changes past a front
 changes-rest : (front row : Row)
