@@ -51,7 +51,7 @@ pub fn group4_pages(columns: u32) -> DecodeSettings
     }
 }
 
-/// Returns how many bytes the page that begins at a position occupies. Its rows are ignored.
+/// Returns how many bytes the page that begins at a byte offset occupies. Its rows are ignored.
 fn skip_page(order: BitOrder, data: &[u8], begin: usize, ctx: &mut DecoderContext) -> Result<usize>
     requires fit { BitsFit «data».now }
     requires begin { begin ≤ length «data».now }

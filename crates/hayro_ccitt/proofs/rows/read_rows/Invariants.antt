@@ -10,7 +10,7 @@ use Rattle.hayro_ccitt.proofs.Readings.RunsOverRows.{Between}
 use Rattle.hayro_ccitt.proofs.Readings.RowsTaken.{from_line}
 use Rattle.hayro_ccitt.proofs.rows.read_rows.Given as goal
 
--- some rows were read and accepted, and the reading yields them with what is left
+-- the rows so far were read and accepted, and the rest of the reading is left
 abbrev pub invariant-rows : goal.invariant-rows
 invariant-rows g l =
     (between : Between (move_on l.fn.ctx.held.settings) (one_each (line_of_turn l.fn.ctx.held.settings)) left_to_read (from_line l.fn.ctx.held.has_eols (here l.fn.reader)) l.fn.ctx.held.settings
