@@ -84,10 +84,10 @@ abbrev pub arguments_of_words : List (List ℕ) → Option Arguments
 arguments_of_words (mode ∷ columns ∷ rows ∷ flags ∷ []) = arguments_of_four mode columns rows flags
 arguments_of_words _ = None
 
--- the first argument asks for a bitmap instead of text
-abbrev pub asks_for_bitmap : List (List ℕ) → Bool
-asks_for_bitmap [] = false
-asks_for_bitmap (word ∷ words) = bytes_eq word (codes "-o")
+-- there are words, and this is the first of them
+abbrev pub is_first_word : List (List ℕ) → List ℕ → Bool
+is_first_word [] word = false
+is_first_word (first ∷ words) word = bytes_eq first word
 
 -- there is one argument, and it is this
 abbrev pub is_word_alone : List (List ℕ) → List ℕ → Bool

@@ -14,6 +14,7 @@ context_of c =
         front = pixels c.pixels_decoded c.coding_changes.items;
         color = c.color;
         taken = c.decoded_rows;
+        repairs = record { rows = c.damaged_rows; fault = c.last_fault };
         has_eols = c.has_eols;
         settings = c.settings;
       };

@@ -1,11 +1,12 @@
 -- The contract of `decode` and of `decode_low_first`, over the bits of their data.
-use Rattle.std.specs.Prelude.{◌≡◌, ◌⊎◌, ℕ, false, List, take, Result, Ok, IsOk}
+use Rattle.std.specs.Prelude.{◌≡◌, ◌⊎◌, ℕ, false, List, length, take, sum_by, Result, Ok, IsOk}
 use Rattle.hayro_ccitt.specs.declared.error.DecodeError.{DecodeError}
 use Rattle.hayro_ccitt.specs.declared.settings.DecodeSettings.{DecodeSettings}
 use Rattle.hayro_ccitt.specs.declared.settings.EncodingMode.TheVariants.{Group4}
 use Rattle.hayro_ccitt.specs.Answers.{OnAnswer, meaning_after}
 use Rattle.hayro_ccitt.specs.Bits.{Bits}
 use Rattle.hayro_ccitt.specs.Context.{Held}
+use Rattle.hayro_ccitt.specs.Damage.{repairs_by_line, repairs_of}
 use Rattle.hayro_ccitt.specs.Decoding.{SinkState, TakesRows, StopsShort}
 use Rattle.hayro_ccitt.specs.Locality.{DamageStaysInRow}
 use Rattle.hayro_ccitt.specs.Pictures.{IsClosedPicture, IsLimitedPicture}
@@ -42,5 +43,8 @@ pub record Decodes {M : Type 0} (settings : DecodeSettings) (bits : Bits) (step 
   pub limited : (rows : List Row) → IsLimitedPicture settings rows bits → OnAnswer answer (IsOk answer)
   pub limited_picture : (rows : List Row) → IsLimitedPicture settings rows bits
       → OnAnswer answer (after.meaning ≡ meaning_after step before.meaning rows)
+  -- The context counts the rows that were repaired, of those taken (T.4, 4.1.2).
+  pub damaged_taken : held.repairs.rows ≡ sum_by length (take held.taken (repairs_by_line settings bits))
+  pub damaged : OnAnswer answer (held.repairs.rows ≡ length (repairs_of settings bits))
   -- In lenient one-dimensional data with EOLs a change inside one line's body changes that row alone (T.4, 4.1.2).
   pub damage : OnAnswer answer (DamageStaysInRow settings bits (take held.taken (plain settings bits).rows) answer)

@@ -1,11 +1,12 @@
--- What decoding leaves in the sink, in the context, and of the reading.
-use Rattle.std.specs.Prelude.{◌≡◌, ◌≢◌, ◌≤◌, ◌<◌, ℕ, ◌+◌, Bool, true, false, List, [], length, take, get_or, Result, Ok, Err, OnOk, OnErr, IfOk, IfErr}
+-- What decoding leaves: in the sink, in the context, and of the reading.
+use Rattle.std.specs.Prelude.{sum_by, ◌≡◌, ◌≢◌, ◌≤◌, ◌<◌, ℕ, ◌+◌, Bool, true, false, List, [], length, take, get_or, Result, Ok, Err, OnOk, OnErr, IfOk, IfErr}
 use Rattle.hayro_ccitt.specs.declared.codes.Color.TheVariants.{White}
 use Rattle.hayro_ccitt.specs.declared.error.DecodeError.{DecodeError}
 use Rattle.hayro_ccitt.specs.declared.error.DecodeError.TheVariants.{OutOfMemory, Refused}
 use Rattle.hayro_ccitt.specs.Answers.{IsFault, OnAnswer, HasBlack, PaintsBlack, front_of, meaning_after}
 use Rattle.hayro_ccitt.specs.Bits.{Bits}
-use Rattle.hayro_ccitt.specs.Context.{Context, Held, redrawn}
+use Rattle.hayro_ccitt.specs.Context.{Context, Held, Repairs, redrawn}
+use Rattle.hayro_ccitt.specs.Damage.{Damaged, repaired_by_turn}
 use Rattle.hayro_ccitt.specs.Lines.{Line}
 use Rattle.hayro_ccitt.specs.PlainReading.{Progress, Ending, Gap, move_on, one_each, end_of, ending_from, gathered_of, gathered_from, line_of_turn}
 use Rattle.hayro_ccitt.specs.Rows.{Row, changes}
@@ -38,21 +39,29 @@ pub record StopsShort {M A : Type 0} (rows : List Row) (lines : List Line) (befo
   pub flag : answer ≡ Err Refused → after.refused ≡ true
   pub no_flag : answer ≢ Err Refused → after.refused ≡ before.refused
 
+-- How many rows are repaired, where the lines of a reading come to these repairs: those of the rows that were taken, and all
+-- of them unless memory was wanted or a row was refused (T.4, 4.1.2).
+pub record CountsRepairs {A : Type 0} (repairs : List (List Damaged)) (held : Held) (answer : Result A DecodeError) : Type 0 where
+  pub taken : held.repairs.rows ≡ sum_by length (take held.taken repairs)
+  pub all : OnAnswer answer (held.repairs.rows ≡ sum_by length repairs)
+
 -- ---- All rows of some bits: the contract of the drivers
 
--- What a run over rows leaves, given the end of its reading, its lines and their words: the accepted rows, the cases with
--- fewer rows, and the most work.
-pub record TakesAll {M : Type 0} (end : Ending) (lines : List Line) (words : List (List Bits)) (most : ℕ) (step : M → List ℕ → M) (before after : SinkState M) (old new : Context) (answer : Result Bits DecodeError) : Type 0 where
+-- What a run over rows leaves, from the end that its reading comes to, its lines, their words and repairs: the rows that were
+-- taken, what comes with fewer, how many were repaired, and the work, at most so much.
+pub record TakesAll {M : Type 0} (end : Ending) (lines : List Line) (words : List (List Bits)) (repairs : List (List Damaged)) (most : ℕ) (step : M → List ℕ → M) (before after : SinkState M) (old new : Context) (answer : Result Bits DecodeError) : Type 0 where
   pub settings : new.held.settings ≡ old.held.settings
   pub reading : TakesRows end.rows end.outcome end.has_eols step before after new.held answer
   pub short : StopsShort end.rows lines before after new.held answer
+  pub repaired : CountsRepairs repairs new.held answer
   pub work : CountsRun words new.held.taken old.ticks new.ticks most
 
 -- a run over the rows of some bits, read by the settings (T.4, 4.1 and 4.2; T.6, 2.2 and 2.4.1)
 abbrev pub DecodesRows : {M : Type 0} → Bits → (M → List ℕ → M) → SinkState M → SinkState M → Context → Context → Result Bits DecodeError → Type 0
 DecodesRows bits step before after old new answer =
     TakesAll (end_of old.held.settings bits) (gathered_of old.held.settings (line_of_turn old.held.settings) bits)
-    (gathered_of old.held.settings (words_of_turn old.held.settings) bits) (most_counted old.held.settings.encoding (length bits))
+    (gathered_of old.held.settings (words_of_turn old.held.settings) bits)
+    (gathered_of old.held.settings (repaired_by_turn old.held.settings bits) bits) (most_counted old.held.settings.encoding (length bits))
     step before after old new answer
 
 -- ---- One turn: the contracts of private calls, not part of the trusted specification
@@ -70,13 +79,18 @@ gap_said (Err e) has_eols rest = Gap.over (Err e)
 -- the context after one more accepted row
 abbrev pub with_row_taken : Held → Row → Held
 with_row_taken h row =
-    record { reference = row; front = []; color = White; taken = h.taken + 1; has_eols = h.has_eols; settings = h.settings }
+    record { reference = row; front = []; color = White; taken = h.taken + 1; repairs = h.repairs; has_eols = h.has_eols; settings = h.settings }
 
--- a row was accepted, and these bits follow it
-pub record RowIsTaken {M : Type 0} (row : Result (Row × Bits) DecodeError) (step : M → List ℕ → M) (before after : SinkState M) (old new : Held) (rest : Bits) : Type 0 where
+-- what is repaired of the rows taken, where the row of a line is one more: a broken one was repaired (T.4, 4.1.2)
+abbrev pub repairs_with : Line → Repairs → Repairs
+repairs_with (Line.whole row rest) before = before
+repairs_with (Line.broken front fault) before = record { rows = before.rows + 1; fault = fault }
+
+-- the row of a line was taken, and these bits stand behind it
+pub record RowIsTaken {M : Type 0} (line : Line) (row : Result (Row × Bits) DecodeError) (step : M → List ℕ → M) (before after : SinkState M) (old new : Held) (rest : Bits) : Type 0 where
   pub taken : Row
   pub is : row ≡ Ok (taken, rest)
-  pub held : new ≡ with_row_taken old taken
+  pub held : new ≡ record (with_row_taken old taken) { repairs = repairs_with line old.repairs }
   pub meaning : after.meaning ≡ step before.meaning (changes taken)
 
 -- the bits after a line that began here: after a whole line what follows it; after a broken one that is repaired the
@@ -92,7 +106,7 @@ IsRefusedBy refuses (Err e) = ⊥
 
 -- What a call leaves that reads a line and passes its row to the sink, where the line yields this row.
 pub record TakesOneRow {M : Type 0} (line : Line) (row : Result (Row × Bits) DecodeError) (step : M → List ℕ → M) (before after : SinkState M) (old new : Held) (answer : Result (Unit {0}) DecodeError) (rest : Bits) : Type 0 where
-  pub taken : OnOk answer (RowIsTaken row step before after old new rest)
+  pub taken : OnOk answer (RowIsTaken line row step before after old new rest)
   pub fault : IfErr answer (λ e. IsFault e → row ≡ Err e)
   pub kept : OnErr answer (after.meaning ≡ before.meaning)
   pub held : OnErr answer (new ≡ redrawn old new.front new.color)
@@ -101,8 +115,9 @@ pub record TakesOneRow {M : Type 0} (line : Line) (row : Result (Row × Bits) De
   pub flag : answer ≡ Err Refused → after.refused ≡ true
   pub no_flag : answer ≢ Err Refused → after.refused ≡ before.refused
 
--- a run over rows that begins at a line, with at most this work
-abbrev pub DecodesFrom : {M : Type 0} → Progress → ℕ → (M → List ℕ → M) → SinkState M → SinkState M → Context → Context → Result Bits DecodeError → Type 0
-DecodesFrom first most step before after old new answer =
+-- a run over rows that begins at a line among some bits, with at most so much work
+abbrev pub DecodesFrom : {M : Type 0} → Bits → Progress → ℕ → (M → List ℕ → M) → SinkState M → SinkState M → Context → Context → Result Bits DecodeError → Type 0
+DecodesFrom bits first most step before after old new answer =
     TakesAll (ending_from (move_on old.held.settings) first) (gathered_from (move_on old.held.settings) (one_each (line_of_turn old.held.settings)) first)
-    (gathered_from (move_on old.held.settings) (one_each (words_of_turn old.held.settings)) first) most step before after old new answer
+    (gathered_from (move_on old.held.settings) (one_each (words_of_turn old.held.settings)) first)
+    (gathered_from (move_on old.held.settings) (one_each (repaired_by_turn old.held.settings bits)) first) most step before after old new answer

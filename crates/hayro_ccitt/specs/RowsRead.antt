@@ -1,5 +1,5 @@
--- Rows one at a time: what a reader of rows has read, and what a call that reads the next row leaves.
-use Rattle.std.specs.Prelude.{◌≡◌, ◌≢◌, ◌≤◌, ◌<◌, ◌+◌, ◌-◌, ◌/◌, ℕ, Bool, true, false, not, drop, List, [], length, get_or, Option, None, Some, Result, Ok, Err, IfErr}
+-- Rows one at a time: what a reader of rows has read, and what a call leaves that reads the next row.
+use Rattle.std.specs.Prelude.{sum_by, take, ◌==◌, if◌then◌else◌, ◌≡◌, ◌≢◌, ◌≤◌, ◌<◌, ◌+◌, ◌-◌, ◌/◌, ℕ, Bool, true, false, not, drop, List, [], length, get_or, Option, None, Some, Result, Ok, Err, IfErr}
 use Rattle.hayro_ccitt.specs.declared.codes.Color.TheVariants.{White}
 use Rattle.hayro_ccitt.specs.declared.error.DecodeError.{DecodeError}
 use Rattle.hayro_ccitt.specs.declared.error.DecodeError.TheVariants.{OutOfMemory, Refused}
@@ -9,7 +9,8 @@ use Rattle.hayro_ccitt.specs.declared.row_reader.Stand.TheVariants.{AtLine, Behi
 use Rattle.hayro_ccitt.specs.declared.settings.DecodeSettings.{DecodeSettings}
 use Rattle.hayro_ccitt.specs.Answers.{IsFault, PaintsBlack}
 use Rattle.hayro_ccitt.specs.Bits.{Bits, BitsAt}
-use Rattle.hayro_ccitt.specs.Context.{Held}
+use Rattle.hayro_ccitt.specs.Context.{Held, Repairs}
+use Rattle.hayro_ccitt.specs.Damage.{fault_in, repairs_by_line}
 use Rattle.hayro_ccitt.specs.PlainReading.{Progress, row_before, with_row, first_gap, move_on, row_of_line, line_of_turn, gathered_of, plain, lines_of}
 use Rattle.hayro_ccitt.specs.Repetition.{Turn, Reaches}
 use Rattle.hayro_ccitt.specs.Rows.{Row}
@@ -34,32 +35,34 @@ is_at_line BehindRow = false
 is_at_line AtEnd = false
 is_at_line (AtFault error) = false
 
--- what is read and with which settings, how many rows were read, the last one and where its line begins, how the reading
--- has ended, whether a line is here, and the offset of the next bit
+-- what is read and by which settings, how many rows were read, the last one, where its line begins, and the fault where it was
+-- repaired, how the reading has ended, whether a line stands here, and the offset of the next bit
 pub record RowsRead : Type 0 where
   pub settings : DecodeSettings
   pub bits : Bits
   pub taken : ℕ
   pub row : Row
   pub line_start : ℕ
+  pub damage : Option DecodeError
   pub end : Option (Result (Unit {0}) DecodeError)
   pub at_line : Bool
   pub place : ℕ
 
-abbrev pub read_so_far : Held → BitsAt → ℕ → Stand → RowsRead
-read_so_far held reader line_start stand = record {
+abbrev pub read_so_far : Held → BitsAt → ℕ → Option DecodeError → Stand → RowsRead
+read_so_far held reader line_start damage stand = record {
   settings = held.settings;
   bits = reader.bits;
   taken = held.taken;
   row = held.reference;
   line_start = line_start;
+  damage = damage;
   end = ended stand;
   at_line = is_at_line stand;
   place = reader.place;
 }
 
 abbrev pub rows_read_of : Inside → RowsRead
-rows_read_of r = read_so_far r.ctx.held r.reader r.started_at r.stand
+rows_read_of r = read_so_far r.ctx.held r.reader r.started_at r.damage r.stand
 
 -- whether a line follows a gap that was passed, given whether the reading is over
 abbrev pub line_after : Result Bool DecodeError → Result Bool DecodeError
@@ -71,6 +74,10 @@ abbrev pub stand_after : Result Bool DecodeError → Stand
 stand_after (Ok true) = AtEnd
 stand_after (Ok false) = AtLine
 stand_after (Err error) = AtFault error
+
+-- the fault of the last row, where it is one that was repaired since so many were
+abbrev pub damage_since : Repairs → ℕ → Option DecodeError
+damage_since repairs before = if repairs.rows == before then None else Some repairs.fault
 
 -- ---- The contract
 
@@ -95,7 +102,9 @@ pub record ReadsNext (old new : RowsRead) (result : Result Bool DecodeError) : T
   pub more : result ≡ Ok true → (new.end ≡ None) × (new.taken ≡ old.taken + 1) × (new.taken ≤ length (plain old.settings old.bits).rows)
   pub row : result ≡ Ok true → new.row ≡ get_or (plain old.settings old.bits).rows old.taken []
   pub line_start : result ≡ Ok true → new.line_start ≡ get_or (line_starts old.settings old.bits) old.taken 0
-  -- there was no further row
+  -- its line was whole, or it was repaired after this fault (T.4, 4.1.2)
+  pub damage : result ≡ Ok true → new.damage ≡ fault_in (get_or (repairs_by_line old.settings old.bits) old.taken [])
+  -- there was none
   pub end : result ≡ Ok false → (new.end ≡ Some (Ok tt)) × (new.taken ≡ old.taken) × HasEnded old.settings old.bits new.taken new.place
   pub error : IfErr result (λ e. (new.end ≡ Some (Err e)) × (new.taken ≡ old.taken) × HasFailed old.settings old.bits new.taken e)
 
@@ -115,13 +124,14 @@ at_end_of_rows (Err error) = Err error
 
 -- ---- The invariant: not part of the trusted specification
 
--- the context between two rows of the reading
-abbrev pub context_at : DecodeSettings → Progress → Held
-context_at settings so_far = record {
+-- the context between two rows of the reading, where so much was repaired
+abbrev pub context_at : DecodeSettings → Progress → Repairs → Held
+context_at settings so_far repairs = record {
   reference = row_before settings.columns so_far.rows;
   front = [];
   color = White;
   taken = length so_far.rows;
+  repairs = repairs;
   has_eols = so_far.has_eols;
   settings = settings;
 }
@@ -134,7 +144,7 @@ pub record StandsAtLine (settings : DecodeSettings) (bits : Bits) (held : Held) 
   pub begins : first_gap settings.encoding settings bits ≡ Turn.next first
   pub room : length first.rest ≤ length bits
   pub reaches : Reaches (move_on settings) first so_far
-  pub held_is : held ≡ context_at settings so_far
+  pub held_is : held ≡ context_at settings so_far held.repairs
   pub rest_is : rest ≡ so_far.rest
 
 -- the reading reached a line, and its row was read
@@ -147,7 +157,7 @@ pub record StandsBehindRow (settings : DecodeSettings) (bits : Bits) (held : Hel
   pub room : length first.rest ≤ length bits
   pub reaches : Reaches (move_on settings) first so_far
   pub row_is : row_of_line settings so_far.has_eols so_far.rest (line_of_turn settings so_far) ≡ Ok (row, rest)
-  pub held_is : held ≡ context_at settings (with_row so_far row rest)
+  pub held_is : held ≡ context_at settings (with_row so_far row rest) held.repairs
 
 -- the state of a reader of rows
 abbrev pub Stands : Stand → DecodeSettings → Bits → Held → ℕ → Type 0
@@ -156,5 +166,11 @@ Stands BehindRow settings bits held place = StandsBehindRow settings bits held (
 Stands AtEnd settings bits held place = HasEnded settings bits held.taken place
 Stands (AtFault error) settings bits held place = HasFailed settings bits held.taken error
 
+-- the rows read were counted that were repaired (T.4, 4.1.2)
+pub record RepairsAreCounted (settings : DecodeSettings) (bits : Bits) (held : Held) : Type 0 where
+  pub few : held.repairs.rows ≤ held.taken
+  pub counted : held.repairs.rows ≡ sum_by length (take held.taken (repairs_by_line settings bits))
+
 abbrev pub IsReading : Inside → Type 0
-IsReading r = Stands r.stand r.ctx.held.settings r.reader.bits r.ctx.held r.reader.place
+IsReading r =
+    Stands r.stand r.ctx.held.settings r.reader.bits r.ctx.held r.reader.place × RepairsAreCounted r.ctx.held.settings r.reader.bits r.ctx.held

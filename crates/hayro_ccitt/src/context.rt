@@ -33,6 +33,9 @@ pub struct DecoderContext {
     passed: usize,
     color: Color,
     decoded_rows: u64,
+    damaged_rows: u64,
+    /// The fault of the last row that was repaired; it means nothing before the first.
+    last_fault: DecodeError,
     has_eols: bool,
     settings: DecodeSettings,
     tables: Tables,
@@ -78,6 +81,8 @@ impl DecoderContext {
             passed: 0,
             color: Color::White,
             decoded_rows: 0,
+            damaged_rows: 0,
+            last_fault: DecodeError::UnexpectedEof,
             has_eols: false,
             settings,
             tables: Tables::new(alloc)?,
@@ -104,8 +109,37 @@ impl DecoderContext {
         self.decoded_rows
     }
 
-    /// Returns whether EOLs are sought between the lines of Group 3 (T.4 section 4.1.2): at first if `end_of_line` is
-    /// set or there are EOLs at the start of the data, and no longer once none is left. After Group 4 it is false.
+    /// The number of rows among them whose line was damaged and repaired, as a lenient reading of Group 3 with EOLs does (T.4
+    /// section 4.1.2): after [`decode`](crate::decode), which resets it, those of that image, also where it answered an
+    /// error.
+    pub fn damaged_rows(&self) -> u64
+        ensures { result ≡ self.now.held.repairs.rows }
+    {
+        self.damaged_rows
+    }
+
+    /// The fault of the last line that was repaired.
+    pub(crate) fn last_fault(&self) -> DecodeError
+        ensures { result ≡ self.now.held.repairs.fault }
+    {
+        self.last_fault
+    }
+
+    /// Counts a row whose line was repaired after this fault.
+    pub(crate) fn count_damaged_row(&mut self, fault: DecodeError)
+        requires { self.old.held.repairs.rows + 1 < 2 ^ 64 }
+        ensures frame { self.new ≡ record self.old {
+          held = record self.old.held {
+            repairs = record { rows = self.old.held.repairs.rows + 1; fault = fault };
+          };
+        } }
+    {
+        self.damaged_rows += 1;
+        self.last_fault = fault;
+    }
+
+    /// Whether EOLs are sought between the lines of Group 3 (T.4 section 4.1.2): at first where `end_of_line` is set or
+    /// EOLs stand at the front of the data, and no longer once none is left. After Group 4 it is false.
     pub fn has_eols(&self) -> bool
         ensures { result ≡ self.now.held.has_eols }
     {
@@ -142,6 +176,8 @@ impl DecoderContext {
         self.begin_line();
         self.ref_changes.clear();
         self.decoded_rows = 0;
+        self.damaged_rows = 0;
+        self.last_fault = DecodeError::UnexpectedEof;
         self.has_eols = false;
     }
 

@@ -7,7 +7,9 @@ use Rattle.hayro_ccitt.specs.declared.error.DecodeError.TheVariants.{OutOfMemory
 use Rattle.hayro_ccitt.specs.declared.settings.DecodeSettings.{DecodeSettings}
 use Rattle.hayro_ccitt.specs.Bits.{Bits}
 use Rattle.hayro_ccitt.specs.Context.{Held}
-use Rattle.hayro_ccitt.specs.Decoding.{SinkState, TakesRows, StopsShort}
+use Rattle.hayro_ccitt.specs.Answers.{OnAnswer}
+use Rattle.hayro_ccitt.specs.Damage.{Damaged, repaired_by_turn, repairs_by_line}
+use Rattle.hayro_ccitt.specs.Decoding.{SinkState, TakesRows, StopsShort, CountsRepairs}
 use Rattle.hayro_ccitt.specs.Lines.{Line}
 use Rattle.hayro_ccitt.specs.PlainReading.{Ending, Reading, plain, end_of, lines_of, gathered_of, line_of_turn, bytes_before, whole_reading}
 
@@ -112,6 +114,16 @@ driver_left given settings read whole step before after held answer same same_bi
     × StopsShort (end_of s read).rows (gathered_of s (line_of_turn s) read) before after held answer) same (takes, short))
 
 -- ---- What a driver left, as what `decode` leaves
+
+-- how many rows were repaired
+pub repairs_left : (given settings : DecodeSettings) (read whole : Bits) → given ≡ settings → read ≡ whole → given.columns ≢ 0 → (held : Held) (answer : Result Bits DecodeError) (said : Result ℕ DecodeError)
+    → ((P : Type 0) → OnAnswer answer P → OnAnswer said P) → CountsRepairs (gathered_of given (repaired_by_turn given read) read) held answer
+    → CountsRepairs (repairs_by_line settings whole) held said
+repairs_left given settings read whole same same_bits some held answer said alike counted =
+    let all : repairs_by_line given read ≡ gathered_of given (repaired_by_turn given read) read = cond-false (eqb given.columns 0) _ _ (some_columns given.columns some) in
+    let known : CountsRepairs (repairs_by_line given read) held answer = subst (λ (x : List (List Damaged)). CountsRepairs x held answer) (sym all) counted in
+    let there = subst (λ (b : Bits). CountsRepairs (repairs_by_line settings b) held answer) same_bits (subst (λ (s : DecodeSettings). CountsRepairs (repairs_by_line s read) held answer) same known) in
+    record { taken = there.taken; all = alike _ there.all }
 
 module _ {M : Type 0} (given settings : DecodeSettings) (read whole : Bits) (same : given ≡ settings) (same_bits : read ≡ whole) (some : given.columns ≢ 0)
     (step : M → List ℕ → M) (before after : SinkState M) (held : Held) where

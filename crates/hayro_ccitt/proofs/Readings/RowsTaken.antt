@@ -1,13 +1,14 @@
--- The turns of the loop over rows: a line, and the gap after its row.
-use Rattle.std.proofs.Common.{◌≡◌, ◌≢◌, ◌+◌, ◌*◌, ◌<◌, ◌≤◌, ℕ, suc, Bool, true, false, cond, List, [], ◌∷◌, ◌++◌, length, append-nil, Result, Ok, Err, refl, sym, ap, ◌∙◌, subst, arith}
+-- The turns of the loop over rows: a line, and the gap behind its row.
+use Rattle.std.proofs.Common.{◌≡◌, ◌≢◌, ◌+◌, ◌-◌, ◌*◌, ◌<◌, ◌≤◌, ℕ, suc, Bool, true, false, cond, List, [], ◌∷◌, ◌++◌, length, append-nil, Result, Ok, Err, refl, sym, ap, ◌∙◌, subst, arith}
 use Rattle.std.proofs.lemmas.List.{length-append}
 use Rattle.std.proofs.lemmas.Bool.{false≢true}
 use Rattle.hayro_ccitt.specs.declared.error.DecodeError.{DecodeError}
 use Rattle.hayro_ccitt.specs.declared.settings.DecodeSettings.{DecodeSettings}
 use Rattle.hayro_ccitt.specs.Bits.{Bits}
 use Rattle.hayro_ccitt.specs.Answers.{IsFault, meaning_after}
-use Rattle.hayro_ccitt.specs.Context.{Held}
-use Rattle.hayro_ccitt.specs.Decoding.{SinkState, TakesOneRow, RowIsTaken, with_row_taken, gap_said}
+use Rattle.hayro_ccitt.specs.Context.{Held, Repairs}
+use Rattle.hayro_ccitt.specs.Damage.{repaired_by_turn}
+use Rattle.hayro_ccitt.specs.Decoding.{SinkState, TakesOneRow, RowIsTaken, CountsRepairs, repairs_with, with_row_taken, gap_said}
 use Rattle.hayro_ccitt.specs.PlainReading.{Progress, Ending, Gap, gap_behind_row, line_here, line_of_turn, row_of_line, row_before, at_gap, add_row, pass_gap, with_row, move_on, one_each, ending_from, gathered_from}
 use Rattle.hayro_ccitt.specs.Repetition.{Turn}
 use Rattle.hayro_ccitt.specs.Rows.{Row, changes}
@@ -20,6 +21,7 @@ use Rattle.hayro_ccitt.proofs.Work.RunsCount.{WordsCounted, counted_next, counte
 use Rattle.hayro_ccitt.proofs.Readings.TurnsAddRows.{Adds, Keeps, after_row_keeps, keeps_adds, move_adds}
 use Rattle.hayro_ccitt.proofs.Readings.TurnsMoveOn.{left_to_read, left_below, move_shrinks}
 use Rattle.hayro_ccitt.proofs.Readings.RowsAndGaps.{after_row, pass_gap-is}
+use Rattle.hayro_ccitt.proofs.Readings.RepairsCounted.{RepairsCounted, all_repairs, repaired_counts, repaired_none, repairs_next, repairs_end, repairs_end_behind}
 use Rattle.hayro_ccitt.proofs.Readings.RunsOverRows.{RowByRow, ReadsRow, Leaves, Between, comes_done, comes_next, row_fails, ends_well, ends_at_fault, held_between, held_between-more, meaning_after-more}
 
 -- where a run over rows begins at a line
@@ -120,6 +122,19 @@ module _ {M : Type 0} (settings : DecodeSettings) (wide : 0 < settings.columns) 
       row_fails (move_on settings) (one_each (line_of_turn settings)) left_to_read (by_rows_left settings wide) (from_line sought rest0) refl settings step before now held here between
       (line_of_turn settings so_far) (row_of_turn settings so_far) (reads_row settings so_far) after new rest e (takes_is (Err e) takes)
 
+  -- what was repaired until then is counted
+  pub fails_repaired : {A : Type 0} (e : DecodeError) → TakesRow (step_of now_width) now after held here new (Err e) rest
+      → RepairsCounted settings bits (from_line sought rest0) so_far held.repairs.rows → CountsRepairs {A = A} (all_repairs settings bits (from_line sought rest0)) new (Err e)
+  fails_repaired e takes counted =
+      let known = takes_is (Err e) takes in
+      repairs_end settings bits (from_line sought rest0) (by_rows_left settings wide) refl so_far held.repairs.rows counted e new
+      (ap (λ (h : Held). h.taken) known.held ∙ ap (λ (h : Held). h.taken) between.held) (ap (λ (h : Held). h.repairs.rows) known.held)
+      (λ fault. (
+        repaired_none settings so_far.has_eols (length so_far.rows) (length bits - length so_far.rest) so_far.rest (line_of_turn settings so_far) e (known.fault fault),
+        _,
+        (reads_row settings so_far).fails e (known.fault fault),
+      ))
+
   -- the words as the settings of the run say
   words_here : length (found_here held.settings held.reference here) ≡ length (found_here settings held.reference here)
   words_here = ap (λ (h : Held). length (found_here h.settings held.reference here)) between.held
@@ -135,7 +150,7 @@ module _ {M : Type 0} (settings : DecodeSettings) (wide : 0 < settings.columns) 
     fails_paid = line_ends settings wide begun (length bits) giving_up held.reference held.has_eols here within ticks (length (changes held.reference)) paid then line_counted
 
     module _ (takes : TakesRow (step_of now_width) now after held here new (Ok tt) rest) where
-      abbrev row_taken : RowIsTaken (row_of_turn settings so_far) step now after held new rest
+      abbrev row_taken : RowIsTaken (line_of_turn settings so_far) (row_of_turn settings so_far) step now after held new rest
       row_taken = (takes_is (Ok tt) takes).taken
 
       -- the accepted row is the line's
@@ -185,15 +200,28 @@ module _ {M : Type 0} (settings : DecodeSettings) (wide : 0 < settings.columns) 
               (subst (λ (b : Bool). gap_behind_row new.settings new.taken b rest ≡ Gap.line_at last.has_eols left_over) row_eols gap)
 
   module _ (takes : TakesRow (step_of now_width) now after held here new (Ok tt) rest) where
-    abbrev taken : RowIsTaken (row_of_turn settings so_far) step now after held new rest
+    abbrev taken : RowIsTaken (line_of_turn settings so_far) (row_of_turn settings so_far) step now after held new rest
     taken = (takes_is (Ok tt) takes).taken
 
     -- the rows with the accepted one
     abbrev next : Progress
     next = with_row so_far taken.taken rest
 
-    pub next_held : new ≡ held_between settings next
-    next_held = taken.held ∙ ap (λ (h : Held). with_row_taken h taken.taken) between.held ∙ held_between-more settings so_far taken.taken rest
+    -- what was repaired, with its line
+    abbrev next_repairs : Repairs
+    next_repairs = repairs_with (line_of_turn settings so_far) held.repairs
+
+    pub next_held : new ≡ held_between settings next new.repairs
+    next_held =
+        taken.held ∙ ap (λ (h : Held). record (with_row_taken h taken.taken) { repairs = next_repairs }) between.held
+        ∙ held_between-more settings so_far taken.taken rest held.repairs next_repairs
+        ∙ ap (held_between settings next) (sym (ap (λ (h : Held). h.repairs) taken.held))
+
+    -- and how much
+    one_repaired : new.repairs.rows ≡ held.repairs.rows + length (repaired_by_turn settings bits so_far)
+    one_repaired =
+        ap (λ (h : Held). h.repairs.rows) taken.held
+        ∙ repaired_counts settings so_far.has_eols (length so_far.rows) (length bits - length so_far.rest) so_far.rest (line_of_turn settings so_far) taken.taken rest held.repairs taken.is
 
     pub next_meaning : after.meaning ≡ meaning_after step before.meaning next.rows
     next_meaning = taken.meaning ∙ ap (λ (m : M). step m (changes taken.taken)) between.meaning ∙ sym (meaning_after-more step before.meaning so_far.rows taken.taken)
@@ -246,11 +274,28 @@ module _ {M : Type 0} (settings : DecodeSettings) (wide : 0 < settings.columns) 
         so_far = on;
         comes = comes_next (move_on settings) (one_each (line_of_turn settings)) left_to_read (by_rows_left settings wide) (from_line sought rest0) refl so_far between.comes
             (line_of_turn settings so_far) refl on (goes_on is) (omega (arith, length-append so_far.rows (taken.taken ∷ [])));
-        held = frame ∙ ap (λ (h : Held). record h { has_eols = last.has_eols }) next_held;
+        held = frame ∙ ap (λ (h : Held). record h { has_eols = last.has_eols }) next_held ∙ ap (held_between settings on) (sym (ap (λ (h : Held). h.repairs) frame));
         here = refl;
         meaning = next_meaning;
         refused = next_refused;
       }
+
+      last_repaired : last.repairs.rows ≡ held.repairs.rows + length (repaired_by_turn settings bits so_far)
+      last_repaired = ap (λ (h : Held). h.repairs.rows) frame ∙ one_repaired
+
+      -- what is repaired is counted
+      pub next_repaired : answer ≡ Ok false → RepairsCounted settings bits (from_line sought rest0) so_far held.repairs.rows
+          → RepairsCounted settings bits (from_line sought rest0) on last.repairs.rows
+      next_repaired is counted =
+          repairs_next settings bits (from_line sought rest0) (by_rows_left settings wide) refl so_far held.repairs.rows counted on last.repairs.rows (goes_on is)
+          (omega (arith, length-append so_far.rows (taken.taken ∷ []))) last_repaired
+
+      -- also where the row is the last one
+      pub last_repairs : {A : Type 0} (outcome : Result Bits DecodeError) → gap_said answer last.has_eols left_over ≡ Gap.over outcome → (said : Result A DecodeError)
+          → RepairsCounted settings bits (from_line sought rest0) so_far held.repairs.rows → CountsRepairs (all_repairs settings bits (from_line sought rest0)) last said
+      last_repairs outcome over said counted =
+          repairs_end_behind settings bits (from_line sought rest0) (by_rows_left settings wide) refl so_far held.repairs.rows counted _ (turn ∙ ap (at_gap next) over) last said
+          (omega (arith, last_taken, length-append so_far.rows (taken.taken ∷ []))) last_repaired
 
       -- and where the line's words are counted, those of all rows are
       pub next_counted : answer ≡ Ok false → (begun ticks then : ℕ)

@@ -11,7 +11,7 @@ use Rattle.hayro_ccitt.specs.declared.error.DecodeError.TheVariants.{UnexpectedE
 use Rattle.hayro_ccitt.specs.declared.settings.DecodeSettings.{DecodeSettings}
 use Rattle.hayro_ccitt.specs.Answers.{IsFault, PaintsBlack, meaning_after}
 use Rattle.hayro_ccitt.specs.Bits.{Bits, IsPrefix}
-use Rattle.hayro_ccitt.specs.Context.{Held}
+use Rattle.hayro_ccitt.specs.Context.{Held, Repairs}
 use Rattle.hayro_ccitt.specs.Decoding.{SinkState, TakesRows, StopsShort, TakesOneRow, IsRefusedBy, with_row_taken}
 use Rattle.hayro_ccitt.specs.Lines.{Line}
 use Rattle.hayro_ccitt.specs.PlainReading.{Progress, Ending, Move, row_before, ends_with, with_row, ending_from, gathered_from}
@@ -46,24 +46,25 @@ pub meaning_after-more : {M : Type 0} (step : M → List ℕ → M) (meaning : M
 meaning_after-more step meaning rows row =
     ap (fold step meaning) (map-append changes rows (row ∷ [])) ∙ fold-append step meaning (map changes rows) (changes row ∷ [])
 
--- what a context holds between two lines
-abbrev pub held_between : DecodeSettings → Progress → Held
-held_between settings so_far = record {
+-- what a context holds between two lines, where so much was repaired
+abbrev pub held_between : DecodeSettings → Progress → Repairs → Held
+held_between settings so_far repairs = record {
   reference = row_before settings.columns so_far.rows;
   front = [];
   color = White;
   taken = length so_far.rows;
+  repairs = repairs;
   has_eols = so_far.has_eols;
   settings = settings;
 }
 
 -- with one more row it holds what it then holds between two lines
-pub held_between-more : (settings : DecodeSettings) (so_far : Progress) (row : Row) (rest : Bits)
-    → with_row_taken (held_between settings so_far) row ≡ held_between settings (with_row so_far row rest)
-held_between-more settings so_far row rest =
+pub held_between-more : (settings : DecodeSettings) (so_far : Progress) (row : Row) (rest : Bits) (before now : Repairs)
+    → record (with_row_taken (held_between settings so_far before) row) { repairs = now } ≡ held_between settings (with_row so_far row rest) now
+held_between-more settings so_far row rest before now =
     let more : length so_far.rows + 1 ≡ length (so_far.rows ++ row ∷ []) = omega (arith, length-append so_far.rows (row ∷ [])) in
-    ap (λ (r : Row). record (held_between settings so_far) { reference = r; taken = length so_far.rows + 1 }) (sym (row_before_push settings.columns so_far.rows row))
-    ∙ ap (λ (n : ℕ). record (held_between settings (with_row so_far row rest)) { taken = n }) more
+    ap (λ (r : Row). record (held_between settings so_far now) { reference = r; taken = length so_far.rows + 1 }) (sym (row_before_push settings.columns so_far.rows row))
+    ∙ ap (λ (n : ℕ). record (held_between settings (with_row so_far row rest) now) { taken = n }) more
 
 -- what a run of turns needs of its move: each leaves less to read, and adds rows
 pub record RowByRow (move : Progress → Move) (left : Progress → ℕ) : Type 0 where
@@ -253,7 +254,7 @@ pub record Between {M : Type 0} (move : Progress → Move) (gives : Progress →
     (step : M → List ℕ → M) (before now : SinkState M) (context : Held) (rest : Bits) : Type 0 where
   pub so_far : Progress
   pub comes : Comes move gives left start so_far
-  pub held : context ≡ held_between settings so_far
+  pub held : context ≡ held_between settings so_far context.repairs
   pub here : rest ≡ so_far.rest
   pub meaning : now.meaning ≡ meaning_after step before.meaning so_far.rows
   pub refused : now.refused ≡ before.refused
