@@ -5,6 +5,7 @@ pub mod PlainAnswers
 pub mod Repeated
 pub mod RowWidths
 pub mod RowsAndGaps
+pub mod RepairsCounted
 pub mod RowByRow
 pub mod RowsTaken
 pub mod RunsOverRows

@@ -5,6 +5,7 @@ pub mod CodeReading
 pub mod Context
 pub mod ContextView
 pub mod Contract
+pub mod Damage
 pub mod Decoding
 pub mod Encodings
 pub mod EndOfLine

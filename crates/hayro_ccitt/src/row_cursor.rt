@@ -1,6 +1,6 @@
 //! Rows one at a time, of data that is handed in at each call.
 
-ghost use Rattle.std.specs.Prelude.{◌≡◌, ◌≤◌, ◌+◌, ◌/◌, ◌↔◌, true, None, Some, IfOk, IsOkUnless, Result, length};
+ghost use Rattle.std.specs.Prelude.{◌≡◌, ◌≤◌, ◌+◌, ◌/◌, true, None, Some, IfOk, IsOkUnless, Result, length};
 ghost use Rattle.hayro_ccitt.specs.Bits.{BitsFit, bits_in};
 ghost use Rattle.hayro_ccitt.specs.Rows.{AreChanges, changes};
 ghost use Rattle.hayro_ccitt.specs.RowsRead.{ComesToLine, ReadsNext, at_end_of_rows, ended, is_at_line};
@@ -8,7 +8,9 @@ ghost use Rattle.hayro_ccitt.specs.RowCursors.{IsReadingOf, IsStanding, IsStandi
 
 use crate::bit_reader::{BitOrder, BitReader};
 use crate::context::DecoderContext;
-use crate::row_reader::{NoRows, Stand, first_stand, is_at_line, line_after_gap, stand_after_gap};
+use crate::row_reader::{
+    NoRows, Stand, damage_since, first_stand, is_at_line, line_after_gap, stand_after_gap,
+};
 use crate::rows::{pass_gap, read_row};
 use crate::settings::DecodeSettings;
 use crate::{DecodeError, Result};
@@ -20,6 +22,7 @@ use std::marker::Model;
 pub(crate) struct RowState {
     ctx: DecoderContext,
     started_at: usize,
+    damage: Option<DecodeError>,
     stand: Stand,
 }
 
@@ -42,16 +45,21 @@ impl RowState {
         line_after_gap(over)
     }
 
-    /// Whether at most so many rows were read as these bits have room for. Where it is false, they were read of other data.
+    /// Whether no more rows were read than these bits have room for. Where it is false, they were read of other data.
     fn has_room(&self, reader: &BitReader<'_>) -> bool
-        ensures room { result ≡ true ↔ (self.now.ctx.held.taken ≤ length reader.now.bits + 1) }
+        ensures rows { result ≡ true → self.now.ctx.held.taken ≤ length reader.now.bits + 1 }
+        ensures damaged { result ≡ true → self.now.ctx.held.repairs.rows ≤ self.now.ctx.held.taken }
+        ensures room { self.now.ctx.held.taken ≤ length reader.now.bits + 1
+            → self.now.ctx.held.repairs.rows ≤ self.now.ctx.held.taken → result ≡ true }
     {
-        self.ctx.decoded_rows() <= reader.bit_len() as u64 + 1
+        let rows = self.ctx.decoded_rows();
+        rows <= reader.bit_len() as u64 + 1 && self.ctx.damaged_rows() <= rows
     }
 
     /// Reads the line that stands here.
     fn read_line(&mut self, reader: &mut BitReader<'_>) -> Result<bool>
         requires rows { self.old.ctx.held.taken ≤ length reader.old.bits + 1 }
+        requires damaged { self.old.ctx.held.repairs.rows ≤ self.old.ctx.held.taken }
         ensures reads { IsStandingAtLine self.old reader.old → ReadsNext (seen self.old reader.old) (seen self.new reader.new) result }
         ensures stands { IsStandingAtLine self.old reader.old → IsStanding self.new reader.new }
         ensures settings { self.new.ctx.held.settings ≡ self.old.ctx.held.settings }
@@ -62,9 +70,11 @@ impl RowState {
             columns: self.ctx.settings().columns,
         };
         let line_start = reader.bit_pos();
+        let damaged_rows = self.ctx.damaged_rows();
         match read_row(&mut self.ctx, reader, &mut sink) {
             Ok(()) => {
                 self.started_at = line_start;
+                self.damage = damage_since(&self.ctx, damaged_rows);
                 self.stand = Stand::BehindRow;
                 Ok(true)
             }
@@ -140,6 +150,7 @@ impl RowCursor {
             rows: RowState {
                 ctx,
                 started_at: 0,
+                damage: None,
                 stand,
             },
             order,
@@ -220,6 +231,21 @@ impl RowCursor {
         ensures { result ≡ self.now.line_start }
     {
         self.rows.started_at
+    }
+
+    /// The fault of the last row where its line was damaged and repaired, as a lenient reading of Group 3 with EOLs does (T.4
+    /// section 4.1.2); `None` where the line was whole, and before the first row.
+    pub fn damage(&self) -> Option<DecodeError>
+        ensures { result ≡ self.now.damage }
+    {
+        self.rows.damage
+    }
+
+    /// The number of rows read whose line was damaged and repaired.
+    pub fn damaged_rows(&self) -> u64
+        ensures { result ≡ self.now.held.repairs.rows }
+    {
+        self.rows.ctx.damaged_rows()
     }
 
     /// The number of bytes consumed so far, the last one whole.

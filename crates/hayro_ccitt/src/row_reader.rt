@@ -1,10 +1,11 @@
 //! Rows one at a time.
 
-ghost use Rattle.std.specs.Prelude.{◌≡◌, ◌+◌, ◌/◌, true, None, Some, IfOk, IsOkUnless, Result};
+ghost use Rattle.std.specs.Prelude.{sum_by, take, length, ◌≡◌, ◌+◌, ◌/◌, true, None, Some, IfOk, IsOkUnless, Result};
 ghost use Rattle.hayro_ccitt.specs.Bits.{BitsFit, bits_in};
 ghost use Rattle.hayro_ccitt.specs.Context.{fresh};
 ghost use Rattle.hayro_ccitt.specs.Rows.{changes};
-ghost use Rattle.hayro_ccitt.specs.RowsRead.{Stands, ComesToLine, ReadsNext, stand_after, line_after, is_at_line, at_end_of_rows};
+ghost use Rattle.hayro_ccitt.specs.Damage.{repairs_by_line};
+ghost use Rattle.hayro_ccitt.specs.RowsRead.{damage_since, Stands, ComesToLine, ReadsNext, stand_after, line_after, is_at_line, at_end_of_rows};
 
 use crate::bit_reader::{BitOrder, BitReader};
 use crate::context::DecoderContext;
@@ -75,6 +76,16 @@ pub(crate) fn line_after_gap(over: Result<bool>) -> Result<bool>
     }
 }
 
+/// The fault of the last row, where it is one that was repaired since so many were.
+pub(crate) fn damage_since(ctx: &DecoderContext, damaged_rows: u64) -> Option<DecodeError>
+    ensures { result ≡ damage_since ctx.now.held.repairs damaged_rows }
+{
+    if ctx.damaged_rows() == damaged_rows {
+        return None;
+    }
+    Some(ctx.last_fault())
+}
+
 /// Whether a line stands here.
 pub(crate) fn is_at_line(stand: Stand) -> bool
     ensures { result ≡ is_at_line stand }
@@ -87,6 +98,7 @@ pub(crate) fn first_stand(ctx: &mut DecoderContext, reader: &mut BitReader<'_>) 
     requires fresh { ctx.old.held ≡ fresh ctx.old.held.settings }
     requires start { reader.old.place ≡ 0 }
     ensures none_taken { ctx.new.held.taken ≡ 0 }
+    ensures none_repaired { ctx.new.held.repairs.rows ≡ 0 }
     ensures settings { ctx.new.held.settings ≡ ctx.old.held.settings }
     ensures same_bits { reader.new.bits ≡ reader.old.bits }
     ensures stands { Stands result ctx.old.held.settings reader.old.bits ctx.new.held reader.new.place }
@@ -129,6 +141,7 @@ pub struct RowReader<'a> {
     ctx: DecoderContext,
     reader: BitReader<'a>,
     started_at: usize,
+    damage: Option<DecodeError>,
     stand: Stand,
 }
 
@@ -172,6 +185,7 @@ impl<'a> RowReader<'a> {
             ctx,
             reader,
             started_at: 0,
+            damage: None,
             stand,
         })
     }
@@ -201,9 +215,11 @@ impl<'a> RowReader<'a> {
             columns: self.ctx.settings().columns,
         };
         let line_start = self.reader.bit_pos();
+        let damaged_rows = self.ctx.damaged_rows();
         match read_row(&mut self.ctx, &mut self.reader, &mut sink) {
             Ok(()) => {
                 self.started_at = line_start;
+                self.damage = damage_since(&self.ctx, damaged_rows);
                 self.stand = Stand::BehindRow;
                 Ok(true)
             }
@@ -221,7 +237,7 @@ impl<'a> RowReader<'a> {
     ///
     /// Those of [`decode`](crate::decode), but for `Refused`. After an error each further call returns the same error.
     pub fn next_row(&mut self) -> Result<bool>
-        ensures reads { self.old.end ≡ None → ReadsNext self.old self.new result }
+        ensures reads { ReadsNext self.old self.new result }
         ensures ended { (end : Result (Unit {0}) DecodeError) → self.old.end ≡ Some end
             → (self.new ≡ self.old) × (result ≡ at_end_of_rows end) }
     {
@@ -258,6 +274,21 @@ impl<'a> RowReader<'a> {
         ensures { result ≡ self.now.line_start }
     {
         self.started_at
+    }
+
+    /// The fault of the last row where its line was damaged and repaired, as a lenient reading of Group 3 with EOLs does (T.4
+    /// section 4.1.2); `None` where the line was whole, and before the first row.
+    pub fn damage(&self) -> Option<DecodeError>
+        ensures { result ≡ self.now.damage }
+    {
+        self.damage
+    }
+
+    /// The number of rows read whose line was damaged and repaired.
+    pub fn damaged_rows(&self) -> u64
+        ensures { result ≡ sum_by length (take self.now.taken (repairs_by_line self.now.settings self.now.bits)) }
+    {
+        self.ctx.damaged_rows()
     }
 
     /// The number of bytes consumed so far, the last one whole.

@@ -66,6 +66,41 @@ fn take_row<D: Decoder>(
     Ok(())
 }
 
+/// Hands over the row of a line that was repaired after this fault, as `take_row` does, and counts it as damaged.
+#[inline(never)]
+fn take_damaged_row<D: Decoder>(
+    ctx: &mut DecoderContext,
+    reader: &mut BitReader<'_>,
+    decoder: &mut D,
+    fault: DecodeError,
+) -> Result<()>
+    requires width { ctx.old.held.settings.columns ≤ D.width decoder.old }
+    requires full { ctx.old.held.settings.columns ≤ length ctx.old.held.front }
+    requires rows { ctx.old.held.taken + 1 < 2 ^ 64 }
+    requires damaged { ctx.old.held.repairs.rows ≤ ctx.old.held.taken }
+    ensures width { D.width decoder.new ≡ D.width decoder.old }
+    ensures meaning { OnOk result (D.meaning decoder.new
+        ≡ D.step (D.width decoder.old) (D.meaning decoder.old) (changes ctx.old.held.front)) }
+    ensures taken { OnOk result (ctx.new.held ≡ record (with_row_taken ctx.old.held ctx.old.held.front) {
+      repairs = record { rows = ctx.old.held.repairs.rows + 1; fault = fault };
+    }) }
+    ensures rest { OnOk result (here reader.new
+        ≡ behind_row ctx.old.held.settings ctx.old.held.has_eols (here reader.old)) }
+    ensures flag { OnOk result (D.has_refused decoder.new ≡ D.has_refused decoder.old) }
+    ensures kept { OnErr result (D.meaning decoder.new ≡ D.meaning decoder.old) }
+    ensures held { OnErr result (ctx.new.held ≡ ctx.old.held) }
+    ensures unchanged { OnErr result ((ctx.new ≡ ctx.old) × (reader.new ≡ reader.old)) }
+    ensures refused { OnErr result (D.has_refused decoder.new ≡ true) }
+    ensures refused_row { OnErr result (D.refuses decoder.new (changes ctx.old.held.front)) }
+    ensures only_refused { IsOkUnless result DecodeError.Refused }
+    ensures same_bits { reader.new.bits ≡ reader.old.bits }
+    ensures count { ctx.new.ticks ≡ ctx.old.ticks }
+{
+    take_row(ctx, reader, decoder)?;
+    ctx.count_damaged_row(fault);
+    Ok(())
+}
+
 /// Reads the EOLs of T.6 data that stand here, with `end_of_block` at most the two of EOFB (T.6 section 2.4.1.1), and
 /// returns how many there were.
 #[inline(always)]
@@ -221,6 +256,7 @@ pub(crate) fn read_row<D: Decoder>(
 ) -> Result<()>
     requires width { ctx.old.held.settings.columns ≤ D.width decoder.old }
     requires rows { ctx.old.held.taken ≤ length reader.old.bits + 1 }
+    requires damaged { ctx.old.held.repairs.rows ≤ ctx.old.held.taken }
     requires begun { ctx.old.held.front ≡ [] }
     ensures width { D.width decoder.new ≡ D.width decoder.old }
     ensures row { TakesOneRow (line_here ctx.old.held.settings ctx.old.held.reference (here reader.old))
@@ -245,6 +281,7 @@ pub(crate) fn read_row<D: Decoder>(
     let line_start = reader.copy();
     if let Err(error) = decode_line(ctx, reader) {
         recover(ctx, reader, line_start, error)?;
+        return take_damaged_row(ctx, reader, decoder, error);
     }
     take_row(ctx, reader, decoder)
 }
@@ -260,7 +297,7 @@ pub(crate) fn read_rows<D: Decoder>(
     requires first { ctx.old.held ≡ record (fresh ctx.old.held.settings) { has_eols = ctx.old.held.has_eols } }
     requires width { ctx.old.held.settings.columns ≤ D.width decoder.old }
     ensures width { D.width decoder.new ≡ D.width decoder.old }
-    ensures rows { DecodesFrom (record { rows = []; has_eols = ctx.old.held.has_eols; rest = here reader.old })
+    ensures rows { DecodesFrom reader.old.bits (record { rows = []; has_eols = ctx.old.held.has_eols; rest = here reader.old })
         (most_from_line ctx.old.held.has_eols (length reader.old.bits)) (D.step (D.width decoder.old))
         (record { meaning = D.meaning decoder.old; refused = D.has_refused decoder.old; refuses = D.refuses decoder.old })
         (record { meaning = D.meaning decoder.new; refused = D.has_refused decoder.new; refuses = D.refuses decoder.new })

@@ -63,15 +63,22 @@ pub record IsPacked (columns : ℕ) (row : Row) (before after : List ℕ) : Type
 
 -- nothing is told
 abbrev pub told_nothing : RowOutcome
-told_nothing = record { rows = 0; changes = 0; line_start = 0; bytes_read = 0; damaged_rows = 0; fault = 0; reserved_1 = 0; reserved_2 = 0 }
+told_nothing = record { rows = 0; changes = 0; line_start = 0; bytes_read = 0; damaged_rows = 0; damage = 0; reserved_1 = 0; reserved_2 = 0 }
 
--- What C is told of a reading: how many rows were read, how many changes the last one has, where its line begins, and the
--- bytes up to where the reading stands.
+-- the status of the fault of a row that was repaired, 0 for one that was whole
+abbrev pub damage_told : Option DecodeError → ℕ
+damage_told None = 0
+damage_told (Some error) = status_of_row (Err error)
+
+-- What C is told of a reading: how many rows were read, how many changes the last one has, where its line begins, the bytes
+-- consumed so far, how many rows were repaired, and the fault of the last one.
 pub record TellsOf (paused : Paused) (told : RowOutcome) : Type 0 where
   pub rows : told.rows ≡ paused.held.taken
   pub changes : told.changes ≡ length (changes paused.held.reference)
   pub line_start : told.line_start ≡ paused.line_start
   pub bytes_read : told.bytes_read ≡ (paused.place + 7) / 8
+  pub damaged_rows : told.damaged_rows ≡ paused.held.repairs.rows
+  pub damage : told.damage ≡ damage_told paused.damage
 
 -- A reading of these bits by these settings that stands before the first row.
 pub record IsOpened (settings : DecodeSettings) (bits : Bits) (order : BitOrder) (opened : Reading) : Type 0 where

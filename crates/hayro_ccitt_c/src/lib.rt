@@ -1,7 +1,7 @@
 //! The decoder and the encoder for callers in C, and in other languages that call C. `c/hayro_ccitt.h` and
 //! `c/fax_encode.h` declare what is exported here.
 //!
-//! A call never reads or writes outside the memory that it is given, whatever the data is, and frees all that it has
+//! A call never reads or writes outside the memory that it is passed, whatever the data is, and frees all that it has
 //! allocated before it returns.
 #![tactic(auto)]
 
@@ -12,7 +12,7 @@ ghost use Rattle.hayro_ccitt.specs.Bits.{BitsFit};
 ghost use Rattle.fax_encode.specs.Packed.{shown};
 ghost use Rattle.hayro_ccitt_c.specs.Encoding.{asked, AreEncoded, HaveNoRoom};
 ghost use Rattle.hayro_ccitt_c.specs.Packing.{bytes_of_row};
-ghost use Rattle.hayro_ccitt_c.specs.Reports.{OnSettings, IsReport, changes_taken, ArePacked, AreListed, numbers_taken};
+ghost use Rattle.hayro_ccitt_c.specs.Reports.{OnSettings, IsReport, changes_taken, damaged_taken, outcome_of, ArePacked, AreListed, numbers_taken};
 ghost use Rattle.hayro_ccitt_c.specs.RowsGiven.{GivesRow, IsListed, IsOpened, IsPacked, OnReadings, TellsOf, told_nothing};
 ghost use Rattle.hayro_ccitt_c.specs.Settings.{order_of, settings_of};
 
@@ -45,7 +45,7 @@ use std::alloc::Global;
 
 /// Counts the rows of the data and their changes.
 ///
-/// `outcome` holds the number of rows, of their changes, and of the bytes consumed if the status is 0, else 0. A status of 6
+/// `outcome` has the number of rows, of their changes, and of the bytes consumed if the status is 0, else 0. A status of 6
 /// says that the data is too long or the settings are invalid; no row is refused.
 #[unsafe(no_mangle)]
 pub extern "C" fn hayro_ccitt_measure(
@@ -58,9 +58,11 @@ pub extern "C" fn hayro_ccitt_measure(
         IsReport s bits result outcome.new.rows outcome.new.bytes_read) }
     ensures changes { OnSettings settings.now «data».now (λ s bits.
         outcome.new.changes ≡ changes_taken s bits outcome.new.rows) }
+    ensures damaged { OnSettings settings.now «data».now (λ s bits.
+        outcome.new.damaged_rows ≡ damaged_taken s bits outcome.new.rows) }
     ensures never_refused { result ≢ 5 }
     ensures untaken { (settings_of settings.now ≡ None) ⊎ (¬ (BitsFit «data».now))
-        → (result ≡ 6) × (outcome.new ≡ record { rows = 0; changes = 0; bytes_read = 0 }) }
+        → (result ≡ 6) × (outcome.new ≡ outcome_of 0 0 0 0) }
 {
     let Some(meant) = settings_for(data, settings) else {
         return untaken(outcome);
@@ -70,10 +72,11 @@ pub extern "C" fn hayro_ccitt_measure(
     told(&report, count.changes(), outcome)
 }
 
-/// Packs the rows of the data into `bitmap`, one below the other: a row takes (columns + 7) / 8 bytes, the leftmost pixel in
-/// a byte's highest bit, 1 for black, and zeros after the row up to a whole byte. The bytes after the last row keep their values.
+/// Packs the rows of the data into `bitmap`, one below the other: a row occupies (columns + 7) / 8 bytes, the leftmost pixel in
+/// a byte's highest bit, 1 for black, and zeros after the row up to a whole byte. The bytes after the last row keep their
+/// values.
 ///
-/// `outcome` holds the number of rows, of their changes, and of the bytes consumed if the status is 0, else 0. A status of 5 says
+/// `outcome` has the number of rows, of their changes, and of the bytes consumed if the status is 0, else 0. A status of 5 says
 /// that there is no room for the next row; 6, that the data is too long or the settings are invalid.
 #[unsafe(no_mangle)]
 pub extern "C" fn hayro_ccitt_decode_packed(
@@ -87,12 +90,14 @@ pub extern "C" fn hayro_ccitt_decode_packed(
         IsReport s bits result outcome.new.rows outcome.new.bytes_read) }
     ensures changes { OnSettings settings.now «data».now (λ s bits.
         outcome.new.changes ≡ changes_taken s bits outcome.new.rows) }
+    ensures damaged { OnSettings settings.now «data».now (λ s bits.
+        outcome.new.damaged_rows ≡ damaged_taken s bits outcome.new.rows) }
     ensures packed { OnSettings settings.now «data».now (λ s bits.
         ArePacked s bits outcome.new.rows bitmap.old bitmap.new) }
     ensures refused { result ≡ 5 → OnSettings settings.now «data».now (λ s bits.
         length bitmap.new < (outcome.new.rows + 1) * bytes_of_row s.columns) }
     ensures untaken { (settings_of settings.now ≡ None) ⊎ (¬ (BitsFit «data».now))
-        → (result ≡ 6) × (outcome.new ≡ record { rows = 0; changes = 0; bytes_read = 0 })
+        → (result ≡ 6) × (outcome.new ≡ outcome_of 0 0 0 0)
         × (bitmap.new ≡ bitmap.old) }
 {
     let Some(meant) = settings_for(data, settings) else {
@@ -104,9 +109,9 @@ pub extern "C" fn hayro_ccitt_decode_packed(
 }
 
 /// Lists the changes of the rows of the data in `lists`, row after row: of each row the number of its changes, and then the
-/// offsets at which its colour changes, white first, ascending. The numbers after the last row keep their values.
+/// positions at which its colour changes, white first, ascending. The numbers after the last row keep their values.
 ///
-/// `outcome` holds the number of rows, of their changes, and of the bytes consumed if the status is 0, else 0. A status of 5 says
+/// `outcome` has the number of rows, of their changes, and of the bytes consumed if the status is 0, else 0. A status of 5 says
 /// that there is no room for the next row; 6, that the data is too long or the settings are invalid.
 #[unsafe(no_mangle)]
 pub extern "C" fn hayro_ccitt_decode_changes(
@@ -120,13 +125,15 @@ pub extern "C" fn hayro_ccitt_decode_changes(
         IsReport s bits result outcome.new.rows outcome.new.bytes_read) }
     ensures changes { OnSettings settings.now «data».now (λ s bits.
         outcome.new.changes ≡ changes_taken s bits outcome.new.rows) }
+    ensures damaged { OnSettings settings.now «data».now (λ s bits.
+        outcome.new.damaged_rows ≡ damaged_taken s bits outcome.new.rows) }
     ensures listed { OnSettings settings.now «data».now (λ s bits.
         AreListed s bits outcome.new.rows lists.old lists.new) }
     ensures refused { result ≡ 5 → OnSettings settings.now «data».now (λ s bits.
         length lists.new < numbers_taken s bits outcome.new.rows + 1
         + length (changes (get_or (plain s bits).rows outcome.new.rows []))) }
     ensures untaken { (settings_of settings.now ≡ None) ⊎ (¬ (BitsFit «data».now))
-        → (result ≡ 6) × (outcome.new ≡ record { rows = 0; changes = 0; bytes_read = 0 })
+        → (result ≡ 6) × (outcome.new ≡ outcome_of 0 0 0 0)
         × (lists.new ≡ lists.old) }
 {
     let Some(meant) = settings_for(data, settings) else {
@@ -260,12 +267,12 @@ pub extern "C" fn hayro_ccitt_close(alloc: Global, reader: &mut Reader) -> u32
     0
 }
 
-/// Encodes a bitmap into `data`: a row takes (columns + 7) / 8 bytes, the leftmost pixel in a byte's highest bit, 1 for
-/// black, and bits after the last pixel are ignored. The bytes after the encoded ones keep their values.
+/// Encodes a bitmap into `data`: a row occupies (columns + 7) / 8 bytes, the leftmost pixel in a byte's highest bit, 1
+/// for black, and bits after the last pixel are ignored. The bytes after the encoded ones keep their values.
 ///
-/// `outcome` holds the number of rows and of the encoded bytes if the status is 0 or 5, else 0. A status of 4 says that an
-/// allocation failed; 5, that `data` has no room for that many bytes; 6, that the settings are invalid, or that the bitmap isn't
-/// whole rows, or has none and Group 3 is asked for. With all but 0 `data` keeps its values.
+/// `outcome` has the number of rows and of the encoded bytes if the status is 0 or 5, else 0. A status of 4 says that an
+/// allocation failed; 5, that `data` has no room for that many bytes; 6, that the settings are invalid, or that the bitmap
+/// isn't whole rows, or has none and Group 3 is asked for. With all but 0 `data` keeps its values.
 #[unsafe(no_mangle)]
 pub extern "C" fn fax_encode_bitmap(
     alloc: Global,

@@ -29,7 +29,7 @@ fn is_row(answer: Result<bool>) -> bool
 }
 
 /// The status of an answer.
-fn status_of_row(answer: Result<bool>) -> u32
+pub(crate) fn status_of_row(answer: Result<bool>) -> u32
     ensures status { result ≡ status_of_row answer }
     ensures not_refused { result ≢ 5 }
     ensures no_row { is_row answer ≡ false → result ≢ 0 }

@@ -2,9 +2,10 @@
 
 ghost use Rattle.std.specs.Prelude.{◌≡◌, ◌+◌, ◌/◌, length};
 ghost use Rattle.hayro_ccitt.specs.Rows.{changes};
-ghost use Rattle.hayro_ccitt_c.specs.RowsGiven.{TellsOf, told_nothing};
+ghost use Rattle.hayro_ccitt_c.specs.RowsGiven.{TellsOf, damage_told, told_nothing};
 
-use crate::reading::Reading;
+use crate::reading::{Reading, status_of_row};
+use hayro_ccitt::DecodeError;
 
 /// What a call fills in for C that gives a row.
 #[repr(C)]
@@ -18,10 +19,10 @@ pub struct RowOutcome {
     pub line_start: u64,
     /// The number of bytes consumed so far, the last one whole.
     pub bytes_read: u64,
-    /// Zero.
+    /// The number of rows read so far that were damaged and repaired.
     pub damaged_rows: u64,
-    /// Zero.
-    pub fault: u64,
+    /// The status of the fault of the last row where it was damaged and repaired, else 0.
+    pub damage: u64,
     /// Zero.
     pub reserved_1: u64,
     /// Zero.
@@ -38,9 +39,19 @@ pub(crate) fn nothing_told() -> RowOutcome
         line_start: 0,
         bytes_read: 0,
         damaged_rows: 0,
-        fault: 0,
+        damage: 0,
         reserved_1: 0,
         reserved_2: 0,
+    }
+}
+
+/// The status of the fault of a row that was repaired, 0 for one that was whole.
+fn damage_told(damage: Option<DecodeError>) -> u64
+    ensures { result ≡ damage_told damage }
+{
+    match damage {
+        None => 0,
+        Some(error) => u64::from(status_of_row(Err(error))),
     }
 }
 
@@ -53,8 +64,8 @@ pub(crate) fn told_of(reading: &Reading) -> RowOutcome
         changes: reading.rows.row().len() as u64,
         line_start: reading.rows.line_start() as u64,
         bytes_read: reading.rows.bytes_read() as u64,
-        damaged_rows: 0,
-        fault: 0,
+        damaged_rows: reading.rows.damaged_rows(),
+        damage: damage_told(reading.rows.damage()),
         reserved_1: 0,
         reserved_2: 0,
     }

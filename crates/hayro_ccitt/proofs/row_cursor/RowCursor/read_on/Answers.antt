@@ -1,4 +1,4 @@
-use Rattle.std.proofs.Common.{◌≡◌, ◌∙◌, sym, ap, subst, arith, length}
+use Rattle.std.proofs.Common.{ap, arith}
 use Rattle.hayro_ccitt.specs.RowCursors.{Paused}
 use Rattle.hayro_ccitt.proofs.BitReading.BitLists.{length-bits_in}
 use Rattle.hayro_ccitt.proofs.row_cursor.RowCursor.read_on.Goals as goal

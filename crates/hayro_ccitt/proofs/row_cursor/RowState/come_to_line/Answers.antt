@@ -8,7 +8,7 @@ use Rattle.hayro_ccitt.specs.Decoding.{gap_said}
 use Rattle.hayro_ccitt.specs.PlainReading.{gap_behind_row}
 use Rattle.hayro_ccitt.specs.RowsRead.{ComesToLine, Stands, read_so_far, stand_after}
 use Rattle.hayro_ccitt.specs.RowCursors.{IsStanding, seen}
-use Rattle.hayro_ccitt.proofs.Readings.RowByRow.{behind_row_stands, gap_stands, comes_to_line}
+use Rattle.hayro_ccitt.proofs.Readings.RowByRow.{behind_row_stands, repairs_stay, gap_stands, comes_to_line}
 use Rattle.hayro_ccitt.proofs.row_cursor.RowState.come_to_line.Goals as goal
 use Rattle.hayro_ccitt.proofs.row_cursor.RowState.come_to_line.Goals.{After-line_after_gap}
 
@@ -22,7 +22,7 @@ passed c stands =
     let last = c.pass_gap-over.new.ctx.held in
     let at = c.pass_gap-over.new.reader in
     let behind = behind_row_stands rows.stand held.settings bits held c.args.reader.now.place c.requires
-    (sym c.is_at_line.ensures ∙ c.if-is_at_line.false) stands in
+    (sym c.is_at_line.ensures ∙ c.if-is_at_line.false) stands.0 in
     let said = subst (λ (b : Bits). gap_behind_row held.settings held.taken held.has_eols (here c.args.reader.now)
     ≡ gap_said c.pass_gap-over.result last.has_eols (drop at.place b)) c.pass_gap-over.ensures.same_bits c.pass_gap-over.ensures.gap in
     gap_stands held.settings bits held (here c.args.reader.now) behind last at.place
@@ -35,9 +35,14 @@ returns-clause-stands c stands =
     let last = c.pass_gap-over.new.ctx.held in
     let at = c.pass_gap-over.new.reader in
     let same : last.settings ≡ settings = ap (λ (h : Held). h.settings) c.pass_gap-over.ensures.held in
-    subst (λ (s : Stand). Stands s last.settings at.bits last at.place) (sym c.stand_after_gap-self.ensures)
-    (subst (λ (s : DecodeSettings). Stands (stand_after c.pass_gap-over.result) s at.bits last at.place) (sym same)
-    (subst (λ (b : Bits). Stands (stand_after c.pass_gap-over.result) settings b last at.place) (sym c.pass_gap-over.ensures.same_bits) (passed c stands)))
+    let held = c.args.self.now.ctx.held in
+    let counted = repairs_stay settings last.settings c.args.reader.now.bits at.bits held last same c.pass_gap-over.ensures.same_bits
+    (ap (λ (h : Held). h.taken) c.pass_gap-over.ensures.held) (ap (λ (h : Held). h.repairs) c.pass_gap-over.ensures.held) stands.1 in (
+      subst (λ (s : Stand). Stands s last.settings at.bits last at.place) (sym c.stand_after_gap-self.ensures)
+          (subst (λ (s : DecodeSettings). Stands (stand_after c.pass_gap-over.result) s at.bits last at.place) (sym same)
+          (subst (λ (b : Bits). Stands (stand_after c.pass_gap-over.result) settings b last at.place) (sym c.pass_gap-over.ensures.same_bits) (passed c stands))),
+      counted,
+    )
 
 pub returns-clause-comes : goal.returns-clause-comes
 returns-clause-comes c stands =
@@ -47,6 +52,6 @@ returns-clause-comes c stands =
     let at = c.pass_gap-over.new.reader in
     let settings : last.settings ≡ rows.ctx.held.settings = ap (λ (h : Held). h.settings) c.pass_gap-over.ensures.held in
     let taken : last.taken ≡ rows.ctx.held.taken = ap (λ (h : Held). h.taken) c.pass_gap-over.ensures.held in
-    subst (λ (s : Stand). ComesToLine old (read_so_far last at rows.started_at s) c.line_after_gap.result) (sym c.stand_after_gap-self.ensures)
-    (subst (λ (r : Result Bool DecodeError). ComesToLine old (read_so_far last at rows.started_at (stand_after c.pass_gap-over.result)) r) (sym c.line_after_gap.ensures)
-    (comes_to_line old last at rows.started_at c.pass_gap-over.result settings c.pass_gap-over.ensures.same_bits taken (passed c stands)))
+    subst (λ (s : Stand). ComesToLine old (read_so_far last at rows.started_at rows.damage s) c.line_after_gap.result) (sym c.stand_after_gap-self.ensures)
+    (subst (λ (r : Result Bool DecodeError). ComesToLine old (read_so_far last at rows.started_at rows.damage (stand_after c.pass_gap-over.result)) r) (sym c.line_after_gap.ensures)
+    (comes_to_line old last at rows.started_at rows.damage c.pass_gap-over.result settings c.pass_gap-over.ensures.same_bits taken (passed c stands)))

@@ -7,11 +7,11 @@ use Rattle.hayro_ccitt.specs.Context.{Held}
 use Rattle.hayro_ccitt.specs.Decoding.{gap_said}
 use Rattle.hayro_ccitt.specs.PlainReading.{gap_behind_row}
 use Rattle.hayro_ccitt.specs.RowsRead.{RowsRead, Stands, ComesToLine, rows_read_of, stand_after, read_so_far}
-use Rattle.hayro_ccitt.proofs.Readings.RowByRow.{reader_behind_row, gap_stands, comes_to_line}
+use Rattle.hayro_ccitt.proofs.Readings.RowByRow.{repairs_stay, reader_behind_row, gap_stands, comes_to_line}
 use Rattle.hayro_ccitt.proofs.row_reader.RowReader.come_to_line.Goals as goal
 use Rattle.hayro_ccitt.proofs.row_reader.RowReader.come_to_line.Goals.{After-line_after_gap}
 
--- where the reading is behind the gap
+-- where the reading is after the gap
 passed : (c : After-line_after_gap) → Stands (stand_after c.pass_gap-over.result) c.self.inside.ctx.held.settings c.self.inside.reader.bits c.pass_gap-over.new.ctx.held c.pass_gap-over.new.reader.place
 passed c =
     let i = c.self.inside in
@@ -29,9 +29,13 @@ invariant_of-self c =
     let last = c.pass_gap-over.new.ctx.held in
     let at = c.pass_gap-over.new.reader in
     let settings : last.settings ≡ i.ctx.held.settings = ap (λ (h : Held). h.settings) c.pass_gap-over.ensures.held in
-    subst (λ (s : Stand). Stands s last.settings at.bits last at.place) (sym c.stand_after_gap-self-inside.ensures)
-    (subst (λ (s : DecodeSettings). Stands (stand_after c.pass_gap-over.result) s at.bits last at.place) (sym settings)
-    (subst (λ (b : Bits). Stands (stand_after c.pass_gap-over.result) i.ctx.held.settings b last at.place) (sym c.pass_gap-over.ensures.same_bits) (passed c)))
+    let counted = repairs_stay i.ctx.held.settings last.settings i.reader.bits at.bits i.ctx.held last settings c.pass_gap-over.ensures.same_bits
+    (ap (λ (h : Held). h.taken) c.pass_gap-over.ensures.held) (ap (λ (h : Held). h.repairs) c.pass_gap-over.ensures.held) c.self.invariant.1 in (
+      subst (λ (s : Stand). Stands s last.settings at.bits last at.place) (sym c.stand_after_gap-self-inside.ensures)
+          (subst (λ (s : DecodeSettings). Stands (stand_after c.pass_gap-over.result) s at.bits last at.place) (sym settings)
+          (subst (λ (b : Bits). Stands (stand_after c.pass_gap-over.result) i.ctx.held.settings b last at.place) (sym c.pass_gap-over.ensures.same_bits) (passed c))),
+      counted,
+    )
 
 pub returns : goal.returns
 returns c =
@@ -40,7 +44,7 @@ returns c =
     let at = c.pass_gap-over.new.reader in
     let settings : last.settings ≡ i.ctx.held.settings = ap (λ (h : Held). h.settings) c.pass_gap-over.ensures.held in
     let taken : last.taken ≡ i.ctx.held.taken = ap (λ (h : Held). h.taken) c.pass_gap-over.ensures.held in
-    subst (λ (old : RowsRead). ComesToLine old (read_so_far last at i.started_at c.stand_after_gap-self-inside.result) c.line_after_gap.result) c.self.view_is
-    (subst (λ (s : Stand). ComesToLine (rows_read_of i) (read_so_far last at i.started_at s) c.line_after_gap.result) (sym c.stand_after_gap-self-inside.ensures)
-    (subst (λ (r : Result Bool DecodeError). ComesToLine (rows_read_of i) (read_so_far last at i.started_at (stand_after c.pass_gap-over.result)) r) (sym c.line_after_gap.ensures)
-    (comes_to_line (rows_read_of i) last at i.started_at c.pass_gap-over.result settings c.pass_gap-over.ensures.same_bits taken (passed c))))
+    subst (λ (old : RowsRead). ComesToLine old (read_so_far last at i.started_at i.damage c.stand_after_gap-self-inside.result) c.line_after_gap.result) c.self.view_is
+    (subst (λ (s : Stand). ComesToLine (rows_read_of i) (read_so_far last at i.started_at i.damage s) c.line_after_gap.result) (sym c.stand_after_gap-self-inside.ensures)
+    (subst (λ (r : Result Bool DecodeError). ComesToLine (rows_read_of i) (read_so_far last at i.started_at i.damage (stand_after c.pass_gap-over.result)) r) (sym c.line_after_gap.ensures)
+    (comes_to_line (rows_read_of i) last at i.started_at i.damage c.pass_gap-over.result settings c.pass_gap-over.ensures.same_bits taken (passed c))))
