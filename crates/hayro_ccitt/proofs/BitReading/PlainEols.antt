@@ -13,6 +13,7 @@ use Rattle.hayro_ccitt.proofs.BitReading.SoughtEols.{one_near}
 use Rattle.hayro_ccitt.proofs.BitReading.ZeroRuns.{after_eol_run, eols_one, eols_enough}
 use Rattle.hayro_ccitt.proofs.BitReading.ZerosPassed.{Holds, run_ahead}
 use Rattle.hayro_ccitt.proofs.Readings.TurnsMoveOn.{after_eol_shorter, eols_with_tags-some, eols_with_tags-none}
+use Rattle.std.proofs.lemmas.Grind.{common_steps}
 
 -- ---- The word.
 -- eleven zeros and a one
@@ -48,8 +49,7 @@ module _ (at : BitsAt) (w : ℕ) (small : w < 2 ^ 32) (held : Holds w at) where
     twelve_more = omega (arith, ap length plain_eol)
 
     pub plain_eol_within : next.place ≡ at.place + 12
-    plain_eol_within =
-        omega (arith, ap (λ (x : BitsAt). x.place) e, twelve_more, length-drop at.place at.bits)
+    plain_eol_within = grind (arith, common_steps, length-drop, twelve_more)
 
   -- a one among the ten bits behind a tag
   module _ (some : (w / 512) % 1024 ≡ 0 → ⊥) where
@@ -98,13 +98,7 @@ eleven_are_eol here rest e = ap (after_eol 0) e ∙ after_eol_run 11 rest
 
 -- the first, and the others
 pub eol_and_others : (here rest : Bits) → after_eol 0 here ≡ Some rest → all_eols here ≡ (1 + (all_eols rest).0, (all_eols rest).1)
-eol_and_others here rest e =
-    let shorter = after_eol_shorter 0 here rest e in
-    let others : eols (length here - 1) rest ≡ all_eols rest = eols_enough (length here - 1) rest (omega (arith, shorter)) in
-    eols_one (length here) here rest e (omega (arith, shorter)) ∙ ap (λ (found : ℕ × Bits). (suc found.0, found.1)) others ∙ by (all_eols rest)
-  where
-    by : (found : ℕ × Bits) → ◌≡◌ {A = ℕ × Bits} (suc found.0, found.1) (1 + found.0, found.1)
-    by found = let e : suc found.0 ≡ 1 + found.0 = omega arith in ap (λ (n : ℕ). (n, found.1)) e
+eol_and_others here rest e = grind (arith, common_steps, after_eol_shorter, eols_enough, eols_one)
 
 -- a tag that no EOL follows stays
 tag_stays : (here : Bits) → after_eol 0 (drop 1 here) ≡ None → past_tag here ≡ here
@@ -121,5 +115,4 @@ few_keep_the_tag (true ∷ here) = refl
 pub single_tagged_eol : (here rest : Bits) → after_eol 0 here ≡ Some rest → after_eol 0 rest ≡ None → after_eol 0 (drop 1 rest) ≡ None → tagged_eols here ≡ (1, rest)
 single_tagged_eol [] rest e none later = absurd cc
 single_tagged_eol (b ∷ here) rest e none later =
-    ap pass_last_tag (eols_with_tags-some (length here) (b ∷ here) rest e ∙ ap (λ (x : Bits). one_more (eols_with_tags (length here) x)) (tag_stays rest later)
-    ∙ ap one_more (eols_with_tags-none (length here) rest none)) ∙ few_keep_the_tag rest
+    grind (arith, common_steps, eols_with_tags-none, eols_with_tags-some, few_keep_the_tag, tag_stays)

@@ -47,22 +47,7 @@ pub tagged_looks : (here after rest : Bits) (ticks ticks1 ticks2 most : ℕ) →
     → ticks1 + length after ≡ ticks + length here → ticks2 ≡ ticks1 + looked_at_tag after
     → (ticks + length here ≤ ticks2 + length rest) × (length rest < length here)
     × (ticks + 2 * length here ≤ most + looked_before here → ticks2 + 2 * length rest ≤ most + looked_before rest)
-tagged_looks here after rest ticks ticks1 ticks2 most eol is first second =
-    let eol_looks = looked_eol 0 here after eol in
-    let looks = tag_looks after in
-    let left : length rest ≡ length (past_tag after) = ap length is in
-    let behind : looked_before rest ≡ looked_before (past_tag after) = ap looked_before is in
-    let before : looked_before here ≡ looked here = rw (eol, looked_before) refl in
-    let some : 0 < looked here = looked_some here after eol in (
-      omega (arith, first, second, looks.0, left),
-      omega (arith, eol_looks, looks.1, some, left),
-      λ le. omega (arith, first, second, eol_looks, looks.2, before, behind, left, le),
-    )
-  where
-    looked_some : (here after : Bits) → after_eol 0 here ≡ Some after → 0 < looked here
-    looked_some [] after e = absurd cc
-    looked_some (false ∷ here) after e = omega arith
-    looked_some (true ∷ here) after e = omega arith
+tagged_looks here after rest ticks ticks1 ticks2 most eol is first second = grind (arith, common_steps, looked_eol, tag_looks)
 
 -- a one before an EOL is passed as a tag, and no other
 pub past_tag-eol : (here : Bits) → is_some (after_eol 0 here) ≡ true → past_tag (true ∷ here) ≡ here

@@ -90,13 +90,7 @@ eols_enough most here le = alike most (length here) here le (omega arith)
 -- where more EOLs than bits are looked for, the bits after the last are looked at
 pub eols_look_on : (most : ℕ) (here rest : Bits) (count : ℕ) → length here < most → eols most here ≡ (count, rest)
     → cond (eqb count most) 0 (looked rest) ≡ looked rest
-eols_look_on most here rest count lt e = by (eqb count most) refl
-  where
-    by : (b : Bool) → eqb count most ≡ b → cond b 0 (looked rest) ≡ looked rest
-    by false h = refl
-    by true h =
-        let counts : count + length rest ≤ length here = subst (λ (found : ℕ × Bits). found.0 + length found.1 ≤ length here) e (eols_fewer most here) in
-        absurd (omega (arith, counts, lt, eqb-true count most h))
+eols_look_on most here rest count lt e = grind (arith, common_steps, eols_fewer, eqb-true)
 
 -- ---- A bit read.
 -- a bit that stands at the place is the first here

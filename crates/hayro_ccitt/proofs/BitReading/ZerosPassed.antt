@@ -108,10 +108,7 @@ pub run_passed : (old copy new : BitsAt) (to from : ℕ) → copy ≡ old → he
 run_passed old copy new to from same passed e h = grind (arith, common_steps)
 
 pub one_passed : (at next : BitsAt) → slice_get at.bits at.place ≡ Some true → next ≡ record at { place = min (at.place + 1) (length at.bits) } → here at ≡ true ∷ here next
-one_passed at next one e =
-    let within = slice_get_within at.bits at.place true one in
-    let place : at.place + 1 ≡ min (at.place + 1) (length at.bits) = omega (arith, within) in
-    drop_some at.bits at.place true one ∙ ap (λ (i : ℕ). true ∷ drop i at.bits) place ∙ ap (λ (x : BitsAt). true ∷ here x) (sym e)
+one_passed at next one e = grind (arith, common_steps, drop_some, min, slice_get_within)
 
 -- ---- A one that is near.
 -- the zeros of the word, and the one behind them
@@ -160,18 +157,10 @@ module _ (at : BitsAt) (w : ℕ) (small : w < 2 ^ 32) (held : Holds w at) (some 
       get_or-drop at.place at.bits (10 - zeros_behind) false ∙ sym (held (10 - zeros_behind) (omega arith)) ∙ ap (bit_of w) (sym e) ∙ bit
 
   one_within : at.place + (11 - zeros_behind) ≤ length at.bits
-  one_within = elim (cases_lt (10 - zeros_behind) (length (here at))) [
-    | inl lt ↦ omega (arith, lt, within_eleven, length-drop at.place at.bits)
-    | inr past ↦ absurd (false≢true (sym (get_or_past (here at) (10 - zeros_behind) false past) ∙ one_there))
-  ]
+  one_within = grind (arith, common_steps, cases_lt, false≢true, get_or_past, length-drop, one_there, within_eleven)
 
   -- what is behind it
   pub behind_last_one : (next : BitsAt) → next ≡ record at { place = min (at.place + (11 - zeros_behind)) (length at.bits) }
       → (next_eol (here at) ≡ next_eol (here next)) × (length (here next) + (11 - zeros_behind) ≡ length (here at))
   behind_last_one next e =
-      let place : min (at.place + (11 - zeros_behind)) (length at.bits) ≡ at.place + (10 - zeros_behind + 1) = omega (arith, one_within, within_eleven) in
-      let rest : here next ≡ drop (10 - zeros_behind + 1) (here at)
-      = ap here e ∙ ap (λ (n : ℕ). drop n at.bits) place ∙ sym (drop-drop (10 - zeros_behind + 1) at.place at.bits) in (
-        next_eol-behind_near (10 - zeros_behind) (here at) (omega arith) one_there ∙ sym (ap next_eol rest),
-        omega (arith, ap length rest, length-drop (10 - zeros_behind + 1) (here at), length-drop at.place at.bits, one_within, within_eleven),
-      )
+      grind (arith, common_steps, drop-drop, length-drop, min, next_eol-behind_near, one_there, one_within, within_eleven)

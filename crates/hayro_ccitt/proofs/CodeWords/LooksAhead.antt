@@ -111,11 +111,7 @@ module _ {V : Type 0} (n : ℕ) (list : List (Code V)) (tells : TellsWords n lis
 
   -- no word stands here if none stands in the padded bits
   none_here : word_at list (padded n here) ≡ None → NoneStands list here
-  none_here e v rest (w, has, at) =
-      let short = width_of v w has in
-      let there : word_at list (padded n here) ≡ Some (v, padded (n - length w) rest)
-      = rw (at, padded-append n w rest short) (word_at_again list v w (padded (n - length w) rest) tells.free has) in
-      absurd cc
+  none_here e v rest (w, has, at) = grind (arith, common_steps, padded-append, width_of, word_at_again)
 
   -- the number of bits of the word that stands in the padded bits
   pub telling_is : (found : V × Bits) (w : Bits) → word_at list (padded n here) ≡ Some found → padded n here ≡ w ++ found.1 → telling_bits list (padded n here) ≡ length w
@@ -146,10 +142,7 @@ module _ {V : Type 0} (n : ℕ) (list : List (Code V)) (tells : TellsWords n lis
 
   -- of a prefix that is shorter than its word no word is a prefix
   none_of : (v : V) (w more : Bits) → Has list v w → w ≡ here ++ more → length here < length w → NoneStands list here
-  none_of v w more has begins h x rest (u, have, stands) =
-      let longer : w ≡ u ++ (rest ++ more) = begins ∙ ap (λ (y : Bits). y ++ more) stands ∙ append_assoc u rest more in
-      let over = free_by list tells.free x v u w (rest ++ more) have has longer in
-      absurd (omega (arith, h, ap length over.0, length-append rest more, ap length begins, length-append here more))
+  none_of v w more has begins h x rest (u, have, stands) = grind (arith, common_steps, append_assoc, free_by, length-append)
 
   by_found : (found : V × Bits) → word_at list (padded n here) ≡ Some found → length here < telling_bits list (padded n here) → read_code list here ≡ Err UnexpectedEof
   by_found found e h =
@@ -166,8 +159,4 @@ module _ {V : Type 0} (n : ℕ) (list : List (Code V)) (tells : TellsWords n lis
 
   -- where fewer bits are left than tell what stands here, the end is missing
   pub tells_cut : length here < telling_bits list (padded n here) → read_code list here ≡ Err UnexpectedEof
-  tells_cut h = by (word_at list (padded n here)) refl
-    where
-      by : (o : Option (V × Bits)) → word_at list (padded n here) ≡ o → read_code list here ≡ Err UnexpectedEof
-      by (Some found) e = by_found found e h
-      by None e = by_none e h
+  tells_cut h = grind (arith, common_steps, by_found, by_none)

@@ -39,10 +39,7 @@ word_length (c ∷ list) v w e (inr i) = word_length list v w (and_parts (not (i
 
 -- what is left after a word is shorter
 pub read_code_shorter : {V : Type 0} (list : List (Code V)) (here : Bits) (v : V) (rest : Bits) → has_no_empty_word list ≡ true → read_code list here ≡ Ok (v, rest) → length rest < length here
-read_code_shorter list here v rest e h =
-    let a = read_code_found list here v rest h in
-    let l : length here ≡ length a.0 + length rest = ap length a.2 ∙ length-append a.0 rest in
-    omega (arith, word_length list v a.0 e a.1)
+read_code_shorter list here v rest e h = grind (arith, common_steps, length-append, read_code_found, word_length)
 
 -- the size of a state of a run
 abbrev pub size : ℕ × Bits → ℕ

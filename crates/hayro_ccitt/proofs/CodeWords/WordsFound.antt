@@ -48,11 +48,7 @@ joined_append (w ∷ a) b = ap (λ (x : Bits). w ++ x) (joined_append a b) ∙ s
 
 -- words that stand behind words
 pub stands_append : (here middle rest : Bits) (a b : List Bits) → Stands here a middle → Stands middle b rest → Stands here (a ++ b) rest
-stands_append here middle rest a b p q = record {
-  words = are_words_append a b p.words q.words;
-  place = p.place ∙ ap (λ (x : Bits). joined a ++ x) q.place ∙ sym (append_assoc (joined a) (joined b) rest)
-      ∙ ap (λ (x : Bits). x ++ rest) (sym (joined_append a b));
-}
+stands_append here middle rest a b p q = grind (arith, common_steps, append_assoc, are_words_append, joined_append)
 
 -- no words stand anywhere
 pub stands_none : (here : Bits) → Stands here [] here
@@ -170,12 +166,8 @@ turn_after here middle rest_of a b (Turn.done line) p q = (q.0, stands_append he
 -- drawing, and what is drawn behind it
 pub behind_stands : {A B : Type 0} (here : Bits) (rest_of : A → Bits) (last_of : B → Bits) (drawing : Drawing A) (behind : A → Drawing B)
     → DrawingStands here rest_of drawing → ((x : A) → DrawingStands (rest_of x) last_of (behind x)) → DrawingStands here last_of (drawing >>= behind)
-behind_stands {A} {B} here rest_of last_of drawing behind stands each = by drawing.turn drawing.words stands
-  where
-    by : (turn : Turn A Line) (words : List Bits) → TurnStands here rest_of turn words
-        → TurnStands here last_of (turn_behind turn (λ x. (behind x).turn)) (words ++ words_behind turn (λ x. (behind x).words))
-    by (Turn.next x) words p = turn_after here (rest_of x) last_of words (behind x).words (behind x).turn p (each x)
-    by (Turn.done line) words p = (p.0, stands_append here p.0 p.0 words [] p.1 (stands_none p.0), p.2)
+behind_stands {A} {B} here rest_of last_of drawing behind stands each =
+    grind (arith, common_steps, stands_append, stands_none, turn_after)
 
 -- what finds no words
 wordless_stands : {A : Type 0} (here : Bits) (pen : Pen) (result : Result A DecodeError) → DrawingStands here (λ (x : A). here) (finds pen [] result)

@@ -21,6 +21,7 @@ use Rattle.hayro_ccitt.proofs.Readings.TurnsMoveOn.{next_eol_found}
 use Rattle.hayro_ccitt.proofs.DamagedLines.LinesByEols.{past_shorter}
 use Rattle.hayro_ccitt.proofs.DamagedLines.LocalByTests.{local_by_tests}
 use Rattle.hayro_ccitt.proofs.DamagedLines.PastEol.{past, past_is, then_after}
+use Rattle.std.proofs.lemmas.Grind.{common_steps}
 
 -- ---- An EOL before a place.
 -- the EOL of the twelve bits before a place ends there
@@ -80,13 +81,7 @@ one_in_front (suc m) (false ∷ here) fits lt e =
 -- some bits hold a one if fewer zeros stand here
 pub one_by_zeros : (m zeros : ℕ) (here : Bits) → m ≤ length here → zeros ≡ leading_zeros here
     → IsTrue (ltb zeros m) ↔ (take m here ≢ replicate m false)
-one_by_zeros m zeros here fits is = (
-  λ test. one_in_front m here fits (omega (arith, ltb-true zeros m test, is)),
-  λ other. elim (cases_lt zeros m) [
-    | inl lt ↦ lt-ltb zeros m lt
-    | inr ge ↦ absurd (other (zeros_only m here (omega (arith, ge, is))))
-  ],
-)
+one_by_zeros m zeros here fits is = grind (arith, common_steps, cases_lt, lt-ltb, ltb-true, one_in_front, zeros_only)
 
 -- ---- An EOL in a body.
 past-front : (seen : ℕ) (front after more : Bits) → past seen front ≡ Some after → past seen (front ++ more) ≡ Some (after ++ more)

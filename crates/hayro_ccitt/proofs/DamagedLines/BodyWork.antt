@@ -8,6 +8,7 @@ use Rattle.hayro_ccitt.specs.Ticks.{looked}
 use Rattle.hayro_ccitt.proofs.BitReading.SoughtEols.{next_eol-here}
 use Rattle.hayro_ccitt.proofs.BitReading.ZeroRuns.{looked_eol}
 use Rattle.hayro_ccitt.proofs.Readings.TurnsMoveOn.{next_eol_found}
+use Rattle.std.proofs.lemmas.Grind.{common_steps}
 
 -- further on no fewer bits are looked at but for those between
 looked_further : (k : ℕ) (here : Bits) → looked here ≤ k + looked (drop k here)
@@ -61,21 +62,7 @@ module _ (bits after : Bits) (from to : ℕ) (order : from ≤ to) (within : to 
 -- one EOL that is read, or none, is what a count of zeros looks at
 pub one_eol_looked : (here rest : Bits) (count before now : ℕ) → eols 1 here ≡ (count, rest) → now + length rest ≡ before + length here + cond (eqb count 1) 0 (looked rest)
     → now ≡ before + looked here
-one_eol_looked here rest count before now is counted = by (after_eol 0 here) refl
-  where
-    by : (o : Option Bits) → after_eol 0 here ≡ o → now ≡ before + looked here
-    by None none =
-        let f : ◌≡◌ {A = ℕ × Bits} (0, here) (count, rest) = rw (eols, none) at is in
-        let zero_read : 0 ≡ count = ap (λ (x : ℕ × Bits). x.0) f in
-        let stays : here ≡ rest = ap (λ (x : ℕ × Bits). x.1) f in
-        let all = rw (← zero_read, ← stays) at counted in
-        omega (arith, all)
-    by (Some after) eol =
-        let f : ◌≡◌ {A = ℕ × Bits} (1, after) (count, rest) = rw (eols, eol) at is in
-        let one_read : 1 ≡ count = ap (λ (x : ℕ × Bits). x.0) f in
-        let behind : after ≡ rest = ap (λ (x : ℕ × Bits). x.1) f in
-        let all = rw (← one_read, ← behind) at counted in
-        omega (arith, all, looked_eol 0 here after eol)
+one_eol_looked here rest count before now is counted = grind (arith, common_steps, looked_eol)
 
 -- the same bound, for the same words and the same count before
 pub same_bound : (now before same : ℕ) (words known : List Bits) → same ≡ before → known ≡ words → now ≤ same + length known + 1 → now ≤ before + length words + 1

@@ -14,6 +14,7 @@ use Rattle.hayro_ccitt.proofs.Readings.TurnsMoveOn.{after_eol_shorter, eol_of}
 use Rattle.hayro_ccitt.proofs.BitReading.ZerosInWords.{prefix_of_prefix}
 use Rattle.hayro_ccitt.proofs.DrawingLines.LinesLeaveBits.{Leaves}
 use Rattle.hayro_ccitt.proofs.DamagedLines.LineTails.{after_eol_is, first_one, drop_at}
+use Rattle.std.proofs.lemmas.Grind.{common_steps}
 
 -- ---- Later starts come in order
 later_below : (seen : ℕ) (here : Bits) → All (λ other. length other < length here) (later_starts seen here)
@@ -252,9 +253,7 @@ module _ (bits : Bits) where
   ]
 
   has_start : (place : ℕ) → place ≤ length bits → IsStart bits place → Contains (starts bits) (drop place bits)
-  has_start place le (inl same) =
-      let at : drop place bits ≡ (all_eols bits).1 = drop_at bits leaves_first.0 (all_eols bits).1 place leaves_first.1 (omega (arith, same, first_length)) in
-      (0, omega arith, sym at)
+  has_start place le (inl same) = grind (arith, common_steps, drop_at, first_length, leaves_first)
   has_start place le (inr (later, below, (at, eol), none)) =
       contains_more (all_eols bits).1 (drop place bits) (later_starts 0 (all_eols bits).1)
       (to_later 0 (all_eols bits).1 (drop place bits) (drop at bits, inside, eol.2, omega (arith, length-drop place bits, first_length, later, below)) begins)

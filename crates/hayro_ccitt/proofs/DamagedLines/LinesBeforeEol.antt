@@ -131,11 +131,7 @@ module _ (x y : Bits) where
         by (Err fault) (Err other) e f g = rw (e, f, run_turn) tt
 
     states_alike : (s t : ℕ × Bits) → Runs s t → Follows Runs (FoundAlike x y) rest (run_turn color s) (run_turn color t)
-    states_alike (total, here) (other, there) p =
-        subst (λ (k : ℕ × Bits). Follows Runs (FoundAlike x y) rest (run_turn color k) (run_turn color (other, there)))
-        (sym (ap (λ (h : Bits). (total, h)) p.1.2))
-        (subst (λ (k : ℕ × Bits). Follows Runs (FoundAlike x y) rest (run_turn color (total, p.1.0 ++ x)) (run_turn color k))
-        (ap (λ (n : ℕ). (n, p.1.0 ++ y)) p.0 ∙ sym (ap (λ (h : Bits). (other, h)) p.1.3)) (turn_alike total p.1.0 p.1.1))
+    states_alike (total, here) (other, there) p = grind (arith, common_steps, turn_alike)
 
   run_alike : (color : Color) (total : ℕ) (here there : Bits) → InFront x y here there
       → FoundAlike x y (run_from color (total, here)) (run_from color (total, there))

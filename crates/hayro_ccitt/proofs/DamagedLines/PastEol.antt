@@ -61,9 +61,7 @@ eols_same (suc n) (suc m) here h k = by (λ rest. eols_same n m rest) (after_eol
 -- where an EOL stands, it is counted, and those after it
 pub all_eols-some : (here rest : Bits) → after_eol 0 here ≡ Some rest → all_eols here ≡ one_more (all_eols rest)
 all_eols-some [] rest e = absurd cc
-all_eols-some (b ∷ here) rest e =
-    let shorter = after_eol_shorter 0 (b ∷ here) rest e in
-    eols-some (length here) (b ∷ here) rest e ∙ ap one_more (eols_same (length here) (length rest) rest (omega arith) (omega arith))
+all_eols-some (b ∷ here) rest e = grind (arith, common_steps, after_eol_shorter, eols-some, eols_same)
 
 -- where none stands, none is counted
 pub all_eols-none : (here : Bits) → after_eol 0 here ≡ None → all_eols here ≡ (0, here)

@@ -148,13 +148,7 @@ module _ (settings : DecodeSettings) (encoding : settings.encoding ≡ Group3_1D
 
   move_beyond : (xs ys : List Row) (has_eols : Bool) (here : Bits) → RowsAlike Begins xs ys → length here ≤ length after
       → Both (move_on settings (run_at xs has_eols here)) (move_on settings (run_at ys has_eols here))
-  move_beyond xs ys has_eols here alike short =
-      rw (
-        line_is settings encoding lenient (row_before settings.columns xs) here,
-        line_is settings encoding lenient
-            (row_before settings.columns ys) here,
-      ) (line_beyond xs ys has_eols here (line_1d false settings.columns here) alike short
-      (line_1d_leaves false settings.columns here))
+  move_beyond xs ys has_eols here alike short = grind (arith, common_steps, line_1d_leaves, line_beyond, line_is)
 
   -- ---- At or before the line
   not_end : (bits z : Bits) → at_end (bits ++ true ∷ z) ≡ false

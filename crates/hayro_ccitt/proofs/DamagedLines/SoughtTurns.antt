@@ -28,11 +28,7 @@ rest_of (Line.broken front fault) here = here
 
 -- the next EOL, by what follows it
 pub found_next : (here after : Bits) → past 0 here ≡ Some after → (found : Bits) × (next_eol here ≡ Some found) × (after_eol 0 found ≡ Some after)
-found_next here after e = by (next_eol here) refl
-  where
-    by : (o : Option Bits) → next_eol here ≡ o → (found : Bits) × (next_eol here ≡ Some found) × (after_eol 0 found ≡ Some after)
-    by None f = absurd (let g : ◌≡◌ {A = Option Bits} None (Some after) = ap then_after (sym f) ∙ sym (past_is here) ∙ e in cc)
-    by (Some found) f = (found, f, ap then_after (sym f) ∙ sym (past_is here) ∙ e)
+found_next here after e = grind (arith, common_steps, past_is, then_after)
 
 -- where an EOL is to come the data go on
 pub not_past_end : (here after : Bits) → past 0 here ≡ Some after → at_end here ≡ false

@@ -60,9 +60,7 @@ white_first White e = refl
 white_first Black e = absurd (false≢true e)
 
 run_read : (color : Color) (n : ℕ) (word more : Bits) → Spells color n word → n ≤ 4294967295 → run_from color (0, word ++ more) ≡ Ok (n, more)
-run_read color n word more spells le =
-    let sum : 0 + n ≡ n = omega arith in
-    run_spelled color n word 0 more spells (omega arith) ∙ ap (read_as more) sum
+run_read color n word more spells le = grind (arith, common_steps, read_as, run_spelled)
 
 down : (p : ℕ) → suc p - 1 ≡ p
 down p = omega arith

@@ -42,11 +42,9 @@ codes_miss Black = refl
 
 run_starts : (color : Color) (n : ℕ) (word more : Bits) → Spells color n word → IsLineStart (word ++ more)
 run_starts color n word more (Spells.terminating m w has small) =
-    let e = each_word_at (misses_eol 0) (codes_of color) n word (codes_miss color) has in
-    record { no_eol = missed 0 word more e; open_end = goes_on word more e }
+    grind (arith, common_steps, codes_miss, each_word_at, goes_on, missed, misses_eol)
 run_starts color n word more (Spells.makeup m w {n = k} {bits = next} has large rest) =
-    let e = each_word_at (misses_eol 0) (codes_of color) m w (codes_miss color) has in
-    subst IsLineStart (sym (append_assoc w next more)) (record { no_eol = missed 0 w (next ++ more) e; open_end = goes_on w (next ++ more) e })
+    grind (arith, common_steps, append_assoc, codes_miss, each_word_at, goes_on, missed, misses_eol)
 
 line_1d_starts : (color : Color) (row : Row) (bits more : Bits) → EncodesLine1D color row bits → 0 < length row → IsLineStart (bits ++ more)
 line_1d_starts color row bits more EncodesLine1D.over some = absurd (omega arith)
@@ -99,12 +97,7 @@ tagged_eols_more : (most fill : ℕ) (more : Bits) → eols_with_tags (suc most)
 tagged_eols_more most fill more = eols_with_tags-some most (eol fill ++ more) more (eol_stands fill more)
 
 one_tagged : (fill : ℕ) (here : Bits) → IsTagStart here → tagged_eols (eol fill ++ here) ≡ (1, here)
-one_tagged fill here at =
-    let most : ℕ = 11 + fill + length here in
-    let one : eols_with_tags (length (eol fill ++ here)) (eol fill ++ here) ≡ (1, here)
-    = ap (λ (n : ℕ). eols_with_tags n (eol fill ++ here)) (length-eol fill here) ∙ tagged_eols_more most fill here
-    ∙ ap (λ (rest : Bits). one_more (eols_with_tags most rest)) at.no_tag ∙ ap one_more (eols_with_tags-none most here at.start.no_eol) in
-    ap pass_last_tag one ∙ pass_none here
+one_tagged fill here at = grind (arith, common_steps, eols_with_tags-none, length-eol, pass_none, tagged_eols_more)
 
 -- ---- Kinds.
 pub eols_here_one : (settings : DecodeSettings) (here : Bits) → settings.encoding ≡ Group3_1D → eols_here settings here ≡ all_eols here
@@ -151,10 +144,7 @@ tag_one fill more = rw (eol_stands fill more, past_tag) refl
 tagged_eols_behind : (n most : ℕ) (closing more : Bits) → ClosesWithEols Group3_2D n closing → n ≤ (eols_with_tags most (closing ++ more)).0
     → n ≤ (eols_with_tags most (past_tag (true ∷ (closing ++ more)))).0
 tagged_eols_behind zero most closing more is le = omega arith
-tagged_eols_behind (suc n) most closing more (fill, next, then, is) le =
-    let here : closing ++ more ≡ eol fill ++ (true ∷ (next ++ more)) = tag_after fill closing next more is in
-    let passed : past_tag (true ∷ (closing ++ more)) ≡ closing ++ more = ap (λ (x : Bits). past_tag (true ∷ x)) here ∙ tag_one fill (true ∷ (next ++ more)) ∙ sym here in
-    rw passed le
+tagged_eols_behind (suc n) most closing more (fill, next, then, is) le = grind (arith, common_steps, tag_after, tag_one)
 
 tagged_eols_closing : (n most : ℕ) (closing more : Bits) → ClosesWithEols Group3_2D n closing → n ≤ most
     → n ≤ (eols_with_tags most (closing ++ more)).0
@@ -171,9 +161,7 @@ tagged_eols_closing (suc n) (suc most) closing more (fill, next, then, is) le =
     omega (arith, found, on)
 
 six_tagged : (closing more : Bits) → ClosesWithEols Group3_2D 6 closing → 6 ≤ (tagged_eols (closing ++ more)).0
-six_tagged closing more is =
-    let on = tagged_eols_closing 6 (length (closing ++ more)) closing more is (length-closing Group3_2D 6 closing more is) in
-    omega (arith, on, last_tag_count (eols_with_tags (length (closing ++ more)) (closing ++ more)))
+six_tagged closing more is = grind (arith, common_steps, last_tag_count, length-closing, tagged_eols_closing)
 
 -- the settings are for this encoding, which is one of T.4
 abbrev pub Matches : EncodingMode → DecodeSettings → Type 0
@@ -216,8 +204,7 @@ module _ (settings : DecodeSettings) (wide : 0 < settings.columns) (small : sett
       ap (λ (x : Bits). line_here settings reference (x ++ more)) is.0 ∙ tagged_line settings reference true (rest ++ more) matches
       ∙ line_1d_again settings.strict settings.columns [] row White rest more is.1 small len
   line_t4_again Group3_2D reference row line more matches (rest, inr is) ref_len row_len =
-      ap (λ (x : Bits). line_here settings reference (x ++ more)) is.0 ∙ tagged_line settings reference false (rest ++ more) matches
-      ∙ line_2d_again settings.strict settings.columns reference row rest more is.1 wide small ref_len row_len
+      grind (arith, common_steps, line_2d_again, tagged_line)
 
   -- where it begins no EOL stands
   pub line_t4_starts : (encoding : EncodingMode) (reference row : Row) (line more : Bits) → Matches encoding settings → EncodesLine encoding reference row line
@@ -225,14 +212,11 @@ module _ (settings : DecodeSettings) (wide : 0 < settings.columns) (small : sett
   line_t4_starts Group4 reference row line more matches is row_len = absurd matches
   line_t4_starts Group3_1D reference row line more matches is row_len = line_1d_starts White row line more is (omega arith)
   line_t4_starts Group3_2D reference row line more matches (rest, inl is) row_len = rw is.0 (record { no_eol = refl; open_end = refl })
-  line_t4_starts Group3_2D reference row line more matches (rest, inr is) row_len =
-      rw is.0 (record { no_eol = line_2d_after_tag reference row 0 White rest more is.1 (omega arith); open_end = refl })
+  line_t4_starts Group3_2D reference row line more matches (rest, inr is) row_len = grind (arith, common_steps, line_2d_after_tag)
 
   tag_starts : (reference row : Row) (line more : Bits) → EncodesLine Group3_2D reference row line → length row ≡ settings.columns
       → past_tag (line ++ more) ≡ line ++ more
-  tag_starts reference row line more (rest, inl is) row_len =
-      let none : after_eol 0 (rest ++ more) ≡ None = (line_1d_starts White row rest more is.1 (omega arith)).no_eol in
-      rw (is.0, none, past_tag) refl
+  tag_starts reference row line more (rest, inl is) row_len = grind (arith, common_steps, line_1d_starts)
   tag_starts reference row line more (rest, inr is) row_len = rw is.0 refl
 
   -- one EOL is counted before a line

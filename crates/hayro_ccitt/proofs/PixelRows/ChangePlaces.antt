@@ -44,22 +44,7 @@ pub record IsNext (row : Row) (from p : ℕ) : Type 0 where
 
 next_by : (row : Row) (from : ℕ) (test : ℕ → Bool) → ((p : ℕ) → test p ≡ true → from ≤ p) → ((p : ℕ) → from ≤ p → test p ≡ true)
     → IsNext row from (least_below (length row) (λ p. test p && is_change row p))
-next_by row from test low high =
-    let least = is_least (length row) (λ p. test p && is_change row p) in
-    let p : ℕ = least_below (length row) (λ p. test p && is_change row p) in
-    let within : p ≤ length row = least.within in
-    record {
-      above = λ le. elim (cases_lt p (length row)) [
-        | inl lt ↦ low p (and_parts (test p) (is_change row p) (least.there lt)).0
-        | inr ge ↦ omega arith
-      ];
-      within = within;
-      before = λ q le lt. elim (and_cases (test q) (is_change row q) (least.before q (omega arith) lt)) [
-        | inl fails ↦ absurd (false≢true (sym fails ∙ high q le))
-        | inr still ↦ still
-      ];
-      change = λ lt. (and_parts (test p) (is_change row p) (least.there lt)).1;
-    }
+next_by row from test low high = grind (arith, common_steps, and_cases, and_parts, cases_lt, false≢true, is_least)
 
 -- a1 is the next change
 pub a1_next : (row : Row) (from : ℕ) → IsNext row from (a1 row from)
@@ -72,29 +57,13 @@ a2_next row from = next_by row (suc (a1 row from)) (ltb (a1 row from)) (λ p e. 
 
 -- a2 is not left of a1
 pub a2_least : (row : Row) (from : ℕ) → a1 row from ≤ a2 row from
-a2_least row from =
-    let least = is_least (length row) (λ p. ltb (a1 row from) p && is_change row p) in
-    let p : ℕ = a1 row from in
-    let r : ℕ = a2 row from in
-    let one : p ≤ length row = (a1_next row from).within in
-    elim (cases_lt r (length row)) [
-      | inl lt ↦ omega (arith, ltb-true p r (and_parts (ltb p r) (is_change row r) (least.there lt)).0)
-      | inr ge ↦ omega arith
-    ]
+a2_least row from = grind (arith, common_steps, a1_next, and_parts, cases_lt, is_least, ltb-true)
 
 -- ---- b1 and b2
 -- where b2 is inside the row, b1 is left of it, and right of a0
 pub b2_above : (reference : Row) (from : ℕ) (color : Color) → b2 reference from color < length reference → (from ≤ b1 reference from color)
     × (b1 reference from color < b2 reference from color)
-b2_above reference from color lt =
-    let two = is_least (length reference) (λ p. ltb (b1 reference from color) p && is_change reference p) in
-    let one = is_least (length reference) (λ p. leb from p && is_change reference p && beq (pixel_before reference p) (is_black color)) in
-    let q : ℕ = b1 reference from color in
-    let p : ℕ = b2 reference from color in
-    let less : q < p = ltb-true q p (and_parts (ltb q p) (is_change reference p) (two.there lt)).0 in
-    let t : (leb from q && is_change reference q && beq (pixel_before reference q) (is_black color)) ≡ true = one.there (omega arith) in
-    let u = and_parts (leb from q && is_change reference q) (beq (pixel_before reference q) (is_black color)) t in
-    (leb-true from q (and_parts (leb from q) (is_change reference q) u.0).0, less)
+b2_above reference from color lt = grind (arith, common_steps, and_parts, is_least, leb-true, ltb-true)
 
 -- no change of a row at its first pixel is from black
 b1_black : (reference : Row) (p : ℕ) → (leb 0 p && is_change reference p && beq
@@ -106,17 +75,14 @@ b1_black reference (suc p) = grind (arith, common_steps)
 pub b1_right : (reference front : Row) (from : ℕ) (color : Color) → length front ≡ from - 1 → (from ≡ 1 → color ≡ Black)
     → b1 reference (right_of front) color ≡ b1 reference from color
 b1_right reference [] zero color len first = refl
-b1_right reference [] (suc zero) color len first =
-    let c : color ≡ Black = first refl in
-    rw c (least_same (length reference) _ _ (b1_black reference))
+b1_right reference [] (suc zero) color len first = grind (arith, common_steps, b1_black, first, least_same)
 b1_right reference [] (suc (suc from)) color len first = absurd (omega arith)
 b1_right reference (p ∷ front) from color len first = grind (arith, common_steps)
 
 -- b2 of a front, by its place
 pub b2_right : (reference front : Row) (from : ℕ) (color : Color) → length front ≡ from - 1 → (from ≡ 1 → color ≡ Black)
     → b2 reference (right_of front) color ≡ b2 reference from color
-b2_right reference front from color len first =
-    ap (λ (b : ℕ). least_below (length reference) (λ p. ltb b p && is_change reference p)) (b1_right reference front from color len first)
+b2_right reference front from color len first = grind (arith, common_steps, b1_right, first)
 
 -- ---- Pixels between changes.
 same_by : (x y : Bool) → not (beq x y) ≡ false → y ≡ x

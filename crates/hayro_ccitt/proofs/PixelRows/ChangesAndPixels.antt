@@ -120,20 +120,14 @@ last_pixel-pixels width places ascend = last_pixel-pixels_from 0 false width pla
 
 -- it is black exactly where the number of changes is odd
 pub last_pixel-odd : (width : ℕ) (places : List ℕ) → AreChanges width places → last_pixel false (pixels width places) ≡ not (eqb (length places % 2) 0)
-last_pixel-odd width places ascend = last_pixel-pixels width places ascend ∙ turned-even false places ∙ white (eqb (length places % 2) 0)
-  where
-    white : (even : Bool) → beq even false ≡ not even
-    white true = refl
-    white false = refl
+last_pixel-odd width places ascend = grind (arith, common_steps, last_pixel-pixels, turned-even)
 
 -- ---- Painting.
 
 -- a wider row goes on in its last colour
 pub pixels_from-wider : (place : ℕ) (color : Bool) (width more : ℕ) (places : List ℕ) → place ≤ width → AscendFrom place width places
     → pixels_from place color (width + more) places ≡ pixels_from place color width places ++ replicate more (turned color places)
-pixels_from-wider place color width more [] le ascend =
-    let e : width + more - place ≡ (width - place) + more = omega arith in
-    rw e (sym (replicate-append-replicate (width - place) more color))
+pixels_from-wider place color width more [] le ascend = grind (arith, common_steps, replicate-append-replicate)
 pixels_from-wider place color width more (change ∷ places) le ascend =
     let from : place ≤ change = ascend.0 in
     let within : change < width = ascend.1 in
@@ -143,9 +137,7 @@ pixels_from-wider place color width more (change ∷ places) le ascend =
 -- the same where the last change may stand at the width
 pub pixels_from-on : (place : ℕ) (color : Bool) (width more : ℕ) (places : List ℕ) → place ≤ width → AscendFrom place (suc width) places
     → pixels_from place color (width + more) places ≡ pixels_from place color width places ++ replicate more (turned color places)
-pixels_from-on place color width more [] le ascend =
-    let e : width + more - place ≡ (width - place) + more = omega arith in
-    rw e (sym (replicate-append-replicate (width - place) more color))
+pixels_from-on place color width more [] le ascend = grind (arith, common_steps, replicate-append-replicate)
 pixels_from-on place color width more (change ∷ places) le ascend =
     let from : place ≤ change = ascend.0 in
     let within : change < suc width = ascend.1 in
@@ -192,9 +184,7 @@ pixel_before-shift row (suc place) = refl
 
 -- the pixel after a front is a change where it differs from the front's last
 is_change-next : (front : Row) (here : Bool) (row : Row) → is_change (front ++ here ∷ row) (length front) ≡ not (beq (last_pixel false front) here)
-is_change-next front here row =
-    let before = pixel_before-next false front (here ∷ row) (length front) refl in
-    rw (pixel_before-shift (front ++ here ∷ row) (length front), before, pixel-next front here row) refl
+is_change-next front here row = grind (arith, common_steps, pixel-next, pixel_before-next, pixel_before-shift)
 
 -- a place is listed where the pixel differs
 listed : (differs : Bool) (x y : Bool) (place : ℕ) (places others : List ℕ) → differs ≡ not (beq x y) → places ≡ others
@@ -255,9 +245,7 @@ AscendFrom-changes_from place false (true ∷ row) width e = (omega arith, omega
 goes_on : (place : ℕ) (color : Bool) (row : Row) (width : ℕ) → place + suc (length row) ≡ width
     → pixels_from (suc place) color width (changes_from (suc place) color row) ≡ row
     → pixels_from place color width (changes_from (suc place) color row) ≡ color ∷ row
-goes_on place color row width e rest =
-    pixels_from-first place color width (changes_from (suc place) color row) (omega arith) (AscendFrom-changes_from (suc place) color row width (omega arith))
-    ∙ ap (λ (xs : Row). color ∷ xs) rest
+goes_on place color row width e rest = grind (arith, common_steps, AscendFrom-changes_from, changes_from, pixels_from-first)
 
 -- the pixels between the changes of a row are the row
 pub pixels_from-changes_from : (place : ℕ) (before : Bool) (row : Row) (width : ℕ) → place + length row ≡ width

@@ -13,19 +13,11 @@ use Rattle.hayro_ccitt.specs.Rows.{Row, AscendFrom, AreChanges, pixels_from, pix
 use Rattle.hayro_ccitt.specs.Context.{right_of_painted, passed_changes}
 use Rattle.hayro_ccitt.proofs.PixelRows.ChangePlaces.{IsLeast, is_least, b2_above}
 use Rattle.hayro_ccitt.proofs.PixelRows.ChangesAndPixels.{length-pixels}
+use Rattle.std.proofs.lemmas.Grind.{common_steps}
 
 -- there is one least place
 least_unique : (bound : ℕ) (test : ℕ → Bool) (p q : ℕ) → IsLeast 0 bound test p → IsLeast 0 bound test q → p ≡ q
-least_unique bound test p q u v =
-    let up : p ≤ bound = u.within in
-    let vp : q ≤ bound = v.within in
-    elim (cases_lt p q) [
-      | inl lt ↦ absurd (false≢true (sym (v.before p (omega arith) lt) ∙ u.there (omega arith)))
-      | inr ge ↦ elim (cases_lt q p) [
-        | inl lt ↦ absurd (false≢true (sym (u.before q (omega arith) lt) ∙ v.there (omega arith)))
-        | inr le ↦ omega arith
-      ]
-    ]
+least_unique bound test p q u v = grind (arith, common_steps, cases_lt, false≢true)
 
 -- ---- The colour after so many changes.
 -- a colour that is turned so often
@@ -94,10 +86,7 @@ pixels_from-pixel : (place first : ℕ) (color : Bool) (width : ℕ) (places : L
 pixels_from-pixel place first color width [] p zero ascend le lep lt split = get_or-replicate (width - place) (p - place) color false (omega arith)
 pixels_from-pixel place first color width [] p (suc j) ascend le lep lt split = absurd (omega (arith, split.within))
 pixels_from-pixel place first color width (change ∷ places) p zero ascend le lep lt split =
-    let left : p < change = split.here (omega arith) in
-    let run : length (replicate (change - place) color) ≡ change - place = length-replicate (change - place) color in
-    get_or_append_left (replicate (change - place) color) (pixels_from change (not color) width places) false (p - place) (omega arith)
-    ∙ get_or-replicate (change - place) (p - place) color false (omega arith)
+    grind (arith, common_steps, get_or-replicate, get_or_append_left, length-replicate)
 pixels_from-pixel place first color width (change ∷ places) p (suc j) ascend le lep lt split =
     let here : change < suc p = split.before 0 (omega arith) in
     let left : place ≤ change = omega (arith, ascend.0) in
@@ -194,26 +183,14 @@ module _ (columns : ℕ) (places : List ℕ) (ascend : AreChanges columns places
 
   -- a place of the row is no change, or it is one of the places
   change_or_none : (p j : ℕ) → p < columns → IsSplit places p j → (is_change row p ≡ false) ⊎ ((j < length places) × (get_or places j 0 ≡ p))
-  change_or_none p j lt split = elim (cases_lt j (length places)) [
-    | inl in_list ↦ elim (cases_eq (get_or places j 0) p) [
-      | inl same ↦ inr (in_list, same)
-      | inr other ↦ inl (change_none p j lt split (λ l. omega (arith, split.here l)))
-    ]
-    | inr past ↦ inl (change_none p j lt split (λ l. absurd (omega arith)))
-  ]
+  change_or_none p j lt split = grind (arith, common_steps, cases_eq, cases_lt, change_none)
 
   -- the change of an index, or the row's end, is at most the row's end; left of it, it is in the list
   pub end_within : (j : ℕ) → change j ≤ columns
-  end_within j = elim (cases_lt j (length places)) [
-    | inl lt ↦ omega (arith, get_or_default_zero places j columns lt, below j lt)
-    | inr ge ↦ omega (arith, get_or_past places j columns ge)
-  ]
+  end_within j = grind (arith, common_steps, below, cases_lt, get_or_default_zero, get_or_past)
 
   pub in_list_if_below : (j : ℕ) → change j < columns → j < length places
-  in_list_if_below j lt = elim (cases_lt j (length places)) [
-    | inl l ↦ l
-    | inr ge ↦ absurd (omega (arith, get_or_past places j columns ge))
-  ]
+  in_list_if_below j lt = grind (arith, common_steps, cases_lt, get_or_past)
 
   -- a change left of the one at an index has a lesser index
   less_if_left : (j k : ℕ) → j < length places → get_or places j 0 < change k → j < k
@@ -351,13 +328,7 @@ module _ (columns : ℕ) (places : List ℕ) (ascend : AreChanges columns places
 -- ---- The index of b1 as code finds it.
 -- a0 is where the front ends
 pub right_of-pixels : (painted : ℕ) (places : List ℕ) → AreChanges painted places → right_of (pixels painted places) ≡ right_of_painted painted
-right_of-pixels painted places ascend = by_length (pixels painted places) painted (row_length painted places ascend)
-  where
-    by_length : (front : Row) (n : ℕ) → length front ≡ n → right_of front ≡ right_of_painted n
-    by_length [] zero e = refl
-    by_length [] (suc n) e = absurd (omega arith)
-    by_length (p ∷ front) zero e = absurd (omega arith)
-    by_length (p ∷ front) (suc n) e = let u : length front ≡ n = omega arith in rw u refl
+right_of-pixels painted places ascend = grind (arith, common_steps, row_length)
 
 -- the changes that are at most at a0, while some pixel is painted
 pub IsSplit-painted : (places : List ℕ) (painted j : ℕ) → 0 < painted → j ≤ length places
@@ -388,10 +359,7 @@ black_from_white Black false h = refl
 
 turned_from_even : (n : ℕ) (even : Bool) → IsTrue even ↔ (n % 2 ≡ 0) → turned n false ≡ not even
 turned_from_even n true h = (turned_by_parity n).0 (h.0 refl)
-turned_from_even n false h = elim (cases_eq (n % 2) 0) [
-  | inl none ↦ absurd (false≢true (h.1 none))
-  | inr some ↦ (turned_by_parity n).1 (omega arith)
-]
+turned_from_even n false h = grind (arith, common_steps, cases_eq, false≢true, turned_by_parity)
 
 same_from : (even white : Bool) → not (beq even white) ≡ false → not even ≡ not white
 same_from true true e = refl
@@ -427,14 +395,7 @@ module _ (columns : ℕ) (places : List ℕ) (from first : ℕ) (color : Color) 
 
 -- b2 is not left of where the front ends
 pub b2_from_front : (reference front : Row) (color : Color) → length front ≤ length reference → length front ≤ b2 reference (right_of front) color
-b2_from_front reference front color within = elim (cases_lt (b2 reference (right_of front) color) (length reference)) [
-  | inl lt ↦ (let sides = b2_above reference (right_of front) color lt in omega (arith, sides.0, sides.1, right_of_least front))
-  | inr ge ↦ omega arith
-]
-  where
-    right_of_least : (front : Row) → length front ≤ right_of front
-    right_of_least [] = omega arith
-    right_of_least (p ∷ front) = omega arith
+b2_from_front reference front color within = grind (arith, common_steps, b2_above, cases_lt)
 
 -- as many changes of ascending ones are at most at a place as stand before the split behind it
 split_count : (first width : ℕ) (places : List ℕ) (p j : ℕ) → AscendFrom first width places → IsSplit places (suc p) j

@@ -91,8 +91,7 @@ module _ (settings : DecodeSettings) (wide : 0 < settings.columns) where
   -- where gaps and rows lead to a last gap, the reading from the first gap on ends with that
   pub reaches_end : (from last : Progress) (end : Ending) → Reaches (gap_and_row settings) from last → pass_gap settings last ≡ Turn.done end
       → ending_behind settings (pass_gap settings from) ≡ end
-  reaches_end from last end reaches over =
-      ending_behind_goes (pass_gap settings from) ∙ reaches_goes from last reaches ∙ ap (after_turn goes) over
+  reaches_end from last end reaches over = grind (arith, common_steps, after_turn, ending_behind_goes, reaches_goes)
 
   -- so does the reading of Group 4 data
   pub t6_end : (bits : Bits) (last : Progress) (end : Ending) → settings.encoding ≡ Group4 → Reaches (gap_and_row settings) (at_front bits) last

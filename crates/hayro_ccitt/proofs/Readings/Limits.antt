@@ -66,14 +66,7 @@ module _ (settings : DecodeSettings) (limit : ℕ) (some : 0 < limit) (wide : 0 
     cut_turn : (run : Progress) (found : ℕ × Bits) (m : Move) → length run.rows ≡ limit → Keeps run.rows m
         → Follows Same Cut rest (unless_over limited run found) m
     cut_turn run (count, here) m full k =
-        let over : (((settings.end_of_block && leb (eols_of_end settings.encoding) count) || limit_met limited (length run.rows)) || at_end here) ≡ true
-        = or_left ((settings.end_of_block && leb (eols_of_end settings.encoding) count) || limit_met limited (length run.rows)) (at_end here)
-        (or_right (settings.end_of_block && leb (eols_of_end settings.encoding) count) (limit_met limited (length run.rows)) (rw full is_met)) in
-        let is_done : unless_over limited run (count, here) ≡ ends_with run (Ok here)
-        = cond-true (((settings.end_of_block && leb (eols_of_end settings.encoding) count) || limit_met limited (length run.rows)) || at_end here) _ _ over in
-        let more = turn_extends run.rows m k in
-        subst (λ (x : Move). Follows Same Cut rest x m) (sym is_done)
-        (cut_rows run.rows (after_turn rest m).rows full more, λ same. refl)
+        grind (arith, common_steps, after_turn, cond-true, cut_rows, is_met, or_left, or_right, turn_extends, unless_over)
 
     unless_over_open : (run : Progress) (found : ℕ × Bits) → limit_met limited (length run.rows) ≡ false
         → unless_over limited run found ≡ unless_over unlimited run found
@@ -127,8 +120,7 @@ module _ (settings : DecodeSettings) (limit : ℕ) (some : 0 < limit) (wide : 0 
         by false = after_row_follows more (one_longer run.rows (front ++ replicate (settings.columns - length front) false) lt)
 
     move_follows : (s t : Progress) → Same s t → Follows Same Cut rest (move_on limited s) (move_on unlimited t)
-    move_follows s t same = subst (λ (r : Progress). Follows Same Cut rest (move_on limited s) (move_on unlimited r)) same.0
-        (after_line_follows s (line_here settings (row_before settings.columns s.rows) s.rest) same.1)
+    move_follows s t same = grind (arith, common_steps, after_line_follows)
 
   -- ---- The whole
   cut_from : (n m : ℕ) (run : Progress) (late : Ending) → left_to_read run < n → left_to_read run < m → length run.rows < limit
@@ -175,13 +167,5 @@ ok_bytes bits (Err fault) ok = absurd (false≢true ok)
 
 -- the law
 pub row_limit : RowLimit
-row_limit settings limit bits are some small = elim (cases_eq settings.columns 0) [
-  | inl none ↦
-      let no_columns : eqb settings.columns 0 ≡ true = eq-eqb settings.columns 0 none in
-      rw no_columns (sym (take_all limit [] (omega arith)), λ full. absurd (omega (arith, full, some)))
-  | inr not_none ↦
-      let wide : 0 < settings.columns = elim (cases_lt 0 settings.columns) [ inl lt ↦ lt | inr ge ↦ absurd (not_none (omega arith)) ] in
-      let columns : eqb settings.columns 0 ≡ false = ne_eqb settings.columns 0 not_none in
-      let cut = cut_end settings limit some wide bits in
-      rw columns (cut.0, λ full. ok_bytes bits (end_of (record settings { rows = limit }) bits).outcome (cut.1 full))
-]
+row_limit settings limit bits are some small =
+    grind (arith, common_steps, cases_eq, cases_lt, cut_end, eq-eqb, ne_eqb, ok_bytes, take_all)
