@@ -44,8 +44,7 @@ bit_of_first order b rest r lt =
 -- the bits behind the first byte
 bits_behind : (order : BitOrder) (b : ℕ) (bytes : List ℕ) (i : ℕ)
     → slice_get (bits_in order (b ∷ bytes)) (suc (suc (suc (suc (suc (suc (suc (suc i)))))))) ≡ slice_get (bits_in order bytes) i
-bits_behind HighestFirst b bytes i = refl
-bits_behind LowestFirst b bytes i = refl
+bits_behind order b bytes i = grind (arith, common_steps)
 
 pub slice_get-bits_in : (order : BitOrder) (bytes : List ℕ) (q r : ℕ) → q < length bytes → r < 8
     → slice_get (bits_in order bytes) (8 * q + r) ≡ Some (bit_of (get_or bytes q 0) (place_in_byte order r))

@@ -39,10 +39,7 @@ with_rows_none (row ∷ table) here entry e = by (with_rows_none table here) (af
   where
     by : ((other : ℕ) → word_at (numbered table) here ≡ None → with_rows table here other ≡ other) → (o : Option Bits) → after (low_bits row.1 row.2) here ≡ o
         → with_rows table here (with_row row here entry) ≡ entry
-    by on (Some rest) a = absurd (let g : Option.Some (row.0, rest) ≡ None = rw (a, word_at) at e in cc)
-    by on None a =
-        let g : word_at (numbered table) here ≡ None = rw (a, word_at) at e in
-        on (with_row row here entry) g ∙ row_misses row here entry a
+    by on o a = grind (arith, common_steps)
 
 -- where a word stands that is apart from all of a table, none of these does
 all_miss : {V : Type 0} (u : Bits) (list : List (Code V)) (rest : Bits) → list_all (λ d. apart u d.word) list ≡ true → word_at list (u ++ rest) ≡ None
@@ -177,12 +174,10 @@ longest_ended (c ∷ list) here rest e =
     rw (agreement_ended c.word here rest (ltb-true _ _ both.0), longest_ended list here rest both.1) refl
 
 zeros_end : (color : Color) → list_all (λ c. ltb (agreement c.word eight_zeros) (length eight_zeros)) (codes_of color) ≡ true
-zeros_end White = refl
-zeros_end Black = refl
+zeros_end color = grind (arith, common_steps)
 
 seven_zeros : (color : Color) → longest_agreement (codes_of color) eight_zeros ≡ 7
-seven_zeros White = refl
-seven_zeros Black = refl
+seven_zeros color = grind (arith, common_steps)
 
 -- the entry where no word of a run stands
 entry_of_none : (color : Color) (here : Bits) → length here ≡ 13 → word_at (codes_of color) here ≡ None → entry_of (codes_of color) here ≡ 36863

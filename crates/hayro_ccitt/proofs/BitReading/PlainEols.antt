@@ -102,14 +102,10 @@ eol_and_others here rest e = grind (arith, common_steps, after_eol_shorter, eols
 
 -- a tag that no EOL follows stays
 tag_stays : (here : Bits) → after_eol 0 (drop 1 here) ≡ None → past_tag here ≡ here
-tag_stays [] e = refl
-tag_stays (false ∷ here) e = refl
-tag_stays (true ∷ here) e = rw (e, past_tag) refl
+tag_stays here e = grind (arith, common_steps)
 
 few_keep_the_tag : (here : Bits) → pass_last_tag (1, here) ≡ (1, here)
-few_keep_the_tag [] = refl
-few_keep_the_tag (false ∷ here) = refl
-few_keep_the_tag (true ∷ here) = refl
+few_keep_the_tag here = grind (arith, common_steps)
 
 -- one alone
 pub single_tagged_eol : (here rest : Bits) → after_eol 0 here ≡ Some rest → after_eol 0 rest ≡ None → after_eol 0 (drop 1 rest) ≡ None → tagged_eols here ≡ (1, rest)

@@ -38,9 +38,7 @@ looked_before here = elim (after_eol 0 here) [ None ↦ looked_at_tag here | Som
 -- a tag is looked at, and perhaps the EOL behind it
 tag_looks : (here : Bits) → (length here ≤ looked_at_tag here + length (past_tag here)) × (length (past_tag here) ≤ length here)
     × (looked_at_tag here + 2 * length (past_tag here) ≤ 2 * length here + looked_before (past_tag here))
-tag_looks [] = (omega arith, omega arith, omega arith)
-tag_looks (false ∷ here) = grind (arith, common_steps)
-tag_looks (true ∷ here) = grind (arith, common_steps)
+tag_looks here = grind (arith, common_steps)
 
 -- what an EOL and its tag count: each bit that is passed, and at most twice
 pub tagged_looks : (here after rest : Bits) (ticks ticks1 ticks2 most : ℕ) → after_eol 0 here ≡ Some after → rest ≡ past_tag after

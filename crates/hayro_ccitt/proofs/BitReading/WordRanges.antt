@@ -25,12 +25,7 @@ low_bits-append (suc width) rest n =
 
 -- a bit tells its number
 bit_number : (a b : ℕ) → a < 2 → b < 2 → eqb a 1 ≡ eqb b 1 → a ≡ b
-bit_number zero zero h k e = refl
-bit_number zero (suc zero) h k e = absurd (false≢true e)
-bit_number (suc zero) zero h k e = absurd (false≢true (sym e))
-bit_number (suc zero) (suc zero) h k e = refl
-bit_number a (suc (suc b)) h k e = absurd (omega arith)
-bit_number (suc (suc a)) b h k e = absurd (omega arith)
+bit_number a b h k e = grind (arith, common_steps)
 
 -- equal bits are those of equal numbers
 pub low_bits-same : (width a b : ℕ) → low_bits width a ≡ low_bits width b → a % 2 ^ width ≡ b % 2 ^ width

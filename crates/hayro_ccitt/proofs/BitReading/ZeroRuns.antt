@@ -42,8 +42,7 @@ looked_eol seen (true ∷ here) after e = grind (arith, common_steps)
 -- the first of some EOLs
 pub eols_one : (most : ℕ) (here after : Bits) → after_eol 0 here ≡ Some after → 0 < most
     → eols most here ≡ (suc (eols (most - 1) after).0, (eols (most - 1) after).1)
-eols_one zero here after e lt = absurd (omega arith)
-eols_one (suc most) here after e lt = grind (arith, common_steps)
+eols_one most here after e lt = grind (arith, common_steps)
 
 -- an EOL more, and those after it
 pub eols_stepped : (max count : ℕ) (start now after : Bits) → eols max start ≡ (count + (eols (max - count) now).0, (eols (max - count) now).1)
@@ -71,8 +70,7 @@ pub eols_enough : (most : ℕ) (here : Bits) → length here ≤ most → eols m
 eols_enough most here le = alike most (length here) here le (omega arith)
   where
     none : (most : ℕ) → eols most [] ≡ (0, [])
-    none zero = refl
-    none (suc most) = refl
+    none most = grind (arith, common_steps)
 
     alike : (most others : ℕ) (here : Bits) → length here ≤ most → length here ≤ others → eols most here ≡ eols others here
     alike most others [] le le1 = none most ∙ sym (none others)

@@ -11,6 +11,7 @@ use Rattle.hayro_ccitt.specs.CodeReading.{Has, word_at, is_prefix_free, PrefixFr
 use Rattle.hayro_ccitt.specs.Runs.{codes_of}
 use Rattle.hayro_ccitt.specs.Laws.{each_word, IsWord, AreWords, joined, HoldsZeros}
 use Rattle.hayro_ccitt.proofs.CodeWords.ReadCodes.{word_at_again}
+use Rattle.std.proofs.lemmas.Grind.{common_steps}
 
 -- ---- A test of each word of a list.
 pub each_word_at : {V : Type 0} (test : Bits → Bool) (list : List (Code V)) (v : V) (w : Bits) → each_word test list ≡ true → Has list v w → test w ≡ true
@@ -20,8 +21,7 @@ each_word_at test (c ∷ list) v w e (inr i) = each_word_at test list v w (and_p
 
 -- no word of a run is a prefix of another
 pub codes_free : (color : Color) → is_prefix_free (codes_of color) ≡ true
-codes_free White = refl
-codes_free Black = refl
+codes_free color = grind (arith, common_steps)
 
 pub modes_free : is_prefix_free mode_codes ≡ true
 modes_free = refl
@@ -53,8 +53,7 @@ is_quiet word = at_most_three (scan 3 word)
 
 -- every word of a run is so
 pub codes_quiet : (color : Color) → each_word is_quiet (codes_of color) ≡ true
-codes_quiet White = refl
-codes_quiet Black = refl
+codes_quiet color = grind (arith, common_steps)
 
 modes_quiet : each_word is_quiet mode_codes ≡ true
 modes_quiet = refl
@@ -87,8 +86,7 @@ scan-append n k (false ∷ a) b e = elim (cases_lt n 10) [
 
 -- the test says how many zeros there are
 pub quiet_is : (o : Option ℕ) → at_most_three o ≡ true → (k : ℕ) × (o ≡ Some k) × (k ≤ 3)
-quiet_is None e = absurd (false≢true e)
-quiet_is (Some k) e = (k, refl, leb-true k 3 e)
+quiet_is o e = grind (arith, common_steps)
 
 words_quiet : (n : ℕ) (words : List Bits) → n ≤ 3 → AreWords words → (k : ℕ) × (scan n (joined words) ≡ Some k) × (k ≤ 3)
 words_quiet n [] le are = (n, refl, le)
@@ -138,8 +136,7 @@ no_one zero = refl
 no_one (suc n) = no_one n
 
 codes_one : (color : Color) → each_word holds_a_one (codes_of color) ≡ true
-codes_one White = refl
-codes_one Black = refl
+codes_one color = grind (arith, common_steps)
 
 -- every word holds a one
 pub word_one : (word : Bits) → IsWord word → holds_a_one word ≡ true

@@ -29,8 +29,7 @@ abbrev runs_below : List (Code ℕ) → Type 0
 runs_below list = list_all (λ c. ltb c.value 4095) list ≡ true
 
 codes_below : (color : Color) → runs_below (codes_of color)
-codes_below White = refl
-codes_below Black = refl
+codes_below color = grind (arith, common_steps)
 
 run_below : (list : List (Code ℕ)) (v : ℕ) (w : Bits) → runs_below list → Has list v w → v < 4095
 run_below [] v w e i = elim i [ ]

@@ -42,9 +42,7 @@ mode_begins mode width word n has le fits below e = by (after (low_bits width wo
 -- no word begins with six zeros
 pub mode_none : (n : ℕ) → n < 2 → ◌≡◌ {A = Option Mode × ℕ} (None, 6) (mode_told (seven_bits n))
 unfolding seven_bits
-mode_none zero h = refl
-mode_none (suc zero) h = refl
-mode_none (suc (suc n)) h = absurd (omega arith)
+mode_none n h = grind (arith, common_steps)
 
 -- ---- What they tell of the bits here.
 pub mode_cut : (here : Bits) → length here < telling_bits mode_codes (padded 7 here) → read_code mode_codes here ≡ Err UnexpectedEof
@@ -74,5 +72,4 @@ mode_stands at (Some mode, width) e enough =
 
 -- V0 doesn't stand where no bit is
 pub v0_there : (here : Bits) → ◌≡◌ {A = Option Mode} (Some (Vertical (pos 0))) (mode_told (padded 7 here)).0 → 0 < length here
-v0_there [] e = absurd (let f : ◌≡◌ {A = Option Mode} (Some (Vertical (pos 0))) None = e in cc)
-v0_there (b ∷ here) e = omega arith
+v0_there here e = grind (arith, common_steps)

@@ -171,8 +171,7 @@ behind_stands {A} {B} here rest_of last_of drawing behind stands each =
 
 -- what finds no words
 wordless_stands : {A : Type 0} (here : Bits) (pen : Pen) (result : Result A DecodeError) → DrawingStands here (λ (x : A). here) (finds pen [] result)
-wordless_stands here pen (Ok x) = stands_none here
-wordless_stands here pen (Err fault) = (here, stands_none here, tt)
+wordless_stands here pen result = grind (arith, common_steps)
 
 -- a run that is read
 run_read_stands : (pen : Pen)

@@ -91,8 +91,7 @@ past-front seen (true ∷ front) after more e = by (leb 11 seen) (λ f. past-fro
   where
     by : (b : Bool) → (past 0 front ≡ Some after → past 0 (front ++ more) ≡ Some (after ++ more)) → cond b (Some front) (past 0 front) ≡ Some after
         → cond b (Some (front ++ more)) (past 0 (front ++ more)) ≡ Some (after ++ more)
-    by true on f = let same : front ≡ after = cc in ap (λ (b : Bits). Some (b ++ more)) same
-    by false on f = on f
+    by b on f = grind (arith, common_steps)
 
 past-behind : (seen : ℕ) (front after more : Bits) → past seen front ≡ None → past seen (front ++ more) ≡ Some after → length after < length more
 past-behind seen [] after more none e = past_shorter seen more after e
@@ -101,8 +100,7 @@ past-behind seen (true ∷ front) after more none e = by (leb 11 seen) (λ f g. 
   where
     by : (b : Bool) → (past 0 front ≡ None → past 0 (front ++ more) ≡ Some after → length after < length more)
         → cond b (Some front) (past 0 front) ≡ None → cond b (Some (front ++ more)) (past 0 (front ++ more)) ≡ Some after → length after < length more
-    by true on f g = absurd (let h : ◌≡◌ {A = Option Bits} (Some front) None = f in cc)
-    by false on f g = on f g
+    by b on f g = grind (arith, common_steps)
 
 -- an EOL is found where one ends
 found_ends : (here : Bits) → is_some (next_eol here) ≡ is_some (past 0 here)
@@ -185,16 +183,11 @@ not_both front row rest fault e = cc
 -- a broken line has no end
 pub broken_ends : (columns : ℕ) (after here rest : Bits) (front : Row) (fault : DecodeError) → fault ≢ OutOfMemory
     → DrawsLine (line_1d false columns here) (Err fault) front rest → EndsBefore columns after here
-broken_ends columns after here rest front UnexpectedEof other is row rest2 is2 = absurd (not_both front row rest2 UnexpectedEof (sym is ∙ is2))
-broken_ends columns after here rest front InvalidCode other is row rest2 is2 = absurd (not_both front row rest2 InvalidCode (sym is ∙ is2))
-broken_ends columns after here rest front Overflow other is row rest2 is2 = absurd (not_both front row rest2 Overflow (sym is ∙ is2))
-broken_ends columns after here rest front OutOfMemory other is row rest2 is2 = absurd (other refl)
-broken_ends columns after here rest front Refused other is row rest2 is2 = absurd is
+broken_ends columns after here rest front fault other is row rest2 is2 = grind (arith, common_steps)
 
 -- ---- All tests together.
 none_stands : (o : Option Bits) → is_some o ≡ false → o ≡ None
-none_stands None e = refl
-none_stands (Some x) e = absurd (false≢true (sym e))
+none_stands o e = grind (arith, common_steps)
 
 -- where the other tests hold, a body is local if its line ends before the EOL behind it
 pub local_by_end : (settings : DecodeSettings) (bits : Bits) (from to end : ℕ) (before : Bool) → (settings.encoding ≡ Group3_1D) × (settings.strict ≡ false)

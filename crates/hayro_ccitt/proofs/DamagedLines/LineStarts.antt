@@ -28,8 +28,7 @@ later_below seen (true ∷ here) =
     (later_below 0 here))
   where
     by : (b : Bool) → All (λ other. length other < suc (length here)) (cond {A = List Bits} b (here ∷ []) [])
-    by true = All-cons (λ other. length other < suc (length here)) here [] (omega arith) (All-nil (λ other. length other < suc (length here)))
-    by false = All-nil (λ other. length other < suc (length here))
+    by b = grind (arith, common_steps)
 
 later_descends : (seen : ℕ) (here : Bits) → Descends (later_starts seen here)
 later_descends seen [] = tt
@@ -51,8 +50,7 @@ zeros_along zero here = refl
 zeros_along (suc seen) here = ap (λ (b : Bits). false ∷ b) (zeros_along seen here)
 
 contains_one : (here other : Bits) → Contains (here ∷ []) other → here ≡ other
-contains_one here other (zero, lt, e) = e
-contains_one here other (suc k, lt, e) = absurd (omega arith)
+contains_one here other given = grind (arith, common_steps)
 
 contains_none : (other : Bits) → Contains {X = Bits} [] other → ⊥
 contains_none other (k, lt, e) = absurd (omega arith)
@@ -104,8 +102,7 @@ same_end xs ys us vs e len =
     by f.0 f.1
   where
     by : (before : Bits) → ys ≡ before ++ vs → ys ≡ vs
-    by [] g = g
-    by (b ∷ before) g = absurd (omega (arith, len, ap length g, length-append before vs))
+    by before g = grind (arith, common_steps)
 
 to_later : (seen : ℕ) (here end : Bits) → EndsLater seen here end → begins_line end ≡ true → Contains (later_starts seen here) end
 to_later seen [] end (at, leaves, eol, lt) b = absurd (omega arith)
@@ -200,23 +197,19 @@ first_leaves (suc n) bits lt = by (first_leaves n) (after_eol 0 bits) refl
         )
 
 contains_first : (here other : Bits) (rest : List Bits) → Contains (here ∷ rest) other → (here ≡ other) ⊎ Contains rest other
-contains_first here other rest (zero, lt, e) = inl e
-contains_first here other rest (suc k, lt, e) = inr (k, omega arith, e)
+contains_first here other rest given = grind (arith, common_steps)
 
 contains_more : (here other : Bits) (rest : List Bits) → Contains rest other → Contains (here ∷ rest) other
 contains_more here other rest (k, lt, e) = (suc k, omega arith, e)
 
 some_at_end : (here : Bits) → at_end here ≡ false → 0 < length here
-some_at_end [] e = absurd (false≢true (sym e))
-some_at_end (b ∷ here) e = omega arith
+some_at_end here e = grind (arith, common_steps)
 
 not_some : (o : Option Bits) → is_some o ≡ false → o ≡ None
-not_some None e = refl
-not_some (Some b) e = absurd (false≢true (sym e))
+not_some o e = grind (arith, common_steps)
 
 more_left : (here : Bits) → 0 < length here → at_end here ≡ false
-more_left [] lt = absurd (omega arith)
-more_left (b ∷ here) lt = refl
+more_left here lt = grind (arith, common_steps)
 
 module _ (bits : Bits) where
   leaves_first : FirstLeaves bits (all_eols bits).1

@@ -123,12 +123,7 @@ module _ (x y : Bits) where
       where
         by : (r q : Result (ℕ × Bits) DecodeError) → read_code (codes_of color) (bits ++ x) ≡ r → read_code (codes_of color) (bits ++ y) ≡ q
             → FoundAlike x y r q → Follows Runs (FoundAlike x y) rest (run_turn color (total, bits ++ x)) (run_turn color (total, bits ++ y))
-        by (Ok (n, here)) (Ok (m, there)) e f g = rw (e, f, run_turn)
-            (subst (λ (k : ℕ). Follows Runs (FoundAlike x y) rest (run_of_word total (n, here)) (run_of_word total (k, there))) g.0
-            (word_alike total n here there g.1))
-        by (Ok found) (Err fault) e f g = absurd g
-        by (Err fault) (Ok found) e f g = absurd g
-        by (Err fault) (Err other) e f g = rw (e, f, run_turn) tt
+        by r q e f g = grind (arith, common_steps)
 
     states_alike : (s t : ℕ × Bits) → Runs s t → Follows Runs (FoundAlike x y) rest (run_turn color s) (run_turn color t)
     states_alike (total, here) (other, there) p = grind (arith, common_steps, turn_alike)
@@ -168,19 +163,7 @@ module _ (x y : Bits) where
             (λ more. Turn.next (record { front = more; color = opposite color; rest = run.1 })))
 
         drew : (r q : Result (ℕ × Bits) DecodeError) → FoundAlike x y r q → Follows Pens LineAlike rest (drawn_by r) (drawn_by q)
-        drew (Ok (n, a)) (Ok (m, b)) g = (
-          painted n,
-          opposite color,
-          a,
-          b,
-          refl,
-          ap
-              (λ (k : ℕ). record { front = painted k; color = opposite color; rest = b }) (sym g.0),
-          g.1,
-        )
-        drew (Ok found) (Err fault) g = absurd g
-        drew (Err fault) (Ok found) g = absurd g
-        drew (Err fault) (Err other) g = refl
+        drew r q g = grind (arith, common_steps)
 
         full : (b : Bool) → Follows Pens LineAlike rest (cond b (Turn.done (Line.whole front here)) (drawn_by (run_from color (0, here))))
             (cond b (Turn.done (Line.whole front there)) (drawn_by (run_from color (0, there))))

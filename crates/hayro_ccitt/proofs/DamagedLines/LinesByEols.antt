@@ -24,6 +24,7 @@ use Rattle.hayro_ccitt.proofs.DamagedLines.PastEol.{past, past-eol, past_later, 
 use Rattle.hayro_ccitt.proofs.DamagedLines.SoughtTurns.{sought, rest_of, found_next, after_row_past, move_line}
 use Rattle.hayro_ccitt.proofs.DrawingLines.LinesLeaveBits.{line_1d_leaves, LineLeaves}
 use Rattle.hayro_ccitt.proofs.Readings.RowsAndGaps.{unless_over, after_row}
+use Rattle.std.proofs.lemmas.Grind.{common_steps}
 
 -- what follows the next EOL is shorter
 pub past_shorter : (seen : ℕ) (here after : Bits) → past seen here ≡ Some after → length after < length here
@@ -194,8 +195,7 @@ module _ (settings : DecodeSettings) (encoding : settings.encoding ≡ Group3_1D
 
 -- EOLs are sought from the start
 pub seeks : (bits : Bits) (end_of_line : Bool) → (end_of_line ≡ true) ⊎ IsEolAt bits → (ltb 0 (all_eols bits).0 || end_of_line) ≡ true
-seeks bits end_of_line (inl e) = or_right (ltb 0 (all_eols bits).0) end_of_line e
-seeks bits end_of_line (inr e) = or_left (ltb 0 (all_eols bits).0) end_of_line (lt-ltb 0 (all_eols bits).0 (eols_some_counts bits e.0 e.1))
+seeks bits end_of_line given = grind (arith, common_steps)
 
 -- the law
 pub lines_by_eols : LinesByEols

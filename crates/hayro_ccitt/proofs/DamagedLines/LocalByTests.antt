@@ -33,8 +33,7 @@ none_further [] here e = by here e
 none_further (bit ∷ before) here e = none_further before here (rest (after_eol 0 (bit ∷ (before ++ here))) refl)
   where
     rest : (o : Option Bits) → after_eol 0 (bit ∷ (before ++ here)) ≡ o → next_eol (before ++ here) ≡ None
-    rest None f = rw (f, next_eol) at e
-    rest (Some after) f = absurd (let g : ◌≡◌ {A = Option Bits} (Some (bit ∷ (before ++ here))) None = rw (f, next_eol) at e in cc)
+    rest o f = grind (arith, common_steps)
 
 take_zeros : (k m : ℕ) (rest : Bits) → k < m → take m (replicate k false ++ true ∷ rest) ≡ replicate k false ++ true ∷ take (m - (k + 1)) rest
 take_zeros k zero rest lt = absurd (omega arith)

@@ -34,8 +34,7 @@ RowsAlike Begins xs ys = (xs ≡ ys)
     ⊎ ((before : List Row) × (a b : Row) × (more : List Row) × (xs ≡ before ++ a ∷ more) × (ys ≡ before ++ b ∷ more) × Begins before)
 
 rows_length : {Begins : List Row → Type 0} (xs ys : List Row) → RowsAlike Begins xs ys → length xs ≡ length ys
-rows_length xs ys (inl e) = ap length e
-rows_length xs ys (inr (before, a, b, more, e, f, begins)) = ap length e ∙ length-append before (a ∷ more) ∙ sym (length-append before (b ∷ more)) ∙ sym (ap length f)
+rows_length xs ys given = grind (arith, common_steps)
 
 rows_more : {Begins : List Row → Type 0} (xs ys : List Row) (row : Row) → RowsAlike Begins xs ys → RowsAlike Begins (xs ++ row ∷ []) (ys ++ row ∷ [])
 rows_more xs ys row (inl e) = inl (ap (λ (x : List Row). x ++ row ∷ []) e)
@@ -281,8 +280,7 @@ module _ (settings : DecodeSettings) (encoding : settings.encoding ≡ Group3_1D
           (unless_beyond (rows ++ a ∷ []) (rows ++ b ∷ []) true u v (one_more (all_eols after)) alike (eols_shorter (length after) after))
 
   rest_shorter : (line : Line) (here : Bits) → LineLeaves here line → length (rest_of line here) ≤ length here
-  rest_shorter (Line.whole row left) here leaves = omega (arith, ap length leaves.1, length-append leaves.0 left)
-  rest_shorter (Line.broken front fault) here leaves = omega arith
+  rest_shorter line here leaves = grind (arith, common_steps)
 
   line_there : (rows : List Row) → Begins rows → Both (move_on settings (sought rows x)) (move_on settings (sought rows y))
   line_there rows begins =

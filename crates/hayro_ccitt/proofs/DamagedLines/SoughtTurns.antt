@@ -32,8 +32,7 @@ found_next here after e = grind (arith, common_steps, past_is, then_after)
 
 -- where an EOL is to come the data go on
 pub not_past_end : (here after : Bits) → past 0 here ≡ Some after → at_end here ≡ false
-not_past_end [] after e = absurd cc
-not_past_end (b ∷ here) after e = refl
+not_past_end here after e = grind (arith, common_steps)
 
 module _ (settings : DecodeSettings) (encoding : settings.encoding ≡ Group3_1D) (lenient : settings.strict ≡ false) where
   -- EOLs of one-dimensional data have no tags

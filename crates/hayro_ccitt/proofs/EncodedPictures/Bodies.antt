@@ -28,16 +28,13 @@ use Rattle.std.proofs.lemmas.Grind.{common_steps}
 
 -- ---- No EOL is counted where none stands.
 pass_zero : (here : Bits) → pass_last_tag (0, here) ≡ (0, here)
-pass_zero [] = refl
-pass_zero (true ∷ here) = refl
-pass_zero (false ∷ here) = refl
+pass_zero here = grind (arith, common_steps)
 
 no_eols : (settings : DecodeSettings) (here : Bits) → after_eol 0 here ≡ None → eols_here settings here ≡ (0, here)
 no_eols settings here none = grind (arith, common_steps, eols-none, eols_with_tags-none, pass_zero, same_pair)
 
 with_true : (b : Bool) → (b && true) ≡ b
-with_true true = refl
-with_true false = refl
+with_true b = grind (arith, common_steps)
 
 -- ---- Gaps
 

@@ -52,12 +52,10 @@ pub vertical_drawn : (strict : Bool) (columns : ℕ) (reference front : Row) (co
 vertical_drawn strict columns reference front color rest k to is le fits small = grind (arith, common_steps)
 
 twice : (color : Color) → opposite (opposite color) ≡ color
-twice White = refl
-twice Black = refl
+twice color = grind (arith, common_steps)
 
 white_first : (color : Color) → false ≡ is_black color → opposite color ≡ Black
-white_first White e = refl
-white_first Black e = absurd (false≢true e)
+white_first color e = grind (arith, common_steps)
 
 run_read : (color : Color) (n : ℕ) (word more : Bits) → Spells color n word → n ≤ 4294967295 → run_from color (0, word ++ more) ≡ Ok (n, more)
 run_read color n word more spells le = grind (arith, common_steps, read_as, run_spelled)

@@ -23,6 +23,7 @@ use Rattle.hayro_ccitt.proofs.CodeWords.ReadRuns.{chosen}
 use Rattle.hayro_ccitt.proofs.PixelRows.ChangePlaces.{a1_next, a2_next, a2_least}
 use Rattle.hayro_ccitt.specs.declared.settings.EncodingMode.TheVariants.{Group4, Group3_1D, Group3_2D}
 use Rattle.hayro_ccitt.specs.declared.settings.EncodingMode.{EncodingMode}
+use Rattle.std.proofs.lemmas.Grind.{common_steps}
 
 -- ---- Runs.
 -- the word of a list for a length
@@ -71,14 +72,10 @@ every_run_spelled color n = subst (λ (m : ℕ). (bits : Bits) × Spells color m
 
 -- ---- One-dimensional lines.
 pixel_or : (color : Color) (pixel : Bool) → (pixel ≡ is_black color) ⊎ (pixel ≡ is_black (opposite color))
-pixel_or White false = inl refl
-pixel_or White true = inr refl
-pixel_or Black false = inr refl
-pixel_or Black true = inl refl
+pixel_or color pixel = grind (arith, common_steps)
 
 colors_differ : (color : Color) → is_black (opposite color) ≡ is_black color → ⊥
-colors_differ White e = false≢true (sym e)
-colors_differ Black e = false≢true e
+colors_differ color e = grind (arith, common_steps)
 
 replicate-push : (n : ℕ) (pixel : Bool) (row : Row) → replicate n pixel ++ (pixel ∷ row) ≡ replicate (suc n) pixel ++ row
 replicate-push zero pixel row = refl
@@ -202,8 +199,7 @@ low_bits_of_low (suc width) a k b le =
     cc
 
 digit_bit : (bit : Bool) → bit_of (digit bit) 0 ≡ bit
-digit_bit true = refl
-digit_bit false = refl
+digit_bit bit = grind (arith, common_steps)
 
 -- the bits of the number that bits write
 low_bits_value : (bits : Bits) → low_bits (length bits) (value bits) ≡ bits
@@ -230,8 +226,7 @@ highest_first HighestFirst front = front
 highest_first LowestFirst front = reverse front
 
 length-highest_first : (order : BitOrder) (front : Bits) → length (highest_first order front) ≡ length front
-length-highest_first HighestFirst front = refl
-length-highest_first LowestFirst front = length-reverse front
+length-highest_first order front = grind (arith, common_steps)
 
 -- the byte whose bits these are
 byte_of : (order : BitOrder) (front : Bits) → length front ≡ 8 → bits_of_byte order (value (highest_first order front)) ≡ front

@@ -37,8 +37,7 @@ use Rattle.std.proofs.lemmas.Grind.{common_steps}
 
 -- ---- What a line begins with.
 codes_miss : (color : Color) → each_word (misses_eol 0) (codes_of color) ≡ true
-codes_miss White = refl
-codes_miss Black = refl
+codes_miss color = grind (arith, common_steps)
 
 run_starts : (color : Color) (n : ℕ) (word more : Bits) → Spells color n word → IsLineStart (word ++ more)
 run_starts color n word more (Spells.terminating m w has small) =
@@ -57,14 +56,7 @@ modes_miss_one = refl
 
 line_2d_after_tag : (reference row : Row) (from : ℕ) (color : Color) (bits more : Bits) → EncodesLine2D reference row from color bits
     → from ≤ length row → after_eol 1 (bits ++ more) ≡ None
-line_2d_after_tag reference row from color bits more EncodesLine2D.over le = absurd (omega arith)
-line_2d_after_tag reference row from color bits more (EncodesLine2D.pass from2 word {bits = next} inside has left_of steps) le =
-    ap (after_eol 1) (append_assoc word next more) ∙ missed 1 word (next ++ more) (each_word_at (misses_eol 1) mode_codes _ word modes_miss_one has)
-line_2d_after_tag reference row from color bits more (EncodesLine2D.vertical from2 word k {bits = next} inside has exact steps) le =
-    ap (after_eol 1) (append_assoc word next more) ∙ missed 1 word (next ++ more) (each_word_at (misses_eol 1) mode_codes _ word modes_miss_one has)
-line_2d_after_tag reference row from color bits more
-    (EncodesLine2D.horizontal from2 word {first = run1} {second = run2} {bits = next} inside has one two steps) le =
-    grind (arith, common_steps)
+line_2d_after_tag reference row from color bits more given le = grind (arith, common_steps)
 
 -- where a line of T.4 begins: no EOL stands there, nor behind a tag
 record IsTagStart (here : Bits) : Type 0 where
@@ -89,9 +81,7 @@ one_eol : (fill : ℕ) (here : Bits) → after_eol 0 here ≡ None → all_eols 
 one_eol fill here none = all_eols_more fill here ∙ ap one_more (eols-none (11 + fill + length here) here none)
 
 pass_none : (here : Bits) → pass_last_tag (1, here) ≡ (1, here)
-pass_none [] = refl
-pass_none (true ∷ here) = refl
-pass_none (false ∷ here) = refl
+pass_none here = grind (arith, common_steps)
 
 tagged_eols_more : (most fill : ℕ) (more : Bits) → eols_with_tags (suc most) (eol fill ++ more) ≡ one_more (eols_with_tags most (past_tag more))
 tagged_eols_more most fill more = eols_with_tags-some most (eol fill ++ more) more (eol_stands fill more)
@@ -110,8 +100,7 @@ eols_here_two settings here e = rw (e, eols_here) refl
 tagged_line : (settings : DecodeSettings) (reference : Row) (tag : Bool) (here : Bits) → settings.encoding ≡ Group3_2D
     → line_here settings reference (tag ∷ here) ≡ cond tag (line_1d settings.strict settings.columns here)
     (line_2d settings.strict settings.columns reference here)
-tagged_line settings reference true here e = rw (e, line_here) refl
-tagged_line settings reference false here e = rw (e, line_here) refl
+tagged_line settings reference tag here e = grind (arith, common_steps)
 
 -- ---- The EOLs that close a picture.
 eols_closing : (n most : ℕ) (closing more : Bits) → ClosesWithEols Group3_1D n closing → n ≤ most → n ≤ (eols most (closing ++ more)).0
@@ -143,8 +132,7 @@ tag_one fill more = rw (eol_stands fill more, past_tag) refl
 -- a tag before EOLs is passed
 tagged_eols_behind : (n most : ℕ) (closing more : Bits) → ClosesWithEols Group3_2D n closing → n ≤ (eols_with_tags most (closing ++ more)).0
     → n ≤ (eols_with_tags most (past_tag (true ∷ (closing ++ more)))).0
-tagged_eols_behind zero most closing more is le = omega arith
-tagged_eols_behind (suc n) most closing more (fill, next, then, is) le = grind (arith, common_steps, tag_after, tag_one)
+tagged_eols_behind n most closing more is le = grind (arith, common_steps)
 
 tagged_eols_closing : (n most : ℕ) (closing more : Bits) → ClosesWithEols Group3_2D n closing → n ≤ most
     → n ≤ (eols_with_tags most (closing ++ more)).0
@@ -175,9 +163,7 @@ matches_itself settings three = grind (arith, common_steps)
 
 -- and so are not for Group 4
 matches_t4 : (settings : DecodeSettings) (encoding : EncodingMode) → Matches encoding settings → settings.encoding ≢ Group4
-matches_t4 settings Group4 matches = absurd matches
-matches_t4 settings Group3_1D matches = λ e. let other : Group3_1D ≡ Group4 = sym matches ∙ e in cc
-matches_t4 settings Group3_2D matches = λ e. let other : Group3_2D ≡ Group4 = sym matches ∙ e in cc
+matches_t4 settings encoding matches = grind (arith, common_steps)
 
 -- the end of lines that were read with EOLs
 abbrev ends_well : List Row → Bits → Ending

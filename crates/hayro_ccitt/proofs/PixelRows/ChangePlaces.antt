@@ -19,8 +19,7 @@ pub record IsLeast (from bound : ℕ) (test : ℕ → Bool) (p : ℕ) : Type 0 w
 
 first_step : (test : ℕ → Bool) (from bound : ℕ) (t : Bool) (rest : Option ℕ) → test from ≡ t → from < bound
     → IsLeast (from + 1) bound test (unwrap_or rest bound) → IsLeast from bound test (unwrap_or (cond t (Some from) rest) bound)
-first_step test from bound true rest e lt least = record { above = omega arith; within = omega arith; before = λ q le l. absurd (omega arith); there = λ l. e }
-first_step test from bound false rest e lt least = grind (arith, common_steps)
+first_step test from bound t rest e lt least = grind (arith, common_steps)
 
 first : (test : ℕ → Bool) (from n bound : ℕ) → from + n ≡ bound → IsLeast from bound test (unwrap_or (find test (range_with_len from n)) bound)
 first test from zero bound e = record { above = omega arith; within = omega arith; before = λ q le l. absurd (omega arith); there = λ l. absurd (omega arith) }
@@ -68,8 +67,7 @@ b2_above reference from color lt = grind (arith, common_steps, and_parts, is_lea
 -- no change of a row at its first pixel is from black
 b1_black : (reference : Row) (p : ℕ) → (leb 0 p && is_change reference p && beq
     (pixel_before reference p) true) ≡ (leb 1 p && is_change reference p && beq (pixel_before reference p) true)
-b1_black reference zero = grind (arith, common_steps)
-b1_black reference (suc p) = grind (arith, common_steps)
+b1_black reference p = grind (arith, common_steps)
 
 -- the pen's place right of a0 serves as well as a0's own
 pub b1_right : (reference front : Row) (from : ℕ) (color : Color) → length front ≡ from - 1 → (from ≡ 1 → color ≡ Black)
@@ -86,16 +84,10 @@ b2_right reference front from color len first = grind (arith, common_steps, b1_r
 
 -- ---- Pixels between changes.
 same_by : (x y : Bool) → not (beq x y) ≡ false → y ≡ x
-same_by true true e = refl
-same_by false false e = refl
-same_by true false e = absurd (false≢true (sym e))
-same_by false true e = absurd (false≢true (sym e))
+same_by x y e = grind (arith, common_steps)
 
 other_by : (x y : Bool) → not (beq x y) ≡ true → y ≡ not x
-other_by true true e = absurd (false≢true e)
-other_by false false e = absurd (false≢true e)
-other_by true false e = refl
-other_by false true e = refl
+other_by x y e = grind (arith, common_steps)
 
 -- up to the next change, the pixel to the left keeps its colour
 pub before_same : (row : Row) (from p : ℕ) (c : Bool) → pixel_before row from ≡ c → ((q : ℕ) → from ≤ q → q < p → is_change row q ≡ false) → (q : ℕ)
@@ -119,8 +111,7 @@ pixels_same row from p c e none q le lt = elim (cases_lt q from) [
 
 -- at a change the colour turns
 pub at_change : (row : Row) (p : ℕ) (color : Color) → is_change row p ≡ true → pixel_before row p ≡ is_black color → pixel row p ≡ is_black (opposite color)
-at_change row p White change e = other_by (pixel_before row p) (pixel row p) change ∙ ap not e
-at_change row p Black change e = other_by (pixel_before row p) (pixel row p) change ∙ ap not e
+at_change row p color change e = grind (arith, common_steps)
 
 -- painting pixels of one colour
 pub take_painted : (row : Row) (a n : ℕ) (c : Bool) → a + n ≤ length row → ((q : ℕ) → a ≤ q → q < a + n → pixel row q ≡ c)

@@ -88,10 +88,7 @@ eqb-suc_even n = grind (arith, common_steps)
 
 -- comparing the other colour is the other comparison
 beq-not : (a b color : Bool) → b ≡ not a → beq a (not color) ≡ beq b color
-beq-not true b true e = rw e refl
-beq-not true b false e = rw e refl
-beq-not false b true e = rw e refl
-beq-not false b false e = rw e refl
+beq-not a b color e = grind (arith, common_steps)
 
 -- after an even number of changes the colour is the same, and else the other one
 pub turned-even : (color : Bool) (places : List ℕ) → turned color places ≡ beq (eqb (length places % 2) 0) color
@@ -179,8 +176,7 @@ pixel_before-next before (x ∷ front) row place e = rw e (pixel_before-next x f
 
 -- the pixel to the left, with a white one put before the row
 pixel_before-shift : (row : Row) (place : ℕ) → pixel_before row place ≡ get_or (false ∷ row) place false
-pixel_before-shift row zero = refl
-pixel_before-shift row (suc place) = refl
+pixel_before-shift row place = grind (arith, common_steps)
 
 -- the pixel after a front is a change where it differs from the front's last
 is_change-next : (front : Row) (here : Bool) (row : Row) → is_change (front ++ here ∷ row) (length front) ≡ not (beq (last_pixel false front) here)
@@ -223,8 +219,7 @@ changes_from-pixels_from place color width (change ∷ places) ascend =
     ∙ rw (changes_from-same place (change - place) color, at, last_pixel-same (change - place) color, opens) (by color _ _ _ rest)
   where
     by : (c : Bool) (row : Row) (here : ℕ) (rest : List ℕ) → changes_from (suc here) (not c) row ≡ rest → changes_from here c (not c ∷ row) ≡ here ∷ rest
-    by true row here rest e = ap (λ (xs : List ℕ). here ∷ xs) e
-    by false row here rest e = ap (λ (xs : List ℕ). here ∷ xs) e
+    by c row here rest e = grind (arith, common_steps)
 
 -- the changes of a row of lawful changes are these
 pub changes-pixels : (width : ℕ) (places : List ℕ) → AreChanges width places → changes (pixels width places) ≡ places

@@ -17,14 +17,11 @@ use Rattle.std.proofs.lemmas.Grind.{common_steps}
 
 -- a test for even numbers computes to this
 even_is : (even : Bool) (n : ℕ) → (IsTrue even → n % 2 ≡ 0) × (n % 2 ≡ 0 → IsTrue even) → even ≡ eqb (n % 2) 0
-even_is true n test = sym (eq-eqb (n % 2) 0 (test.0 refl))
-even_is false n test = grind (arith, common_steps)
+even_is even n test = grind (arith, common_steps)
 
 -- a test for white says whether a pixel of the colour is black
 is_black-not_white : (white : Bool) (color : Color) → (IsTrue white → color ≡ White) × (color ≡ White → IsTrue white) → is_black color ≡ not white
-is_black-not_white white White test = ap not (sym (test.1 refl))
-is_black-not_white true Black test = let e : Black ≡ White = test.0 refl in cc
-is_black-not_white false Black test = refl
+is_black-not_white white color test = grind (arith, common_steps)
 
 -- where the tests agree, the last pixel has the colour
 pub last_pixel-agrees : (painted : ℕ) (places : List ℕ) (color : Color) (even white : Bool) → AreChanges painted places
@@ -42,10 +39,7 @@ last_pixel-differs painted places color even white ascend is_even is_white diffe
 
 -- a colour that is the other one of a pixel isn't its own
 pub other_color : (pixel color : Bool) → not pixel ≡ color → pixel ≢ color
-other_color true true e same = false≢true e
-other_color true false e same = false≢true (sym same)
-other_color false true e same = false≢true same
-other_color false false e same = false≢true (sym e)
+other_color pixel color e same = grind (arith, common_steps)
 
 -- ---- Painting into a row.
 

@@ -58,8 +58,7 @@ split_of (place ∷ places) p = elim (cases_lt place p) [
         record { within = omega arith; before = earlier; here = λ l. split.here (omega arith) }
       where
         earlier : (k : ℕ) → k < suc j → get_or (place ∷ places) k 0 < p
-        earlier zero l = lt
-        earlier (suc k) l = split.before k (omega arith)
+        earlier k l = grind (arith, common_steps)
 
 -- ---- Ascending places.
 -- ascending places are from the first one on, and below the width
@@ -104,16 +103,13 @@ pixels_from-pixel place first color width (change ∷ places) p (suc j) ascend l
 
 -- ---- The changing elements of a row of pixels.
 same_beq : (b : Bool) → beq b b ≡ true
-same_beq true = refl
-same_beq false = refl
+same_beq b = grind (arith, common_steps)
 
 other_beq : (b : Bool) → beq b (not b) ≡ false
-other_beq true = refl
-other_beq false = refl
+other_beq b = grind (arith, common_steps)
 
 beq_other : (b : Bool) → beq (not b) b ≡ false
-beq_other true = refl
-beq_other false = refl
+beq_other b = grind (arith, common_steps)
 
 module _ (columns : ℕ) (places : List ℕ) (ascend : AreChanges columns places) where
   abbrev row : Row
@@ -333,14 +329,11 @@ right_of-pixels painted places ascend = grind (arith, common_steps, row_length)
 -- the changes that are at most at a0, while some pixel is painted
 pub IsSplit-painted : (places : List ℕ) (painted j : ℕ) → 0 < painted → j ≤ length places
     → ((k : ℕ) → k < j → get_or places k 0 ≤ painted) → (j < length places → painted < get_or places j 0) → IsSplit places (right_of_painted painted) j
-IsSplit-painted places zero j some within left here = absurd (omega arith)
-IsSplit-painted places (suc painted) j some within left here =
-    record { within = within; before = λ k l. omega (arith, left k l); here = λ l. omega (arith, here l) }
+IsSplit-painted places painted j some within left here = grind (arith, common_steps)
 
 -- while none is, a0 is left of them all
 pub IsSplit-none : (places : List ℕ) (painted : ℕ) → painted ≤ 0 → IsSplit places (right_of_painted painted) 0
-IsSplit-none places zero none = record { within = omega arith; before = λ k l. absurd (omega arith); here = λ l. omega arith }
-IsSplit-none places (suc painted) none = absurd (omega arith)
+IsSplit-none places painted none = grind (arith, common_steps)
 
 -- b2 is the change after b1
 pub b2_after_b1 : (columns : ℕ) (places : List ℕ) (from index : ℕ) (color : Color) → AreChanges columns places
@@ -352,30 +345,20 @@ b2_after_b1 columns places from index color ascend e =
 
 -- what a colour and the parity of an index tell
 black_from_white : (color : Color) (white : Bool) → IsTrue white ↔ (color ≡ White) → is_black color ≡ not white
-black_from_white White true h = refl
-black_from_white White false h = h.1 refl
-black_from_white Black true h = absurd (let e : Black ≡ White = h.0 refl in cc)
-black_from_white Black false h = refl
+black_from_white color white h = grind (arith, common_steps)
 
 turned_from_even : (n : ℕ) (even : Bool) → IsTrue even ↔ (n % 2 ≡ 0) → turned n false ≡ not even
 turned_from_even n true h = (turned_by_parity n).0 (h.0 refl)
 turned_from_even n false h = grind (arith, common_steps, cases_eq, false≢true, turned_by_parity)
 
 same_from : (even white : Bool) → not (beq even white) ≡ false → not even ≡ not white
-same_from true true e = refl
-same_from false false e = refl
-same_from true false e = absurd (false≢true (sym e))
-same_from false true e = absurd (false≢true (sym e))
+same_from even white e = grind (arith, common_steps)
 
 other_from : (even white : Bool) → not (beq even white) ≡ true → not even ≡ not (not white)
-other_from true false e = refl
-other_from false true e = refl
-other_from true true e = absurd (false≢true e)
-other_from false false e = absurd (false≢true e)
+other_from even white e = grind (arith, common_steps)
 
 pub not_not : (b : Bool) → not (not b) ≡ b
-not_not true = refl
-not_not false = refl
+not_not b = grind (arith, common_steps)
 
 module _ (columns : ℕ) (places : List ℕ) (from first : ℕ) (color : Color) (even white : Bool) (ascend : AreChanges columns places) (split : IsSplit places from first)
     (parity : IsTrue even ↔ (first % 2 ≡ 0)) (whiteness : IsTrue white ↔ (color ≡ White)) where

@@ -60,8 +60,7 @@ module _ (settings : DecodeSettings) (wide : 0 < settings.columns) where
       (λ s t. s ≡ t) (λ r q. r ≡ q) same (suc (suc (length run.rest))) (suc (left_to_read run)) run run (left_below run) (omega arith) refl
     where
       turn_same : (rest : Progress → Ending) (turn : Move) → Follows (λ s t. s ≡ t) (λ r q. r ≡ q) rest turn turn
-      turn_same rest (Turn.next t) = refl
-      turn_same rest (Turn.done r) = refl
+      turn_same rest turn = grind (arith, common_steps)
 
       same : (s t : Progress) → s ≡ t → Follows (λ s t. s ≡ t) (λ r q. r ≡ q) goes (move_on settings s) (move_on settings t)
       same s t e = subst (λ (r : Progress). Follows (λ s t. s ≡ t) (λ r q. r ≡ q) goes (move_on settings s) (move_on settings r)) e (turn_same goes (move_on settings s))
@@ -75,8 +74,7 @@ module _ (settings : DecodeSettings) (wide : 0 < settings.columns) where
   row_then_gap line next e = by (row_of_line settings line.has_eols line.rest (line_of_turn settings line)) e
     where
       by : (row : Result (Row × Bits) DecodeError) → add_row_alone line row ≡ Turn.next next → add_row settings line row ≡ pass_gap settings next
-      by (Ok (row, rest)) e = ap (pass_gap settings) (next_is _ next e)
-      by (Err fault) e = absurd (not_next _ next e)
+      by row e = grind (arith, common_steps)
 
   reaches_goes : (from last : Progress) → Reaches (gap_and_row settings) from last
       → after_turn goes (pass_gap settings from) ≡ after_turn goes (pass_gap settings last)

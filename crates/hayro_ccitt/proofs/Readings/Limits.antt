@@ -59,8 +59,7 @@ module _ (settings : DecodeSettings) (limit : ℕ) (some : 0 < limit) (wide : 0 
 
     -- short of the limit the turns are the same
     same_turn : (rows : List Row) (m : Move) → length rows < limit → Keeps rows m → Follows Same Cut rest m m
-    same_turn rows (Turn.next t) lt k = (refl, rw k lt)
-    same_turn rows (Turn.done e) lt k = short e (rw k lt)
+    same_turn rows m lt k = grind (arith, common_steps)
 
     -- at the limit the run is over
     cut_turn : (run : Progress) (found : ℕ × Bits) (m : Move) → length run.rows ≡ limit → Keeps run.rows m
@@ -73,8 +72,7 @@ module _ (settings : DecodeSettings) (limit : ℕ) (some : 0 < limit) (wide : 0 
     unless_over_open run (count, here) e = rw e refl
 
     seek_from_open : (run : Progress) (o : Option Bits) → limit_met limited (length run.rows) ≡ false → seek_from limited run o ≡ seek_from unlimited run o
-    seek_from_open run None e = refl
-    seek_from_open run (Some found) e = unless_over_open run (eols_here settings found) e
+    seek_from_open run o e = grind (arith, common_steps)
 
     after_row_open : (run : Progress) → limit_met limited (length run.rows) ≡ false → after_row limited run ≡ after_row unlimited run
     after_row_open run e = rw (e, seek_from_open run (next_eol run.rest) e) refl
@@ -154,16 +152,13 @@ module _ (settings : DecodeSettings) (limit : ℕ) (some : 0 < limit) (wide : 0 
 
   first_gap_follows : (encoding : EncodingMode) (bits : Bits)
       → Follows Same Cut unlimited_end (first_gap encoding limited bits) (first_gap encoding unlimited bits)
-  first_gap_follows Group4 bits = grind (arith, common_steps)
-  first_gap_follows Group3_1D bits = (refl, some)
-  first_gap_follows Group3_2D bits = (refl, some)
+  first_gap_follows encoding bits = grind (arith, common_steps)
 
   cut_end : (bits : Bits) → Cut (end_of limited bits) (end_of unlimited bits)
   cut_end bits = cut_behind (first_gap settings.encoding limited bits) (first_gap settings.encoding unlimited bits) (first_gap_follows settings.encoding bits)
 
 ok_bytes : (bits : Bits) (r : Result Bits DecodeError) → IsOk r → IsOk (bytes_before bits r)
-ok_bytes bits (Ok rest) ok = refl
-ok_bytes bits (Err fault) ok = absurd (false≢true ok)
+ok_bytes bits r ok = grind (arith, common_steps)
 
 -- the law
 pub row_limit : RowLimit

@@ -1,6 +1,7 @@
 -- A repeated step whose states get smaller comes to its end, however many turns more it is allowed.
 use Rattle.std.proofs.Common.{◌≡◌, ℕ, zero, suc, ◌<◌, refl, sym, subst, arith}
 use Rattle.hayro_ccitt.specs.Repetition.{Turn, repeated, Reaches}
+use Rattle.std.proofs.lemmas.Grind.{common_steps}
 
 -- a step that goes on to smaller states alone
 abbrev pub Shrinks : {S R : Type 0} → (S → Turn S R) → (S → ℕ) → Type 0
@@ -74,9 +75,7 @@ module _ {S R T U : Type 0} (step : S → Turn S R) (late : R) (size : S → ℕ
     where
       by : ((a : S) (b : T) → size a < n → P a b → Q (repeated step late n a) (other_rest b)) → (turn : Turn S R) (other_turn : Turn T U)
           → step s ≡ turn → Follows P Q other_rest turn other_turn → Q (after_turn (repeated step late n) turn) (after_turn other_rest other_turn)
-      by on (Turn.next a) (Turn.next b) e g = on a b (omega (arith, shrinks s a e)) g
-      by on (Turn.next a) (Turn.done q) e g = absurd g
-      by on (Turn.done r) other_turn e g = g
+      by on b other_turn e g = grind (arith, common_steps)
 
   -- answers of two repetitions whose turns agree
   pub repeated_follows : ((s : S) (t : T) → P s t → Follows P Q other_rest (step s) (other t)) → (n m : ℕ) (s : S) (t : T) → size s < n
@@ -125,5 +124,4 @@ repeated_induct {S} {R} step late size shrinks P ends goes (suc n) s lt =
     by (λ t small. repeated_induct step late size shrinks P ends goes n t small) (step s) refl
   where
     by : ((t : S) → size t < n → P t (repeated step late n t)) → (turn : Turn S R) → step s ≡ turn → P s (after_turn (repeated step late n) turn)
-    by on (Turn.next t) e = goes s t (repeated step late n t) e (on t (omega (arith, shrinks s t e)))
-    by on (Turn.done r) e = ends s r e
+    by on turn e = grind (arith, common_steps)

@@ -49,8 +49,7 @@ module _ (rest : Pen → Line) where
 
   try_follows : {A : Type 0} (front : Row) (r q : Result A DecodeError) (f g : A → Step) → ((x : A) → r ≡ Ok x → q ≡ Ok x)
       → ((x : A) → StepFollows (f x) (g x)) → StepFollows (try front r f) (try front q g)
-  try_follows front (Ok x) q f g same on = rw (same x refl) (on x)
-  try_follows front (Err fault) q f g same on = tt
+  try_follows front r q f g same on = grind (arith, common_steps)
 
   paint_lenient : (columns : ℕ) (front : Row) (color : Color) (n : ℕ) (x : Row) → paint true columns front color n ≡ Ok x
       → paint false columns front color n ≡ Ok x
@@ -135,8 +134,7 @@ module _ (settings : DecodeSettings) (wide : 0 < settings.columns) where
     keeps_extends rows (Turn.done e) k = ([], k ∙ sym (append-nil rows))
 
     same_turn : (m : Move) → Follows SameRun Precedes rest m m
-    same_turn (Turn.next t) = refl
-    same_turn (Turn.done e) = (([], sym (append-nil e.rows)), λ ok. refl)
+    same_turn m = grind (arith, common_steps)
 
     after_row_follows : (run : Progress) → Follows SameRun Precedes rest (after_row strictly run) (after_row leniently run)
     after_row_follows run =
@@ -182,16 +180,13 @@ module _ (settings : DecodeSettings) (wide : 0 < settings.columns) where
 
   first_gap_follows : (encoding : EncodingMode) (bits : Bits)
       → Follows SameRun Precedes lenient_end (first_gap encoding strictly bits) (first_gap encoding leniently bits)
-  first_gap_follows Group4 bits = grind (arith, common_steps)
-  first_gap_follows Group3_1D bits = refl
-  first_gap_follows Group3_2D bits = refl
+  first_gap_follows encoding bits = grind (arith, common_steps)
 
   precedes : (bits : Bits) → Precedes (end_of strictly bits) (end_of leniently bits)
   precedes bits = precedes_behind (first_gap settings.encoding strictly bits) (first_gap settings.encoding leniently bits) (first_gap_follows settings.encoding bits)
 
 ok_outcome : (bits : Bits) (r : Result Bits DecodeError) → IsOk (bytes_before bits r) → IsOk r
-ok_outcome bits (Ok rest) ok = refl
-ok_outcome bits (Err fault) ok = absurd (false≢true ok)
+ok_outcome bits r ok = grind (arith, common_steps)
 
 -- the law
 pub strict_then_lenient : StrictThenLenient
