@@ -109,6 +109,5 @@ few_keep_the_tag here = grind (arith, common_steps)
 
 -- one alone
 pub single_tagged_eol : (here rest : Bits) → after_eol 0 here ≡ Some rest → after_eol 0 rest ≡ None → after_eol 0 (drop 1 rest) ≡ None → tagged_eols here ≡ (1, rest)
-single_tagged_eol [] rest e none later = absurd cc
-single_tagged_eol (b ∷ here) rest e none later =
-    grind (arith, common_steps, eols_with_tags-none, eols_with_tags-some, few_keep_the_tag, tag_stays)
+single_tagged_eol here rest e none later =
+    grind (arith, common_steps, common_steps, eols_with_tags-none, eols_with_tags-some, few_keep_the_tag, tag_stays)

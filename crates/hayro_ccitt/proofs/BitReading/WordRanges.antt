@@ -68,8 +68,7 @@ word_begins width rest word n fits below some = rw (low_bits-append width rest n
 
     by : (n / 2 ^ rest ≡ word) ⊎ (n / 2 ^ rest ≡ word → ⊥)
         → is_prefix (low_bits width word) (low_bits width (n / 2 ^ rest) ++ low_bits rest n) ≡ eqb (n / 2 ^ rest) word
-    by (inl same) = rw (same, eq-eqb word word refl, after_at (low_bits width word) (low_bits rest n), is_prefix) refl
-    by (inr other) = differ (after (low_bits width word) (low_bits width (n / 2 ^ rest) ++ low_bits rest n)) refl other ∙ sym (ne_eqb (n / 2 ^ rest) word other)
+    by given = grind (arith, common_steps, after_at, differ, eq-eqb, ne_eqb)
 
 -- of bits so many
 pub word_begins_of : (whole width word n : ℕ) → width ≤ whole → word < 2 ^ width → n < 2 ^ whole

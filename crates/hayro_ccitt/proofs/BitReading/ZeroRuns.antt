@@ -62,8 +62,7 @@ eols_fewer (suc most) here = by (λ rest. eols_fewer most rest) (after_eol 0 her
   where
     by : ((rest : Bits) → (eols most rest).0 + length (eols most rest).1 ≤ length rest) → (o : Option Bits) → after_eol 0 here ≡ o
         → (eols (suc most) here).0 + length (eols (suc most) here).1 ≤ length here
-    by on None e = rw (e, eols) (omega arith)
-    by on (Some rest) e = rw (e, eols) (omega (arith, length-one_more (eols most rest), one_more-count (eols most rest), on rest, after_eol_shorter 0 here rest e))
+    by on o e = grind (arith, common_steps, after_eol_shorter, length-one_more, one_more-count)
 
 -- where at least as many EOLs as bits are looked for, all are
 pub eols_enough : (most : ℕ) (here : Bits) → length here ≤ most → eols most here ≡ all_eols here
@@ -80,10 +79,7 @@ eols_enough most here le = alike most (length here) here le (omega arith)
       where
         by : ((rest : Bits) → length rest ≤ most → length rest ≤ others → eols most rest ≡ eols others rest) → (o : Option Bits)
             → after_eol 0 (bit ∷ here) ≡ o → eols (suc most) (bit ∷ here) ≡ eols (suc others) (bit ∷ here)
-        by on None e = rw (e, eols) refl
-        by on (Some rest) e =
-            let shorter = after_eol_shorter 0 (bit ∷ here) rest e in
-            rw (e, eols) (ap one_more (on rest (omega (arith, le, shorter)) (omega (arith, le1, shorter))))
+        by on o e = grind (arith, common_steps, after_eol_shorter)
 
 -- where more EOLs than bits are looked for, the bits after the last are looked at
 pub eols_look_on : (most : ℕ) (here rest : Bits) (count : ℕ) → length here < most → eols most here ≡ (count, rest)

@@ -183,8 +183,7 @@ run_read_stands pen = by (run_from pen.color (0, pen.rest)) stands.2
 
     by : (r : Result (ℕ × Bits) DecodeError) → RunEnds r stands.0
         → TurnStands pen.rest (λ (run : ℕ × Bits). run.1) (unless_fault pen.front r) (run_found pen.color (0, pen.rest))
-    by (Ok run) ends = subst (λ (x : Bits). Stands pen.rest (run_found pen.color (0, pen.rest)) x) (sym ends) stands.1
-    by (Err fault) ends = (stands.0, stands.1, tt)
+    by r ends = grind (arith, common_steps, stands)
 
 mode_word : (v : Mode) (w : Bits) → Has mode_codes v w → IsWord w
 mode_word v w i = inr (v, i)

@@ -36,8 +36,7 @@ later_descends seen (false ∷ here) = later_descends (suc seen) here
 later_descends seen (true ∷ here) = by (leb 11 seen && begins_line here) (later_descends 0 here)
   where
     by : (b : Bool) → Descends (later_starts 0 here) → Descends (cond b (here ∷ []) [] ++ later_starts 0 here)
-    by true d = (later_below 0 here, d)
-    by false d = d
+    by b d = grind (arith, common_steps, later_below)
 
 -- ---- An EOL ends at each, and none begins
 

@@ -167,8 +167,7 @@ module _ (x y : Bits) where
 
         full : (b : Bool) → Follows Pens LineAlike rest (cond b (Turn.done (Line.whole front here)) (drawn_by (run_from color (0, here))))
             (cond b (Turn.done (Line.whole front there)) (drawn_by (run_from color (0, there))))
-        full true = (refl, infront)
-        full false = drew (run_from color (0, here)) (run_from color (0, there)) (run_alike color 0 here there infront)
+        full b = grind (arith, common_steps, drew, run_alike)
 
     pens_alike : (s t : Pen) → Pens s t → Follows Pens LineAlike rest (step_1d false columns s) (step_1d false columns t)
     pens_alike s t (front, color, here, there, a, b, infront) = rw (a, b) (drew_alike front color here there infront)

@@ -51,8 +51,7 @@ terminating_word White n lt = some_word (codes_of White) n (agree_below_at (λ m
 terminating_word Black n lt = some_word (codes_of Black) n (agree_below_at (λ m. is_some (word_for (codes_of Black) m)) (λ m. true) 64 n refl lt)
 
 makeup_word : (color : Color) → (word : Bits) × Has (codes_of color) 64 word
-makeup_word White = some_word (codes_of White) 64 refl
-makeup_word Black = some_word (codes_of Black) 64 refl
+makeup_word color = grind (arith, common_steps, some_word)
 
 run_spelled : (color : Color) (times n : ℕ) → n < 64 → (bits : Bits) × Spells color (64 * times + n) bits
 run_spelled color zero n lt = let word = terminating_word color n lt in

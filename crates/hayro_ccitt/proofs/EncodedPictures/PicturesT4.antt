@@ -202,19 +202,13 @@ module _ (settings : DecodeSettings) (wide : 0 < settings.columns) (small : sett
 
   tag_starts : (reference row : Row) (line more : Bits) → EncodesLine Group3_2D reference row line → length row ≡ settings.columns
       → past_tag (line ++ more) ≡ line ++ more
-  tag_starts reference row line more (rest, inl is) row_len = grind (arith, common_steps, line_1d_starts)
-  tag_starts reference row line more (rest, inr is) row_len = rw is.0 refl
+  tag_starts reference row line more given row_len = grind (arith, common_steps, common_steps, line_1d_starts)
 
   -- one EOL is counted before a line
   eol_before : (encoding : EncodingMode) (reference row : Row) (fill : ℕ) (line more : Bits) → Matches encoding settings → EncodesLine encoding reference row line
       → length row ≡ settings.columns → eols_here settings (eol fill ++ (line ++ more)) ≡ (1, line ++ more)
-  eol_before Group4 reference row fill line more matches is row_len = absurd matches
-  eol_before Group3_1D reference row fill line more matches is row_len = eols_here_one settings (eol fill ++ (line ++ more)) matches
-      ∙ one_eol fill (line ++ more) (line_t4_starts Group3_1D reference row line more matches is row_len).no_eol
-  eol_before Group3_2D reference row fill line more matches is row_len =
-      eols_here_two settings (eol fill ++ (line ++ more)) matches
-      ∙ one_tagged fill (line ++ more) (record
-      { start = line_t4_starts Group3_2D reference row line more matches is row_len; no_tag = tag_starts reference row line more is row_len })
+  eol_before encoding reference row fill line more matches is row_len =
+      grind (arith, common_steps, eols_here_one, eols_here_two, line_t4_starts, one_eol, one_tagged, tag_starts)
 
   -- ---- The lines of a picture.
   abbrev with_eols : List Row → Bits → Progress

@@ -72,10 +72,7 @@ b1_black reference p = grind (arith, common_steps)
 -- the pen's place right of a0 serves as well as a0's own
 pub b1_right : (reference front : Row) (from : ℕ) (color : Color) → length front ≡ from - 1 → (from ≡ 1 → color ≡ Black)
     → b1 reference (right_of front) color ≡ b1 reference from color
-b1_right reference [] zero color len first = refl
-b1_right reference [] (suc zero) color len first = grind (arith, common_steps, b1_black, first, least_same)
-b1_right reference [] (suc (suc from)) color len first = absurd (omega arith)
-b1_right reference (p ∷ front) from color len first = grind (arith, common_steps)
+b1_right reference front from color len first = grind (arith, common_steps, b1_black, common_steps, first, least_same)
 
 -- b2 of a front, by its place
 pub b2_right : (reference front : Row) (from : ℕ) (color : Color) → length front ≡ from - 1 → (from ≡ 1 → color ≡ Black)

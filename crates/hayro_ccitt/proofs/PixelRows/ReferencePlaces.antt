@@ -348,8 +348,7 @@ black_from_white : (color : Color) (white : Bool) → IsTrue white ↔ (color �
 black_from_white color white h = grind (arith, common_steps)
 
 turned_from_even : (n : ℕ) (even : Bool) → IsTrue even ↔ (n % 2 ≡ 0) → turned n false ≡ not even
-turned_from_even n true h = (turned_by_parity n).0 (h.0 refl)
-turned_from_even n false h = grind (arith, common_steps, cases_eq, false≢true, turned_by_parity)
+turned_from_even n even h = grind (arith, common_steps, cases_eq, common_steps, false≢true, turned_by_parity)
 
 same_from : (even white : Bool) → not (beq even white) ≡ false → not even ≡ not white
 same_from even white e = grind (arith, common_steps)

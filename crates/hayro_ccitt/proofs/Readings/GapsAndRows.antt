@@ -66,8 +66,7 @@ module _ (settings : DecodeSettings) (wide : 0 < settings.columns) where
       same s t e = subst (λ (r : Progress). Follows (λ s t. s ≡ t) (λ r q. r ≡ q) goes (move_on settings s) (move_on settings r)) e (turn_same goes (move_on settings s))
 
   ending_behind_goes : (gap : Move) → ending_behind settings gap ≡ after_turn goes gap
-  ending_behind_goes (Turn.next run) = ending_goes run
-  ending_behind_goes (Turn.done end) = refl
+  ending_behind_goes gap = grind (arith, common_steps, ending_goes)
 
   -- a row, and the gap behind it, are a turn
   row_then_gap : (line next : Progress) → row_behind settings (Turn.next line) ≡ Turn.next next → move_on settings line ≡ pass_gap settings next

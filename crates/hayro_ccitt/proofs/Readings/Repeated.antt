@@ -111,9 +111,7 @@ reached_follows {S} {R} {T} {U} step late size shrinks other other_late other_si
 
     reached : (s : S) (t : T) → Reaches step first s → Reaches other other_first t → (turn : Turn S R) (other_turn : Turn T U) → step s ≡ turn
         → other t ≡ other_turn → Follows P Q rest turn other_turn → Follows Reached Q rest turn other_turn
-    reached s t from other_from (Turn.next a) (Turn.next b) e f g = (reaches_on step first s a from e, reaches_on other other_first t b other_from f, g)
-    reached s t from other_from (Turn.next a) (Turn.done q) e f g = absurd g
-    reached s t from other_from (Turn.done r) other_turn e f g = g
+    reached s t from other_from given other_turn e f g = grind (arith, common_steps, reaches_on)
 
 -- what holds of each last turn, and goes back over each other turn, holds of the answer
 pub repeated_induct : {S R : Type 0} (step : S → Turn S R) (late : R) (size : S → ℕ) → Shrinks step size → (P : S → R → Type 0)

@@ -99,11 +99,7 @@ line_2d_agrees columns reference here =
 
 line_by_agrees : (encoding : EncodingMode) (columns : ℕ) (reference : Row) (here : Bits)
     → Agrees (line_by encoding true columns reference here) (line_by encoding false columns reference here)
-line_by_agrees Group3_1D columns reference here = line_1d_agrees columns here
-line_by_agrees Group3_2D columns reference [] = tt
-line_by_agrees Group3_2D columns reference (true ∷ rest) = line_1d_agrees columns rest
-line_by_agrees Group3_2D columns reference (false ∷ rest) = line_2d_agrees columns reference rest
-line_by_agrees Group4 columns reference here = line_2d_agrees columns reference here
+line_by_agrees encoding columns reference here = grind (arith, common_steps, line_1d_agrees, line_2d_agrees)
 
 -- ---- Runs
 
