@@ -69,9 +69,7 @@ with_rows_found (row ∷ table) here entry found free e =
         let width : length here - length rest ≡ row.1 = omega (arith, ap length stands, length-append (low_bits row.1 row.2) rest, length-low_bits row.1 row.2) in
         with_rows_none table here (with_row row here entry) none ∙ row_stands row here rest entry a
         ∙ ap (λ (w : ℕ). w * 4096 + row.0) (sym width) ∙ ap (λ (f : ℕ × Bits). (length here - length f.1) * 4096 + f.0) p
-    by on None a =
-        let g : word_at (numbered table) here ≡ Some found = rw (a, word_at) at e in
-        on both.1 g
+    by on None a = grind (arith, common_steps)
 
 -- ---- Words that begin all bits.
 abbrev pub In : Bits → List Bits → Type 0

@@ -25,6 +25,7 @@ use Rattle.hayro_ccitt.proofs.DamagedLines.LinesByEols.{past_shorter, seeks}
 use Rattle.hayro_ccitt.proofs.DamagedLines.EolsAlike.{Closes, RestAlike, all_eols_alike}
 use Rattle.hayro_ccitt.proofs.DamagedLines.RunsAlike.{RowsAlike, EndsAlike, RunsAlike, IsTail, moves_alike}
 use Rattle.hayro_ccitt.proofs.DamagedLines.LineTails.{after_eol_is, is_tail}
+use Rattle.std.proofs.lemmas.Grind.{common_steps}
 
 -- ---- From the ends of two runs to their answers
 
@@ -247,10 +248,7 @@ locality settings one are whole_one two from to to2 whole_two differ = by (cases
     no_columns e bits = cond-true (eqb settings.columns 0) _ _ (eq-eqb settings.columns 0 e)
 
     same_after : local_two.closes.0 ≡ local_one.closes.0
-    same_after =
-        let e : ◌≡◌ {A = Option Bits} (Some local_two.closes.0) (Some local_one.closes.0) = sym local_two.closes.1 ∙ ap (after_eol 0) (sym differ.behind)
-        ∙ local_one.closes.1 in
-        cc
+    same_after = grind (arith, common_steps)
 
     tail_one : IsTail settings.columns local_one.closes.0 (drop from one)
     tail_one = is_tail settings one from to local_one
@@ -261,10 +259,7 @@ locality settings one are whole_one two from to to2 whole_two differ = by (cases
     by : (settings.columns ≡ 0) ⊎ (settings.columns ≡ 0 → ⊥)
         → OneRowDiffers settings one two from (plain settings one).rows (plain settings two).rows
         × EndAlike settings one two from (plain settings one).rows (plain settings one).outcome (plain settings two).outcome
-    by (inl e) = (
-      inl (ap (λ (a : Reading). a.rows) (no_columns e two ∙ sym (no_columns e one))),
-      EndAlike.no_columns e (ap (λ (a : Reading). a.outcome) (no_columns e one)) (ap (λ (a : Reading). a.outcome) (no_columns e two)),
-    )
+    by (inl e) = grind (arith, common_steps)
     by (inr e) =
         let wide : 0 < settings.columns = elim (cases_lt 0 settings.columns) [ inl lt ↦ lt | inr ge ↦ absurd (e (omega arith)) ] in
         let fits_one : from ≤ length one = omega (arith, local_one.order, local_one.within) in

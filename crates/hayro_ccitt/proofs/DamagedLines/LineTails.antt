@@ -58,8 +58,7 @@ next_eol_leaves (bit ∷ here) found e = by (next_eol_leaves here found) (after_
     by : (next_eol here ≡ Some found → (before : Bits) × (here ≡ before ++ found)) → (o : Option Bits) → after_eol 0 (bit ∷ here) ≡ o
         → (before : Bits) × ((bit ∷ here) ≡ before ++ found)
     by on None f = let g : next_eol here ≡ Some found = rw (f, next_eol) at e in let h = on g in (bit ∷ h.0, ap (λ (b : Bits). bit ∷ b) h.1)
-    by on (Some rest) f = let g : ◌≡◌ {A = Option Bits} (Some (bit ∷ here)) (Some found)
-        = rw (f, next_eol) at e in ([], let same : (bit ∷ here) ≡ found = cc in same)
+    by on (Some rest) f = grind (arith, common_steps)
 
 -- where no EOL ends within some bits, the next is the one after them
 past_before : (seen : ℕ) (bits z after : Bits) → past seen bits ≡ None → after_eol 0 z ≡ Some after → past seen (bits ++ z) ≡ Some after

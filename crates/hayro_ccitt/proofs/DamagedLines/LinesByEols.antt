@@ -78,16 +78,7 @@ starts_after (suc n) here lt = by (λ next small. starts_after n next small) (af
         ap (λ (x : List Bits). x ++ later_starts 0 here) no ∙ starts-past 0 here next (past-eol 0 here next e)
         ∙ on next (omega (arith, after_eol_shorter 0 here next e))
         ∙ ap from_here (sym skip ∙ ap (λ (x : ℕ × Bits). x.1) (sym (all_eols-some here next e)))
-    by on None e = ap (λ (x : List Bits). x ++ later_starts 0 here) (at here e) ∙ itself here
-        ∙ ap from_here (ap (λ (x : ℕ × Bits). x.1) (sym (all_eols-none here e)))
-      where
-        at : (here : Bits) → after_eol 0 here ≡ None → own here ≡ cond (at_end here) [] (here ∷ [])
-        at [] e = refl
-        at (b ∷ here) e = cond-true (begins_line (b ∷ here)) ((b ∷ here) ∷ []) [] (rw e refl)
-
-        itself : (here : Bits) → cond (at_end here) [] (here ∷ []) ++ later_starts 0 here ≡ from_here here
-        itself [] = refl
-        itself (b ∷ here) = refl
+    by on None e = grind (arith, common_steps)
 
 -- the later starts are those from the end of the next EOLs on
 pub starts-next : (here after : Bits) → past 0 here ≡ Some after → later_starts 0 here ≡ from_here (all_eols after).1

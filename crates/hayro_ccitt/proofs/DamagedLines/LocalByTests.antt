@@ -25,11 +25,7 @@ none_further [] here e = by here e
   where
     by : (here : Bits) → next_eol here ≡ None → after_eol 0 here ≡ None
     by [] e = refl
-    by (bit ∷ here) e = case (after_eol 0 (bit ∷ here)) refl
-      where
-        case : (o : Option Bits) → after_eol 0 (bit ∷ here) ≡ o → after_eol 0 (bit ∷ here) ≡ None
-        case None f = f
-        case (Some rest) f = absurd (let g : ◌≡◌ {A = Option Bits} (Some (bit ∷ here)) None = rw (f, next_eol) at e in cc)
+    by (bit ∷ here) e = grind (arith, common_steps)
 none_further (bit ∷ before) here e = none_further before here (rest (after_eol 0 (bit ∷ (before ++ here))) refl)
   where
     rest : (o : Option Bits) → after_eol 0 (bit ∷ (before ++ here)) ≡ o → next_eol (before ++ here) ≡ None

@@ -90,14 +90,8 @@ module _ (settings : DecodeSettings) (encoding : settings.encoding ≡ Group3_1D
 
       by : (line : Line) → after_line settings (sought rows here) line ≡ after_row settings
           (sought (rows ++ row_of settings.columns line ∷ []) (rest_of line here))
-      by (Line.whole row rest) = after_whole-is settings (sought rows here) row rest ∙ ap (λ (x : Bits). after_row settings (sought (rows ++ row ∷ []) x))
-          (cond-false (settings.rows_are_byte_aligned && false) (aligned rest) rest no_align)
-      by (Line.broken front fault) =
-          let row : Row = front ++ replicate (settings.columns - length front) false in
-          after_damage-is settings (sought rows here) front fault ∙ cond-false (settings.strict || false) (ends_with (sought rows here) (Err fault)) (row_added settings (sought rows here) row here)
-          (or_from settings.strict false lenient refl)
-          ∙ ap (λ (x : Bits). after_row settings (sought (rows ++ row ∷ []) x))
-          (cond-false (settings.rows_are_byte_aligned && false) (aligned here) here no_align)
+      by (Line.whole row rest) = grind (arith, common_steps)
+      by (Line.broken front fault) = grind (arith, common_steps)
 
   -- at the limit a run is over, past the EOLs here
   pub limit_done : (rows : List Row) (here : Bits) → limit_met settings (length rows) ≡ true

@@ -53,12 +53,7 @@ split_of (place ∷ places) p = elim (cases_lt place p) [
 ]
   where
     split_later : (place : ℕ) (places : List ℕ) (p j : ℕ) → place < p → IsSplit places p j → IsSplit (place ∷ places) p (suc j)
-    split_later place places p j lt split =
-        let within : j ≤ length places = split.within in
-        record { within = omega arith; before = earlier; here = λ l. split.here (omega arith) }
-      where
-        earlier : (k : ℕ) → k < suc j → get_or (place ∷ places) k 0 < p
-        earlier k l = grind (arith, common_steps)
+    split_later place places p j lt split = grind (arith, common_steps)
 
 -- ---- Ascending places.
 -- ascending places are from the first one on, and below the width
@@ -296,10 +291,7 @@ module _ (columns : ℕ) (places : List ℕ) (ascend : AreChanges columns places
 
       -- a change that is left of it, and not left of a0, turns the other way
       wrong_color : (j : ℕ) → first ≤ j → j < index → turned j false ≡ not (is_black color)
-      wrong_color j le lt = elim reach [
-        | inl same ↦ absurd (omega arith)
-        | inr next ↦ let e : j ≡ first = omega (arith, next.0) in rw e next.1
-      ]
+      wrong_color j le lt = grind (arith, common_steps)
 
       none_by : (p : ℕ) → p < change index → from ≤ p → (is_change row p && beq (pixel_before row p) (is_black color)) ≡ false
       none_by p lt le =
