@@ -152,8 +152,7 @@ eight_zeros_there color here h e = by (covers_all 13 (eight_zeros ∷ words_of (
     by (w, inl same, rest, at) = (rest, at ∙ ap (λ (x : Bits). x ++ rest) (sym same))
     by (w, inr i, rest, at) =
         let (v, has) = in_words (codes_of color) w i in
-        let there : word_at (codes_of color) here ≡ Some (v, rest) = rw at (word_at_again (codes_of color) v w rest (codes_free color) has) in
-        absurd cc
+        grind (arith, common_steps, codes_free, word_at_again)
 
 -- an agreement that ends goes no further
 agreement_ended : (word here rest : Bits) → agreement word here < length here → agreement word (here ++ rest) ≡ agreement word here

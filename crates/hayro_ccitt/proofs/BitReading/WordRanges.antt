@@ -75,9 +75,7 @@ pub word_begins_of : (whole width word n : ℕ) → width ≤ whole → word < 2
     → is_prefix (low_bits width word) (low_bits whole n) ≡ eqb (n / 2 ^ (whole - width)) word
 word_begins_of whole width word n le fits below =
     let e : width + (whole - width) ≡ whole = omega arith in
-    let product : 2 ^ whole ≡ 2 ^ width * 2 ^ (whole - width) = ap (λ (k : ℕ). 2 ^ k) (sym e) ∙ pow-add 2 width (whole - width) in
-    subst (λ (k : ℕ). is_prefix (low_bits width word) (low_bits k n) ≡ eqb (n / 2 ^ (whole - width)) word) e
-    (word_begins width (whole - width) word n fits (rw product at below) (pow_pos (whole - width)))
+    grind (arith, common_steps, pow-add, pow_pos, word_begins)
 
 -- ---- The numbers from a multiple on.
 inside : (m word n : ℕ) → word * m ≤ n → n < word * m + m → n / m ≡ word

@@ -50,10 +50,7 @@ pub eols_stepped : (max count : ℕ) (start now after : Bits) → eols max start
     → eols max start ≡ (count + 1 + (eols (max - (count + 1)) after).0, (eols (max - (count + 1)) after).1)
 eols_stepped max count start now after e h lt =
     let one = eols_one (max - count) now after h (omega arith) in
-    let n : max - count - 1 ≡ max - (count + 1) = omega arith in
-    let f : eols (max - count) now ≡ (suc (eols (max - (count + 1)) after).0, (eols (max - (count + 1)) after).1) = rw n at one in
-    let m : count + suc (eols (max - (count + 1)) after).0 ≡ count + 1 + (eols (max - (count + 1)) after).0 = omega arith in
-    e ∙ rw f (ap (λ (k : ℕ). (k, (eols (max - (count + 1)) after).1)) m)
+    grind (arith, common_steps)
 
 -- an EOL takes a bit
 pub eols_fewer : (most : ℕ) (here : Bits) → (eols most here).0 + length (eols most here).1 ≤ length here

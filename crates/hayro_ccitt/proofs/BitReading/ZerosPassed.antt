@@ -40,8 +40,7 @@ word_zeros w k small h =
 word_one : (w : ℕ) → w < 2 ^ 32 → count_leading_zeros 32 w < 32 → bit_of w (31 - count_leading_zeros 32 w) ≡ true
 word_one w small few =
     let top = leading_top 32 w (some_number 32 w small few) small in
-    let at : 31 - count_leading_zeros 32 w ≡ top.0 = omega (arith, top.1) in
-    rw at (ap (λ (b : ℕ). eqb (b % 2) 1) (one_times w top.0 top.2 top.3))
+    grind (arith, common_steps, one_times)
 
 -- ---- Zeros from a place on.
 zeros_here : (bits : Bits) (place n : ℕ) → ((k : ℕ) → k < n → get_or bits (place + k) false ≡ false) → place + n ≤ length bits
@@ -98,9 +97,7 @@ pub one_follows : (now next : BitsAt) (w : ℕ) → w < 2 ^ 32 → Holds w now �
     → count_leading_zeros 32 w < 32 → slice_get next.bits next.place ≡ Some true
 one_follows now next w small held e few =
     let one = one_ahead now w small held few in
-    let within = slice_get_within now.bits (now.place + count_leading_zeros 32 w) true one in
-    let place : min (now.place + count_leading_zeros 32 w) (length now.bits) ≡ now.place + count_leading_zeros 32 w = omega (arith, within) in
-    ap (λ (x : BitsAt). slice_get x.bits x.place) e ∙ ap (λ (i : ℕ). slice_get now.bits i) place ∙ one
+    grind (arith, common_steps, min, slice_get, slice_get_within)
 
 -- ---- A copy of a reader that passed zeros, and a one behind them.
 pub run_passed : (old copy new : BitsAt) (to from : ℕ) → copy ≡ old → here copy ≡ replicate (new.place - copy.place) false ++ here new → to ≡ new.place → from ≡ old.place

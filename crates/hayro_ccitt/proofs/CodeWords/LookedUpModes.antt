@@ -33,11 +33,7 @@ mode_begins mode width word n has le fits below e = by (after (low_bits width wo
     by None a = absurd (false≢true (rw (a, is_prefix) at (begins width word n le fits below e)))
     by (Some rest) a =
         let stands = after_is (low_bits width word) (seven_bits n) rest a in
-        let found : word_at mode_codes (seven_bits n) ≡ Some (mode, rest) = rw stands (word_at_again mode_codes mode (low_bits width word) rest modes_free has) in
-        let bits : telling_bits mode_codes (seven_bits n) ≡ length (seven_bits n) - length rest = rw (found, telling_bits) refl in
-        let first : Some mode ≡ option_map (λ f. f.0) (word_at mode_codes (seven_bits n)) = sym (ap (λ (o : Option (Mode × Bits)). option_map (λ f. f.0) o) found) in
-        let second : width ≡ telling_bits mode_codes (seven_bits n) = omega (arith, bits, ap length stands, length-append (low_bits width word) rest, length-low_bits width word) in
-        cc
+        grind (arith, common_steps, length-append, length-low_bits, modes_free, option_map, word_at_again)
 
 -- no word begins with six zeros
 pub mode_none : (n : ℕ) → n < 2 → ◌≡◌ {A = Option Mode × ℕ} (None, 6) (mode_told (seven_bits n))

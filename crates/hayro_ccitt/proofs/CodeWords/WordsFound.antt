@@ -82,11 +82,7 @@ pub word_stands : {V : Type 0} (list : List (Code V)) (here : Bits) (v : V) (res
     → read_code list here ≡ Ok (v, rest) → Stands here (word_found list here) rest
 word_stands {V} list here v rest is e =
     let f = read_code_found list here v rest e in
-    let n : length here - length rest ≡ length f.0 = omega (arith, ap length f.2, length-append f.0 rest) in
-    let w : take (length here - length rest) here ≡ f.0 = ap (λ (k : ℕ). take k here) n ∙ ap (λ (x : Bits). take (length f.0) x) f.2 ∙ take_append f.0 rest in
-    let found : word_found list here ≡ f.0 ∷ [] = rw (e, word_found) (ap (λ (x : Bits). x ∷ []) w) in
-    subst (λ (x : List Bits). Stands here x rest) (sym found)
-    (record { words = (is f.0 f.1, tt); place = f.2 ∙ ap (λ (x : Bits). x ++ rest) (sym (append-nil f.0)) })
+    grind (arith, common_steps, append-nil, length-append, take_append)
 
 -- a reading that found no word
 pub no_word_stands : {V : Type 0} (list : List (Code V)) (here : Bits) (fault : DecodeError) → read_code list here ≡ Err fault
@@ -313,19 +309,16 @@ found_to_the_end : (encoding : EncodingMode) (strict : Bool) (columns : ℕ) (re
 found_to_the_end Group3_2D strict columns reference row [] rest whole = absurd cc
 found_to_the_end Group3_2D strict columns reference row (true ∷ here) rest whole =
     let found = line_1d_stands strict columns here in
-    ap (λ (b : Bits). true ∷ b) (whole_rest (line_1d strict columns here) row found.0 rest here
-    (joined (found_1d strict columns here)) whole found.2 found.1.place)
+    grind (arith, common_steps, whole_rest)
 found_to_the_end Group3_2D strict columns reference row (false ∷ here) rest whole =
     let found = line_2d_stands strict columns reference here in
-    ap (λ (b : Bits). false ∷ b) (whole_rest (line_2d strict columns reference here) row found.0 rest here
-    (joined (found_2d strict columns reference here)) whole found.2 found.1.place)
+    grind (arith, common_steps, whole_rest)
 found_to_the_end Group3_1D strict columns reference row here rest whole =
     let found = line_1d_stands strict columns here in
     whole_rest (line_1d strict columns here) row found.0 rest here (joined (found_1d strict columns here)) whole found.2 found.1.place
 found_to_the_end Group4 strict columns reference row here rest whole =
     let found = line_2d_stands strict columns reference here in
-    whole_rest (line_2d strict columns reference here) row found.0 rest here
-    (joined (found_2d strict columns reference here)) whole found.2 found.1.place
+    grind (arith, common_steps, whole_rest)
 
 -- the law
 pub words_synchronised : Synchronised

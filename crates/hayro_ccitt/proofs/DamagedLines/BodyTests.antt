@@ -134,9 +134,7 @@ eol_in_front m here found after next eol = found_ends (take m here) ∙ by (past
     by None e = rw (e, lt-leb (length (drop m here)) (length after) (past-behind 0 (take m here) after (drop m here) e whole)) refl
     by (Some front) e =
         let both : ◌≡◌ {A = Option Bits} (Some (front ++ drop m here)) (Some after) = sym (past-front 0 (take m here) front (drop m here) e) ∙ whole in
-        let same : front ++ drop m here ≡ after = cc in
-        let fits : length (drop m here) ≤ length after = omega (arith, ap length same, length-append front (drop m here)) in
-        rw (e, le-leb (length (drop m here)) (length after) fits) refl
+        grind (arith, common_steps, le-leb, length-append)
 
 -- an EOL stands between two places if the next one ends there
 pub eol_by_ends : (bits : Bits) (from to end : ℕ) (found : Bits) → from ≤ to → to ≤ length bits → end ≤ length bits → next_eol (drop from bits) ≡ Some found

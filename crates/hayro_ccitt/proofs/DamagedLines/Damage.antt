@@ -169,8 +169,7 @@ module _ (settings : DecodeSettings) (one two : Bits) (from : ℕ) (after : Bits
       at : (bits : Bits) → after_eol 0 (drop from bits) ≡ None → first bits ≡ sought [] (drop from bits)
       at bits none =
           let all : drop from bits ≡ bits = ap (λ (n : ℕ). drop n bits) zero_from in
-          let counted : all_eols bits ≡ (0, bits) = all_eols-none bits (ap (after_eol 0) (sym all) ∙ none) in
-          first_is bits (drop from bits) (or_right (ltb 0 (all_eols bits).0) settings.end_of_line eol) (ap (λ (f : ℕ × Bits). f.1) counted ∙ sym all)
+          grind (arith, common_steps, all_eols-none, first_is, or_right)
 
   begin_ahead : (front : Bits) → Closes front → one ≡ front ++ true ∷ drop from one → (ltb 0 (all_eols one).0 || settings.end_of_line) ≡ true
       → RunsAlike Begun from (drop from one) (drop from two) after (first one) (first two)

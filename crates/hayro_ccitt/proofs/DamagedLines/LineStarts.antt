@@ -58,8 +58,7 @@ from_later : (seen : ℕ) (here end : Bits) → Contains (later_starts seen here
 from_later seen [] end c = absurd (contains_none end c)
 from_later seen (false ∷ here) end c =
     let f = from_later (suc seen) here end c in
-    let g = f.0 in
-    ((g.0, (g.1.0, sym (zeros_along seen here) ∙ g.1.1), g.2, omega (arith, g.3)), f.1)
+    grind (arith, common_steps, zeros_along)
 from_later seen (true ∷ here) end c =
     by (leb 11 seen && begins_line here) refl (from_later 0 here end)
     (Contains-append_cases (cond (leb 11 seen && begins_line here) (here ∷ []) []) (later_starts 0 here) end c)
@@ -92,8 +91,7 @@ from_later seen (true ∷ here) end c =
 shorter_end : (xs ys us vs : Bits) → xs ++ ys ≡ us ++ vs → length vs ≤ length ys → Leaves ys vs
 shorter_end xs ys us vs e le =
     let lengths : length xs + length ys ≡ length us + length vs = sym (length-append xs ys) ∙ ap length e ∙ length-append us vs in
-    let f = prefix_of_prefix xs ys us vs (sym e) (omega (arith, lengths, le)) in
-    (f.0, append_cancel_left xs ys (f.0 ++ vs) (e ∙ ap (λ (b : Bits). b ++ vs) f.1 ∙ append_assoc xs f.0 vs))
+    grind (arith, common_steps, append_assoc, append_cancel_left, prefix_of_prefix)
 
 same_end : (xs ys us vs : Bits) → xs ++ ys ≡ us ++ vs → length ys ≡ length vs → ys ≡ vs
 same_end xs ys us vs e len =

@@ -74,10 +74,7 @@ starts_after (suc n) here lt = by (λ next small. starts_after n next small) (af
         → own here ++ later_starts 0 here ≡ from_here (all_eols here).1
     by on (Some next) e =
         let no : own here ≡ [] = cond-false (begins_line here) (here ∷ []) [] (and_right (not (at_end here)) (not (is_some (after_eol 0 here))) (rw e refl)) in
-        let skip : (one_more (all_eols next)).1 ≡ (all_eols next).1 = refl in
-        ap (λ (x : List Bits). x ++ later_starts 0 here) no ∙ starts-past 0 here next (past-eol 0 here next e)
-        ∙ on next (omega (arith, after_eol_shorter 0 here next e))
-        ∙ ap from_here (sym skip ∙ ap (λ (x : ℕ × Bits). x.1) (sym (all_eols-some here next e)))
+        grind (arith, common_steps, after_eol_shorter, all_eols-some, past-eol, starts-past)
     by on None e = grind (arith, common_steps)
 
 -- the later starts are those from the end of the next EOLs on

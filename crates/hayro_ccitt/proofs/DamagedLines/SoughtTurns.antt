@@ -54,15 +54,8 @@ module _ (settings : DecodeSettings) (encoding : settings.encoding ≡ Group3_1D
           → after_row settings (sought rows here) ≡ unless_over settings (sought rows here) (one_more (all_eols after))
       by (Some next) f =
           let g : ◌≡◌ {A = Option Bits} (Some next) (Some after) = sym (past-eol 0 here next f) ∙ e in
-          let same : next ≡ after = cc in
-          let counted : eols_here settings here ≡ one_more (all_eols after) = eols_here_is here ∙ all_eols-some here next f
-          ∙ ap (λ (x : Bits). one_more (all_eols x)) same in
-          let some : eqb (eols_here settings here).0 0 ≡ false
-          = ne_eqb (eols_here settings here).0 0 (λ z. absurd (omega (arith, z, ap (λ (x : ℕ × Bits). x.0) counted, one_more-count (all_eols after)))) in
-          let untrue : test ≡ false = and_left ((eqb (eols_here settings here).0 0 && true) && not (limit_met settings (length rows))) (not (at_end here))
-          (and_left (eqb (eols_here settings here).0 0 && true) (not (limit_met settings (length rows)))
-          (and_left (eqb (eols_here settings here).0 0) true some)) in
-          cond-false test _ _ untrue ∙ ap (unless_over settings run) counted
+          grind (arith, common_steps, all_eols-some, and_left, cond-false, eols_here_is, ne_eqb, one_more-count, run, test,
+          unless_over)
       by None f =
           let none : eqb (eols_here settings here).0 0 ≡ true = ap (λ (x : ℕ × Bits). eqb x.0 0) (eols_here_is here ∙ all_eols-none here f) in
           let is_true : test ≡ true = and_from ((eqb (eols_here settings here).0 0 && true) && not (limit_met settings (length rows))) (not (at_end here))

@@ -118,9 +118,7 @@ length-closing : (encoding : EncodingMode) (n : ℕ) (closing more : Bits) → C
 length-closing encoding zero closing more is = omega arith
 length-closing encoding (suc n) closing more (fill, next, then, is) =
     let on = length-closing encoding n next more then in
-    let here : closing ++ more ≡ eol fill ++ (tag_of encoding ++ (next ++ more)) = ap (λ (x : Bits). x ++ more) is
-    ∙ append_assoc (eol fill ++ tag_of encoding) next more ∙ append_assoc (eol fill) (tag_of encoding) (next ++ more) in
-    omega (arith, on, ap length here, length-eol fill (tag_of encoding ++ (next ++ more)), length-append (tag_of encoding) (next ++ more))
+    grind (arith, common_steps, append_assoc, length-append, length-eol)
 
 -- the first of them, and its tag
 tag_after : (fill : ℕ) (closing next more : Bits) → closing ≡ eol fill ++ tag_of Group3_2D ++ next → closing ++ more ≡ eol fill ++ (true ∷ (next ++ more))
@@ -237,13 +235,7 @@ module _ (settings : DecodeSettings) (wide : 0 < settings.columns) (small : sett
     lines_t4_again before row rows line next zero all ref_len widths is lines lt = absurd (omega arith)
     lines_t4_again before row [] line next (suc fuel) all ref_len widths is lines lt =
         let row_len : length row ≡ settings.columns = All-head (λ row. length row ≡ settings.columns) row [] widths in
-        let here : line ++ (next ++ tail) ≡ line ++ tail = ap (λ (x : Bits). line ++ (x ++ tail)) lines in
-        let read : line_here settings (row_before settings.columns before) (line ++ (next ++ tail)) ≡ Line.whole row tail
-        = ap (line_here settings (row_before settings.columns before)) here
-        ∙ line_t4_again encoding (row_before settings.columns before) row line tail matches is ref_len row_len in
-        let moved : move_on settings (with_eols before (line ++ (next ++ tail))) ≡ Turn.done (ends_well whole last)
-        = row_added before row (line ++ (next ++ tail)) tail read ∙ ap (λ (rs : List Row). after_row settings (with_eols rs tail)) all ∙ stops in
-        ap (after_turn (repeated (move_on settings) late fuel)) moved
+        grind (arith, common_steps, after_row, after_turn, line_t4_again, row_added)
     lines_t4_again before row (row2 ∷ rows) line next (suc fuel) all ref_len widths is (fill, line_2d, next2, is2, lines2, split) lt =
         let row_len : length row ≡ settings.columns = All-head (λ row. length row ≡ settings.columns) row (row2 ∷ rows) widths in
         let widths2 = All-tail (λ row. length row ≡ settings.columns) row (row2 ∷ rows) widths in
@@ -291,8 +283,7 @@ module _ (settings : DecodeSettings) (wide : 0 < settings.columns) (small : sett
   length-lines encoding reference [] bits lines = omega arith
   length-lines encoding reference (row ∷ rows) bits (fill, line, next, is, lines, split) =
       let on = length-lines encoding row rows next lines in
-      let here : bits ≡ eol fill ++ (line ++ next) = split ∙ append_assoc (eol fill) line next in
-      omega (arith, on, ap length here, length-eol fill (line ++ next), length-append line next)
+      grind (arith, common_steps, append_assoc, length-append, length-eol)
 
   -- lines with their EOLs are read, and the run ends where it does after the last
   pub lines_t4_end : (encoding : EncodingMode) (rows : List Row) (lines tail last : Bits) → Matches encoding settings → 0 < length rows

@@ -205,9 +205,7 @@ module _ (columns : ℕ) (places : List ℕ) (ascend : AreChanges columns places
       there : suc index < length places → (is_right_of (change index) (change (suc index))) ≡ true
       there lt =
           let e : change index ≡ get_or places index 0 = get_or_default_zero places index columns (omega arith) in
-          let f : change (suc index) ≡ get_or places (suc index) 0 = get_or_default_zero places (suc index) columns lt in
-          let right : ltb (get_or places index 0) (get_or places (suc index) 0) ≡ true = lt-ltb _ _ (order index (suc index) (omega arith) lt) in
-          rw (e, f, right) (change_there (suc index) lt)
+          grind (arith, common_steps, change_there, get_or_default_zero, lt-ltb, order)
 
       none_by : (p : ℕ) → p < change (suc index) → change index < p → is_change row p ≡ false
       none_by p lt left =
@@ -244,8 +242,7 @@ module _ (columns : ℕ) (places : List ℕ) (ascend : AreChanges columns places
       there : first < length places → (leb from (change first) && is_change row (change first)) ≡ true
       there lt =
           let e : change first ≡ get_or places first 0 = get_or_default_zero places first columns lt in
-          let right : leb from (get_or places first 0) ≡ true = le-leb _ _ (split.here lt) in
-          rw (e, right) (change_there first lt)
+          grind (arith, common_steps, change_there, le-leb)
 
       none_by : (p : ℕ) → p < change first → from ≤ p → is_change row p ≡ false
       none_by p lt le =
