@@ -42,11 +42,7 @@ same_front : (a b x y : Bits) → length a ≡ length b → a ++ x ≡ b ++ y �
 same_front [] [] x y h e = refl
 same_front [] (c ∷ b) x y h e = absurd (omega arith)
 same_front (d ∷ a) [] x y h e = absurd (omega arith)
-same_front (d ∷ a) (c ∷ b) x y h e =
-    let first : d ≡ c = cc in
-    let others : a ++ x ≡ b ++ y = cc in
-    let on = same_front a b x y (omega arith) others in
-    cc
+same_front (d ∷ a) (c ∷ b) x y h e = grind (arith, common_steps, same_front a b x y (omega arith))
 
 -- a word begins the bits of the numbers that its own, with more bits behind it, are
 pub word_begins : (width rest word n : ℕ) → word < 2 ^ width → n < 2 ^ width * 2 ^ rest → 0 < 2 ^ rest

@@ -67,22 +67,14 @@ word_quiet word (inr w) = each_word_at is_quiet mode_codes w.0 word modes_quiet 
 pub scan_below : (m n k : ℕ) (bits : Bits) → m ≤ n → scan n bits ≡ Some k → (j : ℕ) × (scan m bits ≡ Some j) × (j ≤ k)
 scan_below m n k [] le e = let same : n ≡ k = cc in (m, refl, omega arith)
 scan_below m n k (true ∷ bits) le e = (k, e, omega arith)
-scan_below m n k (false ∷ bits) le e = elim (cases_lt n 10) [
-  | inl lt ↦ let f : scan (suc n) bits ≡ Some k = rw (lt-ltb n 10 lt) at e in
-      let g = scan_below (suc m) (suc n) k bits (omega arith) f in
-      let lt' : m < 10 = omega arith in
-      (g.0, rw (lt-ltb m 10 lt') g.1, g.2)
-  | inr ge ↦ absurd (let f : None ≡ Some k = rw (le-ltb n 10 ge) at e in cc)
-]
+scan_below m n k (false ∷ bits) le e =
+    grind (arith, common_steps, cases_lt, le-ltb, lt-ltb, scan_below (suc m) (suc n) k bits (omega arith))
 
 -- what was read, and then more
 pub scan-append : (n k : ℕ) (a b : Bits) → scan n a ≡ Some k → scan n (a ++ b) ≡ scan k b
 scan-append n k [] b e = let same : n ≡ k = cc in rw same refl
 scan-append n k (true ∷ a) b e = scan-append 0 k a b e
-scan-append n k (false ∷ a) b e = elim (cases_lt n 10) [
-  | inl lt ↦ let f : scan (suc n) a ≡ Some k = rw (lt-ltb n 10 lt) at e in rw (lt-ltb n 10 lt) (scan-append (suc n) k a b f)
-  | inr ge ↦ absurd (let f : None ≡ Some k = rw (le-ltb n 10 ge) at e in cc)
-]
+scan-append n k (false ∷ a) b e = grind (arith, common_steps, cases_lt, le-ltb, lt-ltb, scan-append (suc n) k a b)
 
 -- the test says how many zeros there are
 pub quiet_is : (o : Option ℕ) → at_most_three o ≡ true → (k : ℕ) × (o ≡ Some k) × (k ≤ 3)
@@ -147,8 +139,4 @@ word_one word (inr w) = each_word_at holds_a_one mode_codes w.0 word refl w.1
 pub prefix_of_prefix : (us vs xs ys : Bits) → xs ++ ys ≡ us ++ vs → length us ≤ length xs → (more : Bits) × (xs ≡ us ++ more)
 prefix_of_prefix [] vs xs ys e le = (xs, refl)
 prefix_of_prefix (u ∷ us) vs [] ys e le = absurd (omega arith)
-prefix_of_prefix (u ∷ us) vs (x ∷ xs) ys e le =
-    let heads : x ≡ u = cc in
-    let tails : xs ++ ys ≡ us ++ vs = cc in
-    let f = prefix_of_prefix us vs xs ys tails (omega arith) in
-    (f.0, cc)
+prefix_of_prefix (u ∷ us) vs (x ∷ xs) ys e le = grind (arith, common_steps, prefix_of_prefix us vs xs ys)

@@ -27,41 +27,29 @@ length-padded (suc n) (b ∷ here) = omega (arith, length-padded n here)
 pub padded-append : (n : ℕ) (word rest : Bits) → length word ≤ n → padded n (word ++ rest) ≡ word ++ padded (n - length word) rest
 padded-append n [] rest h = let e : n - 0 ≡ n = omega arith in rw e refl
 padded-append zero (b ∷ word) rest h = absurd (omega arith)
-padded-append (suc n) (b ∷ word) rest h =
-    let e : suc n - length (b ∷ word) ≡ n - length word = omega arith in
-    rw e (ap (λ (x : Bits). b ∷ x) (padded-append n word rest (omega arith)))
+padded-append (suc n) (b ∷ word) rest h = grind (arith, common_steps, padded-append n word rest (omega arith))
 
 -- a word that stands in the padded bits stands here, where there are bits enough
 pub stands_in_padded : (n : ℕ) (here word rest : Bits) → padded n here ≡ word ++ rest → length word ≤ length here → here ≡ word ++ drop (length word) here
 stands_in_padded n here [] rest e h = refl
 stands_in_padded n [] (b ∷ word) rest e h = absurd (omega arith)
 stands_in_padded zero (c ∷ here) (b ∷ word) rest e h = absurd cc
-stands_in_padded (suc n) (c ∷ here) (b ∷ word) rest e h =
-    let first : c ≡ b = cc in
-    let others : padded n here ≡ word ++ rest = cc in
-    let on = stands_in_padded n here word rest others (omega arith) in
-    alike c b here (word ++ drop (length word) here) first on
+stands_in_padded (suc n) (c ∷ here) (b ∷ word) rest e h = grind (arith, common_steps, alike, stands_in_padded n here word rest)
 
 -- where there are fewer, they are a prefix of the word
 pub cut_in_padded : (n : ℕ) (here word rest : Bits) → padded n here ≡ word ++ rest → length here ≤ length word → (more : Bits) × (word ≡ here ++ more)
 cut_in_padded n [] word rest e h = (word, refl)
 cut_in_padded n (c ∷ here) [] rest e h = absurd (omega arith)
 cut_in_padded zero (c ∷ here) (b ∷ word) rest e h = absurd cc
-cut_in_padded (suc n) (c ∷ here) (b ∷ word) rest e h =
-    let first : b ≡ c = cc in
-    let others : padded n here ≡ word ++ rest = cc in
-    let on = cut_in_padded n here word rest others (omega arith) in
-    (on.0, alike b c word (here ++ on.0) first on.1)
+cut_in_padded (suc n) (c ∷ here) (b ∷ word) rest e h = grind (arith, common_steps, alike, cut_in_padded n here word rest)
 
 -- bits that all agree with a word are a prefix of it
 pub agrees_with_all : (n : ℕ) (here word : Bits) → length here ≤ agreement word (padded n here) → (more : Bits) × (word ≡ here ++ more)
 agrees_with_all n [] word h = (word, refl)
 agrees_with_all n (c ∷ here) [] h = absurd (omega arith)
 agrees_with_all zero (c ∷ here) (b ∷ word) h = absurd (omega arith)
-agrees_with_all (suc n) (true ∷ here) (true ∷ word) h =
-    let on = agrees_with_all n here word (omega arith) in (on.0, ap (λ (x : Bits). true ∷ x) on.1)
-agrees_with_all (suc n) (false ∷ here) (false ∷ word) h =
-    let on = agrees_with_all n here word (omega arith) in (on.0, ap (λ (x : Bits). false ∷ x) on.1)
+agrees_with_all (suc n) (true ∷ here) (true ∷ word) h = grind (arith, common_steps, agrees_with_all n here word (omega arith))
+agrees_with_all (suc n) (false ∷ here) (false ∷ word) h = grind (arith, common_steps, agrees_with_all n here word (omega arith))
 agrees_with_all (suc n) (true ∷ here) (false ∷ word) h = absurd (omega arith)
 agrees_with_all (suc n) (false ∷ here) (true ∷ word) h = absurd (omega arith)
 

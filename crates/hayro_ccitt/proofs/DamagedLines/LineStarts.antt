@@ -19,8 +19,7 @@ use Rattle.std.proofs.lemmas.Grind.{common_steps}
 -- ---- Later starts come in order
 later_below : (seen : ℕ) (here : Bits) → All (λ other. length other < length here) (later_starts seen here)
 later_below seen [] = All-nil (λ other. length other < 0)
-later_below seen (false ∷ here) = All-weaker (λ other. length other < length here) (λ other. length other < suc (length here))
-    (λ other lt. omega arith) (later_starts (suc seen) here) (later_below (suc seen) here)
+later_below seen (false ∷ here) = grind (arith, common_steps, later_below (suc seen) here)
 later_below seen (true ∷ here) =
     All-append (λ other. length other < suc (length here)) (cond (leb 11 seen && begins_line here) (here ∷ []) []) (later_starts 0 here)
     (by (leb 11 seen && begins_line here))
@@ -56,9 +55,7 @@ contains_none other (k, lt, e) = absurd (omega arith)
 
 from_later : (seen : ℕ) (here end : Bits) → Contains (later_starts seen here) end → EndsLater seen here end × (begins_line end ≡ true)
 from_later seen [] end c = absurd (contains_none end c)
-from_later seen (false ∷ here) end c =
-    let f = from_later (suc seen) here end c in
-    grind (arith, common_steps, zeros_along)
+from_later seen (false ∷ here) end c = grind (arith, common_steps, common_steps, zeros_along, from_later (suc seen) here end c)
 from_later seen (true ∷ here) end c =
     by (leb 11 seen && begins_line here) refl (from_later 0 here end)
     (Contains-append_cases (cond (leb 11 seen && begins_line here) (here ∷ []) []) (later_starts 0 here) end c)

@@ -35,8 +35,7 @@ after_eol_is seen (true ∷ here) rest e = let f = eol_at_one seen here rest e i
 pub first_one : (k : ℕ) (rest before after : Bits) → replicate k false ++ true ∷ rest ≡ before ++ true ∷ after → k ≤ length before
 first_one zero rest before after e = omega arith
 first_one (suc k) rest [] after e = absurd cc
-first_one (suc k) rest (b ∷ before) after e =
-    omega (arith, first_one k rest before after (let f : replicate k false ++ true ∷ rest ≡ before ++ true ∷ after = cc in f))
+first_one (suc k) rest (b ∷ before) after e = grind (arith, common_steps, first_one k rest before after)
 
 -- zeros before an EOL are of it
 pub after_eol_more : (seen more : ℕ) (here rest : Bits) → seen ≤ more → after_eol seen here ≡ Some rest → after_eol more here ≡ Some rest
@@ -64,10 +63,7 @@ next_eol_leaves (bit ∷ here) found e = by (next_eol_leaves here found) (after_
 past_before : (seen : ℕ) (bits z after : Bits) → past seen bits ≡ None → after_eol 0 z ≡ Some after → past seen (bits ++ z) ≡ Some after
 past_before seen [] z after none e = past-eol seen z after (after_eol_more 0 seen z after (omega arith) e)
 past_before seen (false ∷ bits) z after none e = past_before (suc seen) bits z after none e
-past_before seen (true ∷ bits) z after none e = elim (cases_lt seen 11) [
-  | inl lt ↦ rw (lt-leb 11 seen lt) (past_before 0 bits z after (rw (lt-leb 11 seen lt) at none) e)
-  | inr ge ↦ absurd (let f : ◌≡◌ {A = Option Bits} (Some bits) None = rw (le-leb 11 seen ge) at none in cc)
-]
+past_before seen (true ∷ bits) z after none e = grind (arith, common_steps, cases_lt, le-leb, lt-leb, past_before 0 bits z after)
 
 module _ (settings : DecodeSettings) (bits : Bits) (from to : ℕ) (local : IsLocal settings bits from to) where
   -- the bits from the body on

@@ -24,10 +24,7 @@ use Rattle.std.proofs.lemmas.Grind.{common_steps}
 scan_stays : (n : ℕ) (a b : Bits) → scan n a ≡ None → scan n (a ++ b) ≡ None
 scan_stays n [] b e = absurd cc
 scan_stays n (true ∷ a) b e = scan_stays 0 a b e
-scan_stays n (false ∷ a) b e = elim (cases_lt n 10) [
-  | inl lt ↦ rw (lt-ltb n 10 lt) (scan_stays (suc n) a b (rw (lt-ltb n 10 lt) at e))
-  | inr ge ↦ rw (le-ltb n 10 ge) refl
-]
+scan_stays n (false ∷ a) b e = grind (arith, common_steps, cases_lt, le-ltb, lt-ltb, scan_stays (suc n) a b)
 
 -- with more zeros before them the bits hold eleven zeros too
 scan_above : (m n : ℕ) (bits : Bits) → m ≤ n → scan m bits ≡ None → scan n bits ≡ None

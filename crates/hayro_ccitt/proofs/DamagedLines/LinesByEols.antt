@@ -30,11 +30,7 @@ use Rattle.std.proofs.lemmas.Grind.{common_steps}
 pub past_shorter : (seen : ℕ) (here after : Bits) → past seen here ≡ Some after → length after < length here
 past_shorter seen [] after e = absurd cc
 past_shorter seen (false ∷ here) after e = omega (arith, past_shorter (suc seen) here after e)
-past_shorter seen (true ∷ here) after e = elim (cases_lt seen 11) [
-  | inl lt ↦ omega (arith, past_shorter 0 here after (rw (lt-leb 11 seen lt) at e))
-  | inr ge ↦ let f : ◌≡◌ {A = Option Bits} (Some here) (Some after) = rw (le-leb 11 seen ge) at e in let same : here ≡ after
-      = cc in omega (arith, ap length same)
-]
+past_shorter seen (true ∷ here) after e = grind (arith, common_steps, cases_lt, le-leb, lt-leb, past_shorter 0 here after)
 
 -- ---- Where lines begin
 
@@ -45,21 +41,12 @@ own here = cond (begins_line here) (here ∷ []) []
 starts-past : (seen : ℕ) (here after : Bits) → past seen here ≡ Some after → later_starts seen here ≡ own after ++ later_starts 0 after
 starts-past seen [] after e = absurd cc
 starts-past seen (false ∷ here) after e = starts-past (suc seen) here after e
-starts-past seen (true ∷ here) after e = elim (cases_lt seen 11) [
-  | inl lt ↦ rw (lt-leb 11 seen lt) (starts-past 0 here after (rw (lt-leb 11 seen lt) at e))
-  | inr ge ↦
-      let f : ◌≡◌ {A = Option Bits} (Some here) (Some after) = rw (le-leb 11 seen ge) at e in
-      let same : here ≡ after = cc in
-      rw (le-leb 11 seen ge) (ap (λ (x : Bits). own x ++ later_starts 0 x) same)
-]
+starts-past seen (true ∷ here) after e = grind (arith, common_steps, cases_lt, le-leb, lt-leb, starts-past 0 here after)
 
 starts-none : (seen : ℕ) (here : Bits) → past seen here ≡ None → later_starts seen here ≡ []
 starts-none seen [] e = refl
 starts-none seen (false ∷ here) e = starts-none (suc seen) here e
-starts-none seen (true ∷ here) e = elim (cases_lt seen 11) [
-  | inl lt ↦ rw (lt-leb 11 seen lt) (starts-none 0 here (rw (lt-leb 11 seen lt) at e))
-  | inr ge ↦ absurd (let f : ◌≡◌ {A = Option Bits} (Some here) None = rw (le-leb 11 seen ge) at e in cc)
-]
+starts-none seen (true ∷ here) e = grind (arith, common_steps, cases_lt, le-leb, lt-leb, starts-none 0 here)
 
 -- the starts from a place on
 abbrev from_here : Bits → List Bits

@@ -34,15 +34,13 @@ none_further (bit ∷ before) here e = none_further before here (rest (after_eol
 take_zeros : (k m : ℕ) (rest : Bits) → k < m → take m (replicate k false ++ true ∷ rest) ≡ replicate k false ++ true ∷ take (m - (k + 1)) rest
 take_zeros k zero rest lt = absurd (omega arith)
 take_zeros zero (suc m) rest lt = let e : suc m - (0 + 1) ≡ m = omega arith in ap (λ (n : ℕ). true ∷ take n rest) (sym e)
-take_zeros (suc k) (suc m) rest lt = let e : suc m - (suc k + 1) ≡ m - (k + 1)
-    = omega arith in ap (λ (b : Bits). false ∷ b) (take_zeros k m rest (omega arith) ∙ ap (λ (n : ℕ). replicate k false ++ true ∷ take n rest) (sym e))
+take_zeros (suc k) (suc m) rest lt = grind (arith, common_steps, rest, take_zeros k m rest (omega arith))
 
 take-split : {A : Type 0} (j m : ℕ) (xs : List A) → j ≤ m → take m xs ≡ take j xs ++ take (m - j) (drop j xs)
 take-split zero m xs le = let e : m - 0 ≡ m = omega arith in ap (λ (n : ℕ). take n xs) (sym e)
 take-split (suc j) zero xs le = absurd (omega arith)
 take-split (suc j) (suc m) [] le = grind (arith, common_steps)
-take-split {A} (suc j) (suc m) (x ∷ xs) le = let e : suc m - suc j ≡ m - j
-    = omega arith in ap (λ (l : List A). x ∷ l) (take-split j m xs (omega arith) ∙ ap (λ (n : ℕ). take j xs ++ take n (drop j xs)) (sym e))
+take-split {A} (suc j) (suc m) (x ∷ xs) le = grind (arith, common_steps, take-split j m xs (omega arith))
 
 -- how far an EOL reaches
 eol_lengths : (bits : Bits) (place end zeros : ℕ) → drop place bits ≡ replicate zeros false ++ true ∷ drop end bits

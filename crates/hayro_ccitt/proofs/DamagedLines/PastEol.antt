@@ -73,10 +73,5 @@ past_here seen fewer (true ∷ here) after le e far = grind (arith, common_steps
 pub past_later : (seen : ℕ) (before here after : Bits) → past seen (before ++ here) ≡ Some after → length after + 12 ≤ length here → past 0 here ≡ Some after
 past_later seen [] here after e far = past_here seen 0 here after (omega arith) e (omega (arith, far))
 past_later seen (false ∷ before) here after e far = past_later (suc seen) before here after e far
-past_later seen (true ∷ before) here after e far = elim (cases_lt seen 11) [
-  | inl lt ↦ past_later 0 before here after (rw (lt-leb 11 seen lt) at e) far
-  | inr ge ↦ absurd (
-      let f : ◌≡◌ {A = Option Bits} (Some (before ++ here)) (Some after) = rw (le-leb 11 seen ge) at e in
-      let same : before ++ here ≡ after = cc in
-      omega (arith, far, ap length same, length-append before here))
-]
+past_later seen (true ∷ before) here after e far =
+    grind (arith, common_steps, cases_lt, le-leb, length-append, lt-leb, past_later 0 before here after)

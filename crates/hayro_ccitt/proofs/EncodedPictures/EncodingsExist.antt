@@ -193,9 +193,7 @@ same_bit m n j k e = ap (λ (b : ℕ). eqb b 1) e
 low_bits_of_low : (width a k b : ℕ) → width ≤ k → low_bits width (a * 2 ^ k + b) ≡ low_bits width b
 low_bits_of_low zero a k b le = refl
 low_bits_of_low (suc width) a k b le =
-    let one : bit_of (a * 2 ^ k + b) width ≡ bit_of b width = same_bit (a * 2 ^ k + b) b width width (bit_at_cat_low a k b width (omega arith)) in
-    let rest = low_bits_of_low width a k b (omega arith) in
-    cc
+    grind (arith, common_steps, bit_at_cat_low, same_bit, low_bits_of_low width a k b (omega arith))
 
 digit_bit : (bit : Bool) → bit_of (digit bit) 0 ≡ bit
 digit_bit bit = grind (arith, common_steps)
@@ -205,13 +203,7 @@ low_bits_value : (bits : Bits) → low_bits (length bits) (value bits) ≡ bits
 unfolding value
 low_bits_value [] = refl
 low_bits_value (bit ∷ bits) =
-    let n : ℕ = length bits in
-    let none : n - n ≡ 0 = omega arith in
-    let one : bit_of (digit bit * 2 ^ n + value bits) n ≡ bit
-    = same_bit (digit bit * 2 ^ n + value bits) (digit bit) n (n - n) (bit_at_cat_high (digit bit) n (value bits) n (value_below bits) (omega arith))
-    ∙ ap (bit_of (digit bit)) none ∙ digit_bit bit in
-    let rest : low_bits n (digit bit * 2 ^ n + value bits) ≡ bits = low_bits_of_low n (digit bit) n (value bits) (omega arith) ∙ low_bits_value bits in
-    cc
+    grind (arith, common_steps, bit_at_cat_high, digit_bit, low_bits_of_low, same_bit, value, value_below, low_bits_value bits)
 
 -- the first bits, so many of them
 cut : (n : ℕ) (bits : Bits) → n ≤ length bits → (front rest : Bits) × (bits ≡ front ++ rest) × (length front ≡ n)

@@ -107,18 +107,12 @@ eols_closing : (n most : ℕ) (closing more : Bits) → ClosesWithEols Group3_1D
 eols_closing zero most closing more is le = omega arith
 eols_closing (suc n) zero closing more is le = absurd (omega arith)
 eols_closing (suc n) (suc most) closing more (fill, next, then, is) le =
-    let here : closing ++ more ≡ eol fill ++ (next ++ more) = ap (λ (x : Bits). x ++ more) is
-    ∙ ap (λ (x : Bits). (x ++ next) ++ more) (append-nil (eol fill)) ∙ append_assoc (eol fill) next more in
-    let on = eols_closing n most next more then (omega arith) in
-    let found : (eols (suc most) (closing ++ more)).0 ≡ suc (eols most (next ++ more)).0 = ap (λ (x : Bits). (eols (suc most) x).0) here
-    ∙ ap (λ (f : ℕ × Bits). f.0) (eols_more most fill (next ++ more)) ∙ one_more-count (eols most (next ++ more)) in
-    omega (arith, found, on)
+    grind (arith, common_steps, append-nil, append_assoc, eols_more, one_more-count, eols_closing n most next more)
 
 length-closing : (encoding : EncodingMode) (n : ℕ) (closing more : Bits) → ClosesWithEols encoding n closing → n ≤ length (closing ++ more)
 length-closing encoding zero closing more is = omega arith
 length-closing encoding (suc n) closing more (fill, next, then, is) =
-    let on = length-closing encoding n next more then in
-    grind (arith, common_steps, append_assoc, length-append, length-eol)
+    grind (arith, common_steps, append_assoc, common_steps, length-append, length-eol, length-closing encoding n next more)
 
 -- the first of them, and its tag
 tag_after : (fill : ℕ) (closing next more : Bits) → closing ≡ eol fill ++ tag_of Group3_2D ++ next → closing ++ more ≡ eol fill ++ (true ∷ (next ++ more))
@@ -137,14 +131,8 @@ tagged_eols_closing : (n most : ℕ) (closing more : Bits) → ClosesWithEols Gr
 tagged_eols_closing zero most closing more is le = omega arith
 tagged_eols_closing (suc n) zero closing more is le = absurd (omega arith)
 tagged_eols_closing (suc n) (suc most) closing more (fill, next, then, is) le =
-    let tail : Bits = next ++ more in
-    let here : closing ++ more ≡ eol fill ++ true ∷ tail = tag_after fill closing next more is in
-    let on : n ≤ (eols_with_tags most (past_tag (true ∷ tail))).0
-    = tagged_eols_behind n most next more then (tagged_eols_closing n most next more then (omega arith)) in
-    let found : (eols_with_tags (suc most) (closing ++ more)).0 ≡ suc (eols_with_tags most (past_tag (true ∷ tail))).0
-    = ap (λ (x : Bits). (eols_with_tags (suc most) x).0) here ∙ ap (λ (f : ℕ × Bits). f.0) (tagged_eols_more most fill (true ∷ tail))
-    ∙ one_more-count (eols_with_tags most (past_tag (true ∷ tail))) in
-    omega (arith, found, on)
+    grind (arith, common_steps, one_more-count, tag_after, tagged_eols_behind, tagged_eols_more, tagged_eols_closing n most next
+    more)
 
 six_tagged : (closing more : Bits) → ClosesWithEols Group3_2D 6 closing → 6 ≤ (tagged_eols (closing ++ more)).0
 six_tagged closing more is = grind (arith, common_steps, last_tag_count, length-closing, tagged_eols_closing)

@@ -15,9 +15,7 @@ use Rattle.std.proofs.lemmas.Grind.{common_steps}
 pub AscendFrom-wider : (low first width wider : ℕ) (places : List ℕ) → low ≤ first → width ≤ wider → AscendFrom first width places → AscendFrom low wider places
 AscendFrom-wider low first width wider [] le below ascend = tt
 AscendFrom-wider low first width wider (place ∷ places) le below ascend =
-    let from : first ≤ place = ascend.0 in
-    let within : place < width = ascend.1 in
-    (omega arith, omega arith, AscendFrom-wider (suc place) (suc place) width wider places (omega arith) below ascend.2)
+    grind (arith, common_steps, AscendFrom-wider (suc place) (suc place) width wider places (omega arith) below ascend.2)
 
 -- places that ascend right of a place ascend from it on
 AscendFrom-here : (place width : ℕ) (places : List ℕ) → AscendFrom (suc place) width places → AscendFrom place width places
@@ -36,9 +34,7 @@ pub AscendFrom-push : (first width more : ℕ) (places : List ℕ) → first ≤
     → AscendFrom first (width + more) (places ++ width ∷ [])
 AscendFrom-push first width more [] le some ascend = (le, omega arith, tt)
 AscendFrom-push first width more (place ∷ places) le some ascend =
-    let from : first ≤ place = ascend.0 in
-    let within : place < width = ascend.1 in
-    (from, omega arith, AscendFrom-push (suc place) width more places (omega arith) some ascend.2)
+    grind (arith, common_steps, AscendFrom-push (suc place) width more places (omega arith) some ascend.2)
 
 -- ---- Pixels between places.
 
@@ -56,10 +52,8 @@ pub length-pixels_from : (place : ℕ) (color : Bool) (width : ℕ) (places : Li
     → place + length (pixels_from place color width places) ≡ width
 length-pixels_from place color width [] le ascend = omega (arith, length-replicate (width - place) color)
 length-pixels_from place color width (change ∷ places) le ascend =
-    let from : place ≤ change = ascend.0 in
-    let within : change < width = ascend.1 in
-    let rest = length-pixels_from change (not color) width places (omega arith) (AscendFrom-here change width places ascend.2) in
-    omega (arith, rest, length-append (replicate (change - place) color) (pixels_from change (not color) width places), length-replicate (change - place) color)
+    grind (arith, common_steps, AscendFrom-here, length-append, length-replicate, length-pixels_from change (not color) width
+    places (omega arith) (AscendFrom-here change width places ascend.2))
 
 -- a row of lawful changes has as many pixels as its width
 pub length-pixels : (width : ℕ) (places : List ℕ) → AreChanges width places → length (pixels width places) ≡ width
@@ -94,22 +88,15 @@ beq-not a b color e = grind (arith, common_steps)
 pub turned-even : (color : Bool) (places : List ℕ) → turned color places ≡ beq (eqb (length places % 2) 0) color
 turned-even true [] = refl
 turned-even false [] = refl
-turned-even color (place ∷ places) =
-    turned-even (not color) places ∙ beq-not (eqb (length places % 2) 0) (eqb (suc (length places) % 2) 0) color (eqb-suc_even (length places))
+turned-even color (place ∷ places) = grind (arith, common_steps, beq-not, eqb-suc_even, turned-even (not color) places)
 
 -- each lawful change is followed by a pixel, so the last pixel has the colour after all of them
 pub last_pixel-pixels_from : (place : ℕ) (color : Bool) (width : ℕ) (places : List ℕ) → AscendFrom place width places
     → last_pixel color (pixels_from place color width places) ≡ turned color places
 last_pixel-pixels_from place color width [] ascend = last_pixel-same (width - place) color
 last_pixel-pixels_from place color width (change ∷ places) ascend =
-    let from : place ≤ change = ascend.0 in
-    let within : change < width = ascend.1 in
-    let opens = pixels_from-first change (not color) width places within ascend.2 in
-    let rest = last_pixel-pixels_from change (not color) width places (AscendFrom-here change width places ascend.2) in
-    last_pixel-append color (replicate (change - place) color) (pixels_from change (not color) width places)
-    ∙ rw (last_pixel-same (change - place) color, opens) refl
-    ∙ sym (ap (last_pixel (not color)) opens)
-    ∙ rest
+    grind (arith, common_steps, AscendFrom-here, last_pixel-append, last_pixel-same, pixels_from-first, last_pixel-pixels_from
+    change (not color) width places (AscendFrom-here change width places ascend.2))
 
 -- the last pixel of a row of lawful changes
 pub last_pixel-pixels : (width : ℕ) (places : List ℕ) → AreChanges width places → last_pixel false (pixels width places) ≡ turned false places
@@ -126,20 +113,16 @@ pub pixels_from-wider : (place : ℕ) (color : Bool) (width more : ℕ) (places 
     → pixels_from place color (width + more) places ≡ pixels_from place color width places ++ replicate more (turned color places)
 pixels_from-wider place color width more [] le ascend = grind (arith, common_steps, replicate-append-replicate)
 pixels_from-wider place color width more (change ∷ places) le ascend =
-    let from : place ≤ change = ascend.0 in
-    let within : change < width = ascend.1 in
-    let rest = pixels_from-wider change (not color) width more places (omega arith) (AscendFrom-here change width places ascend.2) in
-    rw rest (sym (append_assoc (replicate (change - place) color) _ _))
+    grind (arith, common_steps, AscendFrom-here, append_assoc, pixels_from-wider change (not color) width more places (omega
+    arith) (AscendFrom-here change width places ascend.2))
 
 -- the same where the last change may stand at the width
 pub pixels_from-on : (place : ℕ) (color : Bool) (width more : ℕ) (places : List ℕ) → place ≤ width → AscendFrom place (suc width) places
     → pixels_from place color (width + more) places ≡ pixels_from place color width places ++ replicate more (turned color places)
 pixels_from-on place color width more [] le ascend = grind (arith, common_steps, replicate-append-replicate)
 pixels_from-on place color width more (change ∷ places) le ascend =
-    let from : place ≤ change = ascend.0 in
-    let within : change < suc width = ascend.1 in
-    let rest = pixels_from-on change (not color) width more places (omega arith) (AscendFrom-here change (suc width) places ascend.2) in
-    rw rest (sym (append_assoc (replicate (change - place) color) _ _))
+    grind (arith, common_steps, AscendFrom-here, append_assoc, pixels_from-on change (not color) width more places (omega arith)
+    (AscendFrom-here change (suc width) places ascend.2))
 
 -- so painting pixels of the last colour adds no change
 pub pixels-same : (width more : ℕ) (places : List ℕ) → AreChanges width places
@@ -192,12 +175,8 @@ changes-rest : (front row : Row)
     → filter (is_change (front ++ row)) (range_with_len (length front) (length row)) ≡ changes_from (length front) (last_pixel false front) row
 changes-rest front [] = refl
 changes-rest front (here ∷ row) =
-    let whole : (front ++ here ∷ []) ++ row ≡ front ++ here ∷ row = append_assoc front (here ∷ []) row in
-    let len : length (front ++ here ∷ []) ≡ suc (length front) = length-append front (here ∷ []) ∙ add-one _ in
-    let last : last_pixel false (front ++ here ∷ []) ≡ here = last_pixel-append false front (here ∷ []) in
-    let rest = rw (whole, len, last) at (changes-rest (front ++ here ∷ []) row) in
-    let one = is_change-next front here row in
-    listed (is_change (front ++ here ∷ row) (length front)) (last_pixel false front) here (length front) _ _ one (rw (add-one (length front)) rest)
+    grind (arith, common_steps, add-one, append_assoc, is_change-next, last_pixel-append, length-append, listed, changes-rest
+    (front ++ here ∷ []) row)
 
 -- the changes of a row, by recursion
 pub changes-recursive : (row : Row) → changes row ≡ changes_from 0 false row
@@ -251,11 +230,9 @@ pixels_from-changes_from place true (true ∷ row) width e =
 pixels_from-changes_from place false (false ∷ row) width e =
     goes_on place false row width e (pixels_from-changes_from (suc place) false row width (omega arith))
 pixels_from-changes_from place true (false ∷ row) width e =
-    let none : place - place ≡ 0 = omega arith in
-    rw none (goes_on place false row width e (pixels_from-changes_from (suc place) false row width (omega arith)))
+    grind (arith, common_steps, goes_on, pixels_from-changes_from (suc place) false row width (omega arith))
 pixels_from-changes_from place false (true ∷ row) width e =
-    let none : place - place ≡ 0 = omega arith in
-    rw none (goes_on place true row width e (pixels_from-changes_from (suc place) true row width (omega arith)))
+    grind (arith, common_steps, goes_on, pixels_from-changes_from (suc place) true row width (omega arith))
 
 -- the pixels of a row's changes are the row
 pub pixels-changes : (row : Row) → pixels (length row) (changes row) ≡ row

@@ -62,8 +62,7 @@ ascend_bounds : (first width : ℕ) (places : List ℕ) → AscendFrom first wid
 ascend_bounds first width [] ascend j lt = absurd (omega arith)
 ascend_bounds first width (place ∷ places) ascend zero lt = (ascend.0, ascend.1)
 ascend_bounds first width (place ∷ places) ascend (suc j) lt =
-    let rest = ascend_bounds (suc place) width places ascend.2 j (omega arith) in
-    (omega (arith, ascend.0, rest.0), rest.1)
+    grind (arith, common_steps, ascend_bounds (suc place) width places ascend.2 j (omega arith))
 
 -- and of two of them the later one is greater
 ascend_order : (first width : ℕ) (places : List ℕ) → AscendFrom first width places

@@ -16,8 +16,7 @@ cond-append b x y zs = grind (arith, common_steps)
 pub changes_from-append : (place : ℕ) (before : Bool) (front row : Row) → changes_from place before (front ++ row) ≡ changes_from place before front ++ changes_from (place + length front) (last_pixel before front) row
 changes_from-append place before [] row = let e : place + 0 ≡ place = omega arith in rw e refl
 changes_from-append place before (pixel ∷ front) row =
-    let e : place + suc (length front) ≡ suc place + length front = omega arith in
-    rw (changes_from-append (suc place) pixel front row, e) (sym (cond-append (beq before pixel) _ _ _))
+    grind (arith, common_steps, cond-append, changes_from-append (suc place) pixel front row)
 
 same_beq : (b : Bool) → beq b b ≡ true
 same_beq b = grind (arith, common_steps)

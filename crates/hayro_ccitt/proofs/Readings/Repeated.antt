@@ -18,12 +18,7 @@ pub repeated_same : {S R : Type 0} (step : S → Turn S R) (late : R) (size : S 
 repeated_same step late size shrinks zero m s h k = absurd (omega arith)
 repeated_same step late size shrinks (suc n) zero s h k = absurd (omega arith)
 repeated_same {S} {R} step late size shrinks (suc n) (suc m) s h k =
-    let by_turn : (turn : Turn S R) → step s ≡ turn → after_turn (repeated step late n) turn ≡ after_turn (repeated step late m) turn
-    = λ turn. elim turn as (λ (t : Turn S R). step s ≡ t → after_turn (repeated step late n) t ≡ after_turn (repeated step late m) t) [
-      | Turn.next t ↦ λ e. repeated_same step late size shrinks n m t (omega (arith, shrinks s t e)) (omega (arith, shrinks s t e))
-      | Turn.done r ↦ λ e. refl
-    ] in
-    by_turn (step s) refl
+    grind (arith, common_steps, repeated_same step late size shrinks n m)
 
 -- a turn of a repetition that is allowed more turns than the size of its state
 pub repeated_turn : {S R : Type 0} (step : S → Turn S R) (late : R) (size : S → ℕ) → Shrinks step size → (s : S)
@@ -43,12 +38,7 @@ pub repeated_keeps : {S R : Type 0} (step : S → Turn S R) (late : R) (P : S �
     → Q (repeated step late n s)
 repeated_keeps step late P Q q keeps ends zero s p = q
 repeated_keeps {S} {R} step late P Q q keeps ends (suc n) s p =
-    let by_turn : (turn : Turn S R) → step s ≡ turn → Q (after_turn (repeated step late n) turn)
-    = λ turn. elim turn as (λ (t : Turn S R). step s ≡ t → Q (after_turn (repeated step late n) t)) [
-      | Turn.next t ↦ λ e. repeated_keeps step late P Q q keeps ends n t (keeps s t p e)
-      | Turn.done r ↦ λ e. ends s r p e
-    ] in
-    by_turn (step s) refl
+    grind (arith, common_steps, repeated_keeps step late P Q q keeps ends n)
 
 -- ---- Two repetitions side by side.
 
