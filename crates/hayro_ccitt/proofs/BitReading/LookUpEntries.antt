@@ -150,9 +150,7 @@ eight_zeros_there color here h e = by (covers_all 13 (eight_zeros ∷ words_of (
   where
     by : Begins (eight_zeros ∷ words_of (codes_of color)) here → (rest : Bits) × (here ≡ eight_zeros ++ rest)
     by (w, inl same, rest, at) = (rest, at ∙ ap (λ (x : Bits). x ++ rest) (sym same))
-    by (w, inr i, rest, at) =
-        let (v, has) = in_words (codes_of color) w i in
-        grind (arith, common_steps, codes_free, word_at_again)
+    by (w, inr i, rest, at) = grind (arith, common_steps, codes_free, common_steps, in_words (codes_of color) w i, word_at_again)
 
 -- an agreement that ends goes no further
 agreement_ended : (word here rest : Bits) → agreement word here < length here → agreement word (here ++ rest) ≡ agreement word here
@@ -179,11 +177,8 @@ seven_zeros color = grind (arith, common_steps)
 -- the entry where no word of a run stands
 entry_of_none : (color : Color) (here : Bits) → length here ≡ 13 → word_at (codes_of color) here ≡ None → entry_of (codes_of color) here ≡ 36863
 entry_of_none color here h e =
-    let (rest, at) = eight_zeros_there color here h e in
-    let seven : longest_agreement (codes_of color) here ≡ 7 = rw at (longest_ended (codes_of color) eight_zeros rest (zeros_end color)) ∙ seven_zeros color in
-    let bits : telling_bits (codes_of color) here ≡ suc (longest_agreement (codes_of color) here) = rw (e, telling_bits) refl in
-    let run : run_or_none (codes_of color) here ≡ 4095 = rw (e, run_or_none) refl in
-    omega (arith, bits, run, seven)
+    grind (arith, common_steps, eight_zeros_there color here h e, longest_ended (codes_of color) eight_zeros, seven_zeros color,
+    zeros_end color)
 
 entry_of_found : (list : List (Code ℕ)) (here : Bits) (found : ℕ × Bits) → word_at list here ≡ Some found → entry_of list here ≡ (length here - length found.1) * 4096 + found.0
 entry_of_found list here found e = grind (arith, common_steps)
@@ -198,9 +193,7 @@ entry_written color table here e h = by (word_at (numbered table) here) refl
 
     by : (o : Option (ℕ × Bits)) → word_at (numbered table) here ≡ o → with_rows table here 36863 ≡ entry_of (numbered table) here
     by (Some found) a = with_rows_found table here 36863 found free a ∙ sym (entry_of_found (numbered table) here found a)
-    by None a =
-        let none : word_at (codes_of color) here ≡ None = rw e at a in
-        with_rows_none table here 36863 a ∙ sym (rw e (entry_of_none color here h none))
+    by None a = grind (arith, common_steps, entry_of_none color here h, with_rows_none table here 36863 a)
 
 pub length-thirteen_bits : (k : ℕ) → length (thirteen_bits k) ≡ 13
 unfolding thirteen_bits

@@ -60,10 +60,7 @@ module _ (at : BitsAt) (w : ℕ) (small : w < 2 ^ 32) (held : Holds w at) where
     zeros_behind = count_trailing_zeros 32 ten
 
     lowest : (zeros_behind < 32) × (bit_at ten zeros_behind ≡ 1)
-    lowest =
-        let there : 0 < ten = elim (cases_lt 0 ten) [ inl lt ↦ lt | inr none ↦ absurd (some (omega arith)) ] in
-        let all = bit_at-trailing_zeros w32 ten there (omega arith) in
-        (all.0, all.1)
+    lowest = grind (arith, common_steps, bit_at-trailing_zeros w32 ten, cases_lt 0 ten)
 
     within_ten : zeros_behind < 10
     within_ten = elim (cases_lt zeros_behind 10) [
@@ -83,13 +80,9 @@ module _ (at : BitsAt) (w : ℕ) (small : w < 2 ^ 32) (held : Holds w at) where
     -- no EOL begins behind the twelve bits before it, nor a bit later
     pub none_behind : (next : BitsAt) → next.bits ≡ at.bits → next.place ≡ at.place + 12 → (after_eol 0 (here next) ≡ None) × (after_eol 0 (drop 1 (here next)) ≡ None)
     none_behind next same place =
-        let index : next.place + (10 - zeros_behind) ≡ at.place + (22 - zeros_behind) = omega (arith, place, within_ten) in
-        let later : 1 + (9 - zeros_behind) ≡ 10 - zeros_behind = omega (arith, within_ten) in
-        let one : get_or (here next) (10 - zeros_behind) false ≡ true = get_or-drop next.place next.bits (10 - zeros_behind) false
-        ∙ ap (λ (i : ℕ). get_or next.bits i false) index ∙ ap (λ (x : Bits). get_or x (at.place + (22 - zeros_behind)) false) same ∙ one_there in
-        let one' : get_or (drop 1 (here next)) (9 - zeros_behind) false ≡ true
-        = get_or-drop 1 (here next) (9 - zeros_behind) false ∙ ap (λ (i : ℕ). get_or (here next) i false) later ∙ one in
-        (one_near 0 (10 - zeros_behind) (here next) (omega arith) one, one_near 0 (9 - zeros_behind) (drop 1 (here next)) (omega arith) one')
+        grind (arith, common_steps, get_or-drop next.place next.bits (10 - zeros_behind) false, get_or-drop 1 (here next) (9 -
+        zeros_behind) false, one_near 0 (10 - zeros_behind) (here next) (omega arith), one_near 0 (9 - zeros_behind) (drop 1
+        (here next)) (omega arith), one_there, within_ten)
 
 -- ---- The EOLs.
 -- eleven zeros and a one are an EOL

@@ -49,8 +49,7 @@ pub eols_stepped : (max count : ℕ) (start now after : Bits) → eols max start
     → after_eol 0 now ≡ Some after → count < max
     → eols max start ≡ (count + 1 + (eols (max - (count + 1)) after).0, (eols (max - (count + 1)) after).1)
 eols_stepped max count start now after e h lt =
-    let one = eols_one (max - count) now after h (omega arith) in
-    grind (arith, common_steps)
+    grind (arith, common_steps, common_steps, eols_one (max - count) now after h (omega arith))
 
 -- an EOL takes a bit
 pub eols_fewer : (most : ℕ) (here : Bits) → (eols most here).0 + length (eols most here).1 ≤ length here

@@ -29,12 +29,7 @@ modes_free = refl
 -- the test says what `PrefixFree` says
 pub free_by : {V : Type 0} (list : List (Code V)) → is_prefix_free list ≡ true → PrefixFree list
 free_by {V} list free v w a b rest i j e =
-    let one = word_at_again list v a rest free i in
-    let two = word_at_again list w b [] free j in
-    let same : b ++ [] ≡ a ++ rest = append-nil b ∙ e in
-    let three : word_at list (a ++ rest) ≡ Some (w, []) = rw same at two in
-    let pairs : ◌≡◌ {A = V × Bits} (v, rest) (w, []) = cc in
-    (ap (λ (x : V × Bits). x.1) pairs, ap (λ (x : V × Bits). x.0) pairs)
+    grind (arith, common_steps, append-nil b, word_at_again list v a rest free i, word_at_again list w b)
 
 -- ---- The zeros at the end of what was read so far, up to ten of them.
 abbrev pub scan : ℕ → Bits → Option ℕ

@@ -32,9 +32,7 @@ one_times w j le lt = grind (arith, common_steps)
 
 -- the bits before the first one are zeros
 word_zeros : (w k : ℕ) → w < 2 ^ 32 → k < count_leading_zeros 32 w → bit_of w (31 - k) ≡ false
-word_zeros w k small h =
-    let top = leading_length 32 w small in
-    ap (λ (b : ℕ). eqb b 1) (bit_at_above w top.0 (31 - k) top.2 (omega (arith, top.1)))
+word_zeros w k small h = grind (arith, common_steps, bit_at_above w, leading_length 32 w small)
 
 -- a number that isn't zero has a one behind them
 word_one : (w : ℕ) → w < 2 ^ 32 → count_leading_zeros 32 w < 32 → bit_of w (31 - count_leading_zeros 32 w) ≡ true
@@ -57,8 +55,7 @@ zeros_here bits place (suc n) none h =
 -- zeros, and then more
 zeros_on : (first then rest : Bits) (a b : ℕ) → first ≡ replicate a false ++ then → then ≡ replicate b false ++ rest → first ≡ replicate (a + b) false ++ rest
 zeros_on first then rest a b e h =
-    e ∙ ap (λ (x : Bits). replicate a false ++ x) h ∙ sym (append_assoc (replicate a false) (replicate b false) rest)
-    ∙ ap (λ (x : Bits). x ++ rest) (replicate-append-replicate a b false)
+    grind (arith, common_steps, append_assoc (replicate a false) (replicate b false) rest, replicate-append-replicate a b false)
 
 -- a word holds the next 32 bits
 abbrev pub Holds : ℕ → BitsAt → Type 0
@@ -84,20 +81,13 @@ word_passed start now next w small held forward e on before =
 -- where they are fewer than 32 a one follows
 one_ahead : (now : BitsAt) (w : ℕ) → w < 2 ^ 32 → Holds w now → count_leading_zeros 32 w < 32 → slice_get now.bits (now.place + count_leading_zeros 32 w) ≡ Some true
 one_ahead now w small held few =
-    let at = now.place + count_leading_zeros 32 w in
-    let one : get_or now.bits at false ≡ true = sym (held (count_leading_zeros 32 w) few) ∙ word_one w small few in
-    let within : at < length now.bits = elim (cases_lt at (length now.bits)) [
-      | inl lt ↦ lt
-      | inr past ↦ absurd (false≢true (sym (get_or_past now.bits at false past) ∙ one))
-    ] in
-    slice_get-get_or now.bits at false within ∙ ap Some one
+    grind (arith, common_steps, cases_lt, false≢true, get_or_past now.bits, slice_get-get_or now.bits, word_one w small few)
 
 -- and the reader stands at it
 pub one_follows : (now next : BitsAt) (w : ℕ) → w < 2 ^ 32 → Holds w now → next ≡ record now { place = min (now.place + count_leading_zeros 32 w) (length now.bits) }
     → count_leading_zeros 32 w < 32 → slice_get next.bits next.place ≡ Some true
 one_follows now next w small held e few =
-    let one = one_ahead now w small held few in
-    grind (arith, common_steps, min, slice_get, slice_get_within)
+    grind (arith, common_steps, common_steps, min, one_ahead now w small held few, slice_get, slice_get_within)
 
 -- ---- A copy of a reader that passed zeros, and a one behind them.
 pub run_passed : (old copy new : BitsAt) (to from : ℕ) → copy ≡ old → here copy ≡ replicate (new.place - copy.place) false ++ here new → to ≡ new.place → from ≡ old.place
@@ -136,10 +126,7 @@ module _ (at : BitsAt) (w : ℕ) (small : w < 2 ^ 32) (held : Holds w at) (some 
   zeros_behind = count_trailing_zeros 32 (w / 2097152)
 
   lowest : (zeros_behind < 32) × (bit_at (w / 2097152) zeros_behind ≡ 1)
-  lowest =
-      let there : 0 < w / 2097152 = elim (cases_lt 0 (w / 2097152)) [ inl lt ↦ lt | inr none ↦ absurd (some (omega arith)) ] in
-      let all = bit_at-trailing_zeros w32 (w / 2097152) there (omega arith) in
-      (all.0, all.1)
+  lowest = grind (arith, common_steps, bit_at-trailing_zeros w32 (w / 2097152), cases_lt 0 (w / 2097152))
 
   pub within_eleven : zeros_behind < 11
   within_eleven = elim (cases_lt zeros_behind 11) [

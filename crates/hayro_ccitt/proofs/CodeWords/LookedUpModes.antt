@@ -60,11 +60,7 @@ pub mode_stands : (at : BitsAt) (told : Option Mode × ℕ) → told ≡ mode_to
     → IfSome told.0 (λ mode. read_code mode_codes (here at) ≡ Ok (mode, here (moved told.1 at)))
 mode_stands at (None, width) e enough = tt
 mode_stands at (Some mode, width) e enough =
-    let first : ◌≡◌ {A = Option Mode} (Some mode) (mode_told (padded 7 (here at))).0 = ap (λ (t : Option Mode × ℕ). t.0) e in
-    let second : width ≡ telling_bits mode_codes (padded 7 (here at)) = ap (λ (t : Option Mode × ℕ). t.1) e in
-    mode_found (here at) mode first (omega (arith, enough, second))
-    ∙ ap (λ (n : ℕ). Ok (mode, drop n (here at))) (sym second)
-    ∙ ap (λ (bits : Bits). Ok (mode, bits)) (drop-drop width at.place at.bits)
+    grind (arith, common_steps, drop-drop width at.place at.bits, mode_found (here at) mode)
 
 -- V0 doesn't stand where no bit is
 pub v0_there : (here : Bits) → ◌≡◌ {A = Option Mode} (Some (Vertical (pos 0))) (mode_told (padded 7 here)).0 → 0 < length here

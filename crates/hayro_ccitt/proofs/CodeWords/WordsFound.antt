@@ -81,8 +81,7 @@ take_append (x ∷ a) b = ap (λ (y : Bits). x ∷ y) (take_append a b)
 pub word_stands : {V : Type 0} (list : List (Code V)) (here : Bits) (v : V) (rest : Bits) → ((w : Bits) → Has list v w → IsWord w)
     → read_code list here ≡ Ok (v, rest) → Stands here (word_found list here) rest
 word_stands {V} list here v rest is e =
-    let f = read_code_found list here v rest e in
-    grind (arith, common_steps, append-nil, length-append, take_append)
+    grind (arith, common_steps, append-nil, common_steps, length-append, read_code_found list here v rest e, take_append)
 
 -- a reading that found no word
 pub no_word_stands : {V : Type 0} (list : List (Code V)) (here : Bits) (fault : DecodeError) → read_code list here ≡ Err fault
@@ -105,16 +104,13 @@ run_goes : (color : Color) (total : ℕ) (here : Bits) (t : ℕ × Bits) (r : Re
     → run_turn color (total, here) ≡ Turn.next t → Stands here (word_found (codes_of color) here) t.1
 run_goes color total here t (Err e) h k = grind (arith, common_steps)
 run_goes color total here t (Ok found) h k =
-    let g : run_of_word total found ≡ Turn.next t = rw (h, run_turn) at k in
-    subst (λ (x : ℕ × Bits). Stands here (word_found (codes_of color) here) x.1) (word_next total found t g)
-    (word_stands (codes_of color) here found.0 found.1 (run_word color found.0) h)
+    grind (arith, common_steps, run_word color found.0, word_next total found t, word_stands (codes_of color) here found.0
+    found.1 (run_word color found.0) h)
 
 run_ends : (color : Color) (total : ℕ) (here : Bits) (r : Result (ℕ × Bits) DecodeError) (q : Result (ℕ × Bits) DecodeError)
     → read_code (codes_of color) here ≡ q → run_turn color (total, here) ≡ Turn.done r
     → (rest : Bits) × Stands here (word_found (codes_of color) here) rest × RunEnds r rest
-run_ends color total here r (Err e) h k =
-    let g : ◌≡◌ {A = RunTurn} (Turn.done (Err e)) (Turn.done r) = rw (h, run_turn) at k in
-    (here, no_word_stands (codes_of color) here e h, subst (λ (x : Result (ℕ × Bits) DecodeError). RunEnds x here) (done_is _ r g) tt)
+run_ends color total here r (Err e) h k = grind (arith, common_steps, done_is, no_word_stands (codes_of color) here e h)
 run_ends color total here r (Ok found) h k =
     let g : run_of_word total found ≡ Turn.done r = rw (h, run_turn) at k in
     let stands = word_stands (codes_of color) here found.0 found.1 (run_word color found.0) h in
@@ -308,17 +304,13 @@ found_to_the_end : (encoding : EncodingMode) (strict : Bool) (columns : ℕ) (re
     → here ≡ (tag_at encoding here ++ joined (line_found encoding strict columns reference here)) ++ rest
 found_to_the_end Group3_2D strict columns reference row [] rest whole = absurd cc
 found_to_the_end Group3_2D strict columns reference row (true ∷ here) rest whole =
-    let found = line_1d_stands strict columns here in
-    grind (arith, common_steps, whole_rest)
+    grind (arith, common_steps, common_steps, line_1d_stands strict columns here, whole_rest)
 found_to_the_end Group3_2D strict columns reference row (false ∷ here) rest whole =
-    let found = line_2d_stands strict columns reference here in
-    grind (arith, common_steps, whole_rest)
+    grind (arith, common_steps, common_steps, line_2d_stands strict columns reference here, whole_rest)
 found_to_the_end Group3_1D strict columns reference row here rest whole =
-    let found = line_1d_stands strict columns here in
-    whole_rest (line_1d strict columns here) row found.0 rest here (joined (found_1d strict columns here)) whole found.2 found.1.place
+    grind (arith, common_steps, line_1d_stands strict columns here, whole_rest (line_1d strict columns here) row)
 found_to_the_end Group4 strict columns reference row here rest whole =
-    let found = line_2d_stands strict columns reference here in
-    grind (arith, common_steps, whole_rest)
+    grind (arith, common_steps, common_steps, line_2d_stands strict columns reference here, whole_rest)
 
 -- the law
 pub words_synchronised : Synchronised

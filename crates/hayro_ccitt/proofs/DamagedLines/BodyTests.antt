@@ -37,10 +37,7 @@ behind_eol bits rest place zeros far within is eol = (
 )
   where
     rest_is : zeros ≡ 11 → rest ≡ drop place bits
-    rest_is e =
-        let same : replicate 11 false ++ true ∷ rest ≡ drop (place - 12) bits = ap (λ (n : ℕ). replicate n false ++ true ∷ rest) (sym e) ∙ sym is in
-        let sum : place - 12 + 12 ≡ place = omega (arith, far) in
-        ap (λ (b : Bits). drop 12 b) same ∙ drop-drop 12 (place - 12) bits ∙ ap (λ (n : ℕ). drop n bits) sum
+    rest_is e = grind (arith, common_steps, drop-drop 12 (place - 12) bits)
 
     there : zeros ≡ 11 → after_eol 0 (drop (place - 12) bits) ≡ Some (drop place bits)
     there e = eol ∙ rw (le-leb 11 zeros (omega (arith, e))) (ap (λ (b : Bits). Some b) (rest_is e))
@@ -51,18 +48,8 @@ behind_eol bits rest place zeros far within is eol = (
         by : (b : Bool) → cond b (Some rest) None ≡ Some (drop place bits) → zeros ≡ 11
         by false e = absurd (let f : ◌≡◌ {A = Option Bits} None (Some (drop place bits)) = e in cc)
         by true e =
-            let f : ◌≡◌ {A = Option Bits} (Some rest) (Some (drop place bits)) = e in
-            let same : rest ≡ drop place bits = cc in omega (
-              arith,
-              ap length is,
-              length-append (replicate zeros false) (true ∷ rest),
-              length-replicate zeros false,
-              ap length same,
-              length-drop place bits,
-              length-drop (place - 12) bits,
-              far,
-              within,
-            )
+            grind (arith, common_steps, length-append (replicate zeros false) (true ∷ rest), length-drop place bits, length-drop
+            (place - 12) bits, length-replicate zeros false)
 
 -- ---- A one in a body.
 zeros_only : (m : ℕ) (here : Bits) → m ≤ leading_zeros here → take m here ≡ replicate m false
@@ -140,17 +127,9 @@ eol_in_front m here found after next eol = found_ends (take m here) ∙ by (past
 pub eol_by_ends : (bits : Bits) (from to end : ℕ) (found : Bits) → from ≤ to → to ≤ length bits → end ≤ length bits → next_eol (drop from bits) ≡ Some found
     → after_eol 0 found ≡ Some (drop end bits) → is_some (next_eol (take (to - from) (drop from bits))) ≡ leb end to
 eol_by_ends bits from to end found order within le next eol =
-    let sum : from + (to - from) ≡ to = omega (arith, order) in
-    let behind : drop (to - from) (drop from bits) ≡ drop to bits = drop-drop (to - from) from bits ∙ ap (λ (n : ℕ). drop n bits) sum in
-    eol_in_front (to - from) (drop from bits) found (drop end bits) next eol ∙ ap (λ (b : Bits). leb (length b) (length (drop end bits))) behind
-    ∙ elim (cases_lt to end) [
-      | inl lt ↦
-          let further : length (drop end bits) < length (drop to bits) = omega (arith, length-drop end bits, length-drop to bits, le, lt) in
-          rw (lt-leb (length (drop to bits)) (length (drop end bits)) further, lt-leb end to lt) refl
-      | inr ge ↦
-          let nearer : length (drop to bits) ≤ length (drop end bits) = omega (arith, length-drop end bits, length-drop to bits, ge) in
-          rw (le-leb (length (drop to bits)) (length (drop end bits)) nearer, le-leb end to ge) refl
-    ]
+    grind (arith, common_steps, cases_lt to end, drop-drop (to - from) from bits, eol_in_front (to - from) (drop from bits)
+    found (drop end bits) next eol, le-leb (length (drop to bits)) (length (drop end bits)), le-leb end to, length-drop end
+    bits, length-drop to bits, lt-leb (length (drop to bits)) (length (drop end bits)), lt-leb end to)
 
 -- the next EOL, where one is found, stands there
 pub eol_found_stands : (here found : Bits) → next_eol here ≡ Some found → after_eol 0 found ≡ None → ⊥

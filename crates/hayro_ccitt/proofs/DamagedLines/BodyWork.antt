@@ -20,9 +20,7 @@ looked_further (suc k) (true ∷ here) = omega arith
 -- what a count of zeros looks at before a place, by what one looks at there
 pub looked_between : (bits : Bits) (from to : ℕ) → from ≤ to → looked (drop from bits) ≤ (to - from) + looked (drop to bits)
 looked_between bits from to order =
-    let sum : from + (to - from) ≡ to = omega (arith, order) in
-    let behind : drop (to - from) (drop from bits) ≡ drop to bits = drop-drop (to - from) from bits ∙ ap (λ (n : ℕ). drop n bits) sum in
-    omega (arith, looked_further (to - from) (drop from bits), ap looked behind)
+    grind (arith, common_steps, drop-drop (to - from) from bits, looked_further (to - from) (drop from bits))
 
 -- where an EOL stands at a place, the next one stands there or before it
 eol_ahead : (k : ℕ) (here after : Bits) → after_eol 0 (drop k here) ≡ Some after → (found : Bits) × (next_eol here ≡ Some found) × (length (drop k here) ≤ length found)
@@ -37,11 +35,7 @@ eol_ahead (suc k) (bit ∷ here) after eol = by (eol_ahead k here after eol) (af
 
 module _ (bits after : Bits) (from to : ℕ) (order : from ≤ to) (within : to ≤ length bits) (eol : after_eol 0 (drop to bits) ≡ Some after) where
   ahead : (found : Bits) × (next_eol (drop from bits) ≡ Some found) × (length (drop to bits) ≤ length found)
-  ahead =
-      let sum : from + (to - from) ≡ to = omega (arith, order) in
-      let behind : drop (to - from) (drop from bits) ≡ drop to bits = drop-drop (to - from) from bits ∙ ap (λ (n : ℕ). drop n bits) sum in
-      subst (λ (b : Bits). (found : Bits) × (next_eol (drop from bits) ≡ Some found) × (length b ≤ length found)) behind
-      (eol_ahead (to - from) (drop from bits) after (ap (after_eol 0) behind ∙ eol))
+  ahead = grind (arith, common_steps, drop-drop (to - from) from bits, eol_ahead (to - from) (drop from bits) after)
 
   -- one is found
   pub eol_stands : next_eol (drop from bits) ≡ None → ⊥
@@ -73,8 +67,7 @@ module _ (bits : Bits) (from to : ℕ) (order : from ≤ to) where
   tests_counted : (before behind one : ℕ) → behind ≤ before + looked (drop (from - 12) bits) → one ≡ behind + looked (drop from bits)
       → one ≤ before + (2 * (to - from) + 2 * looked (drop to bits) + 12)
   tests_counted before behind one first second =
-      let twelve : from - 12 ≤ from = omega arith in
-      omega (arith, first, second, looked_between bits (from - 12) from twelve, looked_between bits from to order)
+      grind (arith, common_steps, looked_between bits (from - 12) from, looked_between bits from to order)
 
   -- all tests, and the line with so many words
   pub body_counted : (words before behind one end eol line : ℕ) → behind ≤ before + looked (drop (from - 12) bits) → one ≡ behind + looked (drop from bits)

@@ -92,9 +92,7 @@ module _ (settings : DecodeSettings) (bits : Bits) (from to : ℕ) (local : IsLo
 
   -- the body, and what follows
   pub cut : line_on ≡ body ++ eol_on
-  cut =
-      let sum : from + (to - from) ≡ to = omega (arith, local.order) in
-      sym (take-append-drop (to - from) line_on) ∙ ap (λ (b : Bits). body ++ b) (drop-drop (to - from) from bits ∙ ap (λ (n : ℕ). drop n bits) sum)
+  cut = grind (arith, common_steps, drop-drop (to - from) from bits, take-append-drop (to - from) line_on)
 
   -- the data, cut where the body begins
   pub whole : bits ≡ take from bits ++ line_on
@@ -104,16 +102,9 @@ module _ (settings : DecodeSettings) (bits : Bits) (from to : ℕ) (local : IsLo
   not_within : (before rest : Bits) (k : ℕ) (found : Bits) → line_on ≡ before ++ found → found ≡ replicate k false ++ true ∷ rest
       → after_eol 0 found ≡ Some rest → length before + (k + 1) ≤ to - from → ⊥
   not_within before rest k found e f eol le =
-      let at : bits ≡ (take from bits ++ before) ++ found = simp append_assoc (whole ∙ ap (λ (b : Bits). take from bits ++ b) e) in
-      let ends : bits ≡ ((take from bits ++ before) ++ (replicate k false ++ true ∷ [])) ++ rest
-      = simp append_assoc (whole ∙ ap (λ (b : Bits). take from bits ++ b) (e ∙ ap (λ (b : Bits). before ++ b) f)) in
-      let length_at : length (take from bits ++ before) ≡ from + length before = simp length-append (ap (λ (n : ℕ). n + length before) front_length) in
-      let length_end : length ((take from bits ++ before) ++ (replicate k false ++ true ∷ [])) ≡ from + (length before + (k + 1))
-      = simp (length-append, length-replicate) (omega (arith, front_length)) in
-      let drop_place = drop_at bits (take from bits ++ before) found (from + length before) at length_at in
-      let drop_end = drop_at bits ((take from bits ++ before) ++ (replicate k false ++ true ∷ [])) rest (from + (length before + (k + 1))) ends length_end in
-      local.no_eol (from + length before) (from + (length before + (k + 1))) (omega arith) (omega (arith, le, local.order))
-      (omega arith, omega (arith, le, local.order, local.within), ap (after_eol 0) drop_place ∙ eol ∙ ap Some (sym drop_end))
+      grind (arith, common_steps, append_assoc, drop_at bits (take from bits ++ before) found (from + length before), drop_at
+      bits ((take from bits ++ before) ++ (replicate k false ++ true ∷ [])) rest (from + (length before + (k + 1))),
+      front_length, length-append, length-replicate, whole)
 
   -- no EOL ends within the body
   pub none_in_body : past 0 body ≡ None

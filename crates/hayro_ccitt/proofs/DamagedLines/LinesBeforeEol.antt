@@ -97,10 +97,8 @@ read_code_alike color bits x y inside = by (read_code (codes_of color) (bits ++ 
         let same : ◌≡◌ {A = Result (ℕ × Bits) DecodeError} (Ok (n, g.0 ++ y)) (Ok (m, other)) = sym g.3 ∙ f in
         let pairs : (n, g.0 ++ y) ≡ (m, other) = cc in
         (ap (λ (p : ℕ × Bits). p.0) pairs, (g.0, g.1, g.2, sym (ap (λ (p : ℕ × Bits). p.1) pairs)))
-    by (Ok (n, rest)) (Err fault) e f = let g = reads_too color bits x y n rest inside e in let h
-        = g.3 in let k : ◌≡◌ {A = Result (ℕ × Bits) DecodeError} (Ok (n, g.0 ++ y)) (Err fault) = sym h ∙ f in absurd cc
-    by (Err fault) (Ok (m, other)) e f = let g
-        = reads_too color bits y x m other inside f in let k : ◌≡◌ {A = Result (ℕ × Bits) DecodeError} (Ok (m, g.0 ++ x)) (Err fault) = sym g.3 ∙ e in absurd cc
+    by (Ok (n, rest)) (Err fault) e f = grind (arith, common_steps, reads_too color bits x y n rest inside e)
+    by (Err fault) (Ok (m, other)) e f = grind (arith, common_steps, reads_too color bits y x m other inside f)
     by (Err fault) (Err other) e f = tt
 
 module _ (x y : Bits) where

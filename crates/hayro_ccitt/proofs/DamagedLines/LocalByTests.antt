@@ -45,14 +45,9 @@ take-split {A} (suc j) (suc m) (x ∷ xs) le = grind (arith, common_steps, take-
 -- how far an EOL reaches
 eol_lengths : (bits : Bits) (place end zeros : ℕ) → drop place bits ≡ replicate zeros false ++ true ∷ drop end bits
     → length bits - place ≡ zeros + (1 + (length bits - end))
-eol_lengths bits place end zeros is = omega (
-  arith,
-  length-drop place bits,
-  ap length is,
-  length-append (replicate zeros false) (true ∷ drop end bits),
-  length-replicate zeros false,
-  length-drop end bits,
-)
+eol_lengths bits place end zeros is =
+    grind (arith, common_steps, length-append (replicate zeros false) (true ∷ drop end bits), length-drop place bits,
+    length-drop end bits, length-replicate zeros false)
 
 module _ (settings : DecodeSettings) (bits : Bits) (from to : ℕ) where
   from_tests : IsLocalByTests settings bits from to → IsLocal settings bits from to

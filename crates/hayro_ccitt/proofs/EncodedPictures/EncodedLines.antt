@@ -80,14 +80,8 @@ painted_to : (row front : Row) (from p : ℕ) (color : Color) → IsAt row front
     → ((q : ℕ) → from ≤ q → q < p → is_change row q ≡ false)
     → front ++ replicate (p - length front) (is_black color) ≡ take p row
 painted_to row front from p color at inside above within none =
-    let len = length_at row front from color (omega arith) at in
-    let n : ℕ = p - (from - 1) in
-    let sum : (from - 1) + n ≡ p = omega arith in
-    let count : p - length front ≡ n = omega arith in
-    let both : take ((from - 1) + n) row ≡ take (from - 1) row ++ replicate n (is_black color)
-    = take_painted row (from - 1) n (is_black color) (omega arith)
-    (λ q ge lt. pixels_same row from p (is_black color) (at.inside inside) none q ge (omega arith)) in
-    rw (count, at.painted) (sym both ∙ ap (λ (m : ℕ). take m row) sum)
+    grind (arith, common_steps, length_at row front from color (omega arith), pixels_same row from p (is_black color) (at.inside
+    inside) none, take_painted row (from - 1))
 
 -- the second run of a horizontal mode; it may be empty, at the row's end
 second_painted : (row front : Row) (p r : ℕ) (color : Color) → IsAt row front (suc p) color → length front ≡ p → p ≤ length row → p ≤ r

@@ -66,8 +66,7 @@ run_spelled color (suc times) n lt =
 
 -- a run of any length is spelled by make-up words of 64 and a terminating word
 pub every_run_spelled : (color : Color) (n : ℕ) → (bits : Bits) × Spells color n bits
-every_run_spelled color n = subst (λ (m : ℕ). (bits : Bits) × Spells color m bits) (let e : 64 * (n / 64) + n % 64 ≡ n = omega arith in e)
-    (run_spelled color (n / 64) (n % 64) (omega arith))
+every_run_spelled color n = grind (arith, common_steps, run_spelled color (n / 64) (n % 64) (omega arith))
 
 -- ---- One-dimensional lines.
 pixel_or : (color : Color) (pixel : Bool) → (pixel ≡ is_black color) ⊎ (pixel ≡ is_black (opposite color))

@@ -316,38 +316,21 @@ module _ (settings : DecodeSettings) (wide : 0 < settings.columns) (small : sett
 -- ---- Over whole data.
 pub closed_picture_t4 : ReadsPictureT4
 closed_picture_t4 settings rows bits behind stream are begins =
-    let wide : 0 < settings.columns = begins.picture.0 in
-    let closing : Bits = begins.closing.0 in
-    let more : Bits = begins.closing.2.0 in
-    let found : Bits = (eols_here settings behind).1 in
-    let is : stream ≡ bits ++ (closing ++ more) = begins.begins ∙ ap (λ (x : Bits). bits ++ x) begins.closing.2.1 in
-    let matches : Matches settings.encoding settings = matches_itself settings begins.encoding in
-    let ends : end_of settings (bits ++ (closing ++ more)) ≡ ends_well rows found
-    = closed_t4_end settings wide (omega (arith, are.columns)) settings.encoding rows bits closing more matches begins.end_of_block begins.some begins.picture
-    begins.lines begins.closing.1 begins.limit ∙ ap (λ (x : Bits). ends_well rows (eols_here settings x).1) (sym begins.closing.2.1) in
-    plain_ends settings stream (ends_well rows found) found wide (ap (end_of settings) is ∙ ends) refl
+    grind (arith, common_steps, closed_t4_end settings, matches_itself settings begins.encoding, plain_ends settings stream)
 
 -- the law
 pub limited_picture_t4 : ReadsLimitedPictureT4
 limited_picture_t4 settings rows bits stream are begins =
-    let wide : 0 < settings.columns = begins.picture.0 in
-    let more : Bits = begins.begins.0 in
-    let found : Bits = (eols_here settings more).1 in
-    let ends = limited_t4_end settings wide (omega (arith, are.columns)) settings.encoding rows bits more (matches_itself settings begins.encoding)
-    begins.limit begins.some begins.picture begins.lines in
-    let e = plain_ends settings stream (ends_well rows found) found wide (ap (end_of settings) begins.begins.1 ∙ ends) refl in
-    (ap (λ (a : Reading). a.rows) e, rw e refl)
+    grind (arith, common_steps, limited_t4_end settings, matches_itself settings begins.encoding, plain_ends settings stream)
 
 -- ---- One beginning, one picture.
 one_picture_at : (settings : DecodeSettings) (encoding : EncodingMode) (rows others : List Row) (bits more : Bits) → settings.columns ≤ 4294967295
     → Matches encoding settings → settings.end_of_block ≡ true → settings.rows ≡ 0
     → PictureT4 encoding settings.columns rows bits → PictureT4 encoding settings.columns others (bits ++ more) → rows ≡ others
 one_picture_at settings encoding rows others bits more small matches block none one two =
-    let first = closed_t4_end settings one.3.0 small encoding rows one.0 one.1 more matches block one.2 one.3 one.4 one.5 (inl none) in
-    let second = closed_t4_end settings two.3.0 small encoding others two.0 two.1 [] matches block two.2 two.3 two.4 two.5 (inl none) in
-    let same : one.0 ++ (one.1 ++ more) ≡ two.0 ++ (two.1 ++ []) = sym (append_assoc one.0 one.1 more) ∙ ap (λ (x : Bits). x ++ more) (sym one.6)
-    ∙ two.6 ∙ ap (λ (x : Bits). two.0 ++ x) (sym (append-nil two.1)) in
-    ap (λ (e : Ending). e.rows) (sym first ∙ ap (end_of settings) same ∙ second)
+    grind (arith, common_steps, append-nil two.1, append_assoc one.0 one.1 more, closed_t4_end settings one.3.0 small encoding
+    rows one.0 one.1 more matches block one.2 one.3 one.4 one.5 (inl none), closed_t4_end settings two.3.0 small encoding others
+    two.0 two.1)
 
 -- the law
 pub one_picture_t4 : OnePictureT4

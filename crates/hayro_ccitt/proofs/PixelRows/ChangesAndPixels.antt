@@ -248,8 +248,7 @@ AreChanges-changes row = rw (changes-recursive row) (AscendFrom-changes_from 0 f
 pub continued-pixels : (columns width : ℕ) (places : List ℕ) → width ≤ columns → AreChanges width places
     → continued columns (pixels width places) ≡ pixels columns places
 continued-pixels columns width places within ascend =
-    let e : columns ≡ width + (columns - width) = omega arith in
-    rw (length-pixels width places ascend) (sym (pixels-same width (columns - width) places ascend) ∙ ap (λ (n : ℕ). pixels n places) (sym e))
+    grind (arith, common_steps, length-pixels width places ascend, pixels-same width (columns - width) places ascend)
 
 -- so a context hands over the changes that it stored
 pub changes-continued : (columns width : ℕ) (places : List ℕ) → width ≤ columns → AreChanges width places

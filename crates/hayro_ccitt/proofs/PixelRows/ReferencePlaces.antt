@@ -33,9 +33,7 @@ turned-not (suc n) color = turned-not n (not color)
 -- an even number of changes keeps the colour, and an odd one turns it
 pub turned_by_parity : (n : ℕ) → (n % 2 ≡ 0 → turned n false ≡ false) × (n % 2 ≡ 1 → turned n false ≡ true)
 turned_by_parity zero = (λ e. refl, λ e. absurd (omega arith))
-turned_by_parity (suc n) =
-    let before = turned_by_parity n in
-    (λ e. turned-not n false ∙ ap not (before.1 (omega arith)), λ e. turned-not n false ∙ ap not (before.0 (omega arith)))
+turned_by_parity (suc n) = grind (arith, common_steps, turned-not n false, turned_by_parity n)
 
 -- ---- Where a place stands among changes.
 -- the first j of the changes, and no other, are left of a place
@@ -127,8 +125,7 @@ module _ (columns : ℕ) (places : List ℕ) (ascend : AreChanges columns places
   -- a pixel is turned by the changes up to it
   pixel_is : (p j : ℕ) → p < columns → IsSplit places (suc p) j → pixel row p ≡ turned j false
   pixel_is p j lt split =
-      let e : p - 0 ≡ p = omega arith in
-      ap (λ (n : ℕ). pixel row n) (sym e) ∙ pixels_from-pixel 0 0 false columns places p j ascend (omega arith) (omega arith) lt split
+      grind (arith, common_steps, pixels_from-pixel 0 0 false columns places p j ascend (omega arith) (omega arith) lt split)
 
   -- and the pixel before a place by those left of it
   before_is : (p j : ℕ) → p ≤ columns → IsSplit places p j → pixel_before row p ≡ turned j false
@@ -165,11 +162,7 @@ module _ (columns : ℕ) (places : List ℕ) (ascend : AreChanges columns places
   -- no other place is
   change_none : (p j : ℕ) → p < columns → IsSplit places p j → (j < length places → p < get_or places j 0) → is_change row p ≡ false
   change_none p j lt split left =
-      let within : j ≤ length places = split.within in
-      let next : IsSplit places (suc p) j = record { within = omega arith; before = λ k l. omega (arith, split.before k l); here = left } in
-      let u = before_is p j (omega arith) split in
-      let v = pixel_is p j lt next in
-      rw (u, v) (ap not (same_beq (turned j false)))
+      grind (arith, common_steps, before_is p j (omega arith) split, pixel_is p j lt, same_beq (turned j false))
 
   -- a place of the row is no change, or it is one of the places
   change_or_none : (p j : ℕ) → p < columns → IsSplit places p j → (is_change row p ≡ false) ⊎ ((j < length places) × (get_or places j 0 ≡ p))
@@ -219,15 +212,11 @@ module _ (columns : ℕ) (places : List ℕ) (ascend : AreChanges columns places
         where
           impossible : (j : ℕ) → j < length places → get_or places j 0 ≡ p → index < length places → get_or places index 0 < p → ⊥
           impossible j jn same lt_index less =
-              let before : j < suc index = less_if_left j (suc index) jn (omega arith) in
-              let after : index < j = less_if_left index j lt_index (omega (arith, get_or_default_zero places j columns jn)) in
-              omega arith
+              grind (arith, common_steps, get_or_default_zero places j columns jn, less_if_left j (suc index) jn (omega arith),
+              less_if_left index j lt_index (omega (arith, get_or_default_zero places j columns jn)))
 
       none_before : (p : ℕ) → p < change (suc index) → is_right_of (change index) p ≡ false
-      none_before p lt = elim (cases_lt (change index) p) [
-        | inl left ↦ rw (none_by p lt left) (and-false _)
-        | inr ge ↦ rw (le-ltb _ _ ge) refl
-      ]
+      none_before p lt = grind (arith, common_steps, and-false, cases_lt (change index) p, le-ltb, none_by p lt)
 
   -- a1 is the change of the first index right of a0
   pub a1_is : (from first : ℕ) → IsSplit places from first → least_below (length row) (λ p. leb from p && is_change row p) ≡ change first
@@ -239,9 +228,7 @@ module _ (columns : ℕ) (places : List ℕ) (ascend : AreChanges columns places
   })
     where
       there : first < length places → (leb from (change first) && is_change row (change first)) ≡ true
-      there lt =
-          let e : change first ≡ get_or places first 0 = get_or_default_zero places first columns lt in
-          grind (arith, common_steps, change_there, le-leb)
+      there lt = grind (arith, common_steps, change_there, common_steps, get_or_default_zero places first columns lt, le-leb)
 
       none_by : (p : ℕ) → p < change first → from ≤ p → is_change row p ≡ false
       none_by p lt le =
@@ -253,10 +240,7 @@ module _ (columns : ℕ) (places : List ℕ) (ascend : AreChanges columns places
           ]
 
       none_before : (p : ℕ) → p < change first → (leb from p && is_change row p) ≡ false
-      none_before p lt = elim (cases_lt p from) [
-        | inl left ↦ rw (lt-leb _ _ left) refl
-        | inr ge ↦ rw (le-leb _ _ ge) (none_by p lt ge)
-      ]
+      none_before p lt = grind (arith, common_steps, cases_lt p from, le-leb, lt-leb, none_by p lt)
 
   -- b1 is the change of the first index right of a0, or of the one after it where the first turns the other way
   pub b1_is : (from first index : ℕ) (color : Color) → IsSplit places from first → turned index false ≡ is_black color
@@ -304,10 +288,7 @@ module _ (columns : ℕ) (places : List ℕ) (ascend : AreChanges columns places
           first_before j jn same = elim (cases_lt j first) [ inl l ↦ absurd (omega (arith, split.before j l)) | inr ge ↦ ge ]
 
       none_before : (p : ℕ) → p < change index → is_b1 from color p ≡ false
-      none_before p lt = elim (cases_lt p from) [
-        | inl left ↦ rw (lt-leb _ _ left) refl
-        | inr ge ↦ rw (le-leb _ _ ge) (none_by p lt ge)
-      ]
+      none_before p lt = grind (arith, common_steps, cases_lt p from, le-leb, lt-leb, none_by p lt)
 
 -- ---- The index of b1 as code finds it.
 -- a0 is where the front ends
@@ -358,10 +339,9 @@ module _ (columns : ℕ) (places : List ℕ) (from first : ℕ) (color : Color) 
   -- and else the next one is
   pub b1_second : not (beq even white) ≡ true → b1 (pixels columns places) from color ≡ get_or places (first + 1) columns
   b1_second other =
-      let stays : turned first false ≡ not (is_black color) = turned_from_even first even parity ∙ other_from even white other ∙ ap not (sym (black_from_white color white whiteness)) in
-      let turns : turned (suc first) false ≡ is_black color = turned-not first false ∙ ap not stays ∙ not_not (is_black color) in
-      let next : first + 1 ≡ suc first = omega arith in
-      rw next (b1_is columns places ascend from first (suc first) color split turns (inr (refl, stays)))
+      grind (arith, common_steps, b1_is columns places ascend from first (suc first) color split, black_from_white color white
+      whiteness, not_not (is_black color), other_from even white other, turned-not first false, turned_from_even first even
+      parity)
 
 -- b2 is not left of where the front ends
 pub b2_from_front : (reference front : Row) (color : Color) → length front ≤ length reference → length front ≤ b2 reference (right_of front) color

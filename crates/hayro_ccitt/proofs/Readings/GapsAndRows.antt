@@ -93,5 +93,4 @@ module _ (settings : DecodeSettings) (wide : 0 < settings.columns) where
   -- so does the reading of Group 4 data
   pub t6_end : (bits : Bits) (last : Progress) (end : Ending) → settings.encoding ≡ Group4 → Reaches (gap_and_row settings) (at_front bits) last
       → pass_gap settings last ≡ Turn.done end → end_of settings bits ≡ end
-  t6_end bits last end is reaches over =
-      ap (λ (e : EncodingMode). ending_behind settings (first_gap e settings bits)) is ∙ reaches_end (at_front bits) last end reaches over
+  t6_end bits last end is reaches over = grind (arith, common_steps, reaches_end (at_front bits) last end reaches over)
