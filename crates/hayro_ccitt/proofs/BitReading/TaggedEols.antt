@@ -23,13 +23,7 @@ pub tagged_stepped : (max count : ℕ) (start now after rest : Bits)
 tagged_stepped max count start now after rest e h is lt =
     let more : ℕ × Bits = eols_with_tags (max - (count + 1)) rest in
     let n : max - count ≡ suc (max - (count + 1)) = omega arith in
-    let one : eols_with_tags (max - count) now ≡ (suc more.0, more.1) = ap (λ (k : ℕ). eols_with_tags k now) n
-    ∙ eols_with_tags-some (max - (count + 1)) now after h ∙ ap (λ (x : Bits). one_more (eols_with_tags (max - (count + 1)) x)) (sym is) ∙ by more in
-    let m : count + suc more.0 ≡ count + 1 + more.0 = omega arith in
-    e ∙ rw one (ap (λ (k : ℕ). (k, more.1)) m)
-  where
-    by : (found : ℕ × Bits) → one_more found ≡ (suc found.0, found.1)
-    by (count, rest) = refl
+    grind (arith, common_steps, eols_with_tags-some)
 
 -- the bits from here on that may have been looked at before: those of an EOL behind its tag, or those of a tag
 abbrev pub looked_before : Bits → ℕ

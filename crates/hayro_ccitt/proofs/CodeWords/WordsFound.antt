@@ -114,13 +114,7 @@ run_ends color total here r (Err e) h k = grind (arith, common_steps, done_is, n
 run_ends color total here r (Ok found) h k =
     let g : run_of_word total found ≡ Turn.done r = rw (h, run_turn) at k in
     let stands = word_stands (codes_of color) here found.0 found.1 (run_word color found.0) h in
-    elim (chosen (ltb 4294967295 (total + found.0)) _ _ _ g) [
-      | inl a ↦ (found.1, stands, subst (λ (x : Result (ℕ × Bits) DecodeError). RunEnds x found.1) (done_is _ r a.1) tt)
-      | inr a ↦ elim (chosen (ltb found.0 64) _ _ _ a.1) [
-        | inl b ↦ (found.1, stands, subst (λ (x : Result (ℕ × Bits) DecodeError). RunEnds x found.1) (done_is _ r b.1) refl)
-        | inr b ↦ absurd (not_done r _ (sym b.1))
-      ]
-    ]
+    grind (arith, common_steps, chosen, done_is, not_done)
 
 -- the words of a run stand in a row
 pub run_stands : (color : Color) (total : ℕ) (here : Bits) → (rest : Bits) × Stands here (run_found color (total, here)) rest

@@ -61,9 +61,7 @@ module _ (settings : DecodeSettings) (encoding : settings.encoding ≡ Group3_1D
           (and_from (eqb (eols_here settings here).0 0 && true) (not (limit_met settings (length rows)))
           (and_from (eqb (eols_here settings here).0 0) true none refl) (not_from_false (limit_met settings (length rows)) short))
           (not_from_false (at_end here) (not_past_end here after e)) in
-          let next = found_next here after e in
-          let counted : eols_here settings next.0 ≡ one_more (all_eols after) = eols_here_is next.0 ∙ all_eols-some next.0 after next.2 in
-          cond-true test _ _ is_true ∙ cond-false settings.strict _ _ lenient ∙ ap (seek_from settings run) next.1 ∙ ap (unless_over settings run) counted
+          grind (arith, common_steps, all_eols-some, cond-false, cond-true, eols_here_is, found_next, seek_from, unless_over)
 
   -- its lines have no reference row
   pub line_is : (reference : Row) (here : Bits) → line_here settings reference here ≡ line_1d false settings.columns here

@@ -1,5 +1,5 @@
 -- b1 and b2 among the changes that a reference row is made of.
-use Rattle.std.proofs.Common.{◌≡◌, ℕ, zero, suc, ◌+◌, ◌-◌, ◌%◌, ◌<◌, ◌≤◌, ◌⊎◌, ◌↔◌, Bool, true, false, not, ◌&&◌, ltb, leb, List, [], ◌∷◌, length, get_or, replicate, refl, sym, ap, ◌∙◌, arith, inl, inr}
+use Rattle.std.proofs.Common.{◌≡◌, ℕ, zero, suc, ◌+◌, ◌-◌, ◌%◌, ◌<◌, ◌≤◌, ◌⊎◌, ◌↔◌, Bool, true, false, not, ◌&&◌, ltb, leb, List, [], ◌∷◌, length, get_or, replicate, refl, sym, ap, subst, ◌∙◌, arith, inl, inr}
 use mathlib.Core.Bool.{beq}
 use Rattle.std.proofs.Math.Bool.{and-false}
 use Rattle.std.specs.Bool.{IsTrue}
@@ -33,7 +33,9 @@ turned-not (suc n) color = turned-not n (not color)
 -- an even number of changes keeps the colour, and an odd one turns it
 pub turned_by_parity : (n : ℕ) → (n % 2 ≡ 0 → turned n false ≡ false) × (n % 2 ≡ 1 → turned n false ≡ true)
 turned_by_parity zero = (λ e. refl, λ e. absurd (omega arith))
-turned_by_parity (suc n) = grind (arith, common_steps, turned-not n false, turned_by_parity n)
+turned_by_parity (suc n) =
+    let before = turned_by_parity n in
+    (λ e. turned-not n false ∙ ap not (before.1 (omega arith)), λ e. turned-not n false ∙ ap not (before.0 (omega arith)))
 
 -- ---- Where a place stands among changes.
 -- the first j of the changes, and no other, are left of a place
@@ -60,7 +62,8 @@ ascend_bounds : (first width : ℕ) (places : List ℕ) → AscendFrom first wid
 ascend_bounds first width [] ascend j lt = absurd (omega arith)
 ascend_bounds first width (place ∷ places) ascend zero lt = (ascend.0, ascend.1)
 ascend_bounds first width (place ∷ places) ascend (suc j) lt =
-    grind (arith, common_steps, ascend_bounds (suc place) width places ascend.2 j (omega arith))
+    let rest = ascend_bounds (suc place) width places ascend.2 j (omega arith) in
+    (omega (arith, ascend.0, rest.0), rest.1)
 
 -- and of two of them the later one is greater
 ascend_order : (first width : ℕ) (places : List ℕ) → AscendFrom first width places
@@ -125,7 +128,8 @@ module _ (columns : ℕ) (places : List ℕ) (ascend : AreChanges columns places
   -- a pixel is turned by the changes up to it
   pixel_is : (p j : ℕ) → p < columns → IsSplit places (suc p) j → pixel row p ≡ turned j false
   pixel_is p j lt split =
-      grind (arith, common_steps, pixels_from-pixel 0 0 false columns places p j ascend (omega arith) (omega arith) lt split)
+      let e : p - 0 ≡ p = omega arith in
+      ap (λ (n : ℕ). pixel row n) (sym e) ∙ pixels_from-pixel 0 0 false columns places p j ascend (omega arith) (omega arith) lt split
 
   -- and the pixel before a place by those left of it
   before_is : (p j : ℕ) → p ≤ columns → IsSplit places p j → pixel_before row p ≡ turned j false
@@ -162,7 +166,11 @@ module _ (columns : ℕ) (places : List ℕ) (ascend : AreChanges columns places
   -- no other place is
   change_none : (p j : ℕ) → p < columns → IsSplit places p j → (j < length places → p < get_or places j 0) → is_change row p ≡ false
   change_none p j lt split left =
-      grind (arith, common_steps, before_is p j (omega arith) split, pixel_is p j lt, same_beq (turned j false))
+      let within : j ≤ length places = split.within in
+      let next : IsSplit places (suc p) j = record { within = omega arith; before = λ k l. omega (arith, split.before k l); here = left } in
+      let u = before_is p j (omega arith) split in
+      let v = pixel_is p j lt next in
+      rw (u, v) (ap not (same_beq (turned j false)))
 
   -- a place of the row is no change, or it is one of the places
   change_or_none : (p j : ℕ) → p < columns → IsSplit places p j → (is_change row p ≡ false) ⊎ ((j < length places) × (get_or places j 0 ≡ p))
@@ -185,110 +193,54 @@ module _ (columns : ℕ) (places : List ℕ) (ascend : AreChanges columns places
     ]
   ]
 
-  -- the next change after the one at an index is the one at the next index
-  pub next_change : (index : ℕ) → least_below (length row) (is_right_of (change index)) ≡ change (suc index)
-  next_change index = least_unique (length row) (is_right_of (change index)) _ _ (is_least _ _) (record {
+  -- the least place of a test that only changes pass is the change of an index, if that one passes and no lesser one does
+  least_is : (test : ℕ → Bool) (index : ℕ) → ((p : ℕ) → is_change row p ≡ false → test p ≡ false)
+      → (index < length places → test (get_or places index 0) ≡ true)
+      → ((j : ℕ) → j < index → j < length places → test (get_or places j 0) ≡ false) → least_below (length row) test ≡ change index
+  least_is test index none here earlier = least_unique (length row) test _ _ (is_least _ _) (record {
     above = omega arith;
-    within = omega (arith, row_length, end_within (suc index));
-    before = λ p _ lt. none_before p lt;
-    there = λ lt. there (in_list_if_below (suc index) (omega (arith, row_length)));
+    within = omega (arith, row_length, end_within index);
+    before = λ p _ lt. before p lt;
+    there = λ lt. let l = in_list_if_below index (omega (arith, row_length)) in rw (get_or_default_zero places index columns l) (here l);
   })
     where
-      there : suc index < length places → (is_right_of (change index) (change (suc index))) ≡ true
-      there lt =
-          let e : change index ≡ get_or places index 0 = get_or_default_zero places index columns (omega arith) in
-          grind (arith, common_steps, change_there, get_or_default_zero, lt-ltb, order)
-
-      none_by : (p : ℕ) → p < change (suc index) → change index < p → is_change row p ≡ false
-      none_by p lt left =
+      before : (p : ℕ) → p < change index → test p ≡ false
+      before p lt =
           let split = split_of places p in
-          let end : change (suc index) ≤ columns = end_within (suc index) in
-          let in_list : index < length places = in_list_if_below index (omega arith) in
-          let e : change index ≡ get_or places index 0 = get_or_default_zero places index columns in_list in
-          elim (change_or_none p split.0 (omega arith) split.1) [
-            | inl none ↦ none
-            | inr at ↦ absurd (impossible split.0 at.0 at.1 in_list (omega arith))
+          elim (change_or_none p split.0 (omega (arith, end_within index)) split.1) [
+            | inl e ↦ none p e
+            | inr at ↦ subst (λ (n : ℕ). test n ≡ false) at.1 (earlier split.0 (less_if_left split.0 index at.0 (omega (arith, at.1))) at.0)
           ]
-        where
-          impossible : (j : ℕ) → j < length places → get_or places j 0 ≡ p → index < length places → get_or places index 0 < p → ⊥
-          impossible j jn same lt_index less =
-              grind (arith, common_steps, get_or_default_zero places j columns jn, less_if_left j (suc index) jn (omega arith),
-              less_if_left index j lt_index (omega (arith, get_or_default_zero places j columns jn)))
 
-      none_before : (p : ℕ) → p < change (suc index) → is_right_of (change index) p ≡ false
-      none_before p lt = grind (arith, common_steps, and-false, cases_lt (change index) p, le-ltb, none_by p lt)
+  -- the next change after the one at an index is the one at the next index
+  pub next_change : (index : ℕ) → least_below (length row) (is_right_of (change index)) ≡ change (suc index)
+  next_change index = least_is (is_right_of (change index)) (suc index) (λ p e. rw e (and-false _))
+      (λ lt. grind (arith, common_steps, change_there, get_or_default_zero, lt-ltb, order))
+      (λ j lt l. grind (arith, common_steps, le-ltb, below j l, in_list_if_below index, get_or_default_zero, order j index, cases_eq j index))
 
   -- a1 is the change of the first index right of a0
   pub a1_is : (from first : ℕ) → IsSplit places from first → least_below (length row) (λ p. leb from p && is_change row p) ≡ change first
-  a1_is from first split = least_unique (length row) (λ p. leb from p && is_change row p) _ _ (is_least _ _) (record {
-    above = omega arith;
-    within = omega (arith, row_length, end_within first);
-    before = λ p _ lt. none_before p lt;
-    there = λ lt. there (in_list_if_below first (omega (arith, row_length)));
-  })
-    where
-      there : first < length places → (leb from (change first) && is_change row (change first)) ≡ true
-      there lt = grind (arith, common_steps, change_there, common_steps, get_or_default_zero places first columns lt, le-leb)
-
-      none_by : (p : ℕ) → p < change first → from ≤ p → is_change row p ≡ false
-      none_by p lt le =
-          let split_p = split_of places p in
-          let end : change first ≤ columns = end_within first in
-          elim (change_or_none p split_p.0 (omega arith) split_p.1) [
-            | inl none ↦ none
-            | inr at ↦ absurd (omega (arith, at.1, split.before split_p.0 (less_if_left split_p.0 first at.0 (omega (arith, at.1)))))
-          ]
-
-      none_before : (p : ℕ) → p < change first → (leb from p && is_change row p) ≡ false
-      none_before p lt = grind (arith, common_steps, cases_lt p from, le-leb, lt-leb, none_by p lt)
+  a1_is from first split = least_is (λ p. leb from p && is_change row p) first (λ p e. rw e (and-false _))
+      (λ lt. rw (le-leb _ _ (split.here lt)) (change_there first lt)) (λ j lt l. rw (lt-leb _ _ (split.before j lt)) refl)
 
   -- b1 is the change of the first index right of a0, or of the one after it where the first turns the other way
   pub b1_is : (from first index : ℕ) (color : Color) → IsSplit places from first → turned index false ≡ is_black color
       → (index ≡ first) ⊎ ((index ≡ suc first) × (turned first false ≡ not (is_black color)))
       → b1 row from color ≡ change index
-  b1_is from first index color split colored reach = least_unique (length row) (is_b1 from color) _ _ (is_least _ _) (record {
-    above = omega arith;
-    within = omega (arith, row_length, end_within index);
-    before = λ p _ lt. none_before p lt;
-    there = λ lt. there (in_list_if_below index (omega (arith, row_length)));
-  })
+  b1_is from first index color split colored reach = least_is (is_b1 from color) index none there earlier
     where
-      first_le : first ≤ index
-      first_le = elim reach [ inl same ↦ omega arith | inr next ↦ omega (arith, next.0) ]
+      none : (p : ℕ) → is_change row p ≡ false → is_b1 from color p ≡ false
+      none p e = grind (arith, common_steps, and-false)
 
-      there : index < length places → is_b1 from color (change index) ≡ true
-      there lt =
-          let e : change index ≡ get_or places index 0 = get_or_default_zero places index columns lt in
-          let right : leb from (get_or places index 0) ≡ true = le-leb _ _ (right_of_first lt) in
-          let u = before_is (get_or places index 0) index (omega (arith, below index lt)) (split_at index lt) ∙ colored in
-          rw (e, right, change_there index lt, u) (same_beq (is_black color))
-        where
-          right_of_first : index < length places → from ≤ get_or places index 0
-          right_of_first lt = elim (cases_eq first index) [
-            | inl same ↦ rw same at (split.here (omega (arith, first_le)))
-            | inr other ↦ omega (arith, first_le, split.here (omega (arith, first_le)), order first index (omega (arith, first_le)) lt)
-          ]
+      color_at : (j : ℕ) → j < length places → pixel_before row (get_or places j 0) ≡ turned j false
+      color_at j lt = before_is (get_or places j 0) j (omega (arith, below j lt)) (split_at j lt)
+
+      there : index < length places → is_b1 from color (get_or places index 0) ≡ true
+      there lt = grind (arith, common_steps, reach, split.here, order first index, color_at index lt, le-leb, change_there index lt, same_beq)
 
       -- a change that is left of it, and not left of a0, turns the other way
-      wrong_color : (j : ℕ) → first ≤ j → j < index → turned j false ≡ not (is_black color)
-      wrong_color j le lt = grind (arith, common_steps)
-
-      none_by : (p : ℕ) → p < change index → from ≤ p → (is_change row p && beq (pixel_before row p) (is_black color)) ≡ false
-      none_by p lt le =
-          let split_p = split_of places p in
-          let end : change index ≤ columns = end_within index in
-          elim (change_or_none p split_p.0 (omega arith) split_p.1) [
-            | inl none ↦ rw none refl
-            | inr at ↦ (
-                let u = before_is p split_p.0 (omega arith) split_p.1 ∙ wrong_color split_p.0 (first_before split_p.0 at.0 at.1) (less_if_left split_p.0 index at.0 (omega (arith, at.1))) in
-                rw (u, beq_other (is_black color)) (and-false _))
-          ]
-        where
-          first_before : (j : ℕ) → j < length places → get_or places j 0 ≡ p → first ≤ j
-          first_before j jn same = elim (cases_lt j first) [ inl l ↦ absurd (omega (arith, split.before j l)) | inr ge ↦ ge ]
-
-      none_before : (p : ℕ) → p < change index → is_b1 from color p ≡ false
-      none_before p lt = grind (arith, common_steps, cases_lt p from, le-leb, lt-leb, none_by p lt)
+      earlier : (j : ℕ) → j < index → j < length places → is_b1 from color (get_or places j 0) ≡ false
+      earlier j lt l = grind (arith, common_steps, reach, split.before j, color_at j l, lt-leb, beq_other)
 
 -- ---- The index of b1 as code finds it.
 -- a0 is where the front ends
@@ -339,9 +291,10 @@ module _ (columns : ℕ) (places : List ℕ) (from first : ℕ) (color : Color) 
   -- and else the next one is
   pub b1_second : not (beq even white) ≡ true → b1 (pixels columns places) from color ≡ get_or places (first + 1) columns
   b1_second other =
-      grind (arith, common_steps, b1_is columns places ascend from first (suc first) color split, black_from_white color white
-      whiteness, not_not (is_black color), other_from even white other, turned-not first false, turned_from_even first even
-      parity)
+      let stays : turned first false ≡ not (is_black color) = turned_from_even first even parity ∙ other_from even white other ∙ ap not (sym (black_from_white color white whiteness)) in
+      let turns : turned (suc first) false ≡ is_black color = turned-not first false ∙ ap not stays ∙ not_not (is_black color) in
+      let next : first + 1 ≡ suc first = omega arith in
+      rw next (b1_is columns places ascend from first (suc first) color split turns (inr (refl, stays)))
 
 -- b2 is not left of where the front ends
 pub b2_from_front : (reference front : Row) (color : Color) → length front ≤ length reference → length front ≤ b2 reference (right_of front) color
