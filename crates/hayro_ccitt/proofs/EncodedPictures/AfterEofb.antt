@@ -197,15 +197,8 @@ closed_plain settings last w rest four wide ends stream more is whole =
 same_front : (one two : Bits) (count : ℕ) (w rest : Bits) → AreWholeBytes one → AreWholeBytes two → one ≡ w ++ rest → (length w + 7) / 8 ≡ count
     → take (8 * count) two ≡ take (8 * count) one → (more : Bits) × (two ≡ w ++ more) × (length more % 8 ≡ length rest % 8)
 same_front one two count w rest whole_one whole_two is count_is same =
-    let len1 : length one ≡ length w + length rest = ap length is ∙ length-append w rest in
-    let head : Bits = take (8 * count) one in
-    let head_len : length head ≡ 8 * count = length-take-le (8 * count) one (omega (arith, count_is, len1, whole_one)) in
-    let front = prefix_of_prefix w rest head (drop (8 * count) one) (take-append-drop (8 * count) one ∙ is) (omega (arith, head_len, count_is)) in
-    let more : Bits = front.0 ++ drop (8 * count) two in
-    let two_is : two ≡ w ++ more
-    = sym (take-append-drop (8 * count) two) ∙ ap (λ (x : Bits). x ++ drop (8 * count) two) (same ∙ front.1) ∙ append_assoc w front.0 (drop (8 * count) two) in
-    let len2 : length two ≡ length w + length more = ap length two_is ∙ length-append w more in
-    (more, two_is, omega (arith, len1, len2, whole_one, whole_two))
+    grind (arith, common_steps, append_assoc w, length-append w rest, length-append w, length-take-le (8 * count) one,
+    prefix_of_prefix w rest, take-append-drop (8 * count) one, take-append-drop (8 * count) two)
 
 -- without columns nothing is read
 plain_no_columns : (settings : DecodeSettings) (stream : Bits) → settings.columns ≡ 0 → plain settings stream ≡ nothing_read

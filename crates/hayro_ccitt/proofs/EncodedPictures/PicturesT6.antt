@@ -14,6 +14,7 @@ use Rattle.hayro_ccitt.specs.Encodings.{eol, PictureT6}
 use Rattle.hayro_ccitt.proofs.Readings.GapsAndRows.{t6_end}
 use Rattle.hayro_ccitt.proofs.EncodedPictures.Bodies.{gap_at_eofb, body_again, body_end}
 use Rattle.hayro_ccitt.proofs.EncodedPictures.PictureLines.{closed_settings, allows_sum, between, ended, eofb_stands, plain_ends}
+use Rattle.std.proofs.lemmas.Grind.{common_steps}
 
 -- A T.6 picture, closed by EOFB: the run reaches its end with its rows.
 pub picture_t6_reaches : (settings : DecodeSettings) (rows : List Row) (bits more : Bits) → settings.encoding ≡ Group4 → settings.columns ≤ 4294967295 → Allows settings (length rows)
@@ -59,15 +60,7 @@ closed_picture_t6 settings rows bits stream are all begins =
 
 -- the law
 pub limited_rows_t6 : ReadsLimitedRowsT6
-limited_rows_t6 settings rows bits stream are all begins =
-    let more : Bits = begins.begins.0 in
-    let found : Bits = (eols_here settings more).1 in
-    let whole : AreWholeBytes (bits ++ more) = subst AreWholeBytes begins.begins.1 all in
-    let ends = ap (λ (e : EncodingMode). ending_behind settings (first_gap e settings (bits ++ more))) begins.encoding
-    ∙ body_end settings begins.picture.0 (omega (arith, are.columns)) Group4 begins.encoding rows bits more begins.some begins.limit begins.picture
-    (λ e. whole) begins.lines in
-    let e = plain_ends settings stream (ended rows found) found begins.picture.0 (ap (end_of settings) begins.begins.1 ∙ ends) refl in
-    (ap (λ (a : Reading). a.rows) e, rw e refl)
+limited_rows_t6 settings rows bits stream are all begins = grind (arith, common_steps, body_end, ended, plain_ends)
 
 -- a picture reaches its EOFB
 pub pictures_come_to_eofb : PicturesComeToEofb

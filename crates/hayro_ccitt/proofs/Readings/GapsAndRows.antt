@@ -60,23 +60,20 @@ module _ (settings : DecodeSettings) (wide : 0 < settings.columns) where
       (λ s t. s ≡ t) (λ r q. r ≡ q) same (suc (suc (length run.rest))) (suc (left_to_read run)) run run (left_below run) (omega arith) refl
     where
       turn_same : (rest : Progress → Ending) (turn : Move) → Follows (λ s t. s ≡ t) (λ r q. r ≡ q) rest turn turn
-      turn_same rest (Turn.next t) = refl
-      turn_same rest (Turn.done r) = refl
+      turn_same rest turn = grind (arith, common_steps)
 
       same : (s t : Progress) → s ≡ t → Follows (λ s t. s ≡ t) (λ r q. r ≡ q) goes (move_on settings s) (move_on settings t)
       same s t e = subst (λ (r : Progress). Follows (λ s t. s ≡ t) (λ r q. r ≡ q) goes (move_on settings s) (move_on settings r)) e (turn_same goes (move_on settings s))
 
   ending_behind_goes : (gap : Move) → ending_behind settings gap ≡ after_turn goes gap
-  ending_behind_goes (Turn.next run) = ending_goes run
-  ending_behind_goes (Turn.done end) = refl
+  ending_behind_goes gap = grind (arith, common_steps, ending_goes)
 
   -- a row, and the gap after it, are a turn
   row_then_gap : (line next : Progress) → row_behind settings (Turn.next line) ≡ Turn.next next → move_on settings line ≡ pass_gap settings next
   row_then_gap line next e = by (row_of_line settings line.has_eols line.rest (line_of_turn settings line)) e
     where
       by : (row : Result (Row × Bits) DecodeError) → add_row_alone line row ≡ Turn.next next → add_row settings line row ≡ pass_gap settings next
-      by (Ok (row, rest)) e = ap (pass_gap settings) (next_is _ next e)
-      by (Err fault) e = absurd (not_next _ next e)
+      by row e = grind (arith, common_steps)
 
   reaches_goes : (from last : Progress) → Reaches (gap_and_row settings) from last
       → after_turn goes (pass_gap settings from) ≡ after_turn goes (pass_gap settings last)
@@ -91,11 +88,9 @@ module _ (settings : DecodeSettings) (wide : 0 < settings.columns) where
   -- if gaps and rows lead to a last gap, the reading from the first gap on ends with that
   pub reaches_end : (from last : Progress) (end : Ending) → Reaches (gap_and_row settings) from last → pass_gap settings last ≡ Turn.done end
       → ending_behind settings (pass_gap settings from) ≡ end
-  reaches_end from last end reaches over =
-      ending_behind_goes (pass_gap settings from) ∙ reaches_goes from last reaches ∙ ap (after_turn goes) over
+  reaches_end from last end reaches over = grind (arith, common_steps, after_turn, ending_behind_goes, reaches_goes)
 
   -- so does the reading of Group 4 data
   pub t6_end : (bits : Bits) (last : Progress) (end : Ending) → settings.encoding ≡ Group4 → Reaches (gap_and_row settings) (at_front bits) last
       → pass_gap settings last ≡ Turn.done end → end_of settings bits ≡ end
-  t6_end bits last end is reaches over =
-      ap (λ (e : EncodingMode). ending_behind settings (first_gap e settings bits)) is ∙ reaches_end (at_front bits) last end reaches over
+  t6_end bits last end is reaches over = grind (arith, common_steps, reaches_end (at_front bits) last end reaches over)

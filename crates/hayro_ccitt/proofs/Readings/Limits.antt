@@ -59,29 +59,20 @@ module _ (settings : DecodeSettings) (limit : ℕ) (some : 0 < limit) (wide : 0 
 
     -- short of the limit the turns are the same
     same_turn : (rows : List Row) (m : Move) → length rows < limit → Keeps rows m → Follows Same Cut rest m m
-    same_turn rows (Turn.next t) lt k = (refl, rw k lt)
-    same_turn rows (Turn.done e) lt k = short e (rw k lt)
+    same_turn rows m lt k = grind (arith, common_steps)
 
     -- at the limit the run is over
     cut_turn : (run : Progress) (found : ℕ × Bits) (m : Move) → length run.rows ≡ limit → Keeps run.rows m
         → Follows Same Cut rest (unless_over limited run found) m
     cut_turn run (count, here) m full k =
-        let over : (((settings.end_of_block && leb (eols_of_end settings.encoding) count) || limit_met limited (length run.rows)) || at_end here) ≡ true
-        = or_left ((settings.end_of_block && leb (eols_of_end settings.encoding) count) || limit_met limited (length run.rows)) (at_end here)
-        (or_right (settings.end_of_block && leb (eols_of_end settings.encoding) count) (limit_met limited (length run.rows)) (rw full is_met)) in
-        let is_done : unless_over limited run (count, here) ≡ ends_with run (Ok here)
-        = cond-true (((settings.end_of_block && leb (eols_of_end settings.encoding) count) || limit_met limited (length run.rows)) || at_end here) _ _ over in
-        let more = turn_extends run.rows m k in
-        subst (λ (x : Move). Follows Same Cut rest x m) (sym is_done)
-        (cut_rows run.rows (after_turn rest m).rows full more, λ same. refl)
+        grind (arith, common_steps, after_turn, cond-true, cut_rows, is_met, or_left, or_right, turn_extends, unless_over)
 
     unless_over_open : (run : Progress) (found : ℕ × Bits) → limit_met limited (length run.rows) ≡ false
         → unless_over limited run found ≡ unless_over unlimited run found
     unless_over_open run (count, here) e = rw e refl
 
     seek_from_open : (run : Progress) (o : Option Bits) → limit_met limited (length run.rows) ≡ false → seek_from limited run o ≡ seek_from unlimited run o
-    seek_from_open run None e = refl
-    seek_from_open run (Some found) e = unless_over_open run (eols_here settings found) e
+    seek_from_open run o e = grind (arith, common_steps)
 
     after_row_open : (run : Progress) → limit_met limited (length run.rows) ≡ false → after_row limited run ≡ after_row unlimited run
     after_row_open run e = rw (e, seek_from_open run (next_eol run.rest) e) refl
@@ -127,8 +118,7 @@ module _ (settings : DecodeSettings) (limit : ℕ) (some : 0 < limit) (wide : 0 
         by false = after_row_follows more (one_longer run.rows (front ++ replicate (settings.columns - length front) false) lt)
 
     move_follows : (s t : Progress) → Same s t → Follows Same Cut rest (move_on limited s) (move_on unlimited t)
-    move_follows s t same = subst (λ (r : Progress). Follows Same Cut rest (move_on limited s) (move_on unlimited r)) same.0
-        (after_line_follows s (line_here settings (row_before settings.columns s.rows) s.rest) same.1)
+    move_follows s t same = grind (arith, common_steps, after_line_follows)
 
   -- ---- The whole
   cut_from : (n m : ℕ) (run : Progress) (late : Ending) → left_to_read run < n → left_to_read run < m → length run.rows < limit
@@ -162,26 +152,15 @@ module _ (settings : DecodeSettings) (limit : ℕ) (some : 0 < limit) (wide : 0 
 
   first_gap_follows : (encoding : EncodingMode) (bits : Bits)
       → Follows Same Cut unlimited_end (first_gap encoding limited bits) (first_gap encoding unlimited bits)
-  first_gap_follows Group4 bits = grind (arith, common_steps)
-  first_gap_follows Group3_1D bits = (refl, some)
-  first_gap_follows Group3_2D bits = (refl, some)
+  first_gap_follows encoding bits = grind (arith, common_steps)
 
   cut_end : (bits : Bits) → Cut (end_of limited bits) (end_of unlimited bits)
   cut_end bits = cut_behind (first_gap settings.encoding limited bits) (first_gap settings.encoding unlimited bits) (first_gap_follows settings.encoding bits)
 
 ok_bytes : (bits : Bits) (r : Result Bits DecodeError) → IsOk r → IsOk (bytes_before bits r)
-ok_bytes bits (Ok rest) ok = refl
-ok_bytes bits (Err fault) ok = absurd (false≢true ok)
+ok_bytes bits r ok = grind (arith, common_steps)
 
 -- the law
 pub row_limit : RowLimit
-row_limit settings limit bits are some small = elim (cases_eq settings.columns 0) [
-  | inl none ↦
-      let no_columns : eqb settings.columns 0 ≡ true = eq-eqb settings.columns 0 none in
-      rw no_columns (sym (take_all limit [] (omega arith)), λ full. absurd (omega (arith, full, some)))
-  | inr not_none ↦
-      let wide : 0 < settings.columns = elim (cases_lt 0 settings.columns) [ inl lt ↦ lt | inr ge ↦ absurd (not_none (omega arith)) ] in
-      let columns : eqb settings.columns 0 ≡ false = ne_eqb settings.columns 0 not_none in
-      let cut = cut_end settings limit some wide bits in
-      rw columns (cut.0, λ full. ok_bytes bits (end_of (record settings { rows = limit }) bits).outcome (cut.1 full))
-]
+row_limit settings limit bits are some small =
+    grind (arith, common_steps, cases_eq, cases_lt, cut_end, eq-eqb, ne_eqb, ok_bytes, take_all)

@@ -12,20 +12,11 @@ use Rattle.hayro_ccitt.proofs.DamagedLines.BodyWork.{body_counted}
 use Rattle.hayro_ccitt.proofs.locality.body_is_local.Goals.{After-is_behind_eol, After-holds_one, After-end_of_eol, After-holds_eol}
 use Rattle.hayro_ccitt.proofs.locality.body_is_local.Goals as goal
 use Rattle.hayro_ccitt.proofs.locality.body_is_local.Goals.{then-not-is_lenient_1d-via-then-not-is_lenient_1d, then-not-is_lenient_1d-via-else-not-is_lenient_1d+then-from-to, then-not-is_lenient_1d-via-else-not-is_lenient_1d+else-from-to+then-to-data}
+use Rattle.std.proofs.lemmas.Grind.{common_steps}
 
 pub returns-then-not-is_lenient_1d-clause-local : goal.returns-then-not-is_lenient_1d-clause-local
-returns-then-not-is_lenient_1d-clause-local c = (
-  λ test. absurd (false≢true test),
-  λ local. absurd (elim c.then-not-is_lenient_1d.branch [
-    | then-not-is_lenient_1d-via-then-not-is_lenient_1d w ↦
-        let encoding = ap (λ (s : DecodeSettings). s.encoding) c.settings.ensures.value ∙ local.encoding in
-        let lenient = ap (λ (s : DecodeSettings). s.strict) c.settings.ensures.value ∙ local.lenient in
-        false≢true (sym w.if-not-is_lenient_1d.true ∙ c.is_lenient_1d.ensures.1 (encoding, lenient))
-    | then-not-is_lenient_1d-via-else-not-is_lenient_1d+then-from-to w ↦ absurd (omega (arith, w.if-from-to.true, local.order))
-    | then-not-is_lenient_1d-via-else-not-is_lenient_1d+else-from-to+then-to-data w ↦
-        absurd (omega (arith, w.if-to-data.true, local.within, length-bits_of c.args.data.now))
-  ]),
-)
+returns-then-not-is_lenient_1d-clause-local c =
+    grind (arith, common_steps, false≢true, length-bits_of, then-not-is_lenient_1d-via-then-not-is_lenient_1d)
 
 pub returns-then-not-is_behind_eol-clause-local : goal.returns-then-not-is_behind_eol-clause-local
 returns-then-not-is_behind_eol-clause-local c = (

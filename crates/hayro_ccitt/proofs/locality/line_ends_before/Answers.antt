@@ -11,11 +11,10 @@ use Rattle.hayro_ccitt.proofs.DrawingLines.DrawnLines.{memory_has_black}
 use Rattle.hayro_ccitt.proofs.DamagedLines.BodyWork.{same_bound}
 use Rattle.hayro_ccitt.proofs.locality.line_ends_before.Goals.{After-decode_1d_line}
 use Rattle.hayro_ccitt.proofs.locality.line_ends_before.Goals as goal
+use Rattle.std.proofs.lemmas.Grind.{common_steps}
 
 pub overflow_add-result : goal.overflow_add-result
-overflow_add-result c =
-    let same = c.decode_1d_line.ensures.same_bits ∙ ap (λ (at : BitsAt). at.bits) c.starting_at-reader.ensures in
-    omega (arith, c.bit_pos.ensures.place, c.bit_pos.ensures.within, ap length same, length-bits_of c.args.data.now, c.requires.fit)
+overflow_add-result c = grind (arith, common_steps, length-bits_of)
 
 pub returns-in-Ok-clause-before : goal.returns-in-Ok-clause-before
 returns-in-Ok-clause-before c =
