@@ -731,6 +731,37 @@ fn damage_is_told(rt: HostRuntime) {
     tells_damage(&rt, &[0x31, 0xC0], group_4(8, 0, ""), &[None]);
 }
 
+/// Where a reader of rows stands after an error.
+fn fails_at(
+    rt: &(impl Abort + AllocGlobal),
+    data: &[u8],
+    settings: DecodeSettings,
+    rows: u64,
+    place: usize,
+) {
+    assert!(rt; bits_fit(data));
+    let mut reader = RowReader::new(rt.alloc(), data, BitOrder::HighestFirst, settings).expect(
+        rt, "memory",
+    );
+    for _ in 0..rows {
+        assert_eq!(rt; reader.next_row(), Ok(true));
+    }
+    assert_eq!(rt; reader.next_row(), Err(InvalidCode));
+    assert_eq!(rt; (reader.rows_read(), reader.line_start()), (rows, place));
+}
+
+#[test]
+fn faults_have_a_place(rt: HostRuntime) {
+    // The second line's black run has no word.
+    let cut = [0x00, 0x19, 0x80, 0x0C, 0x40, 0x00, 0x33];
+    fails_at(&rt, &cut, group_3_1d(8, 0, "ls"), 1, 29);
+    // Bits stand before the second EOL, from the end of the first line on.
+    let whole = [0x00, 0x19, 0xF8, 0x00, 0xCC];
+    fails_at(&rt, &whole, group_3_1d(8, 2, "ls"), 1, 17);
+    // One row, and then padding that is no mode.
+    fails_at(&rt, &[0x31, 0xC0], group_4(8, 0, ""), 1, 10);
+}
+
 #[test]
 fn prints_errors(rt: HostRuntime) -> std::result::Result<(), Fail> {
     for (error, text) in [
