@@ -1,5 +1,5 @@
 -- Rows one at a time: what a reader of rows has read, and what a call leaves that reads the next row.
-use Rattle.std.specs.Prelude.{sum_by, take, ◌==◌, if◌then◌else◌, ◌≡◌, ◌≢◌, ◌≤◌, ◌<◌, ◌+◌, ◌-◌, ◌/◌, ℕ, Bool, true, false, not, drop, List, [], length, get_or, Option, None, Some, Result, Ok, Err, IfErr}
+use Rattle.std.specs.Prelude.{sum_by, take, ◌==◌, if◌then◌else◌, ◌≡◌, ◌≢◌, ◌≤◌, ◌<◌, ◌+◌, ◌-◌, ◌/◌, ℕ, Bool, true, false, not, drop, List, [], length, get_or, Option, None, Some, Result, Ok, Err, OnErr, IfErr}
 use Rattle.hayro_ccitt.specs.declared.codes.Color.TheVariants.{White}
 use Rattle.hayro_ccitt.specs.declared.error.DecodeError.{DecodeError}
 use Rattle.hayro_ccitt.specs.declared.error.DecodeError.TheVariants.{OutOfMemory, Refused}
@@ -79,6 +79,11 @@ stand_after (Err error) = AtFault error
 abbrev pub damage_since : Repairs → ℕ → Option DecodeError
 damage_since repairs before = if repairs.rows == before then None else Some repairs.fault
 
+-- where the line of the last row begins, or after a gap that is at fault, the place of that gap
+abbrev pub start_after : Result Bool DecodeError → ℕ → ℕ → ℕ
+start_after (Ok over) place before = before
+start_after (Err error) place before = place
+
 -- ---- The contract
 
 -- The reading has ended well: all rows were read, and the bytes up to here are the byte count of the plain reading.
@@ -107,6 +112,8 @@ pub record ReadsNext (old new : RowsRead) (result : Result Bool DecodeError) : T
   -- there was none
   pub end : result ≡ Ok false → (new.end ≡ Some (Ok tt)) × (new.taken ≡ old.taken) × HasEnded old.settings old.bits new.taken new.place
   pub error : IfErr result (λ e. (new.end ≡ Some (Err e)) × (new.taken ≡ old.taken) × HasFailed old.settings old.bits new.taken e)
+  -- the place of the fault: the first bit of the line that couldn't be read, or the place where its EOL is missing (T.4, 4.1.2)
+  pub fault_start : OnErr result (new.line_start ≡ get_or (line_starts old.settings old.bits) old.taken new.place)
 
 -- What a call that passes the gap before the next line leaves: it reaches a line, or the end.
 pub record ComesToLine (old new : RowsRead) (result : Result Bool DecodeError) : Type 0 where
@@ -116,6 +123,7 @@ pub record ComesToLine (old new : RowsRead) (result : Result Bool DecodeError) :
   pub line : result ≡ Ok true → new.at_line ≡ true
   pub end : result ≡ Ok false → (new.end ≡ Some (Ok tt)) × HasEnded old.settings old.bits new.taken new.place
   pub error : IfErr result (λ e. (new.end ≡ Some (Err e)) × HasFailed old.settings old.bits new.taken e)
+  pub fault_start : OnErr result (new.line_start ≡ get_or (line_starts old.settings old.bits) old.taken new.place)
 
 -- what a call returns after the end
 abbrev pub at_end_of_rows : Result (Unit {0}) DecodeError → Result Bool DecodeError

@@ -5,7 +5,7 @@ ghost use Rattle.hayro_ccitt.specs.Bits.{BitsFit, bits_in};
 ghost use Rattle.hayro_ccitt.specs.Context.{fresh};
 ghost use Rattle.hayro_ccitt.specs.Rows.{changes};
 ghost use Rattle.hayro_ccitt.specs.Damage.{repairs_by_line};
-ghost use Rattle.hayro_ccitt.specs.RowsRead.{damage_since, Stands, ComesToLine, ReadsNext, stand_after, line_after, is_at_line, at_end_of_rows};
+ghost use Rattle.hayro_ccitt.specs.RowsRead.{damage_since, start_after, Stands, ComesToLine, ReadsNext, stand_after, line_after, is_at_line, at_end_of_rows};
 
 use crate::bit_reader::{BitOrder, BitReader};
 use crate::context::DecoderContext;
@@ -63,6 +63,16 @@ pub(crate) fn stand_after_gap(over: Result<bool>) -> Stand
         Ok(true) => Stand::AtEnd,
         Ok(false) => Stand::AtLine,
         Err(error) => Stand::AtFault(error),
+    }
+}
+
+/// Where the line of the last row begins, or after a gap that is at fault, the place of that gap.
+fn start_after_gap(over: Result<bool>, place: usize, before: usize) -> usize
+    ensures { result ≡ start_after over place before }
+{
+    match over {
+        Ok(_) => before,
+        Err(_) => place,
     }
 }
 
@@ -200,7 +210,8 @@ impl<'a> RowReader<'a> {
         }
         let over = pass_gap(&mut self.ctx, &mut self.reader);
         // That an offset is within the data is known once it is read.
-        let _place = self.reader.bit_pos();
+        let place = self.reader.bit_pos();
+        self.started_at = start_after_gap(over, place, self.started_at);
         self.stand = stand_after_gap(over);
         line_after_gap(over)
     }
@@ -214,11 +225,10 @@ impl<'a> RowReader<'a> {
         let mut sink = NoRows {
             columns: self.ctx.settings().columns,
         };
-        let line_start = self.reader.bit_pos();
+        self.started_at = self.reader.bit_pos();
         let damaged_rows = self.ctx.damaged_rows();
         match read_row(&mut self.ctx, &mut self.reader, &mut sink) {
             Ok(()) => {
-                self.started_at = line_start;
                 self.damage = damage_since(&self.ctx, damaged_rows);
                 self.stand = Stand::BehindRow;
                 Ok(true)
@@ -269,7 +279,8 @@ impl<'a> RowReader<'a> {
     }
 
     /// The offset in bits at which the line of the last row begins, after its EOL; in two-dimensional data of Group 3 that of
-    /// its tag bit (T.4 section 4.2.2).
+    /// its tag bit (T.4 section 4.2.2). After an error, that of the line that couldn't be read, or the offset at which strict data
+    /// misses an EOL.
     pub fn line_start(&self) -> usize
         ensures { result ≡ self.now.line_start }
     {

@@ -97,7 +97,7 @@ line_2d_agrees columns reference here =
     (step_2d false columns reference) (Line.broken [] UnexpectedEof) pen_left (step_2d_shrinks false columns reference) SamePen Agrees
     (step_2d_follows _ columns reference) (suc (length here)) (suc (length here)) (start here) (start here) (omega arith) (omega arith) refl
 
-line_by_agrees : (encoding : EncodingMode) (columns : ℕ) (reference : Row) (here : Bits)
+pub line_by_agrees : (encoding : EncodingMode) (columns : ℕ) (reference : Row) (here : Bits)
     → Agrees (line_by encoding true columns reference here) (line_by encoding false columns reference here)
 line_by_agrees encoding columns reference here = grind (arith, common_steps, line_1d_agrees, line_2d_agrees)
 
@@ -181,7 +181,7 @@ module _ (settings : DecodeSettings) (wide : 0 < settings.columns) where
   precedes : (bits : Bits) → Precedes (end_of strictly bits) (end_of leniently bits)
   precedes bits = precedes_behind (first_gap settings.encoding strictly bits) (first_gap settings.encoding leniently bits) (first_gap_follows settings.encoding bits)
 
-ok_outcome : (bits : Bits) (r : Result Bits DecodeError) → IsOk (bytes_before bits r) → IsOk r
+pub ok_outcome : (bits : Bits) (r : Result Bits DecodeError) → IsOk (bytes_before bits r) → IsOk r
 ok_outcome bits r ok = grind (arith, common_steps)
 
 -- the law
