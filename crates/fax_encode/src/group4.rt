@@ -239,7 +239,7 @@ fn picture(
 /// white pixels, 2 black ones, a vertical mode, and EOFB (T.6 sections 2.2 and 2.4.1.1).
 ///
 /// `NoColumns` comes where `columns` is 0, else `NotARow` with the index of the first list that is not strictly
-/// ascending and below `columns`, and else `OutOfMemory` where memory was refused; never `NoRows`.
+/// ascending and below `columns`, and else `OutOfMemory` where memory was refused; never `NoRows` or `NoEncoding`.
 pub fn encode_g4(
     alloc: Global,
     columns: u32,
@@ -247,6 +247,7 @@ pub fn encode_g4(
     aligned: bool,
 ) -> std::result::Result<Vec<u8>, EncodeError>
     ensures no_columns { (result ≡ Err EncodeError.NoColumns) ↔ (columns ≡ 0) }
+    ensures no_encoding { result ≢ Err EncodeError.NoEncoding }
     ensures not_a_row { (k : ℕ) → (result ≡ Err (EncodeError.NotARow k))
         ↔ ((0 < columns) × IsFirstUnlawful columns (map (λ row. row.items) rows.now) k) }
     ensures no_rows { result ≢ Err EncodeError.NoRows }
