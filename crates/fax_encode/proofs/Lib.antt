@@ -1,4 +1,5 @@
 pub mod BitmapRoundTrip
+pub mod BytesOfBits
 pub mod ChosenBySettings
 pub mod ChosenLines
 pub mod ChosenWords
