@@ -286,8 +286,17 @@ impl<'a> BitReader<'a> {
     pub fn bit_pos(&self) -> usize
         ensures place { result ≡ self.now.place }
         ensures within { result ≤ length self.now.bits }
+        ensures fit { length self.now.bits + 64 < 2 ^ 64 }
     {
         self.place
+    }
+
+    /// The same bits at another place.
+    pub(crate) fn at_bit(&self, place: usize) -> BitReader<'a>
+        requires { place ≤ length self.now.bits }
+        ensures { result ≡ record self.now { place = place } }
+    {
+        BitReader::at_place(self.data, self.order, place)
     }
 
     /// The same bits at the same place.

@@ -76,7 +76,7 @@ impl DecoderContext {
             decoded_rows: 0,
             has_eols: false,
             settings,
-            tables: Tables::new(alloc)?,
+            tables: Tables::new(),
             ticks: Ticks::new(),
         })
     }
@@ -396,8 +396,8 @@ impl DecoderContext {
             self.pixels_decoded,
             self.settings.columns,
             self.settings.strict,
-            self.tables.lookup(Color::White).as_slice(),
-            self.tables.lookup(Color::Black).as_slice(),
+            self.tables.lookup(Color::White),
+            self.tables.lookup(Color::Black),
             ticks,
         );
         lay_down(&mut self.coding_changes, place);
@@ -454,8 +454,8 @@ impl DecoderContext {
             self.settings.columns,
             self.settings.strict,
             self.ref_changes.as_slice(),
-            self.tables.lookup(Color::White).as_slice(),
-            self.tables.lookup(Color::Black).as_slice(),
+            self.tables.lookup(Color::White),
+            self.tables.lookup(Color::Black),
             ticks,
         );
         lay_down_row(&mut self.coding_changes, place, self.settings.columns);
@@ -506,7 +506,8 @@ impl DecoderContext {
         if !is_white_row(&self.ref_changes) {
             return false;
         }
-        if self.settings.columns == 0 {
+        let columns = self.settings.columns;
+        if columns == 0 {
             return false;
         }
         if !reader.pass_v0() {
@@ -515,7 +516,7 @@ impl DecoderContext {
         // The mode, and b1.
         self.ticks.tick();
         self.ticks.tick();
-        self.pixels_decoded = self.settings.columns;
+        self.pixels_decoded = columns;
         self.color = Color::Black;
         true
     }
@@ -540,7 +541,7 @@ impl DecoderContext {
     }
 
     /// Draws what a mode says (T.4 section 4.2.1.3).
-    #[inline(always)]
+    #[inline(never)]
     fn draw_mode(&mut self, mode: Mode, reader: &mut BitReader<'_>) -> Result<()>
         ensures step { DrawsStep (step_of_mode self.old.held (here reader.old) mode)
             result (pen_of self.new.held (here reader.new)) }

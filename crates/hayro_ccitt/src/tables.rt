@@ -305,14 +305,6 @@ impl Lookup {
             None
         }
     }
-
-    /// All entries.
-    #[inline(always)]
-    pub(crate) fn as_slice(&self) -> &[u16]
-        ensures { result.now ≡ self.now }
-    {
-        self.entries.as_slice()
-    }
 }
 
 /// So many entries, all of them one value.
@@ -378,27 +370,11 @@ pub fn build_lookup(
     Ok(Lookup { entries })
 }
 
-/// A look-up with a copy of these entries. The only error is `OutOfMemory`.
-fn lookup_of(alloc: Global, entries: &[u16]) -> Result<Lookup>
-    requires count { length entries.now ≡ 8192 }
-    ensures entries { IfOk result (λ lookup. lookup ≡ entries.now) }
-    ensures only_memory { IsOkUnless result DecodeError.OutOfMemory }
-{
-    let mut copied = Vec::with_capacity(alloc, LOOKUP_ENTRIES)?;
-    // 1 KiB at a time: memcpy copies larger parts byte by byte on some processors.
-    let mut done = 0;
-    'parts: while done < LOOKUP_ENTRIES {
-        copied.extend_from_slice(&entries[done..done + 512])?;
-        done += 512;
-    }
-    Ok(Lookup { entries: copied })
-}
-
-/// What run codes are read by: the look-ups of both colours.
+/// What run codes are read by: the entries of both colours, in the form that [`Lookup`] describes. They are constants.
 #[derive(Drop)]
 pub struct Tables {
-    white: Lookup,
-    black: Lookup,
+    white: &'static [u16],
+    black: &'static [u16],
 }
 
 impl Model for Tables {
@@ -408,32 +384,32 @@ impl Model for Tables {
 
     ghost use Rattle.hayro_ccitt.specs.LookUps.{AreOfColors};
 
-    ghost view = { λ t. record { white = t.white; black = t.black } };
+    ghost view = { λ t. record { white = t.white.now; black = t.black.now } };
 
-    ghost invariant = { λ t. AreOfColors (record { white = t.white; black = t.black }) };
+    ghost invariant = { λ t. AreOfColors (record { white = t.white.now; black = t.black.now }) };
 }
 
 impl Tables {
-    /// The tables of both colours. The only error is `OutOfMemory`, and nothing is made then.
-    pub fn new(alloc: Global) -> Result<Tables>
-        ensures entries { IfOk result (λ tables. AreOfColors tables) }
-        ensures only_memory { IsOkUnless result DecodeError.OutOfMemory }
+    /// The tables of both colours. It takes no memory.
+    #[inline(always)]
+    pub fn new() -> Tables
+        ensures entries { AreOfColors result }
     {
-        Ok(Tables {
-            white: lookup_of(alloc, white_entries())?,
-            black: lookup_of(alloc, black_entries())?,
-        })
+        Tables {
+            white: white_entries(),
+            black: black_entries(),
+        }
     }
 
-    /// The look-up of a colour.
+    /// The entries of a colour, one for each thirteen bits.
     #[inline(always)]
-    pub fn lookup(&self, color: Color) -> &Lookup
+    pub fn lookup(&self, color: Color) -> &[u16]
         ensures value { result.now ≡ entries_of color self.now }
         ensures entries { AreEntries (codes_of color) result.now }
     {
         match color {
-            Color::White => &self.white,
-            Color::Black => &self.black,
+            Color::White => self.white,
+            Color::Black => self.black,
         }
     }
 }

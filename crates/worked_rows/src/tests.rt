@@ -445,7 +445,7 @@ fn reads_bits(rt: HostRuntime) -> std::result::Result<(), Fail> {
 
 #[test]
 fn reads_runs(rt: HostRuntime) -> std::result::Result<(), Fail> {
-    let tables = Tables::new(rt.alloc())?;
+    let tables = Tables::new();
     let mut ticks = Ticks::new();
     for (data, color, run, place) in [
         ([0x8C, 0x00, 0x00], Color::White, 3, 4),
@@ -468,7 +468,7 @@ fn reads_runs(rt: HostRuntime) -> std::result::Result<(), Fail> {
 
 #[test]
 fn runs_that_are_none(rt: HostRuntime) -> std::result::Result<(), Fail> {
-    let tables = Tables::new(rt.alloc())?;
+    let tables = Tables::new();
     let mut ticks = Ticks::new();
     for (data, error) in [
         (&[0x01][..], UnexpectedEof),
