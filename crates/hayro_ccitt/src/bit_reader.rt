@@ -293,6 +293,7 @@ impl<'a> BitReader<'a> {
     pub fn bit_pos(&self) -> usize
         ensures place { result ≡ self.now.place }
         ensures within { result ≤ length self.now.bits }
+        ensures fit { length self.now.bits + 64 < 2 ^ 64 }
     {
         self.place
     }
@@ -303,6 +304,14 @@ impl<'a> BitReader<'a> {
         ensures fit { length self.now.bits + 64 < 2 ^ 64 }
     {
         self.data.len() * 8
+    }
+
+    /// Returns a reader of the same bits at another offset.
+    pub(crate) fn at_bit(&self, place: usize) -> BitReader<'a>
+        requires { place ≤ length self.now.bits }
+        ensures { result ≡ record self.now { place = place } }
+    {
+        BitReader::at_place(self.data, self.order, place)
     }
 
     /// Returns a reader of the same bits at the same offset.

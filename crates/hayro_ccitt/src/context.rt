@@ -449,8 +449,8 @@ impl DecoderContext {
             self.pixels_decoded,
             self.settings.columns,
             self.settings.strict,
-            self.tables.lookup(Color::White).as_slice(),
-            self.tables.lookup(Color::Black).as_slice(),
+            self.tables.lookup(Color::White),
+            self.tables.lookup(Color::Black),
             ticks,
         );
         lay_down(&mut self.coding_changes, place);
@@ -507,8 +507,8 @@ impl DecoderContext {
             self.settings.columns,
             self.settings.strict,
             self.ref_changes.as_slice(),
-            self.tables.lookup(Color::White).as_slice(),
-            self.tables.lookup(Color::Black).as_slice(),
+            self.tables.lookup(Color::White),
+            self.tables.lookup(Color::Black),
             ticks,
         );
         lay_down_row(&mut self.coding_changes, place, self.settings.columns);
@@ -560,7 +560,8 @@ impl DecoderContext {
         if !is_white_row(&self.ref_changes) {
             return false;
         }
-        if self.settings.columns == 0 {
+        let columns = self.settings.columns;
+        if columns == 0 {
             return false;
         }
         if !reader.pass_v0() {
@@ -569,7 +570,7 @@ impl DecoderContext {
         // One tick for the mode, and one for b1.
         self.ticks.tick();
         self.ticks.tick();
-        self.pixels_decoded = self.settings.columns;
+        self.pixels_decoded = columns;
         self.color = Color::Black;
         true
     }
@@ -594,7 +595,7 @@ impl DecoderContext {
     }
 
     /// Draws a mode (T.4 section 4.2.1.3).
-    #[inline(always)]
+    #[inline(never)]
     fn draw_mode(&mut self, mode: Mode, reader: &mut BitReader<'_>) -> Result<()>
         ensures step { DrawsStep (step_of_mode self.old.held (here reader.old) mode)
             result (pen_of self.new.held (here reader.new)) }

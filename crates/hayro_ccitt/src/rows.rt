@@ -225,7 +225,7 @@ fn decode_tagged_line(ctx: &mut DecoderContext, reader: &mut BitReader<'_>) -> R
 }
 
 /// Decodes the line that stands here.
-#[inline(never)]
+#[inline(always)]
 fn decode_line(ctx: &mut DecoderContext, reader: &mut BitReader<'_>) -> Result<()>
     requires begun { ctx.old.held.front ≡ [] }
     ensures line { DrawsLine (line_here ctx.old.held.settings ctx.old.held.reference (here reader.old))
@@ -278,8 +278,9 @@ pub(crate) fn read_row<D: Decoder>(
     ensures stored { OnOk result (length (changes ctx.new.held.reference)
         ≤ length (found_here ctx.old.held.settings ctx.old.held.reference (here reader.old)) + 1) }
 {
-    let line_start = reader.copy();
+    let place = reader.bit_pos();
     if let Err(error) = decode_line(ctx, reader) {
+        let line_start = reader.at_bit(place);
         recover(ctx, reader, line_start, error)?;
         return take_damaged_row(ctx, reader, decoder, error);
     }
