@@ -78,7 +78,7 @@ fn status(data: &[u8], settings: &Settings, sink: &mut impl Decoder) -> u32 {
 }
 
 /// # Safety
-/// `data` points to so many bytes.
+/// `data` is valid for its length.
 #[unsafe(no_mangle)]
 pub unsafe extern "C" fn crate_measure(data: *const u8, length: usize, settings: &Settings, outcome: &mut Outcome) -> u32 {
     *outcome = Outcome::default();
@@ -86,7 +86,7 @@ pub unsafe extern "C" fn crate_measure(data: *const u8, length: usize, settings:
 }
 
 /// # Safety
-/// `data` and `bitmap` point to so many bytes, and overlap nowhere.
+/// `data` and `bitmap` are valid for their lengths, and don't overlap.
 #[unsafe(no_mangle)]
 pub unsafe extern "C" fn crate_decode_packed(
     data: *const u8,

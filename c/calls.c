@@ -1,6 +1,6 @@
-/* The calls of the installed library: those that are proved, for which no pointer may be null, behind a look at each pointer that
- * may be null where its length is 0. The Makefile renames the proved ones to proved_*, and links them with this file. It compiles
- * as C89 and as C++. */
+/* The calls of the installed library. The proved calls accept no null pointers; these replace each pointer of length 0, which may
+ * be null, and then call them. The Makefile renames the proved ones to proved_*, and links them with this file. It compiles as
+ * C89 and as C++. */
 #include "fax_encode.h"
 #include "hayro_ccitt.h"
 
@@ -19,8 +19,8 @@ uint32_t proved_fax_encode_bitmap(const uint8_t *, size_t, const fax_encode_sett
 }
 #endif
 
-/* What a pointer of length 0 points to in place of null. No bytes of it are read or written, and no two pointers of a call that
- * may be written through are the same. */
+/* What replaces a pointer of length 0, which may be null. None of its bytes are read or written, and no two pointers of a call
+ * that may be written through are the same. */
 static const uint8_t no_data = 0;
 static uint8_t no_bytes;
 static uint32_t no_numbers;

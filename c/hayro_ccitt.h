@@ -19,11 +19,11 @@
  *
  *   cc first.c $(pkg-config --cflags --libs hayro_ccitt)
  *
- * Pointers. Each pointer is valid for its length, and is not null; a pointer to data, a bitmap or lists may be null where its
- * length is 0. What a call writes to overlaps with nothing else that it is given.
+ * Pointers. Each pointer must be valid for its length, and not null; a pointer to data, a bitmap or lists may be null if its
+ * length is 0. The memory that a call writes to must not overlap with its other arguments.
  *
- * Threads. Calls share no state, so several threads may call at the same time. No call is made from a signal handler, or after
- * fork in the child of a process with threads.
+ * Threads. Calls share no state, so several threads may call at the same time. Don't call from a signal handler, nor after fork
+ * in the child of a process with threads.
  *
  * Memory. The library allocates by malloc, and frees all of it before a call returns. hayro_ccitt_heap.h says how a program
  * gives it another allocator. */
@@ -45,7 +45,7 @@ extern "C" {
 enum {
     HAYRO_CCITT_GROUP_4 = 0,    /* every line is two-dimensional (T.6, MMR) */
     HAYRO_CCITT_GROUP_3_1D = 1, /* one-dimensional lines (T.4, MH) */
-    HAYRO_CCITT_GROUP_3_2D = 2  /* a tag before each line says of which kind it is (T.4, MR) */
+    HAYRO_CCITT_GROUP_3_2D = 2  /* a tag before each line says which kind it is (T.4, MR) */
 };
 
 /* Flags, to be added up. Settings with any other flag, or with another encoding, are invalid. */
@@ -67,16 +67,16 @@ typedef struct {
 /* What every call fills in, whatever it returns. */
 typedef struct {
     uint64_t rows;       /* the number of rows that were decoded */
-    uint64_t changes;    /* the number of their changes of colour; 2 ^ 64 - 1 also means more */
+    uint64_t changes;    /* the number of their changes of colour, saturated at 2 ^ 64 - 1 */
     uint64_t bytes_read; /* the bytes consumed, if the call returns HAYRO_CCITT_OK; else 0 */
 } hayro_ccitt_outcome;
 
-/* What a call returns. With all but HAYRO_CCITT_NOT_TAKEN, the outcome's rows were decoded: on an error, those before it. */
+/* What a call returns. Unless it is HAYRO_CCITT_NOT_TAKEN, the outcome's rows were decoded: on an error, those before it. */
 enum {
     HAYRO_CCITT_OK = 0,
     HAYRO_CCITT_UNEXPECTED_EOF = 1, /* the data ends inside a code word, or where a line must begin */
     HAYRO_CCITT_INVALID_CODE = 2,   /* the bits are no code word, or strict data breaks a rule */
-    HAYRO_CCITT_OVERFLOW = 3,       /* a length or an offset exceeds 32 bits, or a changing element lies left of a0 */
+    HAYRO_CCITT_OVERFLOW = 3,       /* a length or a position exceeds 32 bits, or a changing element lies left of a0 */
     HAYRO_CCITT_OUT_OF_MEMORY = 4,  /* an allocation failed */
     HAYRO_CCITT_REFUSED = 5,        /* there is no room for the next row, of which nothing is written */
     HAYRO_CCITT_NOT_TAKEN = 6       /* the settings are invalid, or the data has 2 ^ 61 - 8 bytes or more; the outcome is zeros,
@@ -87,13 +87,13 @@ enum {
 uint32_t hayro_ccitt_measure(const uint8_t *data, size_t data_length, const hayro_ccitt_settings *settings,
                              hayro_ccitt_outcome *outcome);
 
-/* Packs rows into a bitmap, from the top. A row takes (columns + 7) / 8 bytes: one bit a pixel, 1 for black, the leftmost pixel
+/* Packs rows into a bitmap, from the top. A row has (columns + 7) / 8 bytes: one bit a pixel, 1 for black, the leftmost pixel
  * in a byte's highest bit, and zeros up to the end of the last byte. The bytes after the last row keep their values. */
 uint32_t hayro_ccitt_decode_packed(const uint8_t *data, size_t data_length, const hayro_ccitt_settings *settings,
                                    uint8_t *bitmap, size_t bitmap_length, hayro_ccitt_outcome *outcome);
 
-/* Lists rows: of each row the number of its changes, and then the changes, which are the offsets of the pixels at which its
- * colour changes, ascending; each row starts white. All rows take rows + changes numbers. The numbers after the last row keep
+/* Lists rows: of each row the number of its changes, and then the changes, which are the positions of the pixels at which its
+ * colour changes, ascending; each row starts white. All rows need rows + changes numbers. The numbers after the last row keep
  * their values. */
 uint32_t hayro_ccitt_decode_changes(const uint8_t *data, size_t data_length, const hayro_ccitt_settings *settings,
                                     uint32_t *lists, size_t lists_length, hayro_ccitt_outcome *outcome);

@@ -10,8 +10,8 @@ CANNOT_READ, CANNOT_WRITE = b"faxrows: cannot read\n", b"faxrows: cannot write\n
 
 
 def each_read_and_write():
-    """A reader of one byte at a time, and one that fails at each of its reads; writers that take one byte or three at a time, that
-    fail at each write, and that take nothing there. None is asked again after it failed."""
+    """A reader of one byte at a time, and one that fails at each of its reads; writers that write one byte or three at a time, that
+    fail at each write, and that write nothing there. None is called again after it failed."""
     readers = writers = 0
     with tempfile.TemporaryDirectory() as folder:
         devices = refusals.shim(folder, "devices")
@@ -51,7 +51,7 @@ def each_read_and_write():
 
 
 def readers_without_end():
-    """Input without an end, in 64 MB of memory: want of memory, and nothing is written."""
+    """Input without an end, in 64 MB of memory: an allocation failure, and nothing is written."""
     runs = 0
     for words in ("g4 8 0 -", "1d 8 1 l", "2d 4294967295 0 bls", "-o g4 8 1 -"):
         with open("/dev/zero", "rb") as zeros:

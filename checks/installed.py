@@ -1,4 +1,4 @@
-"""Checks of what `make install` puts into place: the headers by C89 and C++98, both libraries by hayro_ccitt.pc, null pointers of
+"""Checks of what `make install` installs: the headers by C89 and C++98, both libraries by hayro_ccitt.pc, null pointers of
 length 0, a program's own allocator, the manual pages and the version."""
 import os
 import re
@@ -10,7 +10,7 @@ from left_out import leave_out
 
 C89 = ["-std=c89", "-pedantic", "-Wall", "-Wextra", "-Werror"]
 CXX98 = ["-std=c++98", "-pedantic", "-Wall", "-Wextra", "-Werror"]
-# Null pointers of length 0 give what others give: in every encoding, with every flag, in several widths.
+# Null pointers of length 0 have the results of others: in every encoding, with every flag, in several widths.
 NULL_POINTERS = r"""
 #include <hayro_ccitt_heap.h>
 #include <fax_encode.h>
@@ -135,7 +135,7 @@ def first_program():
 
 
 def installed():
-    """Everything is installed, and works by the flags of hayro_ccitt.pc, from C and from C++."""
+    """Everything is installed, and works with the flags of hayro_ccitt.pc, from C and from C++."""
     missing = [tool for tool in ("make", "gcc", "g++", "pkg-config", "objcopy") if not shutil.which(tool)]
     if missing:
         leave_out("make install", ", ".join(missing))

@@ -42,7 +42,7 @@ def text_of(rows):
 
 
 class Picture:
-    """Some rows, which are this bitmap, again and again, in each form that is written and read."""
+    """Some rows, which are this bitmap, repeated, in each form that is written and read."""
 
     def __init__(self, columns, rows, bitmap, times):
         self.columns, self.count = columns, len(rows) * times
@@ -87,7 +87,7 @@ def encodes(library, picture, encoding, flags, data):
 
 
 def writes(folder, words, data, pieces):
-    """Runs the program on data, and compares what it writes: each piece so many times."""
+    """Runs the program on data, and compares what it writes: each piece a number of times."""
     with open(f"{folder}/input", "wb") as file:
         file.write(data)
     command = ["timeout", LIMIT, program.PROGRAM, *words.split()]
@@ -136,7 +136,7 @@ def a_dense_row():
 
 COLUMNS, ROWS = 2048, 1 << 17
 FIRST = [1000 + 10 * index for index in range(104)]
-# Four rows that come again and again: below a white row one of horizontal modes, then vertical modes to the right and to the
+# Four rows that are repeated: below a white row one of horizontal modes, then vertical modes to the right and to the
 # left, then a white row of passes.
 CYCLE = [FIRST, [change + 2 for change in FIRST], [change - 1 for change in FIRST], []]
 
@@ -192,7 +192,7 @@ def many_rows():
     print(f"  {picture.count} rows, {picture.changes} changes; {size[0]} bytes read, {size[1]} of text, {len(picture.bitmap)} of bitmap")
 
 
-# Copies of a row whose changes take ten digits each: few bits, and much text.
+# Copies of a row whose changes have ten digits each: few bits, and much text.
 WIDE_FRONT, WIDE_CHANGES, WIDE_ROWS = 1000000000, 1024, 24000
 # Fill before the EOL of a line: much data, and no text.
 FILL, FILLED_ROWS = 33 * MEGABYTE, 4
@@ -212,7 +212,7 @@ def long_text():
 
 
 def long_data():
-    """Data of more than 128 MB, by the program both ways."""
+    """Data of more than 128 MB, by the program as text and as a bitmap."""
     line = strips.packed(strips.line_1d(8, [3, 5]))
     data = (bytes(FILL) + b"\x01" + line) * FILLED_ROWS + strips.packed(EOL * 6)
     assert len(data) > 128 * MEGABYTE

@@ -1,5 +1,5 @@
-"""Checks of allocation: the exact number of requests of the library, the encoder and the program, and of the first two the exact
-number of bytes. The bytes of all requests are added up, so a list that grows from 16 bytes to 64 has requested 112."""
+"""Checks of allocation: the exact number of allocations of the library, the encoder and the program, and of the first two the exact
+number of bytes. The bytes of all allocations are added up, so a list that grows from 16 bytes to 64 has requested 112."""
 import os
 import sys
 import tempfile
@@ -21,7 +21,7 @@ FIRST_CHANGES, FIRST_BYTES = 4 * 4, 8
 
 
 def doubled(first, most):
-    """The requests and the bytes of memory that grows from its first size to one that holds so many bytes."""
+    """The allocations and the bytes of memory that grows from its first size to one with room for a number of bytes."""
     sizes = []
     while not sizes or sizes[-1] < most:
         sizes.append(2 * sizes[-1] if sizes else first)
@@ -33,7 +33,7 @@ def together(*parts):
 
 
 def changes_kept(row, lists):
-    """What so many lists ask for that hold a row's changes, of four bytes each."""
+    """What a number of lists of a row's changes request, four bytes for each change."""
     return together(*[doubled(FIRST_CHANGES, 4 * len(row))] * lists)
 
 
@@ -58,7 +58,7 @@ def white_data():
 
 
 def equal_rows():
-    """A hundred equal rows take what two take: room for the row and for the one before it."""
+    """A hundred equal rows need what two need: room for the row and for the one before it."""
     c_library.build()
     seen = 0
     with tempfile.TemporaryDirectory() as folder:
@@ -78,7 +78,7 @@ def equal_rows():
 
 
 def encoded_rows():
-    """The encoder takes room for what it writes, and for the changes of a row: in Group 4 also for those of the row before."""
+    """The encoder allocates room for what it writes, and for the changes of a row: in Group 4 also for those of the row before."""
     c_library.build()
     seen = 0
     with tempfile.TemporaryDirectory() as folder:
@@ -100,7 +100,7 @@ def encoded_rows():
 
 
 def runs_of_the_program():
-    """What the program writes is kept in memory that doubles: a hundred rows ask as seldom as that, as text and as a bitmap."""
+    """What the program writes is kept in memory that doubles: so a hundred rows need few allocations, as text and as a bitmap."""
     runs = 0
     with tempfile.TemporaryDirectory() as folder:
         counted = {**os.environ, "LD_PRELOAD": refusals.shim(folder, "refuse"), "COUNT": "1"}

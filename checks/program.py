@@ -1,4 +1,4 @@
-"""Checks of the built program `faxrows`: real strips, cases with known answers, devices, want of memory."""
+"""Checks of the built program `faxrows`: real strips, cases with known results, devices, allocation failures."""
 import os
 import re
 import subprocess
@@ -15,7 +15,7 @@ TURNED = bytes(int(f"{byte:08b}"[::-1], 2) for byte in range(256))
 
 
 def in_both_orders(mode, columns, limit, flags, data):
-    """The words and the data, and those by which the data with each byte turned round is the same: with `r`, or without."""
+    """The arguments and the data, and those that mean the same with the bits of each byte reversed: with `r`, or without."""
     letters = flags.replace("-", "").replace("r", "")
     other = letters + "r" if "r" not in flags else letters or "-"
     return [([mode, columns, limit, flags], data), ([mode, columns, limit, other], data.translate(TURNED))]
@@ -31,8 +31,8 @@ def row_text(picture, columns, row):
 
 
 def real_strips():
-    """Each strip gives exactly the picture that it was made from, with each of its settings; with the first ones also where each
-    byte is turned round."""
+    """Each strip is decoded to exactly the picture that it was made from, with each of its settings; with the first ones also with
+    the bits of each byte reversed."""
     strips = runs_seen = rows_seen = changes_seen = 0
     with open("corpus/manifest.tsv", encoding="utf-8") as file:
         lines = [line.rstrip("\n").split("\t") for line in file if not line.startswith("#")]
@@ -72,8 +72,8 @@ def bytes_of(text):
 
 
 def known_cases():
-    """Small data of every kind, with the answers of the standard's rules worked out apart from this program; and the same with
-    each byte turned round."""
+    """Small data of every kind, with the results of the standard's rules worked out apart from this program; and the same with the
+    bits of each byte reversed."""
     seen = 0
     with open("corpus/cases.tsv", encoding="utf-8") as file:
         for line in file:
@@ -91,7 +91,7 @@ def known_cases():
     print(f"  {seen} cases, each in both orders of bits")
 
 
-# Words and data, and what the program writes and answers: 0 for ok, 1 for a fault of the data, 2 for other words.
+# Arguments and data, what the program writes, and its status: 0 for ok, 1 for a fault of the data, 2 for invalid arguments.
 RUNS = [
     ("g4 8 1 -", "31C0", b"r 3 5\nok 2\n", 0),
     ("g4 0000000008 1 -", "31C0", b"r 3 5\nok 2\n", 0),
@@ -124,7 +124,7 @@ def statuses():
         assert (done.returncode, done.stdout, done.stderr) == (status, text, error), (words, done)
 
 
-# Words behind `-o` and data, the bytes that the program writes, its standard error, and its status.
+# Arguments after `-o` and data, the bytes that the program writes, its standard error, and its status.
 BITMAPS = [
     ("-o g4 8 0 b", "31C0040040", b"\x18", b"", 0),
     ("-o g4 8 0 -", "80", b"\x00", b"faxrows: invalid CCITT code sequence\n", 1),
@@ -173,13 +173,13 @@ def long_data():
     assert done.stdout == b"r 4294967294\nok 1\n", done
 
 
-# What a run answers where one allocation is refused: before decoding, with status and standard error ..
+# The result of a run if one allocation is refused: before decoding, with status and standard error ..
 BEFORE_DECODING = [
     (2, b"", b"faxrows: bad arguments\n"),  # words that can't be fetched
     (3, b"", b"faxrows: out of memory\n"),  # no memory to begin
 ]
-# .. and while decoding: the whole text, and each text that ends in a want of memory or a refusal. The second row of the
-# second run is damaged: a want of memory there isn't repaired.
+# .. and while decoding: the whole text, and each text that ends in an allocation failure or a refusal. The second row of the
+# second run is damaged: an allocation failure there isn't repaired.
 WHILE_DECODING = [
     (
         "g4 8 2 -",
@@ -197,7 +197,7 @@ WHILE_DECODING = [
 
 
 def refused_in_turn(words, data, shim):
-    """The answers of a run whose first allocation is refused, whose second one is, and so on, and of one without."""
+    """The results of a run whose first allocation is refused, whose second one is, and so on, and of one without."""
     answers = []
     for number in range(1, 1000):
         done = run(words.split(), bytes.fromhex(data), env={**os.environ, "LD_PRELOAD": shim, "REFUSE": str(number)})
@@ -208,7 +208,7 @@ def refused_in_turn(words, data, shim):
 
 
 def refused_memory():
-    """Each allocation refused in turn: what is answered is one of the answers above, and each of them comes."""
+    """Each allocation refused in turn: the result is one of those above, and each of them occurs."""
     with tempfile.TemporaryDirectory() as folder:
         shim = os.path.join(folder, "refuse.so")
         subprocess.run(["cc", "-shared", "-fPIC", "-o", shim, "checks/refuse.c", "-ldl"], check=True)

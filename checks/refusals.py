@@ -1,4 +1,4 @@
-"""Checks of memory and of sinks that refuse: each request refused in turn, each row, and how often memory is asked for."""
+"""Checks of allocations and sinks that refuse: each allocation refused in turn, each row, and how many allocations there are."""
 import os
 import resource
 import subprocess
@@ -24,7 +24,7 @@ def packed_bits(bits):
 
 
 MANY = list(range(1, 4096))
-# Settings, data, the rows, and what the text ends in.
+# Settings, data, the rows, and the last line of the text.
 DATA = [
     ("g4 8 2 -", packed_bits(HORIZONTAL + COPY * 3), [[3, 5], [3, 5]], "ok 2"),
     ("2d 8 0 b", packed_bits(EOL + "1" + LINE + EOL + "0" + COPY * 3 + EOL + "0" + HORIZONTAL + (EOL + "1") * 6), [[3, 5]] * 3, "ok 18"),
@@ -44,7 +44,7 @@ def picture_of(columns, rows):
 
 
 def calls_of(library, words, data, rows):
-    """Each call on its own memory: what it answers and tells, and whether it wrote exactly the first rows that it tells."""
+    """Each call with memory of its own: its status and outcome, and whether it wrote exactly the number of rows in the outcome."""
     settings = called.settings_of(words)
 
     def measure():
@@ -68,7 +68,7 @@ def calls_of(library, words, data, rows):
 
 
 def each_request_of_the_library():
-    """Each request for memory refused in turn: want of memory, and the rows before stand. The next call gives the full answer."""
+    """Each allocation refused in turn: an allocation failure, and the rows before are kept. The next call has the full result."""
     c_library.build()
     refused = 0
     with tempfile.TemporaryDirectory() as folder:
@@ -110,7 +110,7 @@ def text_of(rows, last):
 
 
 def each_request_of_the_program():
-    """Each allocation of the program refused in turn, with text and with a bitmap: the rows before stand."""
+    """Each allocation of the program refused in turn, with text and with a bitmap: the rows before are kept."""
     runs = 0
     with tempfile.TemporaryDirectory() as folder:
         refuse = shim(folder, "refuse")
@@ -135,7 +135,7 @@ def each_request_of_the_program():
 
 
 def each_row_refused():
-    """Room for each number of rows: a refusal exactly where there is one row more, and nothing is written behind the rows."""
+    """Room for each number of rows: a refusal exactly if there is one row more, and nothing is written after the rows."""
     c_library.build()
     seen = 0
     with tempfile.TemporaryDirectory() as folder:
@@ -193,7 +193,7 @@ def white_data():
 
 
 def white_data_takes_none():
-    """Each call on white data asks for the two look-ups and for nothing else."""
+    """Each call on white data allocates the two lookup tables and nothing else."""
     c_library.build()
     seen = rows = 0
     with tempfile.TemporaryDirectory() as folder:
@@ -219,8 +219,8 @@ def white_data_takes_none():
     print(f"  {seen} calls on white data, {rows} rows: {LOOK_UPS} requests each")
 
 
-# Words, data, and how many allocations a run takes besides those that fetch its words: none where the words are bad; the look-ups;
-# one buffer for the input, and one for the text or the bitmap of a row.
+# Arguments, data, and how many allocations a run makes besides those for its arguments: none if these are invalid; the lookup
+# tables; one buffer for the input, and one for the text or the bitmap of a row.
 ALLOCATIONS = [
     ("g4 8 0 x", "", 0),
     ("g4 8 0 -", "", LOOK_UPS),
@@ -235,7 +235,7 @@ ALLOCATIONS = [
 
 
 def allocations_of_the_program():
-    """A run on white data takes the look-ups, and memory for its input and for what it writes: a sink without rows takes none."""
+    """A run on white data allocates the lookup tables, its input and what it writes: a sink without rows allocates nothing."""
     runs = 0
     with tempfile.TemporaryDirectory() as folder:
         counted = {**os.environ, "LD_PRELOAD": shim(folder, "refuse"), "COUNT": "1"}
@@ -252,7 +252,7 @@ def allocations_of_the_program():
 
 
 def in_little_memory():
-    """Rows of 4294967295 columns, in each mode: by the library in 128 kB, and some by the program where it has 64 MB."""
+    """Rows of 4294967295 columns, in each mode: by the library in 128 kB, and some by the program in 64 MB."""
     c_library.build()
     calls = runs = most = 0
     with tempfile.TemporaryDirectory() as folder:

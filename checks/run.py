@@ -1,4 +1,4 @@
-"""The repository's own checks. The last line is 'N passed, M failed', and what was left out for want of a tool.
+"""The repository's own checks. The last line is 'N passed, M failed', and what was left out because a tool is missing.
 
     python3 checks/run.py                  all of them
     python3 checks/run.py NAME             those of one file: repository, program, built_tests ..
@@ -31,9 +31,9 @@ from left_out import LEFT_OUT  # noqa: E402
 
 
 def build():
-    """The program as LLVM builds it. `rt run` proves it first, and gives the program its words and its stored input.
+    """The program as LLVM builds it. `rt run` proves it first, and runs it with its stored arguments and input.
 
-    Its status is the program's own where it was built, so that a program of an older build is never taken.
+    Its status is the program's own if it was built, so that a program of an older build is never used.
     """
     folder = "crates/faxrows"
     with open(f"{folder}/args", encoding="utf-8") as file:

@@ -1,5 +1,5 @@
-//! What a program that depends on the crate `hayro-ccitt` 0.5.0 relies on beside its results: borrowed sinks, panics in a sink, threads,
-//! and what its types can be used for. And the calls that the crate hasn't.
+//! What a program that depends on the crate `hayro-ccitt` 0.5.0 relies on besides its results: borrowed sinks, panics in a sink, threads,
+//! and what its types can be used for; and the calls that the crate doesn't have.
 
 use hayro_ccitt::{
     DecodeError, DecodeSettings, Decoder, DecoderContext, EncodeError, EncodedAs, EncodingMode,

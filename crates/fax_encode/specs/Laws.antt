@@ -20,7 +20,7 @@ ChosenIsAnEncoding = (columns : ℕ) (rows : List Row) → IsPicture columns row
     → ((aligned : Bool) → PictureT6 columns aligned rows (chosen_t6 columns aligned rows))
     × (0 < length rows → PictureT4 Group3_1D columns rows (chosen_t4 rows))
 
--- settings that look for the end of the block and have no limit of rows
+-- settings that look for the end of the block and have no row limit
 pub record ReadToTheEnd (settings : DecodeSettings) (columns : ℕ) : Type 0 where
   pub columns_are : settings.columns ≡ columns
   pub end_of_block : settings.end_of_block ≡ true
@@ -40,7 +40,7 @@ RoundTripT4 = (settings : DecodeSettings) (columns : ℕ) (lists : List (List �
     → bits_of bytes ≡ filled_up (chosen_t4 (rows_of columns lists))
     → plain settings (bits_of bytes) ≡ record { rows = rows_of columns lists; outcome = Ok (length bytes); has_eols = true }
 
--- Rows of the width that are packed one by one are packed behind what was there.
+-- Rows of the width that are packed one by one are appended to what was packed before.
 abbrev pub RowsArePacked : Type 0
 RowsArePacked = (columns : ℕ) (bits : Bits) (rows : List Row) → HaveWidth columns rows
     → meaning_after (with_packed_row columns) bits rows ≡ bits ++ packed rows
@@ -65,7 +65,7 @@ BitmapRoundTripT4 = (settings : DecodeSettings) (columns : ℕ) (bitmap bytes : 
 
 -- ---- by settings
 
--- lines are chosen that encode the rows, with EOLs and without, and so is the end of a block
+-- the chosen lines encode the rows, with EOLs and without, and the chosen end is the end of a block
 abbrev pub ChosenLinesEncode : Type 0
 ChosenLinesEncode = (encoding : EncodingMode) (columns k : ℕ) (rows : List Row) → IsPicture columns rows
     → ((aligned : Bool) → EncodesRows encoding aligned (white_row columns) rows (chosen_lines encoding k aligned 0 (white_row columns) rows))
@@ -76,14 +76,14 @@ ChosenLinesEncode = (encoding : EncodingMode) (columns k : ℕ) (rows : List Row
 abbrev pub NeverLonger : Type 0
 NeverLonger = (left : ℕ) (reference row : Row) → length (chosen_line Group3_2D left reference row) ≤ suc (length (chosen_line_1d row))
 
--- What is chosen for a picture, for all settings, is read as its rows by the settings that match.
+-- What is chosen for a picture, by any settings, is read as its rows by the matching settings.
 abbrev pub ChosenIsRead : Type 0
 ChosenIsRead = (settings : EncodeSettings) (columns : ℕ) (rows : List Row) (bytes : List ℕ)
     → columns < 2 ^ 32 → length rows < 2 ^ 32 → 0 < length rows → IsPicture columns rows
     → bits_of bytes ≡ filled_up (chosen settings columns rows)
     → Gives (decode_settings_for settings columns (length rows)) (bits_of bytes) rows
 
--- what is chosen for T.6 and for one-dimensional T.4 is what is chosen by settings
+-- what is chosen for T.6 and for one-dimensional T.4 is also what is chosen by settings
 abbrev pub ChosenBySettings : Type 0
 ChosenBySettings = (columns k : ℕ) (rows : List Row)
     → ((aligned : Bool) → chosen (record {
@@ -103,7 +103,7 @@ ChosenBySettings = (columns k : ℕ) (rows : List Row)
       end_of_block = true;
     }) columns rows ≡ chosen_t4 rows)
 
--- glue: the bytes of what is chosen for rows of eight columns
+-- auxiliary: the bytes of what is chosen for rows of eight columns
 abbrev pub IsWritten : EncodeSettings → List Row → List ℕ → Type 0
 IsWritten settings rows bytes = filled_up (chosen settings 8 rows) ≡ bits_of bytes
 

@@ -12,7 +12,7 @@ pub record Written : Type 0 where
 abbrev pub all_bits : Written → Bits
 all_bits written = bits_of written.bytes ++ written.rest
 
--- a number of so many bits, at most 13, is this word
+-- a number whose lowest bits, at most 13, spell this word
 pub record IsWord (word : Bits) (coded : Word) : Type 0 where
   pub few : coded.count ≤ 13
   pub fits : coded.bits < 2 ^ coded.count

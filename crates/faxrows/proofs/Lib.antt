@@ -1,3 +1,6 @@
 pub mod Examples
+pub mod Outputs
 pub mod PackedRuns
+pub mod RowsInTurn
+pub mod RunsByRow
 pub mod Texts

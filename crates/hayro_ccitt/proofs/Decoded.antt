@@ -1,4 +1,4 @@
--- The contract of `decode`, from the rows that were taken and the answer.
+-- The contract of `decode`, from the accepted rows and the result.
 use Rattle.std.proofs.Common.{◌≡◌, ◌⊎◌, ℕ, Bool, List, take, take_all, Result, Ok, Err, false, sym, ap, subst, ◌∙◌, arith}
 use Rattle.std.specs.Prelude.{IsOk}
 use Rattle.std.proofs.lemmas.List.Concat.{length-flat_map}
@@ -21,18 +21,18 @@ use Rattle.hayro_ccitt.proofs.Readings.PlainAnswers.{LeavesRows}
 use Rattle.hayro_ccitt.proofs.Readings.RowWidths.{plain_width}
 use Rattle.hayro_ccitt.proofs.Readings.Undamaged.{no_repairs, closed_strict, limited_strict}
 
--- what follows holds on the same answers
+-- what follows is true of the same results
 on_answer : {P Q : Type 0} (answer : Result ℕ DecodeError) → (P → Q) → OnAnswer answer P → OnAnswer answer Q
 on_answer (Ok n) follows holds = follows holds
 on_answer (Err error) follows holds = λ fault. follows (holds fault)
 
--- unless memory or the sink ended it, all rows were taken, and the answer is the outcome
+-- unless an allocation failure or the sink ended it, all rows were accepted, and the result is that of the reading
 to_the_end : {M : Type 0} (rows : List Row) (outcome : Result ℕ DecodeError) {sought : Bool} (step : M → List ℕ → M) (before after : SinkState M) (held : Held) (answer : Result ℕ DecodeError)
     → TakesRows rows outcome sought step before after held answer → OnAnswer answer ((take held.taken rows ≡ rows) × (answer ≡ outcome))
 to_the_end rows outcome step before after held (Ok n) takes = (take_all held.taken rows (omega (arith, takes.all)), sym takes.ok)
 to_the_end rows outcome step before after held (Err error) takes = λ fault. (take_all held.taken rows (omega (arith, takes.all fault)), sym (takes.fault fault))
 
--- so the contract follows from the rows taken, stopping short, and the work
+-- so the contract follows from the accepted rows, stopping short, and the work
 pub decodes : {M : Type 0} (settings : DecodeSettings) (bits : Bits) (step : M → List ℕ → M) (before after : SinkState M) (held : Held) (ticks : ℕ) (answer : Result ℕ DecodeError)
     → AreSettings settings → AreWholeBytes bits → LeavesRows settings bits step before after held answer
     → ((settings.encoding ≡ Group4) ⊎ (settings.columns ≡ 0) → held.has_eols ≡ false) → CountsWork settings bits held.taken ticks

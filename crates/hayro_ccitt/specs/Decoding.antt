@@ -12,16 +12,16 @@ use Rattle.hayro_ccitt.specs.PlainReading.{Progress, Ending, Gap, move_on, one_e
 use Rattle.hayro_ccitt.specs.Rows.{Row, changes}
 use Rattle.hayro_ccitt.specs.Work.{CountsRun, words_of_turn, most_counted}
 
--- glue: what a sink means, whether it has refused a row, and which rows it refuses
+-- auxiliary: what a sink means, whether it has refused a row, and which rows it refuses
 pub record SinkState (M : Type 0) : Type 1 where
   pub meaning : M
   pub refused : Bool
   pub refuses : List ℕ → Type 0
 
--- ---- Whole data (glue): the words of the contract of `decode`, and of the drivers' behind it
+-- ---- Whole data (auxiliary): the terms of the contracts of `decode` and of its drivers
 
--- What was taken and answered, where a reading has these rows, ends so and leaves this of its EOLs: the first of its rows
--- were taken, each as its changes, and all of them unless memory was wanted or a row was refused.
+-- Which rows were accepted and what was returned, for a reading with these rows, this end and this state of its EOLs: the
+-- first of its rows were accepted, each as its changes, and all of them unless an allocation failed or a row was refused.
 pub record TakesRows {M A : Type 0} (rows : List Row) (outcome : Result A DecodeError) (sought : Bool) (step : M → List ℕ → M) (before after : SinkState M) (held : Held) (answer : Result A DecodeError) : Type 0 where
   pub taken : held.taken ≤ length rows
   pub meaning : after.meaning ≡ meaning_after step before.meaning (take held.taken rows)
@@ -30,8 +30,8 @@ pub record TakesRows {M A : Type 0} (rows : List Row) (outcome : Result A Decode
   pub fault : IfErr answer (λ e. IsFault e → outcome ≡ Err e)
   pub has_eols : OnAnswer answer (held.has_eols ≡ sought)
 
--- When less was taken: memory is wanted only in a line that paints a black pixel, a row is refused only where there is
--- one, and then alone the sink says that it has refused.
+-- When fewer were accepted: an allocation fails only in a line that paints a black pixel, a row is refused only where
+-- there is one, and only then does the sink say that it has refused.
 pub record StopsShort {M A : Type 0} (rows : List Row) (lines : List Line) (before after : SinkState M) (held : Held) (answer : Result A DecodeError) : Type 0 where
   pub memory : answer ≡ Err OutOfMemory → PaintsBlack lines held.taken
   pub refused : answer ≡ Err Refused → held.taken < length rows
@@ -64,19 +64,19 @@ DecodesRows bits step before after old new answer =
     (gathered_of old.held.settings (repaired_by_turn old.held.settings bits) bits) (most_counted old.held.settings.encoding (length bits))
     step before after old new answer
 
--- ---- One turn: what no reader has to believe, the contracts of private calls
+-- ---- One turn: the contracts of private calls, not part of the trusted specification
 
--- a call that answers nothing but that it went well, with the bits that it left
+-- a call that returns no value, and leaves these bits
 abbrev pub leaving : Result (Unit {0}) DecodeError → Bits → Result Bits DecodeError
 leaving (Ok x) rest = Ok rest
 leaving (Err e) rest = Err e
 
--- what a call says of a gap: that it is over, or a line stands here, and whether EOLs are sought
+-- what a call says of a gap: that the reading is over, or that a line is here; and whether EOLs are sought
 abbrev pub gap_said : Result Bool DecodeError → Bool → Bits → Gap
 gap_said (Ok over) has_eols rest = elim over [ true ↦ Gap.over (Ok rest) | false ↦ Gap.line_at has_eols rest ]
 gap_said (Err e) has_eols rest = Gap.over (Err e)
 
--- the context where one more row was taken
+-- the context after one more accepted row
 abbrev pub with_row_taken : Held → Row → Held
 with_row_taken h row =
     record { reference = row; front = []; color = White; taken = h.taken + 1; repairs = h.repairs; has_eols = h.has_eols; settings = h.settings }
@@ -93,18 +93,18 @@ pub record RowIsTaken {M : Type 0} (line : Line) (row : Result (Row × Bits) Dec
   pub held : new ≡ record (with_row_taken old taken) { repairs = repairs_with line old.repairs }
   pub meaning : after.meaning ≡ step before.meaning (changes taken)
 
--- the bits behind a line that began here: those that follow a whole one; where a broken one is repaired, the place goes
--- back to the line's start (T.4, 4.1.2)
+-- the bits after a line that began here: after a whole line what follows it; after a broken one that is repaired the
+-- bits from the line's start, to which the reader goes back (T.4, 4.1.2)
 abbrev pub behind_line : Line → Bits → Bits
 behind_line (Line.whole row rest) start = rest
 behind_line (Line.broken front fault) start = start
 
--- a row stands here that is refused
+-- the row here is refused
 abbrev pub IsRefusedBy : (List ℕ → Type 0) → Result (Row × Bits) DecodeError → Type 0
 IsRefusedBy refuses (Ok (row, rest)) = refuses (changes row)
 IsRefusedBy refuses (Err e) = ⊥
 
--- What a call leaves that reads a line and hands over its row, where the line comes to this row.
+-- What a call leaves that reads a line and passes its row to the sink, where the line yields this row.
 pub record TakesOneRow {M : Type 0} (line : Line) (row : Result (Row × Bits) DecodeError) (step : M → List ℕ → M) (before after : SinkState M) (old new : Held) (answer : Result (Unit {0}) DecodeError) (rest : Bits) : Type 0 where
   pub taken : OnOk answer (RowIsTaken line row step before after old new rest)
   pub fault : IfErr answer (λ e. IsFault e → row ≡ Err e)

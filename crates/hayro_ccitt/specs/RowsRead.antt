@@ -15,7 +15,7 @@ use Rattle.hayro_ccitt.specs.PlainReading.{Progress, row_before, with_row, first
 use Rattle.hayro_ccitt.specs.Repetition.{Turn, Reaches}
 use Rattle.hayro_ccitt.specs.Rows.{Row}
 
--- ---- What is seen of a reader of rows
+-- ---- What is visible of a reader of rows
 
 -- where the lines of the plain reading begin: the offset of each one's first bit (T.4, 4.1.1 and 4.2.2)
 abbrev pub line_starts : DecodeSettings → Bits → List ℕ
@@ -28,7 +28,7 @@ ended BehindRow = None
 ended AtEnd = Some (Ok tt)
 ended (AtFault error) = Some (Err error)
 
--- whether a line stands here, and no gap before it
+-- whether a line is here, and no gap before it
 abbrev pub is_at_line : Stand → Bool
 is_at_line AtLine = true
 is_at_line BehindRow = false
@@ -64,12 +64,12 @@ read_so_far held reader line_start damage stand = record {
 abbrev pub rows_read_of : Inside → RowsRead
 rows_read_of r = read_so_far r.ctx.held r.reader r.started_at r.damage r.stand
 
--- whether a line stands behind a gap that was passed, which says whether the reading is over
+-- whether a line follows a gap that was passed, given whether the reading is over
 abbrev pub line_after : Result Bool DecodeError → Result Bool DecodeError
 line_after (Ok over) = Ok (not over)
 line_after (Err error) = Err error
 
--- where a reading is that passed a gap, which says so
+-- the state of a reading that passed a gap, given what the gap says
 abbrev pub stand_after : Result Bool DecodeError → Stand
 stand_after (Ok true) = AtEnd
 stand_after (Ok false) = AtLine
@@ -86,20 +86,20 @@ start_after (Err error) place before = place
 
 -- ---- The contract
 
--- The reading has ended well: all rows were read, and the bytes up to here are the count of the plain reading.
+-- The reading has ended well: all rows were read, and the bytes up to here are the byte count of the plain reading.
 pub record HasEnded (settings : DecodeSettings) (bits : Bits) (taken place : ℕ) : Type 0 where
   pub all : taken ≡ length (plain settings bits).rows
   pub count : (plain settings bits).outcome ≡ Ok ((place + 7) / 8)
 
--- It has ended with an error: with the fault of the plain reading, behind all of its rows; or where an allocation failed, in a
--- line that paints a black pixel.
+-- It has ended with an error: the fault of the plain reading, after all of its rows; or an allocation failure in a line that
+-- paints a black pixel.
 pub record HasFailed (settings : DecodeSettings) (bits : Bits) (taken : ℕ) (error : DecodeError) : Type 0 where
   pub all : IsFault error → taken ≡ length (plain settings bits).rows
   pub fault : IsFault error → (plain settings bits).outcome ≡ Err error
   pub memory : error ≡ OutOfMemory → PaintsBlack (lines_of settings bits) taken
   pub not_refused : error ≢ Refused
 
--- What a call leaves that reads the next row: the row of the plain reading with this index, or the end.
+-- What a call that reads the next row leaves: the row of the plain reading with this index, or the end.
 pub record ReadsNext (old new : RowsRead) (result : Result Bool DecodeError) : Type 0 where
   pub settings : new.settings ≡ old.settings
   pub bits : new.bits ≡ old.bits
@@ -113,24 +113,25 @@ pub record ReadsNext (old new : RowsRead) (result : Result Bool DecodeError) : T
   pub end : result ≡ Ok false → (new.end ≡ Some (Ok tt)) × (new.taken ≡ old.taken) × HasEnded old.settings old.bits new.taken new.place
   pub error : IfErr result (λ e. (new.end ≡ Some (Err e)) × (new.taken ≡ old.taken) × HasFailed old.settings old.bits new.taken e)
   -- the place of the fault: the first bit of the line that couldn't be read, or the place where its EOL is missing (T.4, 4.1.2)
-  pub fault_start : OnErr result (new.line_start ≡ get_or (line_starts old.settings old.bits) old.taken new.place)
+  pub fault_start : old.end ≡ None → OnErr result (new.line_start ≡ get_or (line_starts old.settings old.bits) old.taken new.place)
 
--- What a call leaves that passes the gap before the next line: it comes to a line, or to the end.
+-- What a call that passes the gap before the next line leaves: it reaches a line, or the end.
 pub record ComesToLine (old new : RowsRead) (result : Result Bool DecodeError) : Type 0 where
   pub settings : new.settings ≡ old.settings
   pub bits : new.bits ≡ old.bits
   pub taken : new.taken ≡ old.taken
   pub line : result ≡ Ok true → new.at_line ≡ true
+  pub unended : result ≡ Ok true → new.end ≡ None
   pub end : result ≡ Ok false → (new.end ≡ Some (Ok tt)) × HasEnded old.settings old.bits new.taken new.place
   pub error : IfErr result (λ e. (new.end ≡ Some (Err e)) × HasFailed old.settings old.bits new.taken e)
   pub fault_start : OnErr result (new.line_start ≡ get_or (line_starts old.settings old.bits) old.taken new.place)
 
--- what a call returns behind the end
+-- what a call returns after the end
 abbrev pub at_end_of_rows : Result (Unit {0}) DecodeError → Result Bool DecodeError
 at_end_of_rows (Ok x) = Ok false
 at_end_of_rows (Err error) = Err error
 
--- ---- The invariant, which no reader has to believe
+-- ---- The invariant: not part of the trusted specification
 
 -- the context between two rows of the reading, where so much was repaired
 abbrev pub context_at : DecodeSettings → Progress → Repairs → Held
@@ -144,7 +145,7 @@ context_at settings so_far repairs = record {
   settings = settings;
 }
 
--- the reading comes to a line here
+-- the reading reaches a line here
 pub record StandsAtLine (settings : DecodeSettings) (bits : Bits) (held : Held) (rest : Bits) : Type 0 where
   pub wide : 0 < settings.columns
   pub first : Progress
@@ -155,7 +156,7 @@ pub record StandsAtLine (settings : DecodeSettings) (bits : Bits) (held : Held) 
   pub held_is : held ≡ context_at settings so_far held.repairs
   pub rest_is : rest ≡ so_far.rest
 
--- the reading came to a line, and its row was read
+-- the reading reached a line, and its row was read
 pub record StandsBehindRow (settings : DecodeSettings) (bits : Bits) (held : Held) (rest : Bits) : Type 0 where
   pub wide : 0 < settings.columns
   pub first : Progress
@@ -167,7 +168,7 @@ pub record StandsBehindRow (settings : DecodeSettings) (bits : Bits) (held : Hel
   pub row_is : row_of_line settings so_far.has_eols so_far.rest (line_of_turn settings so_far) ≡ Ok (row, rest)
   pub held_is : held ≡ context_at settings (with_row so_far row rest) held.repairs
 
--- where a reader of rows is
+-- the state of a reader of rows
 abbrev pub Stands : Stand → DecodeSettings → Bits → Held → ℕ → Type 0
 Stands AtLine settings bits held place = StandsAtLine settings bits held (drop place bits)
 Stands BehindRow settings bits held place = StandsBehindRow settings bits held (drop place bits)

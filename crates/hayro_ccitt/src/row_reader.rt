@@ -247,7 +247,7 @@ impl<'a> RowReader<'a> {
     ///
     /// Those of [`decode`](crate::decode), but for `Refused`. After an error each further call returns the same error.
     pub fn next_row(&mut self) -> Result<bool>
-        ensures reads { self.old.end ≡ None → ReadsNext self.old self.new result }
+        ensures reads { ReadsNext self.old self.new result }
         ensures ended { (end : Result (Unit {0}) DecodeError) → self.old.end ≡ Some end
             → (self.new ≡ self.old) × (result ≡ at_end_of_rows end) }
     {

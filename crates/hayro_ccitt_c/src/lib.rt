@@ -1,7 +1,7 @@
 //! The decoder and the encoder for callers in C, and in other languages that call C. `c/hayro_ccitt.h` and
 //! `c/fax_encode.h` declare what is exported here.
 //!
-//! A call never reads or writes outside the memory that it is given, whatever the data is, and frees all that it has
+//! A call never reads or writes outside the memory that it is passed, whatever the data is, and frees all that it has
 //! allocated before it returns.
 #![tactic(auto)]
 
@@ -35,7 +35,7 @@ use std::alloc::Global;
 
 /// Counts the rows of the data and their changes.
 ///
-/// `outcome` holds the number of rows, of their changes, and of the bytes consumed if the status is 0, else 0. A status of 6
+/// `outcome` has the number of rows, of their changes, and of the bytes consumed if the status is 0, else 0. A status of 6
 /// says that the data is too long or the settings are invalid; no row is refused.
 #[unsafe(no_mangle)]
 pub extern "C" fn hayro_ccitt_measure(
@@ -60,10 +60,11 @@ pub extern "C" fn hayro_ccitt_measure(
     told(&report, count.changes(), outcome)
 }
 
-/// Packs the rows of the data into `bitmap`, one below the other: a row takes (columns + 7) / 8 bytes, the leftmost pixel in
-/// a byte's highest bit, 1 for black, and zeros after the row up to a whole byte. The bytes after the last row keep their values.
+/// Packs the rows of the data into `bitmap`, one below the other: a row occupies (columns + 7) / 8 bytes, the leftmost pixel in
+/// a byte's highest bit, 1 for black, and zeros after the row up to a whole byte. The bytes after the last row keep their
+/// values.
 ///
-/// `outcome` holds the number of rows, of their changes, and of the bytes consumed if the status is 0, else 0. A status of 5 says
+/// `outcome` has the number of rows, of their changes, and of the bytes consumed if the status is 0, else 0. A status of 5 says
 /// that there is no room for the next row; 6, that the data is too long or the settings are invalid.
 #[unsafe(no_mangle)]
 pub extern "C" fn hayro_ccitt_decode_packed(
@@ -94,9 +95,9 @@ pub extern "C" fn hayro_ccitt_decode_packed(
 }
 
 /// Lists the changes of the rows of the data in `lists`, row after row: of each row the number of its changes, and then the
-/// offsets at which its colour changes, white first, ascending. The numbers after the last row keep their values.
+/// positions at which its colour changes, white first, ascending. The numbers after the last row keep their values.
 ///
-/// `outcome` holds the number of rows, of their changes, and of the bytes consumed if the status is 0, else 0. A status of 5 says
+/// `outcome` has the number of rows, of their changes, and of the bytes consumed if the status is 0, else 0. A status of 5 says
 /// that there is no room for the next row; 6, that the data is too long or the settings are invalid.
 #[unsafe(no_mangle)]
 pub extern "C" fn hayro_ccitt_decode_changes(
@@ -127,12 +128,12 @@ pub extern "C" fn hayro_ccitt_decode_changes(
     told(&report, rows.changes(), outcome)
 }
 
-/// Encodes a bitmap into `data`: a row takes (columns + 7) / 8 bytes, the leftmost pixel in a byte's highest bit, 1 for
-/// black, and bits after the last pixel are ignored. The bytes after the encoded ones keep their values.
+/// Encodes a bitmap into `data`: a row occupies (columns + 7) / 8 bytes, the leftmost pixel in a byte's highest bit, 1
+/// for black, and bits after the last pixel are ignored. The bytes after the encoded ones keep their values.
 ///
-/// `outcome` holds the number of rows and of the encoded bytes if the status is 0 or 5, else 0. A status of 4 says that an
-/// allocation failed; 5, that `data` has no room for that many bytes; 6, that the settings are invalid, or that the bitmap isn't
-/// whole rows, or has none and Group 3 is asked for. With all but 0 `data` keeps its values.
+/// `outcome` has the number of rows and of the encoded bytes if the status is 0 or 5, else 0. A status of 4 says that an
+/// allocation failed; 5, that `data` has no room for that many bytes; 6, that the settings are invalid, or that the bitmap
+/// isn't whole rows, or has none and Group 3 is asked for. With all but 0 `data` keeps its values.
 #[unsafe(no_mangle)]
 pub extern "C" fn fax_encode_bitmap(
     alloc: Global,

@@ -15,26 +15,26 @@ use std::alloc::Global;
 #[repr(C)]
 #[derive(Copy, Clone)]
 pub struct Outcome {
-    /// The number of rows that were taken.
+    /// The number of rows that were accepted.
     pub rows: u64,
     /// The number of their changes.
     pub changes: u64,
-    /// The number of bytes read where the status is 0, else 0.
+    /// The number of bytes consumed if the status is 0, else 0.
     pub bytes_read: u64,
 }
 
 /// How a decoding ended.
 #[derive(Copy, Clone)]
 pub(crate) struct Report {
-    /// What the call answers.
+    /// The result of the call.
     pub status: u32,
-    /// The number of rows that the sink took.
+    /// The number of rows that the sink accepted.
     pub rows: u64,
-    /// The number of bytes read where the status is 0, else 0.
+    /// The number of bytes consumed if the status is 0, else 0.
     pub bytes_read: u64,
 }
 
-/// The status of data or settings that aren't taken. The outcome is all zeros.
+/// Returns the status of data that is too long or settings that are invalid, and sets all of `outcome` to zeros.
 pub(crate) fn untaken(outcome: &mut Outcome) -> u32
     ensures status { result ≡ 6 }
     ensures outcome { outcome.new ≡ record { rows = 0; changes = 0; bytes_read = 0 } }
@@ -47,7 +47,7 @@ pub(crate) fn untaken(outcome: &mut Outcome) -> u32
     6
 }
 
-/// The status of a decoding. The outcome is what it reports, and the number of the changes.
+/// Returns the status of a decoding, and sets `outcome` to what it reports and the number of changes.
 pub(crate) fn told(report: &Report, changes: u64, outcome: &mut Outcome) -> u32
     ensures status { result ≡ report.now.status }
     ensures outcome { outcome.new
@@ -61,7 +61,7 @@ pub(crate) fn told(report: &Report, changes: u64, outcome: &mut Outcome) -> u32
     report.status
 }
 
-/// The status of an answer.
+/// Returns the status of a result.
 fn status_of(answer: &Result<usize>) -> u32
     ensures { result ≡ status_of answer.now }
 {
@@ -75,7 +75,7 @@ fn status_of(answer: &Result<usize>) -> u32
     }
 }
 
-/// The number of bytes that an answer says were read.
+/// Returns the number of bytes that a result says were consumed.
 fn bytes_read_of(answer: &Result<usize>) -> u64
     ensures { result ≡ bytes_read_of answer.now }
 {

@@ -1,7 +1,7 @@
-//! Worked rows: what the definitions give on small data, as theorems, and what the decoder gives, as tests.
+//! Worked rows: what the definitions yield on small data, as theorems, and what the decoder does, as tests.
 //!
-//! An example is settings (columns, row limit, flags), bytes in hexadecimal, and the rows as changes with the
-//! outcome. Each is computed when the crate is checked. Rows of 4294967295 columns and long data are tests alone.
+//! An example is settings (columns, row limit, flags), bytes in hexadecimal, and the rows as changes with the result.
+//! Each is computed when the crate is checked. Rows of 4294967295 columns and long data are tests only.
 #![tactic(auto)]
 
 ghost use Rattle.std.specs.Prelude.{◌≡◌, [], ◌∷◌, Ok, Err};
@@ -139,7 +139,7 @@ pub fn encoding_examples()
     ensures t4 { EncodesTaggedRows }
 {}
 
-/// Locality: four bodies of which each may stand for the others, and the rows of three; and a limit that a later row
+/// Locality: four bodies of which each may replace the others, and the rows of three; and a limit that a later row
 /// meets, where the counts still differ by as much as the lengths.
 pub fn locality_examples()
     ensures bodies { HaveLocalBodies }

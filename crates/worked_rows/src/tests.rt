@@ -1,5 +1,5 @@
-//! What no clause says: that the rules are those of the standards, and that each call succeeds. The answers were
-//! worked out from T.4 and T.6, apart from the decoder.
+//! What no clause says: that the rules are those of the standards, and that each call succeeds. The results were worked
+//! out from T.4 and T.6, apart from the decoder.
 
 ghost use Rattle.std.specs.Prelude.{◌≡◌};
 
@@ -24,7 +24,7 @@ use std::alloc::{AllocError, AllocGlobal, Global};
 use std::process::Abort;
 use std::test::Fail;
 
-/// A sink that keeps so many rows and refuses the next.
+/// A sink that keeps up to a number of rows and refuses the next.
 #[derive(Drop)]
 struct Limited {
     alloc: Global,
@@ -59,7 +59,7 @@ impl Decoder for Limited {
     }
 }
 
-/// A sink for rows of so many columns.
+/// Creates a sink for rows of a width.
 fn sink_of(alloc: Global, columns: u32, limit: usize) -> Limited
     ensures { result.columns ≡ columns }
 {
@@ -124,7 +124,7 @@ fn has_rows(rt: &impl Abort, sink: &Limited, rows: &[&[u32]], data: &[u8]) {
     }
 }
 
-/// The bytes with their bits in the other order.
+/// Returns the bytes with their bits in the other order.
 fn mirrored(rt: &(impl Abort + AllocGlobal), data: &[u8]) -> Vec<u8> {
     let mut bytes = Vec::new(rt.alloc());
     for byte in data {
@@ -134,7 +134,7 @@ fn mirrored(rt: &(impl Abort + AllocGlobal), data: &[u8]) -> Vec<u8> {
 }
 
 /// Decodes in a context, with the highest bit first and then mirrored with the lowest, and compares the rows and the
-/// answers.
+/// results.
 fn decodes_in(
     rt: &(impl Abort + AllocGlobal),
     ctx: &mut DecoderContext,
@@ -169,7 +169,7 @@ fn decodes_in(
     has_rows(rt, &sink, rows, front);
 }
 
-/// Decodes in a context of its own, and compares the rows and the answer.
+/// Decodes in a context of its own, and compares the rows and the result.
 fn decodes(
     rt: &(impl Abort + AllocGlobal),
     settings: DecodeSettings,
@@ -183,7 +183,7 @@ fn decodes(
     decodes_in(rt, &mut ctx, data, rows, answer);
 }
 
-/// So many copies of a piece, and what follows them.
+/// Returns `times` copies of a piece, and what follows them.
 fn repeated(
     alloc: Global,
     piece: &[u8],
@@ -198,7 +198,7 @@ fn repeated(
     Ok(data)
 }
 
-/// The bytes of hexadecimal digits, two a byte.
+/// Returns the bytes of hexadecimal digits, two a byte.
 fn bytes_of(alloc: Global, digits: &str) -> std::result::Result<Vec<u8>, AllocError> {
     let mut data = Vec::new(alloc);
     let mut high = None;
@@ -219,7 +219,7 @@ fn bytes_of(alloc: Global, digits: &str) -> std::result::Result<Vec<u8>, AllocEr
     Ok(data)
 }
 
-/// Decodes hexadecimal digits in a context of its own, and compares the rows and the answer.
+/// Decodes hexadecimal digits in a context of its own, and compares the rows and the result.
 fn reads(
     rt: &(impl Abort + AllocGlobal),
     settings: DecodeSettings,
@@ -233,7 +233,7 @@ fn reads(
     decodes(rt, settings, &data, rows, answer);
 }
 
-/// Refuses each row in turn; the same context then gives all the rows and the answer.
+/// Refuses each row in turn; the same context then decodes all the rows with the expected result.
 fn refuses_each(
     rt: &(impl Abort + AllocGlobal),
     settings: DecodeSettings,

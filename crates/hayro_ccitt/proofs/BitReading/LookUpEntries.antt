@@ -14,6 +14,7 @@ use Rattle.hayro_ccitt.specs.Runs.{codes_of}
 use Rattle.hayro_ccitt.proofs.CodeWords.ReadCodes.{after_is, apart_misses, word_at_again}
 use Rattle.hayro_ccitt.proofs.BitReading.BitLists.{length-low_bits}
 use Rattle.hayro_ccitt.proofs.BitReading.ZerosInWords.{codes_free}
+use Rattle.std.proofs.lemmas.Grind.{common_steps}
 
 -- ---- The rows of a table, one after another.
 abbrev pub Table : Type 0
@@ -23,7 +24,7 @@ pub with_rows-append : (a b : Table) (here : Bits) (entry : ℕ) → with_rows (
 with_rows-append [] b here entry = refl
 with_rows-append (row ∷ a) b here entry = with_rows-append a b here (with_row row here entry)
 
--- a row whose word stands here writes its entry
+-- a row whose word is here writes its entry
 row_stands : (row : ℕ × ℕ × ℕ) (here rest : Bits) (entry : ℕ) → after (low_bits row.1 row.2) here ≡ Some rest → with_row row here entry ≡ row.1 * 4096 + row.0
 row_stands row here rest entry e = rw (e, is_prefix) refl
 
@@ -31,7 +32,7 @@ row_stands row here rest entry e = rw (e, is_prefix) refl
 row_misses : (row : ℕ × ℕ × ℕ) (here : Bits) (entry : ℕ) → after (low_bits row.1 row.2) here ≡ None → with_row row here entry ≡ entry
 row_misses row here entry e = rw (e, is_prefix) refl
 
--- a table none of whose words stands here writes none
+-- a table none of whose words is here writes none
 with_rows_none : (table : Table) (here : Bits) (entry : ℕ) → word_at (numbered table) here ≡ None → with_rows table here entry ≡ entry
 with_rows_none [] here entry e = refl
 with_rows_none (row ∷ table) here entry e = by (with_rows_none table here) (after (low_bits row.1 row.2) here) refl
@@ -43,7 +44,7 @@ with_rows_none (row ∷ table) here entry e = by (with_rows_none table here) (af
         let g : word_at (numbered table) here ≡ None = rw (a, word_at) at e in
         on (with_row row here entry) g ∙ row_misses row here entry a
 
--- where a word stands that is apart from all of a table, none of these does
+-- if there is a word that is apart from all of a table, none of these is here
 all_miss : {V : Type 0} (u : Bits) (list : List (Code V)) (rest : Bits) → list_all (λ d. apart u d.word) list ≡ true → word_at list (u ++ rest) ≡ None
 all_miss u [] rest e = refl
 all_miss u (c ∷ list) rest e =
@@ -91,7 +92,7 @@ has_empty [] = false
 has_empty ([] ∷ words) = true
 has_empty ((c ∷ word) ∷ words) = has_empty words
 
--- whether one of the words begins any so many bits
+-- whether one of the words begins any n bits
 abbrev covers : ℕ → List Bits → Bool
 covers zero words = has_empty words
 covers (suc n) words = elim (has_empty words) [ true ↦ true | false ↦ covers n (tails true words) && covers n (tails false words) ]
@@ -111,7 +112,7 @@ empty_in [] e = absurd (false≢true e)
 empty_in ([] ∷ words) e = inl refl
 empty_in ((c ∷ word) ∷ words) e = inr (empty_in words e)
 
--- a word that stands here
+-- a word here
 abbrev Begins : List Bits → Bits → Type 0
 Begins words here = (w : Bits) × In w words × (rest : Bits) × (here ≡ w ++ rest)
 
@@ -139,7 +140,7 @@ in_words [] w i = elim i [ ]
 in_words (c ∷ list) w (inl e) = (c.value, inl (refl, e))
 in_words (c ∷ list) w (inr i) = let on = in_words list w i in (on.0, inr on.1)
 
--- ---- Where no word of a run stands.
+-- ---- Where there is no word of a run.
 abbrev eight_zeros : Bits
 eight_zeros = false ∷ false ∷ false ∷ false ∷ false ∷ false ∷ false ∷ false ∷ []
 
@@ -148,7 +149,7 @@ codes_cover : (color : Color) → covers 13 (eight_zeros ∷ words_of (codes_of 
 codes_cover White = refl
 codes_cover Black = refl
 
--- where no word of a run stands, eight zeros do
+-- if there is no word of a run, eight zeros are here
 eight_zeros_there : (color : Color) (here : Bits) → length here ≡ 13 → word_at (codes_of color) here ≡ None → (rest : Bits) × (here ≡ eight_zeros ++ rest)
 eight_zeros_there color here h e = by (covers_all 13 (eight_zeros ∷ words_of (codes_of color)) here (codes_cover color) h)
   where
@@ -183,7 +184,7 @@ seven_zeros : (color : Color) → longest_agreement (codes_of color) eight_zeros
 seven_zeros White = refl
 seven_zeros Black = refl
 
--- the entry where no word of a run stands
+-- the entry if there is no word of a run
 entry_of_none : (color : Color) (here : Bits) → length here ≡ 13 → word_at (codes_of color) here ≡ None → entry_of (codes_of color) here ≡ 36863
 entry_of_none color here h e =
     let (rest, at) = eight_zeros_there color here h e in
@@ -193,10 +194,7 @@ entry_of_none color here h e =
     omega (arith, bits, run, seven)
 
 entry_of_found : (list : List (Code ℕ)) (here : Bits) (found : ℕ × Bits) → word_at list here ≡ Some found → entry_of list here ≡ (length here - length found.1) * 4096 + found.0
-entry_of_found list here found e =
-    let bits : telling_bits list here ≡ length here - length found.1 = rw (e, telling_bits) refl in
-    let run : run_or_none list here ≡ found.0 = rw (e, run_or_none) refl in
-    omega (arith, bits, run)
+entry_of_found list here found e = grind (arith, common_steps)
 
 -- what the rows of a colour write is the entry of its list
 pub entry_written : (color : Color) (table : Table) (here : Bits) → numbered table ≡ codes_of color → length here ≡ 13

@@ -51,7 +51,7 @@ module _ (at : BitsAt) (w : ℕ) (small : w < 2 ^ 32) (held : Holds w at) where
     plain_eol_within =
         omega (arith, ap (λ (x : BitsAt). x.place) e, twelve_more, length-drop at.place at.bits)
 
-  -- a one among the ten bits behind a tag
+  -- a one among the ten bits after a tag
   module _ (some : (w / 512) % 1024 ≡ 0 → ⊥) where
     abbrev ten : ℕ
     ten = (w / 512) % 1024
@@ -80,7 +80,7 @@ module _ (at : BitsAt) (w : ℕ) (small : w < 2 ^ 32) (held : Holds w at) where
         let bit : bit_of w (9 + zeros_behind) ≡ true = sym (ap (λ (m : ℕ). eqb (m % 2) 1) (shr-shr w 9 zeros_behind)) ∙ ap (λ (m : ℕ). eqb m 1) (low ∙ lowest.1) in
         sym (held (22 - zeros_behind) (omega arith)) ∙ ap (bit_of w) (sym e) ∙ bit
 
-    -- no EOL begins behind the twelve bits before it, nor a bit later
+    -- no EOL begins after the twelve bits before it, nor a bit later
     pub none_behind : (next : BitsAt) → next.bits ≡ at.bits → next.place ≡ at.place + 12 → (after_eol 0 (here next) ≡ None) × (after_eol 0 (drop 1 (here next)) ≡ None)
     none_behind next same place =
         let index : next.place + (10 - zeros_behind) ≡ at.place + (22 - zeros_behind) = omega (arith, place, within_ten) in

@@ -12,7 +12,7 @@ use Rattle.hayro_ccitt.proofs.BitReading.WindowWords.{bit_at-mod, bit_at-shr}
 
 -- ---- One byte
 
--- what the two look-ups make of a byte
+-- what the two lookup tables make of a byte
 abbrev turned : ℕ → ℕ
 turned byte = bit_or (cond (leb 128 (bit_and byte 15)) 0 (get_or TURNED_UP (0 + bit_and byte 15) 0)) (cond (leb 128 (byte / 16)) 0 (get_or TURNED_DOWN (0 + byte / 16) 0))
 

@@ -1,4 +1,4 @@
--- The numbers whose bits a word begins, and the entries that are written at them.
+-- The numbers whose bits begin with a word, and the entries that are written at them.
 use Rattle.std.proofs.Common.{◌≡◌, ℕ, zero, suc, ◌+◌, ◌-◌, ◌*◌, ◌/◌, ◌%◌, ◌^◌, ◌<◌, ◌≤◌, ◌⊎◌, inl, inr, true, false, eqb, [], ◌∷◌, ◌++◌, length, Option, Some, None, bit_or, refl, sym, ap, subst, ◌∙◌, arith}
 use Rattle.std.specs.Int.{bit_at}
 use Rattle.std.proofs.lemmas.Bool.{cases_eq, eq-eqb, ne_eqb, false≢true}
@@ -11,6 +11,7 @@ use Rattle.hayro_ccitt.specs.CodeReading.{after, is_prefix}
 use Rattle.hayro_ccitt.specs.LookUps.{with_row, is_row, thirteen_bits}
 use Rattle.hayro_ccitt.proofs.CodeWords.ReadCodes.{after_is, after_at}
 use Rattle.hayro_ccitt.proofs.BitReading.BitLists.{length-low_bits}
+use Rattle.std.proofs.lemmas.Grind.{common_steps}
 
 -- the bits of a number are its high bits and then its low ones
 pub low_bits-append : (width rest n : ℕ) → low_bits (width + rest) n ≡ low_bits width (n / 2 ^ rest) ++ low_bits rest n
@@ -22,7 +23,7 @@ low_bits-append (suc width) rest n =
     sym (ap (λ (m : ℕ). eqb (m % 2) 1) (shr-shr n rest width ∙ ap (λ (k : ℕ). n / 2 ^ k) f)) in
     rw (e, high, low_bits-append width rest n) refl
 
--- a bit tells its number
+-- a bit determines its number
 bit_number : (a b : ℕ) → a < 2 → b < 2 → eqb a 1 ≡ eqb b 1 → a ≡ b
 bit_number zero zero h k e = refl
 bit_number zero (suc zero) h k e = absurd (false≢true e)
@@ -52,7 +53,7 @@ same_front (d ∷ a) (c ∷ b) x y h e =
     let on = same_front a b x y (omega arith) others in
     cc
 
--- a word begins the bits of the numbers that its own, with more bits behind it, are
+-- a word begins the bits of the numbers that its own bits, with more bits after them, spell
 pub word_begins : (width rest word n : ℕ) → word < 2 ^ width → n < 2 ^ width * 2 ^ rest → 0 < 2 ^ rest
     → is_prefix (low_bits width word) (low_bits (width + rest) n) ≡ eqb (n / 2 ^ rest) word
 word_begins width rest word n fits below some = rw (low_bits-append width rest n) (by (cases_eq (n / 2 ^ rest) word))
@@ -75,7 +76,7 @@ word_begins width rest word n fits below some = rw (low_bits-append width rest n
     by (inl same) = rw (same, eq-eqb word word refl, after_at (low_bits width word) (low_bits rest n), is_prefix) refl
     by (inr other) = differ (after (low_bits width word) (low_bits width (n / 2 ^ rest) ++ low_bits rest n)) refl other ∙ sym (ne_eqb (n / 2 ^ rest) word other)
 
--- of bits so many
+-- of n bits
 pub word_begins_of : (whole width word n : ℕ) → width ≤ whole → word < 2 ^ width → n < 2 ^ whole
     → is_prefix (low_bits width word) (low_bits whole n) ≡ eqb (n / 2 ^ (whole - width)) word
 word_begins_of whole width word n le fits below =
@@ -86,16 +87,10 @@ word_begins_of whole width word n le fits below =
 
 -- ---- The numbers from a multiple on.
 inside : (m word n : ℕ) → word * m ≤ n → n < word * m + m → n / m ≡ word
-inside m word n le lt =
-    let some : 0 < m = omega arith in
-    let above : n < (word + 1) * m = omega (arith, lt) in
-    omega (arith, div_below n m (word + 1) some above, le-div word n m some le)
+inside m word n le lt = grind (arith, common_steps)
 
 outside : (m word n : ℕ) → 0 < m → (n < word * m) ⊎ (word * m + m ≤ n) → n / m ≡ word → ⊥
-outside m word n some there e =
-    let whole : word * m + n % m ≡ n = rw e at (div-add-mod' n m) in
-    let part = mod_below n m some in
-    elim there [ inl lt ↦ omega (arith, whole, lt) | inr ge ↦ omega (arith, whole, part, ge) ]
+outside m word n some there e = grind (arith, common_steps)
 
 -- ---- The entries of one word.
 pub record IsRow (run width word : ℕ) : Type 0 where
@@ -104,12 +99,9 @@ pub record IsRow (run width word : ℕ) : Type 0 where
   pub twelve : run < 4096
 
 pub is_row_is : (run width word : ℕ) → is_row (run, width, word) ≡ true → IsRow run width word
-is_row_is run width word e =
-    let both = and_parts _ _ e in
-    let two = and_parts _ _ both.0 in
-    record { short = leb-true _ _ two.0; fits = ltb-true _ _ two.1; twelve = ltb-true _ _ both.1 }
+is_row_is run width word e = grind (arith, common_steps)
 
--- the numbers whose bits a word begins are below 8192
+-- the numbers whose bits begin with a word are below 8192
 pub range_fits : (run width word : ℕ) → IsRow run width word → word * 2 ^ (13 - width) + 2 ^ (13 - width) ≤ 8192
 range_fits run width word is =
     let e : width + (13 - width) ≡ 13 = omega (arith, is.short) in
@@ -119,9 +111,7 @@ range_fits run width word is =
 
 -- what the shifts compute
 pub shifted_entry : (run width word : ℕ) → IsRow run width word → bit_or (width * 4096 % 65536) run ≡ width * 4096 + run
-shifted_entry run width word is =
-    let small : width * 4096 % 65536 ≡ width * 4096 = omega (arith, is.short) in
-    rw small (or_shifted width 12 run is.twelve)
+shifted_entry run width word is = grind (arith, common_steps)
 
 pub shifted_first : (run width word : ℕ) → IsRow run width word → word * 2 ^ (13 - width) % 18446744073709551616 ≡ word * 2 ^ (13 - width)
 shifted_first run width word is = shl_whole word width (13 - width) 64 is.fits (omega (arith, is.short))
@@ -140,7 +130,7 @@ row_inside run width word k entry is below le lt =
     let same = inside (2 ^ (13 - width)) word k le lt in
     rw (row_test run width word k is below ∙ eq-eqb (k / 2 ^ (13 - width)) word same) refl
 
--- elsewhere it stays
+-- elsewhere it doesn't change
 pub row_outside : (run width word k entry : ℕ) → IsRow run width word → k < 8192
     → (k < word * 2 ^ (13 - width)) ⊎ (word * 2 ^ (13 - width) + 2 ^ (13 - width) ≤ k)
     → with_row (run, width, word) (thirteen_bits k) entry ≡ entry

@@ -1,4 +1,4 @@
--- No row of code words holds the zeros of an EOL.
+-- No sequence of code words contains the zeros of an EOL.
 use Rattle.std.proofs.Common.{◌≡◌, ℕ, zero, suc, ◌+◌, ◌<◌, ◌≤◌, Bool, true, false, cond, ltb, leb, List, [], ◌∷◌, ◌++◌, length, replicate, Option}
 use Rattle.std.proofs.Common.{Some, None, refl, ap, ◌∙◌, append_assoc, arith, inl, inr}
 use Rattle.std.proofs.lemmas.Bool.{and_parts, leb-true, lt-ltb, le-ltb, false≢true, cases_lt}
@@ -51,7 +51,7 @@ at_most_three (Some n) = leb n 3
 abbrev pub is_quiet : Bits → Bool
 is_quiet word = at_most_three (scan 3 word)
 
--- every word of a run is so
+-- every word of a run is like this
 pub codes_quiet : (color : Color) → each_word is_quiet (codes_of color) ≡ true
 codes_quiet White = refl
 codes_quiet Black = refl
@@ -59,7 +59,7 @@ codes_quiet Black = refl
 modes_quiet : each_word is_quiet mode_codes ≡ true
 modes_quiet = refl
 
--- every word is so
+-- every word is like this
 pub word_quiet : (word : Bits) → IsWord word → is_quiet word ≡ true
 word_quiet word (inl w) = each_word_at is_quiet (codes_of w.0) w.1 word (codes_quiet w.0) w.2
 word_quiet word (inr w) = each_word_at is_quiet mode_codes w.0 word modes_quiet w.1
@@ -98,7 +98,7 @@ words_quiet n (word ∷ words) le are =
     let rest = words_quiet one.0 words (omega (arith, one.2, q.2)) are.1 in
     (rest.0, scan-append n one.0 word (joined words) one.1 ∙ rest.1, rest.2)
 
--- ---- What holds eleven zeros is refused.
+-- ---- What contains eleven zeros is refused.
 scan_zeros : (n j : ℕ) (after : Bits) → n ≤ 10 → 10 < n + j → scan n (replicate j false ++ after) ≡ None
 scan_zeros n zero after le lt = absurd (omega arith)
 scan_zeros n (suc j) after le lt = elim (cases_lt n 10) [
@@ -106,7 +106,7 @@ scan_zeros n (suc j) after le lt = elim (cases_lt n 10) [
   | inr g ↦ rw (le-ltb n 10 g) refl
 ]
 
--- what holds eleven zeros is refused
+-- what contains eleven zeros is refused
 pub scan_holds : (n : ℕ) (before after : Bits) → n ≤ 10 → scan n (before ++ (replicate 11 false ++ after)) ≡ None
 scan_holds n [] after le = scan_zeros n 11 after le (omega arith)
 scan_holds n (true ∷ before) after le = scan_holds 0 before after (omega arith)
@@ -115,7 +115,7 @@ scan_holds n (false ∷ before) after le = elim (cases_lt n 10) [
   | inr g ↦ rw (le-ltb n 10 g) refl
 ]
 
--- words in a row, and a tag before them, hold no eleven zeros
+-- consecutive words, and a tag before them, contain no eleven zeros
 pub no_eleven_in : (tag : Bool) (words : List Bits) → AreWords words → HoldsZeros 11 (tag ∷ joined words) → ⊥
 no_eleven_in tag words are holds =
     let none : scan 0 (tag ∷ joined words) ≡ None = ap (scan 0) (holds.2 ∙ append_assoc holds.0 (replicate 11 false) holds.1)
@@ -126,13 +126,13 @@ no_eleven_in tag words are holds =
     by_tag true none = let q = words_quiet 0 words (omega arith) are in let h = q.1 in absurd cc
     by_tag false none = let q = words_quiet 1 words (omega arith) are in let h = q.1 in absurd cc
 
--- ---- A word holds a one.
+-- ---- A word contains a one.
 abbrev pub holds_a_one : Bits → Bool
 holds_a_one [] = false
 holds_a_one (true ∷ bits) = true
 holds_a_one (false ∷ bits) = holds_a_one bits
 
--- zeros hold no one
+-- zeros contain no one
 pub no_one : (n : ℕ) → holds_a_one (replicate n false) ≡ false
 no_one zero = refl
 no_one (suc n) = no_one n
@@ -141,7 +141,7 @@ codes_one : (color : Color) → each_word holds_a_one (codes_of color) ≡ true
 codes_one White = refl
 codes_one Black = refl
 
--- every word holds a one
+-- every word contains a one
 pub word_one : (word : Bits) → IsWord word → holds_a_one word ≡ true
 word_one word (inl w) = each_word_at holds_a_one (codes_of w.0) w.1 word (codes_one w.0) w.2
 word_one word (inr w) = each_word_at holds_a_one mode_codes w.0 word refl w.1

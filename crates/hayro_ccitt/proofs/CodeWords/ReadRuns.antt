@@ -14,6 +14,7 @@ use Rattle.hayro_ccitt.specs.Repetition.{Turn}
 use Rattle.hayro_ccitt.specs.Runs.{codes_of, run_of_word, run_turn, run_from}
 use Rattle.hayro_ccitt.proofs.Readings.Repeated.{Shrinks, after_turn, repeated_turn, repeated_keeps}
 use Rattle.hayro_ccitt.proofs.CodeWords.ReadCodes.{read_code_found}
+use Rattle.std.proofs.lemmas.Grind.{common_steps}
 
 abbrev is_empty : Bits → Bool
 is_empty [] = true
@@ -65,17 +66,10 @@ pub done_is : (r q : Result (ℕ × Bits) DecodeError) → ◌≡◌ {A = RunTur
 done_is r q e = cc
 
 pub word_next : (total : ℕ) (found t : ℕ × Bits) → run_of_word total found ≡ Turn.next t → (total + found.0, found.1) ≡ t
-word_next total found t e = elim (chosen (ltb 4294967295 (total + found.0)) _ _ _ e) [
-  | inl a ↦ absurd (not_done _ t a.1)
-  | inr a ↦ elim (chosen (ltb found.0 64) _ _ _ a.1) [
-    | inl b ↦ absurd (not_done _ t b.1)
-    | inr b ↦ goes_to _ t b.1
-  ]
-]
+word_next total found t e = grind (arith, common_steps)
 
 shrinks_by : (color : Color) (total : ℕ) (here : Bits) (t : ℕ × Bits) (r : Result (ℕ × Bits) DecodeError) → read_code (codes_of color) here ≡ r → run_turn color (total, here) ≡ Turn.next t → length t.1 < length here
-shrinks_by color total here t (Err e) h k =
-    let g : ◌≡◌ {A = RunTurn} (Turn.done (Err e)) (Turn.next t) = rw (h, run_turn) at k in absurd (not_done _ t g)
+shrinks_by color total here t (Err e) h k = grind (arith, common_steps)
 shrinks_by color total here t (Ok found) h k =
     let g : run_of_word total found ≡ Turn.next t = rw (h, run_turn) at k in
     subst (λ (s : ℕ × Bits). length s.1 < length here) (word_next total found t g) (read_code_shorter (codes_of color) here found.0 found.1 (words_not_empty color) h)
@@ -83,7 +77,7 @@ shrinks_by color total here t (Ok found) h k =
 pub run_shrinks : (color : Color) → Shrinks (run_turn color) size
 run_shrinks color s t e = shrinks_by color s.0 s.1 t (read_code (codes_of color) s.1) refl e
 
--- ---- The rules of a run, by which a loop goes on.
+-- ---- The rules of a run, by which a loop continues.
 run_is : (color : Color) (total : ℕ) (here : Bits) → run_from color (total, here) ≡ after_turn (run_from color) (run_turn color (total, here))
 run_is color total here = repeated_turn (run_turn color) (Err UnexpectedEof) size (run_shrinks color) (total, here)
 
@@ -105,13 +99,7 @@ leaves_below n (Ok found) = length found.1 < n
 leaves_below n (Err e) = Unit {0}
 
 word_done : (total n : ℕ) (found : ℕ × Bits) (r : Result (ℕ × Bits) DecodeError) → length found.1 < n → run_of_word total found ≡ Turn.done r → leaves_below n r
-word_done total n found r h e = elim (chosen (ltb 4294967295 (total + found.0)) _ _ _ e) [
-  | inl a ↦ subst (leaves_below n) (done_is _ r a.1) tt
-  | inr a ↦ elim (chosen (ltb found.0 64) _ _ _ a.1) [
-    | inl b ↦ subst (leaves_below n) (done_is _ r b.1) h
-    | inr b ↦ absurd (not_done r _ (sym b.1))
-  ]
-]
+word_done total n found r h e = grind (arith, common_steps)
 
 turn_done : (color : Color) (total n : ℕ) (here : Bits) (r : Result (ℕ × Bits) DecodeError) (q : Result (ℕ × Bits) DecodeError) → length here ≤ n → read_code (codes_of color) here ≡ q → run_turn color (total, here) ≡ Turn.done r → leaves_below n r
 turn_done color total n here r (Err fault) h e k = subst (leaves_below n) (done_is _ r (rw (e, run_turn) at k)) tt

@@ -7,16 +7,11 @@ use Rattle.hayro_ccitt.specs.UsualRuns.{IsWordHere, IsRunHere}
 use Rattle.hayro_ccitt.specs.Window.{moved}
 use Rattle.hayro_ccitt.proofs.CodeWords.ReadRuns.{run_ends, run_goes_on}
 use Rattle.hayro_ccitt.proofs.CodeWords.RunWords.{run_found_ends, run_found_on}
+use Rattle.std.proofs.lemmas.Grind.{common_steps}
 
 -- a terminating word is a run
 pub run_of_word : (color : Color) (at : BitsAt) (run width : ℕ) → IsWordHere color at run width → run < 64 → IsRunHere color at run width 1
-run_of_word color at run width word short =
-    let none : 0 + run ≡ run = omega arith in
-    record {
-      read = rw none at (run_ends color 0 run (here at) (here (moved width at)) word.read (omega (arith, short)) short);
-      found = run_found_ends color 0 run (here at) (here (moved width at)) word.read (omega (arith, short)) short;
-      few = omega (arith, word.few);
-    }
+run_of_word color at run width word short = grind (arith, common_steps)
 
 -- a make-up word and a terminating one are a run
 pub run_of_two : (color : Color) (at : BitsAt) (run width rest more : ℕ) → IsWordHere color at run width → IsWordHere color (moved width at) rest more
@@ -34,7 +29,7 @@ run_of_two color at run width rest more first second long short below =
       few = omega (arith, first.few, second.few);
     }
 
--- a run behind no bits stands here
+-- a run after no bits is here
 pub run_here_too : (color : Color) (at : BitsAt) (run width words : ℕ) → IsRunHere color (moved 0 at) run width words → IsRunHere color at run width words
 run_here_too color at run width words there =
     let none : at.place + 0 ≡ at.place = omega arith in

@@ -22,8 +22,8 @@ use Rattle.hayro_ccitt.proofs.DamagedLines.LinesByEols.{past_shorter}
 use Rattle.hayro_ccitt.proofs.DamagedLines.LocalByTests.{local_by_tests}
 use Rattle.hayro_ccitt.proofs.DamagedLines.PastEol.{past, past_is, then_after}
 
--- ---- An EOL before a place.
--- the EOL of the twelve bits before a place ends there
+-- ---- An EOL before a position.
+-- the EOL of the twelve bits before a position ends there
 pub behind_eol : (bits rest : Bits) (place zeros : ℕ) → 12 ≤ place → place ≤ length bits → drop (place - 12) bits ≡ replicate zeros false ++ true ∷ rest
     → after_eol 0 (drop (place - 12) bits) ≡ cond (leb 11 zeros) (Some rest) None
     → IsTrue (eqb zeros 11) ↔ ((place ≡ 0) ⊎ ((12 ≤ place) × (after_eol 0 (drop (place - 12) bits) ≡ Some (drop place bits))))
@@ -77,7 +77,7 @@ one_in_front (suc m) (true ∷ here) fits lt e = absurd cc
 one_in_front (suc m) (false ∷ here) fits lt e =
     one_in_front m here (omega (arith, fits)) (omega (arith, lt)) (let f : take m here ≡ replicate m false = cc in f)
 
--- some bits hold a one if fewer zeros stand here
+-- some bits contain a one if fewer zeros are here
 pub one_by_zeros : (m zeros : ℕ) (here : Bits) → m ≤ length here → zeros ≡ leading_zeros here
     → IsTrue (ltb zeros m) ↔ (take m here ≢ replicate m false)
 one_by_zeros m zeros here fits is = (
@@ -117,7 +117,7 @@ found_ends here = by (next_eol here) refl ∙ ap is_some (sym (past_is here))
     by None e = rw e refl
     by (Some found) e = let f = next_eol_found here found e in rw (e, f.1.1) refl
 
--- where no EOL stands, none stands in the first bits
+-- if there is no EOL, there is none in the first bits
 pub no_eol_in_front : (m : ℕ) (here : Bits) → next_eol here ≡ None → is_some (next_eol (take m here)) ≡ false
 no_eol_in_front m here none = found_ends (take m here) ∙ by (past 0 (take m here)) refl
   where
@@ -129,7 +129,7 @@ no_eol_in_front m here none = found_ends (take m here) ∙ by (past 0 (take m he
         let both : ◌≡◌ {A = Option Bits} None (Some (after ++ drop m here)) = sym nothing ∙ ap (past 0) (sym (take-append-drop m here)) ∙ whole in
         cc)
 
--- the next EOL stands in the first bits if it ends there
+-- the next EOL is in the first bits if it ends there
 eol_in_front : (m : ℕ) (here found after : Bits) → next_eol here ≡ Some found → after_eol 0 found ≡ Some after
     → is_some (next_eol (take m here)) ≡ leb (length (drop m here)) (length after)
 eol_in_front m here found after next eol = found_ends (take m here) ∙ by (past 0 (take m here)) refl
@@ -145,7 +145,7 @@ eol_in_front m here found after next eol = found_ends (take m here) ∙ by (past
         let fits : length (drop m here) ≤ length after = omega (arith, ap length same, length-append front (drop m here)) in
         rw (e, le-leb (length (drop m here)) (length after) fits) refl
 
--- an EOL stands between two places if the next one ends there
+-- an EOL is between two positions if the next one ends there
 pub eol_by_ends : (bits : Bits) (from to end : ℕ) (found : Bits) → from ≤ to → to ≤ length bits → end ≤ length bits → next_eol (drop from bits) ≡ Some found
     → after_eol 0 found ≡ Some (drop end bits) → is_some (next_eol (take (to - from) (drop from bits))) ≡ leb end to
 eol_by_ends bits from to end found order within le next eol =
@@ -161,7 +161,7 @@ eol_by_ends bits from to end found order within le next eol =
           rw (le-leb (length (drop to bits)) (length (drop end bits)) nearer, le-leb end to ge) refl
     ]
 
--- the next EOL, where one is found, stands there
+-- the next EOL, if one is found, is there
 pub eol_found_stands : (here found : Bits) → next_eol here ≡ Some found → after_eol 0 found ≡ None → ⊥
 eol_found_stands here found next none = let stands = next_eol_found here found next in none-some stands.1.0 (sym none ∙ stands.1.1)
 
@@ -201,7 +201,7 @@ none_stands : (o : Option Bits) → is_some o ≡ false → o ≡ None
 none_stands None e = refl
 none_stands (Some x) e = absurd (false≢true (sym e))
 
--- where the other tests hold, a body is local if its line ends before the EOL behind it
+-- if the other tests succeed, a body is local if its line ends before the EOL after it
 pub local_by_end : (settings : DecodeSettings) (bits : Bits) (from to end : ℕ) (before : Bool) → (settings.encoding ≡ Group3_1D) × (settings.strict ≡ false)
     → from ≤ to → to ≤ length bits → (from ≡ 0) ⊎ ((12 ≤ from) × (after_eol 0 (drop (from - 12) bits) ≡ Some (drop from bits)))
     → take (to - from) (drop from bits) ≢ replicate (to - from) false → is_some (next_eol (take (to - from) (drop from bits))) ≡ false
@@ -225,6 +225,6 @@ local_by_end settings bits from to end before lenient order within starts one no
         → EndsBefore settings.columns (drop end bits) (drop from bits)
     same_end after e is = let same : after ≡ drop end bits = cc in subst (λ (x : Bits). EndsBefore settings.columns x (drop from bits)) same is
 
--- where a test fails, no body is local
+-- if a test fails, no body is local
 pub tests_of : (settings : DecodeSettings) (bits : Bits) (from to : ℕ) → IsLocal settings bits from to → IsLocalByTests settings bits from to
 tests_of settings bits from to local = (local_by_tests settings bits from to).0 local

@@ -1,4 +1,4 @@
--- What the tests of a body look at.
+-- What the tests of a body examine.
 use Rattle.std.proofs.Common.{◌≡◌, ℕ, zero, suc, ◌+◌, ◌-◌, ◌*◌, ◌≤◌, true, false, List, [], ◌∷◌, cond, eqb, length, drop, Option, Some, None, refl, sym, ap, subst, ◌∙◌, arith}
 use Rattle.std.proofs.lemmas.Option.{none-some}
 use Rattle.std.proofs.lemmas.List.{length-drop, drop-drop}
@@ -9,21 +9,21 @@ use Rattle.hayro_ccitt.proofs.BitReading.SoughtEols.{next_eol-here}
 use Rattle.hayro_ccitt.proofs.BitReading.ZeroRuns.{looked_eol}
 use Rattle.hayro_ccitt.proofs.Readings.TurnsMoveOn.{next_eol_found}
 
--- further on no fewer bits are looked at but for those between
+-- further on no fewer bits are examined except those in between
 looked_further : (k : ℕ) (here : Bits) → looked here ≤ k + looked (drop k here)
 looked_further zero here = omega arith
 looked_further (suc k) [] = omega arith
 looked_further (suc k) (false ∷ here) = omega (arith, looked_further k here)
 looked_further (suc k) (true ∷ here) = omega arith
 
--- what a count of zeros looks at before a place, by what one looks at there
+-- what a count of zeros examines before a position, by what one examines there
 pub looked_between : (bits : Bits) (from to : ℕ) → from ≤ to → looked (drop from bits) ≤ (to - from) + looked (drop to bits)
 looked_between bits from to order =
     let sum : from + (to - from) ≡ to = omega (arith, order) in
     let behind : drop (to - from) (drop from bits) ≡ drop to bits = drop-drop (to - from) from bits ∙ ap (λ (n : ℕ). drop n bits) sum in
     omega (arith, looked_further (to - from) (drop from bits), ap looked behind)
 
--- where an EOL stands at a place, the next one stands there or before it
+-- if there is an EOL at a position, the next one is there or before it
 eol_ahead : (k : ℕ) (here after : Bits) → after_eol 0 (drop k here) ≡ Some after → (found : Bits) × (next_eol here ≡ Some found) × (length (drop k here) ≤ length found)
 eol_ahead zero here after eol = (here, next_eol-here here after eol, omega arith)
 eol_ahead (suc k) [] after eol = absurd (none-some after eol)
@@ -58,7 +58,7 @@ module _ (bits after : Bits) (from to : ℕ) (order : from ≤ to) (within : to 
       let zeros = looked_between bits place to near in
       (omega (arith, passed, again, onward.0), omega (arith, passed, again, zeros, near, order, length-drop place bits, length-drop from bits, inside, within))
 
--- one EOL that is read, or none, is what a count of zeros looks at
+-- one EOL that is read, or none, is what a count of zeros examines
 pub one_eol_looked : (here rest : Bits) (count before now : ℕ) → eols 1 here ≡ (count, rest) → now + length rest ≡ before + length here + cond (eqb count 1) 0 (looked rest)
     → now ≡ before + looked here
 one_eol_looked here rest count before now is counted = by (after_eol 0 here) refl
@@ -89,7 +89,7 @@ module _ (bits : Bits) (from to : ℕ) (order : from ≤ to) where
       let twelve : from - 12 ≤ from = omega arith in
       omega (arith, first, second, looked_between bits (from - 12) from twelve, looked_between bits from to order)
 
-  -- all tests, and the line with so many words
+  -- all tests, and the line with its words
   pub body_counted : (words before behind one end eol line : ℕ) → behind ≤ before + looked (drop (from - 12) bits) → one ≡ behind + looked (drop from bits)
       → end ≡ one + looked (drop to bits) → eol ≤ end + 2 * (to - from) + 2 * looked (drop to bits) → line ≤ eol + words + 1
       → line ≤ before + (4 * (to - from) + 5 * looked (drop to bits) + words + 13)

@@ -1,4 +1,4 @@
--- Where lines begin, by places.
+-- Where lines begin, by positions.
 use Rattle.std.proofs.Common.{◌≡◌, ℕ, zero, suc, ◌+◌, ◌<◌, ◌≤◌, Bool, true, false, cond, not, ◌&&◌, leb, List, [], ◌∷◌, ◌++◌, length, take, drop}
 use Rattle.std.proofs.Common.{replicate, Option, Some, None, refl, sym, ap, subst, ◌∙◌, append_assoc, arith, ◌⊎◌, inl, inr}
 use Rattle.std.specs.Prelude.{Contains, All, is_some}
@@ -41,7 +41,7 @@ later_descends seen (true ∷ here) = by (leb 11 seen && begins_line here) (late
 
 -- ---- An EOL ends at each, and none begins
 
--- an EOL that ends further on, so many zeros having been seen
+-- an EOL that ends further on, given the number of zeros just before
 abbrev EndsLater : ℕ → Bits → Bits → Type 0
 EndsLater seen here end = (at : Bits) × Leaves (replicate seen false ++ here) at × (after_eol 0 at ≡ Some end) × (length end < length here)
 
@@ -90,7 +90,7 @@ from_later seen (true ∷ here) end c =
           f.1,
         )
 
--- of two ends of one list the shorter is an end of the longer
+-- of two suffixes of one list the shorter is a suffix of the longer
 shorter_end : (xs ys us vs : Bits) → xs ++ ys ≡ us ++ vs → length vs ≤ length ys → Leaves ys vs
 shorter_end xs ys us vs e le =
     let lengths : length xs + length ys ≡ length us + length vs = sym (length-append xs ys) ∙ ap length e ∙ length-append us vs in
@@ -170,7 +170,7 @@ to_later seen (true ∷ here) end (at, leaves, eol, lt) b = elim (cases_lt (leng
       | inr short ↦ shorter_end (replicate seen false ++ true ∷ []) here leaves.0 at (append_assoc (replicate seen false) (true ∷ []) here ∙ leaves.1) short
     ]
 
--- ---- The EOLs at the front end with a one
+-- ---- The EOLs at the start of the data end with a one
 
 -- what comes before the first line: nothing, or EOLs
 abbrev FirstLeaves : Bits → Bits → Type 0

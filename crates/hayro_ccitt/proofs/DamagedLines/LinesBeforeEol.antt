@@ -19,6 +19,7 @@ use Rattle.hayro_ccitt.proofs.CodeWords.ReadCodes.{read_code_found, read_code_ag
 use Rattle.hayro_ccitt.proofs.CodeWords.ReadRuns.{run_shrinks, size}
 use Rattle.hayro_ccitt.proofs.BitReading.ZerosInWords.{scan, is_quiet, scan_below, scan-append, quiet_is, word_quiet, prefix_of_prefix, codes_free}
 use Rattle.hayro_ccitt.proofs.DrawingLines.ReadLines.{left, step_1d_shrinks}
+use Rattle.std.proofs.lemmas.Grind.{common_steps}
 
 scan_stays : (n : ℕ) (a b : Bits) → scan n a ≡ None → scan n (a ++ b) ≡ None
 scan_stays n [] b e = absurd cc
@@ -28,7 +29,7 @@ scan_stays n (false ∷ a) b e = elim (cases_lt n 10) [
   | inr ge ↦ rw (le-ltb n 10 ge) refl
 ]
 
--- with more zeros before them the bits hold eleven zeros too
+-- with more zeros before them the bits contain eleven zeros too
 scan_above : (m n : ℕ) (bits : Bits) → m ≤ n → scan m bits ≡ None → scan n bits ≡ None
 scan_above m n bits le e = by (scan n bits) refl
   where
@@ -36,12 +37,12 @@ scan_above m n bits le e = by (scan n bits) refl
     by None f = f
     by (Some k) f = absurd (let g = scan_below m n k bits le f in let h = g.1 in cc)
 
--- The last bits of some that end with eleven zeros; after three zeros they would hold eleven.
+-- The last bits of some that end with eleven zeros; after three zeros they would contain eleven.
 pub record Inside (bits : Bits) : Type 0 where
   pub holds : scan 3 bits ≡ None
   pub last : (before rest : Bits) × (before ++ bits ≡ rest ++ replicate 11 false)
 
--- two data at one place, before different bits
+-- two data at one position, before different bits
 abbrev pub InFront : Bits → Bits → Bits → Bits → Type 0
 InFront x y here there = (bits : Bits) × Inside bits × (here ≡ bits ++ x) × (there ≡ bits ++ y)
 
@@ -74,7 +75,7 @@ word_inside bits x word rest inside quiet e =
           )
     ]
 
--- ---- What is found in the one is found in the other
+-- ---- What is found in one is found in the other
 abbrev pub FoundAlike : Bits → Bits → Result (ℕ × Bits) DecodeError → Result (ℕ × Bits) DecodeError → Type 0
 FoundAlike x y (Ok found) (Ok other) = (found.0 ≡ other.0) × InFront x y found.1 other.1
 FoundAlike x y (Ok found) (Err fault) = ⊥
@@ -113,14 +114,7 @@ module _ (x y : Bits) where
   module _ (color : Color) (rest : ℕ × Bits → Result (ℕ × Bits) DecodeError) where
     word_alike : (total n : ℕ) (here there : Bits) → InFront x y here there
         → Follows Runs (FoundAlike x y) rest (run_of_word total (n, here)) (run_of_word total (n, there))
-    word_alike total n here there front = by (ltb 4294967295 (total + n)) (ltb n 64)
-      where
-        by : (b c : Bool) → Follows Runs (FoundAlike x y) rest
-            (cond b (Turn.done (Err Overflow)) (cond c (Turn.done (Ok (total + n, here))) (Turn.next (total + n, here))))
-            (cond b (Turn.done (Err Overflow)) (cond c (Turn.done (Ok (total + n, there))) (Turn.next (total + n, there))))
-        by true c = tt
-        by false true = (refl, front)
-        by false false = (refl, front)
+    word_alike total n here there front = grind (arith, common_steps)
 
     turn_alike : (total : ℕ) (bits : Bits) → Inside bits
         → Follows Runs (FoundAlike x y) rest (run_turn color (total, bits ++ x)) (run_turn color (total, bits ++ y))
@@ -200,7 +194,7 @@ module _ (x y : Bits) where
     pens_alike : (s t : Pen) → Pens s t → Follows Pens LineAlike rest (step_1d false columns s) (step_1d false columns t)
     pens_alike s t (front, color, here, there, a, b, infront) = rw (a, b) (drew_alike front color here there infront)
 
-  -- a line of two data at one place, inside, is the same, and ends inside
+  -- a line of two data at one position, inside, is the same, and ends inside
   pub line_1d_alike : (columns : ℕ) (here there : Bits) → InFront x y here there → LineAlike (line_1d false columns here) (line_1d false columns there)
   line_1d_alike columns here there front =
       repeated_follows (step_1d false columns) (Line.broken [] UnexpectedEof) left (step_1d_shrinks false columns) (step_1d false columns)

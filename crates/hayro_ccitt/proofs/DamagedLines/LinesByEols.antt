@@ -60,7 +60,7 @@ starts-none seen (true ∷ here) e = elim (cases_lt seen 11) [
   | inr ge ↦ absurd (let f : ◌≡◌ {A = Option Bits} (Some here) None = rw (le-leb 11 seen ge) at e in cc)
 ]
 
--- the starts from a place on
+-- the starts from a position on
 abbrev from_here : Bits → List Bits
 from_here [] = []
 from_here (b ∷ here) = (b ∷ here) ∷ later_starts 0 (b ∷ here)

@@ -10,15 +10,16 @@ use Rattle.hayro_ccitt.proofs.Readings.TurnsMoveOn.{next_eol_found, eol_of}
 use Rattle.hayro_ccitt.proofs.DamagedLines.PastEol.{past_is, then_after}
 use Rattle.hayro_ccitt.proofs.DamagedLines.LineTails.{after_eol_is, drop_at, none_in_body}
 use Rattle.hayro_ccitt.proofs.DamagedLines.EolsAlike.{no_one}
+use Rattle.std.proofs.lemmas.Grind.{common_steps}
 
--- bits that aren't all zeros hold a one
+-- bits that aren't all zeros contain a one
 holds_one : (bits : Bits) → bits ≢ replicate (length bits) false → (before after : Bits) × (bits ≡ before ++ true ∷ after)
 holds_one [] not_zeros = absurd (not_zeros refl)
 holds_one (true ∷ bits) not_zeros = ([], bits, refl)
 holds_one (false ∷ bits) not_zeros = let f
     = holds_one bits (λ e. not_zeros (ap (λ (b : Bits). false ∷ b) e)) in (false ∷ f.0, f.1, ap (λ (b : Bits). false ∷ b) f.2)
 
--- where none is found, none stands further on
+-- if none is found, there is none further on
 none_further : (before here : Bits) → next_eol (before ++ here) ≡ None → after_eol 0 here ≡ None
 none_further [] here e = by here e
   where
@@ -44,11 +45,7 @@ take_zeros (suc k) (suc m) rest lt = let e : suc m - (suc k + 1) ≡ m - (k + 1)
 take-split : {A : Type 0} (j m : ℕ) (xs : List A) → j ≤ m → take m xs ≡ take j xs ++ take (m - j) (drop j xs)
 take-split zero m xs le = let e : m - 0 ≡ m = omega arith in ap (λ (n : ℕ). take n xs) (sym e)
 take-split (suc j) zero xs le = absurd (omega arith)
-take-split (suc j) (suc m) [] le = let e : suc m - suc j ≡ m - j = omega arith in take_none (suc m - suc j)
-  where
-    take_none : {A : Type 0} (n : ℕ) → [] ≡ take {A = A} n []
-    take_none zero = refl
-    take_none (suc n) = refl
+take-split (suc j) (suc m) [] le = grind (arith, common_steps)
 take-split {A} (suc j) (suc m) (x ∷ xs) le = let e : suc m - suc j ≡ m - j
     = omega arith in ap (λ (l : List A). x ∷ l) (take-split j m xs (omega arith) ∙ ap (λ (n : ℕ). take j xs ++ take n (drop j xs)) (sym e))
 

@@ -15,6 +15,7 @@ use Rattle.hayro_ccitt.specs.Locality.{row_of, row_at}
 use Rattle.hayro_ccitt.proofs.Readings.TurnsMoveOn.{one_more-count}
 use Rattle.hayro_ccitt.proofs.DamagedLines.PastEol.{past, past-eol, past_is, then_after, all_eols-some, all_eols-none}
 use Rattle.hayro_ccitt.proofs.Readings.RowsAndGaps.{unless_over, seek_from, after_row, row_added, after_whole-is, after_damage-is}
+use Rattle.std.proofs.lemmas.Grind.{common_steps}
 
 -- a run that seeks EOLs
 abbrev pub sought : List Row → Bits → Progress
@@ -33,7 +34,7 @@ found_next here after e = by (next_eol here) refl
     by None f = absurd (let g : ◌≡◌ {A = Option Bits} None (Some after) = ap then_after (sym f) ∙ sym (past_is here) ∙ e in cc)
     by (Some found) f = (found, f, ap then_after (sym f) ∙ sym (past_is here) ∙ e)
 
--- where an EOL is to come the data go on
+-- where an EOL is due the data continue
 pub not_past_end : (here after : Bits) → past 0 here ≡ Some after → at_end here ≡ false
 not_past_end [] after e = absurd cc
 not_past_end (b ∷ here) after e = refl
@@ -43,7 +44,7 @@ module _ (settings : DecodeSettings) (encoding : settings.encoding ≡ Group3_1D
   pub eols_here_is : (here : Bits) → eols_here settings here ≡ all_eols here
   eols_here_is here = ap (λ (e : EncodingMode). eols_by e settings.end_of_block here) encoding
 
-  -- where an EOL follows and the limit isn't met, the EOLs are counted that begin with the next
+  -- if an EOL follows and the limit isn't met, the EOLs are counted that begin with the next
   pub after_row_past : (rows : List Row) (here after : Bits) → limit_met settings (length rows) ≡ false → past 0 here ≡ Some after
       → after_row settings (sought rows here) ≡ unless_over settings (sought rows here) (one_more (all_eols after))
   after_row_past rows here after short e = by (after_eol 0 here) refl
@@ -106,15 +107,4 @@ module _ (settings : DecodeSettings) (encoding : settings.encoding ≡ Group3_1D
   -- at the limit a run is over, past the EOLs here
   pub limit_done : (rows : List Row) (here : Bits) → limit_met settings (length rows) ≡ true
       → after_row settings (sought rows here) ≡ ends_with (sought rows here) (Ok (all_eols here).1)
-  limit_done rows here met =
-      let first : Bool = eqb (eols_here settings here).0 0 && true in
-      let none : ((first && not (limit_met settings (length rows))) && not (at_end here)) ≡ false
-      = and_left (first && not (limit_met settings (length rows))) (not (at_end here))
-      (and_right first (not (limit_met settings (length rows))) (not_from_true (limit_met settings (length rows)) met)) in
-      cond-false ((first && not (limit_met settings (length rows))) && not (at_end here)) _ _ none
-      ∙ ap (unless_over settings (sought rows here)) (eols_here_is here) ∙ over (all_eols here)
-    where
-      over : (found : ℕ × Bits) → unless_over settings (sought rows here) found ≡ ends_with (sought rows here) (Ok found.1)
-      over (count, rest) = cond-true (((settings.end_of_block && leb (eols_of_end settings.encoding) count) || limit_met settings (length rows)) || at_end rest) _ _
-          (or_left ((settings.end_of_block && leb (eols_of_end settings.encoding) count) || limit_met settings (length rows)) (at_end rest)
-          (or_right (settings.end_of_block && leb (eols_of_end settings.encoding) count) (limit_met settings (length rows)) met))
+  limit_done rows here met = grind (arith, common_steps)

@@ -20,6 +20,7 @@ use Rattle.hayro_ccitt.proofs.DrawingLines.WhatFollows.{line_2d_found}
 use Rattle.hayro_ccitt.proofs.EncodedPictures.Bodies.{gap_at_eofb}
 use Rattle.hayro_ccitt.proofs.EncodedPictures.PictureLines.{IsLineStart, mode_starts, between, plain_ends}
 use Rattle.hayro_ccitt.proofs.Readings.GapsAndRows.{gap_and_row_unsought, row_behind_eols, t6_end}
+use Rattle.std.proofs.lemmas.Grind.{common_steps}
 
 -- ---- EOLs.
 after_eol_found : (seen : ℕ) (here rest : Bits) → after_eol seen here ≡ Some rest → (w : Bits) × (here ≡ w ++ rest)
@@ -34,7 +35,8 @@ after_eol_found seen (true ∷ here) rest e = elim (chosen (leb 11 seen) _ _ _ e
 one_more_is : (found : ℕ × Bits) → one_more found ≡ (suc found.0, found.1)
 one_more_is (count, here) = refl
 
--- the EOLs that were counted are a front, and are counted again whatever follows, if no EOL does or enough were asked for
+-- the EOLs that were counted are a prefix, and are counted again whatever follows, if no EOL does or enough were asked
+-- for
 abbrev EolsFound : ℕ → Bits → ℕ × Bits → Type 0
 EolsFound most here found = (w : Bits) × (here ≡ w ++ found.1)
     × ((more : Bits) → (found.0 ≡ most) ⊎ (after_eol 0 more ≡ None) → eols most (w ++ more) ≡ (found.0, more))
@@ -91,12 +93,12 @@ record MoveFound (settings : DecodeSettings) (run after : Progress) : Type 0 whe
 abbrev reader : DecodeSettings → Progress → Bits → Line
 reader settings run = line_2d settings.strict settings.columns (row_before settings.columns run.rows)
 
--- a run that comes to its end so
+-- a run that reaches such an end
 abbrev Ends : DecodeSettings → Progress → Ending → Type 0
 Ends settings run end = (last : Progress) × Reaches (gap_and_row settings) run last × (pass_gap settings last ≡ Turn.done end)
 
 module _ (settings : DecodeSettings) (four : settings.encoding ≡ Group4) (block : settings.end_of_block ≡ true) (wide : 0 < settings.columns) where
-  -- the EOLs that are counted, at most two, and the line behind them
+  -- the EOLs that are counted, at most two, and the line after them
   counts_two : (here : Bits) → eols_here settings here ≡ eols 2 here
   counts_two here = ap (λ (e : EncodingMode). eols_by e settings.end_of_block here) four ∙ ap (λ (b : Bool). eols_by Group4 b here) block
 
@@ -106,13 +108,7 @@ module _ (settings : DecodeSettings) (four : settings.encoding ≡ Group4) (bloc
   by_line : (run after : Progress) (count : ℕ) (t : Bits) (line : Line) → run.has_eols ≡ false → eols 2 run.rest ≡ (count, t)
       → is_over settings (length run.rows) (count, t) ≡ false → reader settings run t ≡ line
       → add_row_alone (record run { rest = t }) (row_of_line settings run.has_eols t line) ≡ Turn.next after → MoveFound settings run after
-  by_line run after count t (Line.broken front fault) unsought counted over read e =
-      by settings.strict (ap (λ (h : Bool). add_row_alone (record run { rest = t }) (row_of_line settings h t (Line.broken front fault))) (sym unsought) ∙ e)
-    where
-      by : (strict : Bool) → add_row_alone (record run { rest = t }) (row_of_line (record settings { strict = strict }) false t (Line.broken front fault)) ≡ Turn.next after
-          → MoveFound settings run after
-      by true e = absurd (not_next _ after e)
-      by false e = absurd (not_next _ after e)
+  by_line run after count t (Line.broken front fault) unsought counted over read e = grind (arith, common_steps)
   by_line run after count t (Line.whole row j) unsought counted over read e =
       let b : Bool = settings.rows_are_byte_aligned && not run.has_eols in
       let line = line_2d_found settings.strict settings.columns (row_before settings.columns run.rows) t row j read in
@@ -156,11 +152,11 @@ module _ (settings : DecodeSettings) (four : settings.encoding ≡ Group4) (bloc
   move_found run after unsought e = by_eols run after (eols 2 run.rest) unsought refl
       (sym (gap_and_row_unsought settings run unsought ∙ ap (row_behind_eols settings run) (counts_two run.rest)) ∙ e)
 
-  -- ---- A run that comes to two EOLs.
+  -- ---- A run that reaches two EOLs.
   abbrev ended_at : Progress → Bits → Ending
   ended_at last rest = record { rows = last.rows; has_eols = last.has_eols; outcome = Ok rest }
 
-  -- what was read up to two EOLs gives the same rows again, whatever follows
+  -- what was read up to two EOLs yields the same rows again, whatever follows
   pub closed_found : (run last : Progress) (rest : Bits) → run.has_eols ≡ false → Reaches (gap_and_row settings) run last → eols 2 last.rest ≡ (2, rest)
       → (w : Bits) × (run.rest ≡ w ++ rest) × ((more : Bits) → length more % 8 ≡ length rest % 8
       → Ends settings (record run { rest = w ++ more }) (ended_at last more))
@@ -197,7 +193,7 @@ closed_plain settings last w rest four wide ends stream more is whole =
     let n : (length stream - length more + 7) / 8 ≡ (length w + 7) / 8 = omega (arith, ap length is, length-append w more) in
     plain_ends settings stream end more wide here refl ∙ ap {B = Reading} (λ (k : ℕ). record { rows = last.rows; outcome = Ok k; has_eols = last.has_eols }) n
 
--- data with the same bytes begin with the same bits, and go on with whole bytes as far
+-- data with the same first bytes begin with the same bits, and continue with whole bytes
 same_front : (one two : Bits) (count : ℕ) (w rest : Bits) → AreWholeBytes one → AreWholeBytes two → one ≡ w ++ rest → (length w + 7) / 8 ≡ count
     → take (8 * count) two ≡ take (8 * count) one → (more : Bits) × (two ≡ w ++ more) × (length more % 8 ≡ length rest % 8)
 same_front one two count w rest whole_one whole_two is count_is same =
@@ -213,8 +209,7 @@ same_front one two count w rest whole_one whole_two is count_is same =
 
 -- without columns nothing is read
 plain_no_columns : (settings : DecodeSettings) (stream : Bits) → settings.columns ≡ 0 → plain settings stream ≡ nothing_read
-plain_no_columns settings stream none = cond-true (eqb settings.columns 0) nothing_read
-    (whole_reading stream (end_of settings stream)) (eq-eqb settings.columns 0 none)
+plain_no_columns settings stream none = grind (arith, common_steps)
 
 -- the law
 pub after_eofb : AfterEofb

@@ -24,8 +24,9 @@ use Rattle.hayro_ccitt.proofs.Readings.TurnsMoveOn.{few_eols, eols-none, eols_wi
 use Rattle.hayro_ccitt.proofs.EncodedPictures.EncodedLines.{line_2d_again}
 use Rattle.hayro_ccitt.proofs.EncodedPictures.PictureLines.{IsLineStart, line_2d_starts, allows_sum, not_met, same_pair, row_before_push, plain_ends, fill, aligned_again, aligned_on, between, ended}
 use Rattle.hayro_ccitt.proofs.EncodedPictures.PicturesT4.{line_t4_again, line_t4_starts}
+use Rattle.std.proofs.lemmas.Grind.{common_steps}
 
--- ---- No EOL is counted where none stands.
+-- ---- No EOL is counted where there is none.
 pass_zero : (here : Bits) → pass_last_tag (0, here) ≡ (0, here)
 pass_zero [] = refl
 pass_zero (true ∷ here) = refl
@@ -49,34 +50,17 @@ module _ (settings : DecodeSettings) where
   -- the gap before a line is nothing
   gap_at_line : (rows : List Row) (here : Bits) → IsLineStart here → limit_met settings (length rows) ≡ false
       → pass_gap settings (between rows here) ≡ Turn.next (between rows here)
-  gap_at_line rows here start open_limit =
-      let run : Progress = between rows here in
-      let over : is_over settings (length rows) (0, here) ≡ false
-      = or_from _ _ (or_from _ _ (and_right settings.end_of_block (leb (eols_of_end settings.encoding) 0) (few_eols settings.encoding 0 (omega arith))) open_limit) start.open_end in
-      gap_unsought settings run refl ∙ ap (unless_over settings run) (no_eols settings here start.no_eol)
-      ∙ cond-false (is_over settings (length rows) (0, here)) (ends_with run (Ok here)) (Turn.next run) over
+  gap_at_line rows here start open_limit = grind (arith, common_steps)
 
   -- the limit ends the reading
   pub gap_at_limit : (rows : List Row) (here : Bits) → limit_met settings (length rows) ≡ true
       → pass_gap settings (between rows here) ≡ Turn.done (ended rows (eols_here settings here).1)
-  gap_at_limit rows here met =
-      let run : Progress = between rows here in
-      let found : ℕ × Bits = eols_here settings here in
-      let over : is_over settings (length rows) found ≡ true = or_left _ _ (or_right _ _ met) in
-      gap_unsought settings run refl
-      ∙ cond-true (is_over settings (length rows) found) (ends_with run (Ok found.1)) (Turn.next (record run { rest = found.1 })) over
+  gap_at_limit rows here met = grind (arith, common_steps)
 
   -- so does EOFB
   pub gap_at_eofb : (run : Progress) (rest : Bits) → run.has_eols ≡ false → settings.encoding ≡ Group4 → settings.end_of_block ≡ true
       → eols 2 run.rest ≡ (2, rest) → pass_gap settings run ≡ ends_with run (Ok rest)
-  gap_at_eofb run rest unsought four block two =
-      let found : eols_here settings run.rest ≡ (2, rest)
-      = ap (λ (e : EncodingMode). eols_by e settings.end_of_block run.rest) four ∙ ap (λ (b : Bool). eols_by Group4 b run.rest) block ∙ two in
-      let enough : leb (eols_of_end settings.encoding) 2 ≡ true = ap (λ (e : EncodingMode). leb (eols_of_end e) 2) four in
-      let over : is_over settings (length run.rows) (2, rest) ≡ true
-      = or_left _ _ (or_left _ _ (and_from settings.end_of_block (leb (eols_of_end settings.encoding) 2) block enough)) in
-      gap_unsought settings run unsought ∙ ap (unless_over settings run) found
-      ∙ cond-true (is_over settings (length run.rows) (2, rest)) (ends_with run (Ok rest)) (Turn.next (record run { rest = rest })) over
+  gap_at_eofb run rest unsought four block two = grind (arith, common_steps)
 
 -- ---- Lines
 
@@ -112,7 +96,7 @@ module _ (settings : DecodeSettings) (wide : 0 < settings.columns) (small : sett
       ∙ ap (λ (x : Bits). Turn.next (between (rows ++ row ∷ []) x)) (aligned_again b line tail whole)
 
   module _ (encoding : EncodingMode) (same : settings.encoding ≡ encoding) where
-    -- from a line's start at a whole byte, where lines are aligned, the lines are read and what follows is left
+    -- from a line's start, at a whole byte if lines are aligned, the lines are read and what follows is left
     pub body_again : (before rows : List Row) (body more : Bits) → Allows settings (length before + length rows)
         → length (row_before settings.columns before) ≡ settings.columns → All (λ row. length row ≡ settings.columns) rows
         → (b ≡ true → length (body ++ more) % 8 ≡ 0) → EncodesRows encoding b (row_before settings.columns before) rows body
@@ -156,7 +140,7 @@ module _ (settings : DecodeSettings) (wide : 0 < settings.columns) (small : sett
           (body_again [] rows body more (allows_sum settings (length rows) allows) (length-replicate settings.columns false) is.1 whole lines)
           (gap_at_limit settings rows more met)
 
-      -- they begin where no EOL stands
+      -- they begin where there is no EOL
       pub body_starts : IsLineStart (body ++ more)
       body_starts = by rows some is.1 lines
         where

@@ -25,17 +25,14 @@ use Rattle.hayro_ccitt.proofs.BitReading.ZerosInWords.{modes_free}
 use Rattle.hayro_ccitt.proofs.DrawingLines.ReadLines.{drawn2}
 use Rattle.hayro_ccitt.proofs.EncodedPictures.EncodedRuns.{run_spelled, read_as, paint_fits, draws}
 use Rattle.hayro_ccitt.proofs.PixelRows.ChangePlaces.{a1_next, a2_next, a2_least, b2_above, b1_right, b2_right, before_same, pixels_same, at_change, take_painted}
+use Rattle.std.proofs.lemmas.Grind.{common_steps}
 
 -- a mode that is read is drawn
 pub mode_drawn : (strict : Bool) (columns : ℕ) (reference front : Row) (color : Color) (mode : Mode) (word rest here : Bits) → length front < columns
     → Has mode_codes mode word → here ≡ word ++ rest
     → step_2d strict columns reference (record { front = front; color = color; rest = here }) ≡ mode_step strict columns reference
     (record { front = front; color = color; rest = rest }) mode
-mode_drawn strict columns reference front color mode word rest here open_end has is =
-    let read : read_code mode_codes here ≡ Ok (mode, rest) = ap (read_code mode_codes) is ∙ read_code_again mode_codes mode word rest modes_free has in
-    let pen : Pen = record { front = front; color = color; rest = here } in
-    rw (lt-leb columns (length front) open_end)
-    (ap (λ (r : Result (Mode × Bits) DecodeError). try front r (λ mode. mode_step strict columns reference (record pen { rest = mode.1 }) mode.0)) read)
+mode_drawn strict columns reference front color mode word rest here open_end has is = grind (arith, common_steps)
 
 place_fits : (painted p : ℕ) → painted ≤ p → p ≤ 4294967295 → place_from painted (pos p) ≡ Ok p
 place_fits painted p le small = rw (le-leb painted p le, le-leb p 4294967295 small) refl
@@ -45,24 +42,14 @@ pub pass_drawn : (strict : Bool) (columns : ℕ) (reference front : Row) (color 
     → b2 reference (right_of front) color ≡ to → length front ≤ to → to ≤ columns
     → mode_step strict columns reference (record { front = front; color = color; rest = rest }) Pass ≡ Turn.next
     (record { front = front ++ replicate (to - length front) (is_black color); color = color; rest = rest })
-pass_drawn strict columns reference front color rest to is le fits =
-    ap (λ (n : ℕ). try front (paint strict columns front color (n - length front))
-    (λ drawn. Turn.next (record { front = drawn; color = color; rest = rest }))) is
-    ∙ ap (λ (r : Result Row DecodeError). try front r (λ drawn. Turn.next (record { front = drawn; color = color; rest = rest })))
-    (paint_fits strict columns front color (to - length front) (omega arith))
+pass_drawn strict columns reference front color rest to is le fits = grind (arith, common_steps)
 
 -- a vertical mode paints up to a1 and turns the colour
 pub vertical_drawn : (strict : Bool) (columns : ℕ) (reference front : Row) (color : Color) (rest : Bits) (k : ℤ) (to : ℕ)
     → pos (b1 reference (right_of front) color) +ℤ k ≡ pos to → length front ≤ to → to ≤ columns → columns ≤ 4294967295
     → mode_step strict columns reference (record { front = front; color = color; rest = rest }) (Vertical k) ≡ Turn.next
     (record { front = front ++ replicate (to - length front) (is_black color); color = opposite color; rest = rest })
-vertical_drawn strict columns reference front color rest k to is le fits small =
-    let paints : ℕ → Step = λ place. try front (paint strict columns front color (place - length front))
-    (λ drawn. Turn.next (record { front = drawn; color = opposite color; rest = rest })) in
-    ap (λ (z : ℤ). try front (place_from (length front) z) paints) is
-    ∙ ap (λ (r : Result ℕ DecodeError). try front r paints) (place_fits (length front) to le (omega arith))
-    ∙ ap (λ (r : Result Row DecodeError). try front r (λ drawn. Turn.next (record { front = drawn; color = opposite color; rest = rest })))
-    (paint_fits strict columns front color (to - length front) (omega arith))
+vertical_drawn strict columns reference front color rest k to is le fits small = grind (arith, common_steps)
 
 twice : (color : Color) → opposite (opposite color) ≡ color
 twice White = refl
@@ -92,7 +79,7 @@ pub record IsAt (row front : Row) (from : ℕ) (color : Color) : Type 0 where
 length_at : (row front : Row) (from : ℕ) (color : Color) → from ≤ length row + 1 → IsAt row front from color → length front ≡ from - 1
 length_at row front from color le at = ap length at.painted ∙ length-take-le (from - 1) row (omega arith)
 
--- painting up to a place before which there is no change
+-- painting up to a position before which there is no change
 painted_to : (row front : Row) (from p : ℕ) (color : Color) → IsAt row front from color → from ≤ length row → from ≤ p → p ≤ length row
     → ((q : ℕ) → from ≤ q → q < p → is_change row q ≡ false)
     → front ++ replicate (p - length front) (is_black color) ≡ take p row
@@ -125,10 +112,7 @@ pub line_2d_from : (strict : Bool) (columns : ℕ) (reference row front : Row) (
     → IsAt row front from color
     → drawn_by (step_2d strict columns reference) (record { front = front; color = color; rest = bits ++ more }) ≡ Line.whole row more
 line_2d_from strict columns reference row front from color bits more EncodesLine2D.over wide small ref_len row_len at =
-    let whole : front ≡ row = at.painted ∙ ap (λ (n : ℕ). take n row) (let e : suc (length row) - 1 ≡ length row = omega arith in e)
-    ∙ take_all (length row) row (omega arith) in
-    let is_full : columns ≤ length front = omega (arith, ap length whole, row_len) in
-    drawn2 strict columns reference _ ∙ rw (le-leb columns (length front) is_full, whole) refl
+    grind (arith, common_steps)
 line_2d_from strict columns reference row front from color bits more
     (EncodesLine2D.pass from2 word {bits = next} inside has left_of steps) wide small ref_len row_len at =
     let len = length_at row front from color (omega arith) at in

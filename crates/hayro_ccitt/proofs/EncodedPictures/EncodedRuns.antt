@@ -18,6 +18,7 @@ use Rattle.hayro_ccitt.proofs.CodeWords.ReadCodes.{read_code_again}
 use Rattle.hayro_ccitt.proofs.CodeWords.ReadRuns.{run_ends, run_goes_on}
 use Rattle.hayro_ccitt.proofs.DrawingLines.ReadLines.{drawn1}
 use Rattle.hayro_ccitt.proofs.BitReading.ZerosInWords.{codes_free}
+use Rattle.std.proofs.lemmas.Grind.{common_steps}
 
 -- the words that spell a run are read as that run
 pub run_spelled : (color : Color) (n : ℕ) (bits : Bits) (total : ℕ) (more : Bits) → Spells color n bits → total + n ≤ 4294967295
@@ -38,27 +39,19 @@ read_as rest n = Ok (n, rest)
 -- pixels that fit are painted
 pub paint_fits : (strict : Bool) (columns : ℕ) (front : Row) (color : Color) (n : ℕ) → length front + n ≤ columns
     → paint strict columns front color n ≡ Ok (front ++ replicate n (is_black color))
-paint_fits strict columns front color n le =
-    let fits : n ≤ columns - length front = omega arith in
-    let least : min n (columns - length front) ≡ n = omega arith in
-    rw (le-ltb (columns - length front) n fits, and_right strict false refl, least) refl
+paint_fits strict columns front color n le = grind (arith, common_steps)
 
 -- a run that is read and fits is drawn
 pub draws : (strict : Bool) (columns : ℕ) (front : Row) (color : Color) (here : Bits) (n : ℕ) (rest : Bits) (painted : Row) (f : Pen → Step)
     → run_from color (0, here) ≡ Ok (n, rest) → paint strict columns front color n ≡ Ok painted
     → run_then strict columns (record { front = front; color = color; rest = here }) f ≡ f (record { front = painted; color = opposite color; rest = rest })
-draws strict columns front color here n rest painted f read paints =
-    ap (λ (r : Result (ℕ × Bits) DecodeError). try front r
-    (λ run. try front (paint strict columns front color run.0) (λ drawn. f (record { front = drawn; color = opposite color; rest = run.1 })))) read
-    ∙ ap (λ (r : Result Row DecodeError). try front r (λ drawn. f (record { front = drawn; color = opposite color; rest = rest }))) paints
+draws strict columns front color here n rest painted f read paints = grind (arith, common_steps)
 
 -- a one-dimensional line is read as its row
 pub line_1d_again : (strict : Bool) (columns : ℕ) (front row : Row) (color : Color) (bits more : Bits) → EncodesLine1D color row bits
     → columns ≤ 4294967295 → length front + length row ≡ columns
     → drawn_by (step_1d strict columns) (record { front = front; color = color; rest = bits ++ more }) ≡ Line.whole (front ++ row) more
-line_1d_again strict columns front row color bits more EncodesLine1D.over le full =
-    let is_full : columns ≤ length front = omega arith in
-    drawn1 strict columns _ ∙ rw (le-leb columns (length front) is_full, append-nil front) refl
+line_1d_again strict columns front row color bits more EncodesLine1D.over le full = grind (arith, common_steps)
 line_1d_again strict columns front row color bits more (EncodesLine1D.run n word {row = others} {bits = next} spells some maximal rest) le full =
     let len : length (replicate n (is_black color) ++ others) ≡ n + length others = length-append (replicate n (is_black color)) others
     ∙ ap (λ (k : ℕ). k + length others) (length-replicate n (is_black color)) in

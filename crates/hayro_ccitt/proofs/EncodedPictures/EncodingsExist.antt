@@ -218,7 +218,7 @@ low_bits_value (bit ∷ bits) =
     let rest : low_bits n (digit bit * 2 ^ n + value bits) ≡ bits = low_bits_of_low n (digit bit) n (value bits) (omega arith) ∙ low_bits_value bits in
     cc
 
--- the first bits, so many of them
+-- the first n of them
 cut : (n : ℕ) (bits : Bits) → n ≤ length bits → (front rest : Bits) × (bits ≡ front ++ rest) × (length front ≡ n)
 cut zero bits le = ([], bits, refl, refl)
 cut (suc n) [] le = absurd (omega arith)

@@ -33,6 +33,7 @@ use Rattle.hayro_ccitt.proofs.EncodedPictures.EncodedLines.{line_2d_again}
 use Rattle.hayro_ccitt.proofs.EncodedPictures.PictureLines.{closed_settings, misses_eol, missed, goes_on, IsLineStart, not_met, row_before_push, plain_ends}
 use Rattle.hayro_ccitt.proofs.Readings.GapsAndRows.{first_gap_t4, ending_t4}
 use Rattle.hayro_ccitt.proofs.Readings.RowsAndGaps.{unless_over, after_row, seek_eol, after_whole-is}
+use Rattle.std.proofs.lemmas.Grind.{common_steps}
 
 -- ---- What a line begins with.
 codes_miss : (color : Color) → each_word (misses_eol 0) (codes_of color) ≡ true
@@ -65,24 +66,19 @@ line_2d_after_tag reference row from color bits more (EncodesLine2D.vertical fro
     ap (after_eol 1) (append_assoc word next more) ∙ missed 1 word (next ++ more) (each_word_at (misses_eol 1) mode_codes _ word modes_miss_one has)
 line_2d_after_tag reference row from color bits more
     (EncodesLine2D.horizontal from2 word {first = run1} {second = run2} {bits = next} inside has one two steps) le =
-    ap (after_eol 1) (append_assoc word (run1 ++ (run2 ++ next)) more)
-    ∙ missed 1 word ((run1 ++ (run2 ++ next)) ++ more) (each_word_at (misses_eol 1) mode_codes _ word modes_miss_one has)
+    grind (arith, common_steps)
 
--- where a line of T.4 begins: no EOL stands there, nor behind a tag
+-- where a line of T.4 begins: there is no EOL there, nor after a tag
 record IsTagStart (here : Bits) : Type 0 where
   start : IsLineStart here
   no_tag : past_tag here ≡ here
 
--- ---- EOLs that stand.
+-- ---- EOLs that are there.
 eol_stands : (fill : ℕ) (more : Bits) → after_eol 0 (eol fill ++ more) ≡ Some more
 eol_stands fill more = ap (after_eol 0) (append_assoc (replicate (11 + fill) false) (true ∷ []) more) ∙ eol_of 0 (11 + fill) more (omega arith)
 
 length-eol : (fill : ℕ) (more : Bits) → length (eol fill ++ more) ≡ suc (11 + fill + length more)
-length-eol fill more =
-    let a = length-append (eol fill) more in
-    let b = length-append (replicate (11 + fill) false) (true ∷ []) in
-    let c = length-replicate (11 + fill) false in
-    omega (arith, a, b, c)
+length-eol fill more = grind (arith, common_steps)
 
 eols_more : (most fill : ℕ) (more : Bits) → eols (suc most) (eol fill ++ more) ≡ one_more (eols most more)
 eols_more most fill more = rw (eol_stands fill more, eols) refl
@@ -146,13 +142,12 @@ length-closing encoding (suc n) closing more (fill, next, then, is) =
 
 -- the first of them, and its tag
 tag_after : (fill : ℕ) (closing next more : Bits) → closing ≡ eol fill ++ tag_of Group3_2D ++ next → closing ++ more ≡ eol fill ++ (true ∷ (next ++ more))
-tag_after fill closing next more is = ap (λ (x : Bits). x ++ more) is ∙ append_assoc (eol fill ++ (true ∷ [])) next more
-    ∙ append_assoc (eol fill) (true ∷ []) (next ++ more)
+tag_after fill closing next more is = grind (arith, common_steps)
 
 tag_one : (fill : ℕ) (more : Bits) → past_tag (true ∷ (eol fill ++ more)) ≡ eol fill ++ more
 tag_one fill more = rw (eol_stands fill more, past_tag) refl
 
--- a tag before EOLs is passed
+-- a tag before EOLs is consumed
 tagged_eols_behind : (n most : ℕ) (closing more : Bits) → ClosesWithEols Group3_2D n closing → n ≤ (eols_with_tags most (closing ++ more)).0
     → n ≤ (eols_with_tags most (past_tag (true ∷ (closing ++ more)))).0
 tagged_eols_behind zero most closing more is le = omega arith
@@ -188,12 +183,7 @@ Matches Group3_2D settings = settings.encoding ≡ Group3_2D
 
 -- settings for T.4 are for their own encoding
 pub matches_itself : (settings : DecodeSettings) → settings.encoding ≢ Group4 → Matches settings.encoding settings
-matches_itself settings three = by settings.encoding refl
-  where
-    by : (encoding : EncodingMode) → settings.encoding ≡ encoding → Matches encoding settings
-    by Group4 e = absurd (three e)
-    by Group3_1D e = e
-    by Group3_2D e = e
+matches_itself settings three = grind (arith, common_steps)
 
 -- and so are not for Group 4
 matches_t4 : (settings : DecodeSettings) (encoding : EncodingMode) → Matches encoding settings → settings.encoding ≢ Group4
@@ -229,7 +219,7 @@ module _ (settings : DecodeSettings) (wide : 0 < settings.columns) (small : sett
       ap (λ (x : Bits). line_here settings reference (x ++ more)) is.0 ∙ tagged_line settings reference false (rest ++ more) matches
       ∙ line_2d_again settings.strict settings.columns reference row rest more is.1 wide small ref_len row_len
 
-  -- where it begins no EOL stands
+  -- where it begins there is no EOL
   pub line_t4_starts : (encoding : EncodingMode) (reference row : Row) (line more : Bits) → Matches encoding settings → EncodesLine encoding reference row line
       → length row ≡ settings.columns → IsLineStart (line ++ more)
   line_t4_starts Group4 reference row line more matches is row_len = absurd matches
@@ -260,16 +250,10 @@ module _ (settings : DecodeSettings) (wide : 0 < settings.columns) (small : sett
   abbrev with_eols : List Row → Bits → Progress
   with_eols rows rest = record { rows = rows; has_eols = true; rest = rest }
 
-  -- where EOLs came after a row they are passed
+  -- EOLs that came after a row are consumed
   counted_row : (rows : List Row) (here : Bits) (found : ℕ × Bits) → eols_here settings here ≡ found → 0 < found.0
       → after_row settings (with_eols rows here) ≡ unless_over settings (with_eols rows here) found
-  counted_row rows here found is some =
-      let none : eqb (eols_here settings here).0 0 ≡ false = rw is (ne_eqb found.0 0 (λ z. absurd (omega arith))) in
-      let test : ((eqb (eols_here settings here).0 0) && true && not (limit_met settings (length rows)) && not (at_end here)) ≡ false
-      = and_left _ _ (and_left _ _ (and_left _ _ none)) in
-      cond-false ((eqb (eols_here settings here).0 0) && true && not (limit_met settings (length rows)) && not (at_end here))
-      (seek_eol settings (with_eols rows here)) (unless_over settings (with_eols rows here) (eols_here settings here)) test
-      ∙ ap (unless_over settings (with_eols rows here)) is
+  counted_row rows here found is some = grind (arith, common_steps)
 
   -- one row is added
   row_added : (before : List Row) (row : Row) (here tail : Bits)
@@ -328,26 +312,12 @@ module _ (settings : DecodeSettings) (wide : 0 < settings.columns) (small : sett
   -- six EOLs end it
   six_stop : (rows : List Row) (here : Bits) → settings.end_of_block ≡ true → 6 ≤ (eols_here settings here).0
       → after_row settings (with_eols rows here) ≡ Turn.done (ends_well rows (eols_here settings here).1)
-  six_stop rows here block six =
-      let found : ℕ × Bits = eols_here settings here in
-      let over : ((settings.end_of_block && (leb (eols_of_end settings.encoding) found.0)) || limit_met settings (length rows) || at_end found.1) ≡ true
-      = or_left _ _ (or_left _ _ (and_from settings.end_of_block (leb (eols_of_end settings.encoding) found.0) block (many_eols settings.encoding found.0 six))) in
-      counted_row rows here found refl (omega (arith, six))
-      ∙ cond-true ((settings.end_of_block && (leb (eols_of_end settings.encoding) found.0)) || limit_met settings (length rows) || at_end found.1)
-      (ends_with (with_eols rows here) (Ok found.1)) (Turn.next (with_eols rows found.1)) over
+  six_stop rows here block six = grind (arith, common_steps)
 
   -- and so does the limit
   limit_stops : (rows : List Row) (here : Bits) → limit_met settings (length rows) ≡ true
       → after_row settings (with_eols rows here) ≡ Turn.done (ends_well rows (eols_here settings here).1)
-  limit_stops rows here met =
-      let found : ℕ × Bits = eols_here settings here in
-      let test : ((eqb found.0 0) && true && not (limit_met settings (length rows)) && not (at_end here)) ≡ false
-      = and_left _ _ (and_right _ _ (not_from_true (limit_met settings (length rows)) met)) in
-      let over : ((settings.end_of_block && (leb (eols_of_end settings.encoding) found.0)) || limit_met settings (length rows) || at_end found.1) ≡ true = or_left _ _ (or_right _ _ met) in
-      cond-false ((eqb found.0 0) && true && not (limit_met settings (length rows)) && not (at_end here)) (seek_eol settings (with_eols rows here))
-      (unless_over settings (with_eols rows here) found) test
-      ∙ cond-true ((settings.end_of_block && (leb (eols_of_end settings.encoding) found.0)) || limit_met settings (length rows) || at_end found.1)
-      (ends_with (with_eols rows here) (Ok found.1)) (Turn.next (with_eols rows found.1)) over
+  limit_stops rows here met = grind (arith, common_steps)
 
   -- data of Group 3 are read as such
   pub end_of_three : (encoding : EncodingMode) (bits : Bits) → Matches encoding settings → end_of settings bits ≡ ending_t4 settings bits
@@ -425,7 +395,7 @@ limited_picture_t4 settings rows bits stream are begins =
     let e = plain_ends settings stream (ends_well rows found) found wide (ap (end_of settings) begins.begins.1 ∙ ends) refl in
     (ap (λ (a : Reading). a.rows) e, rw e refl)
 
--- ---- One beginning, one picture.
+-- ---- One prefix, one picture.
 one_picture_at : (settings : DecodeSettings) (encoding : EncodingMode) (rows others : List Row) (bits more : Bits) → settings.columns ≤ 4294967295
     → Matches encoding settings → settings.end_of_block ≡ true → settings.rows ≡ 0
     → PictureT4 encoding settings.columns rows bits → PictureT4 encoding settings.columns others (bits ++ more) → rows ≡ others

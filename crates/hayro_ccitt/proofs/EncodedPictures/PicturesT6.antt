@@ -15,7 +15,7 @@ use Rattle.hayro_ccitt.proofs.Readings.GapsAndRows.{t6_end}
 use Rattle.hayro_ccitt.proofs.EncodedPictures.Bodies.{gap_at_eofb, body_again, body_end}
 use Rattle.hayro_ccitt.proofs.EncodedPictures.PictureLines.{closed_settings, allows_sum, between, ended, eofb_stands, plain_ends}
 
--- A T.6 picture, closed by EOFB: the run comes to its end with its rows.
+-- A T.6 picture, closed by EOFB: the run reaches its end with its rows.
 pub picture_t6_reaches : (settings : DecodeSettings) (rows : List Row) (bits more : Bits) → settings.encoding ≡ Group4 → settings.columns ≤ 4294967295 → Allows settings (length rows)
     → (settings.rows_are_byte_aligned ≡ true → length (bits ++ more) % 8 ≡ 0) → PictureT6 settings.columns settings.rows_are_byte_aligned rows bits
     → Reaches (gap_and_row settings) (between [] (bits ++ more)) (between rows (eol 0 ++ (eol 0 ++ more)))
@@ -69,12 +69,12 @@ limited_rows_t6 settings rows bits stream are all begins =
     let e = plain_ends settings stream (ended rows found) found begins.picture.0 (ap (end_of settings) begins.begins.1 ∙ ends) refl in
     (ap (λ (a : Reading). a.rows) e, rw e refl)
 
--- a picture comes to its EOFB
+-- a picture reaches its EOFB
 pub pictures_come_to_eofb : PicturesComeToEofb
 pictures_come_to_eofb settings rows bits more are whole limit picture =
     picture_t6_comes settings rows bits more (omega (arith, are.columns)) limit (λ e. whole) picture
 
--- ---- One beginning, one picture.
+-- ---- One prefix, one picture.
 pub one_picture_t6 : OnePictureT6
 one_picture_t6 columns aligned rows others bits more small one two =
     let settings : DecodeSettings = closed_settings Group4 columns aligned in

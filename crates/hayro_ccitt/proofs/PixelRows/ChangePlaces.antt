@@ -1,4 +1,4 @@
--- The places b1, b2, a1 and a2, and the pixels between changes.
+-- The positions b1, b2, a1 and a2, and the pixels between changes.
 use Rattle.std.proofs.Common.{◌≡◌, ℕ, zero, suc, ◌+◌, ◌-◌, ◌<◌, ◌≤◌, Bool, true, false, cond, not, ◌&&◌, ltb, leb, [], ◌∷◌, ◌++◌, length, take}
 use Rattle.std.proofs.Common.{replicate, Option, Some, refl, sym, ap, ◌∙◌, arith, inl, inr}
 use mathlib.Core.Bool.{beq}
@@ -8,8 +8,9 @@ use Rattle.std.proofs.lemmas.Bool.{ltb-true, leb-true, lt-ltb, le-leb, and_parts
 use Rattle.hayro_ccitt.specs.declared.codes.Color.{Color}
 use Rattle.hayro_ccitt.specs.declared.codes.Color.TheVariants.{White, Black}
 use Rattle.hayro_ccitt.specs.Rows.{Row, is_black, opposite, pixel, pixel_before, is_change, least_below, right_of, b1, b2, a1, a2}
+use Rattle.std.proofs.lemmas.Grind.{common_steps}
 
--- the least place from a start on that passes a test, or the bound
+-- the least position from a start on that passes a test, or the bound
 pub record IsLeast (from bound : ℕ) (test : ℕ → Bool) (p : ℕ) : Type 0 where
   pub above : from ≤ p
   pub within : p ≤ bound
@@ -19,40 +20,20 @@ pub record IsLeast (from bound : ℕ) (test : ℕ → Bool) (p : ℕ) : Type 0 w
 first_step : (test : ℕ → Bool) (from bound : ℕ) (t : Bool) (rest : Option ℕ) → test from ≡ t → from < bound
     → IsLeast (from + 1) bound test (unwrap_or rest bound) → IsLeast from bound test (unwrap_or (cond t (Some from) rest) bound)
 first_step test from bound true rest e lt least = record { above = omega arith; within = omega arith; before = λ q le l. absurd (omega arith); there = λ l. e }
-first_step test from bound false rest e lt least =
-    let above : from + 1 ≤ unwrap_or rest bound = least.above in
-    record {
-      above = omega arith;
-      within = least.within;
-      before = λ q le l. elim (cases_eq q from) [ inl same ↦ rw same e | inr other ↦ least.before q (omega arith) l ];
-      there = least.there;
-    }
+first_step test from bound false rest e lt least = grind (arith, common_steps)
 
 first : (test : ℕ → Bool) (from n bound : ℕ) → from + n ≡ bound → IsLeast from bound test (unwrap_or (find test (range_with_len from n)) bound)
 first test from zero bound e = record { above = omega arith; within = omega arith; before = λ q le l. absurd (omega arith); there = λ l. absurd (omega arith) }
 first test from (suc n) bound e = first_step test from bound (test from) (find test (range_with_len (from + 1) n)) refl (omega arith)
     (first test (from + 1) n bound (omega arith))
 
--- the search finds the least place
+-- the search finds the least position
 pub is_least : (bound : ℕ) (test : ℕ → Bool) → IsLeast 0 bound test (least_below bound test)
 is_least bound test = first test 0 bound bound (omega arith)
 
--- two tests that agree have one least place
+-- two tests that agree have one least position
 pub least_same : (bound : ℕ) (f g : ℕ → Bool) → ((p : ℕ) → f p ≡ g p) → least_below bound f ≡ least_below bound g
-least_same bound f g same =
-    let u = is_least bound f in
-    let v = is_least bound g in
-    let p : ℕ = least_below bound f in
-    let q : ℕ = least_below bound g in
-    let up : p ≤ bound = u.within in
-    let vp : q ≤ bound = v.within in
-    elim (cases_lt p q) [
-      | inl lt ↦ absurd (false≢true (sym (v.before p (omega arith) lt) ∙ sym (same p) ∙ u.there (omega arith)))
-      | inr ge ↦ elim (cases_lt q p) [
-        | inl lt ↦ absurd (false≢true (sym (u.before q (omega arith) lt) ∙ same q ∙ v.there (omega arith)))
-        | inr le ↦ omega arith
-      ]
-    ]
+least_same bound f g same = grind (arith, common_steps)
 
 -- ---- a1 and a2
 pub record IsNext (row : Row) (from p : ℕ) : Type 0 where
@@ -118,15 +99,10 @@ b2_above reference from color lt =
 -- no change of a row at its first pixel is from black
 b1_black : (reference : Row) (p : ℕ) → (leb 0 p && is_change reference p && beq
     (pixel_before reference p) true) ≡ (leb 1 p && is_change reference p && beq (pixel_before reference p) true)
-b1_black reference zero = by (is_change reference 0)
-  where
-    by : (b : Bool) → (b && false) ≡ false
-    by true = refl
-    by false = refl
-b1_black reference (suc p) = let a : leb 0 (suc p) ≡ true = le-leb 0 (suc p) (omega arith) in let b : leb 1 (suc p) ≡ true
-    = le-leb 1 (suc p) (omega arith) in rw (a, b) refl
+b1_black reference zero = grind (arith, common_steps)
+b1_black reference (suc p) = grind (arith, common_steps)
 
--- the pen's place right of a0 serves as well as a0's own
+-- the position right of a0 that the pen has serves as well as a0's own
 pub b1_right : (reference front : Row) (from : ℕ) (color : Color) → length front ≡ from - 1 → (from ≡ 1 → color ≡ Black)
     → b1 reference (right_of front) color ≡ b1 reference from color
 b1_right reference [] zero color len first = refl
@@ -134,11 +110,9 @@ b1_right reference [] (suc zero) color len first =
     let c : color ≡ Black = first refl in
     rw c (least_same (length reference) _ _ (b1_black reference))
 b1_right reference [] (suc (suc from)) color len first = absurd (omega arith)
-b1_right reference (p ∷ front) from color len first =
-    let e : suc (suc (length front)) ≡ from = omega arith in
-    ap (λ (n : ℕ). b1 reference n color) e
+b1_right reference (p ∷ front) from color len first = grind (arith, common_steps)
 
--- b2 of a front, by its place
+-- b2 of a front, by its position
 pub b2_right : (reference front : Row) (from : ℕ) (color : Color) → length front ≡ from - 1 → (from ≡ 1 → color ≡ Black)
     → b2 reference (right_of front) color ≡ b2 reference from color
 b2_right reference front from color len first =

@@ -7,10 +7,11 @@ use Rattle.std.proofs.lemmas.List.{length-replicate, replicate-append-replicate}
 use Rattle.hayro_ccitt.specs.Rows.{Row, pixel, pixel_before, is_change, changes, AscendFrom, AreChanges, pixels_from, pixels, last_pixel}
 use Rattle.hayro_ccitt.specs.Context.{continued}
 use Rattle.hayro_ccitt.proofs.PixelRows.RowChanges.{changes_from, changes_from-append, changes_from-same}
+use Rattle.std.proofs.lemmas.Grind.{common_steps}
 
--- ---- Ascending places.
+-- ---- Ascending positions.
 
--- places that ascend from a place on ascend from any place to its left, and below any larger width
+-- positions that ascend from a position on ascend from any position to its left, and below any larger width
 pub AscendFrom-wider : (low first width wider : ℕ) (places : List ℕ) → low ≤ first → width ≤ wider → AscendFrom first width places → AscendFrom low wider places
 AscendFrom-wider low first width wider [] le below ascend = tt
 AscendFrom-wider low first width wider (place ∷ places) le below ascend =
@@ -18,7 +19,7 @@ AscendFrom-wider low first width wider (place ∷ places) le below ascend =
     let within : place < width = ascend.1 in
     (omega arith, omega arith, AscendFrom-wider (suc place) (suc place) width wider places (omega arith) below ascend.2)
 
--- places that ascend right of a place ascend from it on
+-- positions that ascend right of a position ascend from it on
 AscendFrom-here : (place width : ℕ) (places : List ℕ) → AscendFrom (suc place) width places → AscendFrom place width places
 AscendFrom-here place width places ascend = AscendFrom-wider place (suc place) width width places (omega arith) (omega arith) ascend
 
@@ -26,11 +27,11 @@ AscendFrom-here place width places ascend = AscendFrom-wider place (suc place) w
 pub AreChanges-wider : (width wider : ℕ) (places : List ℕ) → width ≤ wider → AreChanges width places → AreChanges wider places
 AreChanges-wider width wider places below ascend = AscendFrom-wider 0 0 width wider places (omega arith) below ascend
 
--- a sink that is as wide as the row takes the changes of a front
+-- a sink that is as wide as the row accepts the changes of a front
 pub front_fits : (painted columns width : ℕ) (places : List ℕ) → painted ≤ columns → columns ≤ width → AreChanges painted places → AreChanges width places
 front_fits painted columns width places within wide ascend = AreChanges-wider painted width places (omega arith) ascend
 
--- one place more, at the old width
+-- one position more, at the old width
 pub AscendFrom-push : (first width more : ℕ) (places : List ℕ) → first ≤ width → 0 < more → AscendFrom first width places
     → AscendFrom first (width + more) (places ++ width ∷ [])
 AscendFrom-push first width more [] le some ascend = (le, omega arith, tt)
@@ -39,9 +40,9 @@ AscendFrom-push first width more (place ∷ places) le some ascend =
     let within : place < width = ascend.1 in
     (from, omega arith, AscendFrom-push (suc place) width more places (omega arith) some ascend.2)
 
--- ---- Pixels between places.
+-- ---- Pixels between positions.
 
--- a row that goes on past its first place begins with a pixel of the colour
+-- a row that continues past its first position begins with a pixel of the colour
 pub pixels_from-first : (place : ℕ) (color : Bool) (width : ℕ) (places : List ℕ) → place < width → AscendFrom (suc place) width places
     → pixels_from place color width places ≡ color ∷ pixels_from (suc place) color width places
 pixels_from-first place color width [] lt ascend = let e : width - place ≡ suc (width - suc place) = omega arith in rw e refl
@@ -50,7 +51,7 @@ pixels_from-first place color width (change ∷ places) lt ascend =
     let e : change - place ≡ suc (change - suc place) = omega arith in
     rw e refl
 
--- the pixels from a place on reach up to the width
+-- the pixels from a position on reach up to the width
 pub length-pixels_from : (place : ℕ) (color : Bool) (width : ℕ) (places : List ℕ) → place ≤ width → AscendFrom place width places
     → place + length (pixels_from place color width places) ≡ width
 length-pixels_from place color width [] le ascend = omega (arith, length-replicate (width - place) color)
@@ -83,10 +84,7 @@ turned color (place ∷ places) = turned (not color) places
 
 -- one more number is even where the number is odd
 eqb-suc_even : (n : ℕ) → eqb (suc n % 2) 0 ≡ not (eqb (n % 2) 0)
-eqb-suc_even n = elim (cases_eq (n % 2) 0) [
-  | inl even ↦ let one : suc n % 2 ≡ 1 = omega arith in rw (even, one) refl
-  | inr odd ↦ let none : suc n % 2 ≡ 0 = omega arith in let one : n % 2 ≡ 1 = omega arith in rw (none, one) refl
-]
+eqb-suc_even n = grind (arith, common_steps)
 
 -- comparing the other colour is the other comparison
 beq-not : (a b color : Bool) → b ≡ not a → beq a (not color) ≡ beq b color
@@ -130,7 +128,7 @@ last_pixel-odd width places ascend = last_pixel-pixels width places ascend ∙ t
 
 -- ---- Painting.
 
--- a wider row goes on in its last colour
+-- a wider row continues in its last colour
 pub pixels_from-wider : (place : ℕ) (color : Bool) (width more : ℕ) (places : List ℕ) → place ≤ width → AscendFrom place width places
     → pixels_from place color (width + more) places ≡ pixels_from place color width places ++ replicate more (turned color places)
 pixels_from-wider place color width more [] le ascend =
@@ -142,7 +140,7 @@ pixels_from-wider place color width more (change ∷ places) le ascend =
     let rest = pixels_from-wider change (not color) width more places (omega arith) (AscendFrom-here change width places ascend.2) in
     rw rest (sym (append_assoc (replicate (change - place) color) _ _))
 
--- the same where the last change may stand at the width
+-- the same if the last change may equal the width
 pub pixels_from-on : (place : ℕ) (color : Bool) (width more : ℕ) (places : List ℕ) → place ≤ width → AscendFrom place (suc width) places
     → pixels_from place color (width + more) places ≡ pixels_from place color width places ++ replicate more (turned color places)
 pixels_from-on place color width more [] le ascend =
@@ -159,7 +157,7 @@ pub pixels-same : (width more : ℕ) (places : List ℕ) → AreChanges width pl
     → pixels (width + more) places ≡ pixels width places ++ replicate more (last_pixel false (pixels width places))
 pixels-same width more places ascend = rw (last_pixel-pixels width places ascend) (pixels_from-wider 0 false width more places (omega arith) ascend)
 
--- one change more at the end of a row goes on in the other colour
+-- one change more at the end of a row continues in the other colour
 pub pixels_from-push : (place : ℕ) (color : Bool) (width more : ℕ) (places : List ℕ)
     → pixels_from place color (width + more) (places ++ width ∷ []) ≡ pixels_from place color width places ++ replicate more (not (turned color places))
 pixels_from-push place color width more [] = let e : width + more - width ≡ more = omega arith in rw e refl
@@ -182,7 +180,7 @@ pixel-next : (front : Row) (pixel_here : Bool) (row : Row) → pixel (front ++ p
 pixel-next [] here row = refl
 pixel-next (x ∷ front) here row = pixel-next front here row
 
--- what stands left of the pixel after a front
+-- what is left of the pixel after a front
 pixel_before-next : (before : Bool) (front row : Row) (place : ℕ) → place ≡ length front → get_or (before ∷ front ++ row) place false ≡ last_pixel before front
 pixel_before-next before [] row place e = rw e refl
 pixel_before-next before (x ∷ front) row place e = rw e (pixel_before-next x front row (length front) refl)
@@ -198,14 +196,10 @@ is_change-next front here row =
     let before = pixel_before-next false front (here ∷ row) (length front) refl in
     rw (pixel_before-shift (front ++ here ∷ row) (length front), before, pixel-next front here row) refl
 
--- a place is listed where the pixel differs
+-- a position is listed where the pixel differs
 listed : (differs : Bool) (x y : Bool) (place : ℕ) (places others : List ℕ) → differs ≡ not (beq x y) → places ≡ others
     → cond differs (place ∷ places) places ≡ cond (beq x y) others (place ∷ others)
-listed differs x y place places others e same = rw (e, same) (by (beq x y))
-  where
-    by : (b : Bool) → cond (not b) (place ∷ others) others ≡ cond b others (place ∷ others)
-    by true = refl
-    by false = refl
+listed differs x y place places others e same = grind (arith, common_steps)
 
 -- the changes past a front
 changes-rest : (front row : Row)
@@ -225,7 +219,7 @@ changes-recursive row = changes-rest [] row
 
 -- ---- There and back.
 
--- the changes of pixels are the places that they turn at
+-- the changes of pixels are the positions that they turn at
 pub changes_from-pixels_from : (place : ℕ) (color : Bool) (width : ℕ) (places : List ℕ) → AscendFrom place width places
     → changes_from place color (pixels_from place color width places) ≡ places
 changes_from-pixels_from place color width [] ascend = changes_from-same place (width - place) color
@@ -297,7 +291,7 @@ continued-pixels columns width places within ascend =
     let e : columns ≡ width + (columns - width) = omega arith in
     rw (length-pixels width places ascend) (sym (pixels-same width (columns - width) places ascend) ∙ ap (λ (n : ℕ). pixels n places) (sym e))
 
--- so a context hands over the changes that it stored
+-- so a context passes on the changes that it stored
 pub changes-continued : (columns width : ℕ) (places : List ℕ) → width ≤ columns → AreChanges width places
     → changes (continued columns (pixels width places)) ≡ places
 changes-continued columns width places within ascend =

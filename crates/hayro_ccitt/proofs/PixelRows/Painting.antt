@@ -11,17 +11,14 @@ use Rattle.hayro_ccitt.specs.Rows.{AreChanges, pixels, is_black, paint, last_pix
 use Rattle.hayro_ccitt.specs.Context.{Held}
 use Rattle.hayro_ccitt.specs.Answers.{StoresChange}
 use Rattle.hayro_ccitt.proofs.PixelRows.ChangesAndPixels.{length-pixels, last_pixel-odd}
+use Rattle.std.proofs.lemmas.Grind.{common_steps}
 
 -- ---- The last pixel's colour, as the code tests it.
 
 -- a test for even numbers computes to this
 even_is : (even : Bool) (n : ℕ) → (IsTrue even → n % 2 ≡ 0) × (n % 2 ≡ 0 → IsTrue even) → even ≡ eqb (n % 2) 0
 even_is true n test = sym (eq-eqb (n % 2) 0 (test.0 refl))
-even_is false n test = by (eqb (n % 2) 0) refl
-  where
-    by : (b : Bool) → eqb (n % 2) 0 ≡ b → false ≡ b
-    by true e = test.1 (eqb-true (n % 2) 0 e)
-    by false e = refl
+even_is false n test = grind (arith, common_steps)
 
 -- a test for white says whether a pixel of the colour is black
 is_black-not_white : (white : Bool) (color : Color) → (IsTrue white → color ≡ White) × (color ≡ White → IsTrue white) → is_black color ≡ not white
@@ -66,7 +63,7 @@ other_color false false e same = false≢true (sym e)
 
 -- ---- Painting into a row.
 
--- where the row isn't strict, or has room, nothing is a wrong code
+-- if the row isn't strict, or has room, no code is wrong
 pub paint-fits : (strict : Bool) (columns width : ℕ) (places : List ℕ) (color : Color) (n : ℕ) → AreChanges width places
     → (strict ≡ false) ⊎ (n ≤ columns - width)
     → paint strict columns (pixels width places) color n ≡ Ok (pixels width places ++ replicate (min n (columns - width)) (is_black color))
@@ -87,7 +84,4 @@ paint-strict strict columns width places color n ascend is_strict many =
 pub StoresChange-painted : (held : Held) (count more : ℕ)
     → paint held.settings.strict held.settings.columns held.front held.color count ≡ Ok (held.front ++ replicate more (is_black held.color))
     → 0 < more → last_pixel false held.front ≢ is_black held.color → StoresChange held count
-StoresChange-painted held count more painted some differs =
-    let color = is_black held.color in
-    let longer = length-append held.front (replicate more (is_black held.color)) in
-    (held.front ++ replicate more color, painted, omega (arith, longer, length-replicate more (is_black held.color)), differs)
+StoresChange-painted held count more painted some differs = grind (arith, common_steps)

@@ -14,7 +14,7 @@ use Rattle.hayro_ccitt.specs.Context.{right_of_painted, passed_changes}
 use Rattle.hayro_ccitt.proofs.PixelRows.ChangePlaces.{IsLeast, is_least, b2_above}
 use Rattle.hayro_ccitt.proofs.PixelRows.ChangesAndPixels.{length-pixels}
 
--- there is one least place
+-- there is one least position
 least_unique : (bound : ℕ) (test : ℕ → Bool) (p q : ℕ) → IsLeast 0 bound test p → IsLeast 0 bound test q → p ≡ q
 least_unique bound test p q u v =
     let up : p ≤ bound = u.within in
@@ -27,8 +27,8 @@ least_unique bound test p q u v =
       ]
     ]
 
--- ---- The colour after so many changes.
--- a colour that is turned so often
+-- ---- The colour after this number of changes.
+-- a colour that is turned this often
 abbrev pub turned : ℕ → Bool → Bool
 turned zero color = color
 turned (suc n) color = turned n (not color)
@@ -45,14 +45,14 @@ turned_by_parity (suc n) =
     let before = turned_by_parity n in
     (λ e. turned-not n false ∙ ap not (before.1 (omega arith)), λ e. turned-not n false ∙ ap not (before.0 (omega arith)))
 
--- ---- Where a place stands among changes.
--- the first j of the changes, and no other, are left of a place
+-- ---- Where a position is among changes.
+-- the first j of the changes, and no others, are left of a position
 pub record IsSplit (places : List ℕ) (p j : ℕ) : Type 0 where
   pub within : j ≤ length places
   pub before : (k : ℕ) → k < j → get_or places k 0 < p
   pub here : j < length places → p ≤ get_or places j 0
 
--- each place stands somewhere among them
+-- each position is somewhere among them
 split_of : (places : List ℕ) (p : ℕ) → (j : ℕ) × IsSplit places p j
 split_of [] p = (0, record { within = omega arith; before = λ k lt. absurd (omega arith); here = λ lt. absurd (omega arith) })
 split_of (place ∷ places) p = elim (cases_lt place p) [
@@ -69,8 +69,8 @@ split_of (place ∷ places) p = elim (cases_lt place p) [
         earlier zero l = lt
         earlier (suc k) l = split.before k (omega arith)
 
--- ---- Ascending places.
--- ascending places are from the first one on, and below the width
+-- ---- Ascending positions.
+-- ascending positions are from the first one on, and below the width
 ascend_bounds : (first width : ℕ) (places : List ℕ) → AscendFrom first width places
     → (j : ℕ) → j < length places → (first ≤ get_or places j 0) × (get_or places j 0 < width)
 ascend_bounds first width [] ascend j lt = absurd (omega arith)
@@ -87,8 +87,8 @@ ascend_order first width (place ∷ places) ascend j zero lt l = absurd (omega a
 ascend_order first width (place ∷ places) ascend zero (suc k) lt l = omega (arith, (ascend_bounds (suc place) width places ascend.2 k (omega arith)).0)
 ascend_order first width (place ∷ places) ascend (suc j) (suc k) lt l = ascend_order (suc place) width places ascend.2 j k (omega arith) (omega arith)
 
--- ---- The pixels between ascending places.
--- a pixel has the colour that the changes up to it give
+-- ---- The pixels between ascending positions.
+-- a pixel has the colour that follows from the changes up to it
 pixels_from-pixel : (place first : ℕ) (color : Bool) (width : ℕ) (places : List ℕ) (p j : ℕ) → AscendFrom first width places
     → place ≤ first → place ≤ p → p < width → IsSplit places (suc p) j → get_or (pixels_from place color width places) (p - place) false ≡ turned j color
 pixels_from-pixel place first color width [] p zero ascend le lep lt split = get_or-replicate (width - place) (p - place) color false (omega arith)
@@ -151,7 +151,7 @@ module _ (columns : ℕ) (places : List ℕ) (ascend : AreChanges columns places
       let e : p - 0 ≡ p = omega arith in
       ap (λ (n : ℕ). pixel row n) (sym e) ∙ pixels_from-pixel 0 0 false columns places p j ascend (omega arith) (omega arith) lt split
 
-  -- and the pixel before a place by those left of it
+  -- and the pixel before a position by those left of it
   before_is : (p j : ℕ) → p ≤ columns → IsSplit places p j → pixel_before row p ≡ turned j false
   before_is zero zero le split = refl
   before_is zero (suc j) le split = absurd (omega (arith, split.before 0 (omega arith)))
@@ -163,18 +163,18 @@ module _ (columns : ℕ) (places : List ℕ) (ascend : AreChanges columns places
   below : (j : ℕ) → j < length places → get_or places j 0 < columns
   below j lt = (ascend_bounds 0 columns places ascend j lt).1
 
-  -- so many changes are left of each of them
+  -- this many changes are left of each of them
   split_at : (j : ℕ) → j < length places → IsSplit places (get_or places j 0) j
   split_at j lt = record { within = omega arith; before = λ k l. order k j l lt; here = λ l. omega arith }
 
-  -- and one more left of the place right of it
+  -- and one more left of the position right of it
   split_after : (j : ℕ) → j < length places → IsSplit places (suc (get_or places j 0)) (suc j)
   split_after j lt = record { within = omega arith; before = earlier; here = λ l. order j (suc j) (omega arith) l }
     where
       earlier : (k : ℕ) → k < suc j → get_or places k 0 < suc (get_or places j 0)
       earlier k l = elim (cases_eq k j) [ inl same ↦ rw same (omega arith) | inr other ↦ omega (arith, order k j (omega arith) lt) ]
 
-  -- each of the places is a changing element
+  -- each of the positions is a changing element
   change_there : (j : ℕ) → j < length places → is_change row (get_or places j 0) ≡ true
   change_there j lt =
       let p : ℕ = get_or places j 0 in
@@ -183,7 +183,7 @@ module _ (columns : ℕ) (places : List ℕ) (ascend : AreChanges columns places
       let v = pixel_is p (suc j) left (split_after j lt) ∙ turned-not j false in
       rw (u, v) (ap not (other_beq (turned j false)))
 
-  -- no other place is
+  -- no other position is
   change_none : (p j : ℕ) → p < columns → IsSplit places p j → (j < length places → p < get_or places j 0) → is_change row p ≡ false
   change_none p j lt split left =
       let within : j ≤ length places = split.within in
@@ -192,7 +192,7 @@ module _ (columns : ℕ) (places : List ℕ) (ascend : AreChanges columns places
       let v = pixel_is p j lt next in
       rw (u, v) (ap not (same_beq (turned j false)))
 
-  -- a place of the row is no change, or it is one of the places
+  -- a position of the row is no change, or it is one of the positions
   change_or_none : (p j : ℕ) → p < columns → IsSplit places p j → (is_change row p ≡ false) ⊎ ((j < length places) × (get_or places j 0 ≡ p))
   change_or_none p j lt split = elim (cases_lt j (length places)) [
     | inl in_list ↦ elim (cases_eq (get_or places j 0) p) [
@@ -379,7 +379,7 @@ b2_after_b1 columns places from index color ascend e =
     ∙ next_change columns places ascend index
     ∙ ap (λ (n : ℕ). get_or places n columns) (let s : suc index ≡ index + 1 = omega arith in s)
 
--- what a colour and the parity of an index tell
+-- what a colour and the parity of an index say
 black_from_white : (color : Color) (white : Bool) → IsTrue white ↔ (color ≡ White) → is_black color ≡ not white
 black_from_white White true h = refl
 black_from_white White false h = h.1 refl
@@ -436,7 +436,7 @@ b2_from_front reference front color within = elim (cases_lt (b2 reference (right
     right_of_least [] = omega arith
     right_of_least (p ∷ front) = omega arith
 
--- as many changes of ascending ones are at most at a place as stand before the split behind it
+-- as many changes of ascending ones are at most at a position as precede the split after it
 split_count : (first width : ℕ) (places : List ℕ) (p j : ℕ) → AscendFrom first width places → IsSplit places (suc p) j
     → j ≡ length (filter (λ place. leb place p) places)
 split_count first width [] p j ascend split = omega (arith, split.within)

@@ -3,8 +3,8 @@ use Rattle.std.proofs.Common.{◌≡◌, ℕ, zero, suc, ◌+◌, Bool, true, fa
 use mathlib.Core.Bool.{beq}
 use Rattle.hayro_ccitt.specs.Rows.{Row, last_pixel}
 
--- The changes of a row by recursion: the places, counted from one on, where a pixel differs from the one before it. It is
--- the same list as `changes`, in a form for induction.
+-- The changes of a row by recursion: the positions, counted from one on, where a pixel differs from the one before it. It
+-- is the same list as `changes`, in a form for induction.
 abbrev pub changes_from : ℕ → Bool → Row → List ℕ
 changes_from place before [] = []
 changes_from place before (pixel ∷ row) = cond (beq before pixel) (changes_from (suc place) pixel row) (place ∷ changes_from (suc place) pixel row)

@@ -14,18 +14,14 @@ use Rattle.hayro_ccitt.specs.Rows.{Row}
 use Rattle.hayro_ccitt.proofs.Readings.Repeated.{Follows, after_turn, repeated_follows, repeated_turn}
 use Rattle.hayro_ccitt.proofs.Readings.RowsAndGaps.{seek_eol, unless_over, pass_gap-is}
 use Rattle.hayro_ccitt.proofs.Readings.TurnsMoveOn.{left_to_read, left_below, move_shrinks, next_is, not_next}
+use Rattle.std.proofs.lemmas.Grind.{common_steps}
 
 -- ---- The first gap
 
 -- data of Group 3 begin at a line
 pub first_gap_t4 : (settings : DecodeSettings) (bits : Bits) → settings.encoding ≢ Group4
     → first_gap settings.encoding settings bits ≡ Turn.next (first_line settings bits)
-first_gap_t4 settings bits other = by settings.encoding other
-  where
-    by : (encoding : EncodingMode) → encoding ≢ Group4 → first_gap encoding settings bits ≡ Turn.next (first_line settings bits)
-    by Group4 other = absurd (other refl)
-    by Group3_1D other = refl
-    by Group3_2D other = refl
+first_gap_t4 settings bits other = grind (arith, common_steps)
 
 -- how they end
 abbrev pub ending_t4 : DecodeSettings → Bits → Ending
@@ -35,35 +31,21 @@ ending_t4 settings bits = ending_from (move_on settings) (first_line settings bi
 
 pub gap_unsought : (settings : DecodeSettings) (run : Progress) → run.has_eols ≡ false
     → pass_gap settings run ≡ unless_over settings run (eols_here settings run.rest)
-gap_unsought settings run unsought =
-    let found : ℕ × Bits = eols_here settings run.rest in
-    let test : ((eqb found.0 0) && run.has_eols && not (limit_met settings (length run.rows)) && not (at_end run.rest)) ≡ false
-    = and_left _ _ (and_left _ _ (and_right (eqb found.0 0) run.has_eols unsought)) in
-    pass_gap-is settings run
-    ∙ cond-false ((eqb found.0 0) && run.has_eols && not (limit_met settings (length run.rows)) && not (at_end run.rest))
-    (seek_eol settings run) (unless_over settings run found) test
+gap_unsought settings run unsought = grind (arith, common_steps)
 
--- EOLs were counted, and the row of the line behind them is read
+-- EOLs were counted, and the row of the line after them is read
 abbrev pub row_behind_eols : DecodeSettings → Progress → ℕ × Bits → Move
 row_behind_eols settings run (count, rest) =
     cond (is_over settings (length run.rows) (count, rest)) (ends_with run (Ok rest)) (row_behind settings (Turn.next (record run { rest = rest })))
 
 pub gap_and_row_unsought : (settings : DecodeSettings) (run : Progress) → run.has_eols ≡ false
     → gap_and_row settings run ≡ row_behind_eols settings run (eols_here settings run.rest)
-gap_and_row_unsought settings run unsought = ap (row_behind settings) (gap_unsought settings run unsought) ∙ at (eols_here settings run.rest)
-  where
-    at : (found : ℕ × Bits) → row_behind settings (unless_over settings run found) ≡ row_behind_eols settings run found
-    at (count, rest) = by (is_over settings (length run.rows) (count, rest))
-      where
-        by : (over : Bool) → row_behind settings (cond over (ends_with run (Ok rest)) (Turn.next (record run { rest = rest })))
-            ≡ cond over (ends_with run (Ok rest)) (row_behind settings (Turn.next (record run { rest = rest })))
-        by true = refl
-        by false = refl
+gap_and_row_unsought settings run unsought = grind (arith, common_steps)
 
 -- ---- Gaps and rows lead on as turns do
 
 module _ (settings : DecodeSettings) (wide : 0 < settings.columns) where
-  -- the answer of turns that never end, which never comes
+  -- the result of turns that never end, which never comes
   abbrev late : Ending
   late = record { rows = []; has_eols = false; outcome = Err UnexpectedEof }
 
@@ -88,7 +70,7 @@ module _ (settings : DecodeSettings) (wide : 0 < settings.columns) where
   ending_behind_goes (Turn.next run) = ending_goes run
   ending_behind_goes (Turn.done end) = refl
 
-  -- a row, and the gap behind it, are a turn
+  -- a row, and the gap after it, are a turn
   row_then_gap : (line next : Progress) → row_behind settings (Turn.next line) ≡ Turn.next next → move_on settings line ≡ pass_gap settings next
   row_then_gap line next e = by (row_of_line settings line.has_eols line.rest (line_of_turn settings line)) e
     where
@@ -106,7 +88,7 @@ module _ (settings : DecodeSettings) (wide : 0 < settings.columns) where
           repeated_turn (move_on settings) late left_to_read (move_shrinks settings wide) line ∙ ap (after_turn goes) (row_then_gap line after e)
       by (Turn.done end) e = absurd (not_next end after e)
 
-  -- where gaps and rows lead to a last gap, the reading from the first gap on ends with that
+  -- if gaps and rows lead to a last gap, the reading from the first gap on ends with that
   pub reaches_end : (from last : Progress) (end : Ending) → Reaches (gap_and_row settings) from last → pass_gap settings last ≡ Turn.done end
       → ending_behind settings (pass_gap settings from) ≡ end
   reaches_end from last end reaches over =

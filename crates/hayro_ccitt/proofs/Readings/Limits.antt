@@ -1,4 +1,4 @@
--- A limit of rows cuts what comes without one.
+-- A row limit cuts what comes without one.
 use Rattle.std.proofs.Common.{◌≡◌, ℕ, suc, ◌-◌, ◌<◌, ◌≤◌, Bool, true, false, cond, not, ◌&&◌, ◌||◌, eqb, leb, List, [], ◌∷◌, ◌++◌, length, take}
 use Rattle.std.proofs.Common.{replicate, Option, Some, None, Result, Ok, Err, refl, sym, ap, subst, ◌∙◌, arith, inl, inr}
 use Rattle.std.specs.Prelude.{IsOk}
@@ -21,6 +21,7 @@ use Rattle.hayro_ccitt.proofs.Readings.Repeated.{Follows, after_turn, repeated_f
 use Rattle.hayro_ccitt.proofs.Readings.TurnsMoveOn.{left_to_read, left_below, move_shrinks}
 use Rattle.hayro_ccitt.proofs.Readings.TurnsAddRows.{Keeps, after_row_keeps, move_adds, repeated_adds}
 use Rattle.hayro_ccitt.proofs.Readings.RowsAndGaps.{unless_over, seek_from, after_row, pass_gap-is, after_whole-is, after_damage-is}
+use Rattle.std.proofs.lemmas.Grind.{common_steps}
 
 module _ (settings : DecodeSettings) (limit : ℕ) (some : 0 < limit) (wide : 0 < settings.columns) where
   -- the settings with the limit, and without one
@@ -40,12 +41,10 @@ module _ (settings : DecodeSettings) (limit : ℕ) (some : 0 < limit) (wide : 0 
   Cut r q = (r.rows ≡ take limit q.rows) × (length r.rows ≡ limit → IsOk r.outcome)
 
   cut_rows : (rows more : List Row) → length rows ≡ limit → IsPrefix rows more → rows ≡ take limit more
-  cut_rows rows more full front = sym (ap (take limit) front.1 ∙ ap (λ (n : ℕ). take n (rows ++ front.0)) (sym full)
-      ∙ take-append-le (length rows) rows front.0 (omega arith) ∙ take_all (length rows) rows (omega arith))
+  cut_rows rows more full front = grind (arith, common_steps)
 
   is_met : limit_met limited limit ≡ true
-  is_met = and_from (not (eqb limit 0)) (eqb limit limit) (not_from_false (eqb limit 0) (ne_eqb limit 0 (λ e. absurd (omega (arith, e, some)))))
-      (eq-eqb limit limit refl)
+  is_met = grind (arith, common_steps)
 
   is_open : (n : ℕ) → n < limit → limit_met limited n ≡ false
   is_open n lt = and_right (not (eqb limit 0)) (eqb limit n) (ne_eqb limit n (λ e. absurd (omega (arith, e, lt))))
@@ -163,8 +162,7 @@ module _ (settings : DecodeSettings) (limit : ℕ) (some : 0 < limit) (wide : 0 
 
   first_gap_follows : (encoding : EncodingMode) (bits : Bits)
       → Follows Same Cut unlimited_end (first_gap encoding limited bits) (first_gap encoding unlimited bits)
-  first_gap_follows Group4 bits = rw (pass_gap-is limited (at_front bits), pass_gap-is unlimited (at_front bits))
-      (after_row_follows unlimited_end unlimited_extends (at_front bits) (omega arith))
+  first_gap_follows Group4 bits = grind (arith, common_steps)
   first_gap_follows Group3_1D bits = (refl, some)
   first_gap_follows Group3_2D bits = (refl, some)
 

@@ -1,4 +1,4 @@
--- Rows one at a time: where a reader of rows stands, the run of a driver stands whose sink keeps nothing.
+-- Rows one at a time: a reader of rows is where the run of a driver is whose sink keeps nothing.
 use Rattle.std.proofs.Common.{◌≡◌, ◌+◌, ◌-◌, ◌<◌, ◌≤◌, ℕ, zero, suc, Bool, true, false, eqb, List, [], ◌∷◌, ◌++◌, length, drop, get_or, Some, Result, Ok, Err, refl, sym, ap, ◌∙◌, subst, arith}
 use Rattle.std.proofs.lemmas.Bool.{cond-true, cond-false, eq-eqb, ne_eqb, false≢true}
 use Rattle.std.proofs.lemmas.List.{length-append, length-drop}
@@ -33,7 +33,7 @@ use Rattle.hayro_ccitt.proofs.Work.RunsCount.{sum_more}
 use Rattle.hayro_ccitt.proofs.Readings.RunsOverRows.{lines, lines_on, drop-suc_cons, Comes, Between, Leaves, held_between-more, comes_first, comes_next, comes_done, comes_more, comes_line, get_or-behind, row_fails}
 use Rattle.hayro_ccitt.proofs.Readings.RowsTaken.{by_rows_left, row_of_turn, reads_row, turn_is}
 
--- what the sink means that keeps nothing, and refuses no row
+-- what a sink that keeps nothing, and refuses no row, means
 abbrev pub nothing_kept : SinkState (Unit {0})
 nothing_kept = record { meaning = tt; refused = false; refuses = λ row. ⊥ }
 
@@ -52,7 +52,7 @@ get_or-behind_all [] k other is = refl
 get_or-behind_all (x ∷ xs) zero other is = absurd cc
 get_or-behind_all (x ∷ xs) (suc k) other is = get_or-behind_all xs k other is
 
--- a turn that goes on adds one row
+-- a turn that continues adds one row
 turn_adds : (settings : DecodeSettings) (s after : Progress) → move_on settings s ≡ Turn.next after → length after.rows ≡ suc (length s.rows)
 turn_adds settings s after e = by (row_of_turn settings s) e
   where
@@ -83,7 +83,7 @@ module _ (settings : DecodeSettings) (wide : 0 < settings.columns) (bits : Bits)
       cond-false (eqb settings.columns 0) _ _ (some_columns settings.columns (λ none. absurd (omega (arith, wide, none))))
       ∙ gathered_is (line_of_turn settings)
 
-  -- it comes to each state that is reached
+  -- it reaches each state that is reached
   comes_along : {A : Type 0} (gives : Progress → A) (s t : Progress) → Comes (move_on settings) (one_each gives) left_to_read first s → Reaches (move_on settings) s t
       → Comes (move_on settings) (one_each gives) left_to_read first t
   comes_along gives s t comes (Reaches.stays same) = comes
@@ -191,7 +191,7 @@ module _ (settings : DecodeSettings) (bits : Bits) (held : Held) (here : Bits) (
   pub few : held.taken ≤ length bits + 1
   few = omega (arith, few_rows settings stands.wide bits stands.first stands.begins so_far stands.reaches stands.room, taken_is)
 
-  -- the line that stands here is that of the turn
+  -- the line here is that of the turn
   module _ (new : Held) (left_over : Bits) (answer : Result (Unit {0}) DecodeError)
       (takes : TakesOneRow (line_here held.settings held.reference here) (row_of_line held.settings held.has_eols here (line_here held.settings held.reference here))
       no_step nothing_kept nothing_kept held new answer left_over) where
@@ -311,7 +311,7 @@ isnt_read settings bits held here stands new left_over e takes =
       not_refused = λ is. leaves.1.refused_row (ap (λ (x : DecodeError). Err x) is);
     }
 
--- where a line stands, the invariant says so
+-- if a line is here, the invariant says so
 at_line_stands : (stand : Stand) (settings : DecodeSettings) (bits : Bits) (held : Held) (place : ℕ) → is_at_line stand ≡ true → Stands stand settings bits held place
     → StandsAtLine settings bits held (drop place bits)
 at_line_stands AtLine settings bits held place is stands = stands
@@ -324,7 +324,7 @@ pub reader_at_line : (inside : Inside) (now : RowsRead) → rows_read_of inside 
 reader_at_line inside now view is reading =
     at_line_stands inside.stand inside.ctx.held.settings inside.reader.bits inside.ctx.held inside.reader.place (ap (λ (r : RowsRead). r.at_line) view ∙ is) reading.0
 
--- so it does behind a row
+-- so it does after a row
 behind_row_stands : (stand : Stand) (settings : DecodeSettings) (bits : Bits) (held : Held) (place : ℕ) → ended stand ≡ None → is_at_line stand ≡ false
     → Stands stand settings bits held place → StandsBehindRow settings bits held (drop place bits)
 behind_row_stands AtLine settings bits held place unended no_line stands = absurd (false≢true (sym no_line))
@@ -345,7 +345,7 @@ code_failed : (settings : DecodeSettings) (bits : Bits) (taken : ℕ) (e : Decod
 code_failed settings bits taken e is all outcome =
     record { all = λ f. all; fault = λ f. outcome; memory = λ g. let never : InvalidCode ≡ OutOfMemory = sym is ∙ g in absurd cc; not_refused = λ g. let never : InvalidCode ≡ Refused = sym is ∙ g in absurd cc }
 
--- where the gap before a turn ends the reading, it ends so
+-- if the gap before a turn ends the reading, it ends like this
 module _ (settings : DecodeSettings) (bits : Bits) (rows : List Row) (last : Held) (place : ℕ) (within : place ≤ length bits) (taken : last.taken ≡ length rows) where
   ended_well : (has_eols : Bool) → plain settings bits ≡ whole_reading bits (record { rows = rows; has_eols = has_eols; outcome = Ok (drop place bits) }) → HasEnded settings bits last.taken place
   ended_well has_eols is = record {
@@ -358,7 +358,7 @@ module _ (settings : DecodeSettings) (bits : Bits) (rows : List Row) (last : Hel
   ended_badly has_eols e code is =
       code_failed settings bits last.taken e code (taken ∙ ap (λ (r : Reading). length r.rows) (sym is)) (ap (λ (r : Reading). r.outcome) is)
 
--- the gap behind a row leads to a line, or to the end
+-- the gap after a row leads to a line, or to the end
 module _ (settings : DecodeSettings) (bits : Bits) (held : Held) (here_now : Bits) (stands : StandsBehindRow settings bits held here_now) (last : Held) (place : ℕ) (within : place ≤ length bits)
     (frame : last ≡ record held { has_eols = last.has_eols }) where
   abbrev next : Progress
@@ -407,7 +407,7 @@ module _ (settings : DecodeSettings) (bits : Bits) (held : Held) (here_now : Bit
       ended_badly settings bits next.rows last place within last_taken next.has_eols e code
       (ends_with_turn settings stands.wide bits stands.first stands.begins stands.so_far stands.reaches _ (turn_said (Err e) said))
 
--- so does the first gap of Group 4
+-- the first gap of Group 4 does too
 module _ (settings : DecodeSettings) (wide : 0 < settings.columns) (bits : Bits) (is : settings.encoding ≡ Group4) (last : Held) (place : ℕ) (within : place ≤ length bits)
     (frame : last ≡ record (fresh settings) { has_eols = last.has_eols }) where
   first_said : (answer : Result Bool DecodeError) → gap_behind_row settings 0 false bits ≡ gap_said answer last.has_eols (drop place bits)
@@ -467,8 +467,8 @@ pub comes_to_line : (old : RowsRead) (last : Held) (at : BitsAt) (n : ℕ) (dama
     → Stands (stand_after answer) old.settings old.bits last at.place → OnErr answer (n ≡ get_or (line_starts old.settings old.bits) old.taken at.place)
     → ComesToLine old (read_so_far last at n damage (stand_after answer)) (line_after answer)
 comes_to_line old last at n damage (Ok true) settings bits taken stands start =
-    record { fault_start = tt; settings = settings; bits = bits; taken = taken; line = λ e. cc; end = λ e. (refl, stands); error = tt }
+    record { fault_start = tt; settings = settings; bits = bits; taken = taken; line = λ e. cc; unended = λ e. cc; end = λ e. (refl, stands); error = tt }
 comes_to_line old last at n damage (Ok false) settings bits taken stands start =
-    record { fault_start = tt; settings = settings; bits = bits; taken = taken; line = λ e. refl; end = λ e. cc; error = tt }
+    record { fault_start = tt; settings = settings; bits = bits; taken = taken; line = λ e. refl; unended = λ e. refl; end = λ e. cc; error = tt }
 comes_to_line old last at n damage (Err error) settings bits taken stands start =
-    record { fault_start = start; settings = settings; bits = bits; taken = taken; line = λ e. cc; end = λ e. cc; error = (refl, stands) }
+    record { fault_start = start; settings = settings; bits = bits; taken = taken; line = λ e. cc; unended = λ e. cc; end = λ e. cc; error = (refl, stands) }

@@ -28,17 +28,17 @@ use Rattle.hayro_ccitt.proofs.Readings.RunsOverRows.{RowByRow, ReadsRow, Leaves,
 abbrev pub from_line : Bool → Bits → Progress
 from_line sought rest = record { rows = []; has_eols = sought; rest = rest }
 
--- its turns leave less to read, or give up EOLs, and add rows
+-- its turns leave less to read, or cease to seek EOLs, and add rows
 pub by_rows_left : (settings : DecodeSettings) → 0 < settings.columns → RowByRow (move_on settings) left_to_read
 by_rows_left settings wide =
     record { shrinks = move_shrinks settings wide; adds = move_adds settings; below = left_below }
 
 module _ (settings : DecodeSettings) (so_far : Progress) where
-  -- what the line of a turn comes to
+  -- what the line of a turn yields
   abbrev pub row_of_turn : Result (Row × Bits) DecodeError
   row_of_turn = row_of_line settings so_far.has_eols so_far.rest (line_of_turn settings so_far)
 
-  -- what stands behind a row leaves the rows as they are
+  -- what follows a row leaves the rows as they are
   behind_adds : (taken : Row) (rest : Bits) → Adds (so_far.rows ++ taken ∷ []) (pass_gap settings (with_row so_far taken rest))
   behind_adds taken rest =
       let next : Progress = with_row so_far taken rest in
@@ -53,30 +53,30 @@ module _ (settings : DecodeSettings) (so_far : Progress) where
     adds = λ taken rest is. subst (Adds (so_far.rows ++ taken ∷ [])) (sym (ap (add_row settings so_far) is)) (behind_adds taken rest);
   }
 
-  -- and goes on, or ends, as what stands behind its row says
+  -- and continues, or ends, as what follows its row says
   pub turn_is : (taken : Row) (rest : Bits) (gap : Gap) → row_of_turn ≡ Ok (taken, rest)
       → gap_behind_row settings (length (so_far.rows ++ taken ∷ [])) so_far.has_eols rest ≡ gap → move_on settings so_far ≡ at_gap (with_row so_far taken rest) gap
   turn_is taken rest gap is stands = ap (add_row settings so_far) is ∙ ap (at_gap (with_row so_far taken rest)) stands
 
 -- ---- A turn of the loop, between two rows
 
--- what is counted most in data of Group 3
+-- the most that is counted in data of Group 3
 pub most_counted_t4 : (encoding : EncodingMode) (bits : ℕ) → encoding ≢ Group4 → most_counted encoding bits ≡ 36 * bits + 14
 most_counted_t4 Group4 bits other = absurd (other refl)
 most_counted_t4 Group3_1D bits other = refl
 most_counted_t4 Group3_2D bits other = refl
 
--- giving up EOLs costs at most so much
+-- ceasing to seek EOLs costs at most this much
 pub given_up_at_most : (sought : Bool) (bits : ℕ) → most_given_up sought bits ≤ 8 * bits + 8
 given_up_at_most true bits = omega arith
 given_up_at_most false bits = omega arith
 
--- EOLs can be given up only in a run that sought them, which has paid for that
+-- only a run that sought EOLs can cease to, and it has paid for that
 pub giving_up_is_paid : (sought has_eols : Bool) (bits : ℕ) → (sought ≡ false → has_eols ≡ false) → has_eols ≡ true → 8 * bits + 8 ≤ most_given_up sought bits
 giving_up_is_paid true has_eols bits unsought is = omega arith
 giving_up_is_paid false has_eols bits unsought is = absurd (false≢true (sym (unsought refl) ∙ is))
 
--- a row is read and handed over, where these bits stand
+-- a row is read and passed on, with these bits left
 abbrev pub TakesRow : {M : Type 0} → (M → List ℕ → M) → SinkState M → SinkState M → Held → Bits → Held → Result (Unit {0}) DecodeError → Bits → Type 0
 TakesRow step now after held here new answer rest =
     TakesOneRow (line_here held.settings held.reference here) (row_of_line held.settings held.has_eols here (line_here held.settings held.reference here))
@@ -103,7 +103,7 @@ module _ {M : Type 0} (settings : DecodeSettings) (wide : 0 < settings.columns) 
   abbrev words : List Bits
   words = words_of_turn settings so_far
 
-  -- what was taken is what the turn reads
+  -- what was accepted is what the turn reads
   pub takes_is : (answer : Result (Unit {0}) DecodeError) → TakesRow (step_of now_width) now after held here new answer rest
       → TakesOneRow (line_of_turn settings so_far) (row_of_turn settings so_far) step now after held new answer rest
   takes_is answer takes =
@@ -115,7 +115,7 @@ module _ {M : Type 0} (settings : DecodeSettings) (wide : 0 < settings.columns) 
       subst (λ (x : Bits). TakesOneRow (line_here settings (row_before settings.columns so_far.rows) x)
       (row_of_line settings so_far.has_eols x (line_here settings (row_before settings.columns so_far.rows) x)) step now after held new answer rest) between.here known
 
-  -- a row that isn't taken ends the run
+  -- a row that isn't accepted ends the run
   pub turn_fails : (e : DecodeError) → TakesRow (step_of now_width) now after held here new (Err e) rest
       → Leaves (ending_from (move_on settings) (from_line sought rest0)) (gathered_from (move_on settings) (one_each (line_of_turn settings)) (from_line sought rest0)) step before after new (Err e)
   turn_fails e takes =
@@ -153,7 +153,7 @@ module _ {M : Type 0} (settings : DecodeSettings) (wide : 0 < settings.columns) 
       abbrev row_taken : RowIsTaken (line_of_turn settings so_far) (row_of_turn settings so_far) step now after held new rest
       row_taken = (takes_is (Ok tt) takes).taken
 
-      -- the row that was taken is the line's
+      -- the accepted row is the line's
       row_is : row_of_line settings held.has_eols here (line_here settings held.reference here) ≡ Ok (row_taken.taken, rest)
       row_is =
           subst (λ (h : Held). row_of_line settings h.has_eols here (line_here settings h.reference here) ≡ Ok (row_taken.taken, rest)) (sym between.held)
@@ -203,7 +203,7 @@ module _ {M : Type 0} (settings : DecodeSettings) (wide : 0 < settings.columns) 
     abbrev taken : RowIsTaken (line_of_turn settings so_far) (row_of_turn settings so_far) step now after held new rest
     taken = (takes_is (Ok tt) takes).taken
 
-    -- the rows with the one that was taken
+    -- the rows with the accepted one
     abbrev next : Progress
     next = with_row so_far taken.taken rest
 
@@ -267,7 +267,7 @@ module _ {M : Type 0} (settings : DecodeSettings) (wide : 0 < settings.columns) 
       pub goes_on : answer ≡ Ok false → move_on settings so_far ≡ Turn.next on
       goes_on is = turn ∙ ap (λ (a : Result Bool DecodeError). at_gap next (gap_said a last.has_eols left_over)) is
 
-      -- else the run goes on
+      -- else the run continues
       abbrev pub next_between : answer ≡ Ok false
           → Between (move_on settings) (one_each (line_of_turn settings)) left_to_read (from_line sought rest0) settings step before after last left_over
       next_between is = record {
@@ -313,7 +313,7 @@ module _ {M : Type 0} (settings : DecodeSettings) (wide : 0 < settings.columns) 
           counted_ends_behind (move_on settings) (one_each (words_of_turn settings)) left_to_read (by_rows_left settings wide) (from_line sought rest0) refl so_far begun ticks counted
           words last.taken then most refl (omega (arith, last_taken, length-append so_far.rows (taken.taken ∷ []))) at_least at_most
 
-      -- where less is left, or EOLs were given up
+      -- if less is left, or EOLs are no longer sought
       pub next_shorter : answer ≡ Ok false
           → cond last.has_eols (suc (length left_over)) (length left_over) < cond held.has_eols (suc (length here)) (length here)
       next_shorter is =

@@ -29,6 +29,7 @@ use Rattle.hayro_ccitt.proofs.DrawingLines.ReadLines.{left as pen_left, step_1d_
 use Rattle.hayro_ccitt.proofs.Readings.TurnsMoveOn.{left_to_read, left_below, move_shrinks}
 use Rattle.hayro_ccitt.proofs.Readings.TurnsAddRows.{Keeps, Adds, seek_from_keeps, move_adds, repeated_adds, prefix_trans}
 use Rattle.hayro_ccitt.proofs.Readings.RowsAndGaps.{unless_over, seek_from, after_row, pass_gap-is, after_whole-is}
+use Rattle.std.proofs.lemmas.Grind.{common_steps}
 
 -- ---- Lines
 
@@ -42,7 +43,7 @@ abbrev SamePen : Pen → Pen → Type 0
 SamePen s t = s ≡ t
 
 module _ (rest : Pen → Line) where
-  -- a strict step that goes on is the lenient one
+  -- a strict step that continues is the lenient one
   abbrev StepFollows : Step → Step → Type 0
   StepFollows a b = Follows SamePen Agrees rest a b
 
@@ -53,13 +54,7 @@ module _ (rest : Pen → Line) where
 
   paint_lenient : (columns : ℕ) (front : Row) (color : Color) (n : ℕ) (x : Row) → paint true columns front color n ≡ Ok x
       → paint false columns front color n ≡ Ok x
-  paint_lenient columns front color n x e = by (ltb (columns - length front) n) e
-    where
-      by : (b : Bool) → cond {A = Result Row DecodeError} b (Err InvalidCode)
-          (Ok (front ++ replicate (min n (columns - length front)) (is_black color))) ≡ Ok x
-          → ◌≡◌ {A = Result Row DecodeError} (Ok (front ++ replicate (min n (columns - length front)) (is_black color))) (Ok x)
-      by true e = absurd cc
-      by false e = e
+  paint_lenient columns front color n x e = grind (arith, common_steps)
 
   draw_run_follows : (columns : ℕ) (pen : Pen) (f g : Pen → Step) → ((p : Pen) → StepFollows (f p) (g p))
       → StepFollows (run_then true columns pen f) (run_then false columns pen g)
@@ -75,13 +70,9 @@ module _ (rest : Pen → Line) where
       (λ front. on (record { front = front; color = opposite pen.color; rest = run.1 })))
 
   unless_full_follows : (columns : ℕ) (pen : Pen) (a b : Step) → StepFollows a b → StepFollows (step_unless_full columns pen a) (step_unless_full columns pen b)
-  unless_full_follows columns pen a b on = by (leb columns (length pen.front))
-    where
-      by : (full : Bool) → StepFollows (cond full (Turn.done (Line.whole pen.front pen.rest)) a) (cond full (Turn.done (Line.whole pen.front pen.rest)) b)
-      by true = refl
-      by false = on
+  unless_full_follows columns pen a b on = grind (arith, common_steps)
 
-  -- two steps that are others, of which the second follows
+  -- two steps that differ, of which the second follows
   follows_as : (a b : Step) {x y : Step} → x ≡ a → y ≡ b → StepFollows a b → StepFollows x y
   follows_as a b is other on = rw (is, other) on
 
@@ -92,25 +83,12 @@ module _ (rest : Pen → Line) where
 
   draw_mode_follows : (columns : ℕ) (reference : Row) (pen : Pen) (mode : Mode)
       → StepFollows (mode_step true columns reference pen mode) (mode_step false columns reference pen mode)
-  draw_mode_follows columns reference pen Pass =
-      let n : ℕ = b2 reference (right_of pen.front) pen.color - length pen.front in
-      try_follows pen.front (paint true columns pen.front pen.color n) (paint false columns pen.front pen.color n)
-      (λ front. Turn.next (record pen { front = front })) (λ front. Turn.next (record pen { front = front }))
-      (paint_lenient columns pen.front pen.color n) (λ front. refl)
+  draw_mode_follows columns reference pen Pass = grind (arith, common_steps)
   draw_mode_follows columns reference pen Horizontal =
       follows_as _ _ (sym (horizontal_is true columns reference pen)) (sym (horizontal_is false columns reference pen))
       (draw_run_follows columns pen (λ pen. run_then true columns pen Turn.next) (λ pen. run_then false columns pen Turn.next)
       (λ p. draw_run_follows columns p Turn.next Turn.next (λ q. refl)))
-  draw_mode_follows columns reference pen (Vertical k) =
-      let place : Result ℕ DecodeError = place_from (length pen.front) (pos (b1 reference (right_of pen.front) pen.color) +ℤ k) in
-      let paints : Bool → ℕ → Step = λ strict place. try pen.front (paint strict columns pen.front pen.color (place - length pen.front))
-      (λ front. Turn.next (record { front = front; color = opposite pen.color; rest = pen.rest })) in
-      try_follows pen.front place place (paints true) (paints false) (λ x e. e)
-      (λ place. try_follows pen.front (paint true columns pen.front pen.color (place - length pen.front))
-      (paint false columns pen.front pen.color (place - length pen.front))
-      (λ front. Turn.next (record { front = front; color = opposite pen.color; rest = pen.rest }))
-      (λ front. Turn.next (record { front = front; color = opposite pen.color; rest = pen.rest }))
-      (paint_lenient columns pen.front pen.color (place - length pen.front)) (λ front. refl))
+  draw_mode_follows columns reference pen (Vertical k) = grind (arith, common_steps)
 
   step_2d_follows : (columns : ℕ) (reference : Row) (s t : Pen) → SamePen s t
       → StepFollows (step_2d true columns reference s) (step_2d false columns reference t)
@@ -228,8 +206,7 @@ module _ (settings : DecodeSettings) (wide : 0 < settings.columns) where
 
   first_gap_follows : (encoding : EncodingMode) (bits : Bits)
       → Follows SameRun Precedes lenient_end (first_gap encoding strictly bits) (first_gap encoding leniently bits)
-  first_gap_follows Group4 bits = rw (pass_gap-is strictly (at_front bits), pass_gap-is leniently (at_front bits))
-      (after_row_follows lenient_end lenient_extends (at_front bits))
+  first_gap_follows Group4 bits = grind (arith, common_steps)
   first_gap_follows Group3_1D bits = refl
   first_gap_follows Group3_2D bits = refl
 

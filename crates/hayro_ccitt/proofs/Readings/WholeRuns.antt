@@ -18,7 +18,7 @@ module _ {M : Type 0} (bits : Bits) (step : M → List ℕ → M) (before after 
   abbrev settings : DecodeSettings
   settings = old.held.settings
 
-  -- what is known behind a gap
+  -- what is known after a gap
   abbrev LeavesBehind : Move → Type 0
   LeavesBehind gap =
       Leaves (ending_behind settings gap) (gathered_behind settings (line_of_turn settings) gap) step before after new.held answer

@@ -17,7 +17,7 @@ use Rattle.hayro_ccitt.proofs.group4.decode.Given.{Over}
 use Rattle.hayro_ccitt.proofs.group4.decode.Goals.{After-pass_gap}
 use Rattle.hayro_ccitt.proofs.group4.decode.Goals as goal
 
--- the gap at the front is what was said
+-- the gap at the start is as stated
 gap_is : (g : Over) (c : After-pass_gap g) → gap_behind_row c.args.ctx.now.held.settings 0 false c.args.reader.now.bits
     ≡ gap_said c.pass_gap.result c.pass_gap.new.ctx.held.has_eols (here c.pass_gap.new.reader)
 gap_is g c =
@@ -26,7 +26,7 @@ gap_is g c =
     ∙ ap (λ (n : ℕ). gap_behind_row held.settings held.taken held.has_eols (drop n c.args.reader.now.bits)) (sym c.requires.start)
     ∙ c.pass_gap.ensures.gap
 
--- and so the reading goes on there, or ends
+-- and so the reading continues there, or ends
 first_is : (g : Over) (c : After-pass_gap g) → first_gap c.args.ctx.now.held.settings.encoding c.args.ctx.now.held.settings c.args.reader.now.bits
     ≡ at_gap (at_front c.args.reader.now.bits) (gap_said c.pass_gap.result c.pass_gap.new.ctx.held.has_eols (here c.pass_gap.new.reader))
 first_is g c =

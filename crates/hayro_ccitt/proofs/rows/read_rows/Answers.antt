@@ -136,7 +136,7 @@ returns-in_err-read_row-clause-rows g c =
     }
     )
 
--- what is counted where what stands behind a row ends the run, within the bound
+-- what is counted if what follows a row ends the run, within the bound
 last_counted : (g : Over) (c : After-pass_gap g) → c.pass_gap.new.ctx.ticks ≤ c.args.ctx.now.ticks + (most_from_line c.args.ctx.now.held.has_eols (length c.args.reader.now.bits))
     → CountsRun (gathered_from (move_on c.args.ctx.now.held.settings) (one_each (words_of_turn c.args.ctx.now.held.settings)) (from_line c.args.ctx.now.held.has_eols (here c.args.reader.now))) c.pass_gap.new.ctx.held.taken c.args.ctx.now.ticks c.pass_gap.new.ctx.ticks
     (most_from_line c.args.ctx.now.held.has_eols (length c.args.reader.now.bits))

@@ -3,7 +3,7 @@ use Rattle.std.proofs.lemmas.List.{take-append-drop, length-take}
 use Rattle.std.proofs.Math.Seq.{take-append-add}
 use Rattle.hayro_ccitt.proofs.tables.lookup_of.Goals as goal
 
--- the first elements, and more behind them
+-- the first elements, and more after them
 take_part : (xs : List ℕ) (done n count : ℕ) → done ≤ length xs → count ≡ n → take (done + n) xs ≡ take done xs ++ take count (drop done xs)
 take_part xs done n count within same =
     let long : done + n ≡ length (take done xs) + n = omega (arith, length-take done xs, within) in

@@ -27,7 +27,7 @@ invariant_of-self c =
       | else-next-self w ↦ rw (w.window-is, w.self-inside-is) (filled_on r c.args.n c.self.invariant (omega (arith, w.if-next-self.false)))
     ]
 
--- the data stay, and so does the order of their bits
+-- the data doesn't change, nor does the order of its bits
 same_data : (c : goal.After-self-3-1) → (c.if-next-self.self-inside.«data» ≡ c.self.inside.«data») × (c.if-next-self.self-inside.order ≡ c.self.inside.order)
 same_data c = elim c.if-next-self.branch [
   | then-next-self w ↦ elim w.if-next-edge.branch [
@@ -37,7 +37,7 @@ same_data c = elim c.if-next-self.branch [
   | else-next-self w ↦ rw w.self-inside-is (refl, refl)
 ]
 
--- so that the place is within them
+-- so that the position is within them
 within : (c : goal.After-self-3-1) → c.self.inside.place + c.args.n ≤ length (bits_in c.self.inside.order c.self.inside.«data».now)
 within c =
     let filled = invariant_of-self c in

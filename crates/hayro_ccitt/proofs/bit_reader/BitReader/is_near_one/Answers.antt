@@ -10,14 +10,14 @@ use Rattle.hayro_ccitt.proofs.bit_reader.BitReader.is_near_one.Goals.{Else-next-
 use Rattle.hayro_ccitt.proofs.bit_reader.BitReader.is_near_one.Goals as goal
 
 module _ (c : Else-next-eq0) where
-  -- the zeros in front, fewer than eleven
+  -- the leading zeros, fewer than eleven
   abbrev zeros : ℕ
   zeros = count_leading_zeros 32 c.peek_u32-next.result
 
   near : zeros < 11
   near = near_one c.peek_u32-next.result c.peek_u32-next.type_inv c.if-next-eq0.false
 
-  -- what stands behind the one that follows them
+  -- what is after the one that follows them
   abbrev rest : Bits
   rest = drop (c.args.self.now.place + zeros + 1) c.args.self.now.bits
 

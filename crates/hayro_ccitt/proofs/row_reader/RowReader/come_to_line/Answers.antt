@@ -12,7 +12,7 @@ use Rattle.hayro_ccitt.proofs.Readings.RowByRow.{starts_behind, repairs_stay, re
 use Rattle.hayro_ccitt.proofs.row_reader.RowReader.come_to_line.Goals as goal
 use Rattle.hayro_ccitt.proofs.row_reader.RowReader.come_to_line.Goals.{After-line_after_gap}
 
--- where the reading is behind the gap
+-- where the reading is after the gap
 passed : (c : After-line_after_gap) → Stands (stand_after c.pass_gap-over.result) c.self.inside.ctx.held.settings c.self.inside.reader.bits c.pass_gap-over.new.ctx.held c.pass_gap-over.new.reader.place
 passed c =
     let i = c.self.inside in
