@@ -113,7 +113,7 @@ pub record ReadsNext (old new : RowsRead) (result : Result Bool DecodeError) : T
   pub end : result ≡ Ok false → (new.end ≡ Some (Ok tt)) × (new.taken ≡ old.taken) × HasEnded old.settings old.bits new.taken new.place
   pub error : IfErr result (λ e. (new.end ≡ Some (Err e)) × (new.taken ≡ old.taken) × HasFailed old.settings old.bits new.taken e)
   -- the place of the fault: the first bit of the line that couldn't be read, or the place where its EOL is missing (T.4, 4.1.2)
-  pub fault_start : OnErr result (new.line_start ≡ get_or (line_starts old.settings old.bits) old.taken new.place)
+  pub fault_start : old.end ≡ None → OnErr result (new.line_start ≡ get_or (line_starts old.settings old.bits) old.taken new.place)
 
 -- What a call that passes the gap before the next line leaves: it reaches a line, or the end.
 pub record ComesToLine (old new : RowsRead) (result : Result Bool DecodeError) : Type 0 where
@@ -121,6 +121,7 @@ pub record ComesToLine (old new : RowsRead) (result : Result Bool DecodeError) :
   pub bits : new.bits ≡ old.bits
   pub taken : new.taken ≡ old.taken
   pub line : result ≡ Ok true → new.at_line ≡ true
+  pub unended : result ≡ Ok true → new.end ≡ None
   pub end : result ≡ Ok false → (new.end ≡ Some (Ok tt)) × HasEnded old.settings old.bits new.taken new.place
   pub error : IfErr result (λ e. (new.end ≡ Some (Err e)) × HasFailed old.settings old.bits new.taken e)
   pub fault_start : OnErr result (new.line_start ≡ get_or (line_starts old.settings old.bits) old.taken new.place)

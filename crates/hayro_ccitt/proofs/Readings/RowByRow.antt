@@ -467,8 +467,8 @@ pub comes_to_line : (old : RowsRead) (last : Held) (at : BitsAt) (n : ℕ) (dama
     → Stands (stand_after answer) old.settings old.bits last at.place → OnErr answer (n ≡ get_or (line_starts old.settings old.bits) old.taken at.place)
     → ComesToLine old (read_so_far last at n damage (stand_after answer)) (line_after answer)
 comes_to_line old last at n damage (Ok true) settings bits taken stands start =
-    record { fault_start = tt; settings = settings; bits = bits; taken = taken; line = λ e. cc; end = λ e. (refl, stands); error = tt }
+    record { fault_start = tt; settings = settings; bits = bits; taken = taken; line = λ e. cc; unended = λ e. cc; end = λ e. (refl, stands); error = tt }
 comes_to_line old last at n damage (Ok false) settings bits taken stands start =
-    record { fault_start = tt; settings = settings; bits = bits; taken = taken; line = λ e. refl; end = λ e. cc; error = tt }
+    record { fault_start = tt; settings = settings; bits = bits; taken = taken; line = λ e. refl; unended = λ e. refl; end = λ e. cc; error = tt }
 comes_to_line old last at n damage (Err error) settings bits taken stands start =
-    record { fault_start = start; settings = settings; bits = bits; taken = taken; line = λ e. cc; end = λ e. cc; error = (refl, stands) }
+    record { fault_start = start; settings = settings; bits = bits; taken = taken; line = λ e. cc; unended = λ e. cc; end = λ e. cc; error = (refl, stands) }

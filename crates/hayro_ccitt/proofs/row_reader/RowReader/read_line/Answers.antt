@@ -64,7 +64,7 @@ returns-in-Ok-clause-reads c =
       damage = λ e. c.damage_since-self-inside.ensures ∙ ap (λ (n : ℕ). damage_since c.read_row.new.ctx.held.repairs n) c.damaged_rows-damaged_rows.ensures ∙ read.damage;
       end = λ e. cc;
       error = tt;
-      fault_start = tt;
+      fault_start = λ unended. tt;
     })
 
 pub returns-in-Err-clause-reads : goal.returns-in-Err-clause-reads
@@ -81,6 +81,6 @@ returns-in-Err-clause-reads c =
       damage = λ e. cc;
       end = λ e. cc;
       error = (refl, ap (λ (h : Held). h.taken) c.in-Err.ensures.row.held, failed);
-      fault_start = line_start_of i.reader.place i.reader.bits c.bit_pos-self-inside.result c.bit_pos-self-inside.ensures.place c.bit_pos-self-inside.ensures.within
+      fault_start = λ unended. line_start_of i.reader.place i.reader.bits c.bit_pos-self-inside.result c.bit_pos-self-inside.ensures.place c.bit_pos-self-inside.ensures.within
           ∙ starts_there i.ctx.held.settings i.reader.bits i.ctx.held (here i.reader) (reader_at_line i c.args.self.now c.self.view_is c.requires c.self.invariant) c.read_row.new.reader.place;
     })
