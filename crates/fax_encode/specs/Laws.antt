@@ -8,7 +8,6 @@ use Rattle.hayro_ccitt.specs.Bits.{Bits, bits_in, bits_of}
 use Rattle.hayro_ccitt.specs.Rows.{Row, HaveWidth, white_row, pixels}
 use Rattle.hayro_ccitt.specs.Encodings.{IsPicture, PictureT6, PictureT4, EncodesRows, EncodesRowsWithEols, ClosesWithEols}
 use Rattle.hayro_ccitt.specs.declared.bit_reader.BitOrder.TheVariants.{HighestFirst}
-use Rattle.hayro_ccitt.specs.Laws.{Gives}
 use Rattle.hayro_ccitt.specs.PlainReading.{plain}
 use Rattle.fax_encode.specs.Chosen.{chosen_line_1d, chosen_t6, chosen_t4, filled_up, rows_of}
 use Rattle.fax_encode.specs.Packed.{packed, shown, with_packed_row}
@@ -78,13 +77,17 @@ ChosenLinesEncode = (encoding : EncodingMode) (columns k : ℕ) (rows : List Row
 abbrev pub NeverLonger : Type 0
 NeverLonger = (left : ℕ) (reference row : Row) → length (chosen_line Group3_2D left reference row) ≤ suc (length (chosen_line_1d row))
 
--- What is chosen for a picture, for all settings, is read in its order of bits as its rows by the settings that match. Group 4 with EOFB may
--- have no rows.
+-- glue: the reading of some data gives these rows, without a fault, and takes so many bytes
+abbrev pub GivesAll : DecodeSettings → Bits → List Row → ℕ → Type 0
+GivesAll settings whole rows count = ((plain settings whole).rows ≡ rows) × ((plain settings whole).outcome ≡ Ok count)
+
+-- What is chosen for a picture, for all settings, is read in its order of bits as its rows by the settings that match: all rows, all bytes.
+-- Group 4 with EOFB may have no rows.
 abbrev pub ChosenIsRead : Type 0
 ChosenIsRead = (settings : EncodeSettings) (columns : ℕ) (rows : List Row) (bytes : List ℕ)
     → columns < 2 ^ 32 → length rows < 2 ^ 32 → (needs_row settings.encoding settings.end_of_block ≡ true → 0 < length rows) → IsPicture columns rows
     → bits_in settings.order bytes ≡ filled_up (chosen settings columns rows)
-    → Gives (decode_settings_for settings columns (length rows)) (bits_in settings.order bytes) rows
+    → GivesAll (decode_settings_for settings columns (length rows)) (bits_in settings.order bytes) rows (length bytes)
 
 -- Bytes of what is chosen for a picture, for all settings, are those of what is chosen for the rows that they are read as.
 abbrev pub ChosenComesBack : Type 0

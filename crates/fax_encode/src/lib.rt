@@ -35,4 +35,6 @@ mod bitmap_tests;
 #[cfg(test)]
 mod large_tests;
 #[cfg(test)]
+mod settings_tests;
+#[cfg(test)]
 mod tests;
