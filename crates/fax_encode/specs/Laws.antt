@@ -12,8 +12,9 @@ use Rattle.hayro_ccitt.specs.PlainReading.{plain}
 use Rattle.fax_encode.specs.Chosen.{chosen_line_1d, chosen_t6, chosen_t4, filled_up, rows_of}
 use Rattle.fax_encode.specs.Packed.{packed, shown, with_packed_row}
 use Rattle.fax_encode.specs.Refusals.{AreRows}
+use Rattle.fax_encode.specs.RowByRow.{no_rows, with_rows}
 use Rattle.fax_encode.specs.declared.settings.EncodeSettings.{EncodeSettings}
-use Rattle.fax_encode.specs.Settings.{chosen, chosen_line, chosen_lines, chosen_lines_with_eols, chosen_eols, needs_row, decode_settings_for}
+use Rattle.fax_encode.specs.Settings.{chosen, chosen_line, chosen_lines, chosen_lines_with_eols, chosen_eols, needs_row, with_end, decode_settings_for}
 
 -- what is chosen for a picture is an encoding of it
 abbrev pub ChosenIsAnEncoding : Type 0
@@ -97,6 +98,11 @@ ChosenComesBack = (settings : EncodeSettings) (columns : ℕ) (rows : List Row) 
     → bits_in settings.order bytes ≡ filled_up (chosen settings columns rows)
     → bits_in settings.order again ≡ filled_up (chosen settings columns (plain (decode_settings_for settings columns (length rows)) (bits_in settings.order bytes)).rows)
     → again ≡ bytes
+
+-- What is encoded row by row, with what stands behind the lines, is what is chosen for all rows.
+abbrev pub RowsAreChosen : Type 0
+RowsAreChosen = (settings : EncodeSettings) (columns : ℕ) (rows : List Row)
+    → with_end settings (with_rows (no_rows settings columns) rows).lines ≡ chosen settings columns rows
 
 -- what is chosen for T.6 and for one-dimensional T.4 is what is chosen by settings
 abbrev pub ChosenBySettings : Type 0

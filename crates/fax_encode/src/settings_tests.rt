@@ -1,10 +1,10 @@
 //! Encoding by settings. The bytes of the picture are those of libtiff 4.5.0 where it writes such data; the others were worked
 //! out from T.4 and T.6, apart from the encoder.
 
-use crate::{EncodeError, EncodeSettings, encode, encode_bitmap};
+use crate::{EncodeError, EncodeSettings, Encoder, encode, encode_bitmap};
 use hayro_ccitt::EncodingMode;
 use hayro_ccitt::bit_reader::BitOrder;
-use named_requests::made_at_last;
+use named_requests::{made_at_last, refuse_request, was_refused};
 use std::alloc::{AllocError, AllocGlobal, Global};
 use std::process::Abort;
 use std::test::Fail;
@@ -55,7 +55,24 @@ fn with_fill(encoding: EncodingMode) -> EncodeSettings {
     }
 }
 
-/// Encodes the picture from its lists and from its bitmap, and compares the bytes.
+/// Encodes the picture row by row: by its changes, and by its packed rows.
+fn row_by_row(
+    alloc: Global,
+    settings: EncodeSettings,
+    are_packed: bool,
+) -> Result<Vec<u8>, EncodeError> {
+    let mut encoder = Encoder::new(alloc, 24, settings)?;
+    for (index, changes) in ROWS.iter().enumerate() {
+        if are_packed {
+            encoder.push_packed_row(BITMAP.get(3 * index..).unwrap_or(&[]))?;
+        } else {
+            encoder.push_changes(changes)?;
+        }
+    }
+    encoder.finish()
+}
+
+/// Encodes the picture from its lists, from its bitmap, and row by row, and compares the bytes.
 fn encodes(
     rt: &(impl Abort + AllocGlobal),
     settings: EncodeSettings,
@@ -70,6 +87,12 @@ fn encodes(
         panic!(rt; "{settings:?} are refused");
     };
     assert_eq!(rt; of_bitmap.as_slice(), bytes, "a bitmap by {settings:?}");
+    for are_packed in [false, true] {
+        let Ok(of_rows) = row_by_row(rt.alloc(), settings, are_packed) else {
+            panic!(rt; "{settings:?} are refused");
+        };
+        assert_eq!(rt; of_rows.as_slice(), bytes, "rows by {settings:?}");
+    }
     Ok(())
 }
 
@@ -236,5 +259,72 @@ fn refused_memory(rt: HostRuntime) -> Result<(), Fail> {
     )
     .expect(&rt, "requests");
     assert_eq!(&rt; of_lists, of_bitmap);
+    Ok(())
+}
+
+#[test]
+fn refusals_row_by_row(rt: HostRuntime) -> Result<(), Fail> {
+    let alloc = rt.alloc();
+    let one = lines(EncodingMode::Group3_1D);
+    let unnamed = with_eols(EncodingMode::Group4);
+    assert_eq!(&rt;
+        Encoder::new(alloc, 0, unnamed).err(),
+        Some(EncodeError::NoEncoding)
+    );
+    assert_eq!(&rt;
+        Encoder::new(alloc, 0, one).err(),
+        Some(EncodeError::NoColumns)
+    );
+    let Ok(none) = Encoder::new(alloc, 24, one) else {
+        panic!(&rt; "the settings are refused");
+    };
+    assert_eq!(&rt; none.finish().err(), Some(EncodeError::NoRows));
+    let Ok(mut encoder) = Encoder::new(alloc, 24, one) else {
+        panic!(&rt; "the settings are refused");
+    };
+    assert_eq!(&rt; encoder.push_changes(&[24]), Err(EncodeError::NotARow(0)));
+    assert_eq!(&rt; encoder.push_changes(&[3, 5]), Ok(()));
+    assert_eq!(&rt; encoder.push_changes(&[5, 3]), Err(EncodeError::NotARow(1)));
+    assert_eq!(&rt;
+        encoder.push_packed_row(&[0, 0]),
+        Err(EncodeError::NotARow(1))
+    );
+    let Ok(bytes) = encoder.finish() else {
+        panic!(&rt; "a row is refused");
+    };
+    // 1000 11 00001 0111, filled up
+    assert_eq!(&rt; bytes.as_slice(), [0x8C, 0x60].as_slice());
+    Ok(())
+}
+
+#[test]
+fn refused_memory_row_by_row(rt: HostRuntime) -> Result<(), Fail> {
+    let alloc = rt.alloc();
+    let settings = with_fill(EncodingMode::Group3_2D);
+    let is_want = |error: &EncodeError| matches!(error, EncodeError::OutOfMemory);
+    let of_changes = made_at_last(alloc, &|| row_by_row(alloc, settings, false), &is_want).expect(
+        &rt, "requests",
+    );
+    let of_packed = made_at_last(alloc, &|| row_by_row(alloc, settings, true), &is_want).expect(
+        &rt, "requests",
+    );
+    assert_eq!(&rt; of_changes, of_packed);
+    Ok(())
+}
+
+#[test]
+fn wanting_memory_stays(rt: HostRuntime) -> Result<(), Fail> {
+    let alloc = rt.alloc();
+    let Ok(mut encoder) = Encoder::new(alloc, 24, lines(EncodingMode::Group3_1D)) else {
+        panic!(&rt; "the settings are refused");
+    };
+    refuse_request(alloc, 1);
+    let first = encoder.push_changes(&[3, 5]);
+    if was_refused(alloc) {
+        assert_eq!(&rt; first, Err(EncodeError::OutOfMemory));
+        assert_eq!(&rt; encoder.push_changes(&[24]), Err(EncodeError::OutOfMemory));
+        assert_eq!(&rt; encoder.push_packed_row(&[]), Err(EncodeError::OutOfMemory));
+        assert_eq!(&rt; encoder.finish().err(), Some(EncodeError::OutOfMemory));
+    }
     Ok(())
 }
