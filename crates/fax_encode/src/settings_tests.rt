@@ -1,9 +1,9 @@
 //! Encoding by settings. The bytes of the picture are those of libtiff 4.5.0 where it writes such data; the others were worked
 //! out from T.4 and T.6, apart from the encoder.
 
-use crate::{EncodeError, EncodeSettings, Encoder, encode, encode_bitmap};
-use hayro_ccitt::EncodingMode;
+use crate::{BitmapSink, EncodeError, EncodeSettings, Encoder, encode, encode_bitmap};
 use hayro_ccitt::bit_reader::BitOrder;
+use hayro_ccitt::{DecodeSettings, DecoderContext, EncodingMode, bits_fit, decode_in};
 use named_requests::{made_at_last, refuse_request, was_refused};
 use std::alloc::{AllocError, AllocGlobal, Global};
 use std::process::Abort;
@@ -325,6 +325,69 @@ fn wanting_memory_stays(rt: HostRuntime) -> Result<(), Fail> {
         assert_eq!(&rt; encoder.push_changes(&[24]), Err(EncodeError::OutOfMemory));
         assert_eq!(&rt; encoder.push_packed_row(&[]), Err(EncodeError::OutOfMemory));
         assert_eq!(&rt; encoder.finish().err(), Some(EncodeError::OutOfMemory));
+    }
+    Ok(())
+}
+
+/// The settings of the decoder that match.
+fn to_read(settings: EncodeSettings) -> DecodeSettings {
+    let is_closed = settings.end_of_block;
+    DecodeSettings {
+        columns: 24,
+        rows: if is_closed { 0 } else { 5 },
+        end_of_block: is_closed,
+        end_of_line: settings.end_of_line,
+        rows_are_byte_aligned: settings.rows_are_byte_aligned,
+        encoding: settings.encoding,
+        strict: true,
+    }
+}
+
+/// Encodes the picture, decodes it to its last byte, and encodes the bitmap again.
+fn comes_back(rt: &(impl Abort + AllocGlobal), settings: EncodeSettings) -> Result<(), Fail> {
+    let alloc = rt.alloc();
+    let Ok(bytes) = encode_bitmap(alloc, 24, &BITMAP, settings) else {
+        panic!(rt; "{settings:?} are refused");
+    };
+    let Ok(mut ctx) = DecoderContext::new(alloc, to_read(settings)) else {
+        panic!(rt; "no memory");
+    };
+    assert!(rt; bits_fit(&bytes));
+    let mut sink = BitmapSink::new(alloc, 24);
+    let read = decode_in(settings.order, &bytes, &mut sink, &mut ctx);
+    assert_eq!(rt; read, Ok(bytes.len()), "bytes by {settings:?}");
+    assert_eq!(rt; sink.bytes(), BITMAP.as_slice(), "rows by {settings:?}");
+    let Ok(again) = encode_bitmap(alloc, 24, sink.bytes(), settings) else {
+        panic!(rt; "{settings:?} are refused");
+    };
+    assert_eq!(rt; again, bytes, "again by {settings:?}");
+    Ok(())
+}
+
+#[test]
+fn all_settings_come_back(rt: HostRuntime) -> Result<(), Fail> {
+    for encoding in [
+        EncodingMode::Group4,
+        EncodingMode::Group3_1D,
+        EncodingMode::Group3_2D,
+    ] {
+        for order in [BitOrder::HighestFirst, BitOrder::LowestFirst] {
+            for flags in 0..16u32 {
+                let settings = EncodeSettings {
+                    encoding,
+                    k: 4,
+                    end_of_line: flags & 1 == 1,
+                    eols_end_at_bytes: flags & 2 == 2,
+                    rows_are_byte_aligned: flags & 4 == 4,
+                    end_of_block: flags & 8 == 8,
+                    order,
+                };
+                let first = encode_bitmap(rt.alloc(), 24, &BITMAP, settings).err();
+                if first != Some(EncodeError::NoEncoding) {
+                    comes_back(&rt, settings)?;
+                }
+            }
+        }
     }
     Ok(())
 }
