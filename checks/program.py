@@ -30,6 +30,12 @@ def row_text(picture, columns, row):
     return " ".join(["r", *map(str, changes)]), len(changes)
 
 
+def assert_same_by_row(words, data, done):
+    """With `-i` the program writes and answers what it did without."""
+    by_row = run(["-i", *words], data)
+    assert (by_row.returncode, by_row.stdout, by_row.stderr) == (done.returncode, done.stdout, done.stderr), ("-i", words, by_row)
+
+
 def real_strips():
     """Each strip gives exactly the picture that it was made from, with each of its settings; with the first ones also where each
     byte is turned round."""
@@ -52,6 +58,7 @@ def real_strips():
             assert done.stderr == b"", f"{name} {setting}: {done.stderr!r} on standard error"
             if limit == "0" and end != "-":
                 assert text[-1] == f"ok {end}", f"{name} {setting}: {text[-1]}, not {end}"
+            assert_same_by_row(*here, done)
             if setting == runs.split(",")[0]:
                 turned = run(*there)
                 assert (turned.returncode, turned.stdout, turned.stderr) == (0, done.stdout, b""), f"{name} {setting}: in the other order"
@@ -86,6 +93,7 @@ def known_cases():
                 assert text == answer.replace("/", "\n") + "\n", f"{words} {data}: {text!r}, not {answer}"
                 assert done.stderr == b"", f"{words} {data}: {done.stderr!r} on standard error"
                 assert done.returncode == (0 if answer.split("/")[-1].startswith("ok") else 1), words
+                assert_same_by_row(words, read, done)
             seen += 1
     assert seen > 0
     print(f"  {seen} cases, each in both orders of bits")
@@ -122,6 +130,26 @@ def statuses():
         done = run(words.split(), bytes.fromhex(data))
         error = b"faxrows: bad arguments\n" if status == 2 else b""
         assert (done.returncode, done.stdout, done.stderr) == (status, text, error), (words, done)
+        assert_same_by_row(words.split(), bytes.fromhex(data), done)
+    for words in ("-i", "-i -i g4 8 1 -", "-i -o g4 8 1 -", "-o -i g4 8 1 -", "-i --help", "--help -i", "--version -i"):
+        done = run(words.split(), bytes.fromhex("31C0"))
+        assert (done.returncode, done.stdout, done.stderr) == (2, b"", b"faxrows: bad arguments\n"), (words, done)
+
+
+def words_alone():
+    """`--help` and `--version` read nothing, and print: the forms of a call; the name, and the version of the C header."""
+    with open("c/hayro_ccitt.h", encoding="utf-8") as file:
+        version = re.search(r'^#define HAYRO_CCITT_VERSION_TEXT "(.*)"$', file.read(), re.MULTILINE).group(1)
+    done = run(["--version"], b"")
+    assert (done.returncode, done.stdout, done.stderr) == (0, f"faxrows {version}\n".encode(), b""), done
+    done = run(["--help"], b"")
+    forms = [f"faxrows {form}MODE COLUMNS ROWS FLAGS" for form in ("", "-o ", "-i ")]
+    text = "\n".join([*forms, "faxrows --help", "faxrows --version", ""])
+    assert (done.returncode, done.stdout, done.stderr) == (0, text.encode(), b""), done
+    with open("/dev/full", "wb") as full:
+        for word in ("--help", "--version"):
+            done = subprocess.run([PROGRAM, word], stdout=full, stderr=subprocess.PIPE, timeout=60, check=False)
+            assert (done.returncode, done.stderr) == (3, b"faxrows: cannot write\n"), done
 
 
 # Words behind `-o` and data, the bytes that the program writes, its standard error, and its status.
@@ -167,10 +195,11 @@ def a_file_and_a_pipe():
 
 def long_data():
     """A hundred thousand rows, and a wide one."""
-    done = run(["g4", "8", "0", "a"], b"\x80" * 100000)
-    assert done.stdout == b"r\n" * 100000 + b"ok 100000\n", done.stdout[-40:]
-    done = run(["g4", "4294967295", "1", "-"], b"\x50")
-    assert done.stdout == b"r 4294967294\nok 1\n", done
+    for first in ([], ["-i"]):
+        done = run([*first, "g4", "8", "0", "a"], b"\x80" * 100000)
+        assert done.stdout == b"r\n" * 100000 + b"ok 100000\n", done.stdout[-40:]
+        done = run([*first, "g4", "4294967295", "1", "-"], b"\x50")
+        assert done.stdout == b"r 4294967294\nok 1\n", done
 
 
 # What a run answers where one allocation is refused: before decoding, with status and standard error ..
@@ -223,4 +252,4 @@ def refused_memory():
             print(f"  {words}: {len(answers)} allocations refused in turn, {len(expected)} answers")
 
 
-CHECKS = [real_strips, known_cases, statuses, bitmaps, devices_that_fail, a_file_and_a_pipe, long_data, refused_memory]
+CHECKS = [real_strips, known_cases, statuses, words_alone, bitmaps, devices_that_fail, a_file_and_a_pipe, long_data, refused_memory]

@@ -131,6 +131,17 @@ def each_request_of_the_program():
                 for answer in [*program.BEFORE_DECODING, wants[next(k for k, row in enumerate(rows) if row)], refusals[0]]:
                     assert answer in answers, (words, bitmap, answer)
                 runs += len(answers)
+            # row by row no row is refused: where there is no memory to gather text it is written at once
+            whole = 0, text_of(rows, last), b""
+            wants = [(3, text_of(front, "error: out of memory"), b"") for front in fronts]
+            *answers, end = program.refused_in_turn("-i " + words, data.hex(), refuse)
+            assert end == whole, words
+            for answer in answers:
+                assert answer in [whole, *program.BEFORE_DECODING, *wants], (words, answer)
+            for answer in [*program.BEFORE_DECODING, wants[next(k for k, row in enumerate(rows) if row)]]:
+                assert answer in answers, (words, answer)
+            assert answers.count(whole) > 1, words
+            runs += len(answers)
     print(f"  {len(DATA)} data, {runs} allocations refused in turn")
 
 
@@ -248,6 +259,11 @@ def allocations_of_the_program():
             for words, data, more in ALLOCATIONS:
                 assert allocations(bitmap + words, data) == words_alone + more, (bitmap, words, data)
                 runs += 1
+        # row by row: the look-ups, one buffer for the input, and one for the text with its last line
+        words_alone = allocations("-i g4 8 0 x", "")
+        for words, data, more in ALLOCATIONS[1:]:
+            assert allocations("-i " + words, data) == words_alone + LOOK_UPS + bool(data) + 1, (words, data)
+            runs += 1
     print(f"  {runs} runs with exact numbers of allocations")
 
 
