@@ -22,8 +22,9 @@ def each_read_and_write():
             return done.returncode, done.stdout, done.stderr
 
         for words, data, rows, last in refusals.DATA[:3]:
-            for first in ("", "-o ", "-i "):
+            for first in ("", "-o ", "-i ", "-d "):
                 text = refusals.picture_of(8, rows) if first == "-o " else refusals.text_of(rows, last)
+                text = refusals.damage_of(words, len(rows), last) if first == "-d " else text
                 whole, all_words = (0, text, b""), first + words
                 assert run(all_words, data) == whole, all_words
                 assert run(all_words, data, READ_BYTES=1) == whole, all_words
@@ -33,7 +34,7 @@ def each_read_and_write():
                 assert run(all_words, data, READ_BYTES=1, READ_FAILS=len(data) + 2) == whole, "it reads after the end"
                 for most in (1, 3):
                     assert run(all_words, data, WRITE_BYTES=most, READ_BYTES=2) == whole, all_words
-                # the text is written in two pieces: the rows, and the last line; row by row in pieces of 64 KiB
+                # the text is written in two pieces: the rows, and the last line; row by row, and damage, in pieces of 64 KiB
                 pieces = [text] if first else [text[: -len(last) - 1], text[-len(last) - 1 :]]
                 fronts = [b"".join(pieces[:k]) + piece[:end] for k, piece in enumerate(pieces) for end in range(len(piece))]
                 for number, front in enumerate(fronts, 1):

@@ -36,6 +36,18 @@ def assert_same_by_row(words, data, done):
     assert (by_row.returncode, by_row.stdout, by_row.stderr) == (done.returncode, done.stdout, done.stderr), ("-i", words, by_row)
 
 
+def assert_damage(words, data, lines, status):
+    """With `-d` the program reads as many rows, and ends in the same way. Only lenient data of Group 3 are repaired."""
+    done = run(["-d", *words], data)
+    *damaged, last = done.stdout.decode().splitlines()
+    rows, (end, _, told) = len(lines) - 1, lines[-1].partition(" ")
+    expected = f"ok {rows} {len(damaged)} {told}" if end == "ok" else f"error {rows} {told}"
+    assert (done.returncode, last, done.stderr) == (status, expected, b""), ("-d", words, done)
+    numbers = [int(line.split()[1]) for line in damaged]
+    assert numbers == sorted(set(numbers)) and all(number < rows for number in numbers), ("-d", words, damaged)
+    assert not damaged or (words[0] != "g4" and "s" not in words[3]), ("-d", words, damaged)
+
+
 def real_strips():
     """Each strip gives exactly the picture that it was made from, with each of its settings; with the first ones also where each
     byte is turned round."""
@@ -94,6 +106,7 @@ def known_cases():
                 assert done.stderr == b"", f"{words} {data}: {done.stderr!r} on standard error"
                 assert done.returncode == (0 if answer.split("/")[-1].startswith("ok") else 1), words
                 assert_same_by_row(words, read, done)
+                assert_damage(words, read, text.splitlines(), done.returncode)
             seen += 1
     assert seen > 0
     print(f"  {seen} cases, each in both orders of bits")
@@ -143,7 +156,7 @@ def words_alone():
     done = run(["--version"], b"")
     assert (done.returncode, done.stdout, done.stderr) == (0, f"faxrows {version}\n".encode(), b""), done
     done = run(["--help"], b"")
-    forms = [f"faxrows {form}MODE COLUMNS ROWS FLAGS" for form in ("", "-o ", "-i ")]
+    forms = [f"faxrows {form}MODE COLUMNS ROWS FLAGS" for form in ("", "-o ", "-i ", "-d ")]
     text = "\n".join([*forms, "faxrows --help", "faxrows --version", ""])
     assert (done.returncode, done.stdout, done.stderr) == (0, text.encode(), b""), done
     with open("/dev/full", "wb") as full:
@@ -168,6 +181,36 @@ def bitmaps():
     for words, data, text, error, status in BITMAPS:
         done = run(words.split(), bytes.fromhex(data))
         assert (done.returncode, done.stdout, done.stderr) == (status, text, error), (words, done)
+
+
+INVALID, CUT = "invalid CCITT code sequence", "unexpected end of input"
+# Words behind `-d` and data, the lines that the program writes, and its status: data without damage, an EOL that is missed, a
+# damaged second line, which begins behind its EOL at 17 to 29, the same in a strict reading, a tag that is missing, a fault where
+# nothing is repaired, and a thousand EOLs with a line of four ones behind each, the last of which is cut and read again.
+DAMAGE = [
+    ("g4 8 1 -", "31C0", ["ok 1 0 2"], 0),
+    ("g4 8 1 r", "8C03", ["ok 1 0 2"], 0),
+    ("1d 8 2 l", "0019F800CC", ["ok 2 0 5"], 0),
+    ("1d 8 0 l", "0019800C400033", [f"damaged 1 29 {INVALID}", "ok 3 1 7"], 0),
+    ("1d 8 0 sl", "0019800C400033", [f"error 1 {INVALID}"], 1),
+    ("2d 8 0 l", "", [f"damaged 0 0 {CUT}", "ok 1 1 0"], 0),
+    ("g4 8 0 -", "31C000", [f"error 1 {INVALID}"], 1),
+    (
+        "1d 8 0 l",
+        "001F" * 1000,
+        [*[f"damaged {row} {12 + 16 * row} {INVALID}" for row in range(999)], f"damaged 999 15996 {CUT}", f"error 1000 {CUT}"],
+        1,
+    ),
+]
+
+
+def damage():
+    for words, data, lines, status in DAMAGE:
+        done = run(["-d", *words.split()], bytes.fromhex(data))
+        assert (done.returncode, done.stdout.decode().splitlines(), done.stderr) == (status, lines, b""), (words, done)
+    for words in ("-d", "-d -i g4 8 1 -", "-i -d g4 8 1 -", "-d g4 8 1 -d"):
+        done = run(words.split(), bytes.fromhex("31C0"))
+        assert (done.returncode, done.stdout, done.stderr) == (2, b"", b"faxrows: bad arguments\n"), (words, done)
 
 
 def devices_that_fail():
@@ -252,4 +295,4 @@ def refused_memory():
             print(f"  {words}: {len(answers)} allocations refused in turn, {len(expected)} answers")
 
 
-CHECKS = [real_strips, known_cases, statuses, words_alone, bitmaps, devices_that_fail, a_file_and_a_pipe, long_data, refused_memory]
+CHECKS = [real_strips, known_cases, statuses, words_alone, bitmaps, damage, devices_that_fail, a_file_and_a_pipe, long_data, refused_memory]
