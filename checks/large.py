@@ -218,7 +218,8 @@ def long_text():
 
 
 def rows_by_row():
-    """10 MB of Group 4 row by row, by the program in 16 MB more than the data. Without `-i` it takes more than that."""
+    """10 MB of Group 4 row by row, and for their damage, by the program in 16 MB more than the data. Without `-i` and `-d` it
+    takes more than that."""
     first, *others = lines_2d()
     cycles = "".join([first, *others]) * 8
     times = 10 * MEGABYTE * 8 // len(cycles) + 1
@@ -227,6 +228,7 @@ def rows_by_row():
     text = [(text_of(CYCLE) * 8, times), ok(data)]
     with tempfile.TemporaryDirectory() as folder:
         _, size = writes(folder, f"-i g4 {COLUMNS} 0 b", data, text, memory)
+        writes(folder, f"-d g4 {COLUMNS} 0 b", data, [(f"ok {8 * len(CYCLE) * times} 0 {len(data)}\n".encode(), 1)], memory)
         try:
             writes(folder, f"g4 {COLUMNS} 0 b", data, text, memory)
         except AssertionError:

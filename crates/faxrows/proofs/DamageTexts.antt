@@ -47,18 +47,23 @@ line_is old new reads =
     let index : new.taken - 1 ≡ old.taken = omega (arith, (reads.more refl).1) in
     ap (λ (n : ℕ). line_of_damage n new.line_start new.damage) index
     ∙ ap (λ (n : ℕ). line_of_damage old.taken n new.damage) (reads.line_start refl)
-    ∙ ap (λ (fault : Option DecodeError). line_of_damage old.taken (get_or (line_starts old.settings old.bits) old.taken 0) fault) (reads.damage refl)
+    ∙ ap (λ (fault : Option DecodeError). line_of_damage old.taken
+    (get_or (line_starts old.settings old.bits) old.taken 0) fault) (reads.damage refl)
 
 -- with it there is one row more
-pub damage_more : (settings : DecodeSettings) (bits : Bits) (old new : RowsRead) → old.settings ≡ settings → old.bits ≡ bits → ReadsNext old new (Ok true)
-    → damage_lines settings bits old.taken ++ line_of_damage (new.taken - 1) new.line_start new.damage ≡ damage_lines settings bits new.taken
+pub damage_more : (settings : DecodeSettings) (bits : Bits) (old new : RowsRead) → old.settings ≡ settings → old.bits
+    ≡ bits → ReadsNext old new (Ok true)
+    → damage_lines settings bits old.taken ++ line_of_damage (new.taken - 1) new.line_start new.damage
+    ≡ damage_lines settings bits new.taken
 damage_more settings bits old new of_settings of_bits reads =
     let next : suc old.taken ≡ new.taken = omega (arith, (reads.more refl).1) in
     let line = line_of_damage (new.taken - 1) new.line_start new.damage in
     let here : damage_lines old.settings old.bits old.taken ++ line ≡ damage_lines old.settings old.bits new.taken
-    = ap (λ l. damage_lines old.settings old.bits old.taken ++ l) (line_is old new reads) ∙ ap (damage_lines old.settings old.bits) next in
+    = ap (λ l. damage_lines old.settings old.bits old.taken ++ l) (line_is old new reads) ∙ ap
+    (damage_lines old.settings old.bits) next in
     subst (λ (b : Bits). damage_lines settings b old.taken ++ line ≡ damage_lines settings b new.taken) of_bits
-    (subst (λ (s : DecodeSettings). damage_lines s old.bits old.taken ++ line ≡ damage_lines s old.bits new.taken) of_settings here)
+    (subst (λ (s : DecodeSettings). damage_lines s old.bits old.taken ++ line
+    ≡ damage_lines s old.bits new.taken) of_settings here)
 
 -- ---- The whole text
 
@@ -71,8 +76,10 @@ all_damage settings bits read outcome all same =
     ∙ ap (damage_after settings bits (length (rows_of settings bits))) (sym same)
 
 -- a good run writes the whole damage
-pub damage_of_good : (settings : DecodeSettings) (bits : Bits) (read : ℕ) (outcome : Outcome) → EndsAfter settings bits read outcome
-    → done_of outcome ≡ Good → (damage_after settings bits read outcome ≡ whole_damage settings bits) × IsOk (outcome_of settings bits)
+pub damage_of_good : (settings : DecodeSettings) (bits : Bits) (read : ℕ) (outcome : Outcome)
+    → EndsAfter settings bits read outcome
+    → done_of outcome ≡ Good → (damage_after settings bits read outcome ≡ whole_damage settings bits) × IsOk
+    (outcome_of settings bits)
 damage_of_good settings bits read (Ok n) ends e = (all_damage settings bits read (Ok n) ends.0 ends.1, rw (ends.1) refl)
 damage_of_good settings bits read (Err UnexpectedEof) ends e = cc
 damage_of_good settings bits read (Err InvalidCode) ends e = cc
@@ -81,8 +88,10 @@ damage_of_good settings bits read (Err OutOfMemory) ends e = cc
 damage_of_good settings bits read (Err Refused) ends e = cc
 
 -- a faulty run writes the whole damage
-pub damage_of_faulty : (settings : DecodeSettings) (bits : Bits) (read : ℕ) (outcome : Outcome) → EndsAfter settings bits read outcome
-    → done_of outcome ≡ Faulty → (damage_after settings bits read outcome ≡ whole_damage settings bits) × IsErr (outcome_of settings bits)
+pub damage_of_faulty : (settings : DecodeSettings) (bits : Bits) (read : ℕ) (outcome : Outcome)
+    → EndsAfter settings bits read outcome
+    → done_of outcome ≡ Faulty → (damage_after settings bits read outcome ≡ whole_damage settings bits) × IsErr
+    (outcome_of settings bits)
 damage_of_faulty settings bits read (Ok n) ends e = cc
 damage_of_faulty settings bits read (Err UnexpectedEof) ends e =
     (all_damage settings bits read (Err UnexpectedEof) ends.0 ends.1, rw (ends.1) refl)
@@ -94,17 +103,21 @@ damage_of_faulty settings bits read (Err OutOfMemory) ends e = cc
 damage_of_faulty settings bits read (Err Refused) ends e = cc
 
 -- the text is the whole damage, or that up to a want of memory
-pub is_damage_text : (settings : DecodeSettings) (bits : Bits) (read : ℕ) (outcome : Outcome) → EndsByRow settings bits read outcome
+pub is_damage_text : (settings : DecodeSettings) (bits : Bits) (read : ℕ) (outcome : Outcome)
+    → EndsByRow settings bits read outcome
     → IsDamageText settings bits (damage_after settings bits read outcome)
 is_damage_text settings bits read (Ok n) ends = inl (all_damage settings bits read (Ok n) ends.0.0 ends.0.1)
-is_damage_text settings bits read (Err UnexpectedEof) ends = inl (all_damage settings bits read (Err UnexpectedEof) ends.0.0 ends.0.1)
-is_damage_text settings bits read (Err InvalidCode) ends = inl (all_damage settings bits read (Err InvalidCode) ends.0.0 ends.0.1)
+is_damage_text settings bits read (Err UnexpectedEof) ends = inl (all_damage settings bits read
+    (Err UnexpectedEof) ends.0.0 ends.0.1)
+is_damage_text settings bits read (Err InvalidCode) ends = inl (all_damage settings bits read
+    (Err InvalidCode) ends.0.0 ends.0.1)
 is_damage_text settings bits read (Err Overflow) ends = inl (all_damage settings bits read (Err Overflow) ends.0.0 ends.0.1)
 is_damage_text settings bits read (Err OutOfMemory) ends = inr (read, ends.0, refl)
 is_damage_text settings bits read (Err Refused) ends = absurd (ends.1 refl)
 
 -- a run that ended for want of memory wrote the damage up to there
-pub damage_without_memory : (settings : DecodeSettings) (bits : Bits) (read : ℕ) (outcome : Outcome) → EndsByRow settings bits read outcome
+pub damage_without_memory : (settings : DecodeSettings) (bits : Bits) (read : ℕ) (outcome : Outcome)
+    → EndsByRow settings bits read outcome
     → done_of outcome ≡ Memory → IsDamageWithoutMemory settings bits (damage_after settings bits read outcome)
 damage_without_memory settings bits read (Ok n) ends e = cc
 damage_without_memory settings bits read (Err UnexpectedEof) ends e = cc

@@ -14,7 +14,8 @@ use Rattle.faxrows.proofs.damage.put_damage.Goals.{After-put_last_row}
 -- a row was read
 reads : (g : Over) (c : After-put_last_row g) → ReadsNext c.loop-rows.rows c.next_row.new.self (Ok true)
 reads g c =
-    subst (λ (r : Result Bool DecodeError). ReadsNext c.loop-rows.rows c.next_row.new.self r) (c.in-Ok-true.is ∙ ap Ok c.in-Ok-true.field-0-test)
+    subst (λ (r : Result Bool DecodeError). ReadsNext c.loop-rows.rows c.next_row.new.self r)
+    (c.in-Ok-true.is ∙ ap Ok c.in-Ok-true.field-0-test)
     c.next_row.ensures.reads
 
 -- it is the next one
@@ -30,7 +31,8 @@ lines : (g : Over) (c : After-put_last_row g)
     ++ line_of_damage (c.next_row.new.self.taken - 1) c.next_row.new.self.line_start c.next_row.new.self.damage
     ≡ damage_lines c.args.rows.now.settings c.args.rows.now.bits c.next_row.new.self.taken
 lines g c =
-    damage_more c.args.rows.now.settings c.args.rows.now.bits c.loop-rows.rows c.next_row.new.self c.loop-rows.invariant.settings
+    damage_more c.args.rows.now.settings c.args.rows.now.bits c.loop-rows.rows c.next_row.new.self
+    c.loop-rows.invariant.settings
     c.loop-rows.invariant.bits (reads g c)
 
 pub loop-rows-preserved : goal.loop-rows-preserved
@@ -58,8 +60,10 @@ returns-in_err-put_last_row-in-Ok-true-clause-front g c =
     let taken = c.next_row.new.self.taken in
     let so_far : AppendsFront (g.W.Write.contents c.args.writer.now.0) (g.W.Write.contents c.put_last_row.new.writer.0)
     (damage_lines settings bits taken)
-    = subst (AppendsFront (g.W.Write.contents c.args.writer.now.0) (g.W.Write.contents c.put_last_row.new.writer.0)) (lines g at)
-    (front_behind _ _ _ [] _ c.loop-rows.waiting.items _ c.loop-rows.invariant.lines c.in_err-put_last_row-in-Ok-true.ensures.front) in
+    = subst (AppendsFront (g.W.Write.contents c.args.writer.now.0) (g.W.Write.contents c.put_last_row.new.writer.0))
+    (lines g at)
+    (front_behind _ _ _ [] _ c.loop-rows.waiting.items _ c.loop-rows.invariant.lines
+    c.in_err-put_last_row-in-Ok-true.ensures.front) in
     let front : AppendsFront (g.W.Write.contents c.args.writer.now.0) (g.W.Write.contents c.put_last_row.new.writer.0)
     (damage_lines settings bits all)
     = front_of_damage _ _ settings bits taken all (next_row g at).within so_far in

@@ -12,14 +12,16 @@ use Rattle.faxrows.proofs.damage.write_damage.Goals.{After-put_end}
 
 -- the last line is that of the data that are read
 last_line : (g : Over) (c : After-put_end g)
-    → last_line_of_damage c.put_damage.new.rows.settings c.put_damage.new.rows.bits c.put_damage.new.rows.taken c.in_ok-outcome.outcome
+    → last_line_of_damage c.put_damage.new.rows.settings c.put_damage.new.rows.bits c.put_damage.new.rows.taken
+    c.in_ok-outcome.outcome
     ≡ last_line_of_damage c.args.rows.now.settings c.args.rows.now.bits c.put_damage.new.rows.taken c.in_ok-outcome.outcome
 last_line g c =
     let read = c.put_damage.new.rows.taken in
     let outcome : Outcome = c.in_ok-outcome.outcome in
     let line = last_line_of_damage c.put_damage.new.rows.settings c.put_damage.new.rows.bits read outcome in
     subst (λ (b : Bits). line ≡ last_line_of_damage c.args.rows.now.settings b read outcome) c.in_ok-outcome.ensures.bits
-    (subst (λ (s : DecodeSettings). line ≡ last_line_of_damage s c.put_damage.new.rows.bits read outcome) c.in_ok-outcome.ensures.settings refl)
+    (subst (λ (s : DecodeSettings). line
+    ≡ last_line_of_damage s c.put_damage.new.rows.bits read outcome) c.in_ok-outcome.ensures.settings refl)
 
 pub returns-in_err-outcome-clause-front : goal.returns-in_err-outcome-clause-front
 returns-in_err-outcome-clause-front g c =
@@ -44,7 +46,8 @@ returns-in_err-put_end-clause-front g c =
     let waits = c.put_damage.new.waiting.items in
     let end : AppendsFront (g.W.Write.contents c.put_damage.new.writer.0) (g.W.Write.contents c.put_end.new.writer.0)
     (waits ++ last_line_of_damage settings bits read outcome)
-    = subst (λ (l : List ℕ). AppendsFront (g.W.Write.contents c.put_damage.new.writer.0) (g.W.Write.contents c.put_end.new.writer.0) (waits ++ l))
+    = subst (λ (l : List ℕ). AppendsFront (g.W.Write.contents c.put_damage.new.writer.0)
+    (g.W.Write.contents c.put_end.new.writer.0) (waits ++ l))
     (last_line g (goal.at.returns-in_err-put_end-clause-front g c).After-put_end) c.in_err-put_end.ensures.front in
     let front : (text : List ℕ) × IsDamageText settings bits text
     × AppendsFront (g.W.Write.contents c.args.writer.now.0) (g.W.Write.contents c.put_end.new.writer.0) text = (
@@ -65,7 +68,8 @@ returns-in_err-flush-clause-front g c =
     let waiting = c.put_end.new.waiting.items in
     let end : PassesOn (g.W.Write.contents c.put_damage.new.writer.0) (g.W.Write.contents c.put_end.new.writer.0) waits
     (last_line_of_damage settings bits read outcome) waiting
-    = subst (λ (l : List ℕ). PassesOn (g.W.Write.contents c.put_damage.new.writer.0) (g.W.Write.contents c.put_end.new.writer.0) waits l waiting)
+    = subst (λ (l : List ℕ). PassesOn (g.W.Write.contents c.put_damage.new.writer.0)
+    (g.W.Write.contents c.put_end.new.writer.0) waits l waiting)
     (last_line g (goal.at.returns-in_err-flush-clause-front g c).After-put_end) c.in_ok-put_end.ensures.ok in
     let text : PassesOn (g.W.Write.contents c.args.writer.now.0) (g.W.Write.contents c.put_end.new.writer.0) []
     (damage_after settings bits read outcome) waiting
