@@ -109,6 +109,19 @@ def text_of(rows, last):
     return "".join("r" + "".join(f" {change}" for change in row) + "\n" for row in rows).encode() + last.encode() + b"\n"
 
 
+# Of data that are damaged the indices of the rows, and where their lines begin.
+DAMAGED = {"1d 8 0 l": [(1, 29)]}
+
+
+def damage_of(words, count, last):
+    """The damage of the first rows, and the last line: of a good reading, or the error behind these rows."""
+    damaged = [place for place in DAMAGED.get(words, []) if place[0] < count]
+    lines = [f"damaged {row} {start} invalid CCITT code sequence" for row, start in damaged]
+    end, _, told = last.partition(" ")
+    lines.append(f"ok {count} {len(damaged)} {told}" if end == "ok" else f"error {count} {told}")
+    return "".join(line + "\n" for line in lines).encode()
+
+
 def each_request_of_the_program():
     """Each allocation of the program refused in turn, with text and with a bitmap: the rows before are kept."""
     runs = 0
@@ -130,6 +143,21 @@ def each_request_of_the_program():
                     assert answer in [whole, *program.BEFORE_DECODING, *wants, *refusals], (words, bitmap, answer)
                 for answer in [*program.BEFORE_DECODING, wants[next(k for k, row in enumerate(rows) if row)], refusals[0]]:
                     assert answer in answers, (words, bitmap, answer)
+                runs += len(answers)
+            # row by row no row is refused: where there is no memory to gather text it is written at once
+            texts = [
+                ("-i ", text_of(rows, last), [text_of(front, "error: out of memory") for front in fronts]),
+                ("-d ", damage_of(words, len(rows), last), [damage_of(words, count, "error: out of memory") for count in range(len(rows))]),
+            ]
+            for first, text, ended in texts:
+                whole, wants = (0, text, b""), [(3, text, b"") for text in ended]
+                *answers, end = program.refused_in_turn(first + words, data.hex(), refuse)
+                assert end == whole, (first, words)
+                for answer in answers:
+                    assert answer in [whole, *program.BEFORE_DECODING, *wants], (first, words, answer)
+                for answer in [*program.BEFORE_DECODING, wants[next(k for k, row in enumerate(rows) if row)]]:
+                    assert answer in answers, (first, words, answer)
+                assert answers.count(whole) > 1, (first, words)
                 runs += len(answers)
     print(f"  {len(DATA)} data, {runs} allocations refused in turn")
 
@@ -248,6 +276,11 @@ def allocations_of_the_program():
             for words, data, more in ALLOCATIONS:
                 assert allocations(bitmap + words, data) == words_alone + more, (bitmap, words, data)
                 runs += 1
+        # row by row: the look-ups, one buffer for the input, and one for the text with its last line
+        words_alone = allocations("-i g4 8 0 x", "")
+        for words, data, more in ALLOCATIONS[1:]:
+            assert allocations("-i " + words, data) == words_alone + LOOK_UPS + bool(data) + 1, (words, data)
+            runs += 1
     print(f"  {runs} runs with exact numbers of allocations")
 
 
