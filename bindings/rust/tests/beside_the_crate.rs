@@ -238,7 +238,7 @@ fn rows_one_at_a_time() {
 fn repaired_rows_are_counted() {
     // 8 columns of one-dimensional Group 3: an EOL and a white row, an EOL and a damaged line, an EOL and a white row.
     let line = "00000000000110011";
-    let bits = format!("{line}000000000001100000001{line}");
+    let bits = format!("{line}0000000000010000000011{line}");
     let data: Vec<u8> = (0..bits.len().div_ceil(8))
         .map(|byte| {
             (0..8).fold(0, |sum, k| {
