@@ -25,6 +25,20 @@ static int same(uint32_t one, const hayro_ccitt_outcome *first, uint32_t two, co
     return one == two && first->rows == second->rows && first->changes == second->changes && first->bytes_read == second->bytes_read;
 }
 
+static uint32_t by_rows(const uint8_t *data, size_t length, const hayro_ccitt_settings *settings, uint8_t *bytes, uint32_t *numbers,
+                        hayro_ccitt_outcome *outcome)
+{
+    hayro_ccitt_reader reader = {0, 0, 0};
+    hayro_ccitt_row row;
+    uint32_t opened = hayro_ccitt_open(data, length, settings, &reader);
+    uint32_t listed = hayro_ccitt_next_changes(data, length, &reader, numbers, 0, &row);
+    uint32_t packed = hayro_ccitt_next_packed(data, length, &reader, bytes, 0, &row);
+    outcome->rows = row.rows;
+    outcome->changes = row.changes;
+    outcome->bytes_read = row.bytes_read;
+    return opened + 10 * listed + 100 * packed + 1000 * hayro_ccitt_close(&reader);
+}
+
 int main(void)
 {
     static const uint32_t widths[4] = {0, 1, 8, 1728};
@@ -54,6 +68,12 @@ int main(void)
                 all += !same(one, &first, two, &second);
                 one = hayro_ccitt_decode_changes(row, 2, &settings, NULL, 0, &first);
                 two = hayro_ccitt_decode_changes(row, 2, &settings, &number, 0, &second);
+                all += !same(one, &first, two, &second);
+                one = by_rows(NULL, 0, &settings, NULL, NULL, &first);
+                two = by_rows(&none, 0, &settings, &none, &number, &second);
+                all += !same(one, &first, two, &second);
+                one = by_rows(row, 2, &settings, NULL, NULL, &first);
+                two = by_rows(row, 2, &settings, &none, &number, &second);
                 all += !same(one, &first, two, &second);
                 one = fax_encode_bitmap(NULL, 0, &encoded, NULL, 0, &told);
                 two = fax_encode_bitmap(&none, 0, &encoded, &none, 0, &other);

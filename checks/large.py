@@ -66,7 +66,7 @@ def decodes(library, picture, mode, flags, data):
     for (read, letters), made in zip(in_both_orders(data, flags), [calls, calls[1:2]]):
         settings = c_library.settings_of(mode, picture.columns, 0, letters)
         for name, written in made:
-            outcome, lent = c_library.Outcome(7, 7, 7), []
+            outcome, lent = c_library.Outcome(*[7] * 6), []
             if written is not None:
                 memory = bytearray(b"\xa5" * len(written))
                 lent = [(ctypes.c_uint8 * len(memory)).from_buffer(memory), ctypes.c_size_t(len(memory) // (4 if name == CHANGES else 1))]
@@ -288,7 +288,7 @@ def settings_at_the_ends():
                 settings = c_library.settings_of(mode, columns, limit, flags)
                 read = data.translate(c_library.MIRRORED) if "r" in flags else data
                 memory = (ctypes.c_uint32 * 2)(7, 7)
-                outcome = c_library.Outcome(7, 7, 7)
+                outcome = c_library.Outcome(*[7] * 6)
                 call = ctypes.c_char_p(read), ctypes.c_size_t(len(read)), ctypes.byref(settings)
                 for name, lent in ((MEASURE, ()), (CHANGES, (memory, ctypes.c_size_t(2)))):
                     status = getattr(library, name)(*call, *lent, ctypes.byref(outcome))

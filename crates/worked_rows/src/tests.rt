@@ -17,8 +17,8 @@ use hayro_ccitt::codes::{Color, Mode, Ticks};
 use hayro_ccitt::context::{decode_1d_line, decode_2d_line};
 use hayro_ccitt::tables::Tables;
 use hayro_ccitt::{
-    DecodeError, DecodeSettings, Decoder, DecoderContext, EncodingMode, Result, RowReader,
-    bits_fit, decode, decode_low_first, group4,
+    DecodeError, DecodeSettings, Decoder, DecoderContext, EncodingMode, Result, RowCursor,
+    RowReader, bits_fit, decode, decode_low_first, group4,
 };
 use std::alloc::{AllocError, AllocGlobal, Global};
 use std::process::Abort;
@@ -633,16 +633,37 @@ fn reads_rows(
     let mut reader = RowReader::new(rt.alloc(), data, BitOrder::HighestFirst, settings).expect(
         rt, "memory",
     );
+    let mut cursor = RowCursor::new(rt.alloc(), data, BitOrder::HighestFirst, settings).expect(
+        rt, "memory",
+    );
     for (row, start) in rows {
-        assert_eq!(rt; reader.next_row(), Ok(true));
+        assert_eq!(rt;
+            (reader.next_row(), cursor.next_row(data)),
+            (Ok(true), Ok(true))
+        );
         assert_eq!(rt; (reader.row(), reader.line_start()), (*row, *start));
+        assert_eq!(rt; (cursor.row(), cursor.line_start()), (*row, *start));
+        assert_eq!(rt; cursor.damage(), reader.damage());
     }
-    assert_eq!(rt; reader.next_row(), end);
-    assert_eq!(rt; reader.next_row(), end, "it stays at the end");
+    assert_eq!(rt; (reader.next_row(), cursor.next_row(data)), (end, end));
+    assert_eq!(rt;
+        (reader.next_row(), cursor.next_row(data)),
+        (end, end),
+        "it stays at the end"
+    );
     assert_eq!(rt;
         (reader.rows_read(), reader.bytes_read()),
         (rows.len() as u64, bytes)
     );
+    assert_eq!(rt;
+        (
+            cursor.rows_read(),
+            cursor.bytes_read(),
+            cursor.damaged_rows()
+        ),
+        (rows.len() as u64, bytes, reader.damaged_rows())
+    );
+    assert_eq!(rt; cursor.settings().columns, settings.columns);
 }
 
 #[test]
