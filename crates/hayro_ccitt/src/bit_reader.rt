@@ -291,6 +291,20 @@ impl<'a> BitReader<'a> {
         self.place
     }
 
+    /// Moves to another place.
+    #[inline(always)]
+    pub(crate) fn go_to(&mut self, place: usize)
+        requires { place ≤ length self.old.bits }
+        ensures { self.new ≡ record self.old { place = place } }
+    {
+        if place >= self.place && place - self.place <= 32 {
+            // The place is within the data.
+            let _ = self.consume(place - self.place);
+            return;
+        }
+        *self = BitReader::at_place(self.data, self.order, place);
+    }
+
     /// The same bits at another place.
     pub(crate) fn at_bit(&self, place: usize) -> BitReader<'a>
         requires { place ≤ length self.now.bits }
@@ -342,6 +356,20 @@ impl<'a> Model for BitsAtHand<'a> {
 }
 
 impl<'a> BitReader<'a> {
+    /// The same bits at the same place, none of them at hand yet.
+    #[inline(always)]
+    pub(crate) fn none_at_hand(&self) -> BitsAtHand<'a>
+        ensures { result ≡ record { at = self.now; left = 0 } }
+    {
+        BitsAtHand {
+            data: self.data,
+            window: 0,
+            left: 0,
+            limit: self.place,
+            order: self.order,
+        }
+    }
+
     /// The same bits at the same place, none of them at hand yet, where they are in this order.
     #[inline(always)]
     pub(crate) fn at_hand(&self, order: BitOrder) -> Option<BitsAtHand<'a>>
@@ -435,6 +463,15 @@ impl<'a> BitsAtHand<'a> {
         ensures { result ≡ self.now.left }
     {
         self.left
+    }
+
+    /// The number of bits before the place.
+    #[inline(always)]
+    pub(crate) fn bit_pos(&self) -> usize
+        ensures place { result ≡ self.now.at.place }
+        ensures within { result ≤ length self.now.at.bits }
+    {
+        self.limit - self.left
     }
 
     /// A reader at the same place.

@@ -508,15 +508,9 @@ impl DecoderContext {
         ensures within { self.new.passed ≤ length (changes self.old.held.reference) }
         ensures same_bits { reader.new.bits ≡ reader.old.bits }
     {
-        if let Some(mut hand) = reader.at_hand(BitOrder::HighestFirst) {
-            self.draw_modes_at_hand(&mut hand);
-            *reader = hand.reader();
-            return;
-        }
-        if let Some(mut hand) = reader.at_hand(BitOrder::LowestFirst) {
-            self.draw_modes_at_hand(&mut hand);
-            *reader = hand.reader();
-        }
+        let mut hand = reader.none_at_hand();
+        self.draw_modes_at_hand(&mut hand);
+        reader.go_to(hand.bit_pos());
     }
 
     /// Draws a white line under a white row, which V0 alone is, and returns whether one stands here; otherwise nothing changes.
