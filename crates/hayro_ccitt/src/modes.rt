@@ -528,11 +528,11 @@ fn draw_in_color(
         ) {
             None => return (place, at, color, true),
             Some((next, later, turned)) => {
+                if is_turned(color, turned) {
+                    return (next, later, turned, next == columns);
+                }
                 if next == columns {
                     return (next, later, turned, true);
-                }
-                if is_turned(color, turned) {
-                    return (next, later, turned, false);
                 }
                 place = next;
                 at = later;

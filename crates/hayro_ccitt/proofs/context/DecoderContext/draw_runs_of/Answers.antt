@@ -1,6 +1,6 @@
 use Rattle.std.proofs.Common.{◌≡◌, ap}
 use Rattle.hayro_ccitt.specs.Window.{AtHand}
-use Rattle.hayro_ccitt.proofs.context.DecoderContext.draw_usual_runs.Goals as goal
+use Rattle.hayro_ccitt.proofs.context.DecoderContext.draw_runs_of.Goals as goal
 
 pub returns-in-Some-clause-drawn : goal.returns-in-Some-clause-drawn
 returns-in-Some-clause-drawn c =
