@@ -182,5 +182,4 @@ lines_by_eols settings bits are encoding lenient no_block unlimited wide sought_
     let ends : IsPrefix (map (row_at settings.columns) (starts bits)) (ending_t4 settings bits).rows
     = by_run settings encoding lenient no_block unlimited wide
     (record { rows = []; has_eols = ltb 0 (all_eols bits).0 || settings.end_of_line; outcome = Err UnexpectedEof }) first (all_eols bits).1 first_is stay in
-    let whole : end_of settings bits ≡ ending_t4 settings bits = ap (λ (e : EncodingMode). ending_behind settings (first_gap e settings bits)) encoding in
-    rw columns (subst (λ (e : Ending). IsPrefix (map (row_at settings.columns) (starts bits)) e.rows) (sym whole) ends)
+    grind (arith, common_steps, ending_t4, map)

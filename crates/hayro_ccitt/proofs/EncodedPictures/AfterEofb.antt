@@ -77,8 +77,7 @@ aligned_split true j =
     let pad : Bits = take n j in
     let whole : j ≡ pad ++ drop n j = sym (take-append-drop n j) in
     let len : length pad ≡ n = length-take-le n j (omega arith) in
-    let sum : length j ≡ length pad + length (drop n j) = ap length whole ∙ length-append pad (drop n j) in
-    (pad, whole, λ more e. drop_at pad more (length (pad ++ more) % 8) (omega (arith, len, sum, e, length-append pad more)))
+    grind (arith, common_steps, drop_at, length-append)
 
 -- ---- A row of a run, and the gap before it.
 record MoveFound (settings : DecodeSettings) (run after : Progress) : Type 0 where
@@ -189,8 +188,7 @@ closed_plain settings last w rest four wide ends stream more is whole =
     let end : Ending = record { rows = last.rows; has_eols = last.has_eols; outcome = Ok more } in
     let (state, leads, over) = ends more whole in
     let here : end_of settings stream ≡ end = ap (end_of settings) is ∙ t6_end settings wide (w ++ more) state end four leads over in
-    let n : (length stream - length more + 7) / 8 ≡ (length w + 7) / 8 = omega (arith, ap length is, length-append w more) in
-    plain_ends settings stream end more wide here refl ∙ ap {B = Reading} (λ (k : ℕ). record { rows = last.rows; outcome = Ok k; has_eols = last.has_eols }) n
+    grind (arith, common_steps, length-append, plain_ends)
 
 -- data with the same bytes begin with the same bits, and go on with whole bytes as far
 same_front : (one two : Bits) (count : ℕ) (w rest : Bits) → AreWholeBytes one → AreWholeBytes two → one ≡ w ++ rest → (length w + 7) / 8 ≡ count
