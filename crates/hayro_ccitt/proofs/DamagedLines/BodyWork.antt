@@ -62,15 +62,6 @@ one_eol_looked here rest count before now is counted = grind (arith, common_step
 pub same_bound : (now before same : ℕ) (words known : List Bits) → same ≡ before → known ≡ words → now ≤ same + length known + 1 → now ≤ before + length words + 1
 same_bound now before same words known from is most = omega (arith, from, ap length is, most)
 
-module _ (bits : Bits) (from to : ℕ) (order : from ≤ to) where
-  -- the tests before a body and in it
-  tests_counted : (before behind one : ℕ) → behind ≤ before + looked (drop (from - 12) bits) → one ≡ behind + looked (drop from bits)
-      → one ≤ before + (2 * (to - from) + 2 * looked (drop to bits) + 12)
-  tests_counted before behind one first second =
-      grind (arith, common_steps, looked_between bits (from - 12) from, looked_between bits from to order)
-
-  -- all tests, and the line with so many words
-  pub body_counted : (words before behind one end eol line : ℕ) → behind ≤ before + looked (drop (from - 12) bits) → one ≡ behind + looked (drop from bits)
-      → end ≡ one + looked (drop to bits) → eol ≤ end + 2 * (to - from) + 2 * looked (drop to bits) → line ≤ eol + words + 1
-      → line ≤ before + (4 * (to - from) + 5 * looked (drop to bits) + words + 13)
-  body_counted words before behind one end eol line first second third fourth fifth = omega (arith, tests_counted before behind one first second, third, fourth, fifth)
+-- what is looked at before a body and in it
+pub tests_looked : (bits : Bits) (from to : ℕ) → from ≤ to → looked (drop (from - 12) bits) + looked (drop from bits) ≤ 2 * (to - from) + 2 * looked (drop to bits) + 12
+tests_looked bits from to order = omega (arith, looked_between bits (from - 12) from (omega arith), looked_between bits from to order)
