@@ -62,7 +62,11 @@ with_rows_found (row ∷ table) here entry found free e =
     by : (is_prefix_free (numbered table) ≡ true → word_at (numbered table) here ≡ Some found → with_rows table here (with_row row here entry) ≡ (length here - length found.1) * 4096 + found.0)
         → (o : Option Bits) → after (low_bits row.1 row.2) here ≡ o → with_rows table here (with_row row here entry) ≡ (length here - length found.1) * 4096 + found.0
     by on (Some rest) a =
-        grind (arith, common_steps, after_is, all_miss, length-append, length-low_bits, row_stands, with_rows_none)
+        let g : Option.Some (row.0, rest) ≡ Some found = rw (a, word_at) at e in
+        let p : (row.0, rest) ≡ found = cc in
+        let stands = after_is (low_bits row.1 row.2) here rest a in
+        let none : word_at (numbered table) here ≡ None = rw stands (all_miss (low_bits row.1 row.2) (numbered table) rest both.0) in
+        grind (arith, common_steps, length-append, length-low_bits, row_stands, with_rows_none)
     by on None a = grind (arith, common_steps)
 
 -- ---- Words that begin all bits.
@@ -112,8 +116,14 @@ covers_all (suc n) words (b ∷ here) e h = by (λ c k. covers_all n (tails c wo
   where
     by : ((c : Bool) → covers n (tails c words) ≡ true → Begins (tails c words) here) → (t : Bool) → has_empty words ≡ t → (c : Bool) → Begins words (c ∷ here)
     by more true a c = ([], empty_in words a, c ∷ here, refl)
-    by more false a true = grind (arith, common_steps, and_parts, in_tails)
-    by more false a false = grind (arith, common_steps, and_parts, in_tails)
+    by more false a true =
+        let both = and_parts (covers n (tails true words)) (covers n (tails false words)) (rw (a, covers) at e) in
+        let on = more true both.0 in
+        (true ∷ on.0, in_tails true words on.0 on.1, on.2, ap (λ (x : Bits). true ∷ x) on.3)
+    by more false a false =
+        let both = and_parts (covers n (tails true words)) (covers n (tails false words)) (rw (a, covers) at e) in
+        let on = more false both.1 in
+        (false ∷ on.0, in_tails false words on.0 on.1, on.2, ap (λ (x : Bits). false ∷ x) on.3)
 
 abbrev words_of : {V : Type 0} → List (Code V) → List Bits
 words_of list = map (λ c. c.word) list

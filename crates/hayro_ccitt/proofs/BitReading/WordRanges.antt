@@ -51,7 +51,11 @@ word_begins width rest word n fits below some = rw (low_bits-append width rest n
     differ : (o : Option Bits) → after (low_bits width word) (low_bits width (n / 2 ^ rest) ++ low_bits rest n) ≡ o → (n / 2 ^ rest ≡ word → ⊥)
         → is_prefix (low_bits width word) (low_bits width (n / 2 ^ rest) ++ low_bits rest n) ≡ false
     differ None e other = rw (e, is_prefix) refl
-    differ (Some more) e other = grind (arith, common_steps, after_is, length-low_bits, low_bits-same, mod-eq_of_lt, same_front)
+    differ (Some more) e other =
+        grind (arith, common_steps, after_is (low_bits width word) (low_bits width (n / 2 ^ rest) ++ low_bits rest n) more e,
+        length-low_bits width (n / 2 ^ rest), length-low_bits width word, low_bits-same width (n / 2 ^ rest) word, mod-eq_of_lt
+        small, mod-eq_of_lt fits, same_front (low_bits width (n / 2 ^ rest)) (low_bits width word) (low_bits rest n) more
+        (length-low_bits width (n / 2 ^ rest) ∙ sym (length-low_bits width word)), small)
 
     by : (n / 2 ^ rest ≡ word) ⊎ (n / 2 ^ rest ≡ word → ⊥)
         → is_prefix (low_bits width word) (low_bits width (n / 2 ^ rest) ++ low_bits rest n) ≡ eqb (n / 2 ^ rest) word

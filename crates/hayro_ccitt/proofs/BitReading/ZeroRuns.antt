@@ -71,7 +71,11 @@ eols_enough most here le = alike most (length here) here le (omega arith)
     alike most others [] le le1 = none most ∙ sym (none others)
     alike zero others (bit ∷ here) le le1 = absurd (omega (arith, le))
     alike (suc most) zero (bit ∷ here) le le1 = absurd (omega (arith, le1))
-    alike (suc most) (suc others) (bit ∷ here) le le1 = grind (arith, common_steps, after_eol_shorter)
+    alike (suc most) (suc others) (bit ∷ here) le le1 = by (λ rest. alike most others rest) (after_eol 0 (bit ∷ here)) refl
+      where
+        by : ((rest : Bits) → length rest ≤ most → length rest ≤ others → eols most rest ≡ eols others rest) → (o : Option Bits)
+            → after_eol 0 (bit ∷ here) ≡ o → eols (suc most) (bit ∷ here) ≡ eols (suc others) (bit ∷ here)
+        by on o e = grind (arith, common_steps, after_eol_shorter)
 
 -- where more EOLs than bits are looked for, the bits after the last are looked at
 pub eols_look_on : (most : ℕ) (here rest : Bits) (count : ℕ) → length here < most → eols most here ≡ (count, rest)

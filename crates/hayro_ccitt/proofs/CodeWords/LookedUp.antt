@@ -80,7 +80,9 @@ looked_up_found color here e h = by (word_at (codes_of color) (padded 13 here)) 
   where
     by : (o : Option (ℕ × Bits)) → word_at (codes_of color) (padded 13 here) ≡ o
         → read_code (codes_of color) here ≡ Ok (run_or_none (codes_of color) (padded 13 here), drop (telling_bits (codes_of color) (padded 13 here)) here)
-    by (Some found) a = grind (arith, common_steps, codes_tell, run_of_found, tells_found)
+    by (Some found) a =
+        grind (arith, common_steps, codes_tell color, run_of_found (codes_of color) (padded 13 here) found a, tells_found 13
+        (codes_of color) (codes_tell color) here found a h)
     by None a = absurd (e (run_of_none (codes_of color) (padded 13 here) a))
 
 -- at least one bit is needed
@@ -88,7 +90,9 @@ pub some_bits_tell : (color : Color) (here : Bits) → 0 < telling_bits (codes_o
 some_bits_tell color here = by (word_at (codes_of color) (padded 13 here)) refl
   where
     by : (o : Option (ℕ × Bits)) → word_at (codes_of color) (padded 13 here) ≡ o → 0 < telling_bits (codes_of color) (padded 13 here)
-    by (Some found) e = grind (arith, common_steps, codes_tell, telling_is, word_at_found, word_length, words_not_empty)
+    by (Some found) e =
+        let (w, has, at) = word_at_found (codes_of color) (padded 13 here) found e in
+        omega (arith, telling_is 13 (codes_of color) (codes_tell color) here found w e at, word_length (codes_of color) found.0 w (words_not_empty color) has)
     by None e = omega (arith, telling_none 13 (codes_of color) (codes_tell color) here e)
 
 -- a word that is there is within the bits looked at

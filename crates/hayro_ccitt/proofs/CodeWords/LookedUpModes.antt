@@ -32,7 +32,8 @@ mode_begins mode width word n has le fits below e = by (after (low_bits width wo
     by : (o : Option Bits) → after (low_bits width word) (seven_bits n) ≡ o → ◌≡◌ {A = Option Mode × ℕ} (Some mode, width) (mode_told (seven_bits n))
     by None a = absurd (false≢true (rw (a, is_prefix) at (begins width word n le fits below e)))
     by (Some rest) a =
-        grind (arith, common_steps, after_is, length-append, length-low_bits, modes_free, option_map, word_at_again)
+        let stands = after_is (low_bits width word) (seven_bits n) rest a in
+        grind (arith, common_steps, length-append, length-low_bits, modes_free, option_map, word_at_again)
 
 -- no word begins with six zeros
 pub mode_none : (n : ℕ) → n < 2 → ◌≡◌ {A = Option Mode × ℕ} (None, 6) (mode_told (seven_bits n))

@@ -123,7 +123,8 @@ module _ {V : Type 0} (n : ℕ) (list : List (Code V)) (tells : TellsWords n lis
     where
       uncut : IsCut list here → ⊥
       uncut (v, w, has, begins) =
-          grind (arith, common_steps, length-append, longest_bounds, prefix_agrees, telling_none, width_of)
+          grind (arith, common_steps, length-append here begins.0, longest_bounds list (padded n here) v w has, prefix_agrees n
+          here begins.0, telling_none e, width_of v w has)
 
   -- of a prefix that is shorter than its word no word is a prefix
   none_of : (v : V) (w more : Bits) → Has list v w → w ≡ here ++ more → length here < length w → NoneStands list here

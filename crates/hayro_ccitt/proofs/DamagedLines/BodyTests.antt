@@ -47,7 +47,9 @@ behind_eol bits rest place zeros far within is eol = (
       where
         by : (b : Bool) → cond b (Some rest) None ≡ Some (drop place bits) → zeros ≡ 11
         by false e = absurd (let f : ◌≡◌ {A = Option Bits} None (Some (drop place bits)) = e in cc)
-        by true e = grind (arith, common_steps, length-append, length-drop, length-replicate)
+        by true e =
+            grind (arith, common_steps, length-append (replicate zeros false) (true ∷ rest), length-drop place bits, length-drop
+            (place - 12) bits, length-replicate zeros false)
 
 -- ---- A one in a body.
 zeros_only : (m : ℕ) (here : Bits) → m ≤ leading_zeros here → take m here ≡ replicate m false
@@ -101,7 +103,11 @@ no_eol_in_front m here none = found_ends (take m here) ∙ by (past 0 (take m he
   where
     by : (o : Option Bits) → past 0 (take m here) ≡ o → is_some (past 0 (take m here)) ≡ false
     by None e = rw e refl
-    by (Some after) e = grind (arith, common_steps, past, past-front, past_is, take-append-drop, then_after)
+    by (Some after) e = absurd (
+        let whole = past-front 0 (take m here) after (drop m here) e in
+        let nothing : past 0 here ≡ None = past_is here ∙ ap then_after none in
+        let both : ◌≡◌ {A = Option Bits} None (Some (after ++ drop m here)) = sym nothing ∙ ap (past 0) (sym (take-append-drop m here)) ∙ whole in
+        cc)
 
 -- the next EOL stands in the first bits if it ends there
 eol_in_front : (m : ℕ) (here found after : Bits) → next_eol here ≡ Some found → after_eol 0 found ≡ Some after
@@ -113,7 +119,9 @@ eol_in_front m here found after next eol = found_ends (take m here) ∙ by (past
 
     by : (o : Option Bits) → past 0 (take m here) ≡ o → is_some (past 0 (take m here)) ≡ leb (length (drop m here)) (length after)
     by None e = rw (e, lt-leb (length (drop m here)) (length after) (past-behind 0 (take m here) after (drop m here) e whole)) refl
-    by (Some front) e = grind (arith, common_steps, le-leb, length-append, past-front)
+    by (Some front) e =
+        let both : ◌≡◌ {A = Option Bits} (Some (front ++ drop m here)) (Some after) = sym (past-front 0 (take m here) front (drop m here) e) ∙ whole in
+        grind (arith, common_steps, le-leb, length-append)
 
 -- an EOL stands between two places if the next one ends there
 pub eol_by_ends : (bits : Bits) (from to end : ℕ) (found : Bits) → from ≤ to → to ≤ length bits → end ≤ length bits → next_eol (drop from bits) ≡ Some found

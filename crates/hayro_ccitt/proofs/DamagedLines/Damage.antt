@@ -170,7 +170,8 @@ module _ (settings : DecodeSettings) (one two : Bits) (from : ℕ) (after : Bits
       by (all_eols_alike (drop from one) (drop from two) tail_one.none tail_two.none front)
     where
       front_is : take from one ≡ front ++ true ∷ []
-      front_is = grind (arith, common_steps, append_assoc, append_cancel_right, take-append-drop)
+      front_is = append_cancel_right (take from one) (front ++ true ∷ []) (drop from one)
+          (take-append-drop from one ∙ is ∙ sym (append_assoc front (true ∷ []) (drop from one)))
 
       is_two : two ≡ front ++ true ∷ drop from two
       is_two = sym (take-append-drop from two) ∙ ap (λ (b : Bits). b ++ drop from two) (sym same ∙ front_is) ∙ append_assoc front (true ∷ []) (drop from two)
@@ -181,7 +182,23 @@ module _ (settings : DecodeSettings) (one two : Bits) (from : ℕ) (after : Bits
       by : ((all_eols (front ++ true ∷ drop from one)).0 ≡ (all_eols (front ++ true ∷ drop from two)).0)
           × RestAlike (drop from one) (drop from two) front (all_eols (front ++ true ∷ drop from one)).1 (all_eols (front ++ true ∷ drop from two)).1
           → RunsAlike Begun from (drop from one) (drop from two) after (first one) (first two)
-      by (counts, rests) = grind (arith, common_steps, first_is)
+      by (counts, rests) = elim rests [
+        | inl a ↦ RunsAlike.ahead [] a.0 (a.2 closes) (omega (arith, a.1, short))
+            (first_is one (a.0 ++ true ∷ drop from one) seeks_one (place_one ∙ a.3)) (first_is two (a.0 ++ true ∷ drop from two) seeks_two (place_two ∙ a.4))
+        | inr a ↦ RunsAlike.there [] (first_is one (drop from one) seeks_one (place_one ∙ a.0)) (first_is two (drop from two) seeks_two (place_two ∙ a.1))
+      ]
+        where
+          same_count : (all_eols one).0 ≡ (all_eols two).0
+          same_count = ap (λ (b : Bits). (all_eols b).0) is ∙ counts ∙ sym (ap (λ (b : Bits). (all_eols b).0) is_two)
+
+          seeks_two : (ltb 0 (all_eols two).0 || settings.end_of_line) ≡ true
+          seeks_two = ap (λ (n : ℕ). ltb 0 n || settings.end_of_line) (sym same_count) ∙ seeks_one
+
+          place_one : (all_eols one).1 ≡ (all_eols (front ++ true ∷ drop from one)).1
+          place_one = ap (λ (b : Bits). (all_eols b).1) is
+
+          place_two : (all_eols two).1 ≡ (all_eols (front ++ true ∷ drop from two)).1
+          place_two = ap (λ (b : Bits). (all_eols b).1) is_two
 
   begin : ((from ≡ 0) ⊎ ((place : ℕ) × IsEol one place from)) → ((settings.end_of_line ≡ true) ⊎ ((end : ℕ) × (end ≤ from) × IsEol one 0 end))
       → RunsAlike Begun from (drop from one) (drop from two) after (first one) (first two)
@@ -235,7 +252,15 @@ locality settings one are whole_one two from to to2 whole_two differ = by (cases
         → OneRowDiffers settings one two from (plain settings one).rows (plain settings two).rows
         × EndAlike settings one two from (plain settings one).rows (plain settings one).outcome (plain settings two).outcome
     by (inl e) = grind (arith, common_steps)
-    by (inr e) = grind (arith, common_steps, answers_alike, begin, cases_lt, ends_alike, length-drop, sought)
+    by (inr e) =
+        let wide : 0 < settings.columns = elim (cases_lt 0 settings.columns) [ inl lt ↦ lt | inr ge ↦ absurd (e (omega arith)) ] in
+        let fits_one : from ≤ length one = omega (arith, local_one.order, local_one.within) in
+        let fits_two : from ≤ length two = omega (arith, local_two.order, local_two.within) in
+        let firsts = begin settings one two from local_one.closes.0 fits_one differ.before tail_one tail_two local_one.starts differ.sought in
+        let ends = ends_alike settings one
+        two from local_one.closes.0 fits_one differ.before tail_one tail_two local_one.encoding local_one.lenient wide firsts in
+        answers_alike settings wide one two from (drop from one) (drop from two) local_one.closes.0 whole_one whole_two
+        (omega (arith, fits_one, length-drop from one)) (omega (arith, fits_two, length-drop from two)) refl refl tail_one tail_two ends
 
 -- a run that gave the rows and the outcome of the plain reading has what the law says
 pub damage_stays : (settings : DecodeSettings) (bits : Bits) (rows : List Row) (outcome : Result ℕ DecodeError) → AreSettings settings → AreWholeBytes bits

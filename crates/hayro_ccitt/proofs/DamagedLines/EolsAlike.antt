@@ -101,8 +101,19 @@ module _ (x y : Bits) where
         by : ((rest : Bits) → length rest < n → CountAlike rest (all_eols (rest ++ true ∷ x)) (all_eols (rest ++ true ∷ y))) → (o p : Option Bits)
             → after_eol 0 (bits ++ true ∷ x) ≡ o → after_eol 0 (bits ++ true ∷ y) ≡ p
             → EolAlike bits o p → CountAlike bits (all_eols (bits ++ true ∷ x)) (all_eols (bits ++ true ∷ y))
-        by on o p e f (inl a) = grind (arith, common_steps, after_shorter, all_eols-some, closes_after)
-        by on o p e f (inr (inl a)) = grind (arith, common_steps, all_eols-none, all_eols-some)
+        by on o p e f (inl a) =
+            let shorter = after_shorter bits a.0 a.1 a.2 in
+            let more = on a.1 (omega (arith, shorter, lt)) in
+            rw (all_eols-some (bits ++ true ∷ x) (a.1 ++ true ∷ x) (e ∙ a.3), all_eols-some (bits ++ true ∷ y) (a.1 ++ true ∷ y) (f ∙ a.4)) (
+              ap suc more.0,
+              elim more.1 [
+                | inl b ↦ inl (b.0, omega (arith, b.1, shorter), λ closes. b.2 (closes_after a.0 a.1 closes.0 (sym a.2 ∙ closes.1)), b.3, b.4)
+                | inr b ↦ inr b
+              ],
+            )
+        by on o p e f (inr (inl a)) =
+            grind (arith, common_steps, all_eols-none x none_x, all_eols-none y none_y, all_eols-some (bits ++ true ∷ x) x (e ∙
+            a.0), all_eols-some (bits ++ true ∷ y) y (f ∙ a.1))
         by on o p e f (inr (inr a)) = grind (arith, common_steps, all_eols-none)
 
     -- the EOLs that stand in a row are alike in both

@@ -62,9 +62,25 @@ from_later seen (true ∷ here) end c =
   where
     by : (b : Bool) → (leb 11 seen && begins_line here) ≡ b → (Contains (later_starts 0 here) end → EndsLater 0 here end × (begins_line end ≡ true))
         → Contains (cond b (here ∷ []) []) end ⊎ Contains (later_starts 0 here) end → EndsLater seen (true ∷ here) end × (begins_line end ≡ true)
-    by true e on (inl found) = grind (arith, common_steps, and_parts, contains_one, eol_of, leb-true)
+    by true e on (inl found) =
+        grind (arith, common_steps, and_parts (leb 11 seen) (begins_line here) e, contains_one here end found, eol_of 0 seen
+        here, leb-true 11 seen)
     by false e on (inl found) = absurd (contains_none end found)
-    by b e on (inr found) = grind (arith, common_steps, append_assoc)
+    by b e on (inr found) =
+        let f = on found in
+        let g = f.0 in (
+          (
+            g.0,
+            (
+              replicate seen false ++ true ∷ g.1.0,
+              ap (λ (h : Bits). replicate seen false ++ true ∷ h) g.1.1
+                  ∙ sym (append_assoc (replicate seen false) (true ∷ g.1.0) g.0),
+            ),
+            g.2,
+            omega (arith, g.3),
+          ),
+          f.1,
+        )
 
 -- of two ends of one list the shorter is an end of the longer
 shorter_end : (xs ys us vs : Bits) → xs ++ ys ≡ us ++ vs → length vs ≤ length ys → Leaves ys vs
@@ -127,7 +143,22 @@ to_later seen (true ∷ here) end (at, leaves, eol, lt) b = elim (cases_lt (leng
     whole = leaves.1 ∙ ap (λ (h : Bits). leaves.0 ++ h) is.1 ∙ sym (append_assoc leaves.0 (replicate is.0 false) (true ∷ end))
 
     inside : length end < length here → Leaves here at
-    inside less = grind (arith, common_steps, append_assoc, cases_lt, first_one, length-append, length-replicate, shorter_end)
+    inside less = elim (cases_lt (length here) (length at)) [
+      | inl longer ↦ absurd (
+          let f = shorter_end leaves.0 at (replicate seen false) (true ∷ here) (sym leaves.1) (omega arith) in
+          omega (
+            arith,
+            less,
+            first_one is.0 end f.0 here (sym is.1 ∙ f.1),
+            ap length f.1,
+            length-append f.0
+                (true ∷ here),
+            ap length is.1,
+            length-append (replicate is.0 false) (true ∷ end),
+            length-replicate is.0 false,
+          ))
+      | inr short ↦ shorter_end (replicate seen false ++ true ∷ []) here leaves.0 at (append_assoc (replicate seen false) (true ∷ []) here ∙ leaves.1) short
+    ]
 
 -- ---- The EOLs at the front end with a one
 
@@ -141,7 +172,21 @@ first_leaves (suc n) bits lt = by (first_leaves n) (after_eol 0 bits) refl
   where
     by : ((rest : Bits) → length rest < n → FirstLeaves rest (all_eols rest).1) → (o : Option Bits) → after_eol 0 bits ≡ o → FirstLeaves bits (all_eols bits).1
     by on None e = rw (all_eols-none bits e) ([], refl, inl refl)
-    by on (Some rest) e = grind (arith, common_steps, after_eol_is, after_eol_shorter, all_eols-some, append_assoc)
+    by on (Some rest) e =
+        let is = after_eol_is 0 bits rest e in
+        let f = on rest (omega (arith, after_eol_shorter 0 bits rest e)) in
+        rw (all_eols-some bits rest e) (
+          replicate is.0 false ++ true ∷ f.0,
+          is.1 ∙ ap (λ (b : Bits). replicate is.0 false ++ true ∷ b) f.1 ∙ sym (append_assoc (replicate is.0 false) (true ∷ f.0) (all_eols rest).1),
+          inr (elim f.2 [
+            | inl none ↦ (replicate is.0 false, ap (λ (b : Bits). replicate is.0 false ++ true ∷ b) none)
+            | inr more ↦ (
+              replicate is.0 false ++ true ∷ more.0,
+              ap (λ (b : Bits). replicate is.0 false ++ true ∷ b) more.1
+                  ∙ sym (append_assoc (replicate is.0 false) (true ∷ more.0) (true ∷ [])),
+            )
+          ]),
+        )
 
 contains_first : (here other : Bits) (rest : List Bits) → Contains (here ∷ rest) other → (here ≡ other) ⊎ Contains rest other
 contains_first here other rest given = grind (arith, common_steps)
@@ -213,8 +258,23 @@ module _ (bits : Bits) where
           before : (leaves_first.0 ≡ []) ⊎ ((more : Bits) × (leaves_first.0 ≡ more ++ true ∷ [])) → length (all_eols bits).1 < length (drop at bits) → ⊥
           before (inl none_before) longer = omega (arith, longer, ap length none_before, first_length, length-drop at bits)
           before (inr (more, is)) longer =
-              grind (arith, common_steps, after_eol_is, append_assoc, first_length, first_one, length-append, length-drop,
-              length-replicate, shorter_end)
+              let split : more ++ true ∷ (all_eols bits).1 ≡ take at bits ++ drop at bits = sym (append_assoc more (true ∷ []) (all_eols bits).1)
+              ∙ ap (λ (b : Bits). b ++ (all_eols bits).1) (sym is) ∙ whole in
+              let f = shorter_end (take at bits) (drop at bits) more (true ∷ (all_eols bits).1) (sym split) (omega (arith, longer)) in
+              let zeros_one = after_eol_is 0 (drop at bits) (drop place bits) eol.2 in
+              omega (
+                arith,
+                first_one zeros_one.0 (drop place bits) f.0 (all_eols bits).1 (sym zeros_one.1 ∙ f.1),
+                ap length f.1,
+                length-append f.0 (true ∷ (all_eols bits).1),
+                ap length zeros_one.1,
+                length-append (replicate zeros_one.0 false) (true ∷ drop place bits),
+                length-replicate zeros_one.0 false,
+                length-drop place bits,
+                later,
+                below,
+                first_length,
+              )
 
 -- the law
 pub starts_are : StartsAre

@@ -113,8 +113,13 @@ module _ (settings : DecodeSettings) (bits : Bits) (from to : ℕ) (local : IsLo
       by : (o : Option Bits) → past 0 body ≡ o → past 0 body ≡ None
       by None e = e
       by (Some rest) e =
-          grind (arith, common_steps, after_eol-append, after_eol_is, append_assoc, body_length, cut, found_next, length-append,
-          length-replicate, next_eol_leaves, not_within)
+          let next = found_next body rest e in
+          let before = next_eol_leaves body next.0 next.1 in
+          let is = after_eol_is 0 next.0 rest next.2 in
+          let e2 : line_on ≡ before.0 ++ (next.0 ++ eol_on) = cut ∙ ap (λ (b : Bits). b ++ eol_on) before.1 ∙ append_assoc before.0 next.0 eol_on in
+          let f2 : next.0 ++ eol_on ≡ replicate is.0 false ++ true ∷ (rest ++ eol_on) = ap (λ (b : Bits). b ++ eol_on) is.1
+          ∙ append_assoc (replicate is.0 false) (true ∷ rest) eol_on in
+          grind (arith, common_steps, after_eol-append, body_length, length-append, length-replicate, not_within)
 
   no_eol_here : after_eol 0 line_on ≡ None
   no_eol_here = by (after_eol 0 line_on) refl
@@ -122,8 +127,15 @@ module _ (settings : DecodeSettings) (bits : Bits) (from to : ℕ) (local : IsLo
       by : (o : Option Bits) → after_eol 0 line_on ≡ o → after_eol 0 line_on ≡ None
       by None e = e
       by (Some rest) e =
-          grind (arith, common_steps, after_eol_is, drop-drop, first_one, length-drop, length-take-le, not_within,
-          take-append-drop)
+          let is = after_eol_is 0 line_on rest e in
+          let n : ℕ = local.one.0 - from in
+          let sum : from + n ≡ local.one.0 = omega (arith, local.one.1) in
+          let there : drop n line_on ≡ true ∷ local.one.3.0 = drop-drop n from bits ∙ ap (λ (k : ℕ). drop k bits) sum ∙ local.one.3.1 in
+          let split : replicate is.0 false ++ true ∷ rest ≡ take n line_on ++ true ∷ local.one.3.0 = sym is.1 ∙ sym (take-append-drop n line_on)
+          ∙ ap (λ (b : Bits). take n line_on ++ b) there in
+          let short : length (take n line_on) ≡ n = length-take-le n line_on (omega (arith, length-drop from bits, local.one.1, local.one.2, local.within)) in
+          let first = first_one is.0 rest (take n line_on) local.one.3.0 split in
+          absurd (not_within [] rest is.0 line_on refl is.1 e (omega (arith, first, short, local.one.1, local.one.2)))
 
   next_is : past 0 line_on ≡ Some local.closes.0
   next_is = ap (past 0) cut ∙ past_before 0 body eol_on local.closes.0 none_in_body local.closes.1

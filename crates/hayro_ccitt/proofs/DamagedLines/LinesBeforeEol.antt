@@ -92,7 +92,11 @@ read_code_alike : (color : Color) (bits x y : Bits) → Inside bits
 read_code_alike color bits x y inside = by (read_code (codes_of color) (bits ++ x)) (read_code (codes_of color) (bits ++ y)) refl refl
   where
     by : (r q : Result (ℕ × Bits) DecodeError) → read_code (codes_of color) (bits ++ x) ≡ r → read_code (codes_of color) (bits ++ y) ≡ q → FoundAlike x y r q
-    by (Ok (n, rest)) (Ok (m, other)) e f = grind (arith, common_steps, reads_too)
+    by (Ok (n, rest)) (Ok (m, other)) e f =
+        let g = reads_too color bits x y n rest inside e in
+        let same : ◌≡◌ {A = Result (ℕ × Bits) DecodeError} (Ok (n, g.0 ++ y)) (Ok (m, other)) = sym g.3 ∙ f in
+        let pairs : (n, g.0 ++ y) ≡ (m, other) = cc in
+        (ap (λ (p : ℕ × Bits). p.0) pairs, (g.0, g.1, g.2, sym (ap (λ (p : ℕ × Bits). p.1) pairs)))
     by (Ok (n, rest)) (Err fault) e f = grind (arith, common_steps, reads_too color bits x y n rest inside e)
     by (Err fault) (Ok (m, other)) e f = grind (arith, common_steps, reads_too color bits y x m other inside f)
     by (Err fault) (Err other) e f = tt
@@ -150,7 +154,8 @@ module _ (x y : Bits) where
         painted n = front ++ replicate (min n (columns - length front)) (is_black color)
 
         drawn_by : Result (ℕ × Bits) DecodeError → Step
-        drawn_by r = grind (arith, common_steps, try)
+        drawn_by r = try front r (λ run. try front (paint false columns front color run.0)
+            (λ more. Turn.next (record { front = more; color = opposite color; rest = run.1 })))
 
         drew : (r q : Result (ℕ × Bits) DecodeError) → FoundAlike x y r q → Follows Pens LineAlike rest (drawn_by r) (drawn_by q)
         drew r q g = grind (arith, common_steps)

@@ -73,7 +73,10 @@ pub line_past : (columns : ℕ) (here after : Bits) → StaysBefore columns here
 line_past columns here after stays e = by (line_1d false columns here) refl (line_1d_leaves false columns here)
   where
     by : (line : Line) → line_1d false columns here ≡ line → LineLeaves here line → past 0 (rest_of line here) ≡ Some after
-    by (Line.whole row rest) l leaves = grind (arith, common_steps, found_next, past, past_later)
+    by (Line.whole row rest) l leaves =
+        let next = found_next here after e in
+        let f : past 0 (leaves.0 ++ rest) ≡ Some after = ap (past 0) (sym leaves.1) ∙ e in
+        past_later 0 leaves.0 rest after f (stays next.0 after next.1 next.2 row rest l)
     by (Line.broken front fault) l leaves = e
 
 module _ (settings : DecodeSettings) (encoding : settings.encoding ≡ Group3_1D) (lenient : settings.strict ≡ false)
@@ -117,7 +120,9 @@ module _ (settings : DecodeSettings) (encoding : settings.encoding ≡ Group3_1D
           → IsPrefix (rows ++ map (row_at settings.columns) (here ∷ later_starts 0 here)) (rest_end (sought rows here)).rows)
           → (o : Option Bits) → past 0 here ≡ o → IsPrefix (rows ++ map (row_at settings.columns) (here ∷ later_starts 0 here))
           (after_turn rest_end (after_row settings (sought (rows ++ first ∷ []) rest))).rows
-      by on None e = grind (arith, common_steps, after_row, after_row_keeps, sought, starts-none, turn_extends)
+      by on None e = rw (starts-none 0 here e)
+          (turn_extends (rows ++ first ∷ []) (after_row settings (sought (rows ++ first ∷ []) rest))
+          (after_row_keeps settings (sought (rows ++ first ∷ []) rest)))
       by on (Some after) e = go (all_eols after).1 refl
         where
           others : List Row
@@ -125,14 +130,32 @@ module _ (settings : DecodeSettings) (encoding : settings.encoding ≡ Group3_1D
 
           turn : (there : Bits) → (all_eols after).1 ≡ there
               → after_row settings (sought others rest) ≡ cond (at_end there) (ends_with (sought others rest) (Ok there)) (Turn.next (sought others there))
-          turn there is = grind (arith, common_steps, after_row_past, line_past, not_met, over_is, sought)
+          turn there is =
+              after_row_past settings encoding lenient others rest after (not_met (length others))
+              (line_past settings.columns here after (All-head (StaysBefore settings.columns) here (later_starts 0 here) stay) e)
+              ∙ over_is others rest (suc (all_eols after).0) (all_eols after).1
+              ∙ ap (λ (x : Bits). cond (at_end x) (ends_with (sought others rest) (Ok x)) (Turn.next (sought others x))) is
 
           go : (there : Bits) → (all_eols after).1 ≡ there
               → IsPrefix (rows ++ map (row_at settings.columns) (here ∷ later_starts 0 here))
               (after_turn rest_end (after_row settings (sought others rest))).rows
-          go [] is = grind (arith, common_steps, after_turn, append-nil, map, starts-next)
+          go [] is =
+              let none : later_starts 0 here ≡ [] = starts-next here after e ∙ ap from_here is in
+              subst (λ (m : Move). IsPrefix (rows ++ map (row_at settings.columns) (here ∷ later_starts 0 here)) (after_turn rest_end m).rows) (sym (turn [] is))
+              (rw none ([], sym (append-nil others)))
           go (b ∷ there) is =
-              grind (arith, common_steps, after_turn, append_assoc, eols_shorter, map, past_shorter, sought, starts-next)
+              let some : later_starts 0 here ≡ (b ∷ there) ∷ later_starts 0 (b ∷ there) = starts-next here after e ∙ ap from_here is in
+              let smaller : length (b ∷ there) < n = omega (arith, lt, past_shorter 0 here after e, eols_shorter (length after) after, ap length is) in
+              let tail = All-same (StaysBefore settings.columns) ((b ∷ there) ∷ later_starts 0 (b ∷ there)) (later_starts 0 here) (sym some)
+              (All-tail (StaysBefore settings.columns) here (later_starts 0 here) stay) in
+              let further = on others (b ∷ there) smaller tail in
+              let all : rows ++ map (row_at settings.columns) (here ∷ later_starts 0 here) ≡ others ++ map (row_at settings.columns)
+              ((b ∷ there) ∷ later_starts 0 (b ∷ there))
+              = ap (λ (x : List Bits). rows ++ map (row_at settings.columns) (here ∷ x)) some
+              ∙ sym (append_assoc rows (first ∷ []) (map (row_at settings.columns) ((b ∷ there) ∷ later_starts 0 (b ∷ there)))) in
+              subst (λ (m : Move). IsPrefix (rows ++ map (row_at settings.columns) (here ∷ later_starts 0 here)) (after_turn rest_end m).rows)
+              (sym (turn (b ∷ there) is))
+              (subst (λ (x : List Row). IsPrefix x (rest_end (sought others (b ∷ there))).rows) (sym all) further)
 
   -- the whole run begins at the first of them
   by_run : (run : Progress) (here : Bits) → run ≡ sought [] here → All (StaysBefore settings.columns) (here ∷ later_starts 0 here)

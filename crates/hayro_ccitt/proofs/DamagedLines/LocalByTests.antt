@@ -69,11 +69,36 @@ module _ (settings : DecodeSettings) (bits : Bits) (from to : ℕ) where
       body_length = length-take-le (to - from) (drop from bits) (omega (arith, length-drop from bits, tests.order, tests.within))
 
       one : (place : ℕ) × (from ≤ place) × (place < to) × ((more : Bits) × (drop place bits ≡ true ∷ more))
-      one = grind (arith, common_steps, append_assoc, drop-drop, drop_at, holds_one, length-append, take-append-drop)
+      one =
+          let f = holds_one body (λ e. tests.one (e ∙ ap (λ (n : ℕ). replicate n false) body_length)) in
+          let line : drop from bits ≡ f.0 ++ (true ∷ (f.1 ++ drop (to - from) (drop from bits))) = sym (take-append-drop (to - from) (drop from bits))
+          ∙ ap (λ (b : Bits). b ++ drop (to - from) (drop from bits)) f.2 ∙ append_assoc f.0 (true ∷ f.1) (drop (to - from) (drop from bits)) in (
+            from + length f.0,
+            omega arith,
+            omega (arith, body_length, ap length f.2, length-append f.0 (true ∷ f.1), tests.order),
+            (
+              f.1 ++ drop (to - from) (drop from bits),
+              sym (drop-drop (length f.0) from bits)
+                  ∙ drop_at (drop from bits) f.0 (true ∷ (f.1 ++ drop (to - from) (drop from bits))) (length f.0) line refl,
+            ),
+          )
 
       no_eol : (place end : ℕ) → from ≤ place → end ≤ to → IsEol bits place end → ⊥
       no_eol place end le le2 (lt, inside, eol) =
-          grind (arith, common_steps, after_eol_is, drop-drop, eol_lengths, eol_of, none_further, take-split, take_zeros)
+          let is = after_eol_is 0 (drop place bits) (drop end bits) eol in
+          let j : ℕ = place - from in
+          let sum : from + j ≡ place = omega (arith, le) in
+          let there : drop j (drop from bits) ≡ replicate is.0 false ++ true ∷ drop end bits = drop-drop j from bits ∙ ap (λ (n : ℕ). drop n bits) sum ∙ is.1 in
+          let lengths = eol_lengths bits place end is.0 is.1 in
+          let fits : is.0 < (to - from) - j = omega (arith, lengths, le, le2, lt, tests.order, tests.within) in
+          let split : body ≡ take j (drop from bits) ++ (replicate is.0 false ++ true ∷ take (((to - from) - j) - (is.0 + 1)) (drop end bits))
+          = take-split j (to - from) (drop from bits) (omega (arith, le, le2, lt))
+          ∙ ap (λ (b : Bits). take j (drop from bits) ++ take ((to - from) - j) b) there
+          ∙ ap (λ (b : Bits). take j (drop from bits) ++ b) (take_zeros is.0 ((to - from) - j) (drop end bits) fits) in
+          let none = none_further (take j (drop from bits)) (replicate is.0 false ++ true ∷ take (((to - from) - j) - (is.0 + 1)) (drop end bits))
+          (ap next_eol (sym split) ∙ tests.no_eol) in
+          let some = eol_of 0 is.0 (take (((to - from) - j) - (is.0 + 1)) (drop end bits)) is.2 in
+          grind (arith, common_steps)
 
   to_tests : IsLocal settings bits from to → IsLocalByTests settings bits from to
   to_tests local = record {
@@ -89,15 +114,40 @@ module _ (settings : DecodeSettings) (bits : Bits) (from to : ℕ) where
     where
       twelve : (place : ℕ) → IsEol bits place from → (12 ≤ from) × (after_eol 0 (drop (from - 12) bits) ≡ Some (drop from bits))
       twelve place (lt, inside, eol) =
-          grind (arith, common_steps, after_eol_is, append_assoc, drop-drop, drop_at, eol_lengths, length-replicate,
-          replicate-append-replicate)
+          let is = after_eol_is 0 (drop place bits) (drop from bits) eol in
+          let lengths = eol_lengths bits place from is.0 is.1 in
+          let more : ℕ = is.0 - 11 in
+          let sum : more + 11 ≡ is.0 = omega (arith, is.2) in
+          let fill : replicate is.0 false ≡ replicate more false ++ replicate 11 false = ap (λ (n : ℕ). replicate n false) (sym sum)
+          ∙ sym (replicate-append-replicate more 11 false) in
+          let whole : drop place bits ≡ replicate more false ++ (replicate 11 false ++ true ∷ drop from bits) = is.1
+          ∙ ap (λ (b : Bits). b ++ true ∷ drop from bits) fill ∙ append_assoc (replicate more false) (replicate 11 false) (true ∷ drop from bits) in
+          let at : place + more ≡ from - 12 = omega (arith, lengths, is.2, lt, local.order, local.within) in
+          let there : drop (from - 12) bits ≡ replicate 11 false ++ true ∷ drop from bits
+          = ap (λ (n : ℕ). drop n bits) (sym at) ∙ sym (drop-drop more place bits)
+          ∙ drop_at (drop place bits) (replicate more false) (replicate 11 false ++ true ∷ drop from bits) more whole (length-replicate more false) in
+          (omega (arith, lengths, is.2, lt, local.order, local.within), ap (after_eol 0) there)
 
       one : take (to - from) (drop from bits) ≢ replicate (to - from) false
-      one e = grind (arith, common_steps, drop-drop, no_one, take-split)
+      one e =
+          let j : ℕ = local.one.0 - from in
+          let m : ℕ = ((to - from) - j) - 1 in
+          let sum : from + j ≡ local.one.0 = omega (arith, local.one.1) in
+          let left : (to - from) - j ≡ suc m = omega (arith, local.one.1, local.one.2) in
+          let there : drop j (drop from bits) ≡ true ∷ local.one.3.0 = drop-drop j from bits ∙ ap (λ (n : ℕ). drop n bits) sum ∙ local.one.3.1 in
+          let split : take (to - from) (drop from bits) ≡ take j (drop from bits) ++ true ∷ take m local.one.3.0
+          = take-split j (to - from) (drop from bits) (omega (arith, local.one.1, local.one.2))
+          ∙ ap (λ (n : ℕ). take j (drop from bits) ++ take n (drop j (drop from bits))) left
+          ∙ ap (λ (b : Bits). take j (drop from bits) ++ take (suc m) b) there in
+          no_one (to - from) (take j (drop from bits)) (take m local.one.3.0) (sym split ∙ e)
 
       none_found : (o : Option Bits) → next_eol (take (to - from) (drop from bits)) ≡ o → next_eol (take (to - from) (drop from bits)) ≡ None
       none_found None e = e
-      none_found (Some found) e = grind (arith, common_steps, next_eol_found, none_in_body, past_is, then_after)
+      none_found (Some found) e =
+          let f = next_eol_found (take (to - from) (drop from bits)) found e in
+          let both : ◌≡◌ {A = Option Bits} None (Some f.1.0) = sym (none_in_body settings bits from to local)
+          ∙ past_is (take (to - from) (drop from bits)) ∙ ap then_after e ∙ f.1.1 in
+          absurd cc
 
 -- the law
 pub local_by_tests : LocalByTests

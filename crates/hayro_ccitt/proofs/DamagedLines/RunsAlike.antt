@@ -103,7 +103,8 @@ module _ (settings : DecodeSettings) (encoding : settings.encoding ≡ Group3_1D
 
       from_next : (o : Option Bits) → next_eol here ≡ o → Both (seek_from settings (run_at xs has_eols here) o) (seek_from settings (run_at ys has_eols here) o)
       from_next None e = RunsAlike.beyond xs ys false here alike short refl refl
-      from_next (Some found) e = grind (arith, common_steps, eols_here_counted, next_eol_found, unless_beyond)
+      from_next (Some found) e = unless_beyond xs ys has_eols here here (eols_here settings found) alike
+          (omega (arith, (next_eol_found here found e).0, (eols_here_counted settings found).0, short))
 
       strictly : (t : Bool) → Both (cond t (ends_with (run_at xs has_eols here) (Err InvalidCode))
           (seek_from settings (run_at xs has_eols here) (next_eol here)))
@@ -192,13 +193,35 @@ module _ (settings : DecodeSettings) (encoding : settings.encoding ≡ Group3_1D
       by_past : limit_met settings (length rows) ≡ false → (o p : Option Bits) → past 0 (bits ++ true ∷ x) ≡ o → past 0 (bits ++ true ∷ y) ≡ p
           → PastAlike x y bits o p → Both (after_row settings (sought rows (bits ++ true ∷ x))) (after_row settings (sought rows (bits ++ true ∷ y)))
       by_past open_limit o p e f (inl (before, a, is, g, h)) =
-          grind (arith, common_steps, after_row_past, after_shorter, inside_after, sought, unless_ahead, unless_over)
-      by_past open_limit o p e f (inr (inl (g, h))) = grind (arith, common_steps, after_row_past, all_eols-none, unless_there)
-      by_past open_limit o p e f (inr (inr (g, h))) = grind (arith, common_steps, after_row_past, eols_shorter, unless_beyond)
+          let closes = inside_after bits before a inside is in
+          let shorter = after_shorter bits before a is in
+          let both = counted a in
+          rw (
+            after_row_past settings encoding lenient rows (bits ++ true ∷ x) (a ++ true ∷ x) open_limit
+                (e ∙ g),
+            after_row_past settings encoding lenient rows (bits ++ true ∷ y) (a ++ true ∷ y) open_limit (f ∙ h),
+          )
+          (subst (λ (n : ℕ). Both (unless_over settings (sought rows (bits ++ true ∷ x)) (one_more (all_eols (a ++ true ∷ x))))
+          (unless_over settings (sought rows (bits ++ true ∷ y)) (suc n, (all_eols (a ++ true ∷ y)).1))) both.0
+          (unless_ahead rows (bits ++ true ∷ x) (bits ++ true ∷ y) (suc (all_eols (a ++ true ∷ x)).0) a (all_eols (a ++ true ∷ x)).1
+          (all_eols (a ++ true ∷ y)).1 closes (omega arith) both.1))
+      by_past open_limit o p e f (inr (inl (g, h))) =
+          grind (arith, common_steps, after_row_past settings encoding lenient rows (bits ++ true ∷ x) x open_limit (e ∙ g),
+          after_row_past settings encoding lenient rows (bits ++ true ∷ y) y open_limit (f ∙ h), all_eols-none x tail_x.none,
+          all_eols-none y tail_y.none, unless_there rows (bits ++ true ∷ x) (bits ++ true ∷ y) 1)
+      by_past open_limit o p e f (inr (inr (g, h))) =
+          grind (arith, common_steps, after_row_past settings encoding lenient rows (bits ++ true ∷ x) after open_limit (e ∙ g ∙
+          tail_x.next), after_row_past settings encoding lenient rows (bits ++ true ∷ y) after open_limit (f ∙ h ∙ tail_y.next),
+          eols_shorter (length after) after, unless_beyond rows rows true (bits ++ true ∷ x) (bits ++ true ∷ y) (one_more
+          (all_eols after)) (inl refl) (eols_shorter (length after) after))
 
       by_limit : (limit_met settings (length rows) ≡ true) ⊎ (limit_met settings (length rows) ≡ false)
           → Both (after_row settings (sought rows (bits ++ true ∷ x))) (after_row settings (sought rows (bits ++ true ∷ y)))
-      by_limit (inl met) = grind (arith, common_steps, limit_done)
+      by_limit (inl met) = rw (
+        limit_done settings encoding lenient rows (bits ++ true ∷ x) met,
+        limit_done settings encoding lenient rows
+            (bits ++ true ∷ y) met,
+      ) (at_limit (all_eols (bits ++ true ∷ x)) (all_eols (bits ++ true ∷ y)) (counted bits).1)
       by_limit (inr open_limit) = by_past open_limit (past 0 (bits ++ true ∷ x)) (past 0 (bits ++ true ∷ y)) refl refl (past_alike x y 0 bits)
 
   line_ahead : (rows : List Row) (bits : Bits) → Closes bits → length bits < from
@@ -213,7 +236,9 @@ module _ (settings : DecodeSettings) (encoding : settings.encoding ≡ Group3_1D
           → Both (after_row settings (sought (rows ++ row_of settings.columns line ∷ []) (rest_of line (bits ++ true ∷ x))))
           (after_row settings (sought (rows ++ row_of settings.columns other ∷ []) (rest_of other (bits ++ true ∷ y))))
       by (Line.whole row here) (Line.whole same other) (is, (a, inside, e, f)) leaves =
-          grind (arith, common_steps, length-append, row_ahead)
+          let shorter : length a ≤ length bits = omega
+          (arith, ap length leaves.1, length-append leaves.0 here, ap length e, length-append a (true ∷ x), length-append bits (true ∷ x)) in
+          rw (← is, e, f) (row_ahead (rows ++ row ∷ []) a inside (omega arith))
       by (Line.whole row here) (Line.broken front fault) alike leaves = absurd alike
       by (Line.broken front fault) (Line.whole row here) alike leaves = absurd alike
       by (Line.broken front fault) (Line.broken same other) is leaves = grind (arith, common_steps, closes_inside, row_ahead)
@@ -234,8 +259,17 @@ module _ (settings : DecodeSettings) (encoding : settings.encoding ≡ Group3_1D
 
       by : (limit_met settings (length (rows ++ a ∷ [])) ≡ true) ⊎ (limit_met settings (length (rows ++ a ∷ [])) ≡ false)
           → Both (after_row settings (sought (rows ++ a ∷ []) u)) (after_row settings (sought (rows ++ b ∷ []) v))
-      by (inl met) = grind (arith, common_steps, eols_shorter, limit_done, limit_is)
-      by (inr open_limit) = grind (arith, common_steps, after_row_past, eols_shorter, unless_beyond)
+      by (inl met) =
+          rw (limit_done settings encoding lenient (rows ++ a ∷ []) u met, limit_done settings encoding lenient (rows ++ b ∷ []) v (sym as_many ∙ met))
+          (EndsAlike.limit rows a b (all_eols u).1 (all_eols v).1 begins (limit_is rows a met) refl refl refl refl
+          (omega (arith, eols_shorter (length u) u, le)) (omega (arith, eols_shorter (length v) v, le2)))
+      by (inr open_limit) =
+          rw (
+            after_row_past settings encoding lenient (rows ++ a ∷ []) u after open_limit e,
+            after_row_past settings encoding lenient
+                (rows ++ b ∷ []) v after (sym as_many ∙ open_limit) f,
+          )
+          (unless_beyond (rows ++ a ∷ []) (rows ++ b ∷ []) true u v (one_more (all_eols after)) alike (eols_shorter (length after) after))
 
   rest_shorter : (line : Line) (here : Bits) → LineLeaves here line → length (rest_of line here) ≤ length here
   rest_shorter line here leaves = grind (arith, common_steps)

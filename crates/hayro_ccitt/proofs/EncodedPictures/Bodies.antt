@@ -134,7 +134,10 @@ module _ (settings : DecodeSettings) (wide : 0 < settings.columns) (small : sett
               → EncodesRows encoding b (replicate settings.columns false) rows body → IsLineStart (body ++ more)
           by [] some widths lines = absurd (omega arith)
           by (row ∷ rows) some widths (line, next, is, lines, split) =
-              grind (arith, common_steps, append_assoc, fill, line_starts)
+              let here : body ++ more ≡ line ++ (fill b line ++ (next ++ more)) = ap (λ (x : Bits). x ++ more) split
+              ∙ append_assoc (line ++ fill b line) next more ∙ append_assoc line (fill b line) (next ++ more) in
+              subst IsLineStart (sym here) (line_starts encoding (replicate settings.columns false) row line (fill b line ++ (next ++ more)) same is
+              (All-head (λ row. length row ≡ settings.columns) row rows widths))
 
       -- T.4 lines without EOLs are read as their rows, up to the limit
       pub rows_t4_end : settings.encoding ≢ Group4 → settings.end_of_line ≡ false → end_of settings (body ++ more) ≡ ended rows (eols_here settings more).1
