@@ -150,9 +150,7 @@ module _ (settings : DecodeSettings) (encoding : settings.encoding ≡ Group3_1D
               (All-tail (StaysBefore settings.columns) here (later_starts 0 here) stay) in
               let further = on others (b ∷ there) smaller tail in
               let all : rows ++ map (row_at settings.columns) (here ∷ later_starts 0 here) ≡ others ++ map (row_at settings.columns)
-              ((b ∷ there) ∷ later_starts 0 (b ∷ there))
-              = ap (λ (x : List Bits). rows ++ map (row_at settings.columns) (here ∷ x)) some
-              ∙ sym (append_assoc rows (first ∷ []) (map (row_at settings.columns) ((b ∷ there) ∷ later_starts 0 (b ∷ there)))) in
+              ((b ∷ there) ∷ later_starts 0 (b ∷ there)) = grind (arith, common_steps, append_assoc, map) in
               subst (λ (m : Move). IsPrefix (rows ++ map (row_at settings.columns) (here ∷ later_starts 0 here)) (after_turn rest_end m).rows)
               (sym (turn (b ∷ there) is))
               (subst (λ (x : List Row). IsPrefix x (rest_end (sought others (b ∷ there))).rows) (sym all) further)

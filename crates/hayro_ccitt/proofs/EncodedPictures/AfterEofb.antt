@@ -213,8 +213,7 @@ after_eofb settings one two count are whole_one whole_two four block comes count
       let found = closed_found settings four block wide (between [] one) comes.0 rest refl comes_so closes in
       let first : plain settings one ≡ record { rows = comes.0.rows; outcome = Ok ((length found.0 + 7) / 8); has_eols = comes.0.has_eols }
       = closed_plain settings comes.0 found.0 rest four wide found.2 one rest found.1 refl in
-      let count_is : (length found.0 + 7) / 8 ≡ count = let f : ◌≡◌ {A = Result ℕ DecodeError} (Ok ((length found.0 + 7) / 8)) (Ok count)
-      = sym (ap (λ (a : Reading). a.outcome) first) ∙ counted in cc in
+      let count_is : (length found.0 + 7) / 8 ≡ count = grind (arith, common_steps) in
       let front = same_front one two count found.0 rest whole_one whole_two found.1 count_is same in
       closed_plain settings comes.0 found.0 rest four wide found.2 two front.0 front.1 front.2 ∙ sym first
 ]
