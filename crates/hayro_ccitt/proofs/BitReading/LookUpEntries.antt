@@ -66,9 +66,7 @@ with_rows_found (row ∷ table) here entry found free e =
         let p : (row.0, rest) ≡ found = cc in
         let stands = after_is (low_bits row.1 row.2) here rest a in
         let none : word_at (numbered table) here ≡ None = rw stands (all_miss (low_bits row.1 row.2) (numbered table) rest both.0) in
-        let width : length here - length rest ≡ row.1 = omega (arith, ap length stands, length-append (low_bits row.1 row.2) rest, length-low_bits row.1 row.2) in
-        with_rows_none table here (with_row row here entry) none ∙ row_stands row here rest entry a
-        ∙ ap (λ (w : ℕ). w * 4096 + row.0) (sym width) ∙ ap (λ (f : ℕ × Bits). (length here - length f.1) * 4096 + f.0) p
+        grind (arith, common_steps, length-append, length-low_bits, row_stands, with_rows_none)
     by on None a = grind (arith, common_steps)
 
 -- ---- Words that begin all bits.

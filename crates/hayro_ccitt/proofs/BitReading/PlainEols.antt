@@ -20,12 +20,7 @@ use Rattle.std.proofs.lemmas.Grind.{common_steps}
 eleven_zeros : (w : ℕ) → w < 2 ^ 32 → w / 1048576 ≡ 1 → count_leading_zeros 32 w ≡ 11
 eleven_zeros w small one =
     let top = leading_top 32 w (omega (arith, one)) small in
-    let above : 20 ≤ top.0 = elim (cases_lt top.0 20) [
-      | inl lt ↦
-          let most : 2 ^ suc top.0 ≤ 2 ^ 20 = pow-le-pow_right {n = 2} (omega arith) {i = suc top.0} {j = 20} (omega (arith, lt)) in
-          absurd (omega (arith, one, top.3, most))
-      | inr ge ↦ ge
-    ] in
+    let above : 20 ≤ top.0 = grind (arith, common_steps, cases_lt, pow-le-pow_right) in
     let below : top.0 ≤ 20 = elim (cases_lt 20 top.0) [
       | inl lt ↦
           let least : 2 ^ 21 ≤ 2 ^ top.0 = pow-le-pow_right {n = 2} (omega arith) {i = 21} {j = top.0} (omega (arith, lt)) in

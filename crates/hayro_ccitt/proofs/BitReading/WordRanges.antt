@@ -19,8 +19,7 @@ low_bits-append zero rest n = let e : 0 + rest ≡ rest = omega arith in rw e re
 low_bits-append (suc width) rest n =
     let e : suc width + rest ≡ suc (width + rest) = omega arith in
     let f : rest + width ≡ width + rest = omega arith in
-    let high : bit_of n (width + rest) ≡ bit_of (n / 2 ^ rest) width =
-    sym (ap (λ (m : ℕ). eqb (m % 2) 1) (shr-shr n rest width ∙ ap (λ (k : ℕ). n / 2 ^ k) f)) in
+    let high : bit_of n (width + rest) ≡ bit_of (n / 2 ^ rest) width = grind (arith, common_steps, shr-shr) in
     rw (e, high, low_bits-append width rest n) refl
 
 -- a bit determines its number

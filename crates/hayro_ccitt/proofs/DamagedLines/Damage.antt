@@ -162,9 +162,7 @@ module _ (settings : DecodeSettings) (one two : Bits) (from : ℕ) (after : Bits
   begin_there zero_from eol = RunsAlike.there [] (at one tail_one.none) (at two tail_two.none)
     where
       at : (bits : Bits) → after_eol 0 (drop from bits) ≡ None → first bits ≡ sought [] (drop from bits)
-      at bits none =
-          let all : drop from bits ≡ bits = ap (λ (n : ℕ). drop n bits) zero_from in
-          grind (arith, common_steps, all_eols-none, first_is, or_right)
+      at bits none = grind (arith, common_steps, all_eols-none, first_is, or_right)
 
   begin_ahead : (front : Bits) → Closes front → one ≡ front ++ true ∷ drop from one → (ltb 0 (all_eols one).0 || settings.end_of_line) ≡ true
       → RunsAlike Begun from (drop from one) (drop from two) after (first one) (first two)

@@ -120,16 +120,7 @@ to_later seen (true ∷ here) end (at, leaves, eol, lt) b = elim (cases_lt (leng
       let here_is : here ≡ end = cc in
       let lengths : length (replicate seen false) + length (true ∷ here) ≡ length (leaves.0 ++ replicate is.0 false) + length (true ∷ end)
       = sym (length-append (replicate seen false) (true ∷ here)) ∙ ap length whole ∙ length-append (leaves.0 ++ replicate is.0 false) (true ∷ end) in
-      let enough : 11 ≤ seen = omega (
-        arith,
-        lengths,
-        ap length here_is,
-        length-replicate seen false,
-        length-append leaves.0
-            (replicate is.0 false),
-        length-replicate is.0 false,
-        is.2,
-      ) in
+      let enough : 11 ≤ seen = grind (arith, common_steps, length-append, length-replicate) in
       let test : (leb 11 seen && begins_line here) ≡ true = and_from (leb 11 seen) (begins_line here) (le-leb 11 seen enough) (ap begins_line here_is ∙ b) in
       Contains-append_left (cond (leb 11 seen && begins_line here) (here ∷ []) []) (later_starts 0 here) end
       (subst (λ (t : Bool). Contains (cond t (here ∷ []) []) end) (sym test)
@@ -244,9 +235,7 @@ module _ (bits : Bits) where
       (to_later 0 (all_eols bits).1 (drop place bits) (drop at bits, inside, eol.2, omega (arith, length-drop place bits, first_length, later, below)) begins)
     where
       begins : begins_line (drop place bits) ≡ true
-      begins = and_from (not (at_end (drop place bits))) (not (is_some (after_eol 0 (drop place bits))))
-          (not_from_false (at_end (drop place bits)) (more_left (drop place bits) (omega (arith, length-drop place bits, below))))
-          (not_from_false (is_some (after_eol 0 (drop place bits))) (ap (λ (o : Option Bits). is_some o) none))
+      begins = grind (arith, common_steps, and_from, length-drop, more_left, not_from_false)
 
       whole : leaves_first.0 ++ (all_eols bits).1 ≡ take at bits ++ drop at bits
       whole = sym leaves_first.1 ∙ sym (take-append-drop at bits)

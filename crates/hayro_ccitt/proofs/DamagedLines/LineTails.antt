@@ -119,18 +119,7 @@ module _ (settings : DecodeSettings) (bits : Bits) (from to : ℕ) (local : IsLo
           let e2 : line_on ≡ before.0 ++ (next.0 ++ eol_on) = cut ∙ ap (λ (b : Bits). b ++ eol_on) before.1 ∙ append_assoc before.0 next.0 eol_on in
           let f2 : next.0 ++ eol_on ≡ replicate is.0 false ++ true ∷ (rest ++ eol_on) = ap (λ (b : Bits). b ++ eol_on) is.1
           ∙ append_assoc (replicate is.0 false) (true ∷ rest) eol_on in
-          let le : length before.0 + (is.0 + 1) ≤ to - from
-          = omega (
-            arith,
-            body_length,
-            ap length before.1,
-            length-append before.0 next.0,
-            ap length is.1,
-            length-append (replicate is.0 false)
-                (true ∷ rest),
-            length-replicate is.0 false,
-          ) in
-          absurd (not_within before.0 (rest ++ eol_on) is.0 (next.0 ++ eol_on) e2 f2 (after_eol-append 0 next.0 rest eol_on next.2) le)
+          grind (arith, common_steps, after_eol-append, body_length, length-append, length-replicate, not_within)
 
   no_eol_here : after_eol 0 line_on ≡ None
   no_eol_here = by (after_eol 0 line_on) refl

@@ -60,8 +60,7 @@ starts_after (suc n) here lt = by (λ next small. starts_after n next small) (af
     by : ((next : Bits) → length next < n → own next ++ later_starts 0 next ≡ from_here (all_eols next).1) → (o : Option Bits) → after_eol 0 here ≡ o
         → own here ++ later_starts 0 here ≡ from_here (all_eols here).1
     by on (Some next) e =
-        let no : own here ≡ [] = cond-false (begins_line here) (here ∷ []) [] (and_right (not (at_end here)) (not (is_some (after_eol 0 here))) (rw e refl)) in
-        grind (arith, common_steps, after_eol_shorter, all_eols-some, past-eol, starts-past)
+        grind (arith, common_steps, after_eol_shorter, all_eols-some, and_right, cond-false, past-eol, starts-past)
     by on None e = grind (arith, common_steps)
 
 -- the later starts are those from the end of the next EOLs on
@@ -151,9 +150,7 @@ module _ (settings : DecodeSettings) (encoding : settings.encoding ≡ Group3_1D
               (All-tail (StaysBefore settings.columns) here (later_starts 0 here) stay) in
               let further = on others (b ∷ there) smaller tail in
               let all : rows ++ map (row_at settings.columns) (here ∷ later_starts 0 here) ≡ others ++ map (row_at settings.columns)
-              ((b ∷ there) ∷ later_starts 0 (b ∷ there))
-              = ap (λ (x : List Bits). rows ++ map (row_at settings.columns) (here ∷ x)) some
-              ∙ sym (append_assoc rows (first ∷ []) (map (row_at settings.columns) ((b ∷ there) ∷ later_starts 0 (b ∷ there)))) in
+              ((b ∷ there) ∷ later_starts 0 (b ∷ there)) = grind (arith, common_steps, append_assoc, map) in
               subst (λ (m : Move). IsPrefix (rows ++ map (row_at settings.columns) (here ∷ later_starts 0 here)) (after_turn rest_end m).rows)
               (sym (turn (b ∷ there) is))
               (subst (λ (x : List Row). IsPrefix x (rest_end (sought others (b ∷ there))).rows) (sym all) further)
@@ -182,5 +179,4 @@ lines_by_eols settings bits are encoding lenient no_block unlimited wide sought_
     let ends : IsPrefix (map (row_at settings.columns) (starts bits)) (ending_t4 settings bits).rows
     = by_run settings encoding lenient no_block unlimited wide
     (record { rows = []; has_eols = ltb 0 (all_eols bits).0 || settings.end_of_line; outcome = Err UnexpectedEof }) first (all_eols bits).1 first_is stay in
-    let whole : end_of settings bits ≡ ending_t4 settings bits = ap (λ (e : EncodingMode). ending_behind settings (first_gap e settings bits)) encoding in
-    rw columns (subst (λ (e : Ending). IsPrefix (map (row_at settings.columns) (starts bits)) e.rows) (sym whole) ends)
+    grind (arith, common_steps, ending_t4, map)

@@ -98,8 +98,7 @@ module _ (settings : DecodeSettings) (bits : Bits) (from to : ℕ) where
           let none = none_further (take j (drop from bits)) (replicate is.0 false ++ true ∷ take (((to - from) - j) - (is.0 + 1)) (drop end bits))
           (ap next_eol (sym split) ∙ tests.no_eol) in
           let some = eol_of 0 is.0 (take (((to - from) - j) - (is.0 + 1)) (drop end bits)) is.2 in
-          let both : ◌≡◌ {A = Option Bits} (Some (take (((to - from) - j) - (is.0 + 1)) (drop end bits))) None = sym some ∙ none in
-          absurd cc
+          grind (arith, common_steps)
 
   to_tests : IsLocal settings bits from to → IsLocalByTests settings bits from to
   to_tests local = record {

@@ -242,8 +242,7 @@ module _ (settings : DecodeSettings) (encoding : settings.encoding ≡ Group3_1D
           rw (← is, e, f) (row_ahead (rows ++ row ∷ []) a inside (omega arith))
       by (Line.whole row here) (Line.broken front fault) alike leaves = absurd alike
       by (Line.broken front fault) (Line.whole row here) alike leaves = absurd alike
-      by (Line.broken front fault) (Line.broken same other) is leaves =
-          rw (← is) (row_ahead (rows ++ (front ++ replicate (settings.columns - length front) false) ∷ []) bits (closes_inside bits closes) short)
+      by (Line.broken front fault) (Line.broken same other) is leaves = grind (arith, common_steps, closes_inside, row_ahead)
 
   -- ---- At the line
   limit_is : (rows : List Row) (row : Row) → limit_met settings (length (rows ++ row ∷ [])) ≡ true → settings.rows ≡ suc (length rows)

@@ -57,10 +57,7 @@ module _ (settings : DecodeSettings) (encoding : settings.encoding ≡ Group3_1D
           past-eol 0 here next f, run, test, unless_over)
       by None f =
           let none : eqb (eols_here settings here).0 0 ≡ true = ap (λ (x : ℕ × Bits). eqb x.0 0) (eols_here_is here ∙ all_eols-none here f) in
-          let is_true : test ≡ true = and_from ((eqb (eols_here settings here).0 0 && true) && not (limit_met settings (length rows))) (not (at_end here))
-          (and_from (eqb (eols_here settings here).0 0 && true) (not (limit_met settings (length rows)))
-          (and_from (eqb (eols_here settings here).0 0) true none refl) (not_from_false (limit_met settings (length rows)) short))
-          (not_from_false (at_end here) (not_past_end here after e)) in
+          let is_true : test ≡ true = grind (arith, common_steps, and_from, not_from_false, not_past_end) in
           grind (arith, common_steps, all_eols-some, cond-false, cond-true, eols_here_is, found_next, seek_from, unless_over)
 
   -- its lines have no reference row

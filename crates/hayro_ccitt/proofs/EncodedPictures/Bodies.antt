@@ -95,8 +95,7 @@ module _ (settings : DecodeSettings) (wide : 0 < settings.columns) (small : sett
         let tail : Bits = next ++ more in
         let rows1 : List Row = before ++ row ∷ [] in
         let row_len : length row ≡ settings.columns = All-head (λ row. length row ≡ settings.columns) row rows widths in
-        let here : body ++ more ≡ line ++ (fill b line ++ tail) = ap (λ (x : Bits). x ++ more) split
-        ∙ append_assoc (line ++ fill b line) next more ∙ append_assoc line (fill b line) tail in
+        let here : body ++ more ≡ line ++ (fill b line ++ tail) = grind (arith, common_steps, append_assoc, fill) in
         let here2 : (line ++ fill b line) ++ tail ≡ body ++ more = append_assoc line (fill b line) tail ∙ sym here in
         let whole2 : b ≡ true → length ((line ++ fill b line) ++ tail) % 8 ≡ 0 = λ e. ap (λ (x : Bits). length x % 8) here2 ∙ whole e in
         let moved = row_read before (body ++ more) row line tail
@@ -120,8 +119,7 @@ module _ (settings : DecodeSettings) (wide : 0 < settings.columns) (small : sett
       pub body_end : ending_behind settings (pass_gap settings (between [] (body ++ more))) ≡ ended rows (eols_here settings more).1
       body_end =
           let met : limit_met settings (length rows) ≡ true
-          = and_from (not (eqb settings.rows 0)) (eqb settings.rows (length rows))
-          (not_from_false (eqb settings.rows 0) (ne_eqb settings.rows 0 (λ e. absurd (omega arith)))) (eq-eqb settings.rows (length rows) limit) in
+          = grind (arith, common_steps, and_from, eq-eqb, ne_eqb, not_from_false) in
           reaches_end settings wide (between [] (body ++ more)) (between rows more) (ended rows (eols_here settings more).1)
           (body_again [] rows body more (allows_sum settings (length rows) allows) (length-replicate settings.columns false) is.1 whole lines)
           (gap_at_limit settings rows more met)

@@ -230,12 +230,9 @@ module _ (settings : DecodeSettings) (wide : 0 < settings.columns) (small : sett
         let row2_len : length row2 ≡ settings.columns = All-head (λ row. length row ≡ settings.columns) row2 rows widths2 in
         let rest : Bits = line_2d ++ (next2 ++ tail) in
         let after : Bits = eol fill ++ rest in
-        let here : line ++ (next ++ tail) ≡ line ++ after
-        = ap (λ (x : Bits). line ++ x) (ap (λ (x : Bits). x ++ tail) split ∙ append_assoc (eol fill ++ line_2d) next2 tail
-        ∙ append_assoc (eol fill) line_2d (next2 ++ tail)) in
+        let here : line ++ (next ++ tail) ≡ line ++ after = grind (arith, common_steps, append_assoc) in
         let read : line_here settings (row_before settings.columns before) (line ++ (next ++ tail)) ≡ Line.whole row after
-        = ap (line_here settings (row_before settings.columns before)) here
-        ∙ line_t4_again encoding (row_before settings.columns before) row line after matches is ref_len row_len in
+        = grind (arith, common_steps, line_t4_again) in
         let rows1 : List Row = before ++ row ∷ [] in
         let one : eols_here settings after ≡ (1, rest) = eol_before encoding row row2 fill line_2d (next2 ++ tail) matches is2 row2_len in
         let all2 : rows1 ++ row2 ∷ rows ≡ whole = append_assoc before (row ∷ []) (row2 ∷ rows) ∙ all in
@@ -244,9 +241,7 @@ module _ (settings : DecodeSettings) (wide : 0 < settings.columns) (small : sett
         let over : ((settings.end_of_block && (leb (eols_of_end settings.encoding) 1)) || limit_met settings (length rows1) || at_end rest) ≡ false
         = or_from _ _ (or_from _ _ (and_right settings.end_of_block (leb (eols_of_end settings.encoding) 1) (few_eols settings.encoding 1 (omega arith))) (not_met settings (length whole) (length rows1) allows count)) open_end in
         let moved : move_on settings (with_eols before (line ++ (next ++ tail))) ≡ Turn.next (with_eols rows1 rest)
-        = row_added before row (line ++ (next ++ tail)) after read ∙ counted_row rows1 after (1, rest) one (omega arith)
-        ∙ cond-false ((settings.end_of_block && (leb (eols_of_end settings.encoding) 1)) || limit_met settings (length rows1) || at_end rest)
-        (ends_with (with_eols rows1 after) (Ok rest)) (Turn.next (with_eols rows1 rest)) over in
+        = grind (arith, common_steps, cond-false, counted_row, row_added) in
         let pushed : row_before settings.columns rows1 ≡ row = row_before_push settings.columns before row in
         ap (after_turn (repeated (move_on settings) late fuel)) moved
         ∙ lines_t4_again rows1 row2 rows line_2d next2 fuel all2 (ap length pushed ∙ row_len) widths2
@@ -281,15 +276,12 @@ module _ (settings : DecodeSettings) (wide : 0 < settings.columns) (small : sett
   lines_t4_end encoding (row ∷ rows) lines tail last matches some is_picture (fill, line, next, is, more, split) allows stops =
       let row_len : length row ≡ settings.columns = All-head (λ row. length row ≡ settings.columns) row rows is_picture.1 in
       let rest : Bits = line ++ (next ++ tail) in
-      let here : lines ++ tail ≡ eol fill ++ rest = ap (λ (x : Bits). x ++ tail) split ∙ append_assoc (eol fill ++ line) next tail
-      ∙ append_assoc (eol fill) line (next ++ tail) in
-      let one : all_eols (eol fill ++ rest) ≡ (1, rest)
-      = one_eol fill rest (line_t4_starts encoding (replicate settings.columns false) row line (next ++ tail) matches is row_len).no_eol in
+      let here : lines ++ tail ≡ eol fill ++ rest = grind (arith, common_steps, append_assoc) in
+      let one : all_eols (eol fill ++ rest) ≡ (1, rest) = grind (arith, common_steps, line_t4_starts, one_eol) in
       let late : Ending = record { rows = []; has_eols = true; outcome = Err UnexpectedEof } in
       let started : ending_t4 settings (eol fill ++ rest) ≡ repeated (move_on settings) late (suc (suc (length rest))) (with_eols [] rest)
       = ap (λ (f : ℕ × Bits). ending_from (move_on settings) (record { rows = []; has_eols = ltb 0 f.0 || settings.end_of_line; rest = f.1 })) one in
-      let short : length rows < suc (suc (length rest))
-      = omega (arith, length-lines encoding row rows next more, length-append line (next ++ tail), length-append next tail) in
+      let short : length rows < suc (suc (length rest)) = grind (arith, common_steps, length-append, length-lines) in
       end_of_three encoding (lines ++ tail) matches ∙ ap (ending_t4 settings) here ∙ started
       ∙ lines_t4_again encoding matches late tail last (row ∷ rows) allows stops [] row rows line next (suc (suc (length rest))) refl
       (length-replicate settings.columns false) is_picture.1 is more short
@@ -308,9 +300,7 @@ module _ (settings : DecodeSettings) (wide : 0 < settings.columns) (small : sett
       → IsPicture settings.columns rows → EncodesRowsWithEols encoding (replicate settings.columns false) rows lines
       → end_of settings (lines ++ more) ≡ ends_well rows (eols_here settings more).1
   limited_t4_end encoding rows lines more matches limit some is_picture are =
-      let met : limit_met settings (length rows) ≡ true
-      = and_from (not (eqb settings.rows 0)) (eqb settings.rows (length rows))
-      (not_from_false (eqb settings.rows 0) (ne_eqb settings.rows 0 (λ e. absurd (omega arith)))) (eq-eqb settings.rows (length rows) limit) in
+      let met : limit_met settings (length rows) ≡ true = grind (arith, common_steps, and_from, eq-eqb, ne_eqb, not_from_false) in
       lines_t4_end encoding rows lines more (eols_here settings more).1 matches some is_picture are (inr (omega arith)) (limit_stops rows more met)
 
 -- ---- Over whole data.

@@ -22,8 +22,7 @@ pub picture_t6_reaches : (settings : DecodeSettings) (rows : List Row) (bits mor
     → Reaches (gap_and_row settings) (between [] (bits ++ more)) (between rows (eol 0 ++ (eol 0 ++ more)))
 picture_t6_reaches settings rows bits more four small limit whole pic =
     let body : Bits = pic.0 in
-    let here : bits ++ more ≡ body ++ (eol 0 ++ (eol 0 ++ more)) = ap (λ (x : Bits). x ++ more) pic.3 ∙ append_assoc (body ++ eol 0) (eol 0) more
-    ∙ append_assoc body (eol 0) (eol 0 ++ more) in
+    let here : bits ++ more ≡ body ++ (eol 0 ++ (eol 0 ++ more)) = grind (arith, common_steps, append_assoc) in
     let read = body_again settings pic.1.0 small Group4 four [] rows body (eol 0 ++ (eol 0 ++ more)) (allows_sum settings (length rows) limit)
     (length-replicate settings.columns false) pic.1.1 (λ e. ap (λ (x : Bits). length x % 8) (sym here) ∙ whole e) pic.2 in
     subst (λ (x : Bits). Reaches (gap_and_row settings) (between [] x) (between rows (eol 0 ++ (eol 0 ++ more)))) (sym here) read

@@ -18,7 +18,7 @@ use Rattle.hayro_ccitt.specs.EndOfLine.{next_eol}
 use Rattle.hayro_ccitt.specs.PlainReading.{eols_of_end, Progress, Ending, Move, row_before, aligned, ends_with, limit_met, at_end, bytes_before, eols_here, line_here, after_line, move_on, at_front, first_gap, ending_from, ending_behind, end_of}
 use Rattle.hayro_ccitt.specs.Laws.{RowLimit}
 use Rattle.hayro_ccitt.proofs.Readings.Repeated.{Follows, after_turn, repeated_follows}
-use Rattle.hayro_ccitt.proofs.Readings.TurnsMoveOn.{left_to_read, left_below, move_shrinks}
+use Rattle.hayro_ccitt.proofs.Readings.GapsAndRows.{readings_follow}
 use Rattle.hayro_ccitt.proofs.Readings.TurnsAddRows.{Keeps, after_row_keeps, move_adds, repeated_adds}
 use Rattle.hayro_ccitt.proofs.Readings.RowsAndGaps.{unless_over, seek_from, after_row, pass_gap-is, after_whole-is, after_damage-is}
 use Rattle.std.proofs.lemmas.Grind.{common_steps}
@@ -77,18 +77,15 @@ module _ (settings : DecodeSettings) (limit : ℕ) (some : 0 < limit) (wide : 0 
     after_row_open : (run : Progress) → limit_met limited (length run.rows) ≡ false → after_row limited run ≡ after_row unlimited run
     after_row_open run e = rw (e, seek_from_open run (next_eol run.rest) e) refl
 
+    at_limit : (run : Progress) → limit_met limited (length run.rows) ≡ true → after_row limited run ≡ unless_over limited run (eols_here limited run.rest)
+    at_limit run met = grind (arith, common_steps)
+
     after_row_follows : (run : Progress) → length run.rows ≤ limit → Follows Same Cut rest (after_row limited run) (after_row unlimited run)
     after_row_follows run le = elim (cases_lt (length run.rows) limit) [
       | inl lt ↦ rw (after_row_open run (is_open (length run.rows) lt)) (same_turn run.rows (after_row unlimited run) lt (after_row_keeps unlimited run))
       | inr ge ↦
           let full : length run.rows ≡ limit = omega arith in
-          let first : Bool = eqb (eols_here limited run.rest).0 0 && run.has_eols in
-          let none : ((first && not (limit_met limited (length run.rows))) && not (at_end run.rest)) ≡ false
-          = and_left (first && not (limit_met limited (length run.rows))) (not (at_end run.rest))
-          (and_right first (not (limit_met limited (length run.rows))) (not_from_true (limit_met limited (length run.rows)) (rw full is_met))) in
-          let over : after_row limited run ≡ unless_over limited run (eols_here limited run.rest)
-          = cond-false ((first && not (limit_met limited (length run.rows))) && not (at_end run.rest)) _ _ none in
-          rw over (cut_turn run (eols_here limited run.rest) (after_row unlimited run) full (after_row_keeps unlimited run))
+          rw (at_limit run (rw full is_met)) (cut_turn run (eols_here limited run.rest) (after_row unlimited run) full (after_row_keeps unlimited run))
     ]
 
     one_longer : (rows : List Row) (row : Row) → length rows < limit → length (rows ++ row ∷ []) ≤ limit
@@ -121,41 +118,12 @@ module _ (settings : DecodeSettings) (limit : ℕ) (some : 0 < limit) (wide : 0 
     move_follows s t same = grind (arith, common_steps, after_line_follows)
 
   -- ---- The whole
-  cut_from : (n m : ℕ) (run : Progress) (late : Ending) → left_to_read run < n → left_to_read run < m → length run.rows < limit
-      → Cut (repeated (move_on limited) late n run) (repeated (move_on unlimited) late m run)
-  cut_from n m run late lt lt2 short =
-      repeated_follows (move_on limited) late left_to_read (move_shrinks limited wide) (move_on unlimited) late left_to_read
-      (move_shrinks unlimited wide) Same Cut
-      (move_follows (λ t. repeated (move_on unlimited) late (suc (left_to_read t)) t)
-      (λ t. repeated_adds (move_on unlimited) late left_to_read (move_shrinks unlimited wide) (move_adds unlimited)
-      (suc (left_to_read t)) t (omega arith)))
-      n m run run lt lt2 (refl, short)
-
-  -- how the unlimited reading ends from a line on
-  abbrev unlimited_end : Progress → Ending
-  unlimited_end = ending_from (move_on unlimited)
-
-  unlimited_extends : (t : Progress) → IsPrefix t.rows (unlimited_end t).rows
-  unlimited_extends t = repeated_adds (move_on unlimited) (record { rows = t.rows; has_eols = t.has_eols; outcome = Err UnexpectedEof }) left_to_read
-      (move_shrinks unlimited wide) (move_adds unlimited) (suc (suc (length t.rest))) t (left_below t)
-
-  cut_line : (s t : Progress) → Same s t → Cut (ending_from (move_on limited) s) (unlimited_end t)
-  cut_line s t same = subst (λ (r : Progress). Cut (ending_from (move_on limited) s) (unlimited_end r)) same.0
-      (cut_from (suc (suc (length s.rest))) (suc (suc (length s.rest))) s
-      (record { rows = s.rows; has_eols = s.has_eols; outcome = Err UnexpectedEof }) (left_below s) (left_below s) same.1)
-
-  cut_behind : (gap other : Move) → Follows Same Cut unlimited_end gap other → Cut (ending_behind limited gap) (ending_behind unlimited other)
-  cut_behind (Turn.next s) (Turn.next t) same = cut_line s t same
-  cut_behind (Turn.next s) (Turn.done q) same = absurd same
-  cut_behind (Turn.done r) (Turn.next t) cuts = cuts
-  cut_behind (Turn.done r) (Turn.done q) cuts = cuts
-
   first_gap_follows : (encoding : EncodingMode) (bits : Bits)
-      → Follows Same Cut unlimited_end (first_gap encoding limited bits) (first_gap encoding unlimited bits)
+      → Follows Same Cut (ending_from (move_on unlimited)) (first_gap encoding limited bits) (first_gap encoding unlimited bits)
   first_gap_follows encoding bits = grind (arith, common_steps)
 
   cut_end : (bits : Bits) → Cut (end_of limited bits) (end_of unlimited bits)
-  cut_end bits = cut_behind (first_gap settings.encoding limited bits) (first_gap settings.encoding unlimited bits) (first_gap_follows settings.encoding bits)
+  cut_end bits = readings_follow limited unlimited wide wide Same Cut move_follows (first_gap settings.encoding limited bits) _ (first_gap_follows settings.encoding bits)
 
 ok_bytes : (bits : Bits) (r : Result Bits DecodeError) → IsOk r → IsOk (bytes_before bits r)
 ok_bytes bits r ok = grind (arith, common_steps)

@@ -26,7 +26,7 @@ use Rattle.hayro_ccitt.specs.PlainReading.{Progress, Ending, Move, row_before, a
 use Rattle.hayro_ccitt.specs.Laws.{StrictThenLenient}
 use Rattle.hayro_ccitt.proofs.Readings.Repeated.{Follows, after_turn, repeated_follows}
 use Rattle.hayro_ccitt.proofs.DrawingLines.ReadLines.{left as pen_left, step_1d_shrinks, step_2d_shrinks}
-use Rattle.hayro_ccitt.proofs.Readings.TurnsMoveOn.{left_to_read, left_below, move_shrinks}
+use Rattle.hayro_ccitt.proofs.Readings.GapsAndRows.{readings_follow}
 use Rattle.hayro_ccitt.proofs.Readings.TurnsAddRows.{Keeps, Adds, seek_from_keeps, move_adds, repeated_adds, prefix_trans}
 use Rattle.hayro_ccitt.proofs.Readings.RowsAndGaps.{unless_over, seek_from, after_row, pass_gap-is, after_whole-is}
 use Rattle.std.proofs.lemmas.Grind.{common_steps}
@@ -148,38 +148,13 @@ module _ (settings : DecodeSettings) (wide : 0 < settings.columns) where
         (after_line_follows s _ _ (line_by_agrees settings.encoding settings.columns (row_before settings.columns s.rows) s.rest)
         (move_adds leniently s))
 
-  -- how the lenient reading ends from a line on
-  abbrev lenient_end : Progress → Ending
-  lenient_end = ending_from (move_on leniently)
-
-  lenient_extends : (t : Progress) → IsPrefix t.rows (lenient_end t).rows
-  lenient_extends t = repeated_adds (move_on leniently) (record { rows = t.rows; has_eols = t.has_eols; outcome = Err UnexpectedEof }) left_to_read
-      (move_shrinks leniently wide) (move_adds leniently) (suc (suc (length t.rest))) t (left_below t)
-
-  precedes_line : (s t : Progress) → SameRun s t → Precedes (ending_from (move_on strictly) s) (lenient_end t)
-  precedes_line s t same = subst (λ (r : Progress). Precedes (ending_from (move_on strictly) s) (lenient_end r)) same
-      (repeated_follows (move_on strictly) late left_to_read (move_shrinks strictly wide) (move_on leniently) late left_to_read
-      (move_shrinks leniently wide) SameRun Precedes
-      (move_follows (λ t. repeated (move_on leniently) late (suc (left_to_read t)) t)
-      (λ t. repeated_adds (move_on leniently) late left_to_read (move_shrinks leniently wide) (move_adds leniently)
-      (suc (left_to_read t)) t (omega arith)))
-      (suc (suc (length s.rest))) (suc (suc (length s.rest))) s s (left_below s) (left_below s) refl)
-    where
-      late : Ending
-      late = record { rows = s.rows; has_eols = s.has_eols; outcome = Err UnexpectedEof }
-
-  precedes_behind : (gap other : Move) → Follows SameRun Precedes lenient_end gap other → Precedes (ending_behind strictly gap) (ending_behind leniently other)
-  precedes_behind (Turn.next s) (Turn.next t) same = precedes_line s t same
-  precedes_behind (Turn.next s) (Turn.done q) same = absurd same
-  precedes_behind (Turn.done r) (Turn.next t) precedes = precedes
-  precedes_behind (Turn.done r) (Turn.done q) precedes = precedes
-
   first_gap_follows : (encoding : EncodingMode) (bits : Bits)
-      → Follows SameRun Precedes lenient_end (first_gap encoding strictly bits) (first_gap encoding leniently bits)
+      → Follows SameRun Precedes (ending_from (move_on leniently)) (first_gap encoding strictly bits) (first_gap encoding leniently bits)
   first_gap_follows encoding bits = grind (arith, common_steps)
 
   precedes : (bits : Bits) → Precedes (end_of strictly bits) (end_of leniently bits)
-  precedes bits = precedes_behind (first_gap settings.encoding strictly bits) (first_gap settings.encoding leniently bits) (first_gap_follows settings.encoding bits)
+  precedes bits = readings_follow strictly leniently wide wide SameRun Precedes move_follows (first_gap settings.encoding strictly bits) _
+      (first_gap_follows settings.encoding bits)
 
 pub ok_outcome : (bits : Bits) (r : Result Bits DecodeError) → IsOk (bytes_before bits r) → IsOk r
 ok_outcome bits r ok = grind (arith, common_steps)

@@ -21,8 +21,7 @@ returns-in-Some-clause-eol c =
     let at = ap (λ (at : BitsAt). next_eol (here at)) c.starting_at-reader.ensures in
     let next = rw c.if-not-skip_to_eol.false at c.skip_to_eol.ensures.next in
     let same = c.skip_to_eol.ensures.same_bits ∙ ap (λ (at : BitsAt). at.bits) c.starting_at-reader.ensures in
-    let found : here c.skip_to_eol.new.self ≡ drop c.bit_pos.result bits = ap (λ (b : Bits). drop c.skip_to_eol.new.self.place b) same
-    ∙ ap (λ (n : ℕ). drop n bits) (sym c.bit_pos.ensures.place) in
+    let found : here c.skip_to_eol.new.self ≡ drop c.bit_pos.result bits = grind (arith, common_steps) in
     let eol = rw c.in-Some.is at c.end_of_eol.ensures.end in
     let within = rw c.in-Some.is at c.end_of_eol.ensures.within in
     sym (eol_by_ends bits c.args.from c.args.to c.in-Some.end (here c.skip_to_eol.new.self) c.requires.order
@@ -44,8 +43,7 @@ counted c =
     let next = rw c.if-not-skip_to_eol.false at c.skip_to_eol.ensures.next in
     let passed = rw c.if-not-skip_to_eol.false at c.skip_to_eol.ensures.ticks in
     let same = c.skip_to_eol.ensures.same_bits ∙ ap (λ (at : BitsAt). at.bits) c.starting_at-reader.ensures in
-    let found : here c.skip_to_eol.new.self ≡ drop c.bit_pos.result bits = ap (λ (b : Bits). drop c.skip_to_eol.new.self.place b) same
-    ∙ ap (λ (n : ℕ). drop n bits) (sym c.bit_pos.ensures.place) in
+    let found : here c.skip_to_eol.new.self ≡ drop c.bit_pos.result bits = grind (arith, common_steps) in
     sought_work bits c.requires.eol.0 c.args.from c.args.to c.requires.order (omega (arith, c.requires.within, length-bits_of c.args.data.now)) c.requires.eol.1
     c.bit_pos.result c.args.ticks.now c.skip_to_eol.new.ticks c.end_of_eol.new.ticks (omega (arith, c.bit_pos.ensures.within, ap length same))
     (ap next_eol (sym start) ∙ next ∙ ap (λ (b : Bits). Some b) found) (omega (arith, passed, ap length start, ap length found, ap looked found)) c.end_of_eol.ensures.work

@@ -23,8 +23,7 @@ returns-in-Ok-clause-before c =
     let line = lenient_line c.reset.new.self.held c.args.ctx.now.held.settings c.starting_at-reader.result (drop c.args.from bits)
     (ap (λ (ctx : Context). ctx.held) c.reset.ensures.frame) c.requires.lenient (ap (λ (at : BitsAt). here at) c.starting_at-reader.ensures) in
     let drawn = rw c.in-Ok.is at c.decode_1d_line.ensures.line in
-    let rest : here c.decode_1d_line.new.reader ≡ drop c.bit_pos.result bits = ap (λ (b : Bits). drop c.decode_1d_line.new.reader.place b) same
-    ∙ ap (λ (n : ℕ). drop n bits) (sym c.bit_pos.ensures.place) in
+    let rest : here c.decode_1d_line.new.reader ≡ drop c.bit_pos.result bits = grind (arith, common_steps) in
     let within : c.bit_pos.result ≤ length bits = omega (arith, c.bit_pos.ensures.within, ap length same) in
     whole_ends c.args.ctx.now.held.settings.columns c.bit_pos.result c.args.end bits (drop c.args.from bits) (here c.decode_1d_line.new.reader)
     c.decode_1d_line.new.ctx.held.front (sym line ∙ drawn) rest within (omega (arith, c.requires.within, length-bits_of c.args.data.now))
