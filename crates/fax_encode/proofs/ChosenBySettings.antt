@@ -39,9 +39,9 @@ lines_encode encoding columns k aligned left reference [] wide same widths = ref
 lines_encode encoding columns k aligned left reference (row ∷ rows) wide same widths =
     let width : length row ≡ columns = All-head (λ row. length row ≡ columns) row rows widths in (
       chosen_line encoding left reference row,
-      chosen_lines encoding k aligned (left_after k left reference row) row rows,
+      chosen_lines encoding k aligned (left_after encoding k left reference row) row rows,
       line_encodes encoding left reference row (same ∙ sym width) (omega arith),
-      lines_encode encoding columns k aligned (left_after k left reference row) row rows wide width (All-tail (λ row. length row ≡ columns) row rows widths),
+      lines_encode encoding columns k aligned (left_after encoding k left reference row) row rows wide width (All-tail (λ row. length row ≡ columns) row rows widths),
       refl,
     )
 
@@ -53,9 +53,9 @@ lines_with_eols_encode encoding columns k fills at left reference (row ∷ rows)
     let next : ℕ = at + 12 + fill_of fills at + length (chosen_line encoding left reference row) in (
       fill_of fills at,
       chosen_line encoding left reference row,
-      chosen_lines_with_eols encoding k fills next (left_after k left reference row) row rows,
+      chosen_lines_with_eols encoding k fills next (left_after encoding k left reference row) row rows,
       line_encodes encoding left reference row (same ∙ sym width) (omega arith),
-      lines_with_eols_encode encoding columns k fills next (left_after k left reference row) row rows wide width (All-tail (λ row. length row ≡ columns) row rows widths),
+      lines_with_eols_encode encoding columns k fills next (left_after encoding k left reference row) row rows wide width (All-tail (λ row. length row ≡ columns) row rows widths),
       refl,
     )
 
@@ -118,12 +118,12 @@ module _ (d : DecodeSettings) (columns : ℕ) (rows : List Row) (bytes : List �
   are_settings : (limit : ℕ) → d.columns ≡ columns → d.rows ≡ limit → limit < 2 ^ 32 → AreSettings d
   are_settings limit c r lt = record { columns = omega (arith, c, small); rows = omega (arith, r, lt) }
 
-  of_group4 : (eols aligned closed : Bool) → Match d Group4 eols aligned closed columns (length rows) → whole ≡ filled_up (chosen_group4 aligned closed white rows)
+  of_group4 : (k : ℕ) (eols aligned closed : Bool) → Match d Group4 eols aligned closed columns (length rows) → whole ≡ filled_up (chosen_group4 k aligned closed white rows)
       → Gives d whole rows
-  of_group4 eols aligned true m e =
-      let body : Bits = chosen_lines Group4 1 aligned 0 white rows in
+  of_group4 k eols aligned true m e =
+      let body : Bits = chosen_lines Group4 k aligned 0 white rows in
       let bits : Bits = body ++ (eol 0 ++ eol 0) in
-      let lines = lines_encode Group4 columns 1 aligned 0 white rows is.0 (white_is_wide columns) is.1 in
+      let lines = lines_encode Group4 columns k aligned 0 white rows is.0 (white_is_wide columns) is.1 in
       closed_gives d rows ((length bits + 7) / 8) whole (are_settings 0 m.columns_are m.limit_is (omega arith)) (bits_are_whole HighestFirst bytes)
       (IsClosedPicture.by_eofb bits (record {
         encoding = m.encoding_is;
@@ -133,9 +133,9 @@ module _ (d : DecodeSettings) (columns : ℕ) (rows : List Row) (bytes : List �
             (subst (λ (a : Bool). PictureT6 columns a rows bits) (sym m.aligned_is) (body, is, lines, sym (append_assoc body (eol 0) (eol 0))));
         begins = (padding (length bits), e);
       }) refl)
-  of_group4 eols aligned false m e =
-      let body : Bits = chosen_lines Group4 1 aligned 0 white rows in
-      let lines = lines_encode Group4 columns 1 aligned 0 white rows is.0 (white_is_wide columns) is.1 in
+  of_group4 k eols aligned false m e =
+      let body : Bits = chosen_lines Group4 k aligned 0 white rows in
+      let lines = lines_encode Group4 columns k aligned 0 white rows is.0 (white_is_wide columns) is.1 in
       limited_pictures d rows whole (are_settings (length rows) m.columns_are m.limit_is few) (bits_are_whole HighestFirst bytes)
       (IsLimitedPicture.of_t6 body (record {
         encoding = m.encoding_is;
@@ -208,7 +208,7 @@ module _ (d : DecodeSettings) (columns : ℕ) (rows : List Row) (bytes : List �
 
   by_kind : (encoding : EncodingMode) (eols : Bool) (k : ℕ) (fills aligned closed : Bool) → Match d encoding eols aligned (is_closed encoding eols closed) columns (length rows)
       → whole ≡ filled_up (chosen_picture encoding eols k fills aligned closed white rows) → Gives d whole rows
-  by_kind Group4 eols k fills aligned closed m e = of_group4 eols aligned closed m e
+  by_kind Group4 eols k fills aligned closed m e = of_group4 k eols aligned closed m e
   by_kind Group3_1D true k fills aligned closed m e = of_eols Group3_1D k fills (λ x. absurd cc) aligned closed m e
   by_kind Group3_1D false k fills aligned closed m e = of_lines Group3_1D k fills (λ x. absurd cc) aligned m e
   by_kind Group3_2D true k fills aligned closed m e = of_eols Group3_2D k fills (λ x. absurd cc) aligned closed m e
@@ -226,12 +226,12 @@ same_lines_2d : (k left : ℕ) (aligned : Bool) (reference : Row) (rows : List R
 same_lines_2d k left aligned reference [] = refl
 same_lines_2d k left aligned reference (row ∷ rows) =
     ap (λ (b : Bits). (chosen_line_2d reference row ++ cond aligned (padding (length (chosen_line_2d reference row))) []) ++ b)
-    (same_lines_2d k (left_after k left reference row) aligned row rows)
+    (same_lines_2d k (left_after Group4 k left reference row) aligned row rows)
 
 same_lines_1d : (k at left : ℕ) (reference : Row) (rows : List Row) → chosen_lines_with_eols Group3_1D k false at left reference rows ≡ chosen_lines_1d rows
 same_lines_1d k at left reference [] = refl
 same_lines_1d k at left reference (row ∷ rows) =
-    ap (λ (b : Bits). (eol 0 ++ chosen_line_1d row) ++ b) (same_lines_1d k (at + 12 + 0 + length (chosen_line_1d row)) (left_after k left reference row) row rows)
+    ap (λ (b : Bits). (eol 0 ++ chosen_line_1d row) ++ b) (same_lines_1d k (at + 12 + 0 + length (chosen_line_1d row)) (left_after Group3_1D k left reference row) row rows)
 
 same_eols : (at : ℕ) → chosen_eols Group3_1D false at 6 ≡ return_to_control
 same_eols at = refl
@@ -239,7 +239,7 @@ same_eols at = refl
 -- the law
 pub chosen_by_settings : ChosenBySettings
 chosen_by_settings columns k rows = (
-  λ aligned. ap (λ (b : Bits). b ++ (eol 0 ++ eol 0)) (same_lines_2d 1 0 aligned (white_row columns) rows)
+  λ aligned. ap (λ (b : Bits). b ++ (eol 0 ++ eol 0)) (same_lines_2d k 0 aligned (white_row columns) rows)
       ∙ sym (append_assoc (chosen_lines_2d aligned (white_row columns) rows) (eol 0) (eol 0)),
   ap (λ (b : Bits). b ++ chosen_eols Group3_1D false (length b) 6) (same_lines_1d k 0 0 (white_row columns) rows)
       ∙ ap (λ (b : Bits). chosen_lines_1d rows ++ b) (same_eols (length (chosen_lines_1d rows))),

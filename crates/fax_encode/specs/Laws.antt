@@ -7,12 +7,14 @@ use Rattle.hayro_ccitt.specs.Answers.{meaning_after}
 use Rattle.hayro_ccitt.specs.Bits.{Bits, bits_of}
 use Rattle.hayro_ccitt.specs.Rows.{Row, HaveWidth, white_row, pixels}
 use Rattle.hayro_ccitt.specs.Encodings.{IsPicture, PictureT6, PictureT4, EncodesRows, EncodesRowsWithEols, ClosesWithEols}
+use Rattle.hayro_ccitt.specs.declared.bit_reader.BitOrder.TheVariants.{HighestFirst}
 use Rattle.hayro_ccitt.specs.Laws.{Gives}
 use Rattle.hayro_ccitt.specs.PlainReading.{plain}
 use Rattle.fax_encode.specs.Chosen.{chosen_line_1d, chosen_t6, chosen_t4, filled_up, rows_of}
 use Rattle.fax_encode.specs.Packed.{packed, shown, with_packed_row}
 use Rattle.fax_encode.specs.Refusals.{AreRows}
-use Rattle.fax_encode.specs.Settings.{EncodeSettings, chosen, chosen_line, chosen_lines, chosen_lines_with_eols, chosen_eols, decode_settings_for}
+use Rattle.fax_encode.specs.declared.settings.EncodeSettings.{EncodeSettings}
+use Rattle.fax_encode.specs.Settings.{chosen, chosen_line, chosen_lines, chosen_lines_with_eols, chosen_eols, decode_settings_for}
 
 -- what is chosen for a picture is an encoding of it
 abbrev pub ChosenIsAnEncoding : Type 0
@@ -93,6 +95,7 @@ ChosenBySettings = (columns k : ℕ) (rows : List Row)
       eols_end_at_bytes = false;
       rows_are_byte_aligned = aligned;
       end_of_block = true;
+      order = HighestFirst;
     }) columns rows ≡ chosen_t6 columns aligned rows)
     × (chosen (record {
       encoding = Group3_1D;
@@ -101,6 +104,7 @@ ChosenBySettings = (columns k : ℕ) (rows : List Row)
       eols_end_at_bytes = false;
       rows_are_byte_aligned = false;
       end_of_block = true;
+      order = HighestFirst;
     }) columns rows ≡ chosen_t4 rows)
 
 -- auxiliary: the bytes of what is chosen for rows of eight columns
@@ -118,6 +122,7 @@ WorkedSettings = IsWritten (record {
   eols_end_at_bytes = false;
   rows_are_byte_aligned = false;
   end_of_block = true;
+  order = HighestFirst;
 }) (white_row 8 ∷ white_row 8 ∷ []) (0 ∷ 28 ∷ 192 ∷ 5 ∷ 0 ∷ 24 ∷ 0 ∷ 192 ∷ 6 ∷ 0 ∷ 48 ∷ 1 ∷ 128 ∷ 12 ∷ [])
     × IsWritten (record {
       encoding = Group3_1D;
@@ -126,6 +131,7 @@ WorkedSettings = IsWritten (record {
       eols_end_at_bytes = false;
       rows_are_byte_aligned = true;
       end_of_block = false;
+      order = HighestFirst;
     }) (pixels 8 (3 ∷ 5 ∷ []) ∷ pixels 8 (3 ∷ 5 ∷ []) ∷ []) (142 ∷ 0 ∷ 142 ∷ 0 ∷ [])
     × IsWritten (record {
       encoding = Group3_1D;
@@ -134,6 +140,7 @@ WorkedSettings = IsWritten (record {
       eols_end_at_bytes = true;
       rows_are_byte_aligned = false;
       end_of_block = false;
+      order = HighestFirst;
     }) (white_row 8 ∷ white_row 8 ∷ []) (0 ∷ 1 ∷ 152 ∷ 0 ∷ 1 ∷ 152 ∷ [])
     × IsWritten (record {
       encoding = Group4;
@@ -142,4 +149,5 @@ WorkedSettings = IsWritten (record {
       eols_end_at_bytes = false;
       rows_are_byte_aligned = false;
       end_of_block = false;
+      order = HighestFirst;
     }) (pixels 8 (3 ∷ 5 ∷ []) ∷ []) (49 ∷ 192 ∷ [])
