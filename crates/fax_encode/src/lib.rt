@@ -23,6 +23,7 @@ pub use bitmap_encoding::{encode_bitmap_1d, encode_bitmap_g4};
 pub use bitmap_rows::rows_of_bitmap;
 pub use bitmap_sink::BitmapSink;
 pub use by_settings::{encode, encode_bitmap};
+pub use encoding::names_encoding;
 pub use error::EncodeError;
 pub use group3::encode_1d;
 pub use group4::encode_g4;
