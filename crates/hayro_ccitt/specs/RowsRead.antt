@@ -4,6 +4,7 @@ use Rattle.hayro_ccitt.specs.declared.codes.Color.TheVariants.{White}
 use Rattle.hayro_ccitt.specs.declared.error.DecodeError.{DecodeError}
 use Rattle.hayro_ccitt.specs.declared.error.DecodeError.TheVariants.{OutOfMemory, Refused}
 use Rattle.hayro_ccitt.specs.declared.row_reader.RowReader.TheInside.{Inside}
+use Rattle.hayro_ccitt.specs.declared.row_reader.RowState.{RowState}
 use Rattle.hayro_ccitt.specs.declared.row_reader.Stand.{Stand}
 use Rattle.hayro_ccitt.specs.declared.row_reader.Stand.TheVariants.{AtLine, BehindRow, AtEnd, AtFault}
 use Rattle.hayro_ccitt.specs.declared.settings.DecodeSettings.{DecodeSettings}
@@ -61,8 +62,12 @@ read_so_far held reader line_start damage stand = record {
   place = reader.place;
 }
 
+-- what a reading keeps between two rows, over the bits at which it stands
+abbrev pub seen : RowState → BitsAt → RowsRead
+seen rows reader = read_so_far rows.ctx.held reader rows.started_at rows.damage rows.stand
+
 abbrev pub rows_read_of : Inside → RowsRead
-rows_read_of r = read_so_far r.ctx.held r.reader r.started_at r.damage r.stand
+rows_read_of r = seen r.rows r.reader
 
 -- whether a line follows a gap that was passed, given whether the reading is over
 abbrev pub line_after : Result Bool DecodeError → Result Bool DecodeError
@@ -180,6 +185,15 @@ pub record RepairsAreCounted (settings : DecodeSettings) (bits : Bits) (held : H
   pub few : held.repairs.rows ≤ held.taken
   pub counted : held.repairs.rows ≡ sum_by length (take held.taken (repairs_by_line settings bits))
 
+-- it stands there by the plain reading of these bits
+abbrev pub IsStanding : RowState → BitsAt → Type 0
+IsStanding rows reader =
+    Stands rows.stand rows.ctx.held.settings reader.bits rows.ctx.held reader.place
+    × RepairsAreCounted rows.ctx.held.settings reader.bits rows.ctx.held
+
+-- at the first bit of a line
+abbrev pub IsStandingAtLine : RowState → BitsAt → Type 0
+IsStandingAtLine rows reader = (is_at_line rows.stand ≡ true) × (IsStanding rows reader)
+
 abbrev pub IsReading : Inside → Type 0
-IsReading r =
-    Stands r.stand r.ctx.held.settings r.reader.bits r.ctx.held r.reader.place × RepairsAreCounted r.ctx.held.settings r.reader.bits r.ctx.held
+IsReading r = IsStanding r.rows r.reader

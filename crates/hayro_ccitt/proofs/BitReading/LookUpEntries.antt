@@ -175,8 +175,14 @@ seven_zeros color = grind (arith, common_steps)
 -- the entry if there is no word of a run
 entry_of_none : (color : Color) (here : Bits) → length here ≡ 13 → word_at (codes_of color) here ≡ None → entry_of (codes_of color) here ≡ 36863
 entry_of_none color here h e =
-    grind (arith, common_steps, eight_zeros_there color here h e, longest_ended (codes_of color) eight_zeros, seven_zeros color,
-    zeros_end color)
+    grind (
+      arith,
+      common_steps,
+      eight_zeros_there color here h e,
+      longest_ended (codes_of color) eight_zeros,
+      seven_zeros color,
+      zeros_end color,
+    )
 
 entry_of_found : (list : List (Code ℕ)) (here : Bits) (found : ℕ × Bits) → word_at list here ≡ Some found → entry_of list here ≡ (length here - length found.1) * 4096 + found.0
 entry_of_found list here found e = grind (arith, common_steps)

@@ -75,9 +75,18 @@ module _ (at : BitsAt) (w : ℕ) (small : w < 2 ^ 32) (held : Holds w at) where
     -- no EOL begins after the twelve bits before it, nor a bit later
     pub none_behind : (next : BitsAt) → next.bits ≡ at.bits → next.place ≡ at.place + 12 → (after_eol 0 (here next) ≡ None) × (after_eol 0 (drop 1 (here next)) ≡ None)
     none_behind next same place =
-        grind (arith, common_steps, get_or-drop next.place next.bits (10 - zeros_behind) false, get_or-drop 1 (here next) (9 -
-        zeros_behind) false, one_near 0 (10 - zeros_behind) (here next) (omega arith), one_near 0 (9 - zeros_behind) (drop 1
-        (here next)) (omega arith), one_there, within_ten)
+        grind (
+          arith,
+          common_steps,
+          get_or-drop next.place next.bits (10 - zeros_behind) false,
+          get_or-drop 1 (here next) (9 -
+              zeros_behind) false,
+          one_near 0 (10 - zeros_behind) (here next) (omega arith),
+          one_near 0 (9 - zeros_behind) (drop 1
+              (here next)) (omega arith),
+          one_there,
+          within_ten,
+        )
 
 -- ---- The EOLs.
 -- eleven zeros and a one are an EOL

@@ -30,8 +30,17 @@ bit_number a b h k e = grind (arith, common_steps)
 pub low_bits-same : (width a b : ℕ) → low_bits width a ≡ low_bits width b → a % 2 ^ width ≡ b % 2 ^ width
 low_bits-same zero a b e = omega arith
 low_bits-same (suc width) a b e =
-    grind (arith, common_steps, bit_at-lt a width, bit_at-lt b width, bit_number (bit_at a width) (bit_at b width) (bit_at-lt a
-    width) (bit_at-lt b width), mod-pow-add a 1 width, mod-pow-add b 1 width, low_bits-same width a b)
+    grind (
+      arith,
+      common_steps,
+      bit_at-lt a width,
+      bit_at-lt b width,
+      bit_number (bit_at a width) (bit_at b width) (bit_at-lt a
+          width) (bit_at-lt b width),
+      mod-pow-add a 1 width,
+      mod-pow-add b 1 width,
+      low_bits-same width a b,
+    )
 
 same_front : (a b x y : Bits) → length a ≡ length b → a ++ x ≡ b ++ y → a ≡ b
 same_front [] [] x y h e = refl
@@ -51,10 +60,20 @@ word_begins width rest word n fits below some = rw (low_bits-append width rest n
         → is_prefix (low_bits width word) (low_bits width (n / 2 ^ rest) ++ low_bits rest n) ≡ false
     differ None e other = rw (e, is_prefix) refl
     differ (Some more) e other =
-        grind (arith, common_steps, after_is (low_bits width word) (low_bits width (n / 2 ^ rest) ++ low_bits rest n) more e,
-        length-low_bits width (n / 2 ^ rest), length-low_bits width word, low_bits-same width (n / 2 ^ rest) word, mod-eq_of_lt
-        small, mod-eq_of_lt fits, same_front (low_bits width (n / 2 ^ rest)) (low_bits width word) (low_bits rest n) more
-        (length-low_bits width (n / 2 ^ rest) ∙ sym (length-low_bits width word)), small)
+        grind (
+          arith,
+          common_steps,
+          after_is (low_bits width word) (low_bits width (n / 2 ^ rest) ++ low_bits rest n) more e,
+          length-low_bits width (n / 2 ^ rest),
+          length-low_bits width word,
+          low_bits-same width (n / 2 ^ rest) word,
+          mod-eq_of_lt
+              small,
+          mod-eq_of_lt fits,
+          same_front (low_bits width (n / 2 ^ rest)) (low_bits width word) (low_bits rest n) more
+              (length-low_bits width (n / 2 ^ rest) ∙ sym (length-low_bits width word)),
+          small,
+        )
 
     by : (n / 2 ^ rest ≡ word) ⊎ (n / 2 ^ rest ≡ word → ⊥)
         → is_prefix (low_bits width word) (low_bits width (n / 2 ^ rest) ++ low_bits rest n) ≡ eqb (n / 2 ^ rest) word
@@ -86,8 +105,13 @@ is_row_is run width word e = grind (arith, common_steps)
 -- the numbers whose bits begin with a word are below 8192
 pub range_fits : (run width word : ℕ) → IsRow run width word → word * 2 ^ (13 - width) + 2 ^ (13 - width) ≤ 8192
 range_fits run width word is =
-    grind (arith, common_steps, mul-le (word + 1) (2 ^ (13 - width)) (2 ^ width) (2 ^ (13 - width)) (omega (arith, is.fits))
-    (omega arith), pow-add 2 width (13 - width))
+    grind (
+      arith,
+      common_steps,
+      mul-le (word + 1) (2 ^ (13 - width)) (2 ^ width) (2 ^ (13 - width)) (omega (arith, is.fits))
+          (omega arith),
+      pow-add 2 width (13 - width),
+    )
 
 -- what the shifts compute
 pub shifted_entry : (run width word : ℕ) → IsRow run width word → bit_or (width * 4096 % 65536) run ≡ width * 4096 + run

@@ -81,8 +81,14 @@ looked_up_found color here e h = by (word_at (codes_of color) (padded 13 here)) 
     by : (o : Option (ℕ × Bits)) → word_at (codes_of color) (padded 13 here) ≡ o
         → read_code (codes_of color) here ≡ Ok (run_or_none (codes_of color) (padded 13 here), drop (telling_bits (codes_of color) (padded 13 here)) here)
     by (Some found) a =
-        grind (arith, common_steps, codes_tell color, run_of_found (codes_of color) (padded 13 here) found a, tells_found 13
-        (codes_of color) (codes_tell color) here found a h)
+        grind (
+          arith,
+          common_steps,
+          codes_tell color,
+          run_of_found (codes_of color) (padded 13 here) found a,
+          tells_found 13
+              (codes_of color) (codes_tell color) here found a h,
+        )
     by None a = absurd (e (run_of_none (codes_of color) (padded 13 here) a))
 
 -- at least one bit is needed

@@ -104,8 +104,14 @@ run_goes : (color : Color) (total : ℕ) (here : Bits) (t : ℕ × Bits) (r : Re
     → run_turn color (total, here) ≡ Turn.next t → Stands here (word_found (codes_of color) here) t.1
 run_goes color total here t (Err e) h k = grind (arith, common_steps)
 run_goes color total here t (Ok found) h k =
-    grind (arith, common_steps, run_word color found.0, word_next total found t, word_stands (codes_of color) here found.0
-    found.1 (run_word color found.0) h)
+    grind (
+      arith,
+      common_steps,
+      run_word color found.0,
+      word_next total found t,
+      word_stands (codes_of color) here found.0
+          found.1 (run_word color found.0) h,
+    )
 
 run_ends : (color : Color) (total : ℕ) (here : Bits) (r : Result (ℕ × Bits) DecodeError) (q : Result (ℕ × Bits) DecodeError)
     → read_code (codes_of color) here ≡ q → run_turn color (total, here) ≡ Turn.done r

@@ -48,8 +48,15 @@ behind_eol bits rest place zeros far within is eol = (
         by : (b : Bool) → cond b (Some rest) None ≡ Some (drop place bits) → zeros ≡ 11
         by false e = absurd (let f : ◌≡◌ {A = Option Bits} None (Some (drop place bits)) = e in cc)
         by true e =
-            grind (arith, common_steps, length-append (replicate zeros false) (true ∷ rest), length-drop place bits, length-drop
-            (place - 12) bits, length-replicate zeros false)
+            grind (
+              arith,
+              common_steps,
+              length-append (replicate zeros false) (true ∷ rest),
+              length-drop place bits,
+              length-drop
+                  (place - 12) bits,
+              length-replicate zeros false,
+            )
 
 -- ---- A one in a body.
 zeros_only : (m : ℕ) (here : Bits) → m ≤ leading_zeros here → take m here ≡ replicate m false
@@ -127,9 +134,21 @@ eol_in_front m here found after next eol = found_ends (take m here) ∙ by (past
 pub eol_by_ends : (bits : Bits) (from to end : ℕ) (found : Bits) → from ≤ to → to ≤ length bits → end ≤ length bits → next_eol (drop from bits) ≡ Some found
     → after_eol 0 found ≡ Some (drop end bits) → is_some (next_eol (take (to - from) (drop from bits))) ≡ leb end to
 eol_by_ends bits from to end found order within le next eol =
-    grind (arith, common_steps, cases_lt to end, drop-drop (to - from) from bits, eol_in_front (to - from) (drop from bits)
-    found (drop end bits) next eol, le-leb (length (drop to bits)) (length (drop end bits)), le-leb end to, length-drop end
-    bits, length-drop to bits, lt-leb (length (drop to bits)) (length (drop end bits)), lt-leb end to)
+    grind (
+      arith,
+      common_steps,
+      cases_lt to end,
+      drop-drop (to - from) from bits,
+      eol_in_front (to - from) (drop from bits)
+          found (drop end bits) next eol,
+      le-leb (length (drop to bits)) (length (drop end bits)),
+      le-leb end to,
+      length-drop end
+          bits,
+      length-drop to bits,
+      lt-leb (length (drop to bits)) (length (drop end bits)),
+      lt-leb end to,
+    )
 
 -- the next EOL, if one is found, is there
 pub eol_found_stands : (here found : Bits) → next_eol here ≡ Some found → after_eol 0 found ≡ None → ⊥

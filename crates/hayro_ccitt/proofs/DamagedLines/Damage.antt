@@ -74,8 +74,17 @@ module _ (settings : DecodeSettings) (wide : 0 < settings.columns) (one two : Bi
       → OneRowDiffers settings one two from (plain settings one).rows (plain settings two).rows
   rows_differ (inl e) = inl (rows_of two ∙ sym e ∙ sym (rows_of one))
   rows_differ (inr (before, a, b, more, e, f, begins)) =
-      grind (arith, common_steps, comes_one before begins, comes_two before begins, rows_of two, rows_of one, set, set_at before
-      a more b (length before) refl)
+      grind (
+        arith,
+        common_steps,
+        comes_one before begins,
+        comes_two before begins,
+        rows_of two,
+        rows_of one,
+        set,
+        set_at before
+            a more b (length before) refl,
+      )
 
   ends_at : (bits : Bits) (rest : Bits) (place : ℕ) → (end_of settings bits).outcome ≡ Ok rest
       → place + length rest ≡ length bits → EndsAt settings bits (plain settings bits).outcome place ((place + 7) / 8)

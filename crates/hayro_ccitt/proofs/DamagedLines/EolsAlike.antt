@@ -112,8 +112,15 @@ module _ (x y : Bits) where
               ],
             )
         by on o p e f (inr (inl a)) =
-            grind (arith, common_steps, all_eols-none x none_x, all_eols-none y none_y, all_eols-some (bits ++ true ∷ x) x (e ∙
-            a.0), all_eols-some (bits ++ true ∷ y) y (f ∙ a.1))
+            grind (
+              arith,
+              common_steps,
+              all_eols-none x none_x,
+              all_eols-none y none_y,
+              all_eols-some (bits ++ true ∷ x) x (e ∙
+                  a.0),
+              all_eols-some (bits ++ true ∷ y) y (f ∙ a.1),
+            )
         by on o p e f (inr (inr a)) = grind (arith, common_steps, all_eols-none)
 
     -- the consecutive EOLs are alike in both

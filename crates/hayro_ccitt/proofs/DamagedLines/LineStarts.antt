@@ -63,8 +63,15 @@ from_later seen (true ∷ here) end c =
     by : (b : Bool) → (leb 11 seen && begins_line here) ≡ b → (Contains (later_starts 0 here) end → EndsLater 0 here end × (begins_line end ≡ true))
         → Contains (cond b (here ∷ []) []) end ⊎ Contains (later_starts 0 here) end → EndsLater seen (true ∷ here) end × (begins_line end ≡ true)
     by true e on (inl found) =
-        grind (arith, common_steps, and_parts (leb 11 seen) (begins_line here) e, contains_one here end found, eol_of 0 seen
-        here, leb-true 11 seen)
+        grind (
+          arith,
+          common_steps,
+          and_parts (leb 11 seen) (begins_line here) e,
+          contains_one here end found,
+          eol_of 0 seen
+              here,
+          leb-true 11 seen,
+        )
     by false e on (inl found) = absurd (contains_none end found)
     by b e on (inr found) =
         let f = on found in

@@ -207,14 +207,26 @@ module _ (settings : DecodeSettings) (encoding : settings.encoding ≡ Group3_1D
           (unless_ahead rows (bits ++ true ∷ x) (bits ++ true ∷ y) (suc (all_eols (a ++ true ∷ x)).0) a (all_eols (a ++ true ∷ x)).1
           (all_eols (a ++ true ∷ y)).1 closes (omega arith) both.1))
       by_past open_limit o p e f (inr (inl (g, h))) =
-          grind (arith, common_steps, after_row_past settings encoding lenient rows (bits ++ true ∷ x) x open_limit (e ∙ g),
-          after_row_past settings encoding lenient rows (bits ++ true ∷ y) y open_limit (f ∙ h), all_eols-none x tail_x.none,
-          all_eols-none y tail_y.none, unless_there rows (bits ++ true ∷ x) (bits ++ true ∷ y) 1)
+          grind (
+            arith,
+            common_steps,
+            after_row_past settings encoding lenient rows (bits ++ true ∷ x) x open_limit (e ∙ g),
+            after_row_past settings encoding lenient rows (bits ++ true ∷ y) y open_limit (f ∙ h),
+            all_eols-none x tail_x.none,
+            all_eols-none y tail_y.none,
+            unless_there rows (bits ++ true ∷ x) (bits ++ true ∷ y) 1,
+          )
       by_past open_limit o p e f (inr (inr (g, h))) =
-          grind (arith, common_steps, after_row_past settings encoding lenient rows (bits ++ true ∷ x) after open_limit (e ∙ g ∙
-          tail_x.next), after_row_past settings encoding lenient rows (bits ++ true ∷ y) after open_limit (f ∙ h ∙ tail_y.next),
-          eols_shorter (length after) after, unless_beyond rows rows true (bits ++ true ∷ x) (bits ++ true ∷ y) (one_more
-          (all_eols after)) (inl refl) (eols_shorter (length after) after))
+          grind (
+            arith,
+            common_steps,
+            after_row_past settings encoding lenient rows (bits ++ true ∷ x) after open_limit (e ∙ g ∙
+                tail_x.next),
+            after_row_past settings encoding lenient rows (bits ++ true ∷ y) after open_limit (f ∙ h ∙ tail_y.next),
+            eols_shorter (length after) after,
+            unless_beyond rows rows true (bits ++ true ∷ x) (bits ++ true ∷ y) (one_more
+                (all_eols after)) (inl refl) (eols_shorter (length after) after),
+          )
 
       by_limit : (limit_met settings (length rows) ≡ true) ⊎ (limit_met settings (length rows) ≡ false)
           → Both (after_row settings (sought rows (bits ++ true ∷ x))) (after_row settings (sought rows (bits ++ true ∷ y)))

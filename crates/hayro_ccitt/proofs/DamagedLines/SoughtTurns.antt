@@ -53,8 +53,21 @@ module _ (settings : DecodeSettings) (encoding : settings.encoding ≡ Group3_1D
       by : (o : Option Bits) → after_eol 0 here ≡ o
           → after_row settings (sought rows here) ≡ unless_over settings (sought rows here) (one_more (all_eols after))
       by (Some next) f =
-          grind (arith, common_steps, all_eols-some, and_left, common_steps, cond-false, eols_here_is, ne_eqb, one_more-count,
-          past-eol 0 here next f, run, test, unless_over)
+          grind (
+            arith,
+            common_steps,
+            all_eols-some,
+            and_left,
+            common_steps,
+            cond-false,
+            eols_here_is,
+            ne_eqb,
+            one_more-count,
+            past-eol 0 here next f,
+            run,
+            test,
+            unless_over,
+          )
       by None f =
           let none : eqb (eols_here settings here).0 0 ≡ true = ap (λ (x : ℕ × Bits). eqb x.0 0) (eols_here_is here ∙ all_eols-none here f) in
           let is_true : test ≡ true = grind (arith, common_steps, and_from, not_from_false, not_past_end) in

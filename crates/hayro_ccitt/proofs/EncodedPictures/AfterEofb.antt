@@ -195,8 +195,17 @@ closed_plain settings last w rest four wide ends stream more is whole =
 same_front : (one two : Bits) (count : ℕ) (w rest : Bits) → AreWholeBytes one → AreWholeBytes two → one ≡ w ++ rest → (length w + 7) / 8 ≡ count
     → take (8 * count) two ≡ take (8 * count) one → (more : Bits) × (two ≡ w ++ more) × (length more % 8 ≡ length rest % 8)
 same_front one two count w rest whole_one whole_two is count_is same =
-    grind (arith, common_steps, append_assoc w, length-append w rest, length-append w, length-take-le (8 * count) one,
-    prefix_of_prefix w rest, take-append-drop (8 * count) one, take-append-drop (8 * count) two)
+    grind (
+      arith,
+      common_steps,
+      append_assoc w,
+      length-append w rest,
+      length-append w,
+      length-take-le (8 * count) one,
+      prefix_of_prefix w rest,
+      take-append-drop (8 * count) one,
+      take-append-drop (8 * count) two,
+    )
 
 -- without columns nothing is read
 plain_no_columns : (settings : DecodeSettings) (stream : Bits) → settings.columns ≡ 0 → plain settings stream ≡ nothing_read

@@ -80,8 +80,14 @@ painted_to : (row front : Row) (from p : ℕ) (color : Color) → IsAt row front
     → ((q : ℕ) → from ≤ q → q < p → is_change row q ≡ false)
     → front ++ replicate (p - length front) (is_black color) ≡ take p row
 painted_to row front from p color at inside above within none =
-    grind (arith, common_steps, length_at row front from color (omega arith), pixels_same row from p (is_black color) (at.inside
-    inside) none, take_painted row (from - 1))
+    grind (
+      arith,
+      common_steps,
+      length_at row front from color (omega arith),
+      pixels_same row from p (is_black color) (at.inside
+          inside) none,
+      take_painted row (from - 1),
+    )
 
 -- the second run of a horizontal mode; it may be empty, at the row's end
 second_painted : (row front : Row) (p r : ℕ) (color : Color) → IsAt row front (suc p) color → length front ≡ p → p ≤ length row → p ≤ r

@@ -26,8 +26,17 @@ pub run_spelled : (color : Color) (n : ℕ) (bits : Bits) (total : ℕ) (more : 
 run_spelled color n bits total more (Spells.terminating m word has small) le =
     run_ends color total n (bits ++ more) more (read_code_again (codes_of color) n bits more (codes_free color) has) le small
 run_spelled color n bits total more (Spells.makeup m word {n = k} {bits = next} has large rest) le =
-    grind (arith, common_steps, add_assoc, append_assoc, codes_free, read_code_again, run_goes_on, run_spelled color k next
-    (total + m) more rest (omega arith))
+    grind (
+      arith,
+      common_steps,
+      add_assoc,
+      append_assoc,
+      codes_free,
+      read_code_again,
+      run_goes_on,
+      run_spelled color k next
+          (total + m) more rest (omega arith),
+    )
 
 -- a run that was read
 abbrev pub read_as : Bits → ℕ → Result (ℕ × Bits) DecodeError

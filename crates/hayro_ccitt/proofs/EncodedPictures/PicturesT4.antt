@@ -131,8 +131,16 @@ tagged_eols_closing : (n most : ℕ) (closing more : Bits) → ClosesWithEols Gr
 tagged_eols_closing zero most closing more is le = omega arith
 tagged_eols_closing (suc n) zero closing more is le = absurd (omega arith)
 tagged_eols_closing (suc n) (suc most) closing more (fill, next, then, is) le =
-    grind (arith, common_steps, one_more-count, tag_after, tagged_eols_behind, tagged_eols_more, tagged_eols_closing n most next
-    more)
+    grind (
+      arith,
+      common_steps,
+      one_more-count,
+      tag_after,
+      tagged_eols_behind,
+      tagged_eols_more,
+      tagged_eols_closing n most next
+          more,
+    )
 
 six_tagged : (closing more : Bits) → ClosesWithEols Group3_2D 6 closing → 6 ≤ (tagged_eols (closing ++ more)).0
 six_tagged closing more is = grind (arith, common_steps, last_tag_count, length-closing, tagged_eols_closing)
@@ -318,9 +326,16 @@ one_picture_at : (settings : DecodeSettings) (encoding : EncodingMode) (rows oth
     → Matches encoding settings → settings.end_of_block ≡ true → settings.rows ≡ 0
     → PictureT4 encoding settings.columns rows bits → PictureT4 encoding settings.columns others (bits ++ more) → rows ≡ others
 one_picture_at settings encoding rows others bits more small matches block none one two =
-    grind (arith, common_steps, append-nil two.1, append_assoc one.0 one.1 more, closed_t4_end settings one.3.0 small encoding
-    rows one.0 one.1 more matches block one.2 one.3 one.4 one.5 (inl none), closed_t4_end settings two.3.0 small encoding others
-    two.0 two.1)
+    grind (
+      arith,
+      common_steps,
+      append-nil two.1,
+      append_assoc one.0 one.1 more,
+      closed_t4_end settings one.3.0 small encoding
+          rows one.0 one.1 more matches block one.2 one.3 one.4 one.5 (inl none),
+      closed_t4_end settings two.3.0 small encoding others
+          two.0 two.1,
+    )
 
 -- the law
 pub one_picture_t4 : OnePictureT4

@@ -2,7 +2,7 @@ use Rattle.std.proofs.Common.{◌≡◌, ◌∙◌, Bool, Ok, true, sym, ap}
 use Rattle.std.proofs.lemmas.Bool.{false≢true}
 use Rattle.hayro_ccitt.specs.Bits.{here}
 use Rattle.hayro_ccitt.proofs.Readings.RowByRow.{at_line_stands, few}
-use Rattle.hayro_ccitt.proofs.row_cursor.RowState.next_row.Goals as goal
+use Rattle.hayro_ccitt.proofs.row_reader.RowState.next_row.Goals as goal
 
 -- where a line stands there is room for its row
 pub returns-then-not-has_room-clause-reads : goal.returns-then-not-has_room-clause-reads

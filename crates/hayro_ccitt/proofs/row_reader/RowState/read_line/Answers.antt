@@ -5,10 +5,15 @@ use Rattle.hayro_ccitt.specs.declared.settings.DecodeSettings.{DecodeSettings}
 use Rattle.hayro_ccitt.specs.Bits.{Bits, here}
 use Rattle.hayro_ccitt.specs.Context.{Context, Held, redrawn}
 use Rattle.hayro_ccitt.specs.RowsRead.{StandsAtLine, StandsBehindRow, HasFailed, damage_since}
-use Rattle.hayro_ccitt.specs.RowCursors.{IsStandingAtLine}
-use Rattle.hayro_ccitt.proofs.Readings.RowByRow.{IsRead, at_line_stands, repairs_stay, is_read, isnt_read}
-use Rattle.hayro_ccitt.proofs.row_cursor.RowState.read_line.Goals as goal
-use Rattle.hayro_ccitt.proofs.row_cursor.RowState.read_line.Goals.{After-self-in-Ok-2-1, After-self-in-Err-1}
+use Rattle.hayro_ccitt.specs.RowsRead.{IsStandingAtLine}
+use Rattle.hayro_ccitt.proofs.Readings.RowByRow.{IsRead, at_line_stands, starts_there, repairs_stay, is_read, isnt_read}
+use Rattle.hayro_ccitt.proofs.row_reader.RowState.read_line.Goals as goal
+use Rattle.hayro_ccitt.proofs.row_reader.RowState.read_line.Goals.{After-self-in-Ok-2-1, After-self-in-Err-1}
+
+-- the offset of the bits after a position
+line_start_of : (place : ℕ) (bits : Bits) (result : ℕ) → result ≡ place → result ≤ length bits
+    → result ≡ length bits - length (drop place bits)
+line_start_of place bits result is within = omega (arith, is, within, length-drop place bits)
 
 -- where nothing is drawn, a line that is begun anew is the same
 begun_is : (settings : DecodeSettings) (bits : Bits) (held : Held) (rest : Bits) → StandsAtLine settings bits held rest
@@ -89,25 +94,31 @@ returns-in-Ok-clause-reads c at =
       bits = c.read_row.ensures.same_bits;
       more = λ e. (refl, read.more, read.within);
       row = λ e. read.row;
-      line_start = λ e. line_start_of reader.place reader.bits c.bit_pos-line_start.result c.bit_pos-line_start.ensures.place c.bit_pos-line_start.ensures.within ∙ read.line_start;
+      line_start = λ e. line_start_of reader.place reader.bits c.bit_pos-self.result c.bit_pos-self.ensures.place c.bit_pos-self.ensures.within ∙ read.line_start;
       damage = λ e. c.damage_since-self.ensures
           ∙ ap (λ (n : ℕ). damage_since c.read_row.new.ctx.held.repairs n)
           (c.damaged_rows-damaged_rows.ensures ∙ ap (λ (x : Context). x.held.repairs.rows) c.begin_line.ensures.frame) ∙ read.damage;
       end = λ e. cc;
       error = tt;
+      fault_start = λ unended. tt;
     }
-  where
-    line_start_of : (place : ℕ) (bits : Bits) (result : ℕ) → result ≡ place → result ≤ length bits → result ≡ length bits - length (drop place bits)
-    line_start_of place bits result is within = omega (arith, is, within, length-drop place bits)
 
 pub returns-in-Err-clause-reads : goal.returns-in-Err-clause-reads
-returns-in-Err-clause-reads c at = record {
-  settings = settings_left c;
-  bits = c.read_row.ensures.same_bits;
-  more = λ e. cc;
-  row = λ e. cc;
-  line_start = λ e. cc;
-  damage = λ e. cc;
-  end = λ e. cc;
-  error = (refl, taken_left c, row_was_not_read c at);
-}
+returns-in-Err-clause-reads c at =
+    let rows = c.args.self.now in
+    let held = rows.ctx.held in
+    let reader = c.args.reader.now in
+    let stands = at_line_stands rows.stand held.settings reader.bits held reader.place at.0 at.1.0 in
+    record {
+      settings = settings_left c;
+      bits = c.read_row.ensures.same_bits;
+      more = λ e. cc;
+      row = λ e. cc;
+      line_start = λ e. cc;
+      damage = λ e. cc;
+      end = λ e. cc;
+      error = (refl, taken_left c, row_was_not_read c at);
+      fault_start = λ unended. line_start_of reader.place reader.bits c.bit_pos-self.result c.bit_pos-self.ensures.place
+          c.bit_pos-self.ensures.within
+          ∙ starts_there held.settings reader.bits held (here reader) stands c.read_row.new.reader.place;
+    }
