@@ -9,7 +9,11 @@ import tempfile
 NAMED = {
     "fax_callers": {"tests::refused_memory": (11, 8)},
     "fax_encode": {"tests::refused_memory": (40, 34), "tests::sink_without_memory": (1, 0)},
-    "faxrows": {"tests::refused_memory_by_row": (57, 0), "tests::sink_without_memory": (1, 0)},
+    "faxrows": {
+        "tests::refused_memory_by_row": (57, 24),
+        "tests::refused_memory_of_damage": (38, 16),
+        "tests::sink_without_memory": (1, 0),
+    },
     "worked_rows": {
         "tests::refused_memory::calls_without_memory": (1, 0),
         "tests::refused_memory::contexts_without_memory": (1, 0),

@@ -21,7 +21,8 @@ numbered word first second = word ++ (number_and first 32 ++ number_and second 3
 abbrev pub end_with_fault : DecodeError → List ℕ
 end_with_fault fault = library.text_of fault ++ 10 ∷ []
 
--- the line of a row that was repaired, if it was: `damaged`, its index, the offset in bits at which its line begins, and the fault
+-- The line of a row, if it was repaired: `damaged`, its index, the offset in bits at which its line begins, and the fault
+-- (T.4, 4.1.2).
 abbrev pub line_of_damage : ℕ → ℕ → Option DecodeError → List ℕ
 line_of_damage row start None = []
 line_of_damage row start (Some fault) = numbered (codes "damaged ") row start ++ end_with_fault fault
@@ -43,7 +44,8 @@ damaged_among settings bits rows = sum_by length (take rows (repairs_by_line set
 -- The last line: `ok`, the rows, how many of them were repaired, and the count of bytes; or `error`, the index of the row that
 -- can't be read, and the error.
 abbrev pub last_line_of_damage : DecodeSettings → Bits → ℕ → Outcome → List ℕ
-last_line_of_damage settings bits rows (Ok count) = numbered (codes "ok ") rows (damaged_among settings bits rows) ++ number_and count 10
+last_line_of_damage settings bits rows (Ok count) =
+    numbered (codes "ok ") rows (damaged_among settings bits rows) ++ number_and count 10
 last_line_of_damage settings bits rows (Err error) = codes "error " ++ (number_and rows 32 ++ end_with_fault error)
 
 -- what is written of the damage where so many rows were read, and how the reading ended
