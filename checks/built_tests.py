@@ -8,7 +8,7 @@ import tempfile
 # others name none. A test that wants each request refused in turn names one more than there are.
 NAMED = {
     "fax_callers": {"tests::refused_memory": (11, 8)},
-    "fax_encode": {"tests::refused_memory": (40, 34), "tests::sink_without_memory": (1, 0)},
+    "fax_encode": {"tests::refused_memory": (36, 30), "tests::sink_without_memory": (1, 0)},
     "faxrows": {"tests::sink_without_memory": (1, 0)},
     "worked_rows": {
         "tests::refused_memory::calls_without_memory": (1, 0),
