@@ -15,7 +15,6 @@ WHITE_8, WHITE_ROW = "10011", "001" + "10011" + "0000110111"
 LINE, HORIZONTAL = "1000" + "11" + "1000", "001" + "1000" + "11" + "1"
 ALTERNATE = "000111" + "010"
 WIDEST = 4294967295
-LOOK_UPS = 2
 LIMIT = 64 << 20
 
 
@@ -90,9 +89,8 @@ def each_request_of_the_library():
                     assert call() == whole, (words, number)
                     assert library.calls.blocks_held() == 0, "memory is held"
                     refused += 1
-                assert taken[:LOOK_UPS] == [0] * LOOK_UPS and taken == sorted(taken), (words, taken)
-                assert len(taken) > LOOK_UPS and all(rows[count] for count in taken[LOOK_UPS:]), (words, taken)
-                assert taken[LOOK_UPS] == next(number for number, row in enumerate(rows) if row), (words, taken)
+                assert taken and taken == sorted(taken) and all(rows[count] for count in taken), (words, taken)
+                assert taken[0] == next(number for number, row in enumerate(rows) if row), (words, taken)
                 library.refuse(requests + 1)
                 assert call() == whole and library.calls.requests_seen() == requests, words
     assert refused > 0
@@ -235,35 +233,34 @@ def white_data_takes_none():
             for call in calls_of(library, words, data, white)[: 3 if settings.columns < 1 << 16 else 1]:
                 library.refuse(0)
                 assert call() == answer, words
-                assert library.calls.requests_seen() == LOOK_UPS, (words, library.calls.requests_seen())
-                assert library.calls.bytes_asked() < 1 << 17, library.calls.bytes_asked()
+                assert library.calls.requests_seen() == 0, (words, library.calls.requests_seen())
                 seen += 1
             library.refuse(0)
             library.answer(settings, data)
-            assert library.calls.requests_seen() == LOOK_UPS, words
+            assert library.calls.requests_seen() == 0, words
             seen += 1
             rows += len(white)
     assert seen > 0 and rows > 0
-    print(f"  {seen} calls on white data, {rows} rows: {LOOK_UPS} requests each")
+    print(f"  {seen} calls on white data, {rows} rows: no requests")
 
 
-# Arguments, data, and how many allocations a run makes besides those for its arguments: none if these are invalid; the lookup
-# tables; one buffer for the input, and one for the text or the bitmap of a row.
+# Arguments, data, and how many allocations a run makes besides those for its arguments: none if these are invalid; one buffer
+# for the input, and one for the text or the bitmap of a row.
 ALLOCATIONS = [
     ("g4 8 0 x", "", 0),
-    ("g4 8 0 -", "", LOOK_UPS),
-    ("g4 0 0 -", "80", LOOK_UPS + 1),
-    ("g4 8 0 s", "00", LOOK_UPS + 1),
-    ("g4 1 1 -", "80", LOOK_UPS + 2),
-    ("g4 8 1 -", "80", LOOK_UPS + 2),
-    ("1d 8 1 -", "98", LOOK_UPS + 2),
-    ("2d 8 1 -", "CC", LOOK_UPS + 2),
-    ("2d 8 1 -", "40", LOOK_UPS + 2),
+    ("g4 8 0 -", "", 0),
+    ("g4 0 0 -", "80", 1),
+    ("g4 8 0 s", "00", 1),
+    ("g4 1 1 -", "80", 2),
+    ("g4 8 1 -", "80", 2),
+    ("1d 8 1 -", "98", 2),
+    ("2d 8 1 -", "CC", 2),
+    ("2d 8 1 -", "40", 2),
 ]
 
 
 def allocations_of_the_program():
-    """A run on white data allocates the lookup tables, its input and what it writes: a sink without rows allocates nothing."""
+    """A run on white data allocates its input and what it writes: a sink without rows allocates nothing."""
     runs = 0
     with tempfile.TemporaryDirectory() as folder:
         counted = {**os.environ, "LD_PRELOAD": shim(folder, "refuse"), "COUNT": "1"}
