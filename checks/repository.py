@@ -205,6 +205,12 @@ NOT_CITED = ("/Answers.antt", "/Invariants.antt", "/Proof.antt")
 DECLARED = re.compile(rf"^( *)((?:pub |abbrev |unfoldable )*)({NAME}) :(?=\s)", re.MULTILINE)
 
 
+def is_field(text, start, indent):
+    """Whether what is declared there is a record's field: the tactics use fields without naming them."""
+    above = [line for line in text[:start].split("\n") if line.strip() and len(line) - len(line.lstrip()) < len(indent)]
+    return bool(above) and re.match(r" *(pub )?record ", above[-1]) is not None
+
+
 def each_lemma_is_cited():
     """A lemma of the library that nothing cites is useless: each is named somewhere besides its declaration."""
     texts = {}
@@ -219,7 +225,10 @@ def each_lemma_is_cited():
     for name, text in texts.items():
         if not name.startswith("crates/hayro_ccitt/proofs/") or name.endswith(NOT_CITED):
             continue
-        for indent, modifiers, lemma in DECLARED.findall(text):
+        for found in DECLARED.finditer(text):
+            indent, modifiers, lemma = found.groups()
+            if is_field(text, found.start(), indent):
+                continue
             head = rf"^{indent}(?:(?:pub|abbrev|unfoldable) )*{re.escape(lemma)} (?::|[^\n]*=$|[^\n]* = |=)"
             given = len(re.findall(head, text, re.MULTILINE))
             cited_here = words[name][lemma] > given

@@ -28,10 +28,6 @@ with_rows-append (row ∷ a) b here entry = with_rows-append a b here (with_row 
 row_stands : (row : ℕ × ℕ × ℕ) (here rest : Bits) (entry : ℕ) → after (low_bits row.1 row.2) here ≡ Some rest → with_row row here entry ≡ row.1 * 4096 + row.0
 row_stands row here rest entry e = rw (e, is_prefix) refl
 
--- another writes none
-row_misses : (row : ℕ × ℕ × ℕ) (here : Bits) (entry : ℕ) → after (low_bits row.1 row.2) here ≡ None → with_row row here entry ≡ entry
-row_misses row here entry e = rw (e, is_prefix) refl
-
 -- a table none of whose words is here writes none
 with_rows_none : (table : Table) (here : Bits) (entry : ℕ) → word_at (numbered table) here ≡ None → with_rows table here entry ≡ entry
 with_rows_none [] here entry e = refl

@@ -51,9 +51,6 @@ RunTurn = Turn (ℕ × Bits) (Result (ℕ × Bits) DecodeError)
 pub chosen : {A : Type 0} (b : Bool) (x y z : A) → cond b x y ≡ z → ((b ≡ true) × (x ≡ z)) ⊎ ((b ≡ false) × (y ≡ z))
 chosen b x y z e = grind (arith, common_steps)
 
-goes_to : (s t : ℕ × Bits) → ◌≡◌ {A = RunTurn} (Turn.next s) (Turn.next t) → s ≡ t
-goes_to s t e = cc
-
 pub not_done : (r : Result (ℕ × Bits) DecodeError) (t : ℕ × Bits) → ◌≡◌ {A = RunTurn} (Turn.done r) (Turn.next t) → ⊥
 not_done r t e = cc
 

@@ -93,10 +93,6 @@ abbrev pub RunEnds : Result (ℕ × Bits) DecodeError → Bits → Type 0
 RunEnds (Ok found) rest = found.1 ≡ rest
 RunEnds (Err fault) rest = Unit {0}
 
--- a turn of a run
-abbrev RunTurn : Type 0
-RunTurn = Turn (ℕ × Bits) (Result (ℕ × Bits) DecodeError)
-
 run_word : (color : Color) (v : ℕ) (w : Bits) → Has (codes_of color) v w → IsWord w
 run_word color v w i = inl (color, v, i)
 

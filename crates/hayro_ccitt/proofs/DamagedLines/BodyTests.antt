@@ -173,9 +173,6 @@ whole_ends columns place end bits here rest row is at within le = (
   λ ends. le-leb (place + 12) end (omega (arith, ends row rest is, ap length at, length-drop place bits, length-drop end bits, within, le)),
 )
 
-not_both : (front row : Row) (rest : Bits) (fault : DecodeError) → Line.broken front fault ≡ Line.whole row rest → ⊥
-not_both front row rest fault e = cc
-
 -- a broken line has no end
 pub broken_ends : (columns : ℕ) (after here rest : Bits) (front : Row) (fault : DecodeError) → fault ≢ OutOfMemory
     → DrawsLine (line_1d false columns here) (Err fault) front rest → EndsBefore columns after here

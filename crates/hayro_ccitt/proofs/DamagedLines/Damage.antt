@@ -245,9 +245,6 @@ locality settings one are whole_one two from to to2 whole_two differ = by (cases
     local_two : IsLocal settings two from to2
     local_two = differ.other
 
-    no_columns : settings.columns ≡ 0 → (bits : Bits) → plain settings bits ≡ nothing_read
-    no_columns e bits = cond-true (eqb settings.columns 0) _ _ (eq-eqb settings.columns 0 e)
-
     same_after : local_two.closes.0 ≡ local_one.closes.0
     same_after = grind (arith, common_steps)
 

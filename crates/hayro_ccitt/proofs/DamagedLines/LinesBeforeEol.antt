@@ -107,9 +107,6 @@ module _ (x y : Bits) where
   Runs s t = (s.0 ≡ t.0) × InFront x y s.1 t.1
 
   module _ (color : Color) (rest : ℕ × Bits → Result (ℕ × Bits) DecodeError) where
-    word_alike : (total n : ℕ) (here there : Bits) → InFront x y here there
-        → Follows Runs (FoundAlike x y) rest (run_of_word total (n, here)) (run_of_word total (n, there))
-    word_alike total n here there front = grind (arith, common_steps)
 
     turn_alike : (total : ℕ) (bits : Bits) → Inside bits
         → Follows Runs (FoundAlike x y) rest (run_turn color (total, bits ++ x)) (run_turn color (total, bits ++ y))
@@ -150,8 +147,6 @@ module _ (x y : Bits) where
         rw (step_1d_is false columns (record { front = front; color = color; rest = here }), step_1d_is false columns (record { front = front; color = color; rest = there }))
         (full (leb columns (length front)))
       where
-        painted : ℕ → Row
-        painted n = front ++ replicate (min n (columns - length front)) (is_black color)
 
         drawn_by : Result (ℕ × Bits) DecodeError → Step
         drawn_by r = try front r (λ run. try front (paint false columns front color run.0)

@@ -85,8 +85,6 @@ module _ (settings : DecodeSettings) (encoding : settings.encoding ≡ Group3_1D
   move_line rows here = ap (after_line settings (sought rows here)) (line_is (row_before settings.columns rows) here)
       ∙ by (line_1d false settings.columns here)
     where
-      no_align : (settings.rows_are_byte_aligned && false) ≡ false
-      no_align = and_right settings.rows_are_byte_aligned false refl
 
       by : (line : Line) → after_line settings (sought rows here) line ≡ after_row settings
           (sought (rows ++ row_of settings.columns line ∷ []) (rest_of line here))

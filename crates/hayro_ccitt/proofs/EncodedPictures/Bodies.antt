@@ -27,11 +27,6 @@ use Rattle.hayro_ccitt.proofs.EncodedPictures.PicturesT4.{line_t4_again, line_t4
 use Rattle.std.proofs.lemmas.Grind.{common_steps}
 
 -- ---- No EOL is counted where there is none.
-pass_zero : (here : Bits) → pass_last_tag (0, here) ≡ (0, here)
-pass_zero here = grind (arith, common_steps)
-
-no_eols : (settings : DecodeSettings) (here : Bits) → after_eol 0 here ≡ None → eols_here settings here ≡ (0, here)
-no_eols settings here none = grind (arith, common_steps, eols-none, eols_with_tags-none, pass_zero, same_pair)
 
 with_true : (b : Bool) → (b && true) ≡ b
 with_true b = grind (arith, common_steps)

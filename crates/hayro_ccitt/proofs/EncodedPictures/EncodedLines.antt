@@ -34,9 +34,6 @@ pub mode_drawn : (strict : Bool) (columns : ℕ) (reference front : Row) (color 
     (record { front = front; color = color; rest = rest }) mode
 mode_drawn strict columns reference front color mode word rest here open_end has is = grind (arith, common_steps)
 
-place_fits : (painted p : ℕ) → painted ≤ p → p ≤ 4294967295 → place_from painted (pos p) ≡ Ok p
-place_fits painted p le small = rw (le-leb painted p le, le-leb p 4294967295 small) refl
-
 -- a pass paints up to b2
 pub pass_drawn : (strict : Bool) (columns : ℕ) (reference front : Row) (color : Color) (rest : Bits) (to : ℕ)
     → b2 reference (right_of front) color ≡ to → length front ≤ to → to ≤ columns

@@ -42,9 +42,6 @@ pub goes_on : (word more : Bits) → misses_eol 0 word ≡ true → at_end (word
 goes_on [] more e = absurd (false≢true e)
 goes_on (b ∷ word) more e = refl
 
-modes_miss : each_word (misses_eol 0) mode_codes ≡ true
-modes_miss = refl
-
 -- where a line begins there is no EOL, and not the end
 pub record IsLineStart (here : Bits) : Type 0 where
   pub no_eol : after_eol 0 here ≡ None
@@ -71,9 +68,6 @@ same_pair b x y z e f = grind (arith, common_steps)
 -- ---- Padding.
 abbrev pub fill : Bool → Bits → Bits
 fill b line = cond b (padding (length line)) []
-
-length-fill : (line : Bits) → length (fill true line) ≡ (8 - length line % 8) % 8
-length-fill line = length-replicate ((8 - length line % 8) % 8) false
 
 -- from a whole byte on, a line with its padding ends at a whole byte
 pub aligned_again : (b : Bool) (line next : Bits) → (b ≡ true → length ((line ++ fill b line) ++ next) % 8 ≡ 0)

@@ -50,10 +50,6 @@ line_1d_starts color row bits more EncodesLine1D.over some = absurd (omega arith
 line_1d_starts color row bits more (EncodesLine1D.run n word {row = others} {bits = next} spells first maximal rest) some =
     subst IsLineStart (sym (append_assoc word next more)) (run_starts color n word (next ++ more) spells)
 
--- after a tag of zero there are few zeros too
-modes_miss_one : each_word (misses_eol 1) mode_codes ≡ true
-modes_miss_one = refl
-
 line_2d_after_tag : (reference row : Row) (from : ℕ) (color : Color) (bits more : Bits) → EncodesLine2D reference row from color bits
     → from ≤ length row → after_eol 1 (bits ++ more) ≡ None
 line_2d_after_tag reference row from color bits more given le = grind (arith, common_steps)
@@ -117,9 +113,6 @@ length-closing encoding (suc n) closing more (fill, next, then, is) =
 -- the first of them, and its tag
 tag_after : (fill : ℕ) (closing next more : Bits) → closing ≡ eol fill ++ tag_of Group3_2D ++ next → closing ++ more ≡ eol fill ++ (true ∷ (next ++ more))
 tag_after fill closing next more is = grind (arith, common_steps)
-
-tag_one : (fill : ℕ) (more : Bits) → past_tag (true ∷ (eol fill ++ more)) ≡ eol fill ++ more
-tag_one fill more = rw (eol_stands fill more, past_tag) refl
 
 -- a tag before EOLs is consumed
 tagged_eols_behind : (n most : ℕ) (closing more : Bits) → ClosesWithEols Group3_2D n closing → n ≤ (eols_with_tags most (closing ++ more)).0

@@ -82,9 +82,6 @@ b2_right reference front from color len first = grind (arith, common_steps, b1_r
 same_by : (x y : Bool) → not (beq x y) ≡ false → y ≡ x
 same_by x y e = grind (arith, common_steps)
 
-other_by : (x y : Bool) → not (beq x y) ≡ true → y ≡ not x
-other_by x y e = grind (arith, common_steps)
-
 -- up to the next change, the pixel to the left keeps its colour
 pub before_same : (row : Row) (from p : ℕ) (c : Bool) → pixel_before row from ≡ c → ((q : ℕ) → from ≤ q → q < p → is_change row q ≡ false) → (q : ℕ)
     → from ≤ q → q ≤ p → pixel_before row q ≡ c

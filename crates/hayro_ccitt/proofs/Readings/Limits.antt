@@ -67,10 +67,6 @@ module _ (settings : DecodeSettings) (limit : ℕ) (some : 0 < limit) (wide : 0 
     cut_turn run (count, here) m full k =
         grind (arith, common_steps, after_turn, cond-true, cut_rows, is_met, or_left, or_right, turn_extends, unless_over)
 
-    unless_over_open : (run : Progress) (found : ℕ × Bits) → limit_met limited (length run.rows) ≡ false
-        → unless_over limited run found ≡ unless_over unlimited run found
-    unless_over_open run (count, here) e = rw e refl
-
     seek_from_open : (run : Progress) (o : Option Bits) → limit_met limited (length run.rows) ≡ false → seek_from limited run o ≡ seek_from unlimited run o
     seek_from_open run o e = grind (arith, common_steps)
 

@@ -319,11 +319,6 @@ at_line_stands BehindRow settings bits held place is stands = absurd (false≢tr
 at_line_stands AtEnd settings bits held place is stands = absurd (false≢true is)
 at_line_stands (AtFault error) settings bits held place is stands = absurd (false≢true is)
 
-pub reader_at_line : (inside : Inside) (now : RowsRead) → rows_read_of inside ≡ now → now.at_line ≡ true → IsReading inside
-    → StandsAtLine inside.ctx.held.settings inside.reader.bits inside.ctx.held (here inside.reader)
-reader_at_line inside now view is reading =
-    at_line_stands inside.stand inside.ctx.held.settings inside.reader.bits inside.ctx.held inside.reader.place (ap (λ (r : RowsRead). r.at_line) view ∙ is) reading.0
-
 -- so it does after a row
 pub behind_row_stands : (stand : Stand) (settings : DecodeSettings) (bits : Bits) (held : Held) (place : ℕ) → ended stand ≡ None → is_at_line stand ≡ false
     → Stands stand settings bits held place → StandsBehindRow settings bits held (drop place bits)
@@ -331,11 +326,6 @@ behind_row_stands AtLine settings bits held place unended no_line stands = absur
 behind_row_stands BehindRow settings bits held place unended no_line stands = stands
 behind_row_stands AtEnd settings bits held place unended no_line stands = absurd cc
 behind_row_stands (AtFault error) settings bits held place unended no_line stands = absurd cc
-
-pub reader_behind_row : (inside : Inside) (now : RowsRead) → rows_read_of inside ≡ now → now.end ≡ None → is_at_line inside.stand ≡ false → IsReading inside
-    → StandsBehindRow inside.ctx.held.settings inside.reader.bits inside.ctx.held (here inside.reader)
-reader_behind_row inside now view unended no_line reading =
-    behind_row_stands inside.stand inside.ctx.held.settings inside.reader.bits inside.ctx.held inside.reader.place (ap (λ (r : RowsRead). r.end) view ∙ unended) no_line reading.0
 
 -- ---- A gap is passed
 
