@@ -1,10 +1,10 @@
 # The library for C and the programs, built into build/ and installed.
 #
 #   make                      the library, static and shared, and the programs
-#   make check                the first program of hayro_ccitt.h and a picture, with what was built
-#   make install PREFIX=DIR   headers, libraries, hayro_ccitt.pc, manual pages and programs; DESTDIR is heeded
+#   make check                runs what was built on the first program of hayro_ccitt.h and on a picture
+#   make install PREFIX=DIR   headers, libraries, hayro_ccitt.pc, manual pages and programs; DESTDIR is respected
 #   make uninstall PREFIX=DIR
-#   make clean                removes build/; the proofs' own work in crates/*/out stays
+#   make clean                removes build/; the results of proofs in crates/*/out stay
 #
 # `rt`, of the Rattle kit, proves and compiles the crates first. JOBS=1 runs it with one job at a time.
 
@@ -31,8 +31,9 @@ BUILD = build
 PROVED = crates/hayro_ccitt_c/out/libhayro_ccitt_c.a
 FAXROWS = crates/faxrows/out/faxrows
 HEADERS = c/hayro_ccitt.h c/fax_encode.h c/hayro_ccitt_heap.h
-CALLS = hayro_ccitt_measure hayro_ccitt_decode_packed hayro_ccitt_decode_changes fax_encode_bitmap
-EXAMPLES = strip_to_pbm pbm_to_strip fax2pbm
+CALLS = hayro_ccitt_measure hayro_ccitt_decode_packed hayro_ccitt_decode_changes \
+	hayro_ccitt_open hayro_ccitt_next_changes hayro_ccitt_next_packed hayro_ccitt_close fax_encode_bitmap
+EXAMPLES = strip_to_pbm pbm_to_strip fax2pbm rows_to_pbm
 
 SHARED = libhayro_ccitt.so.$(VERSION)
 SONAME = libhayro_ccitt.so.$(INTERFACE)
@@ -44,7 +45,7 @@ all: library programs
 library: $(BUILD)/libhayro_ccitt.a $(BUILD)/libhayro_ccitt.so $(BUILD)/hayro_ccitt.pc
 programs: prove-program $(BUILD)/faxrows $(EXAMPLES:%=$(BUILD)/%)
 
-# rt knows what has changed; it rebuilds that, and what depends on it.
+# rt itself rebuilds what has changed, and what depends on it.
 prove-library:
 	cd crates/hayro_ccitt_c && $(RT) lib $(RT_JOBS)
 prove-program:
@@ -65,7 +66,7 @@ $(BUILD)/%.o: c/%.c $(HEADERS) | $(BUILD)
 $(BUILD)/libhayro_ccitt.a: $(OBJECTS)
 	rm -f $@
 	$(AR) crs $@ $^
-# Copies and no links, since `rt ci` refuses links below the repository.
+# These are copies, since `rt ci` refuses links in the repository.
 $(BUILD)/libhayro_ccitt.so: $(OBJECTS) c/exports
 	$(CC) $(CFLAGS) $(LDFLAGS) -shared -Wl,-soname,$(SONAME) -Wl,--version-script=c/exports -o $(BUILD)/$(SHARED) $(OBJECTS)
 	cp $(BUILD)/$(SHARED) $(BUILD)/$(SONAME)

@@ -1,13 +1,13 @@
 #!/usr/bin/env bash
-# All tests, in three parts side by side. `rt ci` proves every crate from nothing, here. Over a copy of the repository in a
-# folder of their own run the edits (checks/edits.py), and, once the crates are checked there, the repository's other checks
-# (checks/run.py), but for those of the test programs that `rt ci` builds, which come last. What each part says is printed when it
-# has ended. The exit status is 0 where all passed.
+# All tests, in three parts that run in parallel. `rt ci` proves every crate from scratch, here. On a copy of the repository run
+# the edits (checks/edits.py), and, once the crates are checked there, the repository's other checks (checks/run.py), except those
+# of the test programs that `rt ci` builds, which come last. The output of each part is printed when it has ended. The exit status
+# is 0 if all passed.
 cd "$(dirname "$0")" || exit 1
 copy=$(mktemp -d) || exit 1
 said=$(mktemp -d) || exit 1
 parts=()
-# What is still running is ended, by its group, and the folders go.
+# Ends the parts that are still running, by their groups, and removes the folders.
 clean() {
     for part in "${parts[@]}"; do
         kill -- "-$part" 2>/dev/null
@@ -18,7 +18,7 @@ trap clean EXIT
 trap 'exit 130' INT TERM
 set -m
 
-# The copy has the files that git knows or would know, and what earlier checks kept in crates/*/out.
+# The copy has the files that git tracks or would track, and what earlier checks stored in crates/*/out.
 git ls-files -z --cached --others --exclude-standard | while IFS= read -r -d '' name; do
     [ -f "$name" ] && printf '%s\0' "$name"
 done | tar --null --files-from - -cf - | tar -C "$copy" -xf - || exit 1
@@ -29,7 +29,7 @@ for crate in crates/*/; do
     done
 done
 
-# Runs a part: what it says goes into a file of its name, and the second at which it ends into another.
+# Runs a part: its output goes into a file of its name, and the second at which it ends into another.
 part() {
     local name=$1 status
     shift
@@ -58,7 +58,7 @@ minutes() {
     printf '%d:%02d' $(($1 / 60)) $(($1 % 60))
 }
 totals=()
-# Waits for a part, prints what it said, and notes its last line and its minutes.
+# Waits for a part, prints its output, and notes its last line and its minutes.
 end() {
     local title=$1 name=$2 process=$3 status
     wait "$process"

@@ -17,6 +17,8 @@ pub struct Outcome {
     rows: u64,
     changes: u64,
     bytes_read: u64,
+    damaged_rows: u64,
+    reserved: [u64; 2],
 }
 
 struct Count<'a>(&'a mut Outcome);
@@ -78,7 +80,7 @@ fn status(data: &[u8], settings: &Settings, sink: &mut impl Decoder) -> u32 {
 }
 
 /// # Safety
-/// `data` points to so many bytes.
+/// `data` is valid for its length.
 #[unsafe(no_mangle)]
 pub unsafe extern "C" fn crate_measure(data: *const u8, length: usize, settings: &Settings, outcome: &mut Outcome) -> u32 {
     *outcome = Outcome::default();
@@ -86,7 +88,7 @@ pub unsafe extern "C" fn crate_measure(data: *const u8, length: usize, settings:
 }
 
 /// # Safety
-/// `data` and `bitmap` point to so many bytes, and overlap nowhere.
+/// `data` and `bitmap` are valid for their lengths, and don't overlap.
 #[unsafe(no_mangle)]
 pub unsafe extern "C" fn crate_decode_packed(
     data: *const u8,

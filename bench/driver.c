@@ -3,7 +3,7 @@
  *   driver DECODER ENCODING COLUMNS ROWS FLAGS FILE
  *
  * DECODER is `rows` or `packed` (this library), `tiff-packed` (with -DWITH_TIFF), `crate-rows` or `crate-packed` (with
- * -DWITH_CRATE). It prints the status, the rows, the changes where they are told, and a sum over the picture. Callgrind is
+ * -DWITH_CRATE). It prints the status, the rows, the changes if they are counted, and a sum over the picture. Callgrind is
  * given --toggle-collect=measured. */
 #include "../c/hayro_ccitt.h"
 #include <stdio.h>

@@ -17,7 +17,7 @@ static uint8_t *bitmap, *strip;
 static size_t length, room;
 static TIFF *tiff;
 
-/* A file of one strip, whose encoding is asked for when the strip is written. */
+/* A file of one strip, whose encoding is set when the strip is written. */
 static TIFF *tiff_to_write(char *name)
 {
     int file = mkstemp(name);

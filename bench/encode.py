@@ -2,8 +2,8 @@
 picture by this library and by libtiff: of the pictures of bench/strips.py, and of each FILE, a bitmap of COLUMNS. Figures are
 instructions a change; for blank pages, a row.
 
-It takes gcc, valgrind, libtiff-dev, and libhayro_ccitt_c.a as `rt lib` builds it. What both write is compared first: it is the
-same, but that libtiff puts no RTC behind Group 3."""
+It needs gcc, valgrind, libtiff-dev, and libhayro_ccitt_c.a as `rt lib` builds it. What both write is compared first: it is the
+same, except that libtiff writes no RTC after Group 3."""
 import os
 import sys
 import tempfile

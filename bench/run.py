@@ -1,12 +1,12 @@
 """python3 bench/run.py [--crate FOLDER]: prints a table of instructions, as callgrind counts them, of one decoding of each
-strip of bench/strips.py: of this library, which counts the rows or paints them; of the Rust crate `hayro-ccitt` whose Cargo
-project FOLDER is, which does the same; and of libtiff, which paints. Pages, then strips of few rows, pages of few columns, and
+strip of bench/strips.py: of this library, which counts the rows or paints them; of the Rust crate `hayro-ccitt`, with its Cargo
+project in FOLDER, which does the same; and of libtiff, which paints. Pages, then strips of few rows, pages of few columns, and
 damaged pages; below them the geometric means of the ratios over the pages. The last two columns are the same strip with the
 lowest bit of each byte first.
 
-It takes gcc, valgrind, libtiff-dev, for the Rust crate cargo, and libhayro_ccitt_c.a as `rt lib` builds it. The pictures are
-compared first: all of them, where the data isn't damaged, and otherwise this library's and the crate's, since libtiff repairs
-in another way."""
+It needs gcc, valgrind, libtiff-dev, for the Rust crate cargo, and libhayro_ccitt_c.a as `rt lib` builds it. The pictures are
+compared first: all of them if the data isn't damaged, and otherwise this library's and the crate's, since libtiff repairs
+differently."""
 import argparse
 import math
 import os

@@ -35,7 +35,7 @@ def line_1d(columns, row):
 
 
 def line_2d(columns, reference, row):
-    """The modes that T.4 section 4.2.1.3 asks for."""
+    """The modes that T.4 section 4.2.1.3 prescribes."""
     text, place, color, b, a = [], -1, 0, 0, 0
     while place < columns:
         while b > 0 and (b > len(reference) or reference[b - 1] > place):
@@ -141,7 +141,7 @@ class Strip:
     data: bytes
     unit: str
     count: int
-    # so many changes, where the strip isn't damaged
+    # the number of changes, if the strip isn't damaged
     changes: int | None = None
 
 
@@ -203,7 +203,7 @@ def without_eols(mode):
 
 
 def bad_words(mode, name, body):
-    """Lines that begin with a word that isn't one, and have 1000 bytes behind it."""
+    """Lines that begin with an invalid word, and have 1000 bytes after it."""
     tag = "1" if mode == "2d" else ""
     return damaged_strip(f"bad words, {name}", mode, 1240, 100, packed("".join(EOL + tag + "0000000011" + body() for _ in range(100))))
 

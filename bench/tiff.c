@@ -1,5 +1,5 @@
 /* libtiff on a strip in memory: a TIFF file of one strip is written around the data, by libtiff itself, in a temporary file
- * that is gone when the program ends. */
+ * that is deleted when the program ends. */
 #include "../c/hayro_ccitt.h"
 #include <stdlib.h>
 #include <tiffio.h>

@@ -1,6 +1,6 @@
-/* The calls of the installed library: those that are proved, for which no pointer may be null, behind a look at each pointer that
- * may be null where its length is 0. The Makefile renames the proved ones to proved_*, and links them with this file. It compiles
- * as C89 and as C++. */
+/* The calls of the installed library. The proved calls accept no null pointers; these replace each pointer of length 0, which may
+ * be null, and then call them. The Makefile renames the proved ones to proved_*, and links them with this file. It compiles as
+ * C89 and as C++. */
 #include "fax_encode.h"
 #include "hayro_ccitt.h"
 
@@ -13,14 +13,18 @@ uint32_t proved_hayro_ccitt_decode_packed(const uint8_t *, size_t, const hayro_c
                                           hayro_ccitt_outcome *);
 uint32_t proved_hayro_ccitt_decode_changes(const uint8_t *, size_t, const hayro_ccitt_settings *, uint32_t *, size_t,
                                            hayro_ccitt_outcome *);
+uint32_t proved_hayro_ccitt_open(const uint8_t *, size_t, const hayro_ccitt_settings *, hayro_ccitt_reader *);
+uint32_t proved_hayro_ccitt_next_changes(const uint8_t *, size_t, hayro_ccitt_reader *, uint32_t *, size_t, hayro_ccitt_row *);
+uint32_t proved_hayro_ccitt_next_packed(const uint8_t *, size_t, hayro_ccitt_reader *, uint8_t *, size_t, hayro_ccitt_row *);
+uint32_t proved_hayro_ccitt_close(hayro_ccitt_reader *);
 uint32_t proved_fax_encode_bitmap(const uint8_t *, size_t, const fax_encode_settings *, uint8_t *, size_t, fax_encode_outcome *);
 
 #ifdef __cplusplus
 }
 #endif
 
-/* What a pointer of length 0 points to in place of null. No bytes of it are read or written, and no two pointers of a call that
- * may be written through are the same. */
+/* What replaces a pointer of length 0, which may be null. None of its bytes are read or written, and no two pointers of a call
+ * that may be written through are the same. */
 static const uint8_t no_data = 0;
 static uint8_t no_bytes;
 static uint32_t no_numbers;
@@ -45,6 +49,31 @@ uint32_t hayro_ccitt_decode_changes(const uint8_t *data, size_t data_length, con
 {
     return proved_hayro_ccitt_decode_changes(OR_NONE(data, data_length, no_data), data_length, settings,
                                              OR_NONE(lists, lists_length, no_numbers), lists_length, outcome);
+}
+
+uint32_t hayro_ccitt_open(const uint8_t *data, size_t data_length, const hayro_ccitt_settings *settings,
+                          hayro_ccitt_reader *reader)
+{
+    return proved_hayro_ccitt_open(OR_NONE(data, data_length, no_data), data_length, settings, reader);
+}
+
+uint32_t hayro_ccitt_next_changes(const uint8_t *data, size_t data_length, hayro_ccitt_reader *reader, uint32_t *changes,
+                                  size_t changes_length, hayro_ccitt_row *row)
+{
+    return proved_hayro_ccitt_next_changes(OR_NONE(data, data_length, no_data), data_length, reader,
+                                           OR_NONE(changes, changes_length, no_numbers), changes_length, row);
+}
+
+uint32_t hayro_ccitt_next_packed(const uint8_t *data, size_t data_length, hayro_ccitt_reader *reader, uint8_t *packed,
+                                 size_t packed_length, hayro_ccitt_row *row)
+{
+    return proved_hayro_ccitt_next_packed(OR_NONE(data, data_length, no_data), data_length, reader,
+                                          OR_NONE(packed, packed_length, no_bytes), packed_length, row);
+}
+
+uint32_t hayro_ccitt_close(hayro_ccitt_reader *reader)
+{
+    return proved_hayro_ccitt_close(reader);
 }
 
 uint32_t fax_encode_bitmap(const uint8_t *bitmap, size_t bitmap_length, const fax_encode_settings *settings,

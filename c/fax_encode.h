@@ -1,5 +1,5 @@
 /* fax_encode.h: an encoder for CCITT fax images, ITU-T T.4 (Group 3) and T.6 (Group 4). It is in the same library as the decoder
- * of hayro_ccitt.h, whose rules for pointers, threads and memory hold here too. */
+ * of hayro_ccitt.h, whose rules for pointers, threads and memory apply here too. */
 #ifndef FAX_ENCODE_H
 #define FAX_ENCODE_H
 
@@ -16,7 +16,7 @@ enum {
     FAX_ENCODE_GROUP_3_1D = 1 /* one-dimensional lines, an EOL before each, and RTC (T.4, MH) */
 };
 
-/* The only flag, and of Group 4 alone. Settings with any other flag, or with another encoding, are invalid. */
+/* The only flag, for Group 4 only. Settings with any other flag, or with another encoding, are invalid. */
 enum {
     FAX_ENCODE_ALIGNED_ROWS = 4 /* each row is padded up to a whole byte */
 };
@@ -33,18 +33,18 @@ typedef struct {
     uint64_t bytes; /* the length of the encoded data in bytes */
 } fax_encode_outcome;
 
-/* What the call returns. With all but FAX_ENCODE_OK the data keeps its values. */
+/* What the call returns. Unless it is FAX_ENCODE_OK, the data keeps its values. */
 enum {
     FAX_ENCODE_OK = 0,
     FAX_ENCODE_OUT_OF_MEMORY = 4, /* an allocation failed */
-    FAX_ENCODE_REFUSED = 5,       /* there is no room for as many bytes as the outcome says */
+    FAX_ENCODE_REFUSED = 5,       /* there is no room for the number of bytes in the outcome */
     FAX_ENCODE_NOT_TAKEN = 6      /* the settings are invalid, the bitmap isn't whole rows, or it is empty and Group 3 is asked
                                    * for, which has no picture without rows */
 };
 
-/* Encodes a bitmap. A row of it takes (columns + 7) / 8 bytes: one bit a pixel, 1 for black, the leftmost pixel in a byte's
+/* Encodes a bitmap. A row of it has (columns + 7) / 8 bytes: one bit a pixel, 1 for black, the leftmost pixel in a byte's
  * highest bit; bits after the last pixel are ignored. The last encoded byte is padded with zeros, and the bytes after it keep
- * their values. A call with a data_length of 0 says in outcome.bytes how much room there must be. */
+ * their values. A call with a data_length of 0 returns in outcome.bytes how much room is needed. */
 uint32_t fax_encode_bitmap(const uint8_t *bitmap, size_t bitmap_length, const fax_encode_settings *settings,
                            uint8_t *data, size_t data_length, fax_encode_outcome *outcome);
 

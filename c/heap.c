@@ -1,4 +1,4 @@
-/* The allocator of hayro_ccitt_heap.h, by malloc, realloc and free. It compiles as C89 and as C++. */
+/* The allocator of hayro_ccitt_heap.h, on top of malloc, realloc and free. It compiles as C89 and as C++. */
 #include "hayro_ccitt_heap.h"
 #include <stdlib.h>
 

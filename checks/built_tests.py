@@ -1,13 +1,13 @@
-"""Checks of the built tests: those that name a request for memory, on memory that refuses it."""
+"""Checks of the built tests: those that name an allocation are run with that allocation refused."""
 import os
 import re
 import subprocess
 import tempfile
 
-# Of each crate the tests that name requests: how often each names one, and how many of them were made, and so refused. All
-# others name none. A test that wants each request refused in turn names one more than there are.
+# The tests of each crate that name allocations: how often each names one, and how many of these were made, and so refused. All
+# others name none. A test that has each allocation refused in turn names one more than there are.
 NAMED = {
-    "fax_callers": {"tests::refused_memory": (17, 14)},
+    "fax_callers": {"tests::refused_memory": (11, 8)},
     "fax_encode": {
         "settings_tests::refused_memory": (10, 8),
         "settings_tests::refused_memory_row_by_row": (11, 9),
@@ -15,11 +15,15 @@ NAMED = {
         "tests::refused_memory": (40, 34),
         "tests::sink_without_memory": (1, 0),
     },
-    "faxrows": {"tests::sink_without_memory": (1, 0)},
+    "faxrows": {
+        "tests::refused_memory_by_row": (57, 24),
+        "tests::refused_memory_of_damage": (38, 16),
+        "tests::sink_without_memory": (1, 0),
+    },
     "worked_rows": {
         "tests::refused_memory::calls_without_memory": (1, 0),
+        "tests::refused_memory::contexts_without_memory": (1, 0),
         "tests::refused_memory::refused_bodies": (2, 1),
-        "tests::refused_memory::refused_contexts": (3, 2),
         "tests::refused_memory::refused_growths_of_a_row": (12, 11),
         "tests::refused_memory::refused_rows": (8, 5),
         "tests::refused_memory::white_rows_without_memory": (5, 0),
@@ -28,7 +32,7 @@ NAMED = {
 
 
 def with_libraries(crate):
-    """A crate and the libraries of the repository below it."""
+    """A crate and the crates of the repository that it depends on."""
     with open("crates.txt", encoding="utf-8") as file:
         lines = [line.split(":") for line in file if not line.startswith("#")]
     libraries = next(names.split() for name, names in lines if name.split()[0] == crate)
@@ -36,7 +40,7 @@ def with_libraries(crate):
 
 
 def is_newest(path, crate):
-    """Whether a file was built after all that it is built from was written."""
+    """Whether a file is newer than everything that it is built from."""
     if not os.path.exists(path):
         return False
     built_at = os.path.getmtime(path)
@@ -49,7 +53,7 @@ def is_newest(path, crate):
 
 
 def built(crate):
-    """The tests of a crate as a program. The gate builds them; they are proved and built here where a file is newer."""
+    """The tests of a crate as a program. The gate builds them; they are proved and built here if a file is newer."""
     path = f"crates/{crate}/out/{crate}_tests"
     if not is_newest(path, crate):
         done = subprocess.run(["rt", "test"], cwd=f"crates/{crate}", capture_output=True, text=True, check=False)
@@ -58,7 +62,7 @@ def built(crate):
 
 
 def refused_memory_in_tests():
-    """Each test with the requests that it names refused: it passes, and exactly so many are refused."""
+    """Each test with the allocations that it names refused: it passes, and exactly the listed number are refused."""
     seen = refused = 0
     with tempfile.TemporaryDirectory() as folder:
         shim = f"{folder}/refuse_named.so"

@@ -4,7 +4,7 @@
  *   by_libtiff encode MODE COLUMNS ROWS FILE < bitmap > strip
  *
  * MODE is g4, 1d, or rle: lines of 1d without EOLs, aligned to bytes. FILE is a name for a TIFF file of one strip. The status is
- * 0 where libtiff finds no fault and has no warning. */
+ * 0 if libtiff reports neither an error nor a warning. */
 #include <stdint.h>
 #include <stdio.h>
 #include <stdlib.h>

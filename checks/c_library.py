@@ -13,7 +13,7 @@ MODES = ["g4", "1d", "2d"]
 LETTERS = "blasr"
 # each byte with its bits in the other order
 MIRRORED = bytes(int(f"{byte:08b}"[::-1], 2) for byte in range(256))
-# how many bytes or numbers behind the lent ones have to stay
+# how many bytes or numbers after the passed ones must not change
 GUARD = 16
 ANSWERS = {
     "error: unexpected end of input": 1,
@@ -27,9 +27,10 @@ class Settings(ctypes.Structure):
 
 
 class Outcome(ctypes.Structure):
-    _fields_ = [(name, ctypes.c_uint64) for name in ("rows", "changes", "bytes_read")]
+    _fields_ = [(name, ctypes.c_uint64) for name in ("rows", "changes", "bytes_read", "damaged_rows", "reserved_1", "reserved_2")]
 
     def told(self):
+        assert (self.reserved_1, self.reserved_2) == (0, 0), (self.reserved_1, self.reserved_2)
         return self.rows, self.changes, self.bytes_read
 
 
@@ -51,7 +52,7 @@ def compiled(out, *words):
 
 
 def example_on_strips():
-    """The C program gives each strip's picture, with each of its settings."""
+    """The C program decodes each strip to its picture, with each of its settings."""
     build()
     strips = runs = size = 0
     with tempfile.TemporaryDirectory() as folder:
@@ -81,14 +82,14 @@ def example_on_strips():
 
 
 def loaded(folder, heap="c/heap.c"):
-    """The library in this process, on this memory."""
+    """The library in this process, with this memory."""
     path = compiled(f"{folder}/library.so", "-shared", "-fPIC", heap, "-Wl,--whole-archive", LIBRARY, "-Wl,--no-whole-archive")
     return ctypes.CDLL(path)
 
 
 def called(call, data, settings, *memory):
-    """What a call answers and tells, on memory of these items, a guard behind it."""
-    outcome = Outcome(7, 7, 7)
+    """The status and outcome of a call, with memory of these items and a guard after it."""
+    outcome = Outcome(*[7] * 6)
     source = (ctypes.c_uint8 * (len(data) + 1)).from_buffer_copy(data + b"\0")
     lent = [word for items in memory for word in (items, ctypes.c_size_t(len(items) - GUARD))]
     answer = call(source, ctypes.c_size_t(len(data)), ctypes.byref(settings), *lent, ctypes.byref(outcome))
@@ -113,8 +114,8 @@ def packed_row(columns, changes):
 
 
 def calls_on_known_cases():
-    """Each call on each case: the answer, what it tells, what it writes, and that it writes nothing else; then with one byte
-    or number less than the rows take."""
+    """Each call on each case: its status, its outcome, what it writes, and that it writes nothing else; then with one byte or
+    number less than the rows need."""
     build()
     cases = seen = refused = 0
     with tempfile.TemporaryDirectory() as folder:
@@ -172,8 +173,8 @@ def calls_on_known_cases():
 
 
 def example_without_memory():
-    """Each allocation of the example refused in turn: it says so, and the picture is that of the rows before. A buffer of the C
-    library may be refused without harm."""
+    """Each allocation of the example refused in turn: it says so, and the picture is that of the rows before. A refused buffer of the
+    C library is harmless."""
     build()
     seen = 0
     whole = (0, b"P4\n8 2\n\x18\x18", b"")

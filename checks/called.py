@@ -1,4 +1,4 @@
-"""The C library in this process, its answers in the program's words."""
+"""The C library in this process, its results as the program prints them."""
 import ctypes
 import hashlib
 
@@ -7,12 +7,12 @@ import program
 
 COUNTED_HEAP = "checks/counted_heap.c"
 TEXTS = {status: text for text, status in c_library.ANSWERS.items()}
-# how many numbers the rows of a case take at most
+# the most numbers that the rows of a case need
 ROOM = 1 << 20
 
 
 class Library:
-    """The library on memory that is counted, and may be refused."""
+    """The library with an allocator that counts, and may refuse."""
 
     def __init__(self, folder):
         self.calls = c_library.loaded(folder, COUNTED_HEAP)
@@ -24,7 +24,7 @@ class Library:
         self.calls.refuse_request(ctypes.c_uint64(number))
 
     def answer(self, settings, data):
-        """The answer of `hayro_ccitt_decode_changes` as the program's text."""
+        """The result of `hayro_ccitt_decode_changes` as the program's text."""
         outcome = c_library.Outcome()
         status = self.calls.hayro_ccitt_decode_changes(
             ctypes.c_char_p(data), ctypes.c_size_t(len(data)), ctypes.byref(settings), self.lists, ctypes.c_size_t(ROOM), ctypes.byref(outcome)
@@ -46,7 +46,7 @@ def settings_of(words):
 
 
 def lines_of(name):
-    """The lines of a file of the corpus, parted by tabs."""
+    """The lines of a file of the corpus, split at tabs."""
     with open(f"corpus/{name}", encoding="utf-8") as file:
         return [line.rstrip("\n").split("\t") for line in file if not line.startswith("#")]
 
@@ -56,7 +56,7 @@ def digest(answers):
 
 
 def text_of(done):
-    """What the program answered, as a line of the corpus; a status that doesn't go with it fails."""
+    """The program's result, as a line of the corpus; fails if the status doesn't match it."""
     text = done.stdout.decode()
     assert text.endswith("\n") and done.stderr == b"", done
     text = text[:-1].replace("\n", "/")

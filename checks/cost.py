@@ -19,9 +19,9 @@ import strips  # noqa: E402
 GROUP_4, ONE_DIMENSIONAL, TWO_DIMENSIONAL = 0, 1, 2
 WITH_EOLS, LOW_FIRST = 2, 16
 SIZES = (1 << 16, 1 << 18)
-# how many times the instructions four times the data may cost
+# by what factor four times the data may raise the instructions
 MOST = 4.5
-# how many times the instructions a byte that were measured a shape may cost
+# by what factor a shape may exceed its measured instructions a byte
 SLACK = 1.5
 # how many seconds a run under callgrind may take
 LIMIT = 120
@@ -39,14 +39,14 @@ Made = collections.namedtuple("Made", "columns data status rows changes")
 
 
 def filled(text, size, before=""):
-    """So many bytes of some bits, and then a text of bits again and again."""
+    """A number of bytes: some bits, and then a text of bits again and again."""
     text = before + text * ((8 * size - len(before)) // len(text) + 1)
     return int(text[: 8 * size], 2).to_bytes(size, "big")
 
 
 def lines_in(size, before, lines):
-    """How many lines are whole in so many bytes, of those before and of others that come again and again, given by their lengths
-    and their changes; the changes of these; and whether a part of one is left, in which the data ends."""
+    """How many lines are whole in a number of bytes: first lines and then others again and again, given by their lengths and
+    their changes; the changes of these; and whether the data ends within a line."""
     rest, rows, changes = 8 * size, 0, 0
     for bits, more in before:
         rest, rows, changes = rest - bits, rows + 1, changes + more
@@ -66,7 +66,7 @@ def dense(columns):
 
 
 def of_zeros(rows):
-    """Data of zeros: no word begins with so many. With EOLs a damaged line is a white row, until no EOL is found."""
+    """Data of zeros: no word begins with that many. With EOLs a damaged line is a white row, until no EOL is found."""
     return lambda size: Made(1728, bytes(size), INVALID_CODE, rows, 0)
 
 
@@ -117,7 +117,7 @@ def makeup_words(before):
 
 
 def eols(rows):
-    """EOLs are passed over. The eight zeros behind the last begin no word: with EOLs a damaged line, which is a white row."""
+    """EOLs are skipped. The eight zeros after the last begin no word: with EOLs a damaged line, which is a white row."""
 
     def made(size):
         assert 8 * size % 12 == 8
@@ -127,19 +127,19 @@ def eols(rows):
 
 
 def eols_2d(size):
-    """Behind the last EOL: a tag and so many zeros, which begin a mode where they are fewer than seven."""
+    """After the last EOL: a tag and a number of zeros, which begin a mode if they are fewer than seven."""
     zeros = 8 * size % 13
     return Made(1728, filled(EOL + "0", size), UNEXPECTED_EOF if zeros < 7 else INVALID_CODE, 1, 0)
 
 
 def eols_and_faults(size):
-    """Each EOL begins a damaged line, which is a white row. Behind the last no EOL is found, and the fault is the result."""
+    """Each EOL begins a damaged line, which is a white row. After the last no EOL is found, and the fault is the result."""
     assert 8 * size % 21 < 12
     return Made(1728, filled(EOL + NO_WORD, size), INVALID_CODE, 8 * size // 21, 0)
 
 
 def without_eols(tag, before=""):
-    """Rows of Group 3 one behind the other; before them there may be one EOL."""
+    """Rows of Group 3 one after another; before them there may be one EOL."""
 
     def made(size):
         status, rows, changes = lines_in(size, [], [(len(tag + LINE), 2)])
@@ -159,18 +159,18 @@ def long_bodies(size):
     assert rest > len(EOL), "the last line is damaged by its end"
     cut = rest - len(EOL)
     painted = 2 * (cut // 9) + (cut % 9 >= 6)
-    # a black end has a change where the white begins, and a white one has none
+    # a black end has a change where the white begins; a white one has none
     return Made(8 * size, filled(line, size), *ended_line(rows, 2 * pairs, painted))
 
 
 def ended_line(rows, changes, painted):
-    """Rows of so many changes, and a line that is cut, of which so many alternate pixels were painted: it is a row too, but no
-    EOL is found behind it, and then its fault is the result."""
+    """Rows of a number of changes, and a line that is cut after a number of alternate pixels: it is a row too, but no EOL is
+    found after it, and then its fault is the result."""
     return UNEXPECTED_EOF, rows + 1, rows * changes + painted - painted % 2
 
 
 def faults_before_bodies(size):
-    """Damaged lines: each begins with a fault, and behind it are words up to the next EOL."""
+    """Damaged lines: each begins with a fault, and after it are words up to the next EOL."""
     line = EOL + NO_WORD + (WHITE_1 + BLACK_1) * (size // 32)
     rows, rest = divmod(8 * size, len(line))
     assert rest > len(EOL + NO_WORD)
@@ -218,7 +218,7 @@ def instructions(folder, command, whole=False, stdin=None):
 
 
 def too_slow(shape, costs, sizes, measured, worse):
-    """Prints what a shape costs, and notes it where that is too much."""
+    """Prints what a shape costs, and notes it if that is too much."""
     growth, each = costs[1] / costs[0], costs[1] / sizes[1]
     print(f"  {shape}: {each:.1f} instructions a byte, {growth:.2f} times for four times the data")
     if growth > MOST:
@@ -254,8 +254,8 @@ def slow_shapes():
     print(f"  {len(SHAPES)} shapes")
 
 
-# An encoding, how many bits a row of so many alternate pixels takes with what is around it, and the instructions a byte that
-# were measured. In Group 4 the last four pixels are vertical modes, since b1 is the row's end: 7, 6, 3 and 1 bits.
+# An encoding, how many bits a row of a number of alternate pixels has with what is around it, and the measured instructions a
+# byte. In Group 4 the last four pixels are vertical modes, since b1 is the row's end: 7, 6, 3 and 1 bits.
 DENSE_ROWS = [
     ("Group 4", GROUP_4, lambda columns: 12 * (columns - 4) // 2 + 17 + 24, 915),
     ("Group 3", ONE_DIMENSIONAL, lambda columns: 12 + 9 * columns // 2 + 72, 625),
@@ -282,14 +282,14 @@ def encoding_dense_rows():
     assert not worse, worse
 
 
-# The words of a run, what a row is written as, the last line, and the instructions a byte of its data that were measured: white
+# The arguments of a run, what a row is written as, the last line, and the instructions a byte of its data that were measured: white
 # rows of 8 columns, as a bitmap of a byte each and as text.
 RUNS = [("-o g4 8 0 -", b"\0", b"", 1505), ("-o g4 8 0 r", b"\0", b"", 1507), ("g4 8 0 -", b"r\n", b"ok %d\n", 1353)]
 RUN_SIZES = (1 << 14, 1 << 16)
 
 
 def runs_of_the_program():
-    """The program's work is in proportion to its data, also where it writes a bitmap."""
+    """The program's work is in proportion to its data, even if it writes a bitmap."""
     if not shutil.which("valgrind"):
         leave_out("the cost of the program", "valgrind")
         return

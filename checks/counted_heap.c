@@ -1,5 +1,5 @@
-/* The memory of libhayro_ccitt_c.a, counted: how often it was asked for and for how many bytes, how many blocks are held, and
-   one request, if any, that is refused. */
+/* An allocator for libhayro_ccitt_c.a that counts: how many allocations were requested and of how many bytes, and how many blocks
+   are allocated. One request may be refused. */
 #include <stdbool.h>
 #include <stddef.h>
 #include <stdint.h>
@@ -12,7 +12,7 @@ typedef struct {
 
 static uint64_t refused, requests, bytes, blocks;
 
-/* From now on the request of this number is refused, and no other; 0: none. */
+/* From now on the request with this number is refused, and no other; 0: none. */
 void refuse_request(uint64_t number) { refused = number; requests = bytes = 0; }
 uint64_t requests_seen(void) { return requests; }
 uint64_t bytes_asked(void) { return bytes; }

@@ -1,11 +1,11 @@
-"""Checks of data that is cut, or of which one bit is wrong: the answers were worked out by an independent model."""
+"""Checks of data that is cut, or of which one bit is wrong: the results were worked out by an independent model."""
 import tempfile
 
 import c_library
 import called
 import program
 
-# how many bits of flipped data the program itself decodes: the data of each line as far as this
+# for how many bits of each line's data the program itself decodes the flipped data
 FLIPS_OF_PROGRAM = 64
 
 

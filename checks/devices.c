@@ -1,6 +1,6 @@
-/* Loaded before a program, this makes standard input and output devices of a certain kind. With READ_BYTES or WRITE_BYTES a call
-   reads or takes at most so many bytes; with READ_FAILS or WRITE_FAILS the call of this number fails; with WRITE_TAKES_NONE the
-   call of this number takes nothing. A device that is asked again after that says so on standard error. */
+/* Loaded before a program, this changes how standard input and output behave. With READ_BYTES or WRITE_BYTES a call reads or
+   writes at most that many bytes; with READ_FAILS or WRITE_FAILS the call with that number fails; with WRITE_TAKES_NONE the call
+   with that number writes nothing. A device that is called again after that says so on standard error. */
 #define _GNU_SOURCE
 #include <dlfcn.h>
 #include <errno.h>
@@ -30,7 +30,7 @@ static ssize_t real_write(int file, const void *bytes, size_t count) {
     return real(file, bytes, count);
 }
 
-/* Whether the call of this number is the one that is named. */
+/* Whether this call is the one whose number the variable names. */
 static int is_named(device *device, const char *name) {
     if (device->calls != number(name)) return 0;
     device->has_failed = 1;

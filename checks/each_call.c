@@ -1,6 +1,6 @@
 /* Decodes cases, a line each on standard input: encoding, columns, rows, flags, as hayro_ccitt.h numbers them, and the data in
-   hexadecimal, `-` for none. Each call is made, on blocks that are exactly as long as they have to be, so that a tool for memory
-   sees each byte that is touched beyond. The rows are encoded again in each way. Of each case a line is written: the status, the
+   hexadecimal, `-` for none. Each call is made, on blocks that are exactly as long as they must be, so that a memory checker
+   sees each access beyond. The rows are encoded again in each way. For each case a line is written: the status, the
    bytes read, and the lists. */
 #include <stdio.h>
 #include <stdlib.h>

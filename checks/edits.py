@@ -3,27 +3,27 @@
     python3 checks/edits.py                    every edit of every crate
     python3 checks/edits.py --only WORD        the edits whose file names have WORD in them
     python3 checks/edits.py --crate NAME       the edits of one crate
-    python3 checks/edits.py --lanes N          N checks side by side; without it, one for each processor
+    python3 checks/edits.py --lanes N          N checks in parallel; without it, one for each processor
     python3 checks/edits.py --show             also prints what refused each edit
     python3 checks/edits.py --keep FOLDER      writes what each check printed into this folder
     python3 checks/edits.py --write            writes into the edits what refused them: see below
 
 An edit is a file in crates/NAME/edits or crates/NAME/must-fail: a line 'file: src/x.rt', then pairs of lines 'old: TEXT' and
-'new: TEXT', and a line 'breaks: FUNCTION: CLAUSE', which says what has to refuse it: a goal of that function that names that
+'new: TEXT', and a line 'breaks: FUNCTION: CLAUSE', which says what must refuse it: a goal of that function that names that
 clause. FUNCTION is its name as a check prints it, without the crate's: group3::check_eob. CLAUSE is the name of an `ensures`;
-`returns` where it has none; and `loop` where what breaks is what the function's loop keeps.
+`returns` if it has none; and `loop` if the invariant of the function's loop breaks.
 
-An edit is refused for its reason where that goal stays open: a search for it ended without a proof, values were found at which it
-is false, or a given proof of it finds another value. A search that gave up at its limits, a name that a proof file lost, and a
-function that only calls one that isn't proved, show nothing. Where the check's own searches gave up at the goal, it is tried once
+An edit is refused for its reason if that goal stays open: a search for it ended without a proof, values were found at which it
+is false, or its written proof no longer fits. A search that gave up at its limits, a name that a proof file lost, and a
+function that only calls one that isn't proved, show nothing. If the check's own searches gave up at the goal, it is tried once
 more by `search rules` alone, which ends. A line 'search: GOAL' in the edit names such a goal, and saves the first try.
 
-Edits of different functions are checked together, each batch over a copy of the crate and over what a check of the crate without
-edits left. A goal of a function isn't searched for while one that it calls isn't proved. So what such a batch doesn't refuse for
-its reason is tried with functions that don't call one another, and then by itself.
+Edits of different functions are checked together, each batch on a copy of the crate and of what a check of the crate without
+edits stored. A goal of a function isn't searched for while one that it calls isn't proved. So an edit that such a batch doesn't
+refuse for its reason is tried with functions that don't call one another, and then alone.
 With --write an edit that another clause of its function refuses gets that clause's name, and one at whose goal the check's own
 searches gave up gets its line 'search: GOAL'. Look at what was written: a clause that has nothing to do with what the edit breaks
-says that the edit is a bad one.
+means that the edit is a bad one.
 The last line is 'N refused, M not'.
 """
 import argparse
@@ -47,7 +47,7 @@ FOLDERS = ("must-fail", "edits")
 
 
 def kit():
-    """The kit's command `rt` as a module: it reads edits, and knows how a crate is checked."""
+    """The kit's command `rt` as a module: it reads edits and checks crates."""
     path = os.path.realpath(shutil.which("rt"))
     loader = importlib.machinery.SourceFileLoader("rt", path)
     made = importlib.util.module_from_spec(importlib.util.spec_from_loader("rt", loader))
@@ -61,7 +61,7 @@ ITEM = re.compile(r"^( *)(?:pub(?:\([a-z]+\))? )?(?:extern \"C\" )?(?:const |gho
 
 
 class Item:
-    """A function or a constant of a file: where its text stands, and which names stand in it."""
+    """A function or a constant of a file: where its text is, and which names occur in it."""
 
     def __init__(self, path, name, kind, begin, end, text, is_public):
         self.path, self.name, self.kind, self.begin, self.end, self.is_public = path, name, kind, begin, end, is_public
@@ -151,7 +151,7 @@ class Source:
 
 
 class Edit:
-    """An edit: what it changes, and what has to refuse it."""
+    """An edit: what it changes, and what must refuse it."""
 
     def __init__(self, crate, file, source):
         self.crate, self.file, self.name = crate, file, os.path.basename(file)[: -len(".edit")]
@@ -186,7 +186,7 @@ class Edit:
 
 
 def edits_in(folder, crate, source, only=()):
-    """The edits of a crate; of these words, where there are any, one stands in each edit's file name."""
+    """The edits of a crate; if there are words, those whose file names contain one of them."""
     made = []
     for part in FOLDERS:
         if os.path.isdir(f"{folder}/{part}"):
@@ -225,7 +225,7 @@ class Said:
 
 
 def read(output, crate, is_mixed=False):
-    """What a check's output says of each function. Where a batch is mixed, a lemma may be refused for the sake of another's edit."""
+    """What a check's output says of each function. In a batch of several edits, a lemma may be refused because of another edit."""
     said, notes, errors, lemmas = {}, [], {}, {}
     lines = output.split("\n")
     for number, line in enumerate(lines):
@@ -275,7 +275,7 @@ def names(goal, clause):
 
 
 def clause_of(goal):
-    """The word that an edit's last line has for a goal's clause."""
+    """How an edit's last line names a goal's clause."""
     found = re.search(r"-clause-(\w+)", goal)
     return found[1] if found else "returns" if goal.startswith("returns") else "loop"
 
@@ -287,7 +287,7 @@ def gave_up(edit, said):
 
 
 def judged(edit, said, output):
-    """Whether the edit is refused for its reason, and what there is to say."""
+    """Whether the edit is refused for its reason, and what to print."""
     it = said.get(edit.function)
     if not said:
         lines = [line for line in output.split("\n") if "error" in line] or output.split("\n")
@@ -308,7 +308,7 @@ def judged(edit, said, output):
 
 
 class Lane:
-    """One check at a time, over a copy of what the check of the crate without edits kept."""
+    """One check at a time, on a copy of what the check of the crate without edits stored."""
 
     def __init__(self, folder, rt, kept):
         self.folder, self.rt, self.kept, self.stores = folder, rt, kept, {}
@@ -354,7 +354,7 @@ class Lane:
         return subprocess.run([*self.rt.rtlib.guarded(), *words], **how, errors="replace", check=False).stdout
 
     def judge(self, crate, edits, is_mixed, is_alone):
-        """Whether each edit is refused for its reason, with what there is to say; and all that the checks said.
+        """Whether each edit is refused for its reason, with what to print; and the output of the checks.
 
         The functions of a mixed batch may call one another. An edit that is tried alone has no goal answered before its check.
         """
@@ -432,7 +432,7 @@ def stamps(folder):
 
 
 def prepare(crates, chosen, kept):
-    """Checks the crates without edits, lowest first, and keeps what each check left. Their libraries are built by the way.
+    """Checks the crates without edits, lowest first, and keeps what each check stored. This builds their libraries too.
 
     Returns the names of each crate's functions.
     """
@@ -507,8 +507,8 @@ def main():
                 near = sorted(name for name in functions[edit.crate.name] if name.rpartition("::")[2] == last)
                 results[edit] = False, f"a check names no function {edit.function}: is it {' or '.join(near) or 'another'}?"
         told = {*results}
-        # First as many functions at once as there are, also where one calls another, which decides some; then those that don't
-        # call one another; then each by itself.
+        # First all functions at once, even if one calls another, which decides some; then those that don't call one another; then
+        # each alone.
         for meets, most in ((Edit.overlaps, words.most), (Edit.meets, words.most), (Edit.overlaps, 1)):
             left = [it for it in edits if it not in told | alone and not results.get(it, (False,))[0]]
             batches = [batch for crate in crates for batch in batches_of([it for it in left if it.crate is crate], most, meets)]
@@ -548,7 +548,7 @@ def write(edit, refused):
 
 
 def keep(folder, crate, batch, output):
-    """Writes what a check printed into a folder, where one is given."""
+    """Writes what a check printed into a folder, if one is named."""
     if folder:
         os.makedirs(folder, exist_ok=True)
         with open(f"{folder}/{crate.name}-{batch[0].name}-{len(batch)}.txt", "w", encoding="utf-8") as file:

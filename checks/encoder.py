@@ -9,7 +9,7 @@ import tempfile
 import c_library
 from left_out import leave_out
 
-# what the example is told, and then its counterpart, with as many rows as there are
+# the arguments of the example, and then of its counterpart, with the number of rows
 WAYS = [("g4", "-", "b"), ("g4", "a", "ba"), ("1d", "-", "b")]
 # columns, a bitmap, an encoding, flags, and the bytes, worked out from T.4 and T.6
 KNOWN = [
@@ -23,7 +23,7 @@ KNOWN = [
     (8, "18", 1, 0, "0018e0004004004004004004"),
     (2560, "00" * 320, 1, 0, "00101f35001001001001001001"),
 ]
-# columns, bytes of a bitmap, an encoding and flags that aren't taken
+# columns, bytes of a bitmap, an encoding and flags that are invalid
 UNTAKEN = [(0, 0, 0, 0), (0, 4, 0, 0), (8, 0, 1, 0), (8, 1, 2, 0), (8, 1, 0, 1), (8, 1, 0, 8), (8, 1, 1, 4), (9, 3, 0, 0), (9, 1, 1, 0)]
 OK, REFUSED, NOT_TAKEN = 0, 5, 6
 
@@ -70,7 +70,7 @@ def examples(folder):
 
 
 def pictures_come_back():
-    """By the two examples: a picture, its strip, and the picture again; and what is no picture is refused."""
+    """With the two examples: a picture, its strip, and the picture again; what is no picture is refused."""
     c_library.build()
     seen = size = 0
     with tempfile.TemporaryDirectory() as folder:
@@ -99,7 +99,7 @@ def pictures_come_back():
 
 
 def called(library, columns, bitmap, encoding, flags, room):
-    """What the call answers and tells, and its memory, a guard behind it."""
+    """The status and outcome of the call, and its memory with a guard after it."""
     settings, outcome, memory = Settings(columns, encoding, flags), Outcome(7, 7), c_library.bytes_lent(room)
     source = (ctypes.c_uint8 * (len(bitmap) + 1)).from_buffer_copy(bitmap + b"\0")
     answer = library.fax_encode_bitmap(
@@ -123,7 +123,7 @@ def calls_that_encode():
             for room in range(len(expected)):
                 assert called(library, columns, bitmap, encoding, flags, room) == (REFUSED, told, b"\xa5" * room + guard), (columns, text, room)
                 refused += 1
-        # what stands behind a row is passed over
+        # the bits after a row are ignored
         assert called(library, 3, b"\x5f\xa0", 0, 0, 16) == called(library, 3, b"\x40\xa0", 0, 0, 16)
         for columns, size, encoding, flags in UNTAKEN:
             assert called(library, columns, bytes(size), encoding, flags, 8) == (NOT_TAKEN, (0, 0), b"\xa5" * 8 + guard), (columns, size, encoding, flags)

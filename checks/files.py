@@ -1,5 +1,5 @@
 """Checks of fax2pbm and of the Python examples on files that other programs make of a page, as far as they are installed: each file
-gives the page, or a line that says why it isn't decoded; so do files that are cut, damaged, or no fax at all."""
+is decoded to the page, or refused by a line that says why; so are files that are cut, damaged, or no fax at all."""
 import os
 import shutil
 import subprocess
@@ -58,7 +58,7 @@ def ran(folder, *words):
 
 
 def pictures_of(folder, name, picture):
-    """What fax2pbm and the example for this ending make of a file, and what they say."""
+    """What fax2pbm and the example for this ending write for a file, and what they print."""
     here = os.path.abspath("examples")
     example = "pdf_pages.py" if name.endswith(".pdf") else "tiff_strips.py"
     found = []

@@ -1,4 +1,4 @@
-"""Checks on small data of each shape that has broken fax decoders, and at the type's end: the answers were worked out by an
+"""Checks on small data of each shape that has broken fax decoders, and at the end of 32 bits: the results were worked out by an
 independent model."""
 import collections
 import shutil
@@ -10,7 +10,7 @@ import called
 import program
 from left_out import leave_out
 
-# each so manieth case is decoded under valgrind, by the library and by the program
+# of how many cases one is decoded under valgrind, by the library and by the program
 IN_LIBRARY, IN_PROGRAM = 5, 180
 VALGRIND = ["valgrind", "-q", "--error-exitcode=99", "--leak-check=full", "--show-leak-kinds=all", "--errors-for-leak-kinds=all"]
 
@@ -49,7 +49,7 @@ def answer_of(words):
 
 
 def without_errors_of_memory():
-    """A part of the cases under valgrind: no error, and no block that is left."""
+    """A part of the cases under valgrind: no error, and no leaked block."""
     if not shutil.which("valgrind"):
         leave_out("accesses of memory", "valgrind")
         return

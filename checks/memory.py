@@ -1,5 +1,5 @@
-"""Checks of allocation: the exact number of requests of the library, the encoder and the program, and of the first two the exact
-number of bytes. The bytes of all requests are added up, so a list that grows from 16 bytes to 64 has requested 112."""
+"""Checks of allocation: the exact number of allocations of the library, the encoder and the program, and of the first two the exact
+number of bytes. The bytes of all allocations are added up, so a list that grows from 16 bytes to 64 has requested 112."""
 import os
 import sys
 import tempfile
@@ -14,14 +14,12 @@ sys.path.append("bench")
 
 import strips  # noqa: E402
 
-# The two lookup tables of each call that decodes: 8192 entries of two bytes each.
-TABLES, TABLE_BYTES = 2, 2 * 8192 * 2
 # A list of changes or of bytes has room for 4, and for 8 bytes, at first, and for twice as many when it is full.
 FIRST_CHANGES, FIRST_BYTES = 4 * 4, 8
 
 
 def doubled(first, most):
-    """The requests and the bytes of memory that grows from its first size to one that holds so many bytes."""
+    """The allocations and the bytes of memory that grows from its first size to one with room for a number of bytes."""
     sizes = []
     while not sizes or sizes[-1] < most:
         sizes.append(2 * sizes[-1] if sizes else first)
@@ -33,7 +31,7 @@ def together(*parts):
 
 
 def changes_kept(row, lists):
-    """What so many lists ask for that hold a row's changes, of four bytes each."""
+    """What a number of lists of a row's changes request, four bytes for each change."""
     return together(*[doubled(FIRST_CHANGES, 4 * len(row))] * lists)
 
 
@@ -43,7 +41,7 @@ HUNDRED = 100
 
 
 def white_data():
-    """Each call on white data allocates the two lookup tables, and nothing else."""
+    """No call on white data allocates."""
     c_library.build()
     seen = 0
     with tempfile.TemporaryDirectory() as folder:
@@ -52,13 +50,13 @@ def white_data():
             library.refuse(0)
             library.answer(called.settings_of(words), data)
             asked = library.calls.requests_seen(), library.calls.bytes_asked()
-            assert asked == (TABLES, TABLE_BYTES), (words, asked)
+            assert asked == (0, 0), (words, asked)
             seen += 1
-    print(f"  {seen} data, {TABLE_BYTES} bytes each")
+    print(f"  {seen} data")
 
 
 def equal_rows():
-    """A hundred equal rows take what two take: room for the row and for the one before it."""
+    """A hundred equal rows need what two need: room for the row and for the one before it."""
     c_library.build()
     seen = 0
     with tempfile.TemporaryDirectory() as folder:
@@ -71,14 +69,14 @@ def equal_rows():
                     answer = c_library.called(library.calls.hayro_ccitt_measure, data, called.settings_of(f"{mode} 64 0 b"))
                     assert answer == (0, (count, count * len(row), len(data))), (mode, row, answer)
                     asked = library.calls.requests_seen(), library.calls.bytes_asked()
-                    expected = together((TABLES, TABLE_BYTES), changes_kept(row, min(count, 2)))
+                    expected = changes_kept(row, min(count, 2))
                     assert asked == expected, (mode, row, count, asked, expected)
                     seen += 1
     print(f"  {seen} data of up to {HUNDRED} equal rows")
 
 
 def encoded_rows():
-    """The encoder takes room for what it writes, and for the changes of a row: in Group 4 also for those of the row before."""
+    """The encoder allocates room for what it writes, and for the changes of a row: in Group 4 also for those of the row before."""
     c_library.build()
     seen = 0
     with tempfile.TemporaryDirectory() as folder:
@@ -100,7 +98,7 @@ def encoded_rows():
 
 
 def runs_of_the_program():
-    """What the program writes is kept in memory that doubles: a hundred rows ask as seldom as that, as text and as a bitmap."""
+    """What the program writes is kept in memory that doubles: so a hundred rows need few allocations, as text and as a bitmap."""
     runs = 0
     with tempfile.TemporaryDirectory() as folder:
         counted = {**os.environ, "LD_PRELOAD": refusals.shim(folder, "refuse"), "COUNT": "1"}
@@ -115,8 +113,8 @@ def runs_of_the_program():
                 text = "".join(" ".join(["r", *map(str, row)]) + "\n" for _ in range(HUNDRED))
                 written = 8 * HUNDRED if first else len(text)
                 found = allocations(f"{first}g4 64 0 b", data) - alone
-                # the tables, one buffer for the data, what is written, and the lists
-                expected = together((TABLES + 1, 0), doubled(FIRST_BYTES, written), changes_kept(row, 2))[0]
+                # one buffer for the data, what is written, and the lists
+                expected = together((1, 0), doubled(FIRST_BYTES, written), changes_kept(row, 2))[0]
                 assert found == expected, (first, row, found, expected)
                 runs += 1
     print(f"  {runs} runs with exact numbers of allocations")

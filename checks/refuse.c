@@ -1,5 +1,5 @@
 /* Loaded before a program, this refuses its N-th allocation, N being the variable REFUSE, and says on standard
-   error whether that many came. Where there is a variable COUNT it says at the end how many came. */
+   error whether that many were requested. With a variable COUNT it says at the end how many were requested. */
 #define _GNU_SOURCE
 #include <dlfcn.h>
 #include <stdio.h>

@@ -1,7 +1,7 @@
-/* Loaded before built tests, this refuses the request for memory that a test names. A test names it by asking for 2^20 + N
-   bytes: the N-th request from then on is refused, and no other. When it asks for 2^20 bytes none is refused from then on, and
-   this request is itself refused where the named one was met. At the end it says on standard error how many requests were
-   named and how many were refused. */
+/* Loaded before built tests, this refuses the allocation that a test names. A test names it by requesting 2^20 + N bytes: the
+   N-th allocation from then on is refused, and no other. If it requests 2^20 bytes, none is refused from then on, and this
+   request is itself refused if the named one was. At the end it says on standard error how many allocations were named and how
+   many were refused. */
 #define _GNU_SOURCE
 #include <dlfcn.h>
 #include <stdio.h>

@@ -1,4 +1,4 @@
-"""The repository's own checks. The last line is 'N passed, M failed', and what was left out for want of a tool.
+"""The repository's own checks. The last line is 'N passed, M failed', and what was left out because a tool is missing.
 
     python3 checks/run.py                  all of them
     python3 checks/run.py NAME             those of one file: repository, program, built_tests ..
@@ -26,14 +26,15 @@ import memory  # noqa: E402
 import program  # noqa: E402
 import refusals  # noqa: E402
 import repository  # noqa: E402
+import row_by_row  # noqa: E402
 import users  # noqa: E402
 from left_out import LEFT_OUT  # noqa: E402
 
 
 def build():
-    """The program as LLVM builds it. `rt run` proves it first, and gives the program its words and its stored input.
+    """The program as LLVM builds it. `rt run` proves it first, and runs it with its stored arguments and input.
 
-    Its status is the program's own where it was built, so that a program of an older build is never taken.
+    Its status is the program's own if it was built, so that a program of an older build is never used.
     """
     folder = "crates/faxrows"
     with open(f"{folder}/args", encoding="utf-8") as file:
@@ -48,7 +49,7 @@ def build():
 def main():
     passed = failed = 0
     all_files = [
-        repository, program, built_tests, c_library, encoder, refusals, devices, cuts, hostile, memory, large, installed, users, files, cost,
+        repository, program, built_tests, c_library, row_by_row, encoder, refusals, devices, cuts, hostile, memory, large, installed, users, files, cost,
     ]
     words = sys.argv[1:]
     chosen = [it for it in all_files if not words or (it.__name__ in words) != (words[0] == "--without")]

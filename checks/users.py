@@ -1,5 +1,5 @@
 """Checks of what users are shown: the commands of the README and of docs/USING.md, the programs of examples/, and the Cargo package.
-What a tool that isn't installed is needed for is left out, and said so."""
+What needs a tool that isn't installed is left out and reported."""
 import itertools
 import os
 import re
@@ -11,13 +11,13 @@ import c_library
 from left_out import leave_out
 
 PAGES = ["README.md", "docs/USING.md"]
-# Tools that a command may need and that needn't be here.
+# Tools that a command may need and that need not be installed.
 TOOLS = ["cargo", "ppm2tiff", "tiffcp", "tiffdump", "gs", "img2pdf", "pdfimages", "strings"]
 PACKAGE = "bindings/rust"
 
 
 def make():
-    """The library and the programs in build/, as the pages' commands want them."""
+    """The library and the programs in build/, as the pages' commands need them."""
     done = subprocess.run(["make"], capture_output=True, text=True, check=False)
     assert done.returncode == 0, done.stdout[-2000:] + done.stderr[-2000:]
 
@@ -34,7 +34,7 @@ def commands(page):
 
 
 def files_of_users(folder):
-    """FILE.tif and FILE.pdf, for the commands that take a file of the user's, as far as the tools are here."""
+    """FILE.tif and FILE.pdf, for the commands that take a file of the user's, as far as the tools are installed."""
     steps = [
         ("ppm2tiff", "(printf 'P4\\n1240 1754\\n'; cat corpus/pictures/page) > FILE.pbm; ppm2tiff -c none FILE.pbm FILE.none"),
         ("tiffcp", "tiffcp -c g4 -r 1754 FILE.none FILE.tif"),
@@ -47,8 +47,8 @@ def files_of_users(folder):
 
 
 def outcomes(page):
-    """Each command, the text below it, and what it prints: None where it is left out, for want of a tool or of a file that one
-    that was left out would have made. What is printed of a user's file isn't on the page."""
+    """Each command, the text below it, and what it prints: None if it is left out because of a missing tool, or of a file that
+    another such command would have made. What is printed for a user's file isn't on the page."""
     with tempfile.TemporaryDirectory() as folder:
         for name in ("bindings", "build", "c", "corpus", "crates", "examples"):
             os.symlink(os.path.abspath(name), f"{folder}/{name}")
@@ -100,7 +100,7 @@ def manifest():
 
 
 def damaged(data):
-    """The data with a byte of it inverted, at three places, and cut short."""
+    """The data with a byte of it inverted, at three offsets, and cut short."""
     for part in (1, 2, 3):
         place = len(data) * part // 4
         yield data[:place] + bytes([data[place] ^ 0xFF]) + data[place + 1 :]

@@ -25,7 +25,7 @@ static const char help[] =
     "The status is 0 if every fax page was decoded whole, 1 if one was not, or there is none, and 2 for a wrong call, an\n"
     "allocation failure, or an error in reading or writing. Each such page has a line on standard error.\n";
 
-/* No picture takes more memory than this. */
+/* No picture has more bytes than this. */
 #define MOST_BYTES ((uint64_t)1 << 30)
 
 enum { PAGE_WHOLE = 0, PAGE_DAMAGED = 1, CANNOT_GO_ON = 2 };
@@ -152,7 +152,7 @@ typedef struct {
     int is_big_tiff;
 } tiff;
 
-/* A number of so many bytes at an offset, or 0 where the file doesn't have them. */
+/* A number of `bytes` bytes at an offset, or 0 if the file doesn't have them. */
 static uint64_t number_at(const tiff *from, uint64_t offset, unsigned bytes)
 {
     uint64_t number = 0;
@@ -181,7 +181,7 @@ enum {
     T4_OPTIONS = 292, TILE_WIDTH = 322, TILE_LENGTH = 323, TILE_OFFSETS = 324, TILE_BYTE_COUNTS = 325
 };
 
-/* The values of a tag: so many numbers of so many bytes, at an offset. */
+/* The values of a tag: their number, the bytes of each, and their offset. */
 typedef struct {
     uint64_t count, offset;
     unsigned bytes;
@@ -227,7 +227,7 @@ static uint64_t first_value(const tiff *from, uint64_t directory, unsigned tag, 
     return value(from, find(from, directory, tag), 0, otherwise);
 }
 
-/* How a page's strips or tiles lie, and how they are encoded. */
+/* How a page's strips or tiles are laid out, and how they are encoded. */
 typedef struct {
     hayro_ccitt_settings settings;     /* columns and rows are those of a tile, or of a strip before the last */
     uint32_t columns, rows;            /* of the page */
@@ -278,7 +278,7 @@ static const char *lay_out(const tiff *from, uint64_t at, layout *page)
     return NULL;
 }
 
-/* The bytes of a strip or tile, as far as the file has them. One whose length isn't told goes up to the end. */
+/* The bytes of a strip or tile, as far as the file has them. One without a length extends up to the end. */
 static file_bytes part_of(const tiff *from, const layout *page, uint64_t index)
 {
     file_bytes part = {from->file.bytes, 0};
@@ -291,7 +291,7 @@ static file_bytes part_of(const tiff *from, const layout *page, uint64_t index)
     return part;
 }
 
-/* The number of rows of a page, at most as many as its data can have: a row takes at least one bit. */
+/* The number of rows of a page, at most as many as its data can have: a row has at least one bit. */
 static uint32_t most_rows(const tiff *from, const layout *page)
 {
     uint64_t bytes = 0;
@@ -334,7 +334,7 @@ static int decode_tiff_page(const tiff *from, uint64_t at, unsigned number, cons
     const char *why = lay_out(from, at, &page);
     if (why)
         return complain(why, name, PAGE_DAMAGED);
-    /* A page whose height is a lie takes no memory, and its picture has the rows that were decoded. */
+    /* The picture of a page with a false height has only the rows that were decoded. */
     uint32_t rows = most_rows(from, &page);
     uint64_t end = 0;
     picture made = white_picture(page.columns, rows);
@@ -421,7 +421,7 @@ static int decode_raw(file_bytes file, const options *wanted)
         return complain(errors[status], NULL, CANNOT_GO_ON);
     if (status != HAYRO_CCITT_OK) {
         fprintf(stderr, "fax2pbm: %s after %lu rows\n", errors[status], (unsigned long)outcome.rows);
-        /* Without a limit, data that nothing closes ends where the next line would begin. */
+        /* Without a row limit, data that isn't closed ends where the next line would begin. */
         result = status == HAYRO_CCITT_UNEXPECTED_EOF && !wanted->raw.rows && outcome.rows ? PAGE_WHOLE : PAGE_DAMAGED;
     }
     picture made = {wanted->raw.columns, 0, 0, NULL};

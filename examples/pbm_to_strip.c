@@ -35,7 +35,7 @@ static int failed(const char *what, int status)
     return status;
 }
 
-/* Reads the picture's bitmap, whose rows are as the encoder takes them. Returns an exit status, with the bitmap if it is 0. */
+/* Reads the picture's bitmap, whose rows have the encoder's form. Returns an exit status, with the bitmap if it is 0. */
 static int read_picture(FILE *file, uint32_t *columns, uint8_t **bitmap, size_t *length)
 {
     uint32_t rows;

@@ -3,10 +3,10 @@
     python3 examples/pdf_pages.py FILE.pdf [PICTURES]
 
 With PICTURES, image 0 is written to PICTURES-0.pbm, and so on, numbered as `pdfimages` numbers them. Each line names an image: its
-page, its number, the words for `faxrows`, and the answer. `pdfimages` (poppler-utils) takes the streams out of the file; how they are
-encoded, and whether black and white are exchanged, is read from the image's dictionary, or where that isn't found, from the file
-.params that `pdfimages` writes. Where the rows make no picture, other flags are tried. The status is 0 if all rows of all images were
-decoded, 1 if some weren't or there is no such image, and 2 where the file can't be read."""
+page, its number, the arguments of `faxrows`, and the result. `pdfimages` (poppler-utils) takes the streams out of the file; how they are
+encoded, and whether black and white are exchanged, is read from the image's dictionary, or if that isn't found, from the file
+.params that `pdfimages` writes. If decoding fails, other flags are tried. The status is 0 if all rows of all images were
+decoded, 1 if some weren't or there is no such image, and 2 if the file can't be read."""
 import glob
 import os
 import re
@@ -53,14 +53,14 @@ def parsed(text, at=0):
 
 
 class Objects:
-    """The objects that stand in a file by themselves, as every stream does with its dictionary."""
+    """The objects of a file that aren't in object streams, as every stream with its dictionary."""
 
     def __init__(self, path):
         with open(path, "rb") as file:
             self.file = file.read()
 
     def __call__(self, item):
-        """What an item is, also where it is a reference; None where that isn't found."""
+        """The value of an item, which may be a reference; None if that isn't found."""
         for _ in range(8):
             if not isinstance(item, tuple):
                 return item
@@ -81,7 +81,7 @@ def listed(path):
 
 
 def written(path, folder):
-    """The numbers of the streams that `pdfimages` writes, with their bytes and words."""
+    """The numbers of the streams that `pdfimages` writes, with their bytes and parameters."""
     subprocess.run(["pdfimages", "-ccitt", path, f"{folder}/image"], capture_output=True, check=False)
     streams = {}
     for name in sorted(glob.glob(f"{folder}/image-*.ccitt")):
@@ -92,7 +92,7 @@ def written(path, folder):
 
 
 def faxes(path, folder):
-    """Of each fax image its page, number, size, object, bytes and words. Images in a page's content may be counted by the list and
+    """Of each fax image its page, number, size, object, bytes and parameters. Images in a page's content may be counted by the list and
     not by the files; where the numbers so differ, those that are objects are taken in order."""
     images = [image for image in listed(path) if image[4] == "ccitt"]
     streams = written(path, folder)
@@ -148,7 +148,7 @@ class Image:
             yield letters or "-"
 
     def decoded(self, data):
-        """The words, the rows and the answer of the first try that gives all rows, or else of the one that gives the most."""
+        """The arguments, the rows and the result of the first try that decodes all rows, or else of the one that decodes the most."""
         best = None
         for flags in dict.fromkeys(self.tries()):
             words = [self.mode, str(self.columns), str(self.rows), flags]

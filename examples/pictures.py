@@ -19,7 +19,7 @@ ANSWERS = [
     "error: arithmetic overflow in position calculation",
     "error: out of memory",
 ]
-# No picture takes more memory than this.
+# No picture has more bytes than this.
 MOST_BYTES = 1 << 30
 
 
@@ -36,7 +36,7 @@ class Outcome(ctypes.Structure):
 
 
 def loaded():
-    """The library, or None where it isn't built."""
+    """The library, or None if it isn't built."""
     try:
         return ctypes.CDLL(LIBRARY)
     except OSError:
@@ -51,7 +51,7 @@ def row_bytes(columns):
 
 
 def decoded(words, data):
-    """The packed rows of a strip, as far as they could be decoded, and `ok` or the error. The words are those of `faxrows`; the
+    """The packed rows of a strip, as far as they could be decoded, and `ok` or the error. The arguments are those of `faxrows`; the
     number of rows isn't 0."""
     mode, columns, rows, flags = words[0], int(words[1]), int(words[2]), words[3]
     room = min(rows, 8 * len(data)) * row_bytes(columns)  # a row takes at least one bit
@@ -75,7 +75,7 @@ def decoded_by_faxrows(words, data):
 
 
 def told(answer, columns, packed, rows):
-    """The answer as a line tells it: with how many rows there are, if some are missing."""
+    """The result for a line: with the number of rows, if some are missing."""
     have = len(packed) // row_bytes(columns) if columns else rows
     return answer if have == rows else f"{answer}, {have} of {rows} rows"
 
@@ -115,7 +115,7 @@ def write_picture(path, columns, packed, is_inverted):
 
 
 def run(main, words, usage):
-    """Calls `main` with the words, and gives the exit status; an error in a file is one line on standard error."""
+    """Calls `main` with the arguments, and returns the exit status; an error in a file is one line on standard error."""
     if len(words) not in (2, 3) or words[1] in ("-h", "--help"):
         print(usage)
         return 0 if len(words) > 1 and words[1] in ("-h", "--help") else 2

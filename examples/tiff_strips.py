@@ -67,7 +67,7 @@ class Tiff:
 
 
 class Page:
-    """How a page's strips or tiles lie, and the words that decode them."""
+    """How a page's strips or tiles are laid out, and the arguments that decode them."""
 
     def __init__(self, tags, size):
         def first(tag, usual):
@@ -109,8 +109,8 @@ class Page:
 
 
 def decode_page(number, page, file):
-    """The packed rows of a page, and whether all were decoded. Rows that are missing are white; where the file can't hold so many
-    rows as it says, the picture has those that were decoded."""
+    """The packed rows of a page, and whether all were decoded. Missing rows are white; if the file is too short
+    for the rows that it announces, the picture has those that were decoded."""
     width = pictures.row_bytes(page.columns)
     is_whole, end = True, 0
     height = min(page.rows, 8 * sum(min(length, len(file)) for _, _, _, length in page.parts()))  # a row takes at least one bit

@@ -1,10 +1,10 @@
-//! Links with the static library, and with `c/heap.c`, its allocator. `CC`, `CFLAGS` and `AR` of the environment are heeded.
+//! Links with the static library, and with `c/heap.c`, its allocator. The environment's `CC`, `CFLAGS` and `AR` are respected.
 
 use std::env;
 use std::path::Path;
 use std::process::Command;
 
-/// Runs a tool that a variable of the environment names, with its first words there, or else the usual one.
+/// Runs the tool that an environment variable names, with the arguments in the variable first, or else the usual one.
 fn run(variable: &str, usual: &str, words: &[&str]) {
     println!("cargo:rerun-if-env-changed={variable}");
     let named = env::var(variable).unwrap_or_default();

@@ -3,8 +3,8 @@
 //!     cargo run --example strip_to_pbm -- MODE COLUMNS ROWS FLAGS < strip > picture.pbm
 //!
 //! MODE is g4, 1d or 2d. ROWS is the largest number of rows, 0 for no limit. FLAGS is - or letters: b (EOFB or RTC may end
-//! the data), l (EOLs stand between the lines), a (rows are aligned to bytes), s (strict), r (lowest bit first). The status is 0 where the data
-//! is decoded, 1 where it is at fault, after the rows before the fault, and 2 for other words.
+//! the data), l (an EOL precedes each line), a (rows are aligned to bytes), s (strict), r (lowest bit first). The status is 0 if
+//! the data was decoded, 1 after a fault in the data, whose rows before the fault are written, and 2 for wrong arguments.
 
 use hayro_ccitt::{
     DecodeSettings, Decoder, DecoderContext, EncodingMode, decode, decode_low_first,

@@ -1,4 +1,4 @@
-//! Each case of `corpus/cases.tsv`: the rows, the answer and the count of bytes.
+//! Each case of `corpus/cases.tsv`: the rows, the result and the number of bytes consumed.
 
 use hayro_ccitt::{
     DecodeSettings, Decoder, DecoderContext, EncodingMode, decode, decode_low_first,

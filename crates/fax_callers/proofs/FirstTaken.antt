@@ -14,7 +14,7 @@ use Rattle.fax_callers.specs.FirstRows.{Firsts}
 abbrev pub takes : {M : Type 0} → (M → List ℕ → M) → Firsts M → List ℕ → Firsts M
 takes step before row = record { meaning = step before.meaning row; rows = before.rows + 1; most = before.most }
 
--- the other sink took the rows, and they are counted
+-- the other sink accepted the rows, and they are counted
 pub took : {M : Type 0} (step : M → List ℕ → M) (meaning : M) (n most : ℕ) (rows : List Row)
     → meaning_after (takes step) (record { meaning = meaning; rows = n; most = most }) rows
     ≡ record { meaning = meaning_after step meaning rows; rows = n + length rows; most = most }
@@ -24,7 +24,7 @@ took step meaning n most (row ∷ rows) =
     took step (step meaning (changes row)) (n + 1) most rows
     ∙ ap (λ (k : ℕ). record { meaning = meaning_after step (step meaning (changes row)) rows; rows = k; most = most }) e
 
--- a sink of the first rows that had taken none counts those that were taken, and the other sink took them
+-- a sink of the first rows that had accepted none counts those that were accepted, and the other sink accepted them
 pub record IsFirst {M : Type 0} (step : M → List ℕ → M) (reading : Reading) (before after : SinkState (Firsts M)) (held : Held) : Type 0 where
   pub meaning : after.meaning.meaning ≡ meaning_after step before.meaning.meaning (take after.meaning.rows reading.rows)
   pub rows : after.meaning.rows ≡ held.taken

@@ -1,4 +1,4 @@
--- What decoding one image leaves, in the words of the callers.
+-- What decoding one image leaves, in the terms of the callers.
 use Rattle.std.proofs.Common.{◌≡◌, inl, inr, ℕ, List, refl, Ok, Err, arith}
 use Rattle.std.specs.Prelude.{Result}
 use Rattle.hayro_ccitt.specs.declared.error.DecodeError.{DecodeError}
@@ -14,18 +14,18 @@ use Rattle.hayro_ccitt.specs.PlainReading.{plain}
 use Rattle.hayro_ccitt.specs.Rows.{Row}
 use Rattle.fax_callers.specs.Readings.{TakesFirst}
 
--- what holds whatever the answer is
+-- what is true whatever the result is
 on_all : {P : Type 0} (answer : Result ℕ DecodeError) → P → OnAnswer answer P
 on_all (Ok n) holds = holds
 on_all (Err error) holds = λ fault. holds
 
--- where there is no memory for a context, no row is taken
+-- if the context can't be allocated, no row is accepted
 pub none_taken : {M : Type 0} (settings : DecodeSettings) (bits : Bits) (step : M → List ℕ → M) (meaning : M) (refuses : List ℕ → Type 0)
     → TakesFirst settings bits step meaning meaning refuses (Err OutOfMemory)
 none_taken settings bits step meaning refuses = record { taken = 0; within = omega arith; meaning = refl; memory = λ e. inl refl; refused = λ e. cc }
 
 module _ {M : Type 0} (settings : DecodeSettings) (bits : Bits) (step : M → List ℕ → M) (before after : SinkState M) (held : Held) (ticks : ℕ) (answer : Result ℕ DecodeError) (left : Decodes settings bits step before after held ticks answer) where
-  -- the first rows are taken
+  -- the first rows are accepted
   pub first_taken : TakesFirst settings bits step before.meaning after.meaning after.refuses answer
   first_taken =
       record {

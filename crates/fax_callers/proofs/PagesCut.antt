@@ -1,4 +1,4 @@
--- Pages that are cut one after another.
+-- Pages that are found one after another.
 use Rattle.std.proofs.Common.{◌≡◌, ℕ, ◌+◌, ◌-◌, ◌<◌, ◌≤◌, List, [], ◌∷◌, ◌++◌, length, Ok, refl, sym, ap, subst, ◌∙◌, arith}
 use Rattle.std.specs.Prelude.{Result}
 use Rattle.hayro_ccitt.specs.declared.bit_reader.BitOrder.{BitOrder}
@@ -13,11 +13,11 @@ one_more columns order bytes first [] begin count at some within read =
     rw (at) (omega arith, within, sym read ∙ ap Ok size, refl)
 one_more columns order bytes first (next ∷ ends) begin count at some within read = (at.0, at.1, at.2, one_more columns order bytes next ends begin count at.3 some within read)
 
--- no page begins at a place
+-- no page begins at a position
 abbrev pub NoPage : ℕ → BitOrder → List ℕ → ℕ → Type 0
 NoPage columns order bytes last = (count : ℕ) → 0 < count → last + count ≤ length bytes → page_from columns order bytes last ≡ Ok count → ⊥
 
--- Where closed pages fill the bytes, these are cut, and none is left where no page begins.
+-- If closed pages fill the bytes, these are found, and none is left where no page begins.
 pub same_pages : (columns : ℕ) (order : BitOrder) (bytes : List ℕ) → ReadsClosedPages columns order → (begin last : ℕ) (ends all : List ℕ) → EndAt columns order bytes begin ends last
     → NoPage columns order bytes last → StandAt columns order bytes begin all → (ends ≡ all) × (last ≡ length bytes)
 same_pages columns order bytes law begin last [] [] at none stand = (refl, omega (arith, at, stand))

@@ -8,20 +8,20 @@ use Rattle.std.proofs.lemmas.List.Folds.{sum_by-replicate}
 use Rattle.hayro_ccitt.specs.Rows.{Row, AscendFrom, AreChanges, pixels, pixels_from}
 use Rattle.fax_callers.specs.Counting.{number_of_pixel, black_in_row, black_in, in_64_bits}
 
--- What is counted so far and what is left make the row's number: a run of this colour began at this place, and the changes
--- from an index on are left.
+-- What is counted so far and what is left add up to the row's number: a run of this colour began at this position, and the
+-- changes from an index on are left.
 pub record IsCounted (columns : ℕ) (changes : List ℕ) (index start : ℕ) (is_black : Bool) (black : ℕ) : Type 0 where
   pub sum : black + black_in_row (pixels_from start is_black columns (drop index changes)) ≡ black_in_row (pixels columns changes)
   pub ascend : AscendFrom start columns (drop index changes)
   pub within : start ≤ columns
   pub few : black ≤ start
 
--- places right of one are right of those left of it
+-- positions right of one are right of those left of it
 from_before : (place width : ℕ) (places : List ℕ) → AscendFrom (suc place) width places → AscendFrom place width places
 from_before place width [] ascend = tt
 from_before place width (next ∷ places) ascend = (omega (arith, ascend.0), ascend.1, ascend.2)
 
--- a pixel counts for one at most
+-- a pixel counts one at most
 at_most : (n : ℕ) (color : Bool) → n * number_of_pixel color ≤ n
 at_most n true = omega arith
 at_most n false = omega arith

@@ -1,4 +1,4 @@
--- Rows that a sink of white rows took.
+-- Rows that a sink of white rows accepted.
 use Rattle.std.proofs.Common.{◌≡◌, ℕ, zero, suc, ◌≤◌, Bool, true, false, ◌&&◌, List, [], ◌∷◌, length, take, refl, ◌∙◌, arith}
 use Rattle.hayro_ccitt.specs.Answers.{meaning_after}
 use Rattle.hayro_ccitt.specs.Rows.{Row, changes}
@@ -13,13 +13,13 @@ stays_false : (rows : List Row) → meaning_after keeps_white false rows ≡ fal
 stays_false [] = refl
 stays_false (row ∷ rows) = stays_false rows
 
--- where all rows are white the first one is, and the others are
+-- if all rows are white the first one is, and the others are
 first_white : (places : List ℕ) (rows : List Row) → true ≡ meaning_after keeps_white (true && is_white_row places) rows
     → (places ≡ []) × (true ≡ meaning_after keeps_white true rows)
 first_white [] rows same = (refl, same)
 first_white (place ∷ places) rows same = let never : true ≡ false = same ∙ stays_false rows in cc
 
--- the rows that were taken are white
+-- the accepted rows are white
 pub taken_white : (rows : List Row) (n : ℕ) → n ≤ length rows → true ≡ meaning_after keeps_white true (take n rows) → AreWhite rows n
 taken_white [] n within same k lt = absurd (omega (arith, within, lt))
 taken_white (row ∷ rows) zero within same k lt = absurd (omega (arith, lt))

@@ -2,7 +2,7 @@
 use Rattle.std.specs.Prelude.{◌≡◌, ◌≢◌, ℕ, ◌<◌, Bool, true, false, List, [], ◌∷◌, length, get_or}
 use Rattle.hayro_ccitt.specs.Rows.{Row, changes}
 
--- the first rows, so many of them, are white: none has a change (T.4, 4.2.1.1)
+-- the first n rows are white: none has a change (T.4, 4.2.1.1)
 abbrev pub AreWhite : List Row → ℕ → Type 0
 AreWhite rows n = (k : ℕ) → k < n → changes (get_or rows k []) ≡ []
 

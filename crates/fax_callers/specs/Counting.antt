@@ -16,11 +16,11 @@ black_in_row row = sum_by number_of_pixel row
 abbrev pub black_in : List Row → ℕ
 black_in rows = sum_by black_in_row rows
 
--- a number as far as 64 bits hold it: 2 ^ 64 and more are shown as the number before
+-- a number, saturated at the greatest value of 64 bits
 abbrev pub in_64_bits : ℕ → ℕ
 in_64_bits n = min n 18446744073709551615
 
--- the width of the rows, and the number of their black pixels so far
+-- the width of the rows, and the number of black pixels so far
 pub record Tally : Type 0 where
   pub columns : ℕ
   pub black : ℕ

@@ -1,4 +1,4 @@
--- Group 4 pages, one behind the other.
+-- Group 4 pages, one after another.
 use Rattle.std.specs.Prelude.{◌≡◌, ℕ, ◌-◌, ◌<◌, ◌≤◌, true, false, List, [], ◌∷◌, drop, length, Result, Ok}
 use Rattle.hayro_ccitt.specs.declared.bit_reader.BitOrder.{BitOrder}
 use Rattle.hayro_ccitt.specs.declared.error.DecodeError.{DecodeError}
@@ -9,7 +9,8 @@ use Rattle.hayro_ccitt.specs.Pictures.{IsClosedPicture}
 use Rattle.hayro_ccitt.specs.Rows.{Row}
 use Rattle.fax_callers.specs.Readings.{reading_of}
 
--- pages of Group 4 with so many columns: each is closed by EOFB and has any number of rows, and none is aligned (T.6, 2.4.1.1)
+-- settings of Group 4 pages with this many columns: each page is closed by EOFB and has any number of rows, and no row is
+-- aligned (T.6, 2.4.1.1)
 abbrev pub page_settings : ℕ → DecodeSettings
 page_settings columns = record {
   columns = columns;
@@ -21,23 +22,24 @@ page_settings columns = record {
   strict = true;
 }
 
--- how the reading of a page ends that begins at a place
+-- how the reading of a page that begins at a byte offset ends
 abbrev pub page_from : ℕ → BitOrder → List ℕ → ℕ → Result ℕ DecodeError
 page_from columns order bytes place = (reading_of (page_settings columns) order (drop place bytes)).outcome
 
--- a closed page is read up to its end, from whatever place on (T.6, 2.4.1.1)
+-- a closed page is read up to its end, wherever it begins (T.6, 2.4.1.1)
 abbrev pub ReadsClosedPages : ℕ → BitOrder → Type 0
 ReadsClosedPages columns order = (bytes : List ℕ) (place : ℕ) (rows : List Row) (count : ℕ)
     → IsClosedPicture (page_settings columns) rows count (bits_in order (drop place bytes)) → page_from columns order bytes place ≡ Ok count
 
--- Pages end at these places, one after another: what is read from where one begins ends where the next one begins.
+-- Pages end at these byte offsets, one after another: the reading that begins where one page ends stops where the next one
+-- ends.
 abbrev pub EndAt : ℕ → BitOrder → List ℕ → ℕ → List ℕ → ℕ → Type 0
 EndAt columns order bytes begin [] last = begin ≡ last
 EndAt columns order bytes begin (end ∷ ends) last =
     (begin < end) × (end ≤ length bytes) × (page_from columns order bytes begin ≡ Ok (end - begin)) × EndAt columns order bytes end ends last
 
--- Closed pictures of so many columns stand one behind the other from a place on, end at these places, and fill the bytes
--- (T.6, 2.4.1.1).
+-- Closed pictures of this width follow one another from a byte offset on, end at these, and fill the bytes (T.6,
+-- 2.4.1.1).
 abbrev pub StandAt : ℕ → BitOrder → List ℕ → ℕ → List ℕ → Type 0
 StandAt columns order bytes begin [] = begin ≡ length bytes
 StandAt columns order bytes begin (end ∷ ends) =

@@ -13,14 +13,14 @@ use Rattle.hayro_ccitt.specs.Rows.{changes}
 abbrev pub reading_of : DecodeSettings → BitOrder → List ℕ → Reading
 reading_of settings order bytes = plain settings (bits_in order bytes)
 
--- Where a call answers without an error the reading ends without one, and where it answers a fault of the data the reading ends
--- with that fault. Want of memory and a refused row say nothing of the reading.
+-- A call that returns without an error means a reading that ends without one, and a call that returns a fault of the data means
+-- a reading that ends with that fault. An allocation failure and a refused row say nothing about the reading.
 abbrev pub EndsAs : {T : Type 0} → Result T DecodeError → Result ℕ DecodeError → Type 0
 EndsAs (Ok x) outcome = IsOk outcome
 EndsAs (Err error) outcome = IsFault error → outcome ≡ Err error
 
--- Which rows a sink took: the first of the reading. Where an allocation failed, it was for the context, or in a line that paints
--- a black pixel; where a row was refused, it is the next one, and the sink refuses it.
+-- Which rows a sink accepted: the first rows of the reading. An allocation failed either for the context or in a line that
+-- paints a black pixel; a refused row is the next row, and the sink refuses it.
 pub record TakesFirst {M : Type 0} (settings : DecodeSettings) (bits : Bits) (step : M → List ℕ → M) (before after : M) (refuses : List ℕ → Type 0) (answer : Result ℕ DecodeError) : Type 0 where
   pub taken : ℕ
   pub within : taken ≤ length (plain settings bits).rows

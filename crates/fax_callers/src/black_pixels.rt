@@ -15,7 +15,7 @@ use hayro_ccitt::{DecodeError, DecodeSettings, Decoder, Result};
 use std::alloc::Global;
 use std::marker::Model;
 
-/// A sink that counts black pixels and keeps nothing else. A number of 2^64 and more is shown as 2^64 - 1. It refuses no row.
+/// A sink that counts black pixels and keeps nothing else. The count saturates at 2^64 - 1. It refuses no row.
 #[derive(Drop)]
 pub struct BlackPixels {
     columns: u32,
@@ -31,14 +31,14 @@ impl Model for BlackPixels {
 }
 
 impl BlackPixels {
-    /// A sink for rows of so many columns: nothing is counted yet.
+    /// Creates a sink for rows of `columns` pixels. Nothing is counted yet.
     pub fn new(columns: u32) -> BlackPixels
         ensures { result ≡ record { columns = columns; black = 0 } }
     {
         BlackPixels { columns, black: 0 }
     }
 
-    /// The number of the black pixels of the rows that were taken.
+    /// Returns the number of black pixels of the rows so far.
     pub fn black(&self) -> u64
         ensures { result ≡ self.now.black }
     {
@@ -69,7 +69,7 @@ impl Decoder for BlackPixels {
     }
 }
 
-/// The number of the black pixels of a row: those between an even change and the next one, or the row's end.
+/// Returns the number of black pixels of a row: those between an even change and the next one, or the row's end.
 fn black_in_row(columns: u32, changes: &[u32]) -> u64
     requires { AreChanges columns changes.now }
     ensures { result ≡ black_in_row (pixels columns changes.now) }
@@ -90,12 +90,16 @@ fn black_in_row(columns: u32, changes: &[u32]) -> u64
     u64::from(black)
 }
 
-/// The number of the black pixels of an image, 2^64 and more shown as 2^64 - 1.
+/// Returns the number of black pixels of an image, saturated at 2^64 - 1.
 ///
-/// The errors are those of the decoder: `UnexpectedEof`, `InvalidCode` and `Overflow` where the data is at fault, and
-/// `OutOfMemory` where there is no memory to decode.
+/// # Errors
 ///
-/// In Group 4 with 8 columns the bytes 31 C0 04 00 40 are a row whose pixels 3 and 4 are black, and EOFB: the answer is 2.
+/// `UnexpectedEof`, `InvalidCode` and `Overflow` if the data is invalid, and `OutOfMemory` if an allocation fails.
+///
+/// # Example
+///
+/// In Group 4 with 8 columns the bytes 31 C0 04 00 40 are a row whose pixels 3 and 4 are black, and EOFB: the result is
+/// `Ok(2)`.
 pub fn count_black(
     alloc: Global,
     settings: DecodeSettings,

@@ -11,7 +11,7 @@ use hayro_ccitt::bit_reader::BitOrder;
 use hayro_ccitt::{DecodeError, DecodeSettings, Decoder, Result};
 use std::alloc::Global;
 
-/// A sink that takes white rows and refuses the first one with a black pixel, so that decoding ends there.
+/// A sink that accepts white rows and refuses the first one with a black pixel, so that decoding ends there.
 #[derive(Drop)]
 struct WhiteRows {
     columns: u32,
@@ -47,7 +47,7 @@ impl Decoder for WhiteRows {
 ///
 /// # Errors
 ///
-/// Those of [`decode_once`], where they come before a black pixel; never `Refused`.
+/// Those of [`decode_once`], if they occur before a black pixel; never `Refused`.
 ///
 /// # Example
 ///

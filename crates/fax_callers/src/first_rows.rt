@@ -10,15 +10,15 @@ ghost use Rattle.fax_callers.specs.Readings.{reading_of, EndsAs};
 use hayro_ccitt::bit_reader::BitOrder;
 use hayro_ccitt::{DecodeError, Decoder, DecoderContext, Result, decode_in};
 
-/// A sink that hands the first rows on to another one, so many of them at most, and refuses the next, so that decoding ends
+/// A sink that passes the first rows on to another one, up to a number of rows, and refuses the next, so that decoding ends
 /// there.
 #[derive(Drop)]
 pub struct FirstRows<D> {
-    /// The sink that takes the rows.
+    /// The sink that the rows are passed to.
     pub sink: D,
-    /// How many rows it took.
+    /// How many rows were passed on.
     pub rows: u64,
-    /// How many it takes at most.
+    /// The most rows that are passed on.
     pub most: u64,
     has_refused: bool,
     ghost within: { rows ≤ most },
@@ -26,7 +26,7 @@ pub struct FirstRows<D> {
 }
 
 impl<D> FirstRows<D> {
-    /// The first rows, so many at most, go to this sink.
+    /// Creates a sink that passes the first `most` rows on to `sink`.
     pub fn new(sink: D, most: u64) -> FirstRows<D>
         ensures sink { result.sink ≡ sink }
         ensures rows { result.rows ≡ 0 }
@@ -69,7 +69,7 @@ impl<D: Decoder> Decoder for FirstRows<D> {
     }
 }
 
-/// Decodes into a sink of first rows that has taken none, up to the row that it refuses.
+/// Decodes into a sink of first rows that has received none, up to the row that it refuses.
 fn take_first<D: Decoder>(
     order: BitOrder,
     data: &[u8],
@@ -96,14 +96,18 @@ fn take_first<D: Decoder>(
     decode_in(order, data, first, ctx)
 }
 
-/// Decodes the first rows of an image, as for a thumbnail, and answers whether there are as many as are wanted. At most one row
-/// more is read; what stands behind the rows that are wanted doesn't matter, a fault neither.
+/// Decodes the first rows of an image, as for a thumbnail, and returns whether it has as many as asked for. At most one further
+/// row is read; what follows the rows asked for doesn't matter, not even a fault.
 ///
-/// The errors are those of [`decode`], where they come before so many rows are taken; `Refused` comes only from the sink that
-/// takes them.
+/// # Errors
 ///
-/// In Group 4 with 8 columns the bytes 31 F8 00 80 08 are two rows whose pixels 3 and 4 are black, and EOFB: where one row is
-/// wanted it is taken and the answer is true; where three are, both are taken and the answer is false.
+/// Those of [`decode`], if they occur before that many rows are decoded; `Refused` comes only from the sink that the
+/// rows are passed to.
+///
+/// # Example
+///
+/// In Group 4 with 8 columns the bytes 31 F8 00 80 08 are two rows whose pixels 3 and 4 are black, and EOFB: if one row is
+/// asked for, it is decoded and the result is `Ok(true)`; if three are, both are decoded and the result is `Ok(false)`.
 pub fn decode_first_rows<D: Decoder>(
     order: BitOrder,
     data: &[u8],

@@ -1,7 +1,8 @@
 //! Small callers of the decoder, each with a contract of its own that follows from the decoder's: they count black pixels,
-//! keep the first rows, make a bitmap of a strip, and cut pages that stand one behind the other.
+//! keep the first rows, make a bitmap of a strip, and find where consecutive pages end.
 //!
-//! Each takes data of at most `(usize::MAX - 64) / 8` bytes, as [`hayro_ccitt::decode`] does; [`hayro_ccitt::bits_fit`] tests it.
+//! Each accepts data of at most `(usize::MAX - 64) / 8` bytes, as [`hayro_ccitt::decode`] does; [`hayro_ccitt::bits_fit`] tests
+//! it.
 #![tactic(auto)]
 
 mod black_pixels;

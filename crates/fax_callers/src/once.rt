@@ -11,17 +11,17 @@ use hayro_ccitt::bit_reader::BitOrder;
 use hayro_ccitt::{DecodeError, DecodeSettings, Decoder, DecoderContext, Result, decode_in};
 use std::alloc::Global;
 
-/// Decodes one image whose bytes hold their bits in this order, and returns the number of bytes consumed. It makes a context and
-/// drops it, so for more than one image [`decode_in`] serves better.
+/// Decodes one image whose bytes have their bits in this order, and returns the number of bytes consumed. It creates a context
+/// and drops it; for more than one image, [`decode_in`] with one context avoids that.
 ///
 /// # Errors
 ///
-/// Those of [`decode_in`]. `OutOfMemory` is also returned where the context can't be allocated; the sink has taken no row then.
+/// Those of [`decode_in`]. `OutOfMemory` is also returned if the context can't be allocated; the sink has received no row then.
 ///
 /// # Example
 ///
-/// In Group 4 with 8 columns the bytes 31 C0 04 00 40 are a row whose pixels 3 and 4 are black, and EOFB: the sink takes the row
-/// with the changes 3 and 5, and the result is `Ok(5)`.
+/// In Group 4 with 8 columns the bytes 31 C0 04 00 40 are a row whose pixels 3 and 4 are black, and EOFB: the sink receives the
+/// row with the changes 3 and 5, and the result is `Ok(5)`.
 pub fn decode_once<D: Decoder>(
     alloc: Global,
     settings: DecodeSettings,
@@ -33,7 +33,7 @@ pub fn decode_once<D: Decoder>(
     requires width { settings.columns ≤ D.width sink.old }
     ensures width { D.width sink.new ≡ D.width sink.old }
 
-    // The first rows of the plain reading are taken, and all of them unless an allocation fails or a row is refused.
+    // The first rows of the plain reading are accepted, and all of them unless an allocation fails or a row is refused.
     ensures front { TakesFirst settings (bits_in order «data».now) (D.step (D.width sink.old)) (D.meaning sink.old)
         (D.meaning sink.new) (D.refuses sink.new) result }
     ensures rows { OnAnswer result (D.meaning sink.new
@@ -45,7 +45,7 @@ pub fn decode_once<D: Decoder>(
     ensures refused { result ≡ Err DecodeError.Refused → D.has_refused sink.new ≡ true }
     ensures not_refused { result ≢ Err DecodeError.Refused → D.has_refused sink.new ≡ D.has_refused sink.old }
 
-    // A closed picture is read as its rows, and the result is the count of its bytes, whatever follows it.
+    // A closed picture is read as its rows, and the result is its number of bytes, whatever follows it.
     ensures closed { (rows : List Row) (count : ℕ) → IsClosedPicture settings rows count (bits_in order «data».now)
         → OnAnswer result (result ≡ Ok count) }
     ensures picture { (rows : List Row) (count : ℕ) → IsClosedPicture settings rows count (bits_in order «data».now)

@@ -1,4 +1,4 @@
-//! Pages of Group 4 that stand one behind the other.
+//! Pages of Group 4, one after another.
 
 ghost use Rattle.std.specs.Prelude.{◌≡◌, ◌≢◌, ◌≤◌, ◌+◌, ◌⊎◌, ℕ, List, IfOk, IfErr, IsOk, length};
 ghost use Rattle.hayro_ccitt.specs.Answers.{OnAnswer, IsFault};
@@ -14,7 +14,7 @@ use hayro_ccitt::{
 };
 use std::alloc::Global;
 
-/// A sink that lets each row go.
+/// A sink that ignores each row.
 #[derive(Drop)]
 struct NoRows;
 
@@ -36,7 +36,7 @@ impl Decoder for NoRows {
     }
 }
 
-/// The settings for pages of Group 4 with so many columns, each closed by EOFB: no limit of rows, no alignment, strict.
+/// The settings for pages of Group 4 with this width, each closed by EOFB: no row limit, no alignment, strict.
 pub fn group4_pages(columns: u32) -> DecodeSettings
     ensures { result ≡ page_settings columns }
 {
@@ -51,7 +51,7 @@ pub fn group4_pages(columns: u32) -> DecodeSettings
     }
 }
 
-/// How many bytes the page takes that begins at a place. Its rows are let go.
+/// Returns how many bytes the page that begins at a byte offset occupies. Its rows are ignored.
 fn skip_page(order: BitOrder, data: &[u8], begin: usize, ctx: &mut DecoderContext) -> Result<usize>
     requires fit { BitsFit «data».now }
     requires begin { begin ≤ length «data».now }
@@ -61,7 +61,7 @@ fn skip_page(order: BitOrder, data: &[u8], begin: usize, ctx: &mut DecoderContex
     ensures within { IfOk result (λ n. begin + n ≤ length «data».now) }
     ensures never_refused { result ≢ Err DecodeError.Refused }
 {
-    // A number's range is known once it is read.
+    // The range of a number is known once it is read.
     let _settings = ctx.settings();
     decode_in(order, &data[begin..], &mut NoRows, ctx)
 }
@@ -74,14 +74,17 @@ fn closed_pages(columns: u32, order: BitOrder)
     bits_of_bytes();
 }
 
-/// Where the page ends that stands at the front of the data: the number of its bytes, the last one filled up. The next page
+/// Returns where the page at the start of the data ends: the number of its bytes, the last one filled up. The next page
 /// begins there.
 ///
-/// The errors are those of the decoder: `UnexpectedEof`, `InvalidCode` and `Overflow` where the data is at fault, and
-/// `OutOfMemory` where there is no memory to decode.
+/// # Errors
 ///
-/// With 8 columns the bytes 31 C0 04 00 40 are a row whose pixels 3 and 4 are black, and EOFB: the answer is 5, whatever stands
-/// behind them.
+/// `UnexpectedEof`, `InvalidCode` and `Overflow` if the data is invalid, and `OutOfMemory` if an allocation fails.
+///
+/// # Example
+///
+/// With 8 columns the bytes 31 C0 04 00 40 are a row whose pixels 3 and 4 are black, and EOFB: the result is `Ok(5)`, whatever
+/// follows them.
 pub fn page_end(alloc: Global, columns: u32, order: BitOrder, data: &[u8]) -> Result<usize>
     requires fit { BitsFit «data».now }
     ensures page { OnAnswer result (result ≡ page_from columns order «data».now 0) }
@@ -97,12 +100,16 @@ pub fn page_end(alloc: Global, columns: u32, order: BitOrder, data: &[u8]) -> Re
     skip_page(order, data, 0, &mut ctx)
 }
 
-/// Where the pages end that stand one behind the other in the data, from its front on: each begins where the one before ends.
-/// The walk is over where nothing is left, or where no byte of what is left is read, as with no columns.
+/// Returns where the consecutive pages of the data end, from its start on: each begins where the one before ends. It stops
+/// when no data is left, or when no byte of the rest is read, as with no columns.
 ///
-/// The errors are those of [`page_end`], for the first page that has one.
+/// # Errors
 ///
-/// With 8 columns the bytes 31 C0 04 00 40 31 C0 04 00 40 are two pages: the answer is 5 and 10.
+/// Those of [`page_end`], for the first page that has one.
+///
+/// # Example
+///
+/// With 8 columns the bytes 31 C0 04 00 40 31 C0 04 00 40 are two pages: the result is 5 and 10.
 pub fn page_ends(alloc: Global, columns: u32, order: BitOrder, data: &[u8]) -> Result<Vec<usize>>
     requires fit { BitsFit «data».now }
     ensures pages { IfOk result (λ ends. (last : ℕ) × EndAt columns order «data».now 0 ends.items last
@@ -111,7 +118,7 @@ pub fn page_ends(alloc: Global, columns: u32, order: BitOrder, data: &[u8]) -> R
         × (page_from columns order «data».now begin ≡ Err e)) }
     ensures never_refused { result ≢ Err DecodeError.Refused }
 
-    // Where the data are closed pages and nothing else, these are cut.
+    // If the data are closed pages and nothing else, these are found.
     ensures closed { (ends : List ℕ) → StandAt columns order «data».now 0 ends
         → OnAnswer result (IsOk result × IfOk result (λ found. found.items ≡ ends)) }
 {

@@ -15,11 +15,15 @@ use hayro_ccitt::bit_reader::BitOrder;
 use hayro_ccitt::{DecodeError, DecodeSettings, Result};
 use std::alloc::Global;
 
-/// The bitmap of a strip, as of a TIFF file: one bit a pixel, 1 for black, the leftmost pixel in each byte's highest bit, and
-/// zeros after each row up to a whole byte.
+/// Returns the bitmap of a strip, as of a TIFF file: one bit a pixel, 1 for black, the leftmost pixel in each byte's highest
+/// bit, and zeros after each row up to a whole byte.
 ///
-/// The errors are those of the decoder: `UnexpectedEof`, `InvalidCode` and `Overflow` where the data is at fault,
-/// `OutOfMemory` where there is no memory to decode, and `Refused` where there is none for a row of the bitmap.
+/// # Errors
+///
+/// `UnexpectedEof`, `InvalidCode` and `Overflow` if the data is invalid, `OutOfMemory` if an allocation of the decoder
+/// fails, and `Refused` if the allocation for a row of the bitmap fails.
+///
+/// # Example
 ///
 /// In Group 4 with 8 columns the bytes 31 C0 04 00 40 are a row whose pixels 3 and 4 are black, and EOFB: the bitmap is the
 /// one byte 18.

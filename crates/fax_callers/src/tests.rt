@@ -1,5 +1,5 @@
-//! What no clause says: that memory is there, and that the answers are those of the standards. The bytes were worked out from
-//! T.6 by hand.
+//! What no clause says: that allocations succeed, and that the results are those of the standards. The bytes were worked out
+//! from T.6 by hand.
 //!
 //! With 8 columns a row whose pixels 3 and 4 are black is, below a white one, horizontal mode, a white run of 3, a black run of 2
 //! and V0: 001 1000 11 1. Below a row like itself it is three times V0: 111. EOFB is 000000000001 twice.
@@ -23,13 +23,13 @@ const ONE_ROW: [u8; 5] = [0x31, 0xC0, 0x04, 0x00, 0x40];
 /// Two rows with the changes 3 and 5, and EOFB.
 const TWO_ROWS: [u8; 5] = [0x31, 0xF8, 0x00, 0x80, 0x08];
 
-/// The page of one row, and behind it that of two.
+/// The page of one row, and after it that of two.
 const TWO_PAGES: [u8; 10] = [0x31, 0xC0, 0x04, 0x00, 0x40, 0x31, 0xF8, 0x00, 0x80, 0x08];
 
-/// One row with the changes 3 and 5, and behind it the front of another: 001 100.
+/// One row with the changes 3 and 5, and after it the start of another: 001 100.
 const CUT_ROW: [u8; 2] = [0x31, 0xCC];
 
-/// Takes the first rows of 8 columns into a bitmap, and compares the answer, their number and the bitmap.
+/// Decodes the first rows of 8 columns into a bitmap, and compares the result, their number and the bitmap.
 fn takes_first(
     rt: &(impl Abort + AllocGlobal),
     data: &[u8],
@@ -117,7 +117,7 @@ fn blank_images(rt: HostRuntime) {
     assert_eq!(&rt; blank(&ONE_ROW, HighestFirst), Ok(false));
     // A white row, and one whose pixels 3 and 4 are black: what follows it doesn't matter.
     assert_eq!(&rt; blank(&[0x98, 0xE0], HighestFirst), Ok(false));
-    // A white row, and no word.
+    // A white row, and no code word.
     assert_eq!(&rt; blank(&[0x80, 0x00], HighestFirst), Err(InvalidCode));
 }
 
@@ -186,7 +186,7 @@ fn pages(rt: HostRuntime) -> std::result::Result<(), Fail> {
     Ok(())
 }
 
-/// So many copies of a piece between a front and an end.
+/// Returns `times` copies of a piece between a start and an end.
 fn repeated(
     alloc: Global,
     front: &[u8],
@@ -216,7 +216,7 @@ fn many_pages(rt: HostRuntime) -> std::result::Result<(), Fail> {
     Ok(())
 }
 
-/// A row with the changes 3 and 5 and two copies of it take two bytes, eight more copies three, each three times V0.
+/// A row with the changes 3 and 5 and two copies of it occupy two bytes, eight more copies three, each three times V0.
 #[test]
 fn long_strips(rt: HostRuntime) -> std::result::Result<(), Fail> {
     let alloc = rt.alloc();

@@ -77,7 +77,7 @@ chosen_lines_encode encoding columns k rows is = (
   λ fills at. eols_close encoding fills at 6,
 )
 
--- the shorter one of two lines, behind its tag, is no longer than the second
+-- the shorter of two lines, after its tag, is no longer than the second
 shorter_one : (one two : Bits) → length (cond (leb (length one) (length two)) (false ∷ one) (true ∷ two)) ≤ suc (length two)
 shorter_one one two = by (leb (length one) (length two)) refl
   where
@@ -223,7 +223,7 @@ chosen_is_read settings columns rows bytes small few some is e =
     settings.eols_end_at_bytes settings.rows_are_byte_aligned settings.end_of_block some
     (record { columns_are = refl; encoding_is = refl; eols_are = refl; aligned_is = refl; block_is = refl; limit_is = refl }) e
 
--- ---- the encoders that there are
+-- ---- the existing encoders
 same_lines_2d : (k left : ℕ) (aligned : Bool) (reference : Row) (rows : List Row) → chosen_lines Group4 k aligned left reference rows ≡ chosen_lines_2d aligned reference rows
 same_lines_2d k left aligned reference [] = refl
 same_lines_2d k left aligned reference (row ∷ rows) =

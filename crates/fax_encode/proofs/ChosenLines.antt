@@ -61,7 +61,7 @@ line_1d_encodes row some = subst (λ (r : Row). EncodesLine1D White r (chosen_li
     (runs_encode White 0 (length row) (changes row) some (AreChanges-changes row))
 
 -- ---- Two-dimensional lines.
--- a vertical mode of at most three places has a word, and names a1
+-- a vertical mode of at most three positions has a word, and names a1
 record IsVertical (start to : ℕ) : Type 0 where
   k : ℤ
   mode : vertical_mode start to ≡ Vertical k
@@ -109,7 +109,7 @@ module _ (reference row : Row) (same : length reference ≡ length row) where
   ahead : Place → ℕ
   ahead at = suc (length row) - at.from
 
-  -- what a mode's choice comes to at a place in the row
+  -- what a mode's choice yields at a position in the row
   pub data Chooses (at : Place) : Mode → Type 0 where
     pass : b2 reference at.from at.color < a1 row at.from → at.from < b2 reference at.from at.color → Chooses at Pass
     vertical : (k : ℤ) → Has mode_codes (Vertical k) (word_of_mode (Vertical k)) → pos (a1 row at.from) ≡ pos (b1 reference at.from at.color) +ℤ k
@@ -131,7 +131,7 @@ module _ (reference row : Row) (same : length reference ≡ length row) where
           subst (λ (m : Mode). Chooses at m) (sym v.mode) (Chooses.vertical v.k v.word v.names)
       by false is false near-is = Chooses.horizontal
 
-  -- a mode goes on to the right
+  -- a mode makes progress to the right
   pub goes_right : (at : Place) (mode : Mode) → at.from ≤ length row → Chooses at mode → (at.from < (place_after reference row at mode).from) × ((place_after reference row at mode).from ≤ suc (length row))
   goes_right at mode inside (Chooses.pass left right) = let within = (a1_next row at.from).within in (omega arith, omega arith)
   goes_right at mode inside (Chooses.vertical k word names) =
@@ -167,7 +167,7 @@ module _ (reference row : Row) (same : length reference ≡ length row) where
   chosen_over at past = let e : is_coded row at ≡ true = lt-ltb (length row) at.from past in
       gathered_turn (next_place reference row) (bits_at reference row) ahead shrinks at ∙ rw e refl
 
-  -- before it, the bits of one mode stand before those of the modes from the next place on
+  -- before it, the bits of one mode precede those of the modes from the next position on
   pub chosen_more : (at : Place) → at.from ≤ length row
       → chosen_from reference row at ≡ (word_of_mode (chosen_mode reference row at) ++ runs_of_mode row at (chosen_mode reference row at))
       ++ chosen_from reference row (place_after reference row at (chosen_mode reference row at))

@@ -1,4 +1,4 @@
--- The words that are chosen stand in the lists, and spell runs.
+-- The words that are chosen are in the lists, and spell runs.
 use Rattle.std.proofs.Common.{◌≡◌, ℕ, zero, suc, ◌+◌, ◌-◌, ◌*◌, ◌/◌, ◌%◌, ◌<◌, ◌≤◌, Bool, true, false, cond, eqb, ltb, ◌||◌, List, [], ◌∷◌, ◌++◌, replicate, refl, sym, subst, ◌∙◌, arith, ◌⊎◌, inl, inr, append_assoc}
 use Rattle.std.specs.Prelude.{flat_map}
 use Rattle.std.proofs.lemmas.Bool.{agree_below_at, eqb-true, ltb-true, lt-ltb, false≢true, cases_lt}
@@ -61,7 +61,7 @@ rest_by color n false is lt = elim (cases_lt n 64) [
 rest_spelled : (color : Color) (n : ℕ) → n < 2560 → Spells color n (chosen_rest color n)
 rest_spelled color n lt = rest_by color n (ltb n 64) refl lt
 
--- words of 2560 in front of what is spelled
+-- words of 2560 before what is spelled
 more_spelled : (color : Color) (times n : ℕ) (bits : Bits) → Spells color n bits
     → Spells color (2560 * times + n) (flat_map (λ word. word) (replicate times (word_of_length color 2560)) ++ bits)
 more_spelled color zero n bits spells = subst (λ (m : ℕ). Spells color m bits) (let e : n ≡ 2560 * zero + n = omega arith in e) spells

@@ -1,10 +1,10 @@
--- The changing elements as an encoder finds them, by how many changes are left of a0's right.
+-- The changing elements as an encoder finds them, by how many changes are left of the position right of a0.
 use Rattle.std.proofs.Common.{◌≡◌, ℕ, zero, suc, ◌+◌, ◌<◌, ◌≤◌, ltb, ◌&&◌, List, [], ◌∷◌, length, get_or, refl, ap, ◌∙◌, arith}
 use Rattle.hayro_ccitt.specs.Rows.{AreChanges, AscendFrom, pixels, is_change, least_below, a1, a2}
 use Rattle.hayro_ccitt.proofs.PixelRows.ReferencePlaces.{IsSplit, a1_is, next_change}
 use Rattle.fax_encode.specs.Coding.{AreLeft, AreAllLeft}
 
--- the changes that are left, and no other
+-- the changes that are left, and no others
 pub split_of : (changes : List ℕ) (from left : ℕ) → AreAllLeft changes from left → IsSplit changes from left
 split_of changes from left are = record { within = are.left.within; before = are.left.left; here = are.right }
 
@@ -36,13 +36,13 @@ next_is_right first width (p ∷ q ∷ places) zero j is ascend =
 next_is_right first width (p ∷ places) (suc i) zero is ascend = absurd (omega arith)
 next_is_right first width (p ∷ places) (suc i) (suc j) is ascend = next_is_right (suc p) width places i j (omega arith) ascend.2
 
--- before the list's end it is all the same what stands behind it
+-- before the list's end it doesn't matter what follows it
 pub same_change : (places : List ℕ) (i a b : ℕ) → i < length places → get_or places i a ≡ get_or places i b
 same_change [] i a b lt = absurd (omega arith)
 same_change (p ∷ places) zero a b lt = refl
 same_change (p ∷ places) (suc i) a b lt = same_change places i a b (omega arith)
 
--- right of a change the changes up to it are left, and no other
+-- right of a change the changes up to it are left, and no others
 pub left_of_next : (first width : ℕ) (places : List ℕ) (i j place : ℕ) → j ≡ i + 1 → AscendFrom first width places → place ≡ get_or places i width → place < width
     → AreAllLeft places (place + 1) j
 left_of_next first width [] i j place is ascend here lt = absurd (omega arith)

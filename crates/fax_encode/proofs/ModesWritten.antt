@@ -76,7 +76,7 @@ first_run row from inside = omega (arith, (a1_next row from).above inside)
 pub second_run : (row : Row) (from : ℕ) → a1 row from ≤ a2 row from
 second_run row from = a2_least row from
 
--- near by other names of the same places
+-- near by other names of the same positions
 pub near_same : (b x a y : ℕ) (t : Bool) → b ≡ x → a ≡ y → is_near b a ≡ t → is_near x y ≡ t
 near_same b x a y t e f near = cc
 
@@ -117,7 +117,7 @@ module _ (columns : ℕ) (reference changes : List ℕ) (lawful : AreChanges col
       sym (append-nil now)
       ∙ ap (λ (b : Bits). now ++ b) (sym (chosen_over (pixels columns reference) (pixels columns changes) one_width at (omega (arith, length-pixels columns changes are)))) ∙ e
 
--- zeros up to a whole byte are as many behind whole bytes
+-- zeros up to a whole byte are the same number after whole bytes
 same_padding : (aligned : Bool) (before line : Bits) → (aligned ≡ true → length before % 8 ≡ 0)
     → cond aligned (padding (length (before ++ line))) [] ≡ cond aligned (padding (length line)) []
 same_padding false before line whole = refl
@@ -140,7 +140,7 @@ pub lines_first : (aligned : Bool) (reference row : Row) (rows : List Row) → c
     ≡ (chosen_line_2d reference row ++ cond aligned (padding (length (chosen_line_2d reference row))) []) ++ chosen_lines_2d aligned row rows
 lines_first aligned reference row rows = refl
 
--- and stands before the lines that are left
+-- and precedes the lines that are left
 pub line_next : {X : Type 0} (columns : ℕ) (aligned : Bool) (reference : Row) (list_of : X → List ℕ) (items : List X) (i : ℕ) (item : X) → i < length items
     → item ≡ get_or items i item
     → chosen_lines_2d aligned reference (rows_of columns (drop i (map list_of items)))

@@ -12,12 +12,12 @@ use Rattle.fax_encode.specs.Laws.{RowsArePacked}
 use Rattle.fax_encode.proofs.RoundTrip.{widths_of}
 use Rattle.fax_encode.specs.Refusals.{AreRows}
 
--- rows are packed one behind the other
+-- rows are packed one after the other
 packs_all : (bits : Bits) (rows : List Row) → fold (λ before row. before ++ filled_up row) bits rows ≡ bits ++ packed rows
 packs_all bits [] = sym (append-nil bits)
 packs_all bits (row ∷ rows) = packs_all (bits ++ filled_up row) rows ∙ append_assoc bits (filled_up row) (packed rows)
 
--- and so are those of the changes that a sink takes
+-- and so are those of the changes that a sink accepts
 pub rows_are_packed : RowsArePacked
 rows_are_packed columns bits rows have = over_rows columns (λ before row. before ++ filled_up row) bits rows have ∙ packs_all bits rows
 
@@ -29,7 +29,7 @@ packed_from columns lists empty now are is e =
     e ∙ ap (λ (b : Bitmap). meaning_after (with_packed_row b.columns) (bits_of b.bytes) (rows_of columns lists)) is
     ∙ rows_are_packed columns [] (rows_of columns lists) (widths_of columns lists are)
 
--- The refusals are the same whatever was asked for.
+-- The refusals are the same whatever is asked for.
 pub same_refusals : {A B E : Type 0} (error : E) (refusal : ℕ → E) (Is : ℕ → Type 0) → ((k : ℕ) → ◌≡◌ {A = Result A E} (Err error) (Err (refusal k)) ↔ Is k)
     → (k : ℕ) → ◌≡◌ {A = Result B E} (Err error) (Err (refusal k)) ↔ Is k
 same_refusals error refusal Is refused k = (

@@ -1,4 +1,4 @@
--- A row while it is painted: what is written, and what is left to paint.
+-- A row that is being painted: what is written, and what is left to paint.
 use Rattle.std.proofs.Common.{◌≡◌, ℕ, zero, suc, ◌+◌, ◌-◌, ◌*◌, ◌/◌, ◌%◌, ◌<◌, ◌≤◌, Bool, true, false, not, List, [], ◌++◌, length, get_or, take, drop, replicate, refl, sym, ap, ◌∙◌, arith, append_assoc, take_all, ◌∷◌}
 use Rattle.std.proofs.lemmas.Grind.{flat_map-append}
 use Rattle.std.proofs.lemmas.List.{append-nil, length-append, length-replicate, length-take, length-drop, drop_all, replicate-append-replicate, take-replicate}
@@ -56,7 +56,7 @@ no_word before start color =
     sym (append-nil before) ∙ ap (λ (n : ℕ). before ++ replicate n color) none
 
 -- ---- what is left to paint
--- A row is painted up to a place, behind which the word goes on in its colour; so many changes are done.
+-- A row is painted up to a position, after which the word continues in its colour; this many changes are done.
 pub record IsPainted (columns : ℕ) (changes : List ℕ) (done : ℕ) (brush : Brush) (row : List ℕ) : Type 0 where
   pub place : ℕ
   pub front : Bits
@@ -81,7 +81,7 @@ unpainted columns changes row lawful = record {
   painted = refl;
 }
 
--- the row up to a place right of it is painted in the present colour
+-- the row up to a position right of it is painted in the present colour
 module _ (row row' : List ℕ) (brush at : Brush) (place next : ℕ) (front : Bits) (right : place ≤ next) (stands : StandsAt brush place) (there : StandsAt at next)
     (forward : brush.start ≤ at.start) (long : length front ≡ place)
     (painted : under brush row ≡ front ++ replicate (8 * brush.start + 64 - place) brush.is_black)
@@ -108,7 +108,7 @@ module _ (row row' : List ℕ) (brush at : Brush) (place next : ℕ) (front : Bi
       ∙ sym (replicate-append-replicate (next - place) behind brush.is_black))
       ∙ sym (append_assoc front (replicate (next - place) brush.is_black) (replicate behind brush.is_black))
 
--- the colour turns at the place
+-- the colour turns at the position
 pub turned_there : (row : List ℕ) (at new : Brush) (place : ℕ) (front : Bits) (color : Bool) → StandsAt at place → at.start ≤ length row → length front ≡ place → new.start ≡ at.start
     → under at row ≡ front ++ replicate (8 * at.start + 64 - place) color
     → ((f : Bits) → length f ≡ place - 8 * at.start → low_bits 64 at.word ≡ f ++ replicate (64 - length f) color → low_bits 64 new.word ≡ f ++ replicate (64 - length f) (not color))
@@ -127,7 +127,7 @@ turned_there row at new place front color stands within long same painted turn =
     turned ∙ ap (λ (k : ℕ). f ++ replicate k (not color)) left)
     ∙ ap (λ (k : ℕ). front ++ replicate (8 * k + 64 - place) (not color)) (sym same)
 
--- what turning the colour at a place does to a word
+-- what turning the colour at a position does to a word
 abbrev pub TurnsAt : Brush → Brush → ℕ → Type 0
 TurnsAt at new place =
     (f : Bits) → length f ≡ place - 8 * at.start → low_bits 64 at.word ≡ f ++ replicate (64 - length f) at.is_black
@@ -198,7 +198,7 @@ run_at_hand columns changes done brush one new row lt room is near same turned t
     rw (← two) (change_at_hand columns changes (done + 1) one new row lt room done_first at_second same' turned' turns')
 
 -- ---- the end of a row
--- all changes are done: the row is painted, and goes on in its last colour
+-- all changes are done: the row is painted, and continues in its last colour
 pub all_painted : (columns : ℕ) (changes : List ℕ) (done : ℕ) (brush at : Brush) (row row' : List ℕ) → length changes ≤ done
     → IsPainted columns changes done brush row → StandsAt at columns → brush.start ≤ at.start → at.is_black ≡ brush.is_black
     → under at row' ≡ under brush row ++ replicate (8 * (at.start - brush.start)) brush.is_black

@@ -66,7 +66,7 @@ turned_low (suc k) m n color le e =
     let others = turned_low k m n color (omega arith) rest in
     cc
 
--- from a place on the colour turns
+-- from a position on the colour turns
 pub turned_behind : (front : Bits) (m n total : ℕ) (color : Bool) → total ≡ length front + m → low_bits total n ≡ front ++ replicate m color
     → low_bits total (bit_xor n (2 ^ m - 1)) ≡ front ++ replicate m (not color)
 turned_behind [] m n total color is e =
@@ -80,7 +80,7 @@ turned_behind (b ∷ front) m n (suc total) color is e =
     let others = turned_behind front m n total color (omega arith) rest in
     cc
 
--- the same of bytes and the word behind them
+-- the same of bytes and the word after them
 pub turned_under : (bytes word word' front : Bits) (n : ℕ) (color color' : Bool) → bytes ++ word ≡ front ++ replicate n color → length bytes ≤ length front
     → ((f : Bits) → length f ≡ length front - length bytes → word ≡ f ++ replicate n color → word' ≡ f ++ replicate n color')
     → bytes ++ word' ≡ front ++ replicate n color'

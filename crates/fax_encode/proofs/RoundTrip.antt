@@ -64,7 +64,7 @@ round_trip_t6 settings columns lists bytes wide small are to_end group4 e =
     ∙ ap (λ (n : ℕ). record { rows = rows; outcome = Ok n; has_eols = false }) (whole_bytes bits bytes e)
 
 -- ---- T.4
--- no EOL stands in a few zeros
+-- a few zeros contain no EOL
 pub no_eol : (seen n : ℕ) → after_eol seen (replicate n false) ≡ None
 no_eol seen zero = refl
 no_eol seen (suc n) = no_eol (suc seen) n
@@ -72,7 +72,7 @@ no_eol seen (suc n) = no_eol (suc seen) n
 pub eols_end : (most n : ℕ) → eols most (replicate n false) ≡ (0, replicate n false)
 eols_end most n = eols-none most (replicate n false) (no_eol 0 n)
 
--- the EOLs of RTC, and the zeros behind them
+-- the EOLs of RTC, and the zeros after them
 eols_of_closing : (most n : ℕ) → eols (suc (suc (suc (suc (suc (suc most)))))) (return_to_control ++ replicate n false) ≡ (6, replicate n false)
 eols_of_closing most n = rw (eols_end most n) refl
 
@@ -82,7 +82,7 @@ closing_eols n =
     let turns : length (return_to_control ++ rest) ≡ suc (suc (suc (suc (suc (suc (66 + length rest)))))) = omega (arith, length-append return_to_control rest) in
     ap (λ (m : ℕ). (eols m (return_to_control ++ rest)).1) turns ∙ ap (λ (f : ℕ × Bits). f.1) (eols_of_closing (66 + length rest) n)
 
--- what stands behind the lines
+-- what follows the lines
 abbrev pub behind : List Row → Bits
 behind rows = return_to_control ++ padding (length (chosen_t4 rows))
 

@@ -34,7 +34,7 @@ line_of_list columns list lawful =
     ap (λ (n : ℕ). chosen_runs n White 0 (changes (pixels columns list))) (length-pixels columns list lawful)
     ∙ ap (chosen_runs columns White 0) (changes-pixels columns list lawful)
 
--- a line with its EOL stands before those that are left
+-- a line with its EOL precedes those that are left
 pub line_next : {X : Type 0} (columns : ℕ) (list_of : X → List ℕ) (items : List X) (i : ℕ) (item : X) → i < length items → item ≡ get_or items i item
     → AreChanges columns (list_of item)
     → chosen_lines_1d (rows_of columns (drop i (map list_of items)))

@@ -82,7 +82,7 @@ plain_more count word color bytes behind room is word-is plain before =
     ∙ ap (λ (b : Bits). b ++ bits_of first) before ∙ ap (λ (b : Bits). replicate (64 * count) color ++ b) (here ∙ plain)
     ∙ replicate-append-replicate (64 * count) 64 color ∙ ap (λ (m : ℕ). replicate m color) more
 
--- bytes of one colour behind bytes of that colour
+-- bytes of one colour after bytes of that colour
 pub plain_both : (m n k : ℕ) (color : Bool) (bytes behind : List ℕ) → k ≡ m + n → behind ≡ drop m bytes → bits_of (take m bytes) ≡ replicate (8 * m) color
     → bits_of (take n behind) ≡ replicate (8 * n) color → bits_of (take k bytes) ≡ replicate (8 * k) color
 plain_both m n k color bytes behind sum is front back =
@@ -154,7 +154,7 @@ shown-row columns bytes some within =
 pub shown-none : (columns : ℕ) (bytes : List ℕ) → length bytes < bytes_of_row columns → shown columns bytes ≡ []
 shown-none columns bytes few = ap (λ (n : ℕ). rows_shown columns n bytes) (div-eq_of_lt few)
 
--- the changes of a row of that many pixels stand for it
+-- the changes of a row of that width represent it
 pub pixels_of_row : (columns : ℕ) (row : Row) → length row ≡ columns → pixels columns (changes row) ≡ row
 pixels_of_row columns row long = ap (λ (n : ℕ). pixels n (changes row)) (sym long) ∙ pixels-changes row
 
@@ -195,7 +195,7 @@ rows_below columns width rest below some w le is =
     shown-row columns rest (omega arith) (omega arith) ∙ ap (λ (l : List ℕ). take columns (bits_of rest) ∷ shown columns l) (sym same)
 
 -- ---- packed rows
--- two lists whose fronts are as long
+-- two lists whose prefixes have the same length
 front_same : {A : Type 0} (a b c d : List A) → a ++ b ≡ c ++ d → length a ≡ length c → b ≡ d
 front_same [] b [] d e len = e
 front_same [] b (y ∷ c) d e len = absurd (omega arith)

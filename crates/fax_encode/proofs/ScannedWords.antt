@@ -61,7 +61,7 @@ differ (suc (suc a)) b m n = absurd (omega arith)
 differs_at : (word left k : ℕ) → bit_of (bit_xor word left) k ≡ not (beq (bit_of left k) (bit_of word k))
 differs_at word left k = ap (λ (b : ℕ). eqb b 1) (bit_at_xor word left k) ∙ differ (bit_at word k) (bit_at left k) (bit_at-lt word k) (bit_at-lt left k)
 
--- a word beside the same pixels one place to the right
+-- a word beside the same pixels one position to the right
 differences_of : (n word left : ℕ) → ((k : ℕ) → k < n → bit_of left k ≡ bit_of word (suc k))
     → low_bits (suc n) (bit_xor word left) ≡ differences (bit_of left n) (low_bits (suc n) word)
 differences_of zero word left shifted = ap (λ (b : Bool). b ∷ []) (differs_at word left 0)
@@ -72,7 +72,7 @@ differences_of (suc n) word left shifted =
     = differences_of n word left (λ k lt. shifted k (omega arith)) ∙ ap (λ (b : Bool). differences b (low_bits (suc n) word)) before in
     cc
 
--- the last pixel of the word before stands at the top
+-- the last pixel of the word before is the highest bit
 module _ (before word : ℕ) (small : word < 2 ^ 64) where
   abbrev left : ℕ
   left = before % 2 * 2 ^ 63 + word / 2
@@ -95,7 +95,7 @@ module _ (before word : ℕ) (small : word < 2 ^ 64) where
       ap (λ (n : ℕ). low_bits 64 (bit_xor word n)) shifted ∙ differences_of 63 word left below ∙ ap (λ (b : Bool). differences b (low_bits 64 word)) at_top
 
 -- ---- the ones of a word
--- zeros stand above a number
+-- zeros are above a number
 zeros_above : (z j n : ℕ) → n < 2 ^ j → low_bits (z + j) n ≡ replicate z false ++ low_bits j n
 zeros_above zero j n lt = let e : zero + j ≡ j = omega arith in ap (λ (m : ℕ). low_bits m n) e
 zeros_above (suc z) j n lt =
@@ -123,7 +123,7 @@ take_zeros zero z rest le = refl
 take_zeros (suc count) zero rest le = absurd (omega arith)
 take_zeros (suc count) (suc z) rest le = ap (λ (b : Bits). false ∷ b) (take_zeros count z rest (omega arith))
 
--- the first one is found behind zeros
+-- the first one is found after zeros
 first_one : (first count z : ℕ) (rest : Bits) → z < count
     → ones_from first (take count (replicate z false ++ true ∷ rest)) ≡ (first + z) ∷ ones_from first (take count (replicate (suc z) false ++ rest))
 first_one first zero z rest lt = absurd (omega arith)
@@ -132,7 +132,7 @@ first_one first (suc count) (suc z) rest lt =
     let e : suc first + z ≡ first + suc z = omega arith in
     first_one (suc first) count z rest (omega arith) ∙ ap (λ (n : ℕ). n ∷ ones_from (suc first) (take count (replicate (suc z) false ++ rest))) e
 
--- the highest one of a word, so many places from its top, is taken away
+-- the highest one of a word, at a distance from its top, is removed
 module _ (word ahead count : ℕ) (small : word < 2 ^ 64) (is : ahead ≡ count_leading_zeros 64 word) where
   -- where there is none among the first bits
   pub no_ones : (first : ℕ) → count ≤ ahead → ones_from first (take count (low_bits 64 word)) ≡ []

@@ -8,7 +8,7 @@ use Rattle.hayro_ccitt.specs.Bits.{Bits, bits_of, bits_of_byte, low_bits}
 use Rattle.fax_encode.proofs.PaintedWords.{bits_of_word}
 use Rattle.fax_encode.proofs.WrittenBits.{put_behind, front_fits, low_bits_split}
 
--- 64 bits are full and stored, and the word's other bits wait
+-- 64 bits are full and stored, and the word's other bits are pending
 pub stored : (old new : List ℕ) (waiting room width word full : ℕ) → room ≤ 64 → room ≤ width → width ≤ 64 → word < 2 ^ width
     → full ≡ bit_or (waiting * 2 ^ room % 2 ^ 64) (word / 2 ^ (width - room)) → new ≡ old ++ to_be_bytes w64 full
     → bits_of new ++ low_bits (64 - (64 - (width - room))) word ≡ (bits_of old ++ low_bits (64 - room) waiting) ++ low_bits width word

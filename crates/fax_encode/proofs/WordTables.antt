@@ -1,4 +1,4 @@
--- The tables of code words have the words of each length at their places.
+-- The tables of code words have the word of each length at its position.
 use Rattle.std.proofs.Common.{◌≡◌, ℕ, ◌+◌, ◌*◌, ◌^◌, ◌<◌, ◌≤◌, Bool, true, false, ◌&&◌, leb, ltb, [], ◌∷◌, get_or, refl, sym, subst}
 use mathlib.Core.Bool.{beq}
 use Rattle.std.proofs.lemmas.Bool.{agree_below_at, leb-true, ltb-true, and_parts, false≢true}

@@ -17,7 +17,7 @@ use Rattle.hayro_ccitt.specs.Bits.{Bits, bit_of, bits_of, bits_of_byte, low_bits
 same_bit : (m n j k : ℕ) → bit_at m j ≡ bit_at n k → bit_of m j ≡ bit_of n k
 same_bit m n j k e = ap (λ (b : ℕ). eqb b 1) e
 
--- low bits don't see what stands above them
+-- low bits don't depend on what is above them
 pub low_bits_below : (width a k b : ℕ) → width ≤ k → low_bits width (a * 2 ^ k + b) ≡ low_bits width b
 low_bits_below zero a k b le = refl
 low_bits_below (suc width) a k b le =
@@ -73,14 +73,14 @@ push_byte bytes count left n byte split is =
     ∙ append_assoc (bits_of bytes) (low_bits 8 (n / 2 ^ left)) (low_bits left n)
     ∙ ap (λ (b : Bits). bits_of bytes ++ b) (sym (low_bits_split 8 left n) ∙ ap (λ (m : ℕ). low_bits m n) (sym split))
 
--- ---- words one behind another, in 64 bits
+-- ---- words one after another, in 64 bits
 -- what is shifted out is lost
 shifted_up : (a j k : ℕ) → a * 2 ^ k % 2 ^ (j + k) ≡ a % 2 ^ j * 2 ^ k
 shifted_up a j k =
     mod-pow-add (a * 2 ^ k) j k ∙ ap (λ (m : ℕ). m % 2 ^ j * 2 ^ k + a * 2 ^ k % 2 ^ k) (shl-shr a k)
     ∙ ap (λ (m : ℕ). a % 2 ^ j * 2 ^ k + m) (mul-mod_left a (2 ^ k)) ∙ (let e : a % 2 ^ j * 2 ^ k + 0 ≡ a % 2 ^ j * 2 ^ k = omega arith in e)
 
--- a word is put behind the bits that wait
+-- a word is put after the pending bits
 pub put_behind : (waiting count width word bits : ℕ) → count + width ≤ 64 → word < 2 ^ width → bits ≡ bit_or (waiting * 2 ^ width % 2 ^ 64) word
     → low_bits (count + width) bits ≡ low_bits count waiting ++ low_bits width word
 put_behind waiting count width word bits room fits is =
@@ -100,7 +100,7 @@ zero_bits (suc n) =
     let rest = zero_bits n in
     cc
 
--- a word goes to those that wait, for which there is room
+-- a word is added to the pending bits, for which there is room
 pub put_more : (old : List ℕ) (waiting room width word bits : ℕ) → width < room → room ≤ 64 → word < 2 ^ width → bits ≡ bit_or (waiting * 2 ^ width % 2 ^ 64) word
     → bits_of old ++ low_bits (64 - (room - width)) bits ≡ (bits_of old ++ low_bits (64 - room) waiting) ++ low_bits width word
 put_more old waiting room width word bits lt le fits is =
@@ -109,7 +109,7 @@ put_more old waiting room width word bits lt le fits is =
     ∙ ap (λ (b : Bits). bits_of old ++ b) (put_behind waiting (64 - room) width word bits (omega arith) fits is)
     ∙ sym (append_assoc (bits_of old) (low_bits (64 - room) waiting) (low_bits width word))
 
--- the front of a word fits in what is left of 64 bits
+-- the first bits of a word fit in what is left of 64 bits
 pub front_fits : (room over word : ℕ) → word < 2 ^ (room + over) → word / 2 ^ over < 2 ^ room
 front_fits room over word fits = div_below word (2 ^ over) (2 ^ room) (power_positive over) (omega (arith, fits, pow-add 2 room over))
 
@@ -123,7 +123,7 @@ pub missing : (bytes : List ℕ) (room waiting : ℕ) → room ≤ 64
 missing bytes room waiting le = zero_bits (room % 8) ∙ ap (λ (n : ℕ). replicate n false)
     (let e : room % 8 ≡ (8 - length (bits_of bytes ++ low_bits (64 - room) waiting) % 8) % 8 = omega (arith, length-written bytes (64 - room) waiting) in e)
 
--- whole bytes are taken from the bits that wait and the zeros behind them
+-- whole bytes are taken from the pending bits and the zeros after them
 pub finished : (old new : List ℕ) (waiting room left shifted : ℕ) → room ≤ 64 → shifted ≡ waiting * 2 ^ (room % 8) % 2 ^ 64 → left < 8
     → left % 8 ≡ ((64 - room) + room % 8) % 8 → bits_of new ++ low_bits left shifted ≡ bits_of old ++ low_bits ((64 - room) + room % 8) shifted
     → bits_of new ≡ filled_up (bits_of old ++ low_bits (64 - room) waiting)
@@ -136,7 +136,7 @@ finished old new waiting room left shifted le is few same e =
     ∙ sym (append_assoc (bits_of old) (low_bits (64 - room) waiting) (low_bits (room % 8) 0))
     ∙ ap (λ (b : Bits). (bits_of old ++ low_bits (64 - room) waiting) ++ b) (missing old room waiting le)
 
--- two words one behind another, in 32 bits
+-- two words one after another, in 32 bits
 pub two_words : (a m b n bits : ℕ) → m + n ≤ 32 → a < 2 ^ m → b < 2 ^ n → bits ≡ bit_or (a * 2 ^ n % 2 ^ 32) b → bits ≡ a * 2 ^ n + b
 two_words a m b n bits short a-fits b-fits is = is ∙ ap (λ (k : ℕ). bit_or k b) (shl_whole a m n 32 a-fits short) ∙ or_shifted a n b b-fits
 

@@ -11,7 +11,7 @@ use Rattle.hayro_ccitt.specs.Repetition.{Turn, gathered}
 use Rattle.hayro_ccitt.specs.Rows.{Row, white_row, opposite, changes, pixels, b1, b2, a1, a2}
 use Rattle.hayro_ccitt.specs.Encodings.{padding, eol}
 
--- ---- words
+-- ---- code words
 
 -- the word of the first value of a list that passes a test
 abbrev pub word_of : {V : Type 0} → (V → Bool) → List (Code V) → Bits
@@ -46,7 +46,7 @@ chosen_run color n = flat_map (λ word. word) (replicate (n / 2560) (word_of_len
 
 -- ---- one-dimensional lines
 
--- the runs from a place on, up to each change and up to the width
+-- the runs from a position on, up to each change and up to the width
 abbrev pub chosen_runs : ℕ → Color → ℕ → List ℕ → Bits
 chosen_runs width color place [] = chosen_run color (width - place)
 chosen_runs width color place (change ∷ changes) = chosen_run color (change - place) ++ chosen_runs width (opposite color) change changes
@@ -57,7 +57,7 @@ chosen_line_1d row = chosen_runs (length row) White 0 (changes row)
 
 -- ---- two-dimensional lines
 
--- where the coding of a line stands: the first place right of a0, and the present colour
+-- the state of a line's coding: the first position right of a0, and the present colour
 pub record Place : Type 0 where
   pub from : ℕ
   pub color : Color
@@ -66,7 +66,7 @@ pub record Place : Type 0 where
 abbrev pub vertical_mode : ℕ → ℕ → Mode
 vertical_mode b1 a1 = if nat_le b1 a1 then Vertical (pos (a1 - b1)) else Vertical (negsuc (b1 - a1 - 1))
 
--- a1 is at most three places from b1
+-- a1 is at most three positions from b1
 abbrev pub is_near : ℕ → ℕ → Bool
 is_near b1 a1 = nat_le a1 (b1 + 3) && nat_le b1 (a1 + 3)
 
@@ -77,25 +77,25 @@ chosen_mode reference row at =
     else (if is_near (b1 reference at.from at.color) (a1 row at.from) then vertical_mode (b1 reference at.from at.color) (a1 row at.from)
     else Horizontal)
 
--- the runs behind a mode's word: in horizontal mode from a0 to a1 and from a1 to a2
+-- the runs after a mode's word: in horizontal mode from a0 to a1 and from a1 to a2
 abbrev pub runs_of_mode : Row → Place → Mode → Bits
 runs_of_mode row at Pass = []
 runs_of_mode row at (Vertical k) = []
 runs_of_mode row at Horizontal =
     chosen_run at.color (a1 row at.from - (at.from - 1)) ++ chosen_run (opposite at.color) (a2 row at.from - a1 row at.from)
 
--- the new place: a0 is b2 and the colour is kept after pass; it is a1, and the colour turns, after vertical; and a2 after
--- horizontal (T.4, 4.2.1.3.1)
+-- the new position: a0 is b2 and the colour is kept after pass; it is a1, and the colour turns, after vertical; and a2
+-- after horizontal (T.4, 4.2.1.3.1)
 abbrev pub place_after : Row → Row → Place → Mode → Place
 place_after reference row at Pass = record at { from = suc (b2 reference at.from at.color) }
 place_after reference row at (Vertical k) = record { from = suc (a1 row at.from); color = opposite at.color }
 place_after reference row at Horizontal = record at { from = suc (a2 row at.from) }
 
--- the line is coded where a0 is the row's end
+-- the line is complete once a0 is the row's end
 abbrev pub is_coded : Row → Place → Bool
 is_coded row at = nat_lt (length row) at.from
 
--- one mode further
+-- one mode further on
 abbrev pub next_place : Row → Row → Place → Turn Place (Unit {0})
 next_place reference row at =
     if is_coded row at then Turn.done tt else Turn.next (place_after reference row at (chosen_mode reference row at))
@@ -106,11 +106,11 @@ bits_at reference row at =
     if is_coded row at then []
     else word_of_mode (chosen_mode reference row at) ++ runs_of_mode row at (chosen_mode reference row at)
 
--- the modes from a place to the row's end
+-- the modes from a position to the row's end
 abbrev pub chosen_from : Row → Row → Place → Bits
 chosen_from reference row at = gathered (next_place reference row) (bits_at reference row) (suc (suc (length row) - at.from)) at
 
--- the modes of a row, from the place left of it (T.4, 4.2.1.3)
+-- the modes of a row, from the position left of it (T.4, 4.2.1.3)
 abbrev pub chosen_line_2d : Row → Row → Bits
 chosen_line_2d reference row = chosen_from reference row (record { from = 0; color = White })
 
@@ -140,7 +140,7 @@ chosen_t4 rows = chosen_lines_1d rows ++ return_to_control
 
 -- ---- bytes
 
--- zeros up to a whole byte follow
+-- the bits, filled up with zeros to a whole byte
 abbrev pub filled_up : Bits → Bits
 filled_up bits = bits ++ padding (length bits)
 

@@ -22,7 +22,7 @@ ChosenIsAnEncoding = (columns : ℕ) (rows : List Row) → IsPicture columns row
     → ((aligned : Bool) → PictureT6 columns aligned rows (chosen_t6 columns aligned rows))
     × (0 < length rows → PictureT4 Group3_1D columns rows (chosen_t4 rows))
 
--- settings that look for the end of the block and have no limit of rows
+-- settings that look for the end of the block and have no row limit
 pub record ReadToTheEnd (settings : DecodeSettings) (columns : ℕ) : Type 0 where
   pub columns_are : settings.columns ≡ columns
   pub end_of_block : settings.end_of_block ≡ true
@@ -42,7 +42,7 @@ RoundTripT4 = (settings : DecodeSettings) (columns : ℕ) (lists : List (List �
     → bits_of bytes ≡ filled_up (chosen_t4 (rows_of columns lists))
     → plain settings (bits_of bytes) ≡ record { rows = rows_of columns lists; outcome = Ok (length bytes); has_eols = true }
 
--- Rows of the width that are packed one by one are packed behind what was there.
+-- Rows of the width that are packed one by one are appended to what was packed before.
 abbrev pub RowsArePacked : Type 0
 RowsArePacked = (columns : ℕ) (bits : Bits) (rows : List Row) → HaveWidth columns rows
     → meaning_after (with_packed_row columns) bits rows ≡ bits ++ packed rows
@@ -67,7 +67,7 @@ BitmapRoundTripT4 = (settings : DecodeSettings) (columns : ℕ) (bitmap bytes : 
 
 -- ---- by settings
 
--- lines are chosen that encode the rows, with EOLs and without, and so is the end of a block
+-- the chosen lines encode the rows, with EOLs and without, and the chosen end is the end of a block
 abbrev pub ChosenLinesEncode : Type 0
 ChosenLinesEncode = (encoding : EncodingMode) (columns k : ℕ) (rows : List Row) → IsPicture columns rows
     → ((aligned : Bool) → EncodesRows encoding aligned (white_row columns) rows (chosen_lines encoding k aligned 0 (white_row columns) rows))
@@ -82,8 +82,7 @@ NeverLonger = (left : ℕ) (reference row : Row) → length (chosen_line Group3_
 abbrev pub GivesAll : DecodeSettings → Bits → List Row → ℕ → Type 0
 GivesAll settings whole rows count = ((plain settings whole).rows ≡ rows) × ((plain settings whole).outcome ≡ Ok count)
 
--- What is chosen for a picture, for all settings, is read in its order of bits as its rows by the settings that match: all rows, all bytes.
--- Group 4 with EOFB may have no rows.
+-- What is chosen for a picture, by any settings, is read as its rows by the matching settings.
 abbrev pub ChosenIsRead : Type 0
 ChosenIsRead = (settings : EncodeSettings) (columns : ℕ) (rows : List Row) (bytes : List ℕ)
     → columns < 2 ^ 32 → length rows < 2 ^ 32 → (needs_row settings.encoding settings.end_of_block ≡ true → 0 < length rows) → IsPicture columns rows
@@ -104,7 +103,7 @@ abbrev pub RowsAreChosen : Type 0
 RowsAreChosen = (settings : EncodeSettings) (columns : ℕ) (rows : List Row)
     → with_end settings (with_rows (no_rows settings columns) rows).lines ≡ chosen settings columns rows
 
--- what is chosen for T.6 and for one-dimensional T.4 is what is chosen by settings
+-- what is chosen for T.6 and for one-dimensional T.4 is also what is chosen by settings
 abbrev pub ChosenBySettings : Type 0
 ChosenBySettings = (columns k : ℕ) (rows : List Row)
     → ((aligned : Bool) → chosen (record {
@@ -126,7 +125,7 @@ ChosenBySettings = (columns k : ℕ) (rows : List Row)
       order = HighestFirst;
     }) columns rows ≡ chosen_t4 rows)
 
--- glue: the bytes of what is chosen for rows of eight columns
+-- auxiliary: the bytes of what is chosen for rows of eight columns
 abbrev pub IsWritten : EncodeSettings → List Row → List ℕ → Type 0
 IsWritten settings rows bytes = filled_up (chosen settings 8 rows) ≡ bits_of bytes
 

@@ -8,24 +8,24 @@ use Rattle.fax_encode.specs.Chosen.{filled_up}
 abbrev pub packed : List Row → Bits
 packed rows = flat_map filled_up rows
 
--- packed rows, and behind them the row that turns at these places
+-- packed rows, and after them the row that turns at these positions
 abbrev pub with_packed_row : ℕ → Bits → List ℕ → Bits
 with_packed_row columns bits places = bits ++ filled_up (pixels columns places)
 
--- how many bytes a row takes
+-- how many bytes a row occupies
 abbrev pub bytes_of_row : ℕ → ℕ
 bytes_of_row columns = (columns + 7) / 8
 
--- the first rows that bytes show, so many: of each row its pixels, and not what stands behind them up to a whole byte
+-- the first n rows that bytes show: of each row its pixels, without the bits that fill its last byte
 abbrev pub rows_shown : ℕ → ℕ → List ℕ → List Row
 rows_shown columns zero bytes = []
 rows_shown columns (suc n) bytes = take columns (bits_of bytes) ∷ rows_shown columns n (drop (bytes_of_row columns) bytes)
 
--- the picture that a bitmap shows: as many rows as it has whole ones
+-- the picture that a bitmap shows: all of its whole rows
 abbrev pub shown : ℕ → List ℕ → List Row
 shown columns bitmap = rows_shown columns (length bitmap / bytes_of_row columns) bitmap
 
--- the bytes of the rows that a sink took, the width of its rows, and whether it has refused one
+-- the bytes of the rows that a sink accepted, the width of its rows, and whether it has refused a row
 pub record Bitmap : Type 0 where
   pub bytes : List ℕ
   pub columns : ℕ

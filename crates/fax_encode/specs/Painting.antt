@@ -1,4 +1,4 @@
--- A row while it is painted.
+-- A row that is being painted.
 use Rattle.std.specs.Prelude.{◌≡◌, ◌+◌, ◌*◌, ◌%◌, ◌<◌, ◌≤◌, ℕ, List, ◌++◌, take}
 use Rattle.hayro_ccitt.specs.Bits.{Bits, bits_of, low_bits}
 use Rattle.fax_encode.specs.declared.painting.Brush.{Brush}
@@ -7,7 +7,7 @@ use Rattle.fax_encode.specs.declared.painting.Brush.{Brush}
 abbrev pub under : Brush → List ℕ → Bits
 under brush row = bits_of (take brush.start row) ++ low_bits 64 brush.word
 
--- the word is that of a place
+-- the word is the one at a position
 pub record StandsAt (brush : Brush) (place : ℕ) : Type 0 where
   pub begun : brush.start % 8 ≡ 0
   pub from : 8 * brush.start ≤ place

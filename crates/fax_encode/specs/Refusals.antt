@@ -22,7 +22,8 @@ text_of_refusal NoRows = codes "no rows"
 text_of_refusal (NotARow k) = codes "row " ++ decimal k ++ codes " is not a list of changes"
 text_of_refusal OutOfMemory = codes "out of memory"
 
--- the text of a refusal whatever width and other options it is printed with: nothing is said of the text with a number
+-- the text of a refusal, whatever the width and other options it is printed with; the text of a refusal that has a
+-- number is not specified
 abbrev pub text_with_options : EncodeError → Option (List ℕ)
 text_with_options NoEncoding = Some (text_of_refusal NoEncoding)
 text_with_options NoColumns = Some (text_of_refusal NoColumns)

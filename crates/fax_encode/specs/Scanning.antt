@@ -4,12 +4,12 @@ use mathlib.Core.Bool.{beq}
 use Rattle.hayro_ccitt.specs.Bits.{Bits}
 use Rattle.hayro_ccitt.specs.Rows.{Row}
 
--- of each pixel whether it differs from the one before it, from a pixel before them all on
+-- for each pixel whether it differs from the one before it; the first is compared with a given pixel
 abbrev pub differences : Bool → Row → Bits
 differences before [] = []
 differences before (pixel ∷ row) = not (beq before pixel) ∷ differences pixel row
 
--- the places of the ones, counted from a first place on
+-- the positions of the ones, counted from a first position on
 abbrev pub ones_from : ℕ → Bits → List ℕ
 ones_from first [] = []
 ones_from first (bit ∷ bits) = cond bit (first ∷ ones_from (suc first) bits) (ones_from (suc first) bits)

@@ -17,7 +17,7 @@ pub record Marked : Type 0 where
   pub count : ℕ
   pub rest : Bits
 
--- a number of so many bits, at most 13, is this word
+-- a number whose lowest bits, at most 13, spell this word
 pub record IsWord (word : Bits) (coded : Word) : Type 0 where
   pub few : coded.count ≤ 13
   pub fits : coded.bits < 2 ^ coded.count

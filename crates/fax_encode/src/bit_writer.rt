@@ -8,8 +8,8 @@ ghost use Rattle.fax_encode.specs.Chosen.{filled_up};
 use std::alloc::{AllocError, Global};
 use std::marker::Model;
 
-/// Bytes, and the bits after them, fewer than 64: the lowest of `pending`. There is room for `room` more before eight bytes
-/// are stored; what stands in `pending` above its bits means nothing.
+/// Whole bytes, and the fewer than 64 bits after them: the lowest bits of `pending`. There is room for `room` more before
+/// eight bytes are stored; the bits of `pending` above those are ignored.
 #[derive(Drop)]
 pub struct BitWriter {
     bytes: Vec<u8>,
@@ -49,7 +49,7 @@ impl Model for Mark {
     ghost invariant = { λ m. (m.count % 8 ≡ 0) × (0 < m.room) × (m.room ≤ 64) };
 }
 
-/// The whole bytes among the lowest bits of a number go to the bytes; so many bits are left.
+/// Stores the whole bytes among the lowest bits of a number, and returns how many bits are left.
 fn push_whole_bytes(bytes: &mut Vec<u8>, bits: u64, count: u32) -> Result<u32, AllocError>
     requires { count ≤ 64 }
     ensures written { IfOk result (λ left. bits_of bytes.new.items ++ low_bits left bits
@@ -66,7 +66,7 @@ fn push_whole_bytes(bytes: &mut Vec<u8>, bits: u64, count: u32) -> Result<u32, A
 }
 
 impl BitWriter {
-    /// A writer that has written nothing. It takes no memory.
+    /// Creates a writer that has written nothing. It allocates nothing.
     pub fn new(alloc: Global) -> BitWriter
         ensures { result ≡ record { bytes = []; rest = [] } }
     {
@@ -77,7 +77,7 @@ impl BitWriter {
         }
     }
 
-    /// Writes the lowest bits of a number, so many, the highest first.
+    /// Writes the lowest `count` bits of a number, the highest first.
     #[inline(always)]
     pub fn put(&mut self, word: u32, count: u32) -> Result<(), AllocError>
         requires count { count ≤ 32 }
@@ -92,7 +92,7 @@ impl BitWriter {
         Ok(())
     }
 
-    /// Writes bits that fill up the 64 that are gathered, and stores these.
+    /// Writes bits that complete the 64 that are pending, and stores these.
     #[inline(never)]
     fn put_over(&mut self, word: u32, count: u32) -> Result<(), AllocError>
         requires count { count ≤ 32 }
@@ -150,7 +150,7 @@ impl BitWriter {
         self.room = mark.room;
     }
 
-    /// The bytes of all that was written, with zeros up to a whole byte.
+    /// Returns all that was written, with zeros up to a whole byte.
     pub fn finish(self) -> Result<Vec<u8>, AllocError>
         ensures { IfOk result (λ bytes. bits_of bytes.items ≡ filled_up (all_bits self)) }
     {

@@ -93,7 +93,7 @@ fn picture_1d(alloc: Global, columns: u32, bitmap: &[u8]) -> Result<Vec<u8>, All
     writer.finish()
 }
 
-/// Encodes the rows of a bitmap as Group 4 (T.6), as [`encode_g4`](crate::encode_g4) encodes lists of changes. A row takes
+/// Encodes the rows of a bitmap as Group 4 (T.6), as [`encode_g4`](crate::encode_g4) encodes lists of changes. A row occupies
 /// (columns + 7) / 8 bytes, one bit a pixel, 1 for black, the leftmost pixel in a byte's highest bit. Bits after the last pixel
 /// of a row are ignored, and so are bytes after the last whole row.
 ///

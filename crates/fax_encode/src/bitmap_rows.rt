@@ -18,7 +18,7 @@ fn byte_or_zero(bytes: &[u8], index: usize) -> u8
     bytes.get(index).copied().unwrap_or(0)
 }
 
-/// The first 64 pixels of eight bytes or more, the leftmost in the highest bit.
+/// Returns the first 64 pixels of eight bytes or more, the leftmost in the highest bit.
 #[inline(always)]
 fn whole_word(bytes: &[u8]) -> u64
     requires { 8 ≤ length bytes.now }
@@ -29,7 +29,7 @@ fn whole_word(bytes: &[u8]) -> u64
     ])
 }
 
-/// The pixels of bytes, the first 64, the leftmost in the highest bit, and white ones where there are fewer.
+/// Returns the first 64 pixels of bytes, the leftmost in the highest bit, and white ones if there are fewer.
 fn last_word(bytes: &[u8]) -> u64
     ensures { low_bits 64 result ≡ take 64 (bits_of bytes.now ++ replicate 64 false) }
 {
@@ -40,7 +40,8 @@ fn last_word(bytes: &[u8]) -> u64
     u64::from_be_bytes(first)
 }
 
-/// Returns a one for each pixel that differs from the one left of it; left of the first is the last pixel of the word before.
+/// Returns a one for each pixel that differs from the one left of it; the one left of the first is the last pixel of the word
+/// before.
 #[inline(always)]
 fn turns(before: u64, word: u64) -> u64
     ensures { low_bits 64 result ≡ differences (bit_of before 0) (low_bits 64 word) }
@@ -48,7 +49,7 @@ fn turns(before: u64, word: u64) -> u64
     word ^ (before << 63 | word >> 1)
 }
 
-/// Adds the offsets of the ones among the first bits of a word, counted from a first offset on.
+/// Appends the positions of the ones among the first bits of a word, counted from a first position on.
 #[inline(always)]
 fn push_ones(list: &mut Vec<u32>, first: u32, count: u32, word: u64) -> Result<(), AllocError>
     requires few { count ≤ 64 }
@@ -67,7 +68,7 @@ fn push_ones(list: &mut Vec<u32>, first: u32, count: u32, word: u64) -> Result<(
     Ok(())
 }
 
-/// The first 64 pixels of bytes, the leftmost in the highest bit, and white ones where there are fewer.
+/// Returns the first 64 pixels of bytes, the leftmost in the highest bit, and white ones if there are fewer.
 #[inline(always)]
 fn word_of(bytes: &[u8]) -> u64
     ensures { low_bits 64 result ≡ take 64 (bits_of bytes.now ++ replicate 64 false) }
@@ -79,7 +80,7 @@ fn word_of(bytes: &[u8]) -> u64
     }
 }
 
-/// Whether the first two words of pixels are of this colour alone.
+/// Returns whether the first two words of pixels have this colour only.
 #[inline(always)]
 fn two_are_plain(bytes: &[u8], is_black: bool) -> bool
     requires { 16 ≤ length bytes.now }
@@ -91,7 +92,7 @@ fn two_are_plain(bytes: &[u8], is_black: bool) -> bool
     whole_word(&bytes[8..]) == plain_word(is_black)
 }
 
-/// Whether the first four words of pixels are of this colour alone.
+/// Returns whether the first four words of pixels have this colour only.
 #[inline(always)]
 fn four_are_plain(bytes: &[u8], is_black: bool) -> bool
     requires { 32 ≤ length bytes.now }
@@ -103,7 +104,7 @@ fn four_are_plain(bytes: &[u8], is_black: bool) -> bool
     two_are_plain(&bytes[16..], is_black)
 }
 
-/// Returns how many words of pixels at the start are of this colour alone, up to a most; four at a time, and then one by one.
+/// Returns how many words of pixels at the start have this colour only, up to a maximum; four at a time, and then one by one.
 #[inline(always)]
 fn count_plain(bytes: &[u8], most: usize, is_black: bool) -> usize
     requires { 8 * most ≤ length bytes.now }
@@ -121,7 +122,7 @@ fn count_plain(bytes: &[u8], most: usize, is_black: bool) -> usize
     count
 }
 
-/// Returns how many words of pixels at the start are of this colour alone, up to a most.
+/// Returns how many words of pixels at the start have this colour only, up to a maximum.
 #[inline(always)]
 fn plain_words(bytes: &[u8], most: usize, is_black: bool) -> usize
     requires { 8 * most ≤ length bytes.now }
@@ -135,8 +136,8 @@ fn plain_words(bytes: &[u8], most: usize, is_black: bool) -> usize
     }
 }
 
-/// Makes a list the changes of the first row of a bitmap. Words of one colour are passed at once at the row's start and
-/// behind each word without a change.
+/// Replaces a list by the changes of the first row of a bitmap. Words of one colour are skipped at once at the row's
+/// start and after each word without a change.
 pub fn scan_row(list: &mut Vec<u32>, columns: u32, bitmap: &[u8]) -> Result<(), AllocError>
     requires { bytes_of_row columns ≤ length bitmap.now }
     ensures lawful { OnOk result (AreChanges columns list.new.items) }
@@ -166,9 +167,9 @@ pub fn scan_row(list: &mut Vec<u32>, columns: u32, bitmap: &[u8]) -> Result<(), 
     push_ones(list, start, columns - start, turns(before, word_of(rest)))
 }
 
-/// Returns the rows of a bitmap, as lists of changes. A row takes (columns + 7) / 8 bytes, one bit a pixel, 1 for black, the
-/// leftmost pixel in a byte's highest bit; bits after the last pixel are ignored. Bytes after the last whole row are no row,
-/// and without columns there are no rows.
+/// Returns the rows of a bitmap, as lists of changes. A row occupies (columns + 7) / 8 bytes, one bit a pixel, 1 for black,
+/// the leftmost pixel in a byte's highest bit; bits after the last pixel are ignored. Bytes after the last whole row are
+/// ignored, and without columns there are no rows.
 pub fn rows_of_bitmap(
     alloc: Global,
     columns: u32,

@@ -46,14 +46,14 @@ impl BitmapSink {
         }
     }
 
-    /// Returns the bytes of the rows that were taken.
+    /// Returns the bytes of the rows so far.
     pub fn bytes(&self) -> &[u8]
         ensures { result.now ≡ self.now.bytes }
     {
         self.bytes.as_slice()
     }
 
-    /// Returns the bytes of the rows that were taken, and drops the sink.
+    /// Returns the bytes of the rows so far, and drops the sink.
     pub fn into_bytes(self) -> Vec<u8>
         ensures { result.items ≡ self.bytes }
     {

@@ -1,4 +1,4 @@
-//! Bitmaps: where the changes of a row are, and that encoding it is encoding them.
+//! Bitmaps: the changes of a row are found, and encoding a bitmap is encoding its changes.
 
 use crate::{
     EncodeError, bitmap_by_group3, encode_1d, encode_bitmap_1d, encode_bitmap_g4, encode_g4,
@@ -32,7 +32,7 @@ fn rows(rt: HostRuntime) -> Result<(), Fail> {
         &[0x7F, 0xFF, 0xC0, 0x00, 0x40, 0x10],
         &[&[1, 18], &[9, 10, 19]],
     )?;
-    // What stands behind a row is passed over, and so is a part of one.
+    // The bits after a row are ignored, and so is a part of a row.
     shows(&rt, 3, &[0x5F, 0xBF], &[&[1, 2], &[0, 1, 2]])?;
     shows(&rt, 9, &[0x00, 0x80, 0xFF], &[&[8]])?;
     shows(&rt, 9, &[0xFF], &[])?;

@@ -12,7 +12,7 @@ pub enum EncodeError {
     NoRows,
     /// The row of this index is not strictly ascending and below the number of columns.
     NotARow(usize),
-    /// There was no memory for the encoded bytes.
+    /// An allocation for the encoded bytes failed.
     OutOfMemory,
 }
 

@@ -100,7 +100,7 @@ pub fn put_return_to_control(writer: &mut BitWriter) -> Result<(), AllocError>
     put_eol(writer)
 }
 
-/// The bytes of a picture with its RTC.
+/// Returns the bytes of a picture with its RTC.
 fn picture(alloc: Global, columns: u32, rows: &[Vec<u32>]) -> Result<Vec<u8>, AllocError>
     requires { AreRows columns (map (λ row. row.items) rows.now) }
     ensures { IfOk result (λ bytes. bits_of bytes.items
@@ -115,8 +115,10 @@ fn picture(alloc: Global, columns: u32, rows: &[Vec<u32>]) -> Result<Vec<u8>, Al
 /// Encodes rows, given as lists of changes, as one-dimensional Group 3 (T.4, section 4.1): an EOL before each row, the
 /// runs of the row, and RTC after the last, with zeros up to a whole byte and no other fill.
 ///
-/// `NoColumns` comes where `columns` is 0, else `NoRows` where there are no rows, else `NotARow` with the index of the
-/// first list that is not strictly ascending and below `columns`, and else `OutOfMemory` where memory was refused.
+/// # Errors
+///
+/// `NoColumns` if `columns` is 0, else `NoRows` if there are no rows, else `NotARow` with the index of the first list
+/// that is not strictly ascending and below `columns`, else `OutOfMemory` if an allocation fails.
 pub fn encode_1d(
     alloc: Global,
     columns: u32,

@@ -20,8 +20,8 @@ use hayro_ccitt::changes::change_or_end;
 use hayro_ccitt::codes::Color;
 use std::alloc::{AllocError, Global};
 
-/// How far a line is coded: the first place right of a0, the present colour, how many changes of the row are left of that
-/// place, and how many of the reference row are known to be.
+/// How far a line is coded: the first position right of a0, the present colour, how many changes of the row are left of
+/// that position, and how many of the reference row are known to be.
 #[derive(Clone, Copy)]
 struct Coding {
     from: u64,
@@ -30,15 +30,15 @@ struct Coding {
     passed: usize,
 }
 
-/// Where b1 stands among the changes of a reference row: its index, and how many changes are left of a0's right. b2 is the
-/// next change.
+/// Where b1 is among the changes of a reference row: its index, and how many changes are left of the position right of a0.
+/// b2 is the next change.
 #[derive(Clone, Copy)]
 struct Above {
     index: usize,
     left: usize,
 }
 
-/// How many changes are left of a place, where so many are known to be.
+/// Returns how many changes are left of a position, of which `known` are known to be.
 #[inline(always)]
 fn count_left(changes: &[u32], known: usize, from: u64) -> usize
     requires { AreLeft changes.now from known }
@@ -70,7 +70,7 @@ fn find_above(columns: u32, reference: &[u32], from: u64, color: Color, known: u
     Above { index, left }
 }
 
-/// b2, the change behind b1, where it is left of a1.
+/// Returns b2, the change after b1, if it is left of a1.
 #[inline(always)]
 fn b2_left_of(columns: u32, reference: &[u32], index: usize, b1: u32, a1: u32) -> Option<u32>
     requires lawful { AreChanges columns reference.now }
@@ -102,9 +102,9 @@ fn put_horizontal(
     put_run(writer, color.opposite(), second)
 }
 
-/// Writes one mode: pass where b2 is left of a1; else vertical where a1 is at most three places from b1; else
-/// horizontal (T.4, section 4.2.1.3.2). Afterwards all changes of the row that are left of the new place are counted, and all
-/// of the reference row that are left of the old one.
+/// Writes one mode: pass if b2 is left of a1; else vertical if a1 is at most three positions from b1; else horizontal (T.4,
+/// section 4.2.1.3.2). Afterwards all changes of the row that are left of the new position are counted, and all of the
+/// reference row that are left of the old one.
 #[inline(always)]
 fn put_mode(
     writer: &mut BitWriter,
@@ -162,7 +162,7 @@ fn put_mode(
     })
 }
 
-/// Writes the modes of a row, from the place left of it to its end (T.4, section 4.2.1.3).
+/// Writes the modes of a row, from the position left of it to its end (T.4, section 4.2.1.3).
 pub fn put_line(
     writer: &mut BitWriter,
     columns: u32,
@@ -186,7 +186,7 @@ pub fn put_line(
     Ok(())
 }
 
-/// Writes zeros up to a whole byte where lines are aligned.
+/// Writes zeros up to a whole byte if lines are aligned.
 pub fn put_padding(writer: &mut BitWriter, aligned: bool) -> Result<(), AllocError>
     ensures { OnOk result (all_bits writer.new ≡ all_bits writer.old
         ++ (if aligned then padding (length (all_bits writer.old)) else [])) }
@@ -215,7 +215,7 @@ fn put_lines(
     Ok(())
 }
 
-/// The bytes of a picture with its EOFB.
+/// Returns the bytes of a picture with its EOFB.
 fn picture(
     alloc: Global,
     columns: u32,
@@ -233,13 +233,15 @@ fn picture(
     writer.finish()
 }
 
-/// Encodes rows, given as lists of changes, as Group 4 (T.6): the modes of each row against the row before it, with
-/// zeros up to a whole byte after each where they are `aligned`, and EOFB after the last, with zeros up to a whole
-/// byte. No rows give EOFB alone. With 8 columns and not aligned the one row `[3, 5]` is 31 C0 04 00 40: horizontal mode, 3
+/// Encodes rows, given as lists of changes, as Group 4 (T.6): the modes of each row against the row before it, with zeros
+/// up to a whole byte after each row if they are `aligned`, and EOFB after the last, with zeros up to a whole byte. No rows
+/// are encoded as EOFB alone. With 8 columns and not aligned the one row `[3, 5]` is 31 C0 04 00 40: horizontal mode, 3
 /// white pixels, 2 black ones, a vertical mode, and EOFB (T.6 sections 2.2 and 2.4.1.1).
 ///
-/// `NoColumns` comes where `columns` is 0, else `NotARow` with the index of the first list that is not strictly
-/// ascending and below `columns`, and else `OutOfMemory` where memory was refused; never `NoRows` or `NoEncoding`.
+/// # Errors
+///
+/// `NoColumns` if `columns` is 0, else `NotARow` with the index of the first list that is not strictly ascending and
+/// below `columns`, else `OutOfMemory` if an allocation fails; never `NoRows`.
 pub fn encode_g4(
     alloc: Global,
     columns: u32,

@@ -1,7 +1,7 @@
-//! Pictures of many rows: no clause says that memory is there for them. The bytes were worked out from T.4 and T.6.
+//! Pictures of many rows: no clause says that allocations for them succeed. The bytes were worked out from T.4 and T.6.
 //!
-//! A row of 2048 columns that is black from 3 to 5, 8 to 16, 17 to 129 and from 1024 on takes twelve bytes one-dimensional
-//! with its EOL, and as many below a white row; below a row like itself it is eight times V0.
+//! A row of 2048 columns that is black from 3 to 5, 8 to 16, 17 to 129 and from 1024 on occupies twelve bytes
+//! one-dimensional with its EOL, and as many below a white row; below a row like itself it is eight times V0.
 
 use crate::{BitmapSink, bitmap_by_group3, bitmap_by_group4, encode_1d, encode_g4, rows_of_bitmap};
 use std::alloc::{AllocError, AllocGlobal, Global};
@@ -29,7 +29,7 @@ const FIRST_LINE: [u8; 12] = [
 /// Six EOLs.
 const RTC: [u8; 9] = [0x00, 0x10, 0x01, 0x00, 0x10, 0x01, 0x00, 0x10, 0x01];
 
-/// So many copies of a piece at the end of bytes.
+/// Appends `times` copies of a piece to bytes.
 fn extend(bytes: &mut Vec<u8>, piece: &[u8], times: usize) -> Result<(), AllocError> {
     for _ in 0..times {
         bytes.extend_from_slice(piece)?;
@@ -59,7 +59,7 @@ fn bitmap(alloc: Global) -> Result<Vec<u8>, AllocError> {
     Ok(bytes)
 }
 
-/// Compares bytes, which are too many to be shown.
+/// Compares bytes, which are too many to be printed.
 fn are_same(rt: &impl Abort, found: &[u8], expected: &[u8], what: &str) {
     assert_eq!(rt; found.len(), expected.len(), "{what}");
     assert!(rt; found == expected, "{what}");

@@ -15,12 +15,12 @@ pub fn round_trip()
     ensures t4 { RoundTripT4 }
 {}
 
-/// Rows of its width that [`BitmapSink`](crate::BitmapSink) takes are packed behind those that it has.
+/// Rows of its width that [`BitmapSink`](crate::BitmapSink) receives are packed after those that it has.
 pub fn rows_are_packed()
     ensures { RowsArePacked }
 {}
 
-/// A bitmap of packed rows, with zeros behind each up to a whole byte, shows those rows.
+/// A bitmap of packed rows, with zeros after each up to a whole byte, shows those rows.
 pub fn packed_is_shown()
     ensures { PackedIsShown }
 {}
@@ -44,8 +44,7 @@ pub fn chosen_by_settings()
 {}
 
 /// What is chosen for a picture by any settings of an encoder, in bytes, is read as its rows, without a fault, by the settings
-/// of the decoder that match and in the same order of bits: up to the end of the block where one is written, and else up to as
-/// many rows. Encoded again, those rows are the same bytes.
+/// of the decoder that match: up to the end of the block if one is written, and else with the number of rows as row limit.
 pub fn chosen_is_read()
     ensures read { ChosenIsRead }
     ensures again { ChosenComesBack }

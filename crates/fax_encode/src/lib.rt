@@ -25,6 +25,7 @@ pub use bitmap_rows::rows_of_bitmap;
 pub use bitmap_sink::BitmapSink;
 pub use by_settings::{encode, encode_bitmap};
 pub use encoder::Encoder;
+pub use encoding::names_encoding;
 pub use error::EncodeError;
 pub use group3::encode_1d;
 pub use group4::encode_g4;

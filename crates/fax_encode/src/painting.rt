@@ -7,18 +7,18 @@ ghost use Rattle.hayro_ccitt.specs.Rows.{AreChanges, pixels};
 ghost use Rattle.fax_encode.specs.Chosen.{filled_up};
 ghost use Rattle.fax_encode.specs.Painting.{under, StandsAt};
 
-/// Where painting has come to.
+/// How far a row is painted.
 #[derive(Copy, Clone)]
 struct Brush {
     /// The byte of the row at which the word begins, a multiple of eight. Those before it are painted.
     start: usize,
-    /// 64 pixels from there on, the leftmost in the highest bit. All behind the last change have its colour.
+    /// The 64 pixels from there on, the leftmost in the highest bit. All after the last change have its colour.
     word: u64,
     /// Whether that colour is black.
     is_black: bool,
 }
 
-/// A word of pixels of one colour.
+/// Returns a word of pixels of one colour.
 #[inline(always)]
 pub fn plain_word(is_black: bool) -> u64
     ensures { low_bits 64 result ≡ replicate 64 is_black }
@@ -26,7 +26,7 @@ pub fn plain_word(is_black: bool) -> u64
     if is_black { u64::MAX } else { 0 }
 }
 
-/// A byte of pixels of one colour.
+/// Returns a byte of pixels of one colour.
 #[inline(always)]
 fn plain_byte(is_black: bool) -> u8
     ensures { bits_of_byte HighestFirst result ≡ replicate 8 is_black }
@@ -52,7 +52,7 @@ fn next_word(row: &mut [u8], brush: Brush) -> Brush
     }
 }
 
-/// Moves to the word of a place, and writes the words before it.
+/// Moves to the word of a position, and writes the words before it.
 #[inline(always)]
 fn move_to(row: &mut [u8], brush: Brush, place: u32) -> Brush
     requires begun { brush.start % 8 ≡ 0 }
@@ -73,7 +73,7 @@ fn move_to(row: &mut [u8], brush: Brush, place: u32) -> Brush
     at
 }
 
-/// Turns the colour from a place of the word on.
+/// Turns the colour from a position of the word on.
 #[inline(always)]
 fn turned(brush: Brush, place: u32) -> Brush
     requires stands { StandsAt brush place }
@@ -90,7 +90,7 @@ fn turned(brush: Brush, place: u32) -> Brush
     }
 }
 
-/// Writes what of the word the row has room for.
+/// Writes as much of the word as the row has room for.
 fn finish(row: &mut [u8], brush: Brush)
     requires begun { brush.start ≤ length row.old }
     requires last { length row.old ≤ brush.start + 8 }
@@ -117,7 +117,7 @@ fn paint_changes(row: &mut [u8], columns: u32, changes: &[u32])
         let first = changes[done];
         let behind = changes[done + 1];
         if (behind as usize) < 8 * brush.start + 64 {
-            // The black run lies in the word.
+            // The black run lies within the word.
             brush = turned(turned(brush, first), behind);
         } else {
             brush = turned(move_to(row, brush, first), first);

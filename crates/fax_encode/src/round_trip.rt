@@ -11,8 +11,7 @@ use crate::{BitmapSink, EncodeError, encode_1d, encode_g4};
 use hayro_ccitt::{DecodeSettings, DecoderContext, EncodingMode, bits_fit, decode};
 use std::alloc::Global;
 
-/// Settings that read what is encoded here, strictly and to its end. In Group 4 it says nothing that EOLs stand between
-/// the lines.
+/// Settings that read what is encoded here, strictly and to its end. In Group 4 `end_of_line` has no effect.
 pub fn settings_to_the_end(columns: u32, encoding: EncodingMode, aligned: bool) -> DecodeSettings
     ensures { result ≡ record {
       columns = columns;
@@ -35,7 +34,7 @@ pub fn settings_to_the_end(columns: u32, encoding: EncodingMode, aligned: bool) 
     }
 }
 
-/// The bitmap of an encoding. Its only error is `OutOfMemory`.
+/// Returns the bitmap of an encoding. Its only error is `OutOfMemory`.
 fn bitmap_of(
     alloc: Global,
     settings: DecodeSettings,
@@ -59,8 +58,11 @@ fn bitmap_of(
     }
 }
 
-/// The bitmap of rows, by way of Group 4: they are encoded and decoded again. Each error is one of [`encode_g4`];
-/// `OutOfMemory` comes also where there was no memory to decode.
+/// Returns the bitmap of rows that are encoded as Group 4 and decoded again.
+///
+/// # Errors
+///
+/// Those of [`encode_g4`]; `OutOfMemory` is also returned if an allocation of the decoder fails.
 pub fn bitmap_by_group4(
     alloc: Global,
     columns: u32,
@@ -79,8 +81,11 @@ pub fn bitmap_by_group4(
     bitmap_of(alloc, settings, encoded.as_slice())
 }
 
-/// The bitmap of rows, by way of one-dimensional Group 3: they are encoded and decoded again. Each error is one of
-/// [`encode_1d`]; `OutOfMemory` comes also where there was no memory to decode.
+/// Returns the bitmap of rows that are encoded as one-dimensional Group 3 and decoded again.
+///
+/// # Errors
+///
+/// Those of [`encode_1d`]; `OutOfMemory` is also returned if an allocation of the decoder fails.
 pub fn bitmap_by_group3(
     alloc: Global,
     columns: u32,

@@ -4,7 +4,7 @@ ghost use Rattle.std.specs.Prelude.{◌↔◌, IsTrue, MatchOption, map};
 ghost use Rattle.hayro_ccitt.specs.Rows.{AreChanges};
 ghost use Rattle.fax_encode.specs.Refusals.{AreRows, IsFirstUnlawful};
 
-/// Whether a list is strictly ascending and below the width.
+/// Returns whether a list is strictly ascending and below the width.
 pub fn is_row(columns: u32, changes: &[u32]) -> bool
     ensures { IsTrue result ↔ AreChanges columns changes.now }
 {
@@ -19,7 +19,7 @@ pub fn is_row(columns: u32, changes: &[u32]) -> bool
     true
 }
 
-/// The index of the first list that isn't a row of the width.
+/// Returns the index of the first list that isn't a row of the width.
 pub fn first_unlawful(columns: u32, rows: &[Vec<u32>]) -> Option<usize>
     ensures { MatchOption result (AreRows columns (map (λ row. row.items) rows.now))
         (λ k. IsFirstUnlawful columns (map (λ row. row.items) rows.now) k) }

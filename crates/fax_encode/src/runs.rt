@@ -21,7 +21,7 @@ pub fn put_word(writer: &mut BitWriter, word: Word) -> Result<(), AllocError>
     writer.put(u32::from(word.bits), u32::from(word.count))
 }
 
-/// Writes two words, the one behind the other.
+/// Writes two words, one after the other.
 #[inline(always)]
 fn put_two_words(writer: &mut BitWriter, first: Word, second: Word) -> Result<(), AllocError>
     requires few { (first.count ≤ 13) × (second.count ≤ 13) }
@@ -33,7 +33,7 @@ fn put_two_words(writer: &mut BitWriter, first: Word, second: Word) -> Result<()
     writer.put(bits, u32::from(first.count + second.count))
 }
 
-/// Writes the words of less than 2560 pixels: a make-up word where there are 64 or more, and a terminating word.
+/// Writes the words of less than 2560 pixels: a make-up word if there are 64 or more, and a terminating word.
 fn put_rest(writer: &mut BitWriter, color: Color, pixels: u32) -> Result<(), AllocError>
     requires { pixels < 2560 }
     ensures { OnOk result (all_bits writer.new ≡ all_bits writer.old ++ chosen_rest color pixels) }

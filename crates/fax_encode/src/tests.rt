@@ -1,5 +1,5 @@
-//! What no clause says: that memory is there, and that the bytes are those of the standards. They were worked out from
-//! T.4 and T.6, apart from the encoder.
+//! What no clause says: that allocations succeed, and that the bytes are those of the standards. They were worked out
+//! from T.4 and T.6, apart from the encoder.
 
 use crate::round_trip::settings_to_the_end;
 use crate::{
@@ -12,7 +12,7 @@ use std::alloc::{AllocError, AllocGlobal, Global};
 use std::process::Abort;
 use std::test::Fail;
 
-/// Lists of changes in memory of their own.
+/// Allocates lists of changes.
 fn lists_of(alloc: Global, rows: &[&[u32]]) -> Result<Vec<Vec<u32>>, AllocError> {
     let mut lists = Vec::new(alloc);
     for row in rows {
@@ -223,7 +223,7 @@ fn paints_over_words(rt: HostRuntime) -> Result<(), Fail> {
     Ok(())
 }
 
-/// The changes of a row of at most four pixels, which are the bits of a number, the last pixel the lowest.
+/// Returns the changes of a row of at most four pixels, given by the bits of a number, the last pixel the lowest.
 fn changes_of(alloc: Global, pixels: u8, columns: u32) -> Result<Vec<u32>, AllocError> {
     let mut changes = Vec::new(alloc);
     let mut before = 0;

@@ -1,4 +1,4 @@
-//! The code words of runs and of modes, as numbers of so many bits.
+//! The code words of runs and of modes, as numbers with a number of bits.
 
 ghost use Rattle.std.specs.Prelude.{◌≡◌, ◌-◌, ◌*◌, ◌^◌, ◌<◌, ◌≤◌, MatchOption, true, false, length, get_or};
 ghost use Rattle.hayro_ccitt.specs.Bits.{low_bits};
@@ -11,7 +11,7 @@ use hayro_ccitt::tables::{
     BLACK_MAKEUP, BLACK_TERMINATING, COMMON_MAKEUP, WHITE_MAKEUP, WHITE_TERMINATING,
 };
 
-/// A code word: the lowest bits of a number, so many.
+/// A code word: the lowest `count` bits of a number.
 #[derive(Clone, Copy)]
 pub struct Word {
     pub count: u8,
@@ -29,7 +29,7 @@ fn word_at(table: &[(u16, u8, u16)], index: usize) -> Word
     Word { count, bits }
 }
 
-/// The terminating word of a colour for less than 64 pixels (T.4, table 2).
+/// Returns the terminating word of a colour for less than 64 pixels (T.4, table 2).
 #[inline(always)]
 pub fn terminating_word(color: Color, pixels: u32) -> Word
     requires { pixels < 64 }
@@ -41,7 +41,7 @@ pub fn terminating_word(color: Color, pixels: u32) -> Word
     }
 }
 
-/// The make-up word of a colour for so many times 64 pixels (T.4, table 3).
+/// Returns the make-up word of a colour for a multiple of 64 pixels (T.4, table 3).
 pub fn makeup_word(color: Color, times: u32) -> Word
     requires some { 0 < times }
     requires few { times ≤ 40 }
@@ -76,7 +76,7 @@ pub fn horizontal_word() -> Word
     }
 }
 
-/// The words of the vertical modes, as (place of a1, number of bits, word), where b1 is at place 3.
+/// The words of the vertical modes, as (position of a1, number of bits, word), for b1 at position 3.
 const VERTICAL_WORDS: [(u16, u8, u16); 7] = [
     (0, 7, 0b0000010),
     (1, 6, 0b000010),
@@ -87,7 +87,7 @@ const VERTICAL_WORDS: [(u16, u8, u16); 7] = [
     (6, 7, 0b0000011),
 ];
 
-/// The word of the vertical mode from b1 to a1, where a1 is at most three places from it.
+/// Returns the word of the vertical mode from b1 to a1, which is at most three positions from it.
 #[inline(always)]
 pub fn vertical_word(b1: u32, a1: u32) -> Option<Word>
     ensures { MatchOption result (is_near b1 a1 ≡ false)

@@ -1,4 +1,4 @@
--- Words and lines, worked out.
+-- Arguments and lines, worked out.
 use Rattle.std.proofs.Common.{◌≡◌, refl, [], ◌∷◌, true, false, Some, None, Ok, Err}
 use Rattle.std.specs.Prelude.{codes}
 use Rattle.std.specs.Fmt.{digits}
@@ -47,7 +47,7 @@ lowest_first : arguments_of_words (codes "g4" ∷ codes "8" ∷ codes "1" ∷ co
     })
 lowest_first = refl
 
--- a number too large, a number too long, a letter twice, r twice, no flag, another mode, a word too many
+-- a number too large, a number too long, a letter twice, r twice, no flag, another mode, an argument too many
 too_large : arguments_of_words (codes "g4" ∷ codes "4294967296" ∷ codes "1" ∷ codes "-" ∷ []) ≡ None
 too_large = refl
 
@@ -69,7 +69,7 @@ another_mode = refl
 a_word_too_many : arguments_of_words (codes "g4" ∷ codes "8" ∷ codes "1" ∷ codes "-" ∷ codes "-" ∷ []) ≡ None
 a_word_too_many = refl
 
--- two rows, one of them white, and a good outcome
+-- two rows, one of them white, and a good result
 good_text : text_of ((3 ∷ 15 ∷ []) ∷ [] ∷ []) (Ok 120) ≡ codes "r 3 15\nr\nok 120\n"
 unfolding digits
 good_text = refl

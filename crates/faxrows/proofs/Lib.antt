@@ -1,3 +1,7 @@
+pub mod DamageTexts
 pub mod Examples
+pub mod Outputs
 pub mod PackedRuns
+pub mod RowsInTurn
+pub mod RunsByRow
 pub mod Texts

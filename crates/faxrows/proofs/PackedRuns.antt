@@ -1,4 +1,4 @@
--- What a run with packed rows writes, from what decoding answers.
+-- What a run with packed rows writes, from what decoding returns.
 use Rattle.std.proofs.Common.{◌≡◌, false, List, [], length, take, ap, ◌∙◌}
 use Rattle.std.proofs.lemmas.List.Elements.{All-take}
 use Rattle.hayro_ccitt.specs.declared.settings.DecodeSettings.{DecodeSettings}
@@ -13,7 +13,7 @@ use Rattle.fax_encode.specs.Packed.{packed, with_packed_row, Bitmap}
 use Rattle.faxrows.specs.Runs.{Outcome}
 use Rattle.faxrows.proofs.Texts.{Takes}
 
--- the bits of a bitmap that began empty are packed of the rows that were taken
+-- the bits of a bitmap that began empty are the packed rows that were accepted
 pub sink_bits : (law : RowsArePacked) (settings : DecodeSettings) (bits : Bits) (empty : Bitmap) (after : SinkState Bits) (held : Held) (outcome : Outcome)
     → empty ≡ record { bytes = []; columns = settings.columns; has_refused = false } → HaveWidth settings.columns (plain settings bits).rows
     → Takes (with_packed_row empty.columns) settings bits (record { meaning = bits_of empty.bytes; refused = empty.has_refused; refuses = λ row. Unit {0} }) after held outcome

@@ -1,4 +1,4 @@
--- What a run writes, from what decoding answers.
+-- What a run writes, from what decoding returns.
 use Rattle.std.proofs.Common.{◌≡◌, ℕ, List, [], ◌∷◌, ◌++◌, refl, sym, ap, ◌∙◌, subst, take, length, map, take_all, arith, append_assoc, append-nil, Option, None, Some, Ok, Err, IfSome}
 use Rattle.std.specs.Prelude.{IsOk, IsErr}
 use Rattle.std.specs.List.{fold}
@@ -21,7 +21,7 @@ fold_lines : (text : List ℕ) (rows : List (List ℕ)) → fold (λ t row. t ++
 fold_lines text [] = sym (append-nil text)
 fold_lines text (row ∷ rows) = fold_lines (text ++ line_of_row row) rows ∙ append_assoc text (line_of_row row) (lines_of_rows rows)
 
--- the rows of some data were taken, each by a step
+-- the rows of some data were accepted, each by a step
 abbrev pub Takes : {M : Type 0} → (M → List ℕ → M) → DecodeSettings → Bits → SinkState M → SinkState M → Held → Outcome → Type 0
 Takes step settings bits before after held outcome =
     TakesRows (plain settings bits).rows (plain settings bits).outcome (plain settings bits).has_eols step before after held outcome
@@ -30,7 +30,7 @@ Takes step settings bits before after held outcome =
 abbrev pub TakesLines : DecodeSettings → Bits → SinkState (List ℕ) → SinkState (List ℕ) → Held → Outcome → Type 0
 TakesLines = Takes (λ text row. text ++ line_of_row row)
 
--- the sink's text is the lines of the rows that were taken
+-- the sink's text is the lines of the accepted rows
 pub sink_text : (settings : DecodeSettings) (bits : Bits) (before after : SinkState (List ℕ)) (held : Held) (outcome : Outcome)
     → before.meaning ≡ [] → TakesLines settings bits before after held outcome → after.meaning ≡ lines_of_rows (take held.taken (rows_of settings bits))
 sink_text settings bits before after held outcome empty takes =
@@ -39,11 +39,11 @@ sink_text settings bits before after held outcome empty takes =
     ∙ fold_lines [] (map changes (take held.taken (plain settings bits).rows))
     ∙ ap lines_of_rows (sym (take-map changes held.taken (plain settings bits).rows))
 
--- as many rows were taken as their changes are listed
+-- as many rows were accepted as their changes are listed
 all_changes : (rows : List Row) (taken : ℕ) → taken ≡ length rows → taken ≡ length (map changes rows)
 all_changes rows taken e = e ∙ sym (length-map rows changes)
 
--- decoding ends as it may after the rows that were taken
+-- decoding ends as it may after the accepted rows
 pub ends_after : {M : Type 0} (step : M → List ℕ → M) (settings : DecodeSettings) (bits : Bits) (before after : SinkState M) (held : Held) (outcome : Outcome)
     → Takes step settings bits before after held outcome → StopsShort (plain settings bits).rows (lines_of settings bits) before after held outcome
     → EndsAfter settings bits held.taken outcome
@@ -54,7 +54,7 @@ ends_after step settings bits before after held (Err Overflow) takes short = (al
 ends_after step settings bits before after held (Err OutOfMemory) takes short = (rw (length-map (plain settings bits).rows changes) takes.taken, short.memory refl)
 ends_after step settings bits before after held (Err Refused) takes short = rw (length-map (plain settings bits).rows changes) (short.refused refl)
 
--- with all rows and the outcome of the plain reading, the whole text is written
+-- with all rows and the result of the plain reading, the whole text is written
 all_text : (settings : DecodeSettings) (bits : Bits) (taken : ℕ) (outcome : Outcome)
     → taken ≡ length (rows_of settings bits) → outcome_of settings bits ≡ outcome → text_after settings bits taken outcome ≡ whole_text settings bits
 all_text settings bits taken outcome all same = rw (same, take_all taken (rows_of settings bits) (omega arith)) refl
@@ -79,12 +79,12 @@ text_of_faulty settings bits taken (Err Overflow) ends e = (all_text settings bi
 text_of_faulty settings bits taken (Err OutOfMemory) ends e = cc
 text_of_faulty settings bits taken (Err Refused) ends e = cc
 
--- a fact of the bytes that were read is one of the bytes that are told
+-- a statement about the bytes that were read is one about the bytes that the reader specifies
 on_input : (known : Option (List ℕ)) (input : List ℕ) (P : List ℕ → Type 0) → IfSome known (λ xs. input ≡ xs) → P input → IfSome known P
 on_input None input P same p = tt
 on_input (Some xs) input P same p = subst P same p
 
--- a fact of the settings and the bits of a run is one of what is known of them
+-- a statement about the settings and the bits of a run is one about what is known of them
 pub on_known : (meant : Option Arguments) (arguments : Arguments) (settings : DecodeSettings) (known : Option (List ℕ)) (input : List ℕ)
     (P : DecodeSettings → Bits → Type 0)
     → meant ≡ Some arguments → settings ≡ arguments.settings → IfSome known (λ xs. input ≡ xs) → P settings (bits_in arguments.order input)

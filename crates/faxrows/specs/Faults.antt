@@ -1,4 +1,4 @@
--- What the faults of a run print, and the status that the program ends with.
+-- What is printed for a failed run, and the status that the program exits with.
 use Rattle.std.specs.Prelude.{ℕ, List, codes}
 use Rattle.faxrows.specs.declared.program.RunFault.{RunFault}
 use Rattle.faxrows.specs.declared.program.RunFault.TheVariants.{BadArguments, Read, Memory, TooLong, Write}
@@ -11,7 +11,7 @@ text_of_fault Memory = codes "out of memory"
 text_of_fault TooLong = codes "input too long"
 text_of_fault Write = codes "cannot write"
 
--- the status of a run that ended without its text: 2 where the words mean nothing, and 3 where memory or a device failed
+-- the status of a run that ended without its text: 2 for invalid arguments, 3 for a failed allocation or device
 abbrev pub status_of_fault : RunFault → ℕ
 status_of_fault BadArguments = 2
 status_of_fault Read = 3

@@ -1,6 +1,9 @@
 pub mod Arguments
+pub mod DamageText
 pub mod Faults
+pub mod Output
 pub mod PackedRuns
 pub mod Runs
+pub mod RunsByRow
 pub mod Statuses
 pub mod Text

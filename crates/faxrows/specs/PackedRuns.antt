@@ -7,13 +7,13 @@ use Rattle.hayro_ccitt.specs.PlainReading.{plain}
 use Rattle.fax_encode.specs.Packed.{packed}
 use Rattle.faxrows.specs.Runs.{Outcome, EndsAfter}
 
--- how decoding ends, without the count of bytes
+-- how decoding ends, without the byte count
 abbrev pub answer_of : Outcome → Result (Unit {0}) DecodeError
 answer_of (Ok count) = Ok tt
 answer_of (Err error) = Err error
 
--- Bytes are packed of some data, with this answer: their bits are those of the first so many rows of the plain reading,
--- and the decoding may end so when so many rows were taken.
+-- The packed bytes of some data, with this result: they hold the first rows of the plain reading, and decoding may end
+-- so after that number of rows.
 abbrev pub IsPackedOf : DecodeSettings → Bits → Result (Unit {0}) DecodeError → List ℕ → Type 0
 IsPackedOf settings bits answer bytes =
     (taken : ℕ) × (outcome : Outcome) × EndsAfter settings bits taken outcome × (answer ≡ answer_of outcome)

@@ -13,7 +13,7 @@ use Rattle.faxrows.specs.declared.program.Done.{Done}
 use Rattle.faxrows.specs.declared.program.Done.TheVariants.{Good, Faulty, Memory}
 use Rattle.faxrows.specs.Text.{text_of}
 
--- how decoding ends: with a count of bytes, or an error
+-- how decoding ends: with a byte count, or an error
 abbrev pub Outcome : Type 0
 Outcome = Result ℕ DecodeError
 
@@ -29,7 +29,7 @@ outcome_of settings bits = (plain settings bits).outcome
 abbrev pub whole_text : DecodeSettings → Bits → List ℕ
 whole_text settings bits = text_of (rows_of settings bits) (outcome_of settings bits)
 
--- how a run ends that wrote this outcome
+-- how a run that wrote this result ends
 abbrev pub done_of : Outcome → Done
 done_of (Ok count) = Good
 done_of (Err UnexpectedEof) = Faulty
@@ -38,12 +38,12 @@ done_of (Err Overflow) = Faulty
 done_of (Err OutOfMemory) = Memory
 done_of (Err Refused) = Memory
 
--- what is written of some data where so many rows were taken, and how it ended
+-- what is written of some data of which this number of rows was accepted, and how it ended
 abbrev pub text_after : DecodeSettings → Bits → ℕ → Outcome → List ℕ
 text_after settings bits taken outcome = text_of (take taken (rows_of settings bits)) outcome
 
--- Decoding may end so when so many rows were taken: with all of them, as the plain reading does; for want of memory
--- while a line that paints black is read; or because the next row was refused.
+-- How decoding may end after this number of rows: after all of them, as the plain reading does; with an allocation
+-- failure while a line that paints black is read; or because the next row was refused.
 abbrev pub EndsAfter : DecodeSettings → Bits → ℕ → Outcome → Type 0
 EndsAfter settings bits taken (Ok count) = (taken ≡ length (rows_of settings bits)) × (outcome_of settings bits ≡ Ok count)
 EndsAfter settings bits taken (Err UnexpectedEof) = (taken ≡ length (rows_of settings bits)) × (outcome_of settings bits ≡ Err UnexpectedEof)
@@ -52,15 +52,17 @@ EndsAfter settings bits taken (Err Overflow) = (taken ≡ length (rows_of settin
 EndsAfter settings bits taken (Err OutOfMemory) = (taken ≤ length (rows_of settings bits)) × PaintsBlack (lines_of settings bits) taken
 EndsAfter settings bits taken (Err Refused) = taken < length (rows_of settings bits)
 
--- the lines of the rows that were taken, and then of the want of memory or of the refusal that ended the decoding there
+-- the lines of the accepted rows, then the last line, which says whether an allocation failure or a refusal ended the
+-- decoding there
 abbrev pub IsTextOfWant : DecodeSettings → Bits → List ℕ → Type 0
 IsTextOfWant settings bits text =
     (taken : ℕ) × (outcome : Outcome) × EndsAfter settings bits taken outcome × (done_of outcome ≡ Memory) × (text ≡ text_after settings bits taken outcome)
 
--- a fact on the settings that words mean, and the bits of the bytes that a reader tells, in the order that the words mean
+-- a statement about the settings that the arguments mean, and about the bits, in the order that the arguments select, of
+-- the bytes that a reader supplies
 abbrev pub OnKnown : Option Arguments → Option (List ℕ) → (DecodeSettings → Bits → Type 0) → Type 0
 OnKnown arguments known P = IfSome arguments (λ meant. IfSome known (λ input. P meant.settings (bits_in meant.order input)))
 
--- bytes were read that a fact holds of, where a reader tells what it had and what is left
+-- a statement about the bytes that were read, where the reader specifies what it had and what is left
 abbrev pub WasRead : Option (List ℕ) → Option (List ℕ) → (List ℕ → Type 0) → Type 0
 WasRead before after P = (input : List ℕ) × Consumes before after input × P input

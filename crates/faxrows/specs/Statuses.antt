@@ -1,5 +1,5 @@
--- The status that the program ends with: 0 where the data was decoded, 1 where it is at fault, 2 where the words mean
--- nothing, and 3 where memory or a device failed.
+-- The status that the program exits with: 0 if the data was decoded, 1 if the data is invalid, 2 for invalid arguments,
+-- and 3 for a failed allocation or device.
 use Rattle.std.specs.Prelude.{◌≡◌, ◌⊎◌, ℕ, Result, Ok, Err}
 use Rattle.hayro_ccitt.specs.declared.error.DecodeError.{DecodeError}
 use Rattle.hayro_ccitt.specs.declared.error.DecodeError.TheVariants.{UnexpectedEof, InvalidCode, Overflow, OutOfMemory, Refused}

@@ -1,4 +1,4 @@
--- Rows and the outcome as lines of text.
+-- Rows and the result as lines of text.
 use Rattle.std.specs.Prelude.{ℕ, List, [], ◌∷◌, ◌++◌, flat_map, codes, decimal, Result, Ok, Err}
 use Rattle.hayro_ccitt.specs.declared.error.DecodeError.{DecodeError}
 use Rattle.hayro_ccitt.specs.Texts as library
@@ -20,6 +20,6 @@ abbrev pub line_of_outcome : Result ℕ DecodeError → List ℕ
 line_of_outcome (Ok count) = codes "ok " ++ decimal count ++ 10 ∷ []
 line_of_outcome (Err fault) = codes "error: " ++ library.text_of fault ++ 10 ∷ []
 
--- what is written of rows and an outcome
+-- what is written for rows and a result
 abbrev pub text_of : List (List ℕ) → Result ℕ DecodeError → List ℕ
 text_of rows outcome = lines_of_rows rows ++ line_of_outcome outcome

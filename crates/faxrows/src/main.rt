@@ -1,24 +1,30 @@
 //! `faxrows`: decodes a fax image from standard input, and writes its rows as text to standard output.
 //!
-//! It is called as `faxrows MODE COLUMNS ROWS FLAGS`, or as `faxrows -o MODE COLUMNS ROWS FLAGS` to write the rows as a
-//! bitmap of one bit a pixel. The mode is `g4`, `1d` or `2d`, columns and rows are decimal numbers, and the flags are `-`
-//! or letters: `b` if EOFB or RTC may end the data, `l` if EOLs precede its lines, `a` for aligned rows, `s` for a strict
-//! reading, `r` for the lowest bit of each byte first.
+//! It is called as `faxrows MODE COLUMNS ROWS FLAGS`, with `-o` before these words to write the rows as a bitmap of one bit
+//! a pixel, with `-i` to write each row as it is read, or with `-d` to write the damage. The mode is `g4`, `1d` or `2d`,
+//! columns and rows are decimal numbers, and the flags are `-` or letters: `b` if EOFB or RTC may end the data, `l` if EOLs
+//! precede its lines, `a` for aligned rows, `s` for a strict reading, `r` for the lowest bit of each byte first.
 #![tactic(auto)]
 
 ghost use Rattle.std.specs.Prelude.{◌≡◌, ◌<◌, IfOk, IsTrue, length, map, string_bytes};
-ghost use Rattle.faxrows.specs.Arguments.{asks_for_bitmap, is_word_alone};
+ghost use Rattle.faxrows.specs.Arguments.{is_first_word, is_word_alone};
 ghost use Rattle.faxrows.specs.Faults.{status_of_fault};
 ghost use Rattle.faxrows.specs.Statuses.{IsStatusOfRun, status_of_answer, status_of_done};
 
 mod arguments;
+pub mod by_row;
+pub mod damage;
+mod damage_lines;
 pub mod device;
 mod digits;
 mod last_line;
+mod output;
 pub mod packed;
 pub mod program;
 pub mod text_sink;
 
+pub use by_row::run_by_row;
+pub use damage::run_damage;
 pub use device::{Device, Failed};
 use hayro_ccitt::DecodeError;
 pub use packed::run_packed;
@@ -56,19 +62,35 @@ fn run_words(rt: &HostRuntime) -> Result<u8, RunFault>
         let printed = println!(rt; "{USAGE}");
         return printed.map(|_| 0u8).map_err(|_| RunFault::Write);
     }
-    if has_bitmap_word(words) {
+    if is_only_word(words, "--version") {
+        let printed = println!(rt; "{VERSION}");
+        return printed.map(|_| 0u8).map_err(|_| RunFault::Write);
+    }
+    if is_first_word(words, "-o") {
         let answer = run_packed(rt.alloc(), &words[1..], &mut reader, &mut writer)?;
         if let Err(error) = answer {
             let _ = eprintln!(rt; "faxrows: {error}");
         }
         return Ok(status_of_answer(answer));
     }
+    if is_first_word(words, "-i") {
+        let done = run_by_row(rt.alloc(), &words[1..], &mut reader, &mut writer)?;
+        return Ok(status_of_done(done));
+    }
+    if is_first_word(words, "-d") {
+        let done = run_damage(rt.alloc(), &words[1..], &mut reader, &mut writer)?;
+        return Ok(status_of_done(done));
+    }
     let done = run(rt.alloc(), words, &mut reader, &mut writer)?;
     Ok(status_of_done(done))
 }
 
 /// What `--help` prints.
-const USAGE: &str = "faxrows MODE COLUMNS ROWS FLAGS\nfaxrows -o MODE COLUMNS ROWS FLAGS";
+const USAGE: &str =
+    "faxrows MODE COLUMNS ROWS FLAGS\nfaxrows -o MODE COLUMNS ROWS FLAGS\nfaxrows -i MODE COLUMNS ROWS FLAGS\nfaxrows -d MODE COLUMNS ROWS FLAGS\nfaxrows --help\nfaxrows --version";
+
+/// What `--version` prints.
+const VERSION: &str = "faxrows 0.6.0";
 
 /// Whether there is one word, and it is this.
 fn is_only_word(words: &[String], word: &str) -> bool
@@ -77,12 +99,12 @@ fn is_only_word(words: &[String], word: &str) -> bool
     words.len() == 1 && words[0].as_str() == word
 }
 
-/// Whether the first word asks for a bitmap.
-fn has_bitmap_word(words: &[String]) -> bool
-    ensures asked { result ≡ asks_for_bitmap (map string_bytes words.now) }
+/// Whether there are words, and this is the first of them.
+fn is_first_word(words: &[String], word: &str) -> bool
+    ensures first { result ≡ is_first_word (map string_bytes words.now) word.now }
     ensures some { IsTrue result → 0 < length words.now }
 {
-    !words.is_empty() && words[0].as_str() == "-o"
+    !words.is_empty() && words[0].as_str() == word
 }
 
 /// The status of a run that ended without its text.

@@ -4,6 +4,7 @@ ghost use Rattle.std.specs.Prelude.{◌≡◌, ◌≤◌, ◌↔◌, ◌≢◌, 
 ghost use Rattle.std.specs.Io.KnownBytes.{Appends, IsAtEnd};
 ghost use Rattle.hayro_ccitt.specs.Bits.{BitsFit, bits_in};
 ghost use Rattle.faxrows.specs.Arguments.{arguments_of_words};
+ghost use Rattle.faxrows.specs.Output.{AppendsFront};
 ghost use Rattle.faxrows.specs.Text.{line_of_outcome};
 ghost use Rattle.faxrows.specs.Runs.{Outcome, OnKnown, EndsAfter, IsTextOfWant, whole_text, text_after, outcome_of, done_of, WasRead};
 
@@ -159,7 +160,7 @@ pub(crate) fn read_all<R: Read>(
     ensures not_arguments { result ≢ Err RunFault.BadArguments }
 {
     let mut input = Vec::new(alloc);
-    let mut buffer = [0u8; 4096];
+    let mut buffer = [0u8; READ_AT_ONCE];
     loop {
         let Ok(count) = reader.read(&mut buffer) else {
             return Err(RunFault::Read);
@@ -176,15 +177,19 @@ pub(crate) fn read_all<R: Read>(
     }
 }
 
+/// How many bytes are read at once.
+const READ_AT_ONCE: usize = 65536;
+
 /// The most bytes that `hayro_ccitt::bits_fit` holds of.
 const MOST_BYTES: usize = (usize::MAX - 64) / 8;
 
-/// Writes bytes until the writer has taken all of them.
+/// Writes bytes until the writer has taken all of them. Where it fails it took a front of them.
 pub(crate) fn write_all<W: Write>(
     writer: &mut Device<W>,
     bytes: &[u8],
 ) -> std::result::Result<(), RunFault>
     ensures ok { OnOk result (Appends (W.contents writer.old.0) (W.contents writer.new.0) bytes.now) }
+    ensures front { OnErr result (AppendsFront (W.contents writer.old.0) (W.contents writer.new.0) bytes.now) }
     ensures flag { OnOk result (writer.new.1 ≡ writer.old.1) }
     ensures failed { OnErr result (writer.new.1 ≡ true) }
     ensures only { IfErr result (λ fault. fault ≡ RunFault.Write) }
@@ -221,7 +226,7 @@ fn write_last_line<W: Write>(
 }
 
 /// How a run ends that wrote this outcome.
-fn done_of(outcome: &hayro_ccitt::Result<usize>) -> Done
+pub(crate) fn done_of(outcome: &hayro_ccitt::Result<usize>) -> Done
     ensures { result ≡ done_of outcome.now }
 {
     match outcome {

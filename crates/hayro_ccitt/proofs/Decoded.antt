@@ -1,6 +1,7 @@
--- The contract of `decode`, from the rows that were taken and the answer.
+-- The contract of `decode`, from the accepted rows and the result.
 use Rattle.std.proofs.Common.{◌≡◌, ◌⊎◌, ℕ, Bool, List, take, take_all, Result, Ok, Err, false, sym, ap, subst, ◌∙◌, arith}
 use Rattle.std.specs.Prelude.{IsOk}
+use Rattle.std.proofs.lemmas.List.Concat.{length-flat_map}
 use Rattle.hayro_ccitt.specs.declared.error.DecodeError.{DecodeError}
 use Rattle.hayro_ccitt.specs.declared.settings.DecodeSettings.{DecodeSettings}
 use Rattle.hayro_ccitt.specs.declared.settings.EncodingMode.TheVariants.{Group4}
@@ -8,7 +9,8 @@ use Rattle.hayro_ccitt.specs.Answers.{OnAnswer, meaning_after}
 use Rattle.hayro_ccitt.specs.Bits.{Bits, AreWholeBytes}
 use Rattle.hayro_ccitt.specs.Context.{Held}
 use Rattle.hayro_ccitt.specs.Contract.{Decodes}
-use Rattle.hayro_ccitt.specs.Decoding.{SinkState, TakesRows}
+use Rattle.hayro_ccitt.specs.Damage.{Damaged, repairs_by_line}
+use Rattle.hayro_ccitt.specs.Decoding.{SinkState, TakesRows, CountsRepairs}
 use Rattle.hayro_ccitt.specs.PlainReading.{plain}
 use Rattle.hayro_ccitt.specs.Rows.{Row}
 use Rattle.hayro_ccitt.specs.Settings.{AreSettings}
@@ -17,24 +19,25 @@ use Rattle.hayro_ccitt.proofs.DamagedLines.Damage.{damage_stays}
 use Rattle.hayro_ccitt.proofs.EncodedPictures.PicturesOfEachKind.{closed_pictures, limited_pictures}
 use Rattle.hayro_ccitt.proofs.Readings.PlainAnswers.{LeavesRows}
 use Rattle.hayro_ccitt.proofs.Readings.RowWidths.{plain_width}
+use Rattle.hayro_ccitt.proofs.Readings.Undamaged.{no_repairs, closed_strict, limited_strict}
 
--- what follows holds on the same answers
+-- what follows is true of the same results
 on_answer : {P Q : Type 0} (answer : Result ℕ DecodeError) → (P → Q) → OnAnswer answer P → OnAnswer answer Q
 on_answer (Ok n) follows holds = follows holds
 on_answer (Err error) follows holds = λ fault. follows (holds fault)
 
--- unless memory or the sink ended it, all rows were taken, and the answer is the outcome
+-- unless an allocation failure or the sink ended it, all rows were accepted, and the result is that of the reading
 to_the_end : {M : Type 0} (rows : List Row) (outcome : Result ℕ DecodeError) {sought : Bool} (step : M → List ℕ → M) (before after : SinkState M) (held : Held) (answer : Result ℕ DecodeError)
     → TakesRows rows outcome sought step before after held answer → OnAnswer answer ((take held.taken rows ≡ rows) × (answer ≡ outcome))
 to_the_end rows outcome step before after held (Ok n) takes = (take_all held.taken rows (omega (arith, takes.all)), sym takes.ok)
 to_the_end rows outcome step before after held (Err error) takes = λ fault. (take_all held.taken rows (omega (arith, takes.all fault)), sym (takes.fault fault))
 
--- so the contract follows from the rows taken, stopping short, and the work
+-- so the contract follows from the accepted rows, stopping short, and the work
 pub decodes : {M : Type 0} (settings : DecodeSettings) (bits : Bits) (step : M → List ℕ → M) (before after : SinkState M) (held : Held) (ticks : ℕ) (answer : Result ℕ DecodeError)
     → AreSettings settings → AreWholeBytes bits → LeavesRows settings bits step before after held answer
     → ((settings.encoding ≡ Group4) ⊎ (settings.columns ≡ 0) → held.has_eols ≡ false) → CountsWork settings bits held.taken ticks
-    → Decodes settings bits step before after held ticks answer
-decodes settings bits step before after held ticks answer are whole (takes, short) no_eols work =
+    → CountsRepairs (repairs_by_line settings bits) held answer → Decodes settings bits step before after held ticks answer
+decodes settings bits step before after held ticks answer are whole (takes, short) no_eols work repaired =
     let end = to_the_end (plain settings bits).rows (plain settings bits).outcome step before after held answer takes in
     record {
       work = work;
@@ -49,6 +52,10 @@ decodes settings bits step before after held ticks answer are whole (takes, shor
       limited_rows = λ rows picture. (limited_pictures settings rows bits are whole picture).0;
       limited = λ rows picture. on_answer answer (λ e. subst IsOk (sym e.1) (limited_pictures settings rows bits are whole picture).1) end;
       limited_picture = λ rows picture. on_answer answer (λ e. means rows (e.0 ∙ (limited_pictures settings rows bits are whole picture).0)) end;
+      damaged_taken = repaired.taken;
+      damaged = on_answer answer (λ e. e ∙ sym (length-flat_map (λ (row : List Damaged). row) (repairs_by_line settings bits))) repaired.all;
+      closed_whole = λ rows count picture. repaired.taken ∙ no_repairs settings bits held.taken (closed_strict settings rows count bits are whole picture);
+      limited_whole = λ rows picture. repaired.taken ∙ no_repairs settings bits held.taken (limited_strict settings rows bits are whole picture);
       damage = on_answer answer (λ e. damage_stays settings bits (take held.taken (plain settings bits).rows) answer are whole e.0 e.1) end;
     }
   where

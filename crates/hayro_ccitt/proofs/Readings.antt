@@ -5,6 +5,7 @@ pub mod PlainAnswers
 pub mod Repeated
 pub mod RowWidths
 pub mod RowsAndGaps
+pub mod RepairsCounted
 pub mod RowByRow
 pub mod RowsTaken
 pub mod RunsOverRows
@@ -12,3 +13,4 @@ pub mod Strictness
 pub mod WholeRuns
 pub mod TurnsAddRows
 pub mod TurnsMoveOn
+pub mod Undamaged

@@ -1,4 +1,4 @@
--- What a call answers of a definition.
+-- What calls return of what a definition says.
 use Rattle.std.specs.Prelude.{◌≡◌, ◌≢◌, ◌<◌, ℕ, Bool, true, false, ◌∷◌, ◌++◌, length, map, slice_get, Some, Result, Ok, Err, Contains, List}
 use Rattle.std.specs.List.{fold}
 use Rattle.hayro_ccitt.specs.declared.error.DecodeError.{DecodeError}
@@ -10,9 +10,9 @@ use Rattle.hayro_ccitt.specs.Context.{Held, painted_front}
 use Rattle.hayro_ccitt.specs.Lines.{Line, Pen, draw_run, draw_mode, line_1d, line_2d, found_1d, found_2d}
 use Rattle.hayro_ccitt.specs.Repetition.{Turn}
 
--- ---- Errors, and what a row shows (glue).
+-- ---- Errors, and what a row shows (auxiliary).
 
--- an error that the data is at fault for
+-- an error that is a fault of the data
 abbrev pub IsFault : DecodeError → Type 0
 IsFault UnexpectedEof = Unit {0}
 IsFault InvalidCode = Unit {0}
@@ -34,11 +34,11 @@ HasBlack row = Contains row true
 abbrev pub StopsAtChange : Row → Row → Type 0
 StopsAtChange row front = (pixel : Bool) × (after : Row) × (row ≡ front ++ pixel ∷ after) × (pixel ≢ last_pixel false front)
 
--- ---- One line, and one step of it, as calls draw them: what no reader of `decode` has to believe.
+-- ---- One line, and one step of it, as calls draw them: not part of the trusted specification of `decode`.
 
--- What a call that draws a line answers, where the definition's line is known, and leaves in the front and of the
--- bits: the whole line; or the broken one and its fault; or want of memory, where a changing element is to be stored
--- (T.4, 4.1 and 4.2; T.6, 2.2).
+-- What a call that draws a line returns, given the definition's line, and leaves in the front and of the bits: the
+-- whole line; or the broken one and its fault; or an allocation failure, where a changing element is to be stored (T.4,
+-- 4.1 and 4.2; T.6, 2.2).
 abbrev pub DrawsLine : Line → Result (Unit {0}) DecodeError → Row → Bits → Type 0
 DrawsLine line (Ok x) front rest = line ≡ Line.whole front rest
 DrawsLine line (Err UnexpectedEof) front rest = line ≡ Line.broken front UnexpectedEof
@@ -47,11 +47,11 @@ DrawsLine line (Err Overflow) front rest = line ≡ Line.broken front Overflow
 DrawsLine line (Err OutOfMemory) front rest = StopsAtChange (front_of line) front
 DrawsLine line (Err Refused) front rest = ⊥
 
--- the pen of a context, where these bits are left (T.4, 4.1.1 and 4.2.1.3)
+-- the pen of a context, where these bits are left to read (T.4, 4.1.1 and 4.2.1.3)
 abbrev pub pen_of : Held → Bits → Pen
 pen_of held rest = record { front = held.front; color = held.color; rest = rest }
 
--- what a step of a line comes to: the pen to go on with, or the line (T.4, 4.1.1 and 4.2.1.3; T.6, 2.2)
+-- what a step of a line yields: the pen to continue with, or the line (T.4, 4.1.1 and 4.2.1.3; T.6, 2.2)
 abbrev pub Step : Type 0
 Step = Turn Pen Line
 
@@ -87,12 +87,12 @@ words_from_1d held rest = found_1d held.settings.strict held.settings.columns re
 abbrev pub words_from_2d : Held → Bits → List Bits
 words_from_2d held rest = found_2d held.settings.strict held.settings.columns held.reference rest
 
--- the front that a step comes to (T.4, 4.1.1 and 4.2.1.3; T.6, 2.2)
+-- the front that a step yields (T.4, 4.1.1 and 4.2.1.3; T.6, 2.2)
 abbrev pub front_after : Step → Row
 front_after (Turn.next pen) = pen.front
 front_after (Turn.done line) = front_of line
 
--- what a call that draws a step of a line answers, and the pen that is left (T.4, 4.1.1 and 4.2.1.3; T.6, 2.2)
+-- what a call that draws a step of a line returns, and the pen that it leaves (T.4, 4.1.1 and 4.2.1.3; T.6, 2.2)
 abbrev pub DrawsStep : Step → Result (Unit {0}) DecodeError → Pen → Type 0
 DrawsStep step (Ok x) pen = step ≡ Turn.next pen
 DrawsStep step (Err UnexpectedEof) pen = step ≡ Turn.done (Line.broken pen.front UnexpectedEof)
@@ -103,36 +103,36 @@ DrawsStep step (Err Refused) pen = ⊥
 
 -- ---- Changes that are stored.
 
--- Painting so many pixels makes a changing element at the end of the front (T.4, 4.2.1.1).
+-- Painting n pixels adds a changing element at the end of the front (T.4, 4.2.1.1).
 abbrev pub StoresChange : Held → ℕ → Type 0
 StoresChange held count = (row : Row)
     × (painted_front held count ≡ Ok row)
     × (length held.front < length row)
     × (last_pixel false held.front ≢ is_black held.color)
 
--- To continue the front in white makes a changing element: the row isn't full, and its last pixel is black (T.4,
+-- Continuing the front in white adds a changing element: the row isn't full, and its last pixel is black (T.4,
 -- 4.2.1.1).
 abbrev pub RepairStoresChange : Held → Type 0
 RepairStoresChange held = (length held.front < held.settings.columns) × (last_pixel false held.front ≡ true)
 
--- A line that failed with this error is repaired: the reading is lenient, the data have EOLs, and they are at fault (T.4,
--- 4.1.2).
+-- A line that failed with this error is repaired: the reading is lenient, the data have EOLs, and the error is a fault of
+-- the data (T.4, 4.1.2).
 pub record IsRepairable (held : Held) (error : DecodeError) : Type 0 where
   pub lenient : held.settings.strict ≡ false
   pub has_eols : held.has_eols ≡ true
   pub fault : IsFault error
 
--- ---- What a run over all lines answers (glue).
+-- ---- What a run over all lines returns (auxiliary).
 
 -- the line of an index is among these lines, and paints a black pixel
 abbrev pub PaintsBlack : List Line → ℕ → Type 0
 PaintsBlack lines index = (line : Line) × (slice_get lines index ≡ Some line) × HasBlack (front_of line)
 
--- what a sink means after some rows more, each taken as its changes
+-- what a sink means after some more rows, each accepted as its changes
 abbrev pub meaning_after : {M : Type 0} → (M → List ℕ → M) → M → List Row → M
 meaning_after step meaning rows = fold step meaning (map changes rows)
 
--- what holds unless a call wants memory or a row was refused
+-- a statement that is true unless an allocation failed or a row was refused
 abbrev pub OnAnswer : {T : Type 0} → Result T DecodeError → Type 0 → Type 0
 OnAnswer (Ok x) P = P
 OnAnswer (Err fault) P = IsFault fault → P

@@ -4,18 +4,18 @@ use Rattle.std.specs.List.{flat_map}
 use Rattle.hayro_ccitt.specs.declared.bit_reader.BitOrder.{BitOrder}
 use Rattle.hayro_ccitt.specs.declared.bit_reader.BitOrder.TheVariants.{HighestFirst, LowestFirst}
 
--- ---- glue: bits in bytes, and places among bits
+-- ---- auxiliary: bits in bytes, and bit offsets
 
 -- bits in the order in which they are read
 abbrev pub Bits : Type 0
 Bits = List Bool
 
--- the bit of a number at a place, where place 0 is the lowest
+-- the bit of a number at a position, where position 0 is the lowest
 abbrev pub bit_of : ℕ → ℕ → Bool
 bit_of n k = (n / 2 ^ k) % 2 == 1
 
--- the eight bits of a byte, its highest or its lowest first: T.4 and T.6 speak of bits alone, and files and modems hold them
--- in bytes of either order
+-- the eight bits of a byte, its highest or its lowest first: T.4 and T.6 speak of bits alone, and files and modems store
+-- them in bytes in either order
 abbrev pub bits_of_byte : BitOrder → ℕ → Bits
 bits_of_byte HighestFirst n = bit_of n 7 ∷ bit_of n 6 ∷ bit_of n 5 ∷ bit_of n 4 ∷ bit_of n 3 ∷ bit_of n 2 ∷ bit_of n 1 ∷ bit_of n 0 ∷ []
 bits_of_byte LowestFirst n = bit_of n 0 ∷ bit_of n 1 ∷ bit_of n 2 ∷ bit_of n 3 ∷ bit_of n 4 ∷ bit_of n 5 ∷ bit_of n 6 ∷ bit_of n 7 ∷ []
@@ -32,11 +32,11 @@ bits_of bytes = bits_in HighestFirst bytes
 abbrev pub low_first_bits_of : List ℕ → Bits
 low_first_bits_of bytes = bits_in LowestFirst bytes
 
--- so many bits as whole bytes have
+-- as many bits as whole bytes have
 abbrev pub AreWholeBytes : Bits → Type 0
 AreWholeBytes bits = length bits % 8 ≡ 0
 
--- the lowest bits of a number, so many of them, the highest first
+-- the lowest n bits of a number, the highest first
 abbrev pub low_bits : ℕ → ℕ → Bits
 low_bits zero n = []
 low_bits (suc width) n = bit_of n width ∷ low_bits width n
@@ -45,15 +45,15 @@ low_bits (suc width) n = bit_of n width ∷ low_bits width n
 abbrev pub BitsFit : List ℕ → Type 0
 BitsFit bytes = 8 * length bytes + 64 < 2 ^ 64
 
--- the bits of some data, and a place among them
+-- the bits of some data, and an offset among them
 pub record BitsAt : Type 0 where
   pub bits : Bits
   pub place : ℕ
 
--- the bits from the place on
+-- the bits from the offset on
 abbrev pub here : BitsAt → Bits
 here at = drop at.place at.bits
 
--- a list begins another
+-- a list is a prefix of another
 abbrev pub IsPrefix : {A : Type 0} → List A → List A → Type 0
 IsPrefix {A} prefix whole = (rest : List A) × (whole ≡ prefix ++ rest)

@@ -5,12 +5,12 @@ use Rattle.hayro_ccitt.specs.declared.codes.Mode.{Mode}
 use Rattle.hayro_ccitt.specs.declared.codes.Mode.TheVariants.{Pass, Horizontal, Vertical}
 use Rattle.hayro_ccitt.specs.Bits.{Bits, low_bits}
 
--- a word and what it stands for (T.4, 4.1.1)
+-- a word and its meaning (T.4, 4.1.1)
 pub record Code (V : Type 0) : Type 0 where
   pub value : V
   pub word : Bits
 
--- glue: the word that a text of zeros and ones spells
+-- auxiliary: the word that a text of zeros and ones spells
 abbrev pub spelled : {V : Type 0} → V → String → Code V
 spelled value text = record { value = value; word = map (λ c. c == 49) (codes text) }
 
@@ -234,7 +234,7 @@ common_makeup =
     spelled 2560 "000000011111" ∷
     []
 
--- the white list: all words that may stand where a white run is read (T.4, 4.1.1)
+-- the white list: all words that may occur where a white run is read (T.4, 4.1.1)
 abbrev pub white_codes : List (Code ℕ)
 white_codes = white_terminating ++ white_makeup ++ common_makeup
 
@@ -256,6 +256,6 @@ mode_codes =
     spelled (Vertical (negsuc 2)) "0000010" ∷
     []
 
--- glue: a table of triples (value, number of bits, word as a number) as a code list
+-- auxiliary: a table of triples (value, number of bits, word as a number) as a code list
 abbrev pub numbered : {V : Type 0} → List (V × ℕ × ℕ) → List (Code V)
 numbered table = map (λ e. record { value = e.0; word = low_bits e.1 e.2 }) table

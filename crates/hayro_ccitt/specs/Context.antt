@@ -4,69 +4,82 @@ use Rattle.hayro_ccitt.specs.declared.codes.Color.{Color}
 use Rattle.hayro_ccitt.specs.declared.codes.Color.TheVariants.{White}
 use Rattle.hayro_ccitt.specs.declared.settings.DecodeSettings.{DecodeSettings}
 use Rattle.hayro_ccitt.specs.declared.error.DecodeError.{DecodeError}
+use Rattle.hayro_ccitt.specs.declared.error.DecodeError.TheVariants.{UnexpectedEof}
 use Rattle.hayro_ccitt.specs.Rows.{Row, white_row, repaired, paint, last_pixel}
 
--- the reference row, the front of the coding row, the present colour, the number of rows that were taken, whether
--- EOLs are sought, and the settings (T.4, 4.1.2 and 4.2.1.1)
+-- how many of the rows that were taken were repaired, and the fault of the last of these (T.4, 4.1.2)
+pub record Repairs : Type 0 where
+  pub rows : ℕ
+  pub fault : DecodeError
+
+-- none was; the fault means nothing then (glue)
+abbrev pub no_repairs : Repairs
+no_repairs = record { rows = 0; fault = UnexpectedEof }
+
+-- the reference row, the front of the coding row, the present colour, the number of rows that were taken, what was
+-- repaired of them, whether EOLs are sought, and the settings (T.4, 4.1.2 and 4.2.1.1)
 pub record Held : Type 0 where
   pub reference : Row
   pub front : Row
   pub color : Color
   pub taken : ℕ
+  pub repairs : Repairs
   pub has_eols : Bool
   pub settings : DecodeSettings
 
--- a context: what it holds, and beside it how many changes of the reference row were passed in this line, and the count
--- of its work (glue)
+-- a context: what it holds, how many changes of the reference row were passed in this line, and the count of its work
+-- (auxiliary)
 pub record Context : Type 0 where
   pub held : Held
   pub passed : ℕ
   pub ticks : ℕ
 
--- what a new context holds: a white reference row, nothing painted, no row taken (T.4, 4.2.1.1)
+-- what a new context holds: a white reference row, nothing painted, no row accepted (T.4, 4.2.1.1)
 abbrev pub fresh : DecodeSettings → Held
 fresh settings =
-    record { reference = white_row settings.columns; front = []; color = White; taken = 0; has_eols = false; settings = settings }
+    record { reference = white_row settings.columns; front = []; color = White; taken = 0; repairs = no_repairs; has_eols = false; settings = settings }
 
--- a front that isn't full, continued in its last colour, white if it is empty: the row of a list of changes (T.4, 4.2.1.1)
+-- the row of a list of changes: a front that isn't full is continued in its last colour, and an empty one in white (T.4,
+-- 4.2.1.1)
 abbrev pub continued : ℕ → Row → Row
 continued columns front = front ++ replicate (columns - length front) (last_pixel false front)
 
--- the row that is handed over (T.4, 4.2.1.1)
+-- the row that is passed to the sink (T.4, 4.2.1.1)
 abbrev pub taken_row : Held → Row
 taken_row h = continued h.settings.columns h.front
 
--- the front with so many more pixels of the present colour (T.4, 4.1.1)
+-- the front with n more pixels of the present colour (T.4, 4.1.1)
 abbrev pub painted_front : Held → ℕ → Result Row DecodeError
 painted_front h count = paint h.settings.strict h.settings.columns h.front h.color count
 
--- the row that was drawn becomes the reference row of an empty front (T.4, 4.2.1.1)
+-- the row that was drawn becomes the reference row, and the front is empty (T.4, 4.2.1.1)
 abbrev pub after_taking : Held → Held
 after_taking h =
-    record { reference = taken_row h; front = []; color = White; taken = h.taken + 1; has_eols = h.has_eols; settings = h.settings }
+    record { reference = taken_row h; front = []; color = White; taken = h.taken + 1; repairs = h.repairs; has_eols = h.has_eols; settings = h.settings }
 
--- another front and another colour, and all else the same (glue)
+-- another front and another colour, and the rest as it was (auxiliary)
 abbrev pub redrawn : Held → Row → Color → Held
 redrawn h front color =
-    record { reference = h.reference; front = front; color = color; taken = h.taken; has_eols = h.has_eols; settings = h.settings }
+    record { reference = h.reference; front = front; color = color; taken = h.taken; repairs = h.repairs; has_eols = h.has_eols; settings = h.settings }
 
 -- a damaged line is repaired: its front is continued in white, and the colour is white (T.4, 4.1.2)
 abbrev pub after_repair : Held → Held
 after_repair h = redrawn h (repaired h.settings.columns h.front) White
 
--- So many changes of a reference row are known not to be right of a0, where so many pixels are painted (T.4, 4.2.1.1).
+-- The first changes of a reference row, this many, are known not to be right of a0, where this many pixels are painted
+-- (T.4, 4.2.1.1).
 pub record ArePassed (places : List ℕ) (painted passed : ℕ) : Type 0 where
   pub none : painted ≡ 0 → passed ≡ 0
   pub within : passed ≤ length places
   pub left : (k : ℕ) → k < passed → get_or places k 0 ≤ painted
 
--- How many changes of a reference row are not right of a0, where so many pixels are painted: none, while a0 is left of the
--- row; else those at or left of the place reached (T.4, 4.2.1.1).
+-- How many changes of a reference row are not right of a0, where this many pixels are painted: none while a0 is left of
+-- the row; else those at or left of the position reached (T.4, 4.2.1.1).
 abbrev pub passed_changes : List ℕ → ℕ → ℕ
 passed_changes places zero = 0
 passed_changes places (suc painted) = length (filter (λ p. nat_le p (suc painted)) places)
 
--- the first place right of a0, where so many pixels are painted (T.4, 4.2.1.1)
+-- the first position right of a0, where this many pixels are painted (T.4, 4.2.1.1)
 abbrev pub right_of_painted : ℕ → ℕ
 right_of_painted zero = 0
 right_of_painted (suc painted) = suc (suc painted)

@@ -1,5 +1,5 @@
--- A context as it is seen from outside. No reader has to believe this: contracts speak of what is seen, and the code is
--- proved to keep what is inside lawful.
+-- A context as seen from outside. This is not part of the trusted specification: contracts speak of this view, and the
+-- code is proved to keep the fields valid.
 use Rattle.std.specs.Prelude.{◌≤◌}
 use Rattle.hayro_ccitt.specs.Rows.{AreChanges, pixels}
 use Rattle.hayro_ccitt.specs.Context.{Context, ArePassed}
@@ -14,6 +14,7 @@ context_of c =
         front = pixels c.pixels_decoded c.coding_changes.items;
         color = c.color;
         taken = c.decoded_rows;
+        repairs = record { rows = c.damaged_rows; fault = c.last_fault };
         has_eols = c.has_eols;
         settings = c.settings;
       };
@@ -21,8 +22,8 @@ context_of c =
       ticks = c.ticks;
     }
 
--- both lists are lawful, the front's below the pixels decoded, and these at most the columns; and the changes that were
--- passed are not right of a0
+-- both lists are lawful; the front's changes are below the pixels decoded, which are at most the columns; and the
+-- changes that were passed are not right of a0
 pub record IsLawful (c : Inside) : Type 0 where
   pub reference : AreChanges c.settings.columns c.ref_changes.items
   pub front : AreChanges c.pixels_decoded c.coding_changes.items

@@ -1,11 +1,12 @@
 -- The contract of `decode` and of `decode_low_first`, over the bits of their data.
-use Rattle.std.specs.Prelude.{◌≡◌, ◌⊎◌, ℕ, false, List, take, Result, Ok, IsOk}
+use Rattle.std.specs.Prelude.{◌≡◌, ◌⊎◌, ℕ, false, List, length, take, sum_by, Result, Ok, IsOk}
 use Rattle.hayro_ccitt.specs.declared.error.DecodeError.{DecodeError}
 use Rattle.hayro_ccitt.specs.declared.settings.DecodeSettings.{DecodeSettings}
 use Rattle.hayro_ccitt.specs.declared.settings.EncodingMode.TheVariants.{Group4}
 use Rattle.hayro_ccitt.specs.Answers.{OnAnswer, meaning_after}
 use Rattle.hayro_ccitt.specs.Bits.{Bits}
 use Rattle.hayro_ccitt.specs.Context.{Held}
+use Rattle.hayro_ccitt.specs.Damage.{repairs_by_line, repairs_of}
 use Rattle.hayro_ccitt.specs.Decoding.{SinkState, TakesRows, StopsShort}
 use Rattle.hayro_ccitt.specs.Locality.{DamageStaysInRow}
 use Rattle.hayro_ccitt.specs.Pictures.{IsClosedPicture, IsLimitedPicture}
@@ -13,32 +14,40 @@ use Rattle.hayro_ccitt.specs.PlainReading.{plain, lines_of}
 use Rattle.hayro_ccitt.specs.Rows.{Row, HaveWidth}
 use Rattle.hayro_ccitt.specs.Work.{CountsWork}
 
--- What decoding leaves of data with these bits: in a sink of this step, in the context, of the count of work, and of the
--- answer.
+-- What decoding leaves in a sink of this step, in the context, in the count of work and as its result, for data with
+-- these bits.
 pub record Decodes {M : Type 0} (settings : DecodeSettings) (bits : Bits) (step : M → List ℕ → M) (before after : SinkState M) (held : Held) (ticks : ℕ) (answer : Result ℕ DecodeError) : Type 0 where
-  -- It counts at least the words of the rows taken, and at most 128 ticks a bit and 256 more (T.4, 4.1 and 4.2; T.6, 2.2).
+  -- It counts at least the words of the accepted rows, and at most 128 ticks a bit and 256 more (T.4, 4.1 and 4.2; T.6,
+  -- 2.2).
   pub work : CountsWork settings bits held.taken ticks
-  -- The rows, the outcome and the count are those of the plain reading (T.4, 4.1 and 4.2; T.6, 2.2 and 2.4.1).
+  -- The rows, the result and the byte count are those of the plain reading (T.4, 4.1 and 4.2; T.6, 2.2 and 2.4.1).
   pub reading : TakesRows (plain settings bits).rows (plain settings bits).outcome (plain settings bits).has_eols step before after held answer
-  -- Unless an allocation failed or the sink refused a row, the sink means all rows, one after another (T.4, 4.2.1.1).
+  -- Unless an allocation failed or the sink refused a row, the sink means all rows, in order (T.4, 4.2.1.1).
   pub whole : OnAnswer answer (after.meaning ≡ meaning_after step before.meaning (plain settings bits).rows)
   -- Each row has as many pixels as there are columns (T.4, 4.1.1).
   pub widths : HaveWidth settings.columns (plain settings bits).rows
-  -- No EOL is sought in Group 4, nor without columns (T.6, 2.4.1).
+  -- No EOL is sought in Group 4, nor if there are no columns (T.6, 2.4.1).
   pub no_eols : (settings.encoding ≡ Group4) ⊎ (settings.columns ≡ 0) → held.has_eols ≡ false
-  -- Fewer rows are taken only where memory is wanted for a black pixel, or the sink refuses a row (T.4, 4.2.1.1).
+  -- Fewer rows are accepted only if an allocation fails in a row with a black pixel, or the sink refuses a row (T.4,
+  -- 4.2.1.1).
   pub short : StopsShort (plain settings bits).rows (lines_of settings bits) before after held answer
   -- Data that begin with a T.6 encoding closed by EOFB, or a T.4 one closed by RTC, are read as its picture, whatever
-  -- follows it: the answer is its count, the rows are its rows, and the sink means them (T.6, 2.4.1.1; T.4, 4.1.4 and
-  -- 4.2.4).
+  -- follows it: the result is its byte count, the rows are its rows, and the sink means them (T.6, 2.4.1.1; T.4, 4.1.4
+  -- and 4.2.4).
   pub closed : (rows : List Row) (count : ℕ) → IsClosedPicture settings rows count bits → OnAnswer answer (answer ≡ Ok count)
   pub closed_rows : (rows : List Row) (count : ℕ) → IsClosedPicture settings rows count bits → (plain settings bits).rows ≡ rows
   pub picture : (rows : List Row) (count : ℕ) → IsClosedPicture settings rows count bits
       → OnAnswer answer (after.meaning ≡ meaning_after step before.meaning rows)
-  -- So are as many lines as the limit (T.6, 2.2; T.4, 4.1.1, 4.1.2 and 4.2.1).
+  -- So are data that begin with as many lines as the row limit (T.6, 2.2; T.4, 4.1.1, 4.1.2 and 4.2.1).
   pub limited_rows : (rows : List Row) → IsLimitedPicture settings rows bits → (plain settings bits).rows ≡ rows
   pub limited : (rows : List Row) → IsLimitedPicture settings rows bits → OnAnswer answer (IsOk answer)
   pub limited_picture : (rows : List Row) → IsLimitedPicture settings rows bits
       → OnAnswer answer (after.meaning ≡ meaning_after step before.meaning rows)
+  -- The context counts the rows that were repaired, of those taken (T.4, 4.1.2).
+  pub damaged_taken : held.repairs.rows ≡ sum_by length (take held.taken (repairs_by_line settings bits))
+  pub damaged : OnAnswer answer (held.repairs.rows ≡ length (repairs_of settings bits))
+  -- In a picture no row is repaired (T.4, 4.1.2).
+  pub closed_whole : (rows : List Row) (count : ℕ) → IsClosedPicture settings rows count bits → held.repairs.rows ≡ 0
+  pub limited_whole : (rows : List Row) → IsLimitedPicture settings rows bits → held.repairs.rows ≡ 0
   -- In lenient one-dimensional data with EOLs a change inside one line's body changes that row alone (T.4, 4.1.2).
   pub damage : OnAnswer answer (DamageStaysInRow settings bits (take held.taken (plain settings bits).rows) answer)

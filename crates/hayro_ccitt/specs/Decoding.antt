@@ -1,26 +1,27 @@
 -- What decoding leaves: in the sink, in the context, and of the reading.
-use Rattle.std.specs.Prelude.{◌≡◌, ◌≢◌, ◌≤◌, ◌<◌, ℕ, ◌+◌, Bool, true, false, List, [], length, take, get_or, Result, Ok, Err, OnOk, OnErr, IfOk, IfErr}
+use Rattle.std.specs.Prelude.{sum_by, ◌≡◌, ◌≢◌, ◌≤◌, ◌<◌, ℕ, ◌+◌, Bool, true, false, List, [], length, take, get_or, Result, Ok, Err, OnOk, OnErr, IfOk, IfErr}
 use Rattle.hayro_ccitt.specs.declared.codes.Color.TheVariants.{White}
 use Rattle.hayro_ccitt.specs.declared.error.DecodeError.{DecodeError}
 use Rattle.hayro_ccitt.specs.declared.error.DecodeError.TheVariants.{OutOfMemory, Refused}
 use Rattle.hayro_ccitt.specs.Answers.{IsFault, OnAnswer, HasBlack, PaintsBlack, front_of, meaning_after}
 use Rattle.hayro_ccitt.specs.Bits.{Bits}
-use Rattle.hayro_ccitt.specs.Context.{Context, Held, redrawn}
+use Rattle.hayro_ccitt.specs.Context.{Context, Held, Repairs, redrawn}
+use Rattle.hayro_ccitt.specs.Damage.{Damaged, repaired_by_turn}
 use Rattle.hayro_ccitt.specs.Lines.{Line}
 use Rattle.hayro_ccitt.specs.PlainReading.{Progress, Ending, Gap, move_on, one_each, end_of, ending_from, gathered_of, gathered_from, line_of_turn}
 use Rattle.hayro_ccitt.specs.Rows.{Row, changes}
 use Rattle.hayro_ccitt.specs.Work.{CountsRun, words_of_turn, most_counted}
 
--- glue: what a sink means, whether it has refused a row, and which rows it refuses
+-- auxiliary: what a sink means, whether it has refused a row, and which rows it refuses
 pub record SinkState (M : Type 0) : Type 1 where
   pub meaning : M
   pub refused : Bool
   pub refuses : List ℕ → Type 0
 
--- ---- Whole data (glue): the words of the contract of `decode`, and of the drivers' behind it
+-- ---- Whole data (auxiliary): the terms of the contracts of `decode` and of its drivers
 
--- What was taken and answered, where a reading has these rows, ends so and leaves this of its EOLs: the first of its rows
--- were taken, each as its changes, and all of them unless memory was wanted or a row was refused.
+-- Which rows were accepted and what was returned, for a reading with these rows, this end and this state of its EOLs: the
+-- first of its rows were accepted, each as its changes, and all of them unless an allocation failed or a row was refused.
 pub record TakesRows {M A : Type 0} (rows : List Row) (outcome : Result A DecodeError) (sought : Bool) (step : M → List ℕ → M) (before after : SinkState M) (held : Held) (answer : Result A DecodeError) : Type 0 where
   pub taken : held.taken ≤ length rows
   pub meaning : after.meaning ≡ meaning_after step before.meaning (take held.taken rows)
@@ -29,8 +30,8 @@ pub record TakesRows {M A : Type 0} (rows : List Row) (outcome : Result A Decode
   pub fault : IfErr answer (λ e. IsFault e → outcome ≡ Err e)
   pub has_eols : OnAnswer answer (held.has_eols ≡ sought)
 
--- When less was taken: memory is wanted only in a line that paints a black pixel, a row is refused only where there is
--- one, and then alone the sink says that it has refused.
+-- When fewer were accepted: an allocation fails only in a line that paints a black pixel, a row is refused only where
+-- there is one, and only then does the sink say that it has refused.
 pub record StopsShort {M A : Type 0} (rows : List Row) (lines : List Line) (before after : SinkState M) (held : Held) (answer : Result A DecodeError) : Type 0 where
   pub memory : answer ≡ Err OutOfMemory → PaintsBlack lines held.taken
   pub refused : answer ≡ Err Refused → held.taken < length rows
@@ -38,61 +39,74 @@ pub record StopsShort {M A : Type 0} (rows : List Row) (lines : List Line) (befo
   pub flag : answer ≡ Err Refused → after.refused ≡ true
   pub no_flag : answer ≢ Err Refused → after.refused ≡ before.refused
 
+-- How many rows are repaired, where the lines of a reading come to these repairs: those of the rows that were taken, and all
+-- of them unless memory was wanted or a row was refused (T.4, 4.1.2).
+pub record CountsRepairs {A : Type 0} (repairs : List (List Damaged)) (held : Held) (answer : Result A DecodeError) : Type 0 where
+  pub taken : held.repairs.rows ≡ sum_by length (take held.taken repairs)
+  pub all : OnAnswer answer (held.repairs.rows ≡ sum_by length repairs)
+
 -- ---- All rows of some bits: the contract of the drivers
 
--- What a run over rows leaves, from the end that its reading comes to, its lines and their words: the rows that were taken,
--- what comes with fewer, and the work, at most so much.
-pub record TakesAll {M : Type 0} (end : Ending) (lines : List Line) (words : List (List Bits)) (most : ℕ) (step : M → List ℕ → M) (before after : SinkState M) (old new : Context) (answer : Result Bits DecodeError) : Type 0 where
+-- What a run over rows leaves, from the end that its reading comes to, its lines, their words and repairs: the rows that were
+-- taken, what comes with fewer, how many were repaired, and the work, at most so much.
+pub record TakesAll {M : Type 0} (end : Ending) (lines : List Line) (words : List (List Bits)) (repairs : List (List Damaged)) (most : ℕ) (step : M → List ℕ → M) (before after : SinkState M) (old new : Context) (answer : Result Bits DecodeError) : Type 0 where
   pub settings : new.held.settings ≡ old.held.settings
   pub reading : TakesRows end.rows end.outcome end.has_eols step before after new.held answer
   pub short : StopsShort end.rows lines before after new.held answer
+  pub repaired : CountsRepairs repairs new.held answer
   pub work : CountsRun words new.held.taken old.ticks new.ticks most
 
 -- a run over the rows of some bits, read by the settings (T.4, 4.1 and 4.2; T.6, 2.2 and 2.4.1)
 abbrev pub DecodesRows : {M : Type 0} → Bits → (M → List ℕ → M) → SinkState M → SinkState M → Context → Context → Result Bits DecodeError → Type 0
 DecodesRows bits step before after old new answer =
     TakesAll (end_of old.held.settings bits) (gathered_of old.held.settings (line_of_turn old.held.settings) bits)
-    (gathered_of old.held.settings (words_of_turn old.held.settings) bits) (most_counted old.held.settings.encoding (length bits))
+    (gathered_of old.held.settings (words_of_turn old.held.settings) bits)
+    (gathered_of old.held.settings (repaired_by_turn old.held.settings bits) bits) (most_counted old.held.settings.encoding (length bits))
     step before after old new answer
 
--- ---- One turn: what no reader has to believe, the contracts of private calls
+-- ---- One turn: the contracts of private calls, not part of the trusted specification
 
--- a call that answers nothing but that it went well, with the bits that it left
+-- a call that returns no value, and leaves these bits
 abbrev pub leaving : Result (Unit {0}) DecodeError → Bits → Result Bits DecodeError
 leaving (Ok x) rest = Ok rest
 leaving (Err e) rest = Err e
 
--- what a call says of a gap: that it is over, or a line stands here, and whether EOLs are sought
+-- what a call says of a gap: that the reading is over, or that a line is here; and whether EOLs are sought
 abbrev pub gap_said : Result Bool DecodeError → Bool → Bits → Gap
 gap_said (Ok over) has_eols rest = elim over [ true ↦ Gap.over (Ok rest) | false ↦ Gap.line_at has_eols rest ]
 gap_said (Err e) has_eols rest = Gap.over (Err e)
 
--- the context where one more row was taken
+-- the context after one more accepted row
 abbrev pub with_row_taken : Held → Row → Held
 with_row_taken h row =
-    record { reference = row; front = []; color = White; taken = h.taken + 1; has_eols = h.has_eols; settings = h.settings }
+    record { reference = row; front = []; color = White; taken = h.taken + 1; repairs = h.repairs; has_eols = h.has_eols; settings = h.settings }
 
--- a row was taken, and these bits stand behind it
-pub record RowIsTaken {M : Type 0} (row : Result (Row × Bits) DecodeError) (step : M → List ℕ → M) (before after : SinkState M) (old new : Held) (rest : Bits) : Type 0 where
+-- what is repaired of the rows taken, where the row of a line is one more: a broken one was repaired (T.4, 4.1.2)
+abbrev pub repairs_with : Line → Repairs → Repairs
+repairs_with (Line.whole row rest) before = before
+repairs_with (Line.broken front fault) before = record { rows = before.rows + 1; fault = fault }
+
+-- the row of a line was taken, and these bits stand behind it
+pub record RowIsTaken {M : Type 0} (line : Line) (row : Result (Row × Bits) DecodeError) (step : M → List ℕ → M) (before after : SinkState M) (old new : Held) (rest : Bits) : Type 0 where
   pub taken : Row
   pub is : row ≡ Ok (taken, rest)
-  pub held : new ≡ with_row_taken old taken
+  pub held : new ≡ record (with_row_taken old taken) { repairs = repairs_with line old.repairs }
   pub meaning : after.meaning ≡ step before.meaning (changes taken)
 
--- the bits behind a line that began here: those that follow a whole one; where a broken one is repaired, the place goes
--- back to the line's start (T.4, 4.1.2)
+-- the bits after a line that began here: after a whole line what follows it; after a broken one that is repaired the
+-- bits from the line's start, to which the reader goes back (T.4, 4.1.2)
 abbrev pub behind_line : Line → Bits → Bits
 behind_line (Line.whole row rest) start = rest
 behind_line (Line.broken front fault) start = start
 
--- a row stands here that is refused
+-- the row here is refused
 abbrev pub IsRefusedBy : (List ℕ → Type 0) → Result (Row × Bits) DecodeError → Type 0
 IsRefusedBy refuses (Ok (row, rest)) = refuses (changes row)
 IsRefusedBy refuses (Err e) = ⊥
 
--- What a call leaves that reads a line and hands over its row, where the line comes to this row.
+-- What a call leaves that reads a line and passes its row to the sink, where the line yields this row.
 pub record TakesOneRow {M : Type 0} (line : Line) (row : Result (Row × Bits) DecodeError) (step : M → List ℕ → M) (before after : SinkState M) (old new : Held) (answer : Result (Unit {0}) DecodeError) (rest : Bits) : Type 0 where
-  pub taken : OnOk answer (RowIsTaken row step before after old new rest)
+  pub taken : OnOk answer (RowIsTaken line row step before after old new rest)
   pub fault : IfErr answer (λ e. IsFault e → row ≡ Err e)
   pub kept : OnErr answer (after.meaning ≡ before.meaning)
   pub held : OnErr answer (new ≡ redrawn old new.front new.color)
@@ -101,8 +115,9 @@ pub record TakesOneRow {M : Type 0} (line : Line) (row : Result (Row × Bits) De
   pub flag : answer ≡ Err Refused → after.refused ≡ true
   pub no_flag : answer ≢ Err Refused → after.refused ≡ before.refused
 
--- a run over rows that begins at a line, with at most so much work
-abbrev pub DecodesFrom : {M : Type 0} → Progress → ℕ → (M → List ℕ → M) → SinkState M → SinkState M → Context → Context → Result Bits DecodeError → Type 0
-DecodesFrom first most step before after old new answer =
+-- a run over rows that begins at a line among some bits, with at most so much work
+abbrev pub DecodesFrom : {M : Type 0} → Bits → Progress → ℕ → (M → List ℕ → M) → SinkState M → SinkState M → Context → Context → Result Bits DecodeError → Type 0
+DecodesFrom bits first most step before after old new answer =
     TakesAll (ending_from (move_on old.held.settings) first) (gathered_from (move_on old.held.settings) (one_each (line_of_turn old.held.settings)) first)
-    (gathered_from (move_on old.held.settings) (one_each (words_of_turn old.held.settings)) first) most step before after old new answer
+    (gathered_from (move_on old.held.settings) (one_each (words_of_turn old.held.settings)) first)
+    (gathered_from (move_on old.held.settings) (one_each (repaired_by_turn old.held.settings bits)) first) most step before after old new answer

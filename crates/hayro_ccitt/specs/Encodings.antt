@@ -25,8 +25,9 @@ pub data EncodesLine1D : Color → Row → Bits → Type 0 where
       → 0 < n + length row → ((rest : Row) → row ≢ is_black color ∷ rest) → EncodesLine1D (opposite color) row bits
       → EncodesLine1D color (replicate n (is_black color) ++ row) (word ++ bits)
 
--- Lawful steps from a place a0 to the row's end, against a reference row (T.4, 4.2.1.3; T.6, 2.2). Here `from` is the
--- first place right of a0, so the runs of a horizontal mode begin at `from - 1`, or at 0 where a0 is left of the row.
+-- Lawful steps from a position a0 to the row's end, against a reference row (T.4, 4.2.1.3; T.6, 2.2). Here `from` is
+-- the first position right of a0, so the runs of a horizontal mode begin at `from - 1`, or at 0 if a0 is left of the
+-- row.
 pub data EncodesLine2D (reference row : Row) : ℕ → Color → Bits → Type 0 where
   over : {color : Color} → EncodesLine2D reference row (suc (length row)) color []
   pass : (from : ℕ) (word : Bits) {color : Color} {bits : Bits} → from ≤ length row → Has mode_codes Pass word
@@ -41,7 +42,7 @@ pub data EncodesLine2D (reference row : Row) : ℕ → Color → Bits → Type 0
       → EncodesLine2D reference row (suc (a2 row from)) color bits
       → EncodesLine2D reference row from color (word ++ (first ++ (second ++ bits)))
 
--- a line of an encoding: of T.6; of one-dimensional T.4; of two-dimensional T.4, behind its tag (T.4, 4.1.1 and 4.2.2;
+-- a line of an encoding: of T.6; of one-dimensional T.4; of two-dimensional T.4, after its tag (T.4, 4.1.1 and 4.2.2;
 -- T.6, 2.2)
 abbrev pub EncodesLine : EncodingMode → Row → Row → Bits → Type 0
 EncodesLine Group4 reference row bits = EncodesLine2D reference row 0 White bits
@@ -49,7 +50,7 @@ EncodesLine Group3_1D reference row bits = EncodesLine1D White row bits
 EncodesLine Group3_2D reference row bits = (line : Bits)
     × (((bits ≡ true ∷ line) × EncodesLine1D White row line) ⊎ ((bits ≡ false ∷ line) × EncodesLine2D reference row 0 White line))
 
--- glue: zeros up to a whole byte
+-- auxiliary: zeros up to a whole byte
 abbrev pub padding : ℕ → Bits
 padding n = replicate ((8 - n % 8) % 8) false
 
@@ -60,11 +61,11 @@ EncodesRows encoding aligned reference (row ∷ rows) bits = (line next : Bits)
     × EncodesLine encoding reference row line × EncodesRows encoding aligned row rows next
     × (bits ≡ line ++ (if aligned then padding (length line) else []) ++ next)
 
--- eleven zeros, so many more, and a one (T.4, 4.1.2 and 4.1.3)
+-- eleven zeros, n more, and a one (T.4, 4.1.2 and 4.1.3)
 abbrev pub eol : ℕ → Bits
 eol fill = replicate (11 + fill) false ++ true ∷ []
 
--- a picture of so many columns, at least one: rows of that width (T.4, 4.1.1)
+-- a picture of this width, which is at least one: rows of that width (T.4, 4.1.1)
 abbrev pub IsPicture : ℕ → List Row → Type 0
 IsPicture columns rows = (0 < columns) × HaveWidth columns rows
 
@@ -79,13 +80,13 @@ EncodesRowsWithEols encoding reference [] bits = bits ≡ []
 EncodesRowsWithEols encoding reference (row ∷ rows) bits = (fill : ℕ) × (line next : Bits)
     × EncodesLine encoding reference row line × EncodesRowsWithEols encoding row rows next × (bits ≡ eol fill ++ line ++ next)
 
--- the tag behind an EOL of RTC (T.4, 4.2.4)
+-- the tag after an EOL of RTC (T.4, 4.2.4)
 abbrev pub tag_of : EncodingMode → Bits
 tag_of Group3_2D = true ∷ []
 tag_of Group3_1D = []
 tag_of Group4 = []
 
--- so many EOLs, each with its tag (T.4, 4.1.4 and 4.2.4)
+-- n EOLs, each with its tag (T.4, 4.1.4 and 4.2.4)
 abbrev pub ClosesWithEols : EncodingMode → ℕ → Bits → Type 0
 ClosesWithEols encoding zero bits = bits ≡ []
 ClosesWithEols encoding (suc n) bits = (fill : ℕ) × (next : Bits) × ClosesWithEols encoding n next × (bits ≡ eol fill ++ tag_of encoding ++ next)

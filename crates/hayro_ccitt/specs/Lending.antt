@@ -1,14 +1,15 @@
--- The count of a context, lent. No reader has to believe this: it is how a loan is said.
+-- The tick count of a context, borrowed. This is not part of the trusted specification: it states what a borrow of the
+-- count leaves.
 use Rattle.std.specs.Prelude.{ℕ}
 use Rattle.std.specs.Borrow.{Lends, MutBor, Fml}
 use Rattle.hayro_ccitt.specs.Context.{Context}
 use Rattle.hayro_ccitt.specs.contracts.context.DecoderContext.{the_row}
 use Rattle.hayro_ccitt.specs.contracts.codes.Ticks.{the_row as ticks_row}
 
--- a context with another count
+-- a context with another tick count
 abbrev pub with_ticks : Context → ℕ → Context
 with_ticks c n = record c { ticks = n }
 
--- the context ends with the last count behind the loan, and all else stands
+-- the context ends with the last count of the borrow, and the rest as it was
 abbrev pub LendsTicks : MutBor Context → MutBor ℕ → Fml
 LendsTicks c r = Lends the_row ticks_row c r (with_ticks c.now)

@@ -5,6 +5,7 @@ pub mod CodeReading
 pub mod Context
 pub mod ContextView
 pub mod Contract
+pub mod Damage
 pub mod Decoding
 pub mod Encodings
 pub mod EndOfLine
@@ -16,6 +17,7 @@ pub mod LookUps
 pub mod Pictures
 pub mod PlainReading
 pub mod Repetition
+pub mod RowCursors
 pub mod Rows
 pub mod RowsRead
 pub mod Runs

@@ -31,24 +31,24 @@ pub record Pen : Type 0 where
 abbrev pub start : Bits → Pen
 start rest = record { front = []; color = White; rest = rest }
 
--- ---- How drawing goes on from step to step (glue).
+-- ---- How drawing continues from step to step (auxiliary).
 
--- what drawing comes to: something to go on with, or the line that ends; and the words that were found until then
+-- what drawing yields: a value to continue with, or the line that ends; and the words found so far
 pub record Drawing (A : Type 0) : Type 0 where
   pub turn : Turn A Line
   pub words : List Bits
 
--- a turn, and the one behind it
+-- a turn, and the one after it
 abbrev pub turn_behind : {A B : Type 0} → Turn A Line → (A → Turn B Line) → Turn B Line
 turn_behind (Turn.next x) behind = behind x
 turn_behind (Turn.done line) behind = Turn.done line
 
--- the words that are found behind a turn
+-- the words that are found after a turn
 abbrev pub words_behind : {A : Type 0} → Turn A Line → (A → List Bits) → List Bits
 words_behind (Turn.next x) behind = behind x
 words_behind (Turn.done line) behind = []
 
--- one step behind another, unless the line ends with the first: the lines of a `do`
+-- one step after another, unless the line ends with the first: the sequence in a `do`
 infixl 10 ◌>>=◌
 abbrev pub ◌>>=◌ : {A B : Type 0} → Drawing A → (A → Drawing B) → Drawing B
 drawing >>= behind = record {
@@ -56,11 +56,11 @@ drawing >>= behind = record {
   words = drawing.words ++ words_behind drawing.turn (λ x. (behind x).words);
 }
 
--- drawing goes on with this
+-- drawing continues with this
 abbrev pub go_on : {A : Type 0} → A → Drawing A
 go_on x = record { turn = Turn.next x; words = [] }
 
--- a value to go on with; or a fault, which ends the line with the front that was painted until then
+-- a value to continue with; or a fault, which ends the line with the front painted so far
 abbrev pub unless_fault : {A : Type 0} → Row → Result A DecodeError → Turn A Line
 unless_fault front (Ok x) = Turn.next x
 unless_fault front (Err fault) = Turn.done (Line.broken front fault)
@@ -71,28 +71,28 @@ finds pen words result = record { turn = unless_fault pen.front result; words = 
 
 -- ---- What a pen does.
 
--- the run of the pen's colour that stands here, and the bits behind it (T.4, 4.1.1)
+-- the run of the pen's colour here, and the bits after it (T.4, 4.1.1)
 abbrev pub run_here : Pen → Drawing (ℕ × Bits)
 run_here pen = finds pen (run_found pen.color (0, pen.rest)) (run_from pen.color (0, pen.rest))
 
--- the mode that stands here, and the bits behind it (T.4, 4.2.1.3; T.6, 2.2)
+-- the mode here, and the bits after it (T.4, 4.2.1.3; T.6, 2.2)
 abbrev pub mode_here : Pen → Drawing (Mode × Bits)
 mode_here pen = finds pen (word_found mode_codes pen.rest) (read_code mode_codes pen.rest)
 
--- the front, with so many more pixels of the pen's colour (T.4, 4.1.1)
+-- the front, with n more pixels of the pen's colour (T.4, 4.1.1)
 abbrev pub painted : Bool → ℕ → Pen → ℕ → Drawing Row
 painted strict columns pen count = finds pen [] (paint strict columns pen.front pen.color count)
 
--- the front, painted up to a place (T.4, 4.2.1.3)
+-- the front, painted up to a position (T.4, 4.2.1.3)
 abbrev pub painted_to : Bool → ℕ → Pen → ℕ → Drawing Row
 painted_to strict columns pen place = painted strict columns pen (place - length pen.front)
 
--- a place, where it is not left of the pixels painted and fits in 32 bits (T.4, 4.2.1.3)
+-- a position, if it is not left of the pixels painted and fits in 32 bits (T.4, 4.2.1.3)
 abbrev pub place_from : ℕ → ℤ → Result ℕ DecodeError
 place_from painted (pos p) = if nat_le painted p && nat_le p 4294967295 then Ok p else Err Overflow
 place_from painted (negsuc p) = Err Overflow
 
--- the place that a vertical mode names: so far right of b1, or left of it (T.4, 4.2.1.3)
+-- the position that a vertical mode names: a distance right of b1, or left of it (T.4, 4.2.1.3)
 abbrev pub place_by : Row → Pen → ℤ → Drawing ℕ
 place_by reference pen k = finds pen [] (place_from (length pen.front) (pos (b1 reference (right_of pen.front) pen.color) +ℤ k))
 
@@ -111,7 +111,7 @@ draw_run strict columns pen = do
   go_on (record { front = front; color = opposite pen.color; rest = rest })
 
 -- What a mode draws (T.4, 4.2.1.3). Pass paints up to b2 and keeps the colour; horizontal draws two runs; vertical
--- paints up to a place next to b1 and turns the colour.
+-- paints up to a position next to b1 and turns the colour.
 abbrev pub draw_mode : Bool → ℕ → Row → Pen → Mode → Drawing Pen
 draw_mode strict columns reference pen Pass = do
   front ← painted_to strict columns pen (b2 reference (right_of pen.front) pen.color)
@@ -163,14 +163,14 @@ found_1d strict columns here = words_drawn (draw_1d strict columns) (start here)
 abbrev pub found_2d : Bool → ℕ → Row → Bits → List Bits
 found_2d strict columns reference here = words_drawn (draw_2d strict columns reference) (start here)
 
--- the tag of the line that stands here, which two-dimensional data of T.4 have (T.4, 4.2.2)
+-- the tag of the line here, in two-dimensional data of T.4 (T.4, 4.2.2)
 abbrev pub tag_at : EncodingMode → Bits → Bits
 tag_at Group3_2D [] = []
 tag_at Group3_2D (tag ∷ here) = tag ∷ []
 tag_at Group3_1D here = []
 tag_at Group4 here = []
 
--- the words that the reading of the line here finds, behind its tag where it has one (T.4, 4.1 and 4.2; T.6, 2.2)
+-- the words that the reading of the line here finds, after its tag if it has one (T.4, 4.1 and 4.2; T.6, 2.2)
 abbrev pub line_found : EncodingMode → Bool → ℕ → Row → Bits → List Bits
 line_found Group3_2D strict columns reference [] = []
 line_found Group3_2D strict columns reference (true ∷ here) = found_1d strict columns here

@@ -1,4 +1,4 @@
--- Telling a code word from a fixed number of bits.
+-- Code words in lookup tables of a fixed number of bits.
 use Rattle.std.specs.Prelude.{ℕ, zero, suc, ◌+◌, ◌-◌, ◌*◌, ◌^◌, ◌<◌, ◌≡◌, max, Bool, false, ◌&&◌, nat_le, nat_lt, if◌then◌else◌, List, [], ◌∷◌, Option, Some, None, option_map, length, get_or}
 use Rattle.hayro_ccitt.specs.Bits.{Bits, low_bits}
 use Rattle.hayro_ccitt.specs.CodeLists.{Code, mode_codes}
@@ -8,18 +8,18 @@ use Rattle.hayro_ccitt.specs.declared.codes.Color.TheVariants.{White, Black}
 use Rattle.hayro_ccitt.specs.Runs.{codes_of}
 use Rattle.hayro_ccitt.specs.CodeReading.{agreement, word_at, is_prefix}
 
--- glue: the first bits here, so many of them, padded with zeros
+-- auxiliary: the first n bits here, padded with zeros
 abbrev pub padded : ℕ → Bits → Bits
 padded zero here = []
 padded (suc n) [] = false ∷ padded n []
 padded (suc n) (b ∷ here) = b ∷ padded n here
 
--- how many bits from here on are the front of a word of the list, at most (T.4, 4.1.1)
+-- the most bits from here on that are the start of a word of the list (T.4, 4.1.1)
 abbrev pub longest_agreement : {V : Type 0} → List (Code V) → Bits → ℕ
 longest_agreement [] here = 0
 longest_agreement (c ∷ list) here = max (agreement c.word here) (longest_agreement list here)
 
--- How many bits tell what stands here: those of the word; where none stands, the longest agreement with a word and the
+-- How many bits decide what is here: those of the word; where there is none, the longest agreement with a word and the
 -- bit that ends it (T.4, 4.1.1).
 abbrev pub telling_bits : {V : Type 0} → List (Code V) → Bits → ℕ
 telling_bits list here = elim (word_at list here) [
@@ -27,37 +27,37 @@ telling_bits list here = elim (word_at list here) [
   | None ↦ suc (longest_agreement list here)
 ]
 
--- the run of the word that stands here, and 4095 where none does (T.4, 4.1.1)
+-- the run of the word here, and 4095 where there is none (T.4, 4.1.1)
 abbrev pub run_or_none : List (Code ℕ) → Bits → ℕ
 run_or_none list here = elim (word_at list here) [
   | Some found ↦ found.0
   | None ↦ 4095
 ]
 
--- the entry of a look-up for these bits: the run in the low twelve bits, above them the number of bits (T.4, 4.1.1)
+-- the entry of a lookup table for these bits: the run in the low twelve bits, above it the number of bits (T.4, 4.1.1)
 abbrev pub entry_of : List (Code ℕ) → Bits → ℕ
 entry_of list here = telling_bits list here * 4096 + run_or_none list here
 
--- glue: the thirteen bits that an index stands for, the highest first
+-- auxiliary: the thirteen bits of an index, the highest first
 unfoldable pub thirteen_bits : ℕ → Bits
 thirteen_bits index = low_bits 13 index
 
--- the entries of a list, one for each thirteen bits (T.4, 4.1.1)
+-- the entries of a list, one for each value of thirteen bits (T.4, 4.1.1)
 pub record AreEntries (list : List (Code ℕ)) (entries : List ℕ) : Type 0 where
   pub count : length entries ≡ 8192
   pub each : (index : ℕ) → index < 8192 → get_or entries index 0 ≡ entry_of list (thirteen_bits index)
 
--- glue: the seven bits that a number stands for, the highest first
+-- auxiliary: the seven bits of a number, the highest first
 unfoldable pub seven_bits : ℕ → Bits
 seven_bits number = low_bits 7 number
 
--- the mode whose word stands here, None where no word does, and how many bits tell so (T.4, 4.2.1.2)
+-- the mode whose word is here, `None` where there is none, and how many bits decide it (T.4, 4.2.1.2)
 abbrev pub mode_told : Bits → Option Mode × ℕ
 mode_told here = (option_map (λ found. found.0) (word_at mode_codes here), telling_bits mode_codes here)
 
--- ---- glue: the entries while a table of triples (run, number of bits, word as a number) is written
+-- ---- auxiliary: the entries while a table of triples (run, number of bits, word as a number) is filled
 
--- no bit of the word is above its width, which is thirteen at most, and the run has twelve bits
+-- no bit of the word is above its width, which is at most thirteen, and the run fits in twelve bits
 abbrev pub is_row : ℕ × ℕ × ℕ → Bool
 is_row row = nat_le row.1 13 && nat_lt row.2 (2 ^ row.1) && nat_lt row.0 4096
 
@@ -70,7 +70,7 @@ abbrev pub with_rows : List (ℕ × ℕ × ℕ) → Bits → ℕ → ℕ
 with_rows [] here entry = entry
 with_rows (row ∷ table) here entry = with_rows table here (with_row row here entry)
 
--- ---- glue: the look-ups of both colours
+-- ---- auxiliary: the lookup tables of both colours
 
 -- the entries of either colour
 pub record ColorEntries : Type 0 where
@@ -82,6 +82,6 @@ abbrev pub entries_of : Color → ColorEntries → List ℕ
 entries_of White both = both.white
 entries_of Black both = both.black
 
--- they are those of its list (T.4, 4.1.1)
+-- the table's entries are those of its list (T.4, 4.1.1)
 abbrev pub AreOfColors : ColorEntries → Type 0
 AreOfColors both = (color : Color) → AreEntries (codes_of color) (entries_of color both)

@@ -11,101 +11,108 @@ use Rattle.hayro_ccitt.specs.Rows.{Row, white_row, repaired}
 use Rattle.hayro_ccitt.specs.Lines.{Line, line_1d, line_2d}
 use Rattle.hayro_ccitt.specs.EndOfLine.{eols, all_eols, tagged_eols, next_eol}
 
--- ---- glue: between two turns, and what a turn comes to
+-- ---- auxiliary: the state between two turns, and what a turn yields
 
--- how far the reading came, between turns: the rows so far, whether EOLs are sought, the bits from here on
+-- the state of the reading between turns: the rows so far, whether EOLs are sought, and the bits from here on
 pub record Progress : Type 0 where
   pub rows : List Row
   pub has_eols : Bool
   pub rest : Bits
 
--- how the reading ends: with all that it read up to a place, or with a fault
+-- how the reading ends: well, having read up to an offset, or with a fault
 pub record Ending : Type 0 where
   pub rows : List Row
   pub has_eols : Bool
   pub outcome : Result Bits DecodeError
 
--- what one row's turn comes to
+-- what the turn of one row yields
 abbrev pub Move : Type 0
 Move = Turn Progress Ending
 
--- ---- The gap before a line: what stands behind so many rows says whether a line follows (T.4, 4.1; T.6, 2.4.1)
+-- ---- The gap before a line: after the rows so far, is there a line (T.4, 4.1; T.6, 2.4.1)
 
--- what stands between two rows: a line, and whether EOLs are sought from now on; or the end, well or with a fault
+-- what is between two rows: a line follows, and EOLs are sought from now on or aren't; or the reading ends, well or
+-- with a fault
 pub data Gap : Type 0 where
   line_at : Bool → Bits → Gap
   over : Result Bits DecodeError → Gap
 
--- glue: no bit is left
+-- auxiliary: no bit is left
 abbrev pub at_end : Bits → Bool
 at_end [] = true
 at_end (bit ∷ rest) = false
 
--- glue: the limit of rows is met; a limit of 0 is none
+-- auxiliary: the row limit is met; a limit of 0 is no limit
 abbrev pub limit_met : DecodeSettings → ℕ → Bool
 limit_met settings taken = not (settings.rows == 0) && (settings.rows == taken)
 
--- The EOLs that stand here: in Group 4 with `end_of_block` at most the two of EOFB (T.6, 2.4.1.1), in two-dimensional data
--- of Group 3 with their tags (T.4, 4.2.2).
+-- The EOLs here: in Group 4 with `end_of_block` at most the two of EOFB (T.6, 2.4.1.1), in two-dimensional data of Group 3
+-- with their tags (T.4, 4.2.2).
 abbrev pub eols_by : EncodingMode → Bool → Bits → ℕ × Bits
 eols_by Group3_1D end_of_block here = all_eols here
 eols_by Group3_2D end_of_block here = tagged_eols here
 eols_by Group4 end_of_block here = if end_of_block then eols 2 here else all_eols here
 
--- glue: the EOLs that stand here, read by the settings
+-- auxiliary: the EOLs here, read by the settings
 abbrev pub eols_here : DecodeSettings → Bits → ℕ × Bits
 eols_here settings here = eols_by settings.encoding settings.end_of_block here
 
--- so many EOLs end the data: the two of EOFB (T.6, 2.4.1.1), the six of RTC (T.4, 4.1.4)
+-- this number of EOLs ends the data: the two of EOFB (T.6, 2.4.1.1), the six of RTC (T.4, 4.1.4)
 abbrev pub eols_of_end : EncodingMode → ℕ
 eols_of_end Group4 = 2
 eols_of_end Group3_1D = 6
 eols_of_end Group3_2D = 6
 
--- EOLs were counted behind so many rows: EOFB or RTC with `end_of_block`, the limit and the end of the data end the reading
--- (T.4, 4.1.4; T.6, 2.4.1.1)
+-- EOLs were counted after this number of rows: EOFB or RTC with `end_of_block`, the row limit and the end of the data end
+-- the reading (T.4, 4.1.4; T.6, 2.4.1.1)
 abbrev pub is_over : DecodeSettings → ℕ → ℕ × Bits → Bool
 is_over settings taken (count, rest) =
     (settings.end_of_block && nat_le (eols_of_end settings.encoding) count) || limit_met settings taken || at_end rest
 
--- behind these EOLs a line stands, unless the reading is over (T.4, 4.1.4; T.6, 2.4.1.1)
+-- a line follows these EOLs, unless the reading is over (T.4, 4.1.4; T.6, 2.4.1.1)
 abbrev pub behind_eols : DecodeSettings → ℕ → Bool → ℕ × Bits → Gap
 behind_eols settings taken has_eols (count, rest) =
     if is_over settings taken (count, rest) then Gap.over (Ok rest) else Gap.line_at has_eols rest
 
--- The next EOL was looked for. The EOLs that stand there are counted; where there is none, a line stands here, and EOLs
--- are given up (T.4, 4.1.2).
+-- The next EOL was looked for. If there is one, the EOLs there are counted; else a line is here, and EOLs are no longer
+-- sought (T.4, 4.1.2).
 abbrev pub from_next_eol : DecodeSettings → ℕ → Bits → Option Bits → Gap
 from_next_eol settings taken here (Some found) = behind_eols settings taken true (eols_here settings found)
 from_next_eol settings taken here None = Gap.line_at false here
 
--- no EOL stands here, in data that have them: strict this is a fault, lenient the next EOL is looked for (T.4, 4.1.2)
+-- there is no EOL here, in data that have them: a strict reading fails, and a lenient one looks for the next EOL (T.4,
+-- 4.1.2)
 abbrev pub missing_eol : DecodeSettings → ℕ → Bits → Gap
 missing_eol settings taken here =
     if settings.strict then Gap.over (Err InvalidCode) else from_next_eol settings taken here (next_eol here)
+
+-- no EOL stands behind so many rows, although the data have them, the limit isn't met and bits are left (T.4, 4.1.2)
+abbrev pub misses_eol : DecodeSettings → ℕ → Bool → Bits → Bool
+misses_eol settings taken has_eols here =
+    ((eols_here settings here).0 == 0) && has_eols && not (limit_met settings taken) && not (at_end here)
 
 -- What stands behind so many rows: EOLs, which are counted, and sought where none came although the data have them, the
 -- limit isn't met and bits are left (T.4, 4.1.2).
 abbrev pub gap_behind_row : DecodeSettings → ℕ → Bool → Bits → Gap
 gap_behind_row settings taken has_eols here =
-    if ((eols_here settings here).0 == 0) && has_eols && not (limit_met settings taken) && not (at_end here)
+    if misses_eol settings taken has_eols here
     then missing_eol settings taken here
     else behind_eols settings taken has_eols (eols_here settings here)
 
 -- ---- One row (T.4, 4.1 and 4.2; T.6, 2.2)
 
--- the next line's reference row: the last row, and before the first a white one (T.4, 4.2.1.1)
+-- the next line's reference row: the last row, or a white row before the first line (T.4, 4.2.1.1)
 abbrev pub row_before : ℕ → List Row → Row
 row_before columns [] = white_row columns
 row_before columns (row ∷ []) = row
 row_before columns (row ∷ next ∷ rows) = row_before columns (next ∷ rows)
 
--- glue: the bits from the next whole byte on, where the data are whole bytes
+-- auxiliary: the bits from the next whole byte on, if the data are whole bytes
 abbrev pub aligned : Bits → Bits
 aligned rest = drop (length rest % 8) rest
 
--- The line that stands here: one-dimensional, or of the kind that its tag says in two-dimensional data of Group 3 (T.4,
--- 4.2.2), or two-dimensional in Group 4.
+-- The line here: one-dimensional; of the kind that its tag says in two-dimensional data of Group 3 (T.4, 4.2.2); or
+-- two-dimensional in Group 4.
 abbrev pub line_by : EncodingMode → Bool → ℕ → Row → Bits → Line
 line_by Group3_1D strict columns reference here = line_1d strict columns here
 line_by Group3_2D strict columns reference [] = Line.broken [] UnexpectedEof
@@ -113,80 +120,81 @@ line_by Group3_2D strict columns reference (true ∷ rest) = line_1d strict colu
 line_by Group3_2D strict columns reference (false ∷ rest) = line_2d strict columns reference rest
 line_by Group4 strict columns reference here = line_2d strict columns reference here
 
--- glue: the line that stands here, read by the settings
+-- auxiliary: the line here, read by the settings
 abbrev pub line_here : DecodeSettings → Row → Bits → Line
 line_here settings reference here = line_by settings.encoding settings.strict settings.columns reference here
 
--- the bits behind a row: where rows are aligned and the data have no EOLs, they begin at a whole byte (T.4, 4.1.3)
+-- the bits after a row: where rows are aligned and the data have no EOLs, they begin at a whole byte (T.4, 4.1.3)
 abbrev pub behind_row : DecodeSettings → Bool → Bits → Bits
 behind_row settings has_eols rest = if settings.rows_are_byte_aligned && not has_eols then aligned rest else rest
 
--- What a line comes to: its row, and the bits behind it, or its fault. In lenient data with EOLs a broken row is repaired:
--- its front is continued in white, and the place goes back to the line's start (T.4, 4.1.2). Data without EOLs, as those of
--- Group 4, are never repaired (T.6, 2.2).
+-- What a line yields: its row, and the bits after it, or its fault. In lenient data with EOLs a broken row is repaired: its
+-- front is continued in white, and the reader goes back to the line's start (T.4, 4.1.2). Data without EOLs, such as those
+-- of Group 4, are never repaired (T.6, 2.2).
 abbrev pub row_of_line : DecodeSettings → Bool → Bits → Line → Result (Row × Bits) DecodeError
 row_of_line settings has_eols start (Line.whole row rest) = Ok (row, behind_row settings has_eols rest)
 row_of_line settings has_eols start (Line.broken front fault) =
     if settings.strict || not has_eols then Err fault
     else Ok (repaired settings.columns front, behind_row settings has_eols start)
 
--- ---- One turn: a row, and the gap behind it
+-- ---- One turn: a row, and the gap after it
 
--- glue: the reading ends here
+-- auxiliary: the reading ends here
 abbrev pub ends_with : Progress → Result Bits DecodeError → Move
 ends_with so_far outcome = Turn.done (record { rows = so_far.rows; has_eols = so_far.has_eols; outcome = outcome })
 
--- glue: one row more, and the bits behind it
+-- auxiliary: one row more, and the bits after it
 abbrev pub with_row : Progress → Row → Bits → Progress
 with_row so_far row rest = record so_far { rows = so_far.rows ++ row ∷ []; rest = rest }
 
--- glue: the reading goes on at a line, or ends there
+-- auxiliary: the reading continues at a line, or ends there
 abbrev pub at_gap : Progress → Gap → Move
 at_gap so_far (Gap.over outcome) = ends_with so_far outcome
 at_gap so_far (Gap.line_at has_eols here) = Turn.next (record so_far { has_eols = has_eols; rest = here })
 
--- the gap behind the rows so far
+-- the gap after the rows so far
 abbrev pub pass_gap : DecodeSettings → Progress → Move
 pass_gap settings so_far = at_gap so_far (gap_behind_row settings (length so_far.rows) so_far.has_eols so_far.rest)
 
--- glue: a row is added and the gap behind it passed, or its fault ends the reading
+-- auxiliary: a row is added and the gap after it passed, or its fault ends the reading
 abbrev pub add_row : DecodeSettings → Progress → Result (Row × Bits) DecodeError → Move
 add_row settings so_far (Ok (row, rest)) = pass_gap settings (with_row so_far row rest)
 add_row settings so_far (Err fault) = ends_with so_far (Err fault)
 
--- glue: after a line
+-- auxiliary: after a line
 abbrev pub after_line : DecodeSettings → Progress → Line → Move
 after_line settings so_far line = add_row settings so_far (row_of_line settings so_far.has_eols so_far.rest line)
 
--- one turn in every encoding, from a line on: its row, and the gap behind it (T.4, 4.1 and 4.2; T.6, 2.2)
+-- one turn in every encoding, from a line on: its row, and the gap after it (T.4, 4.1 and 4.2; T.6, 2.2)
 abbrev pub move_on : DecodeSettings → Progress → Move
 move_on settings so_far = after_line settings so_far (line_here settings (row_before settings.columns so_far.rows) so_far.rest)
 
 -- ---- The whole data: the first gap, and turns (T.4, 4.1 and 4.2; T.6, 2.2 and 2.4.1)
 
--- glue: before the first gap
+-- auxiliary: before the first gap
 abbrev pub at_front : Bits → Progress
 at_front bits = record { rows = []; has_eols = false; rest = bits }
 
--- the first line of Group 3: EOLs at the front are read without tags, and say that the data has EOLs (T.4, 4.1.2)
+-- the first line of Group 3: EOLs at the start of the data are read without tags, and say that the data has EOLs (T.4,
+-- 4.1.2)
 abbrev pub first_line : DecodeSettings → Bits → Progress
 first_line settings bits =
     record { rows = []; has_eols = nat_lt 0 (all_eols bits).0 || settings.end_of_line; rest = (all_eols bits).1 }
 
--- The first gap: in Group 4 as behind a row (T.6, 2.4.1.1), in Group 3 the EOLs at the front, and always a line (T.4, 4.1.2).
--- This is the one place where a reading depends on its encoding as a whole.
+-- The first gap: in Group 4 as after a row (T.6, 2.4.1.1); in Group 3 the EOLs at the start of the data, and always a line
+-- (T.4, 4.1.2). Only here does a reading depend on its encoding as a whole.
 abbrev pub first_gap : EncodingMode → DecodeSettings → Bits → Move
 first_gap Group4 settings bits = pass_gap settings (at_front bits)
 first_gap Group3_1D settings bits = Turn.next (first_line settings bits)
 first_gap Group3_2D settings bits = Turn.next (first_line settings bits)
 
--- how turns end from a state on; there are at most two more turns than bits
+-- how turns from a state end; there are at most two more turns than bits
 abbrev pub ending_from : (Progress → Move) → Progress → Ending
 ending_from move so_far =
     repeated move (record { rows = so_far.rows; has_eols = so_far.has_eols; outcome = Err UnexpectedEof })
     (suc (suc (length so_far.rest))) so_far
 
--- glue: how the reading ends behind a gap
+-- auxiliary: how the reading ends after a gap
 abbrev pub ending_behind : DecodeSettings → Move → Ending
 ending_behind settings (Turn.next so_far) = ending_from (move_on settings) so_far
 ending_behind settings (Turn.done end) = end
@@ -206,7 +214,7 @@ abbrev pub bytes_before : Bits → Result Bits DecodeError → Result ℕ Decode
 bytes_before bits (Ok rest) = Ok ((length bits - length rest + 7) / 8)
 bytes_before bits (Err fault) = Err fault
 
--- the reading that ends so
+-- the reading that ends like this
 abbrev pub whole_reading : Bits → Ending → Reading
 whole_reading bits end = record { rows = end.rows; outcome = bytes_before bits end.outcome; has_eols = end.has_eols }
 
@@ -218,22 +226,22 @@ nothing_read = record { rows = []; outcome = Ok 0; has_eols = false }
 abbrev pub plain : DecodeSettings → Bits → Reading
 plain settings bits = if settings.columns == 0 then nothing_read else whole_reading bits (end_of settings bits)
 
--- ---- glue: the lines that are read, one a turn
+-- ---- auxiliary: the lines that are read, one a turn
 
--- one a turn
+-- the line of one turn
 abbrev pub one_each : {A : Type 0} → (Progress → A) → Progress → List A
 one_each gives so_far = gives so_far ∷ []
 
--- what turns give, from a state on
+-- the lines of the turns from a state on
 abbrev pub gathered_from : {A : Type 0} → (Progress → Move) → (Progress → List A) → Progress → List A
 gathered_from move gives so_far = gathered move gives (suc (suc (length so_far.rest))) so_far
 
--- and behind a gap
+-- the same after a gap
 abbrev pub gathered_behind : {A : Type 0} → DecodeSettings → (Progress → A) → Move → List A
 gathered_behind settings gives (Turn.next so_far) = gathered_from (move_on settings) (one_each gives) so_far
 gathered_behind settings gives (Turn.done end) = []
 
--- and in the whole reading
+-- the same for the whole reading
 abbrev pub gathered_of : {A : Type 0} → DecodeSettings → (Progress → A) → Bits → List A
 gathered_of settings gives bits = gathered_behind settings gives (first_gap settings.encoding settings bits)
 
@@ -241,6 +249,6 @@ gathered_of settings gives bits = gathered_behind settings gives (first_gap sett
 abbrev pub line_of_turn : DecodeSettings → Progress → Line
 line_of_turn settings so_far = line_here settings (row_before settings.columns so_far.rows) so_far.rest
 
--- The lines that the plain reading reads, in order. The line of an index is read when so many rows stand.
+-- The lines that the plain reading reads, in order. The line with index n is read after n rows.
 abbrev pub lines_of : DecodeSettings → Bits → List Line
 lines_of settings bits = if settings.columns == 0 then [] else gathered_of settings (line_of_turn settings) bits

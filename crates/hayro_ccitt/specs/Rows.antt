@@ -7,23 +7,24 @@ use Rattle.hayro_ccitt.specs.declared.codes.Color.TheVariants.{White, Black}
 use Rattle.hayro_ccitt.specs.declared.error.DecodeError.{DecodeError}
 use Rattle.hayro_ccitt.specs.declared.error.DecodeError.TheVariants.{InvalidCode}
 
--- the pixels of a row, or of a front of one, from the left: true is black (T.4, 4.1.1)
+-- the pixels of a row, or of a prefix of one, from the left: true is black (T.4, 4.1.1)
 abbrev pub Row : Type 0
 Row = List Bool
 
--- rows of one width: each has so many pixels (T.4, 4.1.1)
+-- rows of one width: each has this number of pixels (T.4, 4.1.1)
 abbrev pub HaveWidth : ℕ → List Row → Type 0
 HaveWidth columns rows = All (λ row. length row ≡ columns) rows
 
--- a white row, as the row before the first is (T.4, 4.2.1.1)
+-- a white row, like the one before the first row (T.4, 4.2.1.1)
 abbrev pub white_row : ℕ → Row
 white_row columns = replicate columns false
 
--- a damaged row of so many columns, behind which the next EOL goes on: its front, and the rest white (T.4, 4.1.2)
+-- a damaged row of this width, after which reading continues at the next EOL: its front, and the rest white (T.4,
+-- 4.1.2)
 abbrev pub repaired : ℕ → Row → Row
 repaired columns front = front ++ replicate (columns - length front) false
 
--- glue: the pixel of a colour
+-- auxiliary: the pixel of a colour
 abbrev pub is_black : Color → Bool
 is_black White = false
 is_black Black = true
@@ -33,21 +34,21 @@ abbrev pub opposite : Color → Color
 opposite White = Black
 opposite Black = White
 
--- the pixel at a place; outside the row it is white (T.4, 4.2.1.1)
+-- the pixel at a position; outside the row it is white (T.4, 4.2.1.1)
 abbrev pub pixel : Row → ℕ → Bool
 pixel row p = get_or row p false
 
--- the pixel left of a place; left of the row it is white (T.4, 4.2.1.1)
+-- the pixel left of a position; left of the row it is white (T.4, 4.2.1.1)
 abbrev pub pixel_before : Row → ℕ → Bool
 pixel_before row zero = false
 pixel_before row (suc p) = pixel row p
 
--- glue: the last pixel, or the one before them all
+-- auxiliary: the last pixel, or the one before them all
 abbrev pub last_pixel : Bool → Row → Bool
 last_pixel before [] = before
 last_pixel before (pixel ∷ row) = last_pixel pixel row
 
--- a changing element: a place whose pixel differs from the one before it (T.4, 4.2.1.1)
+-- a changing element: a position whose pixel differs from the one before it (T.4, 4.2.1.1)
 abbrev pub is_change : Row → ℕ → Bool
 is_change row p = not (beq (pixel_before row p) (pixel row p))
 
@@ -55,7 +56,7 @@ is_change row p = not (beq (pixel_before row p) (pixel row p))
 abbrev pub changes : Row → List ℕ
 changes row = filter (is_change row) (range_with_len 0 (length row))
 
--- glue: places in ascending order, from a first one on and below a width
+-- auxiliary: positions in ascending order, within the width, from a first one on
 abbrev pub AscendFrom : ℕ → ℕ → List ℕ → Type 0
 AscendFrom first width [] = Unit {0}
 AscendFrom first width (place ∷ places) = (first ≤ place) × (place < width) × AscendFrom (suc place) width places
@@ -64,20 +65,21 @@ AscendFrom first width (place ∷ places) = (first ≤ place) × (place < width)
 abbrev pub AreChanges : ℕ → List ℕ → Type 0
 AreChanges width places = AscendFrom 0 width places
 
--- from a place on, pixels of one colour up to the next change, then of the other colour, up to the width (T.4, 4.2.1.1)
+-- from a position on, pixels of one colour up to the next change, then of the other colour, up to the width (T.4,
+-- 4.2.1.1)
 abbrev pub pixels_from : ℕ → Bool → ℕ → List ℕ → Row
 pixels_from place color width [] = replicate (width - place) color
 pixels_from place color width (change ∷ places) = replicate (change - place) color ++ pixels_from change (not color) width places
 
--- the row of this width whose colour, white at first, turns at these places (T.4, 4.2.1.1)
+-- the row of this width whose colour, white at first, turns at these positions (T.4, 4.2.1.1)
 abbrev pub pixels : ℕ → List ℕ → Row
 pixels width places = pixels_from 0 false width places
 
--- glue: the least place below a bound that passes a test, or the bound
+-- auxiliary: the least position below a bound that passes a test, or the bound
 abbrev pub least_below : ℕ → (ℕ → Bool) → ℕ
 least_below bound test = unwrap_or (find test (range_with_len 0 bound)) bound
 
--- A place a0 is given by the first place right of it: 0 where a0 is left of the row, and else a0 + 1. While no
+-- A position a0 is given by the first position right of it: 0 where a0 is left of the row, and else a0 + 1. While no
 -- pixel is painted a0 is left of the row, and else it is where the front ends (T.4, 4.2.1.1).
 abbrev pub right_of : Row → ℕ
 right_of [] = 0
@@ -101,8 +103,8 @@ a1 row from = least_below (length row) (λ p. nat_le from p && is_change row p)
 abbrev pub a2 : Row → ℕ → ℕ
 a2 row from = least_below (length row) (λ p. nat_lt (a1 row from) p && is_change row p)
 
--- The front and some more pixels of a colour. Where there are more than the row has room for, a strict reading is a
--- wrong code, and a lenient one cuts them off at the row's end (T.4, 4.1.1 and 4.2.1.3).
+-- The front and some more pixels of a colour. Where there are more than the row has room for, a strict reading fails
+-- with `InvalidCode`, and a lenient one cuts them off at the row's end (T.4, 4.1.1 and 4.2.1.3).
 abbrev pub paint : Bool → ℕ → Row → Color → ℕ → Result Row DecodeError
 paint strict columns front color n =
     if strict && nat_lt (columns - length front) n then Err InvalidCode

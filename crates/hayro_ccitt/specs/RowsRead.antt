@@ -1,20 +1,22 @@
 -- Rows one at a time: what a reader of rows has read, and what a call leaves that reads the next row.
-use Rattle.std.specs.Prelude.{◌≡◌, ◌≢◌, ◌≤◌, ◌<◌, ◌+◌, ◌-◌, ◌/◌, ℕ, Bool, true, false, not, drop, List, [], length, get_or, Option, None, Some, Result, Ok, Err, IfErr}
+use Rattle.std.specs.Prelude.{sum_by, take, ◌==◌, if◌then◌else◌, ◌≡◌, ◌≢◌, ◌≤◌, ◌<◌, ◌+◌, ◌-◌, ◌/◌, ℕ, Bool, true, false, not, drop, List, [], length, get_or, Option, None, Some, Result, Ok, Err, OnErr, IfErr}
 use Rattle.hayro_ccitt.specs.declared.codes.Color.TheVariants.{White}
 use Rattle.hayro_ccitt.specs.declared.error.DecodeError.{DecodeError}
 use Rattle.hayro_ccitt.specs.declared.error.DecodeError.TheVariants.{OutOfMemory, Refused}
 use Rattle.hayro_ccitt.specs.declared.row_reader.RowReader.TheInside.{Inside}
+use Rattle.hayro_ccitt.specs.declared.row_reader.RowState.{RowState}
 use Rattle.hayro_ccitt.specs.declared.row_reader.Stand.{Stand}
 use Rattle.hayro_ccitt.specs.declared.row_reader.Stand.TheVariants.{AtLine, BehindRow, AtEnd, AtFault}
 use Rattle.hayro_ccitt.specs.declared.settings.DecodeSettings.{DecodeSettings}
 use Rattle.hayro_ccitt.specs.Answers.{IsFault, PaintsBlack}
 use Rattle.hayro_ccitt.specs.Bits.{Bits, BitsAt}
-use Rattle.hayro_ccitt.specs.Context.{Held}
+use Rattle.hayro_ccitt.specs.Context.{Held, Repairs}
+use Rattle.hayro_ccitt.specs.Damage.{fault_in, repairs_by_line}
 use Rattle.hayro_ccitt.specs.PlainReading.{Progress, row_before, with_row, first_gap, move_on, row_of_line, line_of_turn, gathered_of, plain, lines_of}
 use Rattle.hayro_ccitt.specs.Repetition.{Turn, Reaches}
 use Rattle.hayro_ccitt.specs.Rows.{Row}
 
--- ---- What is seen of a reader of rows
+-- ---- What is visible of a reader of rows
 
 -- where the lines of the plain reading begin: the offset of each one's first bit (T.4, 4.1.1 and 4.2.2)
 abbrev pub line_starts : DecodeSettings → Bits → List ℕ
@@ -27,67 +29,82 @@ ended BehindRow = None
 ended AtEnd = Some (Ok tt)
 ended (AtFault error) = Some (Err error)
 
--- whether a line stands here, and no gap before it
+-- whether a line is here, and no gap before it
 abbrev pub is_at_line : Stand → Bool
 is_at_line AtLine = true
 is_at_line BehindRow = false
 is_at_line AtEnd = false
 is_at_line (AtFault error) = false
 
--- what is read and by which settings, how many rows were read, the last one and where its line begins, how the reading has
--- ended, whether a line stands here, and the offset of the next bit
+-- what is read and by which settings, how many rows were read, the last one, where its line begins, and the fault where it was
+-- repaired, how the reading has ended, whether a line stands here, and the offset of the next bit
 pub record RowsRead : Type 0 where
   pub settings : DecodeSettings
   pub bits : Bits
   pub taken : ℕ
   pub row : Row
   pub line_start : ℕ
+  pub damage : Option DecodeError
   pub end : Option (Result (Unit {0}) DecodeError)
   pub at_line : Bool
   pub place : ℕ
 
-abbrev pub read_so_far : Held → BitsAt → ℕ → Stand → RowsRead
-read_so_far held reader line_start stand = record {
+abbrev pub read_so_far : Held → BitsAt → ℕ → Option DecodeError → Stand → RowsRead
+read_so_far held reader line_start damage stand = record {
   settings = held.settings;
   bits = reader.bits;
   taken = held.taken;
   row = held.reference;
   line_start = line_start;
+  damage = damage;
   end = ended stand;
   at_line = is_at_line stand;
   place = reader.place;
 }
 
-abbrev pub rows_read_of : Inside → RowsRead
-rows_read_of r = read_so_far r.ctx.held r.reader r.started_at r.stand
+-- what a reading keeps between two rows, over the bits at which it stands
+abbrev pub seen : RowState → BitsAt → RowsRead
+seen rows reader = read_so_far rows.ctx.held reader rows.started_at rows.damage rows.stand
 
--- whether a line stands behind a gap that was passed, which says whether the reading is over
+abbrev pub rows_read_of : Inside → RowsRead
+rows_read_of r = seen r.rows r.reader
+
+-- whether a line follows a gap that was passed, given whether the reading is over
 abbrev pub line_after : Result Bool DecodeError → Result Bool DecodeError
 line_after (Ok over) = Ok (not over)
 line_after (Err error) = Err error
 
--- where a reading is that passed a gap, which says so
+-- the state of a reading that passed a gap, given what the gap says
 abbrev pub stand_after : Result Bool DecodeError → Stand
 stand_after (Ok true) = AtEnd
 stand_after (Ok false) = AtLine
 stand_after (Err error) = AtFault error
 
+-- the fault of the last row, where it is one that was repaired since so many were
+abbrev pub damage_since : Repairs → ℕ → Option DecodeError
+damage_since repairs before = if repairs.rows == before then None else Some repairs.fault
+
+-- where the line of the last row begins, or after a gap that is at fault, the place of that gap
+abbrev pub start_after : Result Bool DecodeError → ℕ → ℕ → ℕ
+start_after (Ok over) place before = before
+start_after (Err error) place before = place
+
 -- ---- The contract
 
--- The reading has ended well: all rows were read, and the bytes up to here are the count of the plain reading.
+-- The reading has ended well: all rows were read, and the bytes up to here are the byte count of the plain reading.
 pub record HasEnded (settings : DecodeSettings) (bits : Bits) (taken place : ℕ) : Type 0 where
   pub all : taken ≡ length (plain settings bits).rows
   pub count : (plain settings bits).outcome ≡ Ok ((place + 7) / 8)
 
--- It has ended with an error: with the fault of the plain reading, behind all of its rows; or where an allocation failed, in a
--- line that paints a black pixel.
+-- It has ended with an error: the fault of the plain reading, after all of its rows; or an allocation failure in a line that
+-- paints a black pixel.
 pub record HasFailed (settings : DecodeSettings) (bits : Bits) (taken : ℕ) (error : DecodeError) : Type 0 where
   pub all : IsFault error → taken ≡ length (plain settings bits).rows
   pub fault : IsFault error → (plain settings bits).outcome ≡ Err error
   pub memory : error ≡ OutOfMemory → PaintsBlack (lines_of settings bits) taken
   pub not_refused : error ≢ Refused
 
--- What a call leaves that reads the next row: the row of the plain reading with this index, or the end.
+-- What a call that reads the next row leaves: the row of the plain reading with this index, or the end.
 pub record ReadsNext (old new : RowsRead) (result : Result Bool DecodeError) : Type 0 where
   pub settings : new.settings ≡ old.settings
   pub bits : new.bits ≡ old.bits
@@ -95,38 +112,45 @@ pub record ReadsNext (old new : RowsRead) (result : Result Bool DecodeError) : T
   pub more : result ≡ Ok true → (new.end ≡ None) × (new.taken ≡ old.taken + 1) × (new.taken ≤ length (plain old.settings old.bits).rows)
   pub row : result ≡ Ok true → new.row ≡ get_or (plain old.settings old.bits).rows old.taken []
   pub line_start : result ≡ Ok true → new.line_start ≡ get_or (line_starts old.settings old.bits) old.taken 0
+  -- its line was whole, or it was repaired after this fault (T.4, 4.1.2)
+  pub damage : result ≡ Ok true → new.damage ≡ fault_in (get_or (repairs_by_line old.settings old.bits) old.taken [])
   -- there was none
   pub end : result ≡ Ok false → (new.end ≡ Some (Ok tt)) × (new.taken ≡ old.taken) × HasEnded old.settings old.bits new.taken new.place
   pub error : IfErr result (λ e. (new.end ≡ Some (Err e)) × (new.taken ≡ old.taken) × HasFailed old.settings old.bits new.taken e)
+  -- the place of the fault: the first bit of the line that couldn't be read, or the place where its EOL is missing (T.4, 4.1.2)
+  pub fault_start : old.end ≡ None → OnErr result (new.line_start ≡ get_or (line_starts old.settings old.bits) old.taken new.place)
 
--- What a call leaves that passes the gap before the next line: it comes to a line, or to the end.
+-- What a call that passes the gap before the next line leaves: it reaches a line, or the end.
 pub record ComesToLine (old new : RowsRead) (result : Result Bool DecodeError) : Type 0 where
   pub settings : new.settings ≡ old.settings
   pub bits : new.bits ≡ old.bits
   pub taken : new.taken ≡ old.taken
   pub line : result ≡ Ok true → new.at_line ≡ true
+  pub unended : result ≡ Ok true → new.end ≡ None
   pub end : result ≡ Ok false → (new.end ≡ Some (Ok tt)) × HasEnded old.settings old.bits new.taken new.place
   pub error : IfErr result (λ e. (new.end ≡ Some (Err e)) × HasFailed old.settings old.bits new.taken e)
+  pub fault_start : OnErr result (new.line_start ≡ get_or (line_starts old.settings old.bits) old.taken new.place)
 
--- what a call returns behind the end
+-- what a call returns after the end
 abbrev pub at_end_of_rows : Result (Unit {0}) DecodeError → Result Bool DecodeError
 at_end_of_rows (Ok x) = Ok false
 at_end_of_rows (Err error) = Err error
 
--- ---- The invariant, which no reader has to believe
+-- ---- The invariant: not part of the trusted specification
 
--- the context between two rows of the reading
-abbrev pub context_at : DecodeSettings → Progress → Held
-context_at settings so_far = record {
+-- the context between two rows of the reading, where so much was repaired
+abbrev pub context_at : DecodeSettings → Progress → Repairs → Held
+context_at settings so_far repairs = record {
   reference = row_before settings.columns so_far.rows;
   front = [];
   color = White;
   taken = length so_far.rows;
+  repairs = repairs;
   has_eols = so_far.has_eols;
   settings = settings;
 }
 
--- the reading comes to a line here
+-- the reading reaches a line here
 pub record StandsAtLine (settings : DecodeSettings) (bits : Bits) (held : Held) (rest : Bits) : Type 0 where
   pub wide : 0 < settings.columns
   pub first : Progress
@@ -134,10 +158,10 @@ pub record StandsAtLine (settings : DecodeSettings) (bits : Bits) (held : Held) 
   pub begins : first_gap settings.encoding settings bits ≡ Turn.next first
   pub room : length first.rest ≤ length bits
   pub reaches : Reaches (move_on settings) first so_far
-  pub held_is : held ≡ context_at settings so_far
+  pub held_is : held ≡ context_at settings so_far held.repairs
   pub rest_is : rest ≡ so_far.rest
 
--- the reading came to a line, and its row was read
+-- the reading reached a line, and its row was read
 pub record StandsBehindRow (settings : DecodeSettings) (bits : Bits) (held : Held) (rest : Bits) : Type 0 where
   pub wide : 0 < settings.columns
   pub first : Progress
@@ -147,14 +171,29 @@ pub record StandsBehindRow (settings : DecodeSettings) (bits : Bits) (held : Hel
   pub room : length first.rest ≤ length bits
   pub reaches : Reaches (move_on settings) first so_far
   pub row_is : row_of_line settings so_far.has_eols so_far.rest (line_of_turn settings so_far) ≡ Ok (row, rest)
-  pub held_is : held ≡ context_at settings (with_row so_far row rest)
+  pub held_is : held ≡ context_at settings (with_row so_far row rest) held.repairs
 
--- where a reader of rows is
+-- the state of a reader of rows
 abbrev pub Stands : Stand → DecodeSettings → Bits → Held → ℕ → Type 0
 Stands AtLine settings bits held place = StandsAtLine settings bits held (drop place bits)
 Stands BehindRow settings bits held place = StandsBehindRow settings bits held (drop place bits)
 Stands AtEnd settings bits held place = HasEnded settings bits held.taken place
 Stands (AtFault error) settings bits held place = HasFailed settings bits held.taken error
 
+-- the rows read were counted that were repaired (T.4, 4.1.2)
+pub record RepairsAreCounted (settings : DecodeSettings) (bits : Bits) (held : Held) : Type 0 where
+  pub few : held.repairs.rows ≤ held.taken
+  pub counted : held.repairs.rows ≡ sum_by length (take held.taken (repairs_by_line settings bits))
+
+-- it stands there by the plain reading of these bits
+abbrev pub IsStanding : RowState → BitsAt → Type 0
+IsStanding rows reader =
+    Stands rows.stand rows.ctx.held.settings reader.bits rows.ctx.held reader.place
+    × RepairsAreCounted rows.ctx.held.settings reader.bits rows.ctx.held
+
+-- at the first bit of a line
+abbrev pub IsStandingAtLine : RowState → BitsAt → Type 0
+IsStandingAtLine rows reader = (is_at_line rows.stand ≡ true) × (IsStanding rows reader)
+
 abbrev pub IsReading : Inside → Type 0
-IsReading r = Stands r.stand r.ctx.held.settings r.reader.bits r.ctx.held r.reader.place
+IsReading r = IsStanding r.rows r.reader

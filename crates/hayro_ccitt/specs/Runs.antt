@@ -14,8 +14,8 @@ abbrev pub codes_of : Color → List (Code ℕ)
 codes_of White = white_codes
 codes_of Black = black_codes
 
--- A word adds its length to the sum so far. A sum that passes 32 bits is a fault; a terminating word, which is
--- below 64, ends the run; a make-up word goes on (T.4, 4.1.1).
+-- A word adds its length to the sum so far. A sum of more than 32 bits is a fault; a terminating word, which is below
+-- 64, ends the run; after a make-up word the run continues (T.4, 4.1.1).
 abbrev pub run_of_word : ℕ → (ℕ × Bits) → Turn (ℕ × Bits) (Result (ℕ × Bits) DecodeError)
 run_of_word total (n, rest) =
     if nat_lt 4294967295 (total + n) then Turn.done (Err Overflow)

@@ -2,9 +2,9 @@
 use Rattle.std.specs.Prelude.{◌^◌, ◌<◌}
 use Rattle.hayro_ccitt.specs.declared.settings.DecodeSettings.{DecodeSettings}
 
--- ---- glue: what numbers of the program hold
+-- ---- auxiliary: the range of the program's numbers
 
--- the columns and the limit of rows have 32 bits
+-- the columns and the row limit have 32 bits
 pub record AreSettings (settings : DecodeSettings) : Type 0 where
   pub columns : settings.columns < 2 ^ 32
   pub rows : settings.rows < 2 ^ 32

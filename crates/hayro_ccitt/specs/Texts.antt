@@ -3,7 +3,7 @@ use Rattle.std.specs.Prelude.{ℕ, List, codes}
 use Rattle.hayro_ccitt.specs.declared.error.DecodeError.{DecodeError}
 use Rattle.hayro_ccitt.specs.declared.error.DecodeError.TheVariants.{UnexpectedEof, InvalidCode, Overflow, OutOfMemory, Refused}
 
--- ---- glue: texts of the program
+-- ---- auxiliary: texts of the program
 
 -- the text of an error, byte by byte
 abbrev pub text_of : DecodeError → List ℕ

@@ -11,20 +11,20 @@ use Rattle.hayro_ccitt.specs.CodeReading.{read_code}
 use Rattle.hayro_ccitt.specs.Repetition.{gathered}
 use Rattle.hayro_ccitt.specs.Runs.{codes_of, run_turn}
 
--- the bits that a count of zeros looks at: the zeros here, and the one that follows (T.4, 4.1.2)
+-- the bits that counting zeros examines: the zeros here, and the bit that follows (T.4, 4.1.2)
 abbrev pub looked : Bits → ℕ
 looked [] = 0
 looked (false ∷ here) = suc (looked here)
 looked (true ∷ here) = 1
 
--- the bits that are looked at where a tag between two EOLs may stand: the tag, and behind a one what a count of zeros
--- looks at (T.4, 4.2.2)
+-- the bits that are examined where there may be a tag between two EOLs: the tag, and after a one what counting zeros
+-- examines (T.4, 4.2.2)
 abbrev pub looked_at_tag : Bits → ℕ
 looked_at_tag [] = 0
 looked_at_tag (false ∷ here) = 1
 looked_at_tag (true ∷ here) = suc (looked here)
 
--- the bits that a count of zeros looks at where the words of a line begin, which in two-dimensional data of T.4 is behind
+-- the bits that counting zeros examines where the words of a line begin, which in two-dimensional data of T.4 is after
 -- its tag (T.4, 4.1.2 and 4.2.2)
 abbrev pub looked_ahead : EncodingMode → Bits → ℕ
 looked_ahead Group3_2D here = looked (drop 1 here)
@@ -42,11 +42,11 @@ word_found list here = elim (read_code list here) [
 abbrev pub run_gives : Color → ℕ × Bits → List Bits
 run_gives color (total, here) = word_found (codes_of color) here
 
--- the words that a run finds, also where it then fails (T.4, 4.1.1)
+-- the words that a run finds, even if it then fails (T.4, 4.1.1)
 abbrev pub run_found : Color → ℕ × Bits → List Bits
 run_found color (total, here) = gathered (run_turn color) (run_gives color) (suc (length here)) (total, here)
 
--- one, where a reading ends because a word that it looked for doesn't stand there (glue)
+-- one, if a reading ends because the word that it looked for isn't there (auxiliary)
 abbrev pub missed : {T : Type 0} → Result T DecodeError → ℕ
 missed (Ok x) = 0
 missed (Err UnexpectedEof) = 1
@@ -55,7 +55,7 @@ missed (Err Overflow) = 0
 missed (Err OutOfMemory) = 0
 missed (Err Refused) = 0
 
--- the tests of tags that counting EOLs may add at its end, where EOLs have tags (T.4, 4.2.2)
+-- the tests of tags that counting EOLs may add at its end, if EOLs have tags (T.4, 4.2.2)
 abbrev pub tag_tests : EncodingMode → ℕ
 tag_tests Group3_1D = 0
 tag_tests Group3_2D = 3

@@ -1,4 +1,5 @@
--- Modes that are drawn with the index of b1 at hand. No reader of contracts has to believe this: the calls that are public cite none of it.
+-- Modes that are drawn with the index of b1 at hand. This is not part of the trusted specification: no contract of a public
+-- call cites it.
 use Rattle.std.specs.Prelude.{◌≡◌, ◌+◌, ◌*◌, ◌%◌, ◌<◌, ◌≤◌, Bool, ℕ, List, length, get_or}
 use Rattle.hayro_ccitt.specs.declared.codes.Color.{Color}
 use Rattle.hayro_ccitt.specs.declared.codes.Color.TheVariants.{White, Black}
@@ -8,12 +9,12 @@ use Rattle.hayro_ccitt.specs.Rows.{Row, AreChanges, opposite}
 use Rattle.hayro_ccitt.specs.UsualRuns.{IsRunHere}
 use Rattle.hayro_ccitt.specs.Window.{moved}
 
--- the change of an index turns the row from this colour to the other one
+-- the change at an index turns the row from this colour to the other one
 abbrev pub TurnsFrom : ℕ → Color → Type 0
 TurnsFrom index White = index % 2 ≡ 0
 TurnsFrom index Black = index % 2 ≡ 1
 
--- From an index on, going up by twos, b1 is found: the changes two and more before it are not right of a0, and while
+-- From an index on, in steps of two, b1 is found: the changes two and more before it are not right of a0, and while
 -- nothing is painted, so that a0 is left of the row, there are none.
 pub record IsNear (columns : ℕ) (places : List ℕ) (painted index : ℕ) : Type 0 where
   pub left : (k : ℕ) → k + 2 ≤ index → (0 < painted) × (get_or places k columns ≤ painted)
@@ -24,8 +25,8 @@ pub record IsB1 (columns : ℕ) (places : List ℕ) (painted index : ℕ) (color
   pub near : IsNear columns places painted index
   pub right : 0 < painted → painted < get_or places index columns
 
--- Drawing goes on from one pen to another in a two-dimensional line: the line is the same, the words between them were counted, and
--- besides them no more than the reference changes that were passed and three more for each word.
+-- Drawing continues from one pen to another in a two-dimensional line: the line is the same, the words in between were counted,
+-- and besides them no more than the reference changes that were passed and three more for each word.
 pub record GoesOn2d (strict : Bool) (columns : ℕ) (reference : Row) (before after : Pen) (ticks now passed later : ℕ) : Type 0 where
   pub line : drawn (draw_2d strict columns reference) after ≡ drawn (draw_2d strict columns reference) before
   pub counts : ticks ≤ now
@@ -33,8 +34,8 @@ pub record GoesOn2d (strict : Bool) (columns : ℕ) (reference : Row) (before af
   pub at_most : now + 4 * length (words_drawn (draw_2d strict columns reference) after) + passed ≤ ticks + 4 * length (words_drawn (draw_2d strict columns reference) before) + later
   pub none : length (words_drawn (draw_2d strict columns reference) before) ≡ 0 → (now ≡ ticks) × (length (words_drawn (draw_2d strict columns reference) after) ≡ 0)
 
--- A row of changes reaches a place, where its last change may stand. While it isn't full its number of changes tells the colour, and
--- the index is that of b1.
+-- A row of changes reaches a position, which its last change may equal. While it isn't full its number of changes determines
+-- the colour, and the index is that of b1.
 pub record IsStroke (columns : ℕ) (places : List ℕ) (place index : ℕ) (color : Color) (row : List ℕ) : Type 0 where
   pub within : place ≤ columns
   pub near : index ≤ length places + 1
@@ -43,7 +44,7 @@ pub record IsStroke (columns : ℕ) (places : List ℕ) (place index : ℕ) (col
   pub at : place < columns → IsB1 columns places place index color
   pub whole : columns ≤ place → AreChanges place row
 
--- two runs stand here, of two colours, each of so many bits and of so many words
+-- two runs are here, of the two colours, each with its number of bits and of words
 pub record AreRunsHere (color : Color) (at : BitsAt) (run width words run2 width2 words2 : ℕ) : Type 0 where
   pub first : IsRunHere color at run width words
   pub second : IsRunHere (opposite color) (moved width at) run2 width2 words2

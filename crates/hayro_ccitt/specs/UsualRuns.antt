@@ -1,4 +1,4 @@
--- Runs that are drawn with bits at hand. No reader of contracts has to believe this: the calls that are public cite none of it.
+-- Runs that are drawn with bits at hand. This is not part of the trusted specification: no contract of a public call cites it.
 use Rattle.std.specs.Prelude.{◌≡◌, ◌+◌, ◌%◌, ◌<◌, ◌≤◌, Bool, ℕ, List, Ok, length}
 use Rattle.hayro_ccitt.specs.declared.codes.Color.{Color}
 use Rattle.hayro_ccitt.specs.declared.codes.Color.TheVariants.{White}
@@ -10,12 +10,12 @@ use Rattle.hayro_ccitt.specs.Runs.{codes_of, read_run}
 use Rattle.hayro_ccitt.specs.Ticks.{run_found}
 use Rattle.hayro_ccitt.specs.Window.{moved}
 
--- a word of a colour's list stands here, for this run, and is so wide
+-- a word of a colour's list is here, for this run, and has this width
 pub record IsWordHere (color : Color) (at : BitsAt) (run width : ℕ) : Type 0 where
   pub read : read_code (codes_of color) (here at) ≡ Ok (run, here (moved width at))
   pub few : width ≤ 13
 
--- a run stands here, of so many bits and of so many words
+-- a run is here, with this number of bits and of words
 pub record IsRunHere (color : Color) (at : BitsAt) (run width words : ℕ) : Type 0 where
   pub read : read_run color (here at) ≡ Ok (run, here (moved width at))
   pub found : length (run_found color (0, here at)) ≡ words
@@ -25,13 +25,14 @@ pub record IsRunHere (color : Color) (at : BitsAt) (run width words : ℕ) : Typ
 abbrev pub pen_at : ℕ → List ℕ → Color → BitsAt → Pen
 pen_at place row color at = record { front = pixels place row; color = color; rest = here at }
 
--- Drawing goes on from one pen to another: the line is the same, and the words between them were counted.
+-- Drawing continues from one pen to another: the line is the same, and the words between them were counted.
 pub record GoesOn (strict : Bool) (columns : ℕ) (before after : Pen) (ticks now : ℕ) : Type 0 where
   pub line : drawn (draw_1d strict columns) after ≡ drawn (draw_1d strict columns) before
   pub counts : ticks ≤ now
   pub counted : now + length (words_drawn (draw_1d strict columns) after) ≡ ticks + length (words_drawn (draw_1d strict columns) before)
 
--- A row of changes reaches a place: where it isn't full it goes on in white, and its last change may stand at the place.
+-- A row of changes reaches a position: if it isn't full it continues in white, and its last change may equal the
+-- position.
 pub record IsReached (columns place : ℕ) (color : Color) (row : List ℕ) : Type 0 where
   pub within : place ≤ columns
   pub lawful : AreChanges (place + 1) row

@@ -1,4 +1,5 @@
--- The window of a reader over its data. No reader of contracts has to believe this: the code is proved to keep it so.
+-- The window of a bit reader over its data. This is not part of the trusted specification: the code is proved to keep
+-- it.
 use Rattle.std.specs.Prelude.{◌≡◌, ℕ, ◌+◌, ◌-◌, ◌*◌, ◌/◌, ◌%◌, ◌<◌, ◌≤◌, false, length, get_or}
 use Rattle.hayro_ccitt.specs.Bits.{BitsAt, BitsFit, bit_of, bits_in}
 use Rattle.hayro_ccitt.specs.declared.bit_reader.BitOrder.{BitOrder}
@@ -6,14 +7,15 @@ use Rattle.hayro_ccitt.specs.declared.bit_reader.BitOrder.TheVariants.{HighestFi
 use Rattle.hayro_ccitt.specs.declared.bit_reader.BitReader.TheInside.{Inside}
 use Rattle.hayro_ccitt.specs.declared.bit_reader.BitsAtHand.TheInside.{Inside as HandInside}
 
--- where the bit of an index stands in a word of eight bytes, counted from the highest
+-- the position of the bit of an index in a word of eight bytes, counted from the highest
 abbrev pub place_in_word : BitOrder → ℕ → ℕ
 place_in_word HighestFirst k = k
 place_in_word LowestFirst k = 8 * (k / 8) + (7 - k % 8)
 
--- The window holds the bits from the place on, the first in the highest position: those up to 33 behind the limit, zeros
--- past the end, and zeros behind them. The place is at most the limit, so that they are the next 32 at least. The word ahead
--- holds the 64 bits from its edge on, which the window reaches; an edge behind the limit has them all within the data.
+-- The window contains the bits from the offset on, the first in the highest position: those up to 33 after the limit, zeros
+-- past the end of the data, and zeros after them. The offset is at most the limit, so the window has at least the next 32
+-- bits. The word ahead contains the 64 bits from its edge on, which the window reaches; if the edge is after the limit all
+-- of them are within the data.
 pub record IsFilled (r : Inside) : Type 0 where
   pub fit : BitsFit r.«data».now
   pub within : r.place ≤ r.limit
@@ -26,18 +28,19 @@ pub record IsFilled (r : Inside) : Type 0 where
   pub near_edge : r.limit ≤ 8 * r.edge + 31
   pub whole : r.limit < 8 * r.edge → 8 * r.edge + 64 ≤ 8 * length r.«data».now
 
--- ---- Bits at hand: a window that a line keeps for itself.
+-- ---- Bits at hand: a window that the drawing of a line keeps for itself.
 
--- some bits, a place among them, and how many of the next ones a window holds
+-- some bits, an offset among them, and how many of the next ones a window contains
 pub record AtHand : Type 0 where
   pub at : BitsAt
   pub left : ℕ
 
--- so many bits on
+-- n bits further on
 abbrev pub moved : ℕ → BitsAt → BitsAt
 moved n at = record { bits = at.bits; place = at.place + n }
 
--- The window holds the bits from the place on, so many as are left; they end at the limit, which is within the data.
+-- The window contains the bits from the offset on, as many as are left; they end at the limit, which is within the
+-- data.
 pub record IsAtHand (r : HandInside) : Type 0 where
   pub fit : BitsFit r.«data».now
   pub some : r.left ≤ r.limit

@@ -9,7 +9,7 @@ use Rattle.hayro_ccitt.specs.PlainReading.{Progress, row_before, gathered_of}
 use Rattle.hayro_ccitt.specs.Rows.{Row}
 use Rattle.hayro_ccitt.specs.Ticks.{looked}
 
--- ---- glue: the words that the lines of a reading find, line by line
+-- ---- auxiliary: the words that the lines of a reading find, line by line
 
 -- the words that the line here finds, read by the settings (T.4, 4.1 and 4.2; T.6, 2.2)
 abbrev pub found_here : DecodeSettings → Row → Bits → List Bits
@@ -23,38 +23,38 @@ words_of_turn settings so_far = found_here settings (row_before settings.columns
 abbrev pub words_of : DecodeSettings → Bits → List (List Bits)
 words_of settings bits = if settings.columns == 0 then [] else gathered_of settings (words_of_turn settings) bits
 
--- ---- glue: how much is counted
+-- ---- auxiliary: how much is counted
 
--- A run that took so many rows counted each word that their lines find, and at most so much.
+-- A run that accepted this number of rows counted each word that their lines find, and at most this much.
 pub record CountsRun (words : List (List Bits)) (taken before after most : ℕ) : Type 0 where
   pub at_least : before + sum_by length (take taken words) ≤ after
   pub at_most : after ≤ before + most
 
--- the most that giving up EOLs costs, in so many bits, where they are sought at all
+-- the most that ceasing to look for EOLs costs in this number of bits, where they are sought at all
 abbrev pub most_given_up : Bool → ℕ → ℕ
 most_given_up has_eols bits = if has_eols then 8 * bits + 8 else 0
 
--- the most that a run over so many bits counts that begins at a line
+-- the most that a run over this number of bits counts if it begins at a line
 abbrev pub most_from_line : Bool → ℕ → ℕ
 most_from_line has_eols bits = 16 * bits + 6 + most_given_up has_eols bits
 
--- the most that a run over so many bits counts
+-- the most that a run over this number of bits counts
 abbrev pub most_counted : EncodingMode → ℕ → ℕ
 most_counted Group4 bits = 22 * bits + 1
 most_counted Group3_1D bits = 36 * bits + 14
 most_counted Group3_2D bits = 36 * bits + 14
 
--- What decoding counts: each word that the lines of the rows taken find; and no more than 128 ticks a bit and 256 more, in
--- Group 4 no more than 22 a bit and one, in Group 3 no more than 36 a bit and 14.
+-- What decoding counts: each word that the lines of the accepted rows find; and no more than 128 ticks a bit and 256 more,
+-- in Group 4 no more than 22 a bit and one, in Group 3 no more than 36 a bit and 14.
 pub record CountsWork (settings : DecodeSettings) (bits : Bits) (taken ticks : ℕ) : Type 0 where
   pub words : sum_by length (take taken (words_of settings bits)) ≤ ticks
   pub bound : ticks ≤ 128 * length bits + 256
   pub closer : ticks ≤ most_counted settings.encoding (length bits)
 
--- ---- how much is counted where a body is tested
+-- ---- how much is counted if a body is tested
 
--- The most that the tests of a body between two places count: each of its bits four times, those of the zeros behind it and
--- of the one that follows them five times, the twelve bits before it, and each word of its line and one more (T.4, 4.1.2).
+-- The most that the tests of a body between two positions count: each of its bits four times, the zeros after it and the
+-- bit that follows them five times, the twelve bits before it, and each word of its line and one more (T.4, 4.1.2).
 abbrev pub most_for_body : DecodeSettings → Bits → ℕ → ℕ → ℕ
 most_for_body settings bits from to =
     4 * (to - from) + 5 * looked (drop to bits) + length (found_1d settings.strict settings.columns (drop from bits)) + 13

@@ -1,4 +1,4 @@
-//! The bits of a slice of bytes, read from the front.
+//! The bits of a slice of bytes, read from the start.
 
 ghost use Rattle.std.specs.Prelude.{◌≡◌, ◌+◌, ◌-◌, ◌*◌, ◌/◌, ◌%◌, ◌^◌, ◌<◌, ◌≤◌, ◌==◌, ◌↔◌, ◌∷◌, ℕ, length, min, false, slice_get, slice_index, get_or, Some, IfSome, true, IfOk, OnOk, OnErr, IsErr, IsOkUnless};
 ghost use Rattle.hayro_ccitt.specs.Bits.{AreWholeBytes, BitsAt, BitsFit, bits_of, low_first_bits_of, bits_in, bit_of, here};
@@ -10,8 +10,8 @@ use crate::{DecodeError, Result};
 use std::marker::Model;
 use std::simd::prelude::*;
 
-/// Which bit of a byte comes first. T.4 and T.6 speak of bits alone; PDF has the highest first, TIFF says it by FillOrder,
-/// and most fax modems have the lowest first.
+/// Which bit of a byte comes first. T.4 and T.6 speak of bits alone; PDF has the highest first, TIFF's tag FillOrder says
+/// it, and raw fax files have either.
 #[derive(Copy, Clone, Debug, PartialEq, Eq)]
 pub enum BitOrder {
     /// From the highest bit to the lowest (FillOrder 1).
@@ -20,20 +20,20 @@ pub enum BitOrder {
     LowestFirst,
 }
 
-/// The bits of some bytes, in either order, and a place among them, counted in bits from 0. No call takes memory.
+/// The bits of some bytes, in either order, and an offset among them, counted in bits from 0. No call allocates.
 #[derive(Clone, Drop)]
 pub struct BitReader<'a> {
     data: &'a [u8],
     place: usize,
-    /// The place never passes the limit, so that the window has the next 32 bits at least.
+    /// The offset never exceeds the limit, so the window has at least the next 32 bits.
     limit: usize,
-    /// The next bits, the first in the highest position, zeros past the end: all that are at most 33 behind the limit,
-    /// and zeros behind them.
+    /// The next bits, the first in the highest position, zeros past the end: all that are at most 33 after the limit,
+    /// and zeros after them.
     window: u64,
-    /// The 64 bits from the edge on, the first in the highest position, zeros past the end. Each word is loaded once, and
-    /// once put in order; the windows are made of two neighbours.
+    /// The 64 bits from the edge on, the first in the highest position, zeros past the end. Each word is loaded once and
+    /// put in order once; the windows are made of two neighbouring words.
     ahead: u64,
-    /// The byte where the bits ahead begin: the window reaches it.
+    /// The byte at which the bits ahead begin: the window reaches it.
     edge: usize,
     order: BitOrder,
 }
@@ -50,17 +50,17 @@ impl<'a> Model for BitReader<'a> {
     ghost invariant = { IsFilled };
 }
 
-/// Four bits in the other order, as the upper half of a byte.
+/// The four bits of an index in the other order, as the upper half of a byte.
 const TURNED_UP: [u8; 16] = [
     0x00, 0x80, 0x40, 0xC0, 0x20, 0xA0, 0x60, 0xE0, 0x10, 0x90, 0x50, 0xD0, 0x30, 0xB0, 0x70, 0xF0,
 ];
 
-/// Four bits in the other order, as the lower half of a byte.
+/// The four bits of an index in the other order, as the lower half of a byte.
 const TURNED_DOWN: [u8; 16] = [
     0x0, 0x8, 0x4, 0xC, 0x2, 0xA, 0x6, 0xE, 0x1, 0x9, 0x5, 0xD, 0x3, 0xB, 0x7, 0xF,
 ];
 
-/// Each byte of a word with its bits in the other order: the halves of all bytes are looked up at once.
+/// Returns a word with the bits of each byte in the other order: the halves of all bytes are looked up at once.
 #[inline(always)]
 fn bytes_turned(word: u64) -> u64
     ensures { (k : ℕ) → k < 64 → bit_of result k ≡ bit_of word (8 * (k / 8) + (7 - k % 8)) }
@@ -71,7 +71,7 @@ fn bytes_turned(word: u64) -> u64
     u64x2::from_le_bytes(upper | lower).to_array()[0]
 }
 
-/// The bits of a word of eight bytes, the first in the highest position.
+/// Returns the bits of a word of eight bytes, the first in the highest position.
 #[inline(always)]
 fn in_order(word: u64, order: BitOrder) -> u64
     ensures { (k : ℕ) → k < 64 → bit_of result (63 - k) ≡ bit_of word (63 - place_in_word order k) }
@@ -82,7 +82,7 @@ fn in_order(word: u64, order: BitOrder) -> u64
     }
 }
 
-/// The bits of the eight bytes at the front, the first in the highest position.
+/// Returns the bits of the first eight bytes, the first in the highest position.
 #[inline(always)]
 fn whole_word(bytes: &[u8], order: BitOrder) -> u64
     requires { 8 ≤ length bytes.now }
@@ -94,14 +94,14 @@ fn whole_word(bytes: &[u8], order: BitOrder) -> u64
     in_order(word, order)
 }
 
-/// The byte at an index, 0 past the end.
+/// Returns the byte at an index, 0 past the end.
 fn byte_or_zero(bytes: &[u8], index: usize) -> u8
     ensures { result ≡ slice_index bytes.now index }
 {
     bytes.get(index).copied().unwrap_or(0)
 }
 
-/// The bits of the last bytes, fewer than eight, the first in the highest position, with zeros behind them.
+/// Returns the bits of the last bytes, fewer than eight, the first in the highest position, with zeros after them.
 #[cold]
 #[inline(never)]
 fn last_word(bytes: &[u8], order: BitOrder) -> u64
@@ -120,7 +120,7 @@ fn last_word(bytes: &[u8], order: BitOrder) -> u64
     in_order(last, order)
 }
 
-/// The 64 bits from a byte on, the first in the highest position, with zeros past the end.
+/// Returns the 64 bits from a byte on, the first in the highest position, with zeros past the end.
 fn word_at(data: &[u8], order: BitOrder, byte: usize) -> u64
     requires { byte ≤ length «data».now }
     ensures { (k : ℕ) → k < 64 → bit_of result (63 - k) ≡ get_or (bits_in order «data».now) (8 * byte + k) false }
@@ -134,7 +134,7 @@ fn word_at(data: &[u8], order: BitOrder, byte: usize) -> u64
 }
 
 impl<'a> BitReader<'a> {
-    /// A reader at the first bit, with each byte's highest bit first.
+    /// Creates a reader at the first bit, with each byte's highest bit first.
     pub fn new(data: &'a [u8]) -> BitReader<'a>
         requires { BitsFit «data».now }
         ensures { result ≡ record { bits = bits_of «data».now; place = 0 } }
@@ -142,7 +142,7 @@ impl<'a> BitReader<'a> {
         BitReader::starting_at(data, 0)
     }
 
-    /// A reader at the first bit, with each byte's lowest bit first.
+    /// Creates a reader at the first bit, with each byte's lowest bit first.
     pub fn new_low_first(data: &'a [u8]) -> BitReader<'a>
         requires { BitsFit «data».now }
         ensures { result ≡ record { bits = low_first_bits_of «data».now; place = 0 } }
@@ -150,7 +150,7 @@ impl<'a> BitReader<'a> {
         BitReader::at_place(data, BitOrder::LowestFirst, 0)
     }
 
-    /// A reader at a place among the bits, with each byte's highest bit first.
+    /// Creates a reader at a bit offset, with each byte's highest bit first.
     pub(crate) fn starting_at(data: &'a [u8], place: usize) -> BitReader<'a>
         requires fit { BitsFit «data».now }
         requires within { place ≤ 8 * length «data».now }
@@ -159,9 +159,9 @@ impl<'a> BitReader<'a> {
         BitReader::at_place(data, BitOrder::HighestFirst, place)
     }
 
-    /// A reader at a place among the bits.
+    /// Creates a reader at a bit offset.
     #[inline(never)]
-    fn at_place(data: &'a [u8], order: BitOrder, place: usize) -> BitReader<'a>
+    pub(crate) fn at_place(data: &'a [u8], order: BitOrder, place: usize) -> BitReader<'a>
         requires fit { BitsFit «data».now }
         requires within { place ≤ 8 * length «data».now }
         ensures { result ≡ record { bits = bits_in order «data».now; place = place } }
@@ -179,7 +179,11 @@ impl<'a> BitReader<'a> {
         }
     }
 
-    /// The next bit. At the end it is `UnexpectedEof`, and the place stays.
+    /// Reads the next bit.
+    ///
+    /// # Errors
+    ///
+    /// `UnexpectedEof` at the end of the data; the offset then doesn't change.
     #[inline(always)]
     pub fn read_bit(&mut self) -> Result<u32>
         ensures bit { IfOk result (λ bit. (bit ≤ 1) × (slice_get self.old.bits self.old.place ≡ Some (bit == 1))) }
@@ -194,7 +198,7 @@ impl<'a> BitReader<'a> {
         Ok(bit)
     }
 
-    /// The next 32 bits, padded with zeros, the first in the highest position.
+    /// Returns the next 32 bits, padded with zeros, the first in the highest position, without consuming them.
     #[inline(always)]
     pub fn peek_u32(&self) -> u32
         ensures { (k : ℕ) → k < 32 → bit_of result (31 - k) ≡ get_or self.now.bits (self.now.place + k) false }
@@ -202,8 +206,11 @@ impl<'a> BitReader<'a> {
         (self.window >> 32) as u32
     }
 
-    /// Moves so many bits on, at most 32. Where that passes the end the reader stands at the end, and the
-    /// answer is `UnexpectedEof`.
+    /// Consumes `n` bits, at most 32.
+    ///
+    /// # Errors
+    ///
+    /// `UnexpectedEof` if fewer are left; these are consumed.
     #[inline(always)]
     pub fn consume(&mut self, n: usize) -> Result<()>
         requires { n ≤ 32 }
@@ -221,7 +228,7 @@ impl<'a> BitReader<'a> {
                 // The word ahead has what the window lacks.
                 window |= self.ahead >> (edge - next);
             } else if byte + 8 <= self.data.len() {
-                // The word ahead begins before the place, and the one behind it has the rest.
+                // The word ahead begins before the offset, and the one after it has the rest.
                 let word = whole_word(&self.data[byte..], self.order);
                 window = self.ahead << (next - edge) | word >> (64 - (next - edge));
                 self.ahead = word;
@@ -236,7 +243,7 @@ impl<'a> BitReader<'a> {
         Ok(())
     }
 
-    /// Moves to a place that the words loaded so far don't hold, at most to the end, and fills the window there.
+    /// Moves to an offset beyond the words loaded so far, at most to the end of the data, and fills the window there.
     #[cold]
     #[inline(never)]
     fn refill_near_end(&mut self, next: usize) -> Result<()>
@@ -254,7 +261,7 @@ impl<'a> BitReader<'a> {
         Ok(())
     }
 
-    /// Moves to the start of the next whole byte, if the place is not at one: at most seven bits on.
+    /// Moves to the start of the next whole byte, unless the offset is at one: by at most seven bits.
     pub fn align(&mut self)
         ensures moved { self.new ≡ record self.old { place = (self.old.place + 7) / 8 * 8 } }
         ensures rest { here self.new ≡ aligned (here self.old) }
@@ -265,7 +272,7 @@ impl<'a> BitReader<'a> {
         let _ = self.consume(left);
     }
 
-    /// Whether no bit is left.
+    /// Returns whether no bit is left.
     pub fn at_end(&self) -> bool
         ensures end { result ≡ at_end (here self.now) }
         ensures within { self.now.place ≤ length self.now.bits }
@@ -275,22 +282,53 @@ impl<'a> BitReader<'a> {
         self.byte_pos() >= self.data.len()
     }
 
-    /// The number of whole bytes before the place.
+    /// Returns the number of whole bytes before the offset.
     pub fn byte_pos(&self) -> usize
         ensures { result ≡ self.now.place / 8 }
     {
         self.place / 8
     }
 
-    /// The number of bits before the place.
+    /// Returns the number of bits before the offset.
     pub fn bit_pos(&self) -> usize
         ensures place { result ≡ self.now.place }
         ensures within { result ≤ length self.now.bits }
+        ensures fit { length self.now.bits + 64 < 2 ^ 64 }
     {
         self.place
     }
 
-    /// The same bits at the same place.
+    /// Returns the number of bits, those before the offset too.
+    pub(crate) fn bit_len(&self) -> usize
+        ensures length { result ≡ length self.now.bits }
+        ensures fit { length self.now.bits + 64 < 2 ^ 64 }
+    {
+        self.data.len() * 8
+    }
+
+    /// Moves to another offset.
+    #[inline(always)]
+    pub(crate) fn go_to(&mut self, place: usize)
+        requires { place ≤ length self.old.bits }
+        ensures { self.new ≡ record self.old { place = place } }
+    {
+        if place >= self.place && place - self.place <= 32 {
+            // The offset is within the data.
+            let _ = self.consume(place - self.place);
+            return;
+        }
+        *self = BitReader::at_place(self.data, self.order, place);
+    }
+
+    /// Returns a reader of the same bits at another offset.
+    pub(crate) fn at_bit(&self, place: usize) -> BitReader<'a>
+        requires { place ≤ length self.now.bits }
+        ensures { result ≡ record self.now { place = place } }
+    {
+        BitReader::at_place(self.data, self.order, place)
+    }
+
+    /// Returns a reader of the same bits at the same offset.
     pub(crate) fn copy(&self) -> BitReader<'a>
         ensures value { result ≡ self.now }
         ensures fit { length self.now.bits + 64 < 2 ^ 64 }
@@ -307,7 +345,8 @@ impl<'a> BitReader<'a> {
     }
 }
 
-/// The bits of some bytes and a place among them, as a line keeps them for itself: the next ones stand in a window.
+/// The bits of some bytes and an offset among them, as the drawing of a line keeps them for itself: the next ones are
+/// in a window.
 #[derive(Drop)]
 pub struct BitsAtHand<'a> {
     data: &'a [u8],
@@ -315,7 +354,7 @@ pub struct BitsAtHand<'a> {
     window: u64,
     /// How many of them there are.
     left: usize,
-    /// The place where they end.
+    /// The offset where they end.
     limit: usize,
     order: BitOrder,
 }
@@ -333,7 +372,21 @@ impl<'a> Model for BitsAtHand<'a> {
 }
 
 impl<'a> BitReader<'a> {
-    /// The same bits at the same place, none of them at hand yet, where they are in this order.
+    /// The same bits at the same place, none of them at hand yet.
+    #[inline(always)]
+    pub(crate) fn none_at_hand(&self) -> BitsAtHand<'a>
+        ensures { result ≡ record { at = self.now; left = 0 } }
+    {
+        BitsAtHand {
+            data: self.data,
+            window: 0,
+            left: 0,
+            limit: self.place,
+            order: self.order,
+        }
+    }
+
+    /// Returns the same bits at the same offset, with an empty window, or `None` if the bits are in another order.
     #[inline(always)]
     pub(crate) fn at_hand(&self, order: BitOrder) -> Option<BitsAtHand<'a>>
         ensures same { IfSome result (λ hand. hand ≡ record { at = self.now; left = 0 }) }
@@ -353,7 +406,7 @@ impl<'a> BitReader<'a> {
 }
 
 impl<'a> BitsAtHand<'a> {
-    /// Fills the window, where eight bytes are left; otherwise nothing changes.
+    /// Fills the window if eight bytes are left; otherwise nothing changes.
     #[inline(always)]
     pub(crate) fn refill(&mut self) -> bool
         ensures same { self.new.at ≡ self.old.at }
@@ -372,7 +425,7 @@ impl<'a> BitsAtHand<'a> {
         true
     }
 
-    /// Moves on by so many bits, which are at hand.
+    /// Consumes `n` bits of the window.
     #[inline(always)]
     pub(crate) fn pass(&mut self, n: usize)
         requires few { n < 64 }
@@ -384,7 +437,7 @@ impl<'a> BitsAtHand<'a> {
         self.left -= n;
     }
 
-    /// The thirteen bits behind so many, as a number.
+    /// Returns the thirteen bits after the next `skip`, as a number.
     #[inline(always)]
     pub(crate) fn thirteen(&self, skip: usize) -> usize
         requires within { skip + 13 ≤ self.now.left }
@@ -395,7 +448,7 @@ impl<'a> BitsAtHand<'a> {
         (self.window << skip >> 51) as usize
     }
 
-    /// The same bits at hand.
+    /// Returns a copy.
     #[inline(always)]
     pub(crate) fn copy(&self) -> BitsAtHand<'a>
         ensures { result ≡ self.now }
@@ -409,7 +462,7 @@ impl<'a> BitsAtHand<'a> {
         }
     }
 
-    /// The next seven bits, as a number.
+    /// Returns the next seven bits, as a number.
     #[inline(always)]
     pub(crate) fn seven(&self) -> u32
         requires within { 7 ≤ self.now.left }
@@ -420,7 +473,7 @@ impl<'a> BitsAtHand<'a> {
         (self.window >> 57) as u32
     }
 
-    /// How many bits are at hand.
+    /// Returns how many bits are in the window.
     #[inline(always)]
     pub(crate) fn left(&self) -> usize
         ensures { result ≡ self.now.left }
@@ -428,7 +481,16 @@ impl<'a> BitsAtHand<'a> {
         self.left
     }
 
-    /// A reader at the same place.
+    /// The number of bits before the place.
+    #[inline(always)]
+    pub(crate) fn bit_pos(&self) -> usize
+        ensures place { result ≡ self.now.at.place }
+        ensures within { result ≤ length self.now.at.bits }
+    {
+        self.limit - self.left
+    }
+
+    /// Returns a reader at the same offset.
     #[inline(always)]
     pub(crate) fn reader(&self) -> BitReader<'a>
         ensures { result ≡ self.now.at }

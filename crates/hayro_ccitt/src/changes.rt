@@ -1,4 +1,4 @@
-//! Rows as lists of changes: the places at which a row's colour turns, white at first.
+//! Rows as lists of changes: the positions at which a row's colour turns, white at first.
 
 ghost use Rattle.std.specs.Prelude.{vec_len, vec_capacity, ◌≡◌, ◌≢◌, ◌+◌, ◌<◌, ◌≤◌, OnOk, OnErr, Err, IsOkUnless, false, length, get_or, ◌++◌, replicate};
 ghost use Rattle.hayro_ccitt.specs.Rows.{AreChanges, pixels, b1, b2, is_black, last_pixel};
@@ -7,9 +7,9 @@ ghost use Rattle.hayro_ccitt.specs.Context.{right_of_painted, ArePassed, passed_
 use crate::codes::{Color, Ticks};
 use crate::{DecodeError, Result};
 
-/// The index of b1 among the changes of a reference row, where so many pixels are painted and the next ones have
-/// this colour; b2 is the next change. `passed` is how many changes are known not to be right of a0; afterwards it
-/// is how many there are. Each change that is looked at is a tick, and those that are known are not looked at.
+/// Returns the index of b1 among the changes of a reference row, given the number of pixels painted and the colour of
+/// the next ones; b2 is the next change. `passed` is how many changes are known not to be right of a0; afterwards it is
+/// the number of all such changes. Each change that is examined is a tick, and known ones are not examined.
 #[inline(always)]
 pub fn b1_index(
     changes: &[u32],
@@ -47,7 +47,7 @@ pub fn b1_index(
     index
 }
 
-/// The change of an index, or the row's end where there is none.
+/// Returns the change at an index, or the row's end if there is none.
 #[inline(always)]
 pub fn change_or_end(changes: &[u32], index: usize, columns: u32) -> u32
     ensures { result ≡ get_or changes.now index columns }
@@ -55,9 +55,12 @@ pub fn change_or_end(changes: &[u32], index: usize, columns: u32) -> u32
     changes.get(index).copied().unwrap_or(columns)
 }
 
-/// Adds so many pixels of a colour to the changes of a front, of which so many are painted. A change is stored
-/// only where the last pixel has another colour. `OutOfMemory` comes only where the list is full. After an error
-/// nothing is changed.
+/// Appends `count` pixels of a colour to the changes of a front of `painted` pixels. A change is stored only if the
+/// last pixel has another colour.
+///
+/// # Errors
+///
+/// `OutOfMemory` if the list is full and can't grow. Then nothing has changed.
 #[inline(always)]
 pub fn append_pixels(changes: &mut Vec<u32>, painted: u32, color: Color, count: u32) -> Result<()>
     requires { AreChanges painted changes.old.items }

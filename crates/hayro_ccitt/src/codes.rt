@@ -28,7 +28,7 @@ pub enum Color {
 }
 
 impl Color {
-    /// The other colour.
+    /// Returns the other colour.
     pub fn opposite(self) -> Color
         ensures { result ≡ opposite self }
     {
@@ -38,7 +38,7 @@ impl Color {
         }
     }
 
-    /// Whether this is white.
+    /// Returns whether this is white.
     pub fn is_white(self) -> bool
         ensures { IsTrue result ↔ (self ≡ Color.White) }
     {
@@ -49,7 +49,7 @@ impl Color {
 /// A mode of a two-dimensional line (T.4 section 4.2.1.3, T.6 section 2.2.3).
 #[derive(Debug, Clone, Copy, PartialEq, Eq)]
 pub enum Mode {
-    /// Pass mode: the colour goes on to below b2.
+    /// Pass mode: the colour continues up to below b2.
     Pass,
     /// Horizontal mode: two runs follow.
     Horizontal,
@@ -57,8 +57,8 @@ pub enum Mode {
     Vertical(i8),
 }
 
-/// The count of work that decoding has done: code words read, bits tested, stored changes looked at. It
-/// takes no bytes and a program can't read it; contracts see a number.
+/// The count of work that decoding has done: code words read, bits examined, stored changes examined. It has no bytes
+/// and a program can't read it; contracts see a number.
 #[derive(Drop)]
 pub struct Ticks {
     ghost count: { ℕ },
@@ -73,22 +73,22 @@ impl Model for Ticks {
 }
 
 impl Ticks {
-    /// A count of none.
+    /// Creates a count of zero.
     pub fn new() -> Ticks
         ensures { result ≡ 0 }
     {
         Ticks {}
     }
 
-    /// The count after one more tick. Together with `new` this is the only function proved by hand: no
-    /// other can make a count.
+    /// Returns the count after one more tick. Besides `new` this is the only function that is proved by hand: no other
+    /// can make a count.
     fn after(_before: &Ticks) -> Ticks
         ensures { result ≡ _before.now + 1 }
     {
         Ticks {}
     }
 
-    /// Counts one.
+    /// Counts one tick.
     pub fn tick(&mut self)
         ensures { self.new ≡ self.old + 1 }
     {
@@ -96,7 +96,7 @@ impl Ticks {
         *self = next;
     }
 
-    /// Counts so many. This is a proof alone: nothing is done in the loop, and so it leaves no code.
+    /// Counts `n` ticks. This is only for the proof: the loop does nothing, and so it leaves no code.
     pub(crate) fn tick_times(&mut self, n: usize)
         ensures { self.new ≡ self.old + n }
     {
@@ -106,8 +106,8 @@ impl Ticks {
     }
 }
 
-/// The mode whose word begins these seven bits, None where no word does, and the number of bits that tell so: those of
-/// the word, or one more than the bits that agree with any.
+/// Returns the mode whose word begins these seven bits, `None` if there is none, and the number of bits that decide it:
+/// those of the word, or one more than the bits that agree with any.
 #[inline(always)]
 pub(crate) fn mode_of(bits: u32) -> (Option<Mode>, usize)
     requires { bits < 128 }
@@ -147,7 +147,7 @@ pub(crate) fn mode_of(bits: u32) -> (Option<Mode>, usize)
     }
 }
 
-/// Whether a mode is V0.
+/// Returns whether a mode is V0.
 #[inline(always)]
 fn is_v0(mode: Option<Mode>) -> bool
     ensures { result ≡ true → mode ≡ Some (Mode.Vertical (pos 0)) }
@@ -156,16 +156,13 @@ fn is_v0(mode: Option<Mode>) -> bool
 }
 
 impl<'a> BitReader<'a> {
-    /// The entry of the next thirteen bits, padded with zeros, in the look-up of a colour.
+    /// Returns the entry of the next thirteen bits, padded with zeros, in the lookup table of a colour.
     #[inline(always)]
     fn look_up(&self, color: Color, tables: &Tables) -> u16
         ensures { result ≡ entry_of (codes_of color) (padded 13 (here self.now)) }
     {
         let index = self.peek_u32() >> (32 - LOOKUP_BITS);
-        let Some(entry) = tables.lookup(color).entry(index as usize) else {
-            unreachable!()
-        };
-        entry
+        tables.lookup(color)[index as usize]
     }
 
     /// Reads a word of a colour's list, which is one tick.
@@ -178,10 +175,10 @@ impl<'a> BitReader<'a> {
         ensures same_bits { self.new.bits ≡ self.old.bits }
         ensures ticks { ticks.new ≡ ticks.old + 1 }
     {
-        // A word that doesn't stand here was looked for too.
+        // A word that isn't here was looked for too.
         ticks.tick();
         let entry = self.look_up(color, tables);
-        // Where the data ends inside a word these bits aren't there.
+        // If the data ends inside a word these bits aren't there.
         self.consume(usize::from(entry >> 12))?;
         let run = entry & LOOKUP_INVALID;
         if run == LOOKUP_INVALID {
@@ -190,9 +187,13 @@ impl<'a> BitReader<'a> {
         Ok(run)
     }
 
-    /// Reads a run of a colour: make-up words and one terminating word (T.4 section 4.1.1). Each word that is
-    /// looked for is a tick. `UnexpectedEof` where the data ends inside a word, `InvalidCode` where none
-    /// stands, `Overflow` where the sum passes 32 bits; where the reader then stands isn't said.
+    /// Reads a run of a colour: make-up words and one terminating word (T.4 section 4.1.1). Each word that is looked
+    /// for is a tick.
+    ///
+    /// # Errors
+    ///
+    /// `UnexpectedEof` if the data ends inside a word, `InvalidCode` if there is none, and `Overflow` if the sum
+    /// exceeds 32 bits. The offset is then unspecified.
     #[inline(always)]
     pub fn decode_run(&mut self, color: Color, tables: &Tables, ticks: &mut Ticks) -> Result<u32>
         ensures run { MatchResult result
@@ -214,7 +215,7 @@ impl<'a> BitReader<'a> {
         }
     }
 
-    /// Passes V0, where it stands here, and returns whether it does; otherwise nothing changes.
+    /// Consumes V0 if it is here, and returns whether it is; otherwise nothing changes.
     #[inline(always)]
     pub(crate) fn pass_v0(&mut self) -> bool
         ensures mode { result ≡ true → read_code mode_codes (here self.old) ≡ Ok (Mode.Vertical (pos 0), here (moved 1 self.old)) }
@@ -225,13 +226,16 @@ impl<'a> BitReader<'a> {
         if !is_v0(mode) {
             return false;
         }
-        // The bit is there to be passed.
+        // The bit is there to be consumed.
         let _ = self.consume(1);
         true
     }
 
-    /// Reads a mode of a two-dimensional line (T.4 table 4, T.6 table 1), which is one tick. `UnexpectedEof`
-    /// where the data ends inside a word, `InvalidCode` where none stands.
+    /// Reads a mode of a two-dimensional line (T.4 table 4, T.6 table 1), which is one tick.
+    ///
+    /// # Errors
+    ///
+    /// `UnexpectedEof` if the data ends inside a word, and `InvalidCode` if there is none.
     #[inline(always)]
     pub fn decode_mode(&mut self, ticks: &mut Ticks) -> Result<Mode>
         ensures mode { MatchResult result
@@ -241,14 +245,14 @@ impl<'a> BitReader<'a> {
         ensures same_bits { self.new.bits ≡ self.old.bits }
         ensures ticks { ticks.new ≡ ticks.old + 1 }
     {
-        // The usual mode, V0, stands apart: what follows is compiled for it alone.
+        // The usual mode, V0, is separate: what follows is compiled for it alone.
         if self.peek_u32() >> 31 == 1 {
             return self.read_mode(ticks);
         }
         self.read_mode(ticks)
     }
 
-    /// The same, whatever the mode.
+    /// Reads any mode, as `decode_mode` does.
     #[inline(always)]
     fn read_mode(&mut self, ticks: &mut Ticks) -> Result<Mode>
         ensures mode { MatchResult result
@@ -260,7 +264,7 @@ impl<'a> BitReader<'a> {
     {
         ticks.tick();
         let (mode, width) = mode_of(self.peek_u32() >> 25);
-        // Where the data ends inside a word these bits aren't there.
+        // If the data ends inside a word these bits aren't there.
         self.consume(width)?;
         match mode {
             Some(mode) => Ok(mode),
@@ -268,7 +272,8 @@ impl<'a> BitReader<'a> {
         }
     }
 
-    /// Passes the zeros here, by the word, and answers whether a one follows. Where none does they go on to the end.
+    /// Consumes the zeros here, a word at a time, and returns whether a one follows. If none does, the data ends with
+    /// them.
     fn pass_zeros(&mut self) -> bool
         ensures zeros { here self.old ≡ replicate (self.new.place - self.old.place) false ++ here self.new }
         ensures forward { self.old.place ≤ self.new.place }
@@ -286,8 +291,8 @@ impl<'a> BitReader<'a> {
         }
     }
 
-    /// The number of zeros from here up to the next one, and a reader just past that one; up to the end, and
-    /// None, where no one follows. Each bit that is looked at is a tick.
+    /// Returns the number of zeros up to the next one, and a reader just after that one; or the number up to the end
+    /// and `None`, if no one follows. Each bit that is examined is a tick.
     pub fn zero_run(&self, ticks: &mut Ticks) -> (usize, Option<BitReader<'a>>)
         ensures zeros { result.0 ≡ leading_zeros (here self.now) }
         ensures one { IfSome result.1 (λ after. (after.bits ≡ self.now.bits)
@@ -306,12 +311,13 @@ impl<'a> BitReader<'a> {
             return (zeros, None);
         }
         ticks.tick();
-        // The one is there to be passed.
+        // The one is there to be consumed.
         let _ = reader.consume(1);
         (zeros, Some(reader))
     }
 
-    /// Whether a one is among the next eleven bits, so that no EOL stands here. Then each bit up to it is a tick.
+    /// Returns whether a one is among the next eleven bits, so that there is no EOL here. Then each bit up to it is a
+    /// tick.
     #[inline(always)]
     fn is_near_one(&self, ticks: &mut Ticks) -> bool
         ensures near { result ≡ true → after_eol 0 (here self.now) ≡ None }
@@ -326,8 +332,8 @@ impl<'a> BitReader<'a> {
         true
     }
 
-    /// Passes an EOL with its fill that stands here (T.4 sections 4.1.2 and 4.1.3), and answers whether one does. Each
-    /// bit that is looked at is a tick.
+    /// Consumes an EOL here, with its fill (T.4 sections 4.1.2 and 4.1.3), and returns whether there is one. Each bit
+    /// that is examined is a tick.
     #[inline(never)]
     fn pass_eol(&mut self, ticks: &mut Ticks) -> bool
         ensures eol { after_eol 0 (here self.old) ≡ (if result then Some (here self.new) else None) }
@@ -340,12 +346,12 @@ impl<'a> BitReader<'a> {
             return self.pass_far_eol(ticks);
         }
         ticks.tick_times(zeros + 1);
-        // The one is there to be passed.
+        // The one is there to be consumed.
         let _ = self.consume(zeros + 1);
         true
     }
 
-    /// The same, where the EOL may have more fill.
+    /// The same for an EOL that may have more fill.
     #[cold]
     #[inline(never)]
     fn pass_far_eol(&mut self, ticks: &mut Ticks) -> bool
@@ -364,8 +370,8 @@ impl<'a> BitReader<'a> {
         }
     }
 
-    /// Reads EOLs in a row, each with its fill (T.4 sections 4.1.2 and 4.1.3), at most so many, and answers how
-    /// many there were. It never fails. Each bit that is looked at is a tick.
+    /// Consumes consecutive EOLs, each with its fill (T.4 sections 4.1.2 and 4.1.3), at most `max`, and returns their
+    /// number. It never fails. Each bit that is examined is a tick.
     pub fn read_eols(&mut self, max: usize, ticks: &mut Ticks) -> usize
         ensures eols { eols max (here self.old) ≡ (result, here self.new) }
         ensures same_bits { self.new.bits ≡ self.old.bits }
@@ -382,7 +388,7 @@ impl<'a> BitReader<'a> {
         count
     }
 
-    /// Passes an EOL without fill that stands here, and returns whether one does. Each bit that is passed is a tick.
+    /// Consumes an EOL without fill here, and returns whether there is one. Each bit that is consumed is a tick.
     #[inline(always)]
     fn pass_plain_eol(&mut self, ticks: &mut Ticks) -> bool
         ensures eol { result ≡ true → after_eol 0 (here self.old) ≡ Some (here self.new) }
@@ -396,13 +402,12 @@ impl<'a> BitReader<'a> {
             return false;
         }
         ticks.tick_times(12);
-        // The eleven zeros and the one are there to be passed.
+        // The eleven zeros and the one are there to be consumed.
         let _ = self.consume(12);
         true
     }
 
-    /// Reads all EOLs in a row, and answers how many there were. It never fails. Each bit that is looked at is
-    /// a tick.
+    /// Consumes all consecutive EOLs, and returns their number. It never fails. Each bit that is examined is a tick.
     pub fn read_eol_if_available(&mut self, ticks: &mut Ticks) -> usize
         ensures eols { all_eols (here self.old) ≡ (result, here self.new) }
         ensures same_bits { self.new.bits ≡ self.old.bits }
@@ -422,7 +427,7 @@ impl<'a> BitReader<'a> {
         1 + self.read_all_eols(ticks)
     }
 
-    /// The same, with any fill and any number of EOLs.
+    /// The same for EOLs of any number and with any fill.
     #[inline(never)]
     fn read_all_eols(&mut self, ticks: &mut Ticks) -> usize
         ensures eols { all_eols (here self.old) ≡ (result, here self.new) }
@@ -434,12 +439,12 @@ impl<'a> BitReader<'a> {
         if self.at_end() {
             return 0;
         }
-        // An EOL takes more than one bit, so that there are fewer.
+        // An EOL has more than one bit, so there are fewer than that.
         self.read_eols(usize::MAX, ticks)
     }
 
-    /// Passes the next eleven bits up to the last one among them, before which no EOL begins, and returns whether there is
-    /// one. Each bit that is passed is a tick.
+    /// Consumes the next eleven bits up to the last one among them, before which no EOL begins, and returns whether there
+    /// is one. Each bit that is consumed is a tick.
     #[inline(always)]
     fn pass_near_ones(&mut self, ticks: &mut Ticks) -> bool
         ensures next { next_eol (here self.old) ≡ next_eol (here self.new) }
@@ -454,14 +459,14 @@ impl<'a> BitReader<'a> {
         }
         let passed = 11 - next.trailing_zeros() as usize;
         ticks.tick_times(passed);
-        // The last one is there to be passed.
+        // The last one is there to be consumed.
         let _ = self.consume(passed);
         true
     }
 
-    /// Moves to the start of the zeros of the next EOL at or after here (T.4 sections 4.1.2 and 4.1.3), without
-    /// reading it. Where there is none it answers false, and the place stays. It never fails. Each bit that is
-    /// looked at is a tick.
+    /// Moves to the start of the zeros of the next EOL at or after here (T.4 sections 4.1.2 and 4.1.3), without reading
+    /// it. If there is none it returns false, and the offset doesn't change. It never fails. Each bit that is examined
+    /// is a tick.
     pub fn skip_to_eol(&mut self, ticks: &mut Ticks) -> bool
         ensures next { next_eol (here self.old) ≡ (if result then Some (here self.new) else None) }
         ensures unchanged { result ≡ false → self.new ≡ self.old }
@@ -485,7 +490,7 @@ impl<'a> BitReader<'a> {
         }
     }
 
-    /// Whether an EOL stands here. Each bit that is looked at is a tick.
+    /// Returns whether an EOL is here. Each bit that is examined is a tick.
     fn is_at_eol(&self, ticks: &mut Ticks) -> bool
         ensures eol { result ≡ is_some (after_eol 0 (here self.now)) }
         ensures ticks { ticks.new ≡ ticks.old + looked (here self.now) }
@@ -497,7 +502,7 @@ impl<'a> BitReader<'a> {
         }
     }
 
-    /// Passes a tag of 1 that stands here before an EOL (T.4 section 4.2.2). Each bit that is looked at is a tick.
+    /// Consumes a tag of 1 here before an EOL (T.4 section 4.2.2). Each bit that is examined is a tick.
     fn pass_tag(&mut self, ticks: &mut Ticks)
         ensures rest { here self.new ≡ past_tag (here self.old) }
         ensures same_bits { self.new.bits ≡ self.old.bits }
@@ -516,8 +521,8 @@ impl<'a> BitReader<'a> {
         }
     }
 
-    /// Passes the tag of 1 after the last EOL, where so many EOLs are RTC: six or more (T.4 section 4.2.4). The bit
-    /// that is looked at is a tick.
+    /// Consumes the tag of 1 after the last EOL if the EOLs are RTC: six or more (T.4 section 4.2.4). The bit that is
+    /// examined is a tick.
     fn pass_last_tag(&mut self, count: usize, ticks: &mut Ticks)
         ensures rest { pass_last_tag (count, here self.old) ≡ (count, here self.new) }
         ensures same_bits { self.new.bits ≡ self.old.bits }
@@ -537,8 +542,8 @@ impl<'a> BitReader<'a> {
         }
     }
 
-    /// Reads the EOLs in a row with the tags between them, and answers how many EOLs there were. A tick is a bit that
-    /// is looked at: each that is passed, at most twice; at the end those of a tag, and of the zeros.
+    /// Consumes consecutive EOLs with the tags between them, and returns the number of EOLs. A tick is a bit that is
+    /// examined: each one consumed, at most twice; and at the end those of a tag and of the zeros.
     fn read_eols_with_tags(&mut self, ticks: &mut Ticks) -> usize
         ensures eols { eols_with_tags (length (here self.old)) (here self.old) ≡ (result, here self.new) }
         ensures same_bits { self.new.bits ≡ self.old.bits }
@@ -558,8 +563,8 @@ impl<'a> BitReader<'a> {
         count
     }
 
-    /// Passes an EOL without fill that stands here where no other follows, nor a tag and another, and returns whether it
-    /// did. Each bit that is passed is a tick.
+    /// Consumes an EOL without fill here if no other follows, nor a tag and another, and returns whether it did. Each
+    /// bit that is consumed is a tick.
     #[inline(always)]
     fn pass_single_tagged_eol(&mut self, ticks: &mut Ticks) -> bool
         ensures eols { result ≡ true → tagged_eols (here self.old) ≡ (1, here self.new) }
@@ -568,15 +573,14 @@ impl<'a> BitReader<'a> {
         ensures same_bits { self.new.bits ≡ self.old.bits }
         ensures ticks { ticks.new + length (here self.new) ≡ ticks.old + length (here self.old) }
     {
-        // A one among the ten bits behind the tag is near, seen from the tag and from behind it.
+        // A one among the ten bits after the tag is near, seen from the tag and from the bit after it.
         let is_single = (self.peek_u32() >> 9) % 1024 != 0;
         is_single && self.pass_plain_eol(ticks)
     }
 
-    /// Reads all EOLs in a row of two-dimensional data of Group 3, and answers how many there were (T.4
-    /// sections 4.2.2 and 4.2.4). A tag of 1 between two EOLs is passed; after the last EOL it is passed where there
-    /// were six or more, which are RTC. It never fails. Each bit that is looked at is a tick: one that is passed at
-    /// most twice.
+    /// Consumes all consecutive EOLs of two-dimensional data of Group 3, and returns their number (T.4 sections 4.2.2
+    /// and 4.2.4). A tag of 1 between two EOLs is consumed; after the last EOL it is consumed if there were six or
+    /// more, which are RTC. It never fails. Each bit that is examined is a tick: one that is consumed at most twice.
     pub fn read_tagged_eols(&mut self, ticks: &mut Ticks) -> usize
         ensures eols { tagged_eols (here self.old) ≡ (result, here self.new) }
         ensures same_bits { self.new.bits ≡ self.old.bits }
@@ -595,7 +599,7 @@ impl<'a> BitReader<'a> {
         self.read_all_tagged_eols(ticks)
     }
 
-    /// The same, with any fill and any number of EOLs.
+    /// The same for EOLs of any number and with any fill.
     #[inline(never)]
     fn read_all_tagged_eols(&mut self, ticks: &mut Ticks) -> usize
         ensures eols { tagged_eols (here self.old) ≡ (result, here self.new) }

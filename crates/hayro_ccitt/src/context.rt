@@ -1,7 +1,7 @@
 //! What a decoder keeps from line to line, and the lines themselves.
 
 ghost use Rattle.std.specs.Prelude.{◌≡◌, ◌+◌, ◌*◌, ◌^◌, ◌<◌, ◌≤◌, ◌⊎◌, ◌↔◌, Ok, Err, OnOk, OnErr, IfOk, IfErr, true, false, IsOkUnless, IsTrue, length, get_or, []};
-ghost use Rattle.hayro_ccitt.specs.Rows.{right_of, b1, b2, changes, opposite};
+ghost use Rattle.hayro_ccitt.specs.Rows.{AreChanges, right_of, b1, b2, changes, opposite};
 ghost use Rattle.hayro_ccitt.specs.Bits.{here};
 ghost use Rattle.hayro_ccitt.specs.Context.{redrawn, painted_front, taken_row, after_repair, passed_changes};
 ghost use Rattle.hayro_ccitt.specs.UsualModes.{GoesOn2d};
@@ -20,19 +20,36 @@ use std::alloc::Global;
 use std::marker::Model;
 use std::mem;
 
-/// What decoding keeps: the settings, the reference row and the coding row (T.4 section 4.2.1.1), how many rows were
-/// taken, and the look-ups of the code words. One context may decode any number of images with the same settings, one
-/// after another.
+/// Exchanges two lists of changes: two empty ones stay as they are.
+#[inline(always)]
+fn exchange(reference: &mut Vec<u32>, coding: &mut Vec<u32>)
+    ensures reference { reference.new.items ≡ coding.old.items }
+    ensures coding { coding.new.items ≡ reference.old.items }
+{
+    if is_white_row(reference) {
+        if is_white_row(coding) {
+            return;
+        }
+    }
+    mem::swap(reference, coding);
+}
+
+/// The state of decoding: the settings, the reference row and the coding row (T.4 section 4.2.1.1), the number of rows
+/// decoded, and the lookup tables of the code words. One context may decode any number of images with the same
+/// settings, one after another.
 #[derive(Drop)]
 pub struct DecoderContext {
     ref_changes: Vec<u32>,
     coding_changes: Vec<u32>,
     pixels_decoded: u32,
-    /// How many changes of the reference row are not right of a0, as far as b1 was sought: it only moves forward in
-    /// a line.
+    /// How many changes of the reference row are not right of a0, as far as b1 was searched for: it never decreases
+    /// within a line.
     passed: usize,
     color: Color,
     decoded_rows: u64,
+    damaged_rows: u64,
+    /// The fault of the last row that was repaired; it means nothing before the first.
+    last_fault: DecodeError,
     has_eols: bool,
     settings: DecodeSettings,
     tables: Tables,
@@ -57,8 +74,12 @@ impl DecoderContext {
     ghost use Rattle.hayro_ccitt.specs.Lending.{LendsTicks};
     ghost use Rattle.hayro_ccitt.specs.Settings.{AreSettings};
 
-    /// A context for images with these settings: a white reference row, nothing painted, no row taken. All settings are
-    /// taken, 0 and 4294967295 columns too. Its only error is `OutOfMemory`, and nothing is made then.
+    /// Creates a context for images with these settings: a white reference row, nothing painted, no row decoded. All
+    /// settings are valid, even 0 and 4294967295 columns.
+    ///
+    /// # Errors
+    ///
+    /// `OutOfMemory` if an allocation fails. Nothing is created then.
     ///
     /// ```text
     /// let mut ctx = DecoderContext::new(rt.alloc(), settings)?;
@@ -74,6 +95,8 @@ impl DecoderContext {
             passed: 0,
             color: Color::White,
             decoded_rows: 0,
+            damaged_rows: 0,
+            last_fault: DecodeError::UnexpectedEof,
             has_eols: false,
             settings,
             tables: Tables::new(alloc)?,
@@ -81,23 +104,52 @@ impl DecoderContext {
         })
     }
 
-    /// The settings that the context was made with.
+    /// Returns the settings that the context was created with.
     pub fn settings(&self) -> DecodeSettings
         ensures value { result ≡ self.now.held.settings }
         ensures fit { AreSettings result }
     {
-        // A number's range is known once it is read.
+        // The range of a number is known once it is read.
         let _columns = self.settings.columns;
         let _rows = self.settings.rows;
         self.settings
     }
 
-    /// The number of rows that the sink took since the context was made or last reset: after
-    /// [`decode`](crate::decode), which resets it, those of that image, also where it answered an error.
+    /// Returns the number of rows that the sink accepted since the context was created or last reset: after
+    /// [`decode`](crate::decode), which resets it, those of that image, even if it returned an error.
     pub fn decoded_rows(&self) -> u64
         ensures { result ≡ self.now.held.taken }
     {
         self.decoded_rows
+    }
+
+    /// The number of rows among them whose line was damaged and repaired, as a lenient reading of Group 3 with EOLs does (T.4
+    /// section 4.1.2): after [`decode`](crate::decode), which resets it, those of that image, also where it answered an
+    /// error.
+    pub fn damaged_rows(&self) -> u64
+        ensures { result ≡ self.now.held.repairs.rows }
+    {
+        self.damaged_rows
+    }
+
+    /// The fault of the last line that was repaired.
+    pub(crate) fn last_fault(&self) -> DecodeError
+        ensures { result ≡ self.now.held.repairs.fault }
+    {
+        self.last_fault
+    }
+
+    /// Counts a row whose line was repaired after this fault.
+    pub(crate) fn count_damaged_row(&mut self, fault: DecodeError)
+        requires { self.old.held.repairs.rows + 1 < 2 ^ 64 }
+        ensures frame { self.new ≡ record self.old {
+          held = record self.old.held {
+            repairs = record { rows = self.old.held.repairs.rows + 1; fault = fault };
+          };
+        } }
+    {
+        self.damaged_rows += 1;
+        self.last_fault = fault;
     }
 
     /// Whether EOLs are sought between the lines of Group 3 (T.4 section 4.1.2): at first where `end_of_line` is set or
@@ -108,21 +160,24 @@ impl DecoderContext {
         self.has_eols
     }
 
-    /// The changes of the reference row: those of the last row that was taken, none before the first.
+    /// Returns the changes of the reference row: those of the last accepted row, none before the first.
     pub(crate) fn reference_row(&self) -> &[u32]
-        ensures { result.now ≡ changes self.now.held.reference }
+        ensures changes { result.now ≡ changes self.now.held.reference }
+        ensures lawful { AreChanges self.now.held.settings.columns result.now }
+        ensures width { length self.now.held.reference ≡ self.now.held.settings.columns }
     {
         self.ref_changes.as_slice()
     }
 
-    /// Sets whether EOLs are sought between the lines. All else stands.
+    /// Sets whether EOLs are sought between the lines. Nothing else changes.
     pub fn set_has_eols(&mut self, has_eols: bool)
         ensures frame { self.new ≡ record self.old { held = record self.old.held { has_eols = has_eols } } }
     {
         self.has_eols = has_eols;
     }
 
-    /// Lends the count of work, for calls that count. A program can't read it; contracts see a number. All else stands.
+    /// Borrows the count of work, for calls that count. A program can't read it; contracts see a number. Nothing else
+    /// changes.
     pub fn ticks(&mut self) -> &mut Ticks
         ensures* writes_back { sem 𝓛 (LendsTicks self.entry result) }
         ensures value { result.now ≡ self.old.ticks }
@@ -130,17 +185,19 @@ impl DecoderContext {
         &mut self.ticks
     }
 
-    /// Makes all but the settings and the count what a new context has. It takes no memory.
+    /// Resets all but the settings and the count of work to what a new context has. It allocates nothing.
     pub fn reset(&mut self)
         ensures frame { self.new ≡ record self.old { held = fresh self.old.held.settings; passed = 0 } }
     {
         self.begin_line();
         self.ref_changes.clear();
         self.decoded_rows = 0;
+        self.damaged_rows = 0;
+        self.last_fault = DecodeError::UnexpectedEof;
         self.has_eols = false;
     }
 
-    /// Makes all but the settings what a new context has.
+    /// Resets all but the settings to what a new context has.
     pub(crate) fn restart(&mut self)
         ensures frame { self.new ≡ record { held = fresh self.old.held.settings; passed = 0; ticks = 0 } }
     {
@@ -150,7 +207,7 @@ impl DecoderContext {
 
     /// Empties the front and sets the colour to white, as each line begins.
     #[inline(always)]
-    fn begin_line(&mut self)
+    pub(crate) fn begin_line(&mut self)
         ensures frame { self.new ≡ record self.old { held = redrawn self.old.held [] Color.White; passed = 0 } }
     {
         self.coding_changes.clear();
@@ -168,9 +225,13 @@ impl DecoderContext {
         self.color = self.color.opposite();
     }
 
-    /// Paints so many pixels of the present colour at the end of the front. More than the row has room for are
-    /// cut off at its end; in strict data they are `InvalidCode`. `OutOfMemory` comes only where a change is
-    /// stored, so where the colour of the last pixel differs. After an error nothing is changed.
+    /// Paints `count` pixels of the present colour at the end of the front. More than the row has room for are cut off
+    /// at its end.
+    ///
+    /// # Errors
+    ///
+    /// `InvalidCode` if strict data has more than the row has room for. `OutOfMemory` occurs only while a change is
+    /// stored, so only if the last pixel has another colour. After an error nothing has changed.
     #[inline(always)]
     pub fn push_pixels(&mut self, count: u32) -> Result<()>
         ensures painted { OnOk result (painted_front self.old.held count ≡ Ok self.new.held.front) }
@@ -193,9 +254,12 @@ impl DecoderContext {
         Ok(())
     }
 
-    /// Paints the rest of the row white whatever the present colour, which then is white. `OutOfMemory` comes
-    /// only where a change is stored, so where the row isn't full and its last pixel is black; then nothing is
-    /// changed.
+    /// Paints the rest of the row white whatever the present colour, which then is white.
+    ///
+    /// # Errors
+    ///
+    /// `OutOfMemory` occurs only while a change is stored, so only if the row isn't full and its last pixel is black.
+    /// Then nothing has changed.
     pub fn fill_white(&mut self) -> Result<()>
         ensures frame { OnOk result (self.new ≡ record self.old { held = after_repair self.old.held }) }
         ensures memory { result ≡ Err DecodeError.OutOfMemory → RepairStoresChange self.old.held }
@@ -214,7 +278,7 @@ impl DecoderContext {
         Ok(())
     }
 
-    /// The number of pixels painted.
+    /// Returns the number of pixels painted.
     #[inline(always)]
     fn pixels_painted(&self) -> u32
         ensures { result ≡ length self.now.held.front }
@@ -222,7 +286,7 @@ impl DecoderContext {
         self.pixels_decoded
     }
 
-    /// Whether the row has all its pixels.
+    /// Returns whether the row has all its pixels.
     #[inline(always)]
     fn is_full(&self) -> bool
         ensures { IsTrue result ↔ (self.now.held.settings.columns ≤ length self.now.held.front) }
@@ -230,7 +294,7 @@ impl DecoderContext {
         self.pixels_decoded == self.settings.columns
     }
 
-    /// The index of b1 among the changing elements of the reference row; that of b2 is the next (T.4 section
+    /// Returns the index of b1 among the changing elements of the reference row; that of b2 is the next (T.4 section
     /// 4.2.1.1).
     #[inline(always)]
     fn b1_place(&mut self) -> usize
@@ -258,7 +322,7 @@ impl DecoderContext {
         )
     }
 
-    /// The changing element of the reference row with this index, or the row's end where there is none.
+    /// Returns the changing element of the reference row with this index, or the row's end if there is none.
     #[inline(always)]
     fn reference_change(&self, index: usize) -> u32
         ensures { result ≡ get_or (changes self.now.held.reference) index self.now.held.settings.columns }
@@ -266,8 +330,8 @@ impl DecoderContext {
         change_or_end(self.ref_changes.as_slice(), index, self.settings.columns)
     }
 
-    /// b1, the first changing element of the reference row right of a0 that turns the present colour to the
-    /// other one, or the row's end (T.4 section 4.2.1.1). It takes no memory.
+    /// Returns b1, the first changing element of the reference row right of a0 that turns the present colour to the
+    /// other one, or the row's end (T.4 section 4.2.1.1). It allocates nothing.
     #[inline(always)]
     pub fn b1(&mut self) -> u32
         ensures value { result ≡ b1 self.old.held.reference (right_of self.old.held.front) self.old.held.color }
@@ -285,8 +349,8 @@ impl DecoderContext {
         self.reference_change(place)
     }
 
-    /// b2, the next changing element of the reference row after b1, or the row's end (T.4 section 4.2.1.1). It is
-    /// not left of where the front ends, and takes no memory.
+    /// Returns b2, the next changing element of the reference row after b1, or the row's end (T.4 section 4.2.1.1). It
+    /// is not left of the end of the front. It allocates nothing.
     #[inline(always)]
     pub fn b2(&mut self) -> u32
         ensures value { result ≡ b2 self.old.held.reference (right_of self.old.held.front) self.old.held.color }
@@ -305,7 +369,7 @@ impl DecoderContext {
         self.reference_change(place + 1)
     }
 
-    /// Hands the row over to the sink, continued in its last colour where it isn't full.
+    /// Passes the row to the sink, continued in its last colour if it isn't full.
     #[tactic(auto, using(crate::proofs::PixelRows::ChangesAndPixels::front_fits))]
     fn hand_over<D: Decoder>(&self, decoder: &mut D) -> Result<()>
         requires { self.now.held.settings.columns ≤ D.width decoder.old }
@@ -321,9 +385,12 @@ impl DecoderContext {
         decoder.push_row(self.coding_changes.as_slice())
     }
 
-    /// Hands the row over, continued in its last colour where it isn't full. On Ok it is the reference row, the
-    /// front is empty, the colour is white and one more row was taken. Where the sink refuses, the context and
-    /// the sink's meaning are as before. It takes no memory.
+    /// Passes the row to the sink, continued in its last colour if it isn't full. Then it is the reference row, the
+    /// front is empty, the colour is white and one more row was accepted. It allocates nothing.
+    ///
+    /// # Errors
+    ///
+    /// `Refused` if the sink refuses the row. The context and the sink's meaning are then as before.
     #[tactic(auto, using(crate::proofs::PixelRows::ChangesAndPixels::front_fits))]
     #[inline(always)]
     pub fn next_line<D: Decoder>(&mut self, decoder: &mut D) -> Result<()>
@@ -341,11 +408,11 @@ impl DecoderContext {
         ensures only_refused { IsOkUnless result DecodeError.Refused }
     {
         self.hand_over(decoder)?;
-        // The row that was handed over is whole.
+        // The row that was passed on is whole.
         self.pixels_decoded = self.settings.columns;
-        // Nothing of the new reference row was passed.
+        // No change of the new reference row was passed.
         self.passed = 0;
-        mem::swap(&mut self.ref_changes, &mut self.coding_changes);
+        exchange(&mut self.ref_changes, &mut self.coding_changes);
         self.begin_line();
         self.decoded_rows += 1;
         Ok(())
@@ -371,7 +438,7 @@ impl DecoderContext {
         Ok(())
     }
 
-    /// Draws runs by twos as long as they are usual, where white is next.
+    /// Draws pairs of runs as long as they are usual, from a white one on.
     #[inline(always)]
     fn draw_by_twos(&mut self, hand: &mut BitsAtHand<'_>)
         ensures drawn { GoesOn self.old.held.settings.strict self.old.held.settings.columns
@@ -396,8 +463,8 @@ impl DecoderContext {
             self.pixels_decoded,
             self.settings.columns,
             self.settings.strict,
-            self.tables.lookup(Color::White).as_slice(),
-            self.tables.lookup(Color::Black).as_slice(),
+            self.tables.lookup(Color::White),
+            self.tables.lookup(Color::Black),
             ticks,
         );
         lay_down(&mut self.coding_changes, place);
@@ -405,9 +472,9 @@ impl DecoderContext {
         self.color = color;
     }
 
-    /// The same of a reader, in whichever order its bits are.
+    /// The same for a reader, in whichever order its bits are.
     #[inline(never)]
-    fn draw_usual_runs(&mut self, reader: &mut BitReader<'_>)
+    fn draw_runs_of(&mut self, reader: &mut BitReader<'_>)
         ensures drawn { GoesOn self.old.held.settings.strict self.old.held.settings.columns
             (pen_of self.old.held (here reader.old)) (pen_of self.new.held (here reader.new)) self.old.ticks self.new.ticks }
         ensures held { self.new.held ≡ redrawn self.old.held self.new.held.front self.new.held.color }
@@ -429,6 +496,22 @@ impl DecoderContext {
             self.draw_by_twos(&mut hand);
             *reader = hand.reader();
         }
+    }
+
+    /// The same, without a call where the row is full.
+    #[inline(always)]
+    fn draw_usual_runs(&mut self, reader: &mut BitReader<'_>)
+        ensures drawn { GoesOn self.old.held.settings.strict self.old.held.settings.columns
+            (pen_of self.old.held (here reader.old)) (pen_of self.new.held (here reader.new)) self.old.ticks self.new.ticks }
+        ensures held { self.new.held ≡ redrawn self.old.held self.new.held.front self.new.held.color }
+        ensures same_bits { reader.new.bits ≡ reader.old.bits }
+        ensures onward { reader.old.place ≤ reader.new.place }
+    {
+        // Most often a full row is a white one.
+        if self.pixels_decoded == self.settings.columns {
+            return;
+        }
+        self.draw_runs_of(reader);
     }
 
     /// Draws modes from the start of a line as long as they are usual.
@@ -454,8 +537,8 @@ impl DecoderContext {
             self.settings.columns,
             self.settings.strict,
             self.ref_changes.as_slice(),
-            self.tables.lookup(Color::White).as_slice(),
-            self.tables.lookup(Color::Black).as_slice(),
+            self.tables.lookup(Color::White),
+            self.tables.lookup(Color::Black),
             ticks,
         );
         lay_down_row(&mut self.coding_changes, place, self.settings.columns);
@@ -465,7 +548,7 @@ impl DecoderContext {
         self.passed = index.saturating_sub(1);
     }
 
-    /// The same of a reader, in whichever order its bits are.
+    /// The same for a reader, in whichever order its bits are.
     #[inline(never)]
     fn draw_modes_of(&mut self, reader: &mut BitReader<'_>)
         requires begins { self.old.held.front ≡ [] }
@@ -478,18 +561,13 @@ impl DecoderContext {
         ensures within { self.new.passed ≤ length (changes self.old.held.reference) }
         ensures same_bits { reader.new.bits ≡ reader.old.bits }
     {
-        if let Some(mut hand) = reader.at_hand(BitOrder::HighestFirst) {
-            self.draw_modes_at_hand(&mut hand);
-            *reader = hand.reader();
-            return;
-        }
-        if let Some(mut hand) = reader.at_hand(BitOrder::LowestFirst) {
-            self.draw_modes_at_hand(&mut hand);
-            *reader = hand.reader();
-        }
+        let mut hand = reader.none_at_hand();
+        self.draw_modes_at_hand(&mut hand);
+        reader.go_to(hand.bit_pos());
     }
 
-    /// Draws a white line under a white row, which V0 alone is, and returns whether one stands here; otherwise nothing changes.
+    /// Draws a white line under a white row, which is V0 alone, and returns whether there is one here; otherwise nothing
+    /// changes.
     #[inline(always)]
     fn draw_white_line(&mut self, reader: &mut BitReader<'_>) -> bool
         requires begins { self.old.held.front ≡ [] }
@@ -506,16 +584,17 @@ impl DecoderContext {
         if !is_white_row(&self.ref_changes) {
             return false;
         }
-        if self.settings.columns == 0 {
+        let columns = self.settings.columns;
+        if columns == 0 {
             return false;
         }
         if !reader.pass_v0() {
             return false;
         }
-        // The mode, and b1.
+        // One tick for the mode, and one for b1.
         self.ticks.tick();
         self.ticks.tick();
-        self.pixels_decoded = self.settings.columns;
+        self.pixels_decoded = columns;
         self.color = Color::Black;
         true
     }
@@ -539,8 +618,8 @@ impl DecoderContext {
         self.draw_modes_of(reader);
     }
 
-    /// Draws what a mode says (T.4 section 4.2.1.3).
-    #[inline(always)]
+    /// Draws a mode (T.4 section 4.2.1.3).
+    #[inline(never)]
     fn draw_mode(&mut self, mode: Mode, reader: &mut BitReader<'_>) -> Result<()>
         ensures step { DrawsStep (step_of_mode self.old.held (here reader.old) mode)
             result (pen_of self.new.held (here reader.new)) }
@@ -579,9 +658,14 @@ impl DecoderContext {
     }
 }
 
-/// Decodes a one-dimensional line, whatever front stood (T.4 section 4.1.1). After an error of the data the front is
-/// what was painted until then. `OutOfMemory` comes only while a change is stored: the front that stands then is a
-/// prefix of the line's row, where the next pixel differs from the last one. All else of the context stands.
+/// Decodes a one-dimensional line, whatever the front was before (T.4 section 4.1.1). Of what the context holds, only
+/// the front and the colour change.
+///
+/// # Errors
+///
+/// After `UnexpectedEof`, `InvalidCode` or `Overflow` the front is what was painted up to the fault. `OutOfMemory`
+/// occurs only while a change is stored: the front is then a prefix of the line's row, where the next pixel differs
+/// from the last one.
 #[inline(never)]
 pub fn decode_1d_line(ctx: &mut DecoderContext, reader: &mut BitReader<'_>) -> Result<()>
     ensures line { DrawsLine (line_from_1d ctx.old.held (here reader.old))
@@ -603,10 +687,14 @@ pub fn decode_1d_line(ctx: &mut DecoderContext, reader: &mut BitReader<'_>) -> R
     Ok(())
 }
 
-/// Decodes a two-dimensional line against the reference row, whatever front stood (T.4 section 4.2, T.6
-/// section 2.2). After an error of the data the front is what was painted until then. `OutOfMemory` comes only
-/// while a change is stored: the front that stands then is a prefix of the line's row, where the next pixel differs
-/// from the last one. All else of the context stands.
+/// Decodes a two-dimensional line against the reference row, whatever the front was before (T.4 section 4.2, T.6
+/// section 2.2). Of what the context holds, only the front and the colour change.
+///
+/// # Errors
+///
+/// After `UnexpectedEof`, `InvalidCode` or `Overflow` the front is what was painted up to the fault. `OutOfMemory`
+/// occurs only while a change is stored: the front is then a prefix of the line's row, where the next pixel differs
+/// from the last one.
 #[inline(always)]
 pub fn decode_2d_line(ctx: &mut DecoderContext, reader: &mut BitReader<'_>) -> Result<()>
     ensures line { DrawsLine (line_from_2d ctx.old.held (here reader.old))

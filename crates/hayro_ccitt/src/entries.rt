@@ -1,5 +1,5 @@
-//! The entries of the look-ups of run codes (T.4, tables 2, 3a and 3b), written out, so that nothing has to be computed at
-//! run time. That they are those of the code lists is proved.
+//! The entries of the lookup tables of run codes (T.4, tables 2, 3a and 3b), written out, so that nothing has to be
+//! computed at run time. It is proved that they are those of the code lists.
 
 ghost use Rattle.hayro_ccitt.specs.CodeLists.{white_codes, black_codes};
 ghost use Rattle.hayro_ccitt.specs.LookUps.{AreEntries};

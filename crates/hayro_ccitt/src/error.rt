@@ -13,7 +13,7 @@ pub enum DecodeError {
     UnexpectedEof,
     /// The bits are no code word, or strict data breaks a rule.
     InvalidCode,
-    /// A run is 2^32 pixels or longer, or a vertical mode leads to a place of 2^32 or more, below 0, or left of the
+    /// A run is 2^32 pixels or longer, or a vertical mode leads to a position of 2^32 or more, below 0, or left of the
     /// pixels painted.
     Overflow,
     /// An allocation failed: for a change of a row, or for a new context.

@@ -1,4 +1,4 @@
-//! Group 3: EOLs at the front, between the lines and at the end, and repair of damaged lines (T.4).
+//! Group 3: EOLs at the start of the data, between the lines and at the end, and repair of damaged lines (T.4).
 
 ghost use Rattle.std.specs.Prelude.{◌≡◌, ◌≢◌, ◌↔◌, ◌<◌, ◌≤◌, ◌+◌, ◌*◌, Err, OnOk, OnErr, IfOk, IsOkUnless, IsTrue, true, nat_lt, ◌||◌, length};
 ghost use Rattle.hayro_ccitt.specs.Answers.{IsFault, IsRepairable, RepairStoresChange};
@@ -14,7 +14,7 @@ use crate::context::DecoderContext;
 use crate::rows::{pass_gap, read_rows};
 use crate::{DecodeError, Decoder, EncodingMode, Result};
 
-/// Whether an error is the data's, and no want of memory or refusal of the sink.
+/// Returns whether an error is a fault of the data, not an allocation failure or a refusal of the sink.
 fn is_fault(error: DecodeError) -> bool
     ensures { IsTrue result ↔ IsFault error }
 {
@@ -24,10 +24,14 @@ fn is_fault(error: DecodeError) -> bool
     )
 }
 
-/// What becomes of a line that failed with this error and began at `line_start` (T.4 section 4.1.2). In lenient data
-/// with EOLs, a fault of the data is repaired: the rest of the row is white, and the reader goes back to the line's
-/// start, to look for the next EOL from there. `OutOfMemory` comes then only where a change is stored. Otherwise the
-/// answer is the error itself; want of memory and refusals are never repaired. After an error nothing is changed.
+/// Repairs a line that failed with this error and began at `line_start` (T.4 section 4.1.2). In lenient data with EOLs,
+/// after a fault of the data, the rest of the row is white, and the reader goes back to the line's start, to look for
+/// the next EOL from there.
+///
+/// # Errors
+///
+/// The error itself if it isn't repaired, as allocation failures and refusals never are; `OutOfMemory` while a change
+/// is stored. After an error nothing has changed.
 pub fn recover<'a>(
     ctx: &mut DecoderContext,
     reader: &mut BitReader<'a>,
@@ -51,10 +55,14 @@ pub fn recover<'a>(
     Ok(())
 }
 
-/// Whether the image ends behind a row (T.4 sections 4.1.2 and 4.1.4): true at RTC, the row limit or the end of the
-/// data. It counts the EOLs there. Where none came although the data has EOLs, the next one is looked for, and where
-/// none is left EOLs are given up; strict data is then at fault, which is `InvalidCode`. It takes no memory. Each bit that is looked at is a
-/// tick: one that is passed at most four times.
+/// Returns whether the image ends after a row (T.4 sections 4.1.2 and 4.1.4): true at RTC, the row limit or the end of
+/// the data. It counts the EOLs there. If there are none although the data has EOLs, the next one is looked for, and if
+/// none is left EOLs are no longer sought. It allocates nothing. Each bit that is examined is a tick: one that is
+/// consumed at most four times.
+///
+/// # Errors
+///
+/// `InvalidCode` if an EOL is missing in strict data.
 pub fn check_eob(ctx: &mut DecoderContext, reader: &mut BitReader<'_>) -> Result<bool>
     requires encoding { ctx.old.held.settings.encoding ≢ EncodingMode.Group4 }
     requires some { 0 < ctx.old.held.taken }
@@ -78,7 +86,7 @@ pub fn check_eob(ctx: &mut DecoderContext, reader: &mut BitReader<'_>) -> Result
     pass_gap(ctx, reader)
 }
 
-/// Reads the EOLs at the front of the data, which have no tags. Any of them, or the settings, say that the data has
+/// Reads the EOLs at the start of the data, which have no tags. Any of them, or the settings, say that the data has
 /// EOLs.
 pub(crate) fn read_leading_eols(ctx: &mut DecoderContext, reader: &mut BitReader<'_>)
     ensures rest { here reader.new ≡ (all_eols (here reader.old)).1 }
@@ -117,9 +125,13 @@ fn decode_eols_and_rows<D: Decoder>(
     read_rows(ctx, reader, decoder)
 }
 
-/// Decodes the rows of one-dimensional data of Group 3 (T.4 section 4.1) until RTC (with `end_of_block`), the row
-/// limit or the end of the data. The errors are those of a line that isn't repaired, `InvalidCode` where strict data
-/// misses an EOL, and `Refused` where the sink refuses a row.
+/// Decodes the rows of one-dimensional data of Group 3 (T.4 section 4.1) until RTC (with `end_of_block`), the row limit
+/// or the end of the data.
+///
+/// # Errors
+///
+/// Those of a line that isn't repaired, `InvalidCode` if strict data misses an EOL, and `Refused` if the sink refuses a
+/// row.
 pub fn decode_1d<D: Decoder>(
     ctx: &mut DecoderContext,
     reader: &mut BitReader<'_>,
@@ -140,9 +152,13 @@ pub fn decode_1d<D: Decoder>(
     decode_eols_and_rows(ctx, reader, decoder) // No line has a tag.
 }
 
-/// Decodes the rows of two-dimensional data of Group 3 (T.4 section 4.2), each behind its tag, until RTC (with
-/// `end_of_block`), the row limit or the end of the data. The errors are those of a line that isn't repaired,
-/// `InvalidCode` where strict data misses an EOL, and `Refused` where the sink refuses a row.
+/// Decodes the rows of two-dimensional data of Group 3 (T.4 section 4.2), each after its tag, until RTC (with
+/// `end_of_block`), the row limit or the end of the data.
+///
+/// # Errors
+///
+/// Those of a line that isn't repaired, `InvalidCode` if strict data misses an EOL, and `Refused` if the sink refuses a
+/// row.
 pub fn decode_2d<D: Decoder>(
     ctx: &mut DecoderContext,
     reader: &mut BitReader<'_>,

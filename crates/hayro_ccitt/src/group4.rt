@@ -10,8 +10,11 @@ use crate::context::DecoderContext;
 use crate::rows::{pass_gap, read_rows};
 use crate::{Decoder, EncodingMode, Result};
 
-/// Decodes the rows of Group 4 data until EOFB (with `end_of_block`), the row limit or the end of the data. The
-/// errors are those of a line, and `Refused` where the sink refuses a row.
+/// Decodes the rows of Group 4 data until EOFB (with `end_of_block`), the row limit or the end of the data.
+///
+/// # Errors
+///
+/// Those of a line, and `Refused` if the sink refuses a row.
 pub fn decode<D: Decoder>(
     ctx: &mut DecoderContext,
     reader: &mut BitReader<'_>,

@@ -6,7 +6,7 @@ ghost use Rattle.hayro_ccitt.specs.CodeReading.{is_prefix_free, ReadsCodes};
 ghost use Rattle.hayro_ccitt.specs.Runs.{codes_of};
 ghost use Rattle.hayro_ccitt.specs.declared.codes.Color.{Color};
 ghost use Rattle.hayro_ccitt.specs.Laws.{each_word, has_few_zeros, Synchronised, StrictThenLenient, RowLimit};
-ghost use Rattle.hayro_ccitt.specs.Laws.{ReadsClosedPictures, ReadsLimitedPictures};
+ghost use Rattle.hayro_ccitt.specs.Laws.{ReadsClosedPictures, ReadsLimitedPictures, StrictIsUndamaged, PicturesAreUndamaged};
 ghost use Rattle.hayro_ccitt.specs.Laws.{ReadsPictureT6, ReadsLimitedRowsT6, ReadsPictureT4, ReadsLimitedPictureT4, ReadsLimitedRowsT4};
 ghost use Rattle.hayro_ccitt.specs.Laws.{AfterEofb, PicturesComeToEofb, OnePictureT6, OnePictureT4};
 ghost use Rattle.hayro_ccitt.specs.Laws.{EveryPictureHasAnEncoding, BytesBeginWithAnyBits, BitsOfBytesAreWhole, OrdersMirror, RowsOfChanges, ChangesOfRows, StepsOnRows};
@@ -14,24 +14,24 @@ ghost use Rattle.hayro_ccitt.specs.Locality.{LinesByEols, StartsAre, Locality, L
 
 use crate::Decoder;
 
-/// Code words hold few zeros. Each word of a run has at most seven at its front and three at its end, each word of a
-/// mode at most five and one; none has eight in a row, and each holds a one.
+/// Code words contain few zeros. Each word of a run has at most seven at its start and three at its end, each word of a
+/// mode at most five and one; none has eight consecutive ones, and each contains a one.
 pub fn code_words()
     ensures white { IsTrue (each_word (has_few_zeros 7 3) white_codes) }
     ensures black { IsTrue (each_word (has_few_zeros 7 3) black_codes) }
     ensures mode { IsTrue (each_word (has_few_zeros 5 1) mode_codes) }
 {}
 
-/// Reading a code list gives the word of it that begins here, whatever follows it. If none does, the error is `UnexpectedEof`
-/// exactly if the bits up to the end of the data are a prefix of a word; else it is `InvalidCode`.
+/// Reading a code list returns the word of it that begins here, whatever follows it. If none does, the error is
+/// `UnexpectedEof` exactly if the bits up to the end of the data are a prefix of a word; else it is `InvalidCode`.
 pub fn code_reading()
     ensures runs { (color : Color) → ReadsCodes (codes_of color) }
     ensures modes { ReadsCodes mode_codes }
 {}
 
-/// The code words stay in step with EOLs. No word of a list is a prefix of another one. Words in a row, and a tag
-/// before them, never hold the eleven zeros of an EOL; so every word that the reading of a line finds ends before the
-/// one of each EOL at or after the line's start.
+/// The code words stay in step with EOLs. No word of a list is a prefix of another one. Consecutive words, and a tag
+/// before them, never contain the eleven zeros of an EOL; so every word that the reading of a line finds ends before
+/// the one of each EOL at or after the line's start.
 pub fn synchronised()
     ensures law { Synchronised }
     ensures white { IsTrue (is_prefix_free white_codes) }
@@ -39,24 +39,26 @@ pub fn synchronised()
     ensures mode { IsTrue (is_prefix_free mode_codes) }
 {}
 
-/// A strict reading gives the first rows of the lenient one; if it ends without a fault, both have the same result.
+/// The rows of a strict reading are the first rows of the lenient one; if it ends without a fault, both have the same
+/// result.
 pub fn strict_then_lenient()
     ensures { StrictThenLenient }
 {}
 
-/// A row limit gives as many of the first rows as it allows; with that many rows the reading ends without a fault.
+/// With a row limit the rows are the first ones, as many as it allows; with that many rows the reading ends without a
+/// fault.
 pub fn row_limit()
     ensures { RowLimit }
 {}
 
-/// A T.6 picture is read as its rows, whatever follows: closed by EOFB, with the exact count of bytes; or ended by a
+/// A T.6 picture is read as its rows, whatever follows: closed by EOFB, with the exact byte count; or ended by a row
 /// limit of as many rows.
 pub fn t6_pictures()
     ensures closed { ReadsPictureT6 }
     ensures limited { ReadsLimitedRowsT6 }
 {}
 
-/// A T.4 picture is read as its rows, whatever follows: closed by RTC, with the exact count of bytes; or ended by a
+/// A T.4 picture is read as its rows, whatever follows: closed by RTC, with the exact byte count; or ended by a row
 /// limit of as many rows, with EOLs before its lines or without.
 pub fn t4_pictures()
     ensures closed { ReadsPictureT4 }
@@ -64,38 +66,46 @@ pub fn t4_pictures()
     ensures body { ReadsLimitedRowsT4 }
 {}
 
-/// A picture of any kind is read as its rows, whatever follows: closed, with the exact count of bytes; or ended by a
+/// A picture of any kind is read as its rows, whatever follows: closed, with the exact byte count; or ended by a row
 /// limit of as many rows.
 pub fn pictures()
     ensures closed { ReadsClosedPictures }
     ensures limited { ReadsLimitedPictures }
 {}
 
-/// Where one stream begins another, both closed, of one width, and of one alignment in T.6 or one kind in T.4, their
-/// pictures are the same.
+/// Where strict data are read without a fault, the lenient reading repairs no row and misses no EOL; so of a picture of any
+/// kind no damage is told.
+pub fn no_damage()
+    ensures strict { StrictIsUndamaged }
+    ensures pictures { PicturesAreUndamaged }
+{}
+
+/// If one stream is a prefix of another, both closed, of one width, and of one alignment in T.6 or one kind in T.4,
+/// their pictures are the same.
 pub fn one_picture()
     ensures t6 { OnePictureT6 }
     ensures t4 { OnePictureT4 }
 {}
 
-/// Where T.6 data were read up to their EOFB, as pictures are, data with the same bytes so far are read the same,
-/// whatever follows.
+/// If T.6 data were read up to their EOFB, as pictures are, data that begin with the same bytes up to there are read
+/// the same, whatever follows.
 pub fn after_eofb()
     ensures law { AfterEofb }
     ensures pictures { PicturesComeToEofb }
 {}
 
-/// One-dimensional lenient data with EOLs, read without a limit of rows and without looking for RTC. If each line, where
-/// it is whole, ends before the last twelve bits of the next EOL, the first rows are those of the lines that begin behind
-/// EOLs, each read by itself (T.4 section 4.1.2).
+/// One-dimensional lenient data with EOLs, read without a row limit and without looking for RTC. If each line that is
+/// whole ends before the last twelve bits of the next EOL, the first rows are those of the lines that begin after EOLs,
+/// each read by itself (T.4 section 4.1.2).
 pub fn lines_by_eols()
     ensures rows { LinesByEols }
     ensures starts { StartsAre }
 {}
 
-/// One-dimensional lenient data with EOLs. A body stands between two EOLs, or at the front; it holds a one and no EOL, and
-/// its line, where it is whole, ends before the last twelve bits of the EOL behind it. Any other such body in its place
-/// changes at most the row that is read there, and the reading ends alike (T.4 section 4.1.2).
+/// One-dimensional lenient data with EOLs. A body lies between two EOLs, or at the start of the data before the first; it
+/// contains a one and no EOL, and its line, if it is whole, ends before the last twelve bits of the EOL after it. Any
+/// other such body instead of it changes at most the row that is read there, and the reading ends alike (T.4 section
+/// 4.1.2).
 pub fn locality()
     ensures one_row { Locality }
     ensures tests { LocalByTests }
@@ -107,20 +117,21 @@ pub fn changes_are_rows()
     ensures changes { ChangesOfRows }
 {}
 
-/// A sink whose step looks at the pixels of a row's changes: rows of its width come to what a fold of the step over these
-/// rows does (T.4 section 4.2.1.1).
+/// A sink whose step depends on the pixels of a row's changes: over rows of its width it means what a fold of the step
+/// over these rows yields (T.4 section 4.2.1.1).
 pub fn steps_on_rows<D: Decoder>()
     ensures { StepsOnRows D.Meaning }
 {}
 
-/// The laws speak of bits. Those of bytes are whole bytes, in either order, and the orders mirror each other in each byte.
+/// The laws speak of bits. The bits of bytes fill whole bytes, in either order, and the orders mirror each other in each
+/// byte.
 pub fn bits_of_bytes()
     ensures whole { BitsOfBytesAreWhole }
     ensures mirrored { OrdersMirror }
 {}
 
-/// Every picture with a column has a T.6 encoding, and with a row a T.4 encoding of each kind, and bytes begin with any
-/// bits, in either order: the laws about encodings are about all pictures.
+/// Every picture with a column has a T.6 encoding, and with a row a T.4 encoding of each kind, and any bits are the
+/// first of some bytes, in either order: the laws about encodings apply to all pictures.
 pub fn every_picture_has_an_encoding()
     ensures bits { EveryPictureHasAnEncoding }
     ensures bytes { BytesBeginWithAnyBits }

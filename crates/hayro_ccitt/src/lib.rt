@@ -2,11 +2,11 @@
 //!
 //! [`decode`] takes the encoded bytes and a [`DecoderContext`], made with the [`DecodeSettings`] that belong to them,
 //! and passes each row as a list of colour changes to a [`Decoder`]. It returns the number of bytes consumed. Every call
-//! returns, whatever the data is, and what is wrong with it is a [`DecodeError`].
+//! returns, whatever the data is, and invalid data is reported as a [`DecodeError`].
 //!
 //! The modules are the decoder's parts, for other drivers: [`bit_reader`] and [`codes`] read bits, code words and EOLs,
-//! [`context`] draws lines, [`group3`] and [`group4`] read rows, and [`laws`] states what holds of the data whatever program
-//! reads it.
+//! [`context`] draws lines, [`group3`] and [`group4`] read rows, and [`laws`] states what is true of the data whatever
+//! program reads it.
 #![tactic(auto)]
 
 ghost use Rattle.std.specs.Prelude.{◌≡◌, ◌*◌, ◌<◌, ◌≤◌, ◌↔◌, ℕ, List, Bool, true, false, Ok, OnOk, OnErr, IfOk, IsOkUnless, IsTrue, length};
@@ -30,6 +30,7 @@ pub mod group4;
 pub mod laws;
 mod locality;
 mod modes;
+mod row_cursor;
 mod row_reader;
 mod rows;
 mod settings;
@@ -40,16 +41,17 @@ use bit_reader::{BitOrder, BitReader};
 pub use context::DecoderContext;
 pub use error::{DecodeError, Result};
 pub use locality::body_is_local;
+pub use row_cursor::RowCursor;
 pub use row_reader::RowReader;
 pub use settings::{DecodeSettings, EncodingMode};
 
 /// A sink for the rows of an image. [`decode`] calls `push_row` once for each row, from the top.
 ///
-/// Ghost members say what the sink comes to (`meaning`), and how a row changes that (`step`): what it means after
-/// [`decode`] is its step folded over the rows that were taken. `fax_encode::BitmapSink`, which packs rows, is one to
+/// Ghost members say what the sink means (`meaning`), and how a row changes that (`step`): what it means after
+/// [`decode`] is its step folded over the accepted rows. `fax_encode::BitmapSink`, which packs rows, is an example to
 /// copy.
 pub trait Decoder {
-    /// What the rows that the sink took come to.
+    /// The type of what a sink means.
     ghost Meaning: { Type 0 };
 
     /// What the sink means now.
@@ -58,16 +60,17 @@ pub trait Decoder {
     /// From the width, a meaning and a row's changes to the meaning with that row.
     ghost step: { ℕ → Meaning → List ℕ → Meaning };
 
-    /// The largest number of columns, in pixels, that the sink takes.
+    /// The largest number of columns, in pixels, that the sink accepts.
     ghost width: { Self → ℕ };
 
     /// Whether the sink has refused a row.
     ghost has_refused: { Self → Bool };
 
-    /// Which rows, given by their changes, a sink refuses that is as it is now. Nothing is said of a sink without it.
+    /// Which rows, given by their changes, the sink refuses in its present state. Without this member nothing is said
+    /// about it.
     ghost refuses: { Self → List ℕ → Type 0 } = { λ _ _. Unit {0} };
 
-    /// Takes a row of pixels, given by its changes: the places, counted from 0 at the left, at which the colour
+    /// Accepts a row of pixels, given by its changes: the positions, counted from 0 at the left, at which the colour
     /// changes (T.4 section 4.2.1.1), in strictly ascending order and each below the width. Each row starts white, so
     /// the pixels from `changes[0]` up to `changes[1]` are black, those from `changes[2]` up to `changes[3]` again, and
     /// so on; after an odd number of changes the row ends black. Its only error is `Refused`, and then the sink means
@@ -85,15 +88,15 @@ pub trait Decoder {
         ensures only_refused { IsOkUnless result DecodeError.Refused };
 }
 
-/// Whether eight times the length and 64 more fit in a `usize`, as [`decode`] requires of its data: whether it has at
-/// most `(usize::MAX - 64) / 8` bytes, which no memory of 64 bits exceeds.
+/// Returns whether eight times the length and 64 more fit in a `usize`, as [`decode`] requires of its data: whether it
+/// has at most `(usize::MAX - 64) / 8` bytes, far more than a 64-bit machine has.
 pub fn bits_fit(data: &[u8]) -> bool
     ensures { IsTrue result ↔ BitsFit «data».now }
 {
     data.len() <= (usize::MAX - 64) / 8
 }
 
-/// Decodes the rows of an image by its encoding.
+/// Decodes the rows of an image according to its encoding.
 fn decode_rows<D: Decoder>(
     ctx: &mut DecoderContext,
     reader: &mut BitReader<'_>,
@@ -125,7 +128,7 @@ fn decode_rows<D: Decoder>(
     }
 }
 
-/// Decodes the image whose bits a reader has from its start on, in whichever order its bytes hold them.
+/// Decodes the image whose bits a reader has from its start on, in whichever order its bytes have them.
 #[inline(always)]
 fn decode_bits<D: Decoder>(
     reader: &mut BitReader<'_>,
@@ -156,17 +159,17 @@ fn decode_bits<D: Decoder>(
     Ok(reader.byte_pos())
 }
 
-/// Decodes an image: passes its rows to the sink, and returns the number of bytes consumed, the last one whole. Each byte's
-/// highest bit comes first. The context is reset first, so what it decoded before has no effect; it may be used again
-/// after an error too.
+/// Decodes an image: passes its rows to the sink, and returns the number of bytes consumed, the last one rounded up. Each
+/// byte's highest bit comes first. The context is reset first, so what it decoded before has no effect; it may be used
+/// again, even after an error.
 ///
 /// The image ends at EOFB or RTC with `end_of_block` (T.6 section 2.4.1.1, T.4 section 4.1.4), at the row limit, or at
 /// the end of the data, whichever comes first.
 ///
 /// # Errors
 ///
-/// - `UnexpectedEof`, `InvalidCode` and `Overflow` say that the data is at fault. All rows before the fault were passed
-///   on. A lenient reading of Group 3 with EOLs repairs a damaged line instead, and goes on at the next EOL (T.4
+/// - `UnexpectedEof`, `InvalidCode` and `Overflow` say that the data is invalid. All rows before the fault were passed
+///   on. A lenient reading of Group 3 with EOLs repairs a damaged line instead, and continues at the next EOL (T.4
 ///   section 4.1.2).
 /// - `OutOfMemory` occurs only while a change of a row is stored, so in a line that paints a black pixel.
 /// - `Refused` occurs only if the sink refuses a row.
@@ -177,8 +180,8 @@ fn decode_bits<D: Decoder>(
 /// # Example
 ///
 /// In Group 4 with 8 columns and `end_of_block` the bytes 31 C0 04 00 40 are 001 1000 11 1, which is horizontal mode, 3
-/// white pixels, 2 black ones and a vertical mode, and then EOFB. The sink takes one row, `[3, 5]`, and the result is
-/// `Ok(5)`:
+/// white pixels, 2 black ones and a vertical mode, and then EOFB. The sink receives one row, `[3, 5]`, and the result
+/// is `Ok(5)`:
 ///
 /// ```text
 /// let settings = DecodeSettings {
@@ -205,7 +208,7 @@ pub fn decode<D: Decoder>(data: &[u8], decoder: &mut D, ctx: &mut DecoderContext
     ensures row_number { OnAnswer result (ctx.new.held.taken
         ≡ length (plain ctx.old.held.settings (bits_of «data».now)).rows) }
 
-    // All that it leaves, field by field in `specs/Contract.antt`: over the bits in this order.
+    // All that it leaves, over the bits in this order, is stated field by field in `specs/Contract.antt`.
     ensures decodes { Decodes ctx.old.held.settings (bits_of «data».now) (D.step (D.width decoder.old))
         (record { meaning = D.meaning decoder.old; refused = D.has_refused decoder.old; refuses = D.refuses decoder.old })
         (record { meaning = D.meaning decoder.new; refused = D.has_refused decoder.new; refuses = D.refuses decoder.new })
@@ -214,11 +217,14 @@ pub fn decode<D: Decoder>(data: &[u8], decoder: &mut D, ctx: &mut DecoderContext
     decode_bits(&mut BitReader::new(data), decoder, ctx)
 }
 
-/// Decodes an image as [`decode`] does, but with each byte's lowest bit first: TIFF's FillOrder 2, and the order in which fax
-/// modems send. The data need not be reversed before.
+/// Decodes an image as [`decode`] does, but with each byte's lowest bit first: TIFF's FillOrder 2, and the order in which
+/// most fax modems transfer bytes. The data need not be reversed before.
 ///
-/// Rows, results and errors are those of [`decode`] over these bits. So 8C 03, which is 31 C0 with each byte's bits in
-/// the other order, is the row `[3, 5]` of 8 columns.
+/// So 8C 03, which is 31 C0 with each byte's bits in the other order, is the row `[3, 5]` of 8 columns.
+///
+/// # Errors
+///
+/// Those of [`decode`] over these bits.
 pub fn decode_low_first<D: Decoder>(
     data: &[u8],
     decoder: &mut D,
@@ -234,7 +240,7 @@ pub fn decode_low_first<D: Decoder>(
     ensures row_number { OnAnswer result (ctx.new.held.taken
         ≡ length (plain ctx.old.held.settings (low_first_bits_of «data».now)).rows) }
 
-    // All that it leaves, field by field in `specs/Contract.antt`: over the bits in this order.
+    // All that it leaves, over the bits in this order, is stated field by field in `specs/Contract.antt`.
     ensures decodes { Decodes ctx.old.held.settings (low_first_bits_of «data».now) (D.step (D.width decoder.old))
         (record { meaning = D.meaning decoder.old; refused = D.has_refused decoder.old; refuses = D.refuses decoder.old })
         (record { meaning = D.meaning decoder.new; refused = D.has_refused decoder.new; refuses = D.refuses decoder.new })
@@ -243,8 +249,12 @@ pub fn decode_low_first<D: Decoder>(
     decode_bits(&mut BitReader::new_low_first(data), decoder, ctx)
 }
 
-/// Decodes an image whose bytes hold their bits in this order: as [`decode`] does for [`BitOrder::HighestFirst`], and as
-/// [`decode_low_first`] for [`BitOrder::LowestFirst`].
+/// Decodes an image whose bytes have their bits in this order: as [`decode`] does for [`BitOrder::HighestFirst`], and
+/// as [`decode_low_first`] for [`BitOrder::LowestFirst`].
+///
+/// # Errors
+///
+/// Those of [`decode`] over these bits.
 pub fn decode_in<D: Decoder>(
     order: BitOrder,
     data: &[u8],
@@ -257,7 +267,7 @@ pub fn decode_in<D: Decoder>(
     ensures settings { ctx.new.held.settings ≡ ctx.old.held.settings }
     ensures within { IfOk result (λ n. n ≤ length «data».now) }
 
-    // All that it leaves, field by field in `specs/Contract.antt`: over the bits in this order.
+    // All that it leaves, over the bits in this order, is stated field by field in `specs/Contract.antt`.
     ensures decodes { Decodes ctx.old.held.settings (bits_in order «data».now) (D.step (D.width decoder.old))
         (record { meaning = D.meaning decoder.old; refused = D.has_refused decoder.old; refuses = D.refuses decoder.old })
         (record { meaning = D.meaning decoder.new; refused = D.has_refused decoder.new; refuses = D.refuses decoder.new })

@@ -14,21 +14,21 @@ use crate::codes::Ticks;
 use crate::context::{DecoderContext, decode_1d_line};
 use crate::{DecodeError, DecodeSettings, EncodingMode, Result};
 
-/// Whether these settings are those of lenient one-dimensional data of Group 3.
+/// Returns whether these settings are those of lenient one-dimensional data of Group 3.
 fn is_lenient_1d(settings: DecodeSettings) -> bool
     ensures { IsTrue result ↔ ((settings.encoding ≡ EncodingMode.Group3_1D) × (settings.strict ≡ false)) }
 {
     matches!(settings.encoding, EncodingMode::Group3_1D) && !settings.strict
 }
 
-/// Whether an error is want of memory.
+/// Returns whether an error is an allocation failure.
 fn wants_memory(error: DecodeError) -> bool
     ensures { IsTrue result ↔ (error ≡ DecodeError.OutOfMemory) }
 {
     matches!(error, DecodeError::OutOfMemory)
 }
 
-/// Whether an EOL ends at a place, or the data begin there. Each bit that is looked at is a tick.
+/// Returns whether an EOL ends at an offset, or the data begin there. Each bit that is examined is a tick.
 fn is_behind_eol(data: &[u8], place: usize, ticks: &mut Ticks) -> bool
     requires fit { BitsFit «data».now }
     requires within { place ≤ 8 * length «data».now }
@@ -48,7 +48,7 @@ fn is_behind_eol(data: &[u8], place: usize, ticks: &mut Ticks) -> bool
     }
 }
 
-/// Whether a one stands between two places. Each bit that is looked at is a tick.
+/// Returns whether there is a one between two offsets. Each bit that is examined is a tick.
 fn holds_one(data: &[u8], from: usize, to: usize, ticks: &mut Ticks) -> bool
     requires fit { BitsFit «data».now }
     requires order { from ≤ to }
@@ -61,7 +61,7 @@ fn holds_one(data: &[u8], from: usize, to: usize, ticks: &mut Ticks) -> bool
     zeros < to - from
 }
 
-/// The place behind the EOL that stands at a place. Each bit that is looked at is a tick.
+/// Returns the offset after the EOL at an offset. Each bit that is examined is a tick.
 fn end_of_eol(data: &[u8], place: usize, ticks: &mut Ticks) -> Option<usize>
     requires fit { BitsFit «data».now }
     requires within { place ≤ 8 * length «data».now }
@@ -77,8 +77,8 @@ fn end_of_eol(data: &[u8], place: usize, ticks: &mut Ticks) -> Option<usize>
     Some(reader.bit_pos())
 }
 
-/// Whether an EOL stands between two places, the second of which is the start of one. Each bit that is looked at is a
-/// tick.
+/// Returns whether there is an EOL between two offsets, the second of which is the start of one. Each bit that is
+/// examined is a tick.
 fn holds_eol(data: &[u8], from: usize, to: usize, ticks: &mut Ticks) -> bool
     requires fit { BitsFit «data».now }
     requires order { from ≤ to }
@@ -98,8 +98,8 @@ fn holds_eol(data: &[u8], from: usize, to: usize, ticks: &mut Ticks) -> bool
     }
 }
 
-/// Whether the line at a place ends at least twelve bits before another place, where it is whole. `OutOfMemory`
-/// comes only where the line paints a black pixel.
+/// Returns whether the line at an offset, if it is whole, ends at least twelve bits before another offset.
+/// `OutOfMemory` occurs only if the line paints a black pixel.
 fn line_ends_before(data: &[u8], ctx: &mut DecoderContext, from: usize, end: usize) -> Result<bool>
     requires fit { BitsFit «data».now }
     requires from { from ≤ 8 * length «data».now }
@@ -124,17 +124,20 @@ fn line_ends_before(data: &[u8], ctx: &mut DecoderContext, from: usize, end: usi
     }
 }
 
-/// Whether damage to the bits from `from` to `to` stays in one line: in lenient one-dimensional data of Group 3 they
-/// are the body of a line (T.4 section 4.1). An EOL ends at `from`, or it is 0; the bits hold a one and no EOL; at
-/// `to` an EOL stands; and the line that is read at `from`, with the context's `columns`, is broken or ends before the
-/// last twelve bits of that EOL. Places are counted in bits; where they are out of range or order, and with other
-/// settings, the answer is false.
+/// Returns whether damage to the bits from `from` to `to` stays in one line: in lenient one-dimensional data of Group 3
+/// they are the body of a line (T.4 section 4.1). An EOL ends at `from`, or it is 0; the bits contain a one and no EOL;
+/// an EOL begins at `to`; and the line that is read at `from`, with the context's `columns`, is broken or ends before
+/// the last twelve bits of that EOL. Offsets are counted in bits; if they are out of range or order, and with other
+/// settings, the result is false.
 ///
-/// `OutOfMemory` comes only while a change of the line is stored, so where it paints a black pixel. The settings stay;
-/// what else the context holds isn't said, and it may be used again.
+/// The settings don't change; the rest of the context is unspecified afterwards, and it may be used again.
 ///
-/// The work is in proportion to the bits between the places, the fill of the EOL at `to` and the words of the line: no
-/// other bits are looked at but the twelve before `from`.
+/// The work is in proportion to the bits between the offsets, the fill of the EOL at `to` and the words of the line: no
+/// other bits are examined but the twelve before `from`.
+///
+/// # Errors
+///
+/// `OutOfMemory` occurs only while a change of the line is stored, so only if it paints a black pixel.
 pub fn body_is_local(data: &[u8], ctx: &mut DecoderContext, from: usize, to: usize) -> Result<bool>
     requires fit { BitsFit «data».now }
     ensures local { IfOk result (λ local. IsTrue local ↔ IsLocal ctx.old.held.settings (bits_of «data».now) from to) }

@@ -1,9 +1,9 @@
 //! The loop over rows that all encodings share: a row, and the gap behind it (T.4 section 4.1, T.6 section 2).
 
 ghost use Rattle.std.specs.Prelude.{false, ◌≡◌, ◌≢◌, ◌<◌, ◌≤◌, ◌+◌, ◌*◌, Err, OnOk, OnErr, IfOk, IsOkUnless, true, ◌||◌, [], length, ◌^◌};
-ghost use Rattle.hayro_ccitt.specs.Answers.{DrawsLine, OnAnswer};
+ghost use Rattle.hayro_ccitt.specs.Answers.{DrawsLine, OnAnswer, IsRepairable, RepairStoresChange};
 ghost use Rattle.hayro_ccitt.specs.Bits.{here};
-ghost use Rattle.hayro_ccitt.specs.Context.{fresh, redrawn};
+ghost use Rattle.hayro_ccitt.specs.Context.{fresh, redrawn, after_repair};
 ghost use Rattle.hayro_ccitt.specs.Decoding.{DecodesFrom, TakesOneRow, behind_line, leaving, gap_said, with_row_taken};
 ghost use Rattle.hayro_ccitt.specs.PlainReading.{eols_by, eols_here, is_over, gap_behind_row, row_of_line, line_by, line_here, behind_row, limit_met};
 ghost use Rattle.hayro_ccitt.specs.Lines.{line_found};
@@ -63,6 +63,41 @@ fn take_row<D: Decoder>(
 {
     ctx.next_line(decoder)?;
     align_row(ctx, reader);
+    Ok(())
+}
+
+/// Hands over the row of a line that was repaired after this fault, as `take_row` does, and counts it as damaged.
+#[inline(never)]
+fn take_damaged_row<D: Decoder>(
+    ctx: &mut DecoderContext,
+    reader: &mut BitReader<'_>,
+    decoder: &mut D,
+    fault: DecodeError,
+) -> Result<()>
+    requires width { ctx.old.held.settings.columns ≤ D.width decoder.old }
+    requires full { ctx.old.held.settings.columns ≤ length ctx.old.held.front }
+    requires rows { ctx.old.held.taken + 1 < 2 ^ 64 }
+    requires damaged { ctx.old.held.repairs.rows ≤ ctx.old.held.taken }
+    ensures width { D.width decoder.new ≡ D.width decoder.old }
+    ensures meaning { OnOk result (D.meaning decoder.new
+        ≡ D.step (D.width decoder.old) (D.meaning decoder.old) (changes ctx.old.held.front)) }
+    ensures taken { OnOk result (ctx.new.held ≡ record (with_row_taken ctx.old.held ctx.old.held.front) {
+      repairs = record { rows = ctx.old.held.repairs.rows + 1; fault = fault };
+    }) }
+    ensures rest { OnOk result (here reader.new
+        ≡ behind_row ctx.old.held.settings ctx.old.held.has_eols (here reader.old)) }
+    ensures flag { OnOk result (D.has_refused decoder.new ≡ D.has_refused decoder.old) }
+    ensures kept { OnErr result (D.meaning decoder.new ≡ D.meaning decoder.old) }
+    ensures held { OnErr result (ctx.new.held ≡ ctx.old.held) }
+    ensures unchanged { OnErr result ((ctx.new ≡ ctx.old) × (reader.new ≡ reader.old)) }
+    ensures refused { OnErr result (D.has_refused decoder.new ≡ true) }
+    ensures refused_row { OnErr result (D.refuses decoder.new (changes ctx.old.held.front)) }
+    ensures only_refused { IsOkUnless result DecodeError.Refused }
+    ensures same_bits { reader.new.bits ≡ reader.old.bits }
+    ensures count { ctx.new.ticks ≡ ctx.old.ticks }
+{
+    take_row(ctx, reader, decoder)?;
+    ctx.count_damaged_row(fault);
     Ok(())
 }
 
@@ -190,7 +225,7 @@ fn decode_tagged_line(ctx: &mut DecoderContext, reader: &mut BitReader<'_>) -> R
 }
 
 /// Decodes the line that stands here.
-#[inline(never)]
+#[inline(always)]
 fn decode_line(ctx: &mut DecoderContext, reader: &mut BitReader<'_>) -> Result<()>
     requires begun { ctx.old.held.front ≡ [] }
     ensures line { DrawsLine (line_here ctx.old.held.settings ctx.old.held.reference (here reader.old))
@@ -211,6 +246,29 @@ fn decode_line(ctx: &mut DecoderContext, reader: &mut BitReader<'_>) -> Result<(
     }
 }
 
+/// Repairs a line that began at this offset and failed with this error, as [`recover`] does.
+#[cold]
+#[inline(never)]
+fn recover_from(
+    ctx: &mut DecoderContext,
+    reader: &mut BitReader<'_>,
+    line_start: usize,
+    error: DecodeError,
+) -> Result<()>
+    requires within { line_start ≤ length reader.old.bits }
+    ensures only_damage { OnOk result (IsRepairable ctx.old.held error) }
+    ensures frame { OnOk result (ctx.new ≡ record ctx.old { held = after_repair ctx.old.held }) }
+    ensures put_back { OnOk result (reader.new ≡ record reader.old { place = line_start }) }
+    ensures only_memory { IsRepairable ctx.old.held error → IsOkUnless result DecodeError.OutOfMemory }
+    ensures memory { IsRepairable ctx.old.held error → result ≡ Err DecodeError.OutOfMemory
+        → RepairStoresChange ctx.old.held }
+    ensures otherwise { (IsRepairable ctx.old.held error → ⊥) → result ≡ Err error }
+    ensures unchanged { OnErr result ((ctx.new ≡ ctx.old) × (reader.new ≡ reader.old)) }
+{
+    let start = reader.at_bit(line_start);
+    recover(ctx, reader, start, error)
+}
+
 /// Reads a line, repairs it where it is damaged and may be, and hands its row over. The errors are those of the line
 /// that isn't repaired, `OutOfMemory` while a change is stored, and `Refused` where the sink refuses.
 #[inline(always)]
@@ -221,6 +279,7 @@ pub(crate) fn read_row<D: Decoder>(
 ) -> Result<()>
     requires width { ctx.old.held.settings.columns ≤ D.width decoder.old }
     requires rows { ctx.old.held.taken ≤ length reader.old.bits + 1 }
+    requires damaged { ctx.old.held.repairs.rows ≤ ctx.old.held.taken }
     requires begun { ctx.old.held.front ≡ [] }
     ensures width { D.width decoder.new ≡ D.width decoder.old }
     ensures row { TakesOneRow (line_here ctx.old.held.settings ctx.old.held.reference (here reader.old))
@@ -242,9 +301,10 @@ pub(crate) fn read_row<D: Decoder>(
     ensures stored { OnOk result (length (changes ctx.new.held.reference)
         ≤ length (found_here ctx.old.held.settings ctx.old.held.reference (here reader.old)) + 1) }
 {
-    let line_start = reader.copy();
+    let line_start = reader.bit_pos();
     if let Err(error) = decode_line(ctx, reader) {
-        recover(ctx, reader, line_start, error)?;
+        recover_from(ctx, reader, line_start, error)?;
+        return take_damaged_row(ctx, reader, decoder, error);
     }
     take_row(ctx, reader, decoder)
 }
@@ -260,7 +320,7 @@ pub(crate) fn read_rows<D: Decoder>(
     requires first { ctx.old.held ≡ record (fresh ctx.old.held.settings) { has_eols = ctx.old.held.has_eols } }
     requires width { ctx.old.held.settings.columns ≤ D.width decoder.old }
     ensures width { D.width decoder.new ≡ D.width decoder.old }
-    ensures rows { DecodesFrom (record { rows = []; has_eols = ctx.old.held.has_eols; rest = here reader.old })
+    ensures rows { DecodesFrom reader.old.bits (record { rows = []; has_eols = ctx.old.held.has_eols; rest = here reader.old })
         (most_from_line ctx.old.held.has_eols (length reader.old.bits)) (D.step (D.width decoder.old))
         (record { meaning = D.meaning decoder.old; refused = D.has_refused decoder.old; refuses = D.refuses decoder.old })
         (record { meaning = D.meaning decoder.new; refused = D.has_refused decoder.new; refuses = D.refuses decoder.new })

@@ -246,8 +246,8 @@ pub const MODES: [(Mode, u8, u16); 9] = [
     (Mode::Vertical(-3), 7, 0b0000010),
 ];
 
-/// The arrays are the code lists of T.4 (tables 2, 3a, 3b and 4), no word has bits above its width, and the numbers
-/// of the look-ups are these.
+/// The arrays are the code lists of T.4 (tables 2, 3a, 3b and 4), no word has bits above its width, and the numbers of
+/// the lookup tables are these.
 pub fn arrays_are_the_lists()
     ensures white { numbered (WHITE_TERMINATING ++ WHITE_MAKEUP ++ COMMON_MAKEUP) ≡ white_codes }
     ensures black { numbered (BLACK_TERMINATING ++ BLACK_MAKEUP ++ COMMON_MAKEUP) ≡ black_codes }
@@ -263,20 +263,21 @@ pub fn arrays_are_the_lists()
 /// The number of bits of the longest code word, by which run codes are looked up.
 pub const LOOKUP_BITS: u32 = 13;
 
-/// The run length that stands in a look-up where no code word does. No run of the tables is as long: the longest is 2560.
+/// The run length in an entry of a lookup table without a code word. No run of the tables is as long: the longest is
+/// 2560.
 pub const LOOKUP_INVALID: u16 = 0xFFF;
 
-/// The number of entries of a look-up, one for each thirteen bits.
+/// The number of entries of a lookup table, one for each thirteen bits.
 const LOOKUP_ENTRIES: usize = 8192;
 
-/// The entry where no code word of a run stands: the thirteen bits then begin with eight zeros, and no word does, but
-/// seven of them agree with a word.
+/// The entry of thirteen bits that begin with eight zeros, which no code word of a run does; seven of them agree with a
+/// word.
 const NO_WORD: u16 = 8 << 12 | LOOKUP_INVALID;
 
 /// The code words of a colour by the next thirteen bits, which are taken as a number, the first bit highest. The low
-/// twelve bits of an entry are the run of the word that stands there, the high four its number of bits. Where no word
-/// stands the low twelve are `LOOKUP_INVALID`, and the high four one more than the bits that agree with any word: so many
-/// bits tell that none stands.
+/// twelve bits of an entry are the run of the word there, the high four its number of bits. Without a word the low twelve
+/// are `LOOKUP_INVALID`, and the high four are the number of bits that decide so: one more than the bits that agree with
+/// any word.
 #[derive(Drop)]
 pub struct Lookup {
     entries: Vec<u16>,
@@ -293,7 +294,7 @@ impl Model for Lookup {
 }
 
 impl Lookup {
-    /// The entry for thirteen bits, None from 8192 on.
+    /// Returns the entry for thirteen bits, `None` from 8192 on.
     #[inline(always)]
     pub fn entry(&self, index: usize) -> Option<u16>
         ensures value { result ≡ slice_get self.now index }
@@ -305,17 +306,9 @@ impl Lookup {
             None
         }
     }
-
-    /// All entries.
-    #[inline(always)]
-    pub(crate) fn as_slice(&self) -> &[u16]
-        ensures { result.now ≡ self.now }
-    {
-        self.entries.as_slice()
-    }
 }
 
-/// So many entries, all of them one value.
+/// Allocates a number of entries, all of one value.
 fn filled(alloc: Global, count: usize, value: u16) -> Result<Vec<u16>>
     ensures entries { IfOk result (λ v. (length v.items ≡ count) × ((k : ℕ) → k < count → get_or v.items k 0 ≡ value)) }
     ensures only_memory { IsOkUnless result DecodeError.OutOfMemory }
@@ -323,7 +316,7 @@ fn filled(alloc: Global, count: usize, value: u16) -> Result<Vec<u16>>
     Ok(vec![in alloc; value; count]?)
 }
 
-/// Writes one entry at so many indexes from the first on.
+/// Writes one entry at a number of consecutive indexes.
 fn fill(entries: &mut Vec<u16>, first: usize, count: usize, entry: u16)
     requires { first + count ≤ length entries.old.items }
     ensures count { length entries.new.items ≡ length entries.old.items }
@@ -334,14 +327,14 @@ fn fill(entries: &mut Vec<u16>, first: usize, count: usize, entry: u16)
     entries[first..first + count].fill(entry);
 }
 
-/// Writes the entry of a word wherever it begins the thirteen bits.
+/// Writes the entry of a word at each index whose thirteen bits begin with it.
 fn put_word(entries: &mut Vec<u16>, run: u16, width: u8, word: u16)
     requires count { length entries.old.items ≡ 8192 }
     requires row { IsTrue (is_row (run, width, word)) }
     ensures each { (k : ℕ) → k < 8192 → get_or entries.new.items k 0 ≡ with_row (run, width, word) (thirteen_bits k) (get_or entries.old.items k 0) }
     ensures count { length entries.new.items ≡ 8192 }
 {
-    // the bits behind the word may be any
+    // the bits after the word may be any
     let others = LOOKUP_BITS - u32::from(width);
     let entry = u16::from(width) << 12 | run;
     fill(entries, usize::from(word) << others, 1 << others, entry);
@@ -359,8 +352,11 @@ fn put_words(entries: &mut Vec<u16>, words: &[(u16, u8, u16)])
     }
 }
 
-/// The look-up of a colour: of its terminating words, its make-up words and the common make-up words. The only error
-/// is `OutOfMemory`.
+/// Creates the lookup table of a colour: of its terminating words, its make-up words and the common make-up words.
+///
+/// # Errors
+///
+/// `OutOfMemory` if an allocation fails.
 pub fn build_lookup(
     alloc: Global,
     terminating: &[(u16, u8, u16)],
@@ -378,27 +374,11 @@ pub fn build_lookup(
     Ok(Lookup { entries })
 }
 
-/// A look-up with a copy of these entries. The only error is `OutOfMemory`.
-fn lookup_of(alloc: Global, entries: &[u16]) -> Result<Lookup>
-    requires count { length entries.now ≡ 8192 }
-    ensures entries { IfOk result (λ lookup. lookup ≡ entries.now) }
-    ensures only_memory { IsOkUnless result DecodeError.OutOfMemory }
-{
-    let mut copied = Vec::with_capacity(alloc, LOOKUP_ENTRIES)?;
-    // 1 KiB at a time: memcpy copies larger parts byte by byte on some processors.
-    let mut done = 0;
-    'parts: while done < LOOKUP_ENTRIES {
-        copied.extend_from_slice(&entries[done..done + 512])?;
-        done += 512;
-    }
-    Ok(Lookup { entries: copied })
-}
-
-/// What run codes are read by: the look-ups of both colours.
+/// The lookup tables of both colours, by which run codes are read, in the form that [`Lookup`] describes. They are constants.
 #[derive(Drop)]
 pub struct Tables {
-    white: Lookup,
-    black: Lookup,
+    white: &'static [u16],
+    black: &'static [u16],
 }
 
 impl Model for Tables {
@@ -408,32 +388,33 @@ impl Model for Tables {
 
     ghost use Rattle.hayro_ccitt.specs.LookUps.{AreOfColors};
 
-    ghost view = { λ t. record { white = t.white; black = t.black } };
+    ghost view = { λ t. record { white = t.white.now; black = t.black.now } };
 
-    ghost invariant = { λ t. AreOfColors (record { white = t.white; black = t.black }) };
+    ghost invariant = { λ t. AreOfColors (record { white = t.white.now; black = t.black.now }) };
 }
 
 impl Tables {
-    /// The tables of both colours. The only error is `OutOfMemory`, and nothing is made then.
-    pub fn new(alloc: Global) -> Result<Tables>
+    /// Creates the tables of both colours. They are constants, so nothing is allocated, and `OutOfMemory` isn't returned.
+    #[inline(always)]
+    pub fn new(_alloc: Global) -> Result<Tables>
         ensures entries { IfOk result (λ tables. AreOfColors tables) }
         ensures only_memory { IsOkUnless result DecodeError.OutOfMemory }
     {
         Ok(Tables {
-            white: lookup_of(alloc, white_entries())?,
-            black: lookup_of(alloc, black_entries())?,
+            white: white_entries(),
+            black: black_entries(),
         })
     }
 
-    /// The look-up of a colour.
+    /// Returns the lookup table of a colour.
     #[inline(always)]
-    pub fn lookup(&self, color: Color) -> &Lookup
+    pub fn lookup(&self, color: Color) -> &[u16]
         ensures value { result.now ≡ entries_of color self.now }
         ensures entries { AreEntries (codes_of color) result.now }
     {
         match color {
-            Color::White => &self.white,
-            Color::Black => &self.black,
+            Color::White => self.white,
+            Color::Black => self.black,
         }
     }
 }

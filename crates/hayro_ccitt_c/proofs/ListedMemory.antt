@@ -13,7 +13,7 @@ use Rattle.hayro_ccitt_c.specs.Reports.{changes_taken, numbers_taken, AreListed}
 use Rattle.hayro_ccitt_c.proofs.Reporting.{counts, changes_counted}
 
 -- ---- one row
--- there are no more changes than places
+-- there are no more changes than positions
 pub few_changes : (from width : ℕ) (places : List ℕ) → from ≤ width → AscendFrom from width places → from + length places ≤ width
 few_changes from width [] le ascend = omega arith
 few_changes from width (place ∷ places) le ascend =
@@ -28,7 +28,7 @@ pub same_listing : (end end' : ℕ) (numbers numbers' rest rest' : List ℕ) (co
     (record { end = end'; numbers = numbers'; rest = rest'; changes = count'; name = name })
 same_listing end end' numbers numbers' rest rest' count count' name e f g h = cc
 
--- a row is written behind those that stand
+-- a row is written after the earlier ones
 pub listed_more : (end : ℕ) (row lists part : List ℕ) → end ≤ length lists → length row < length lists - end → part ≡ row
     → (take (end + 1 + length row) (put_mid (end + 1) (end + 1 + length row - (end + 1)) (set lists end (length row)) part) ≡ take end lists ++ listed_row row)
     × (drop (end + 1 + length row) (put_mid (end + 1) (end + 1 + length row - (end + 1)) (set lists end (length row)) part) ≡ drop (length (listed_row row)) (drop end lists))
@@ -51,7 +51,7 @@ listed_more end row lists part within room is =
     )
 
 -- ---- all rows
--- rows were listed behind others
+-- rows were listed after others
 pub record HasListed (rows : List Row) (before after : Listing) : Type 0 where
   pub end : after.end ≡ before.end + length (listed rows)
   pub numbers : after.numbers ≡ before.numbers ++ listed rows
@@ -75,7 +75,7 @@ rows_listed before (row ∷ rows) =
       name = others.name;
     }
 
--- ---- what the caller's memory holds, where it was lent to a sink that took the first rows
+-- ---- what the caller's memory contains after a sink borrowed it that accepted the first rows
 pub record HoldsLists (settings : DecodeSettings) (bits : Bits) (taken : ℕ) (before after : List ℕ) (start final : Listing) : Type 0 where
   pub end : final.end ≡ numbers_taken settings bits taken
   pub changes : final.changes ≡ changes_taken settings bits taken

@@ -19,7 +19,7 @@ use Rattle.hayro_ccitt_c.specs.Reports.{changes_taken, ArePacked}
 use Rattle.hayro_ccitt_c.proofs.Reporting.{counts, changes_counted}
 use Rattle.hayro_ccitt.specs.PlainReading.{plain}
 
--- a row is painted behind those that stand
+-- a row is painted after the earlier ones
 pub packed_more : (columns end bytes : ℕ) (list bitmap row : List ℕ) → bytes ≡ bytes_of_row columns → bytes ≤ length bitmap - end → end ≤ length bitmap
     → length row ≡ length (take (end + bytes - end) (drop end bitmap)) → bits_of row ≡ filled_up (pixels columns list)
     → (bits_of (take (end + bytes) (put_mid end (end + bytes - end) bitmap row)) ≡ bits_of (take end bitmap) ++ filled_up (pixels columns list))
@@ -45,7 +45,7 @@ same_packing end end' bits bits' rest rest' count count' name e f g h = cc
 one_row_more : (n width : ℕ) → suc n * width ≡ width + n * width
 one_row_more n width = grind arith
 
--- rows were packed behind others
+-- rows were packed after others
 pub record HasPacked (columns : ℕ) (rows : List Row) (before after : Packing) : Type 0 where
   pub end : after.end ≡ before.end + length rows * bytes_of_row columns
   pub bits : after.bits ≡ before.bits ++ packed rows
@@ -82,7 +82,7 @@ rows_packed columns before (row ∷ rows) have =
       name = others.name;
     }
 
--- ---- what the caller's memory holds, where it was lent to a sink that took the first rows
+-- ---- what the caller's memory contains after a sink borrowed it that accepted the first rows
 pub record IsLent (settings : DecodeSettings) (read : Bits) (taken : ℕ) (before after : List ℕ) (final : Packing) : Type 0 where
   pub end : final.end ≡ taken * bytes_of_row settings.columns
   pub changes : final.changes ≡ changes_taken settings read taken

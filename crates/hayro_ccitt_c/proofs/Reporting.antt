@@ -1,4 +1,4 @@
--- What C is told, from what decoding answers.
+-- What C is told, from what decoding returns.
 use Rattle.std.proofs.Common.{◌≡◌, ◌≤◌, ◌+◌, min, ℕ, List, [], ◌∷◌, length, map, refl, ap, subst, ◌∙◌, Ok, Err, Option, Some, None, IfSome, inl, inr, arith}
 use Rattle.hayro_ccitt.specs.declared.error.DecodeError.TheVariants.{UnexpectedEof, InvalidCode, Overflow, OutOfMemory, Refused}
 use Rattle.hayro_ccitt.specs.declared.error.DecodeError.{DecodeError}
@@ -17,7 +17,7 @@ use Rattle.hayro_ccitt_c.specs.Reports.{EndsAfter, IsReport, OnSettings}
 use Rattle.hayro_ccitt_c.specs.Settings.{order_of, settings_of}
 use Rattle.hayro_ccitt_c.specs.declared.settings.Settings.{Settings}
 
--- decoding ends as it may after the rows that were taken
+-- decoding ends as it may after the accepted rows
 pub ends_after : {M : Type 0} (step : M → List ℕ → M) (settings : DecodeSettings) (bits : Bits) (before after : SinkState M) (held : Held) (answer : Result ℕ DecodeError)
     → TakesRows (plain settings bits).rows (plain settings bits).outcome (plain settings bits).has_eols step before after held answer
     → StopsShort (plain settings bits).rows (lines_of settings bits) before after held answer → EndsAfter settings bits held.taken answer
@@ -28,22 +28,22 @@ ends_after step settings bits before after held (Err Overflow) takes short = (ta
 ends_after step settings bits before after held (Err OutOfMemory) takes short = (takes.taken, inr (short.memory refl))
 ends_after step settings bits before after held (Err Refused) takes short = short.refused refl
 
--- where there is no memory to begin, nothing is taken
+-- if the first allocation fails, nothing is accepted
 pub no_memory : (settings : DecodeSettings) (bits : Bits) → IsReport settings bits 4 0 0
 no_memory settings bits = record { answer = Err OutOfMemory; ends = (omega arith, inl refl); status_is = refl; bytes_are = refl }
 
--- a fact of the settings that C means
+-- a statement about the settings that C passes
 on_meant : (meant : Option DecodeSettings) (settings : DecodeSettings) (P : DecodeSettings → Type 0) → meant ≡ Some settings → P settings → IfSome meant P
 on_meant None settings P e p = cc
 on_meant (Some s) settings P e p = let same : settings ≡ s = cc in subst P same p
 
--- and of the bits of data
+-- and about the bits of data
 pub on_settings : (settings : Settings) (meant : DecodeSettings) (input : List ℕ) (order : BitOrder) (P : DecodeSettings → Bits → Type 0)
     → settings_of settings ≡ Some meant → order ≡ order_of settings → P meant (bits_in order input) → OnSettings settings input P
 on_settings settings meant input order P is same p fit =
     on_meant (settings_of settings) meant (λ s. P s (bits_in (order_of settings) input)) is (subst (λ (o : BitOrder). P meant (bits_in o input)) same p)
 
--- so many rows are there
+-- there are this many rows
 pub taken_within : (settings : DecodeSettings) (bits : Bits) (taken : ℕ) (answer : Result ℕ DecodeError) → EndsAfter settings bits taken answer
     → taken ≤ length (plain settings bits).rows
 taken_within settings bits taken (Ok n) ends = omega (arith, ends.0)
@@ -62,7 +62,7 @@ at_once count more = omega arith
 abbrev pub counts : ℕ → List ℕ → ℕ
 counts count row = counted count (length row)
 
--- the sum of numbers behind a first one
+-- the sum of numbers after a first one
 abbrev pub sum_from : ℕ → List Row → ℕ
 sum_from count rows = fold (λ n m. n + m) count (map (λ row. length (changes row)) rows)
 

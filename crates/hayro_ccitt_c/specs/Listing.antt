@@ -7,11 +7,11 @@ use Rattle.hayro_ccitt_c.specs.Packing.{counted}
 abbrev pub listed_row : List ℕ → List ℕ
 listed_row row = length row ∷ row
 
--- rows, one behind the other
+-- rows, one after another
 abbrev pub listed : List Row → List ℕ
 listed rows = flat_map (λ row. listed_row (changes row)) rows
 
--- how many numbers the rows take, these numbers, the ones behind them, the number of changes, and whose memory it is
+-- how many numbers the rows occupy, these numbers, the ones after them, the number of changes, and whose memory it is
 pub record Listing : Type 0 where
   pub end : ℕ
   pub numbers : List ℕ
@@ -19,7 +19,7 @@ pub record Listing : Type 0 where
   pub changes : ℕ
   pub name : ℕ
 
--- one row more
+-- after one more row
 abbrev pub with_listed : Listing → List ℕ → Listing
 with_listed before row = record {
   end = before.end + length (listed_row row);

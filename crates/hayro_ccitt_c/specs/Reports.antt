@@ -1,19 +1,21 @@
 -- What C is told of a decoding.
-use Rattle.std.specs.Prelude.{◌≡◌, ◌≤◌, ◌<◌, ◌⊎◌, ℕ, ◌*◌, List, length, map, take, drop, sum, min, IfSome, Result, Ok, Err}
+use Rattle.std.specs.Prelude.{sum_by, ◌≡◌, ◌≤◌, ◌<◌, ◌⊎◌, ℕ, ◌*◌, List, length, map, take, drop, sum, min, IfSome, Result, Ok, Err}
 use Rattle.hayro_ccitt.specs.declared.error.DecodeError.{DecodeError}
 use Rattle.hayro_ccitt.specs.declared.error.DecodeError.TheVariants.{UnexpectedEof, InvalidCode, Overflow, OutOfMemory, Refused}
 use Rattle.hayro_ccitt.specs.declared.settings.DecodeSettings.{DecodeSettings}
 use Rattle.hayro_ccitt.specs.Answers.{PaintsBlack}
 use Rattle.hayro_ccitt.specs.Bits.{Bits, BitsFit, bits_of, bits_in}
+use Rattle.hayro_ccitt.specs.Damage.{repairs_by_line}
 use Rattle.hayro_ccitt.specs.PlainReading.{plain, lines_of}
 use Rattle.hayro_ccitt.specs.Rows.{changes}
 use Rattle.fax_encode.specs.Packed.{packed}
 use Rattle.hayro_ccitt_c.specs.Packing.{bytes_of_row}
 use Rattle.hayro_ccitt_c.specs.Listing.{listed}
 use Rattle.hayro_ccitt_c.specs.Settings.{settings_of, order_of}
+use Rattle.hayro_ccitt_c.specs.declared.report.Outcome.{Outcome}
 use Rattle.hayro_ccitt_c.specs.declared.settings.Settings.{Settings}
 
--- the status of an answer
+-- the status of a result
 abbrev pub status_of : Result ℕ DecodeError → ℕ
 status_of (Ok count) = 0
 status_of (Err UnexpectedEof) = 1
@@ -22,13 +24,13 @@ status_of (Err Overflow) = 3
 status_of (Err OutOfMemory) = 4
 status_of (Err Refused) = 5
 
--- the number of bytes that an answer says were read
+-- the number of bytes that a result says were read
 abbrev pub bytes_read_of : Result ℕ DecodeError → ℕ
 bytes_read_of (Ok count) = count
 bytes_read_of (Err error) = 0
 
--- Decoding may end so when so many rows were taken: with all of them, as the plain reading does; for want of memory,
--- before it begins or while a line that paints black is read; or because the next row was refused.
+-- How decoding may end after this number of rows: after all of them, as the plain reading does; with an allocation
+-- failure, before it begins or while a line that paints black is read; or because the next row was refused.
 abbrev pub EndsAfter : DecodeSettings → Bits → ℕ → Result ℕ DecodeError → Type 0
 EndsAfter settings bits taken (Ok count) = (taken ≡ length (plain settings bits).rows) × ((plain settings bits).outcome ≡ Ok count)
 EndsAfter settings bits taken (Err UnexpectedEof) = (taken ≡ length (plain settings bits).rows) × ((plain settings bits).outcome ≡ Err UnexpectedEof)
@@ -37,33 +39,42 @@ EndsAfter settings bits taken (Err Overflow) = (taken ≡ length (plain settings
 EndsAfter settings bits taken (Err OutOfMemory) = (taken ≤ length (plain settings bits).rows) × ((taken ≡ 0) ⊎ PaintsBlack (lines_of settings bits) taken)
 EndsAfter settings bits taken (Err Refused) = taken < length (plain settings bits).rows
 
--- what C is told: a status, the number of rows that were taken, and the number of bytes read
+-- what C is told: a status, the number of rows accepted, and the number of bytes read
 pub record IsReport (settings : DecodeSettings) (bits : Bits) (status rows bytes_read : ℕ) : Type 0 where
   pub answer : Result ℕ DecodeError
   pub ends : EndsAfter settings bits rows answer
   pub status_is : status ≡ status_of answer
   pub bytes_are : bytes_read ≡ bytes_read_of answer
 
--- the number of the changes of the first so many rows, as far as 64 bits hold it
+-- the number of changes of the first `taken` rows, saturated at the greatest value of 64 bits
 abbrev pub changes_taken : DecodeSettings → Bits → ℕ → ℕ
 changes_taken settings bits taken = min (sum (map (λ row. length (changes row)) (take taken (plain settings bits).rows))) 18446744073709551615
 
--- a fact on the settings that C means, where it means some, and on the bits of the data in the order that C means, where it
--- isn't too long
+-- how many of the first so many rows are repaired (T.4, 4.1.2)
+abbrev pub damaged_taken : DecodeSettings → Bits → ℕ → ℕ
+damaged_taken settings bits taken = sum_by length (take taken (repairs_by_line settings bits))
+
+-- what C is told, with its fields that mean nothing yet
+abbrev pub outcome_of : ℕ → ℕ → ℕ → ℕ → Outcome
+outcome_of rows changes bytes_read damaged_rows =
+    record { rows = rows; changes = changes; bytes_read = bytes_read; damaged_rows = damaged_rows; reserved_1 = 0; reserved_2 = 0 }
+
+-- a statement about the settings that C passes, if they are valid, and about the bits of the data in the order that C
+-- passes, if the data isn't too long
 abbrev pub OnSettings : Settings → List ℕ → (DecodeSettings → Bits → Type 0) → Type 0
 OnSettings settings input P = BitsFit input → IfSome (settings_of settings) (λ s. P s (bits_in (order_of settings) input))
 
--- Packed rows stand at the front of the caller's memory, the first so many, and what lies behind them is as it was.
+-- The caller's memory begins with the first packed rows, this many, and what lies after them is as it was.
 pub record ArePacked (settings : DecodeSettings) (bits : Bits) (taken : ℕ) (before after : List ℕ) : Type 0 where
   pub rows : bits_of (take (taken * bytes_of_row settings.columns) after) ≡ packed (take taken (plain settings bits).rows)
   pub rest : drop (taken * bytes_of_row settings.columns) after ≡ drop (taken * bytes_of_row settings.columns) before
   pub room : taken * bytes_of_row settings.columns ≤ length after
 
--- how many numbers the lists of the first so many rows take
+-- how many numbers the lists of the first `taken` rows occupy
 abbrev pub numbers_taken : DecodeSettings → Bits → ℕ → ℕ
 numbers_taken settings bits taken = length (listed (take taken (plain settings bits).rows))
 
--- Lists of rows stand at the front of the caller's memory, the first so many, and what lies behind them is as it was.
+-- The caller's memory begins with the lists of the first rows, this many, and what lies after them is as it was.
 pub record AreListed (settings : DecodeSettings) (bits : Bits) (taken : ℕ) (before after : List ℕ) : Type 0 where
   pub rows : take (numbers_taken settings bits taken) after ≡ listed (take taken (plain settings bits).rows)
   pub rest : drop (numbers_taken settings bits taken) after ≡ drop (numbers_taken settings bits taken) before

@@ -1,4 +1,4 @@
--- The settings that C means.
+-- The settings that C passes.
 use Rattle.std.specs.Prelude.{ℕ, ◌/◌, ◌%◌, ◌==◌, nat_lt, Bool, Option, Some, None, option_map, if◌then◌else◌}
 use Rattle.hayro_ccitt.specs.declared.bit_reader.BitOrder.{BitOrder}
 use Rattle.hayro_ccitt.specs.declared.bit_reader.BitOrder.TheVariants.{HighestFirst, LowestFirst}
@@ -31,10 +31,10 @@ settings_with s encoding = record {
   strict = has_flag s.flags 8;
 }
 
--- the order of the bits in each byte that C means
+-- the order of the bits in each byte that C passes
 abbrev pub order_of : Settings → BitOrder
 order_of s = if has_flag s.flags 16 then LowestFirst else HighestFirst
 
--- the settings that C means, or none: an encoding or a flag that isn't known
+-- the settings that C passes, or none: an encoding or a flag that isn't known
 abbrev pub settings_of : Settings → Option DecodeSettings
 settings_of s = if nat_lt s.flags 32 then option_map (settings_with s) (encoding_of s.encoding) else None

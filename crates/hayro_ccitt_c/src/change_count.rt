@@ -1,18 +1,18 @@
-//! Counting changes, and a sink that does nothing else.
+//! Counting changes, and a sink that only does that.
 
 ghost use Rattle.std.specs.Prelude.{◌≡◌, length};
 ghost use Rattle.hayro_ccitt_c.specs.Packing.{counted};
 
 use hayro_ccitt::Decoder;
 
-/// Returns the number of changes with those of a row added, at most 2^64 - 1.
+/// Returns the number of changes with those of a row added, saturated at 2^64 - 1.
 pub(crate) fn counted(count: u64, changes: &[u32]) -> u64
     ensures { result ≡ counted count (length changes.now) }
 {
     count.saturating_add(changes.len() as u64)
 }
 
-/// The number of the changes of the rows that were taken.
+/// The number of the changes of the rows so far.
 #[derive(Drop)]
 pub(crate) struct ChangeCount {
     changes: u64,

@@ -21,7 +21,7 @@ pub struct EncodeSettings {
     pub flags: u32,
 }
 
-/// The outcome of encoding, for C.
+/// The result of encoding, for C.
 #[repr(C)]
 #[derive(Copy, Clone)]
 pub struct EncodeOutcome {

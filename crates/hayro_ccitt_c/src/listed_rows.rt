@@ -10,7 +10,7 @@ use hayro_ccitt::{DecodeError, Decoder};
 #[derive(Drop)]
 pub(crate) struct ListedRows<'a> {
     lists: &'a mut [u32],
-    /// The numbers that the rows take so far.
+    /// The numbers that the rows occupy so far.
     end: usize,
     columns: u32,
     changes: u64,
@@ -40,7 +40,7 @@ impl<'a> ListedRows<'a> {
         }
     }
 
-    /// Returns the number of the changes of the rows that were taken.
+    /// Returns the number of the changes of the rows so far.
     pub(crate) fn changes(&self) -> u64
         ensures { result ≡ self.now.changes }
     {
@@ -68,7 +68,7 @@ impl Decoder for ListedRows<'_> {
 
     ghost has_refused = { λ sink. sink.has_refused };
 
-    // A row takes one number more than it has changes.
+    // A row needs one number more than it has changes.
     ghost refuses = { λ sink row. length sink.lists.now < sink.end + 1 + length row };
 
     fn push_row(&mut self, changes: &[u32]) -> hayro_ccitt::Result<()> {

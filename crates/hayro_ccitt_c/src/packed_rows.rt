@@ -11,7 +11,7 @@ use hayro_ccitt::{DecodeError, Decoder};
 #[derive(Drop)]
 pub(crate) struct PackedRows<'a> {
     bitmap: &'a mut [u8],
-    /// The bytes that the rows take so far.
+    /// The bytes that the rows occupy so far.
     end: usize,
     columns: u32,
     changes: u64,
@@ -41,7 +41,7 @@ impl<'a> PackedRows<'a> {
         }
     }
 
-    /// Returns the number of the changes of the rows that were taken.
+    /// Returns the number of the changes of the rows so far.
     pub(crate) fn changes(&self) -> u64
         ensures { result ≡ self.now.changes }
     {

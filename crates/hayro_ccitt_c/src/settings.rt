@@ -23,7 +23,7 @@ pub struct Settings {
     pub flags: u32,
 }
 
-/// The encoding that a number stands for.
+/// Returns the encoding that a number stands for, or `None`.
 fn encoding_of(number: u32) -> Option<EncodingMode>
     ensures { result ≡ encoding_of number }
 {
@@ -35,7 +35,7 @@ fn encoding_of(number: u32) -> Option<EncodingMode>
     }
 }
 
-/// The order of the bits in each byte that C means.
+/// Returns the order of the bits in each byte that C means.
 pub(crate) fn order_of(settings: &Settings) -> BitOrder
     ensures { result ≡ order_of settings.now }
 {

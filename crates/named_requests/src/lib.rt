@@ -1,4 +1,4 @@
-//! For tests: requests for memory that are named, and refused where `checks/refuse_named.c` is loaded before the test, as
+//! For tests: allocations that are numbered, and refused if `checks/refuse_named.c` is loaded before the test, as
 //! `checks/built_tests.py` does. Elsewhere none is refused.
 #![tactic(auto)]
 
@@ -6,24 +6,24 @@ ghost use Rattle.std.specs.Prelude.{◌<◌};
 
 use std::alloc::Global;
 
-/// More requests than any call of the tests makes.
+/// More allocations than any call of the tests makes.
 const MANY: usize = 100;
 
-/// Names a request for memory: of those from now on the one with this number, from 1, is to be refused, and no other.
+/// Names the allocation that is to be refused: the one with this number, from 1, among those from now on, and no other.
 pub fn refuse_request(alloc: Global, number: usize)
     requires { number < 4096 }
 {
     let _ = Vec::<u8>::with_capacity(alloc, (1 << 20) + number);
 }
 
-/// Whether the named request was made, and refused. From now on none is refused.
+/// Returns whether the named allocation was attempted, and refused. From now on none is refused.
 pub fn was_refused(alloc: Global) -> bool {
     Vec::<u8>::with_capacity(alloc, 1 << 20).is_err()
 }
 
-/// Makes a call with its first request refused, then with its second, and so on until it makes no more. Answers what it
-/// makes then. Where it succeeds in spite of a refusal, or its error isn't one that is wanted, the answer is the request's
-/// number and that error.
+/// Makes a call with its first allocation refused, then with its second, and so on until it makes no more, and returns the
+/// result of that last call. If it succeeds in spite of a refusal, or its error isn't an expected one, the result is the
+/// number of the allocation and that error.
 pub fn made_at_last<R: Drop, E: Drop, F: Fn() -> Result<R, E>, W: Fn(&E) -> bool>(
     alloc: Global,
     call: &F,

@@ -141,7 +141,7 @@ local_bodies = (
 pub damage_read : ReadsDamage
 damage_read = (refl, refl, refl)
 
--- ---- The limit behind the body
+-- ---- The limit after the body
 
 -- where a step leads: nowhere further, or on from what its first turn leads to
 reaches_parts : {S R : Type 0} (step : S → Turn S R) (first last : S) → Reaches step first last
@@ -149,12 +149,12 @@ reaches_parts : {S R : Type 0} (step : S → Turn S R) (first last : S) → Reac
 reaches_parts step first last (Reaches.stays same) = inl refl
 reaches_parts step first last (Reaches.moves same after end e reaches) = inr (after, e, reaches)
 
--- where a turn goes on
+-- where a turn continues
 abbrev goes_on : Progress → Move → Progress
 goes_on start (Turn.next after) = after
 goes_on start (Turn.done end) = start
 
--- the settings, and the states that the reading comes to
+-- the settings, and the states that the reading reaches
 abbrev limit_of_three : DecodeSettings
 limit_of_three = group3_1d 8 3 "l"
 

@@ -1,4 +1,4 @@
--- Worked examples, written as texts: settings, bytes, and what the plain reading gives.
+-- Worked examples, written as texts: settings, bytes, and the result of the plain reading.
 use Rattle.std.specs.Prelude.{ℕ, ◌+◌, ◌-◌, ◌*◌, ◌==◌, ◌≡◌, nat_lt, List, [], ◌∷◌, take, map, codes, Bool, false, Ok, Result, if◌then◌else◌}
 use Rattle.std.specs.List.{list_any}
 use Prim.Native.String.{String}
@@ -7,6 +7,7 @@ use Rattle.hayro_ccitt.specs.declared.settings.EncodingMode.{EncodingMode}
 use Rattle.hayro_ccitt.specs.declared.settings.EncodingMode.TheVariants.{Group4, Group3_1D, Group3_2D}
 use Rattle.hayro_ccitt.specs.declared.settings.DecodeSettings.{DecodeSettings}
 use Rattle.hayro_ccitt.specs.Bits.{bits_of, low_first_bits_of}
+use Rattle.hayro_ccitt.specs.Damage.{Damaged, damage_of, repairs_of}
 use Rattle.hayro_ccitt.specs.Rows.{Row, changes, pixels, white_row}
 use Rattle.hayro_ccitt.specs.Encodings.{EncodesRows, PictureT4}
 use Rattle.hayro_ccitt.specs.Locality.{IsLocal, EndAlike}
@@ -26,12 +27,11 @@ bytes_of_digits (high ∷ low ∷ digits) = (16 * digit high + digit low) ∷ by
 abbrev pub hex : String → List ℕ
 hex text = bytes_of_digits (codes text)
 
--- a letter stands in a text
+-- a letter occurs in a text
 abbrev pub has_letter : ℕ → String → Bool
 has_letter letter text = list_any (λ c. c == letter) (codes text)
 
--- Settings with these columns, this limit of rows and these flags: b end of block, l end of line, a rows aligned,
--- s strict.
+-- Settings with these columns, this row limit and these flags: b end of block, l end of line, a rows aligned, s strict.
 abbrev pub settings_with : EncodingMode → ℕ → ℕ → String → DecodeSettings
 settings_with encoding columns rows flags =
     record {
@@ -65,6 +65,14 @@ abbrev pub low_first_reading_of : DecodeSettings → String → List (List ℕ) 
 low_first_reading_of settings text =
     (map changes (plain settings (low_first_bits_of (hex text))).rows, (plain settings (low_first_bits_of (hex text))).outcome)
 
+-- the damage that the plain reading of a text of bytes gets over
+abbrev pub damage_in : DecodeSettings → String → List Damaged
+damage_in settings text = damage_of settings (bits_of (hex text))
+
+-- the rows among it that are repaired
+abbrev pub repairs_in : DecodeSettings → String → List Damaged
+repairs_in settings text = repairs_of settings (bits_of (hex text))
+
 -- ---- Encodings
 
 -- two lines of T.6: horizontal, and a vertical mode; then vertical modes to the left and the rest of the row
@@ -75,7 +83,7 @@ two_lines = "38A08170"
 abbrev pub tagged_rows : String
 tagged_rows = "001CC005001800C006003001800C"
 
--- the lines of the rows with the changes 5, 6 and 2, 3, 5, 6, of eight columns
+-- the lines of the rows with the changes 5, 6 and 2, 3, 5, 6, with eight columns
 abbrev pub EncodesTwoLines : Type 0
 EncodesTwoLines = EncodesRows Group4 false (white_row 8) (pixels 8 (5 ∷ 6 ∷ []) ∷ pixels 8 (2 ∷ 3 ∷ 5 ∷ 6 ∷ []) ∷ [])
     (take 28 (bits_of (hex two_lines)))
@@ -98,28 +106,29 @@ three_rows = "0019800C700033"
 abbrev pub bits_changed : String
 bits_changed = "0019800C400033"
 
--- with a black run of no pixels and a white one in their place, up to 47
+-- with a black run of no pixels and a white one instead of them, up to 47
 abbrev pub bits_added : String
 bits_added = "0019800C06F80033"
 
--- with more words of the same row in their place, up to 111
+-- with more words of the same row instead of them, up to 111
 abbrev pub words_added : String
 words_added = "0019800C06E6A1B9A86E6A1B9AF00033"
 
--- each body is local, so that `Locality` is about each two of these
+-- each body is local, so that `Locality` applies to each two of these
 abbrev pub HaveLocalBodies : Type 0
 HaveLocalBodies = IsLocal with_eols (bits_of (hex three_rows)) 29 39
     × IsLocal with_eols (bits_of (hex bits_changed)) 29 39
     × IsLocal with_eols (bits_of (hex bits_added)) 29 47
     × IsLocal with_eols (bits_of (hex words_added)) 29 111
 
--- the second row alone is another
+-- only the second row differs
 abbrev pub ReadsDamage : Type 0
 ReadsDamage = (reading_of with_eols three_rows ≡ ([] ∷ (3 ∷ 5 ∷ []) ∷ [] ∷ [], Ok 7))
     × (reading_of with_eols bits_changed ≡ ([] ∷ (3 ∷ 6 ∷ []) ∷ [] ∷ [], Ok 7))
     × (reading_of with_eols bits_added ≡ ([] ∷ [] ∷ [] ∷ [], Ok 8))
 
--- where a later row than the body's meets the limit, `EndAlike` fixes the counts: they differ by as much as the lengths
+-- if a later row than the body's meets the row limit, `EndAlike` fixes the counts: they differ by as much as the
+-- lengths
 abbrev pub LimitBehindTheBody : Type 0
 LimitBehindTheBody = (rows : List Row) (count count2 : ℕ)
     → EndAlike (group3_1d 8 3 "l") (bits_of (hex three_rows)) (bits_of (hex words_added)) 29 rows (Ok count) (Ok count2) → count + 16 ≡ count2 + 7

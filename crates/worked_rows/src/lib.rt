@@ -1,11 +1,11 @@
-//! Worked rows: what the definitions give on small data, as theorems, and what the decoder gives, as tests.
+//! Worked rows: what the definitions yield on small data, as theorems, and what the decoder does, as tests.
 //!
-//! An example is settings (columns, row limit, flags), bytes in hexadecimal, and the rows as changes with the
-//! outcome. Each is computed when the crate is checked. Rows of 4294967295 columns and long data are tests alone.
+//! An example is settings (columns, row limit, flags), bytes in hexadecimal, and the rows as changes with the result.
+//! Each is computed when the crate is checked. Rows of 4294967295 columns and long data are tests only.
 #![tactic(auto)]
 
 ghost use Rattle.std.specs.Prelude.{◌≡◌, [], ◌∷◌, Ok, Err};
-ghost use Rattle.worked_rows.specs.Examples.{reading_of, low_first_reading_of, group4, group3_1d, group3_2d};
+ghost use Rattle.worked_rows.specs.Examples.{damage_in, repairs_in, reading_of, low_first_reading_of, group4, group3_1d, group3_2d};
 ghost use Rattle.worked_rows.specs.Examples.{EncodesTwoLines, EncodesTaggedRows, HaveLocalBodies, ReadsDamage, LimitBehindTheBody};
 
 use hayro_ccitt::DecodeError;
@@ -119,13 +119,27 @@ pub fn group3_2d_examples()
     ensures after_six_line_ends_a_one_is_passed_without_end_of_block { reading_of (group3_2d 8 0 "") "CC006003001800C0060034" ≡ (([] ∷ [] ∷ []), Err DecodeError.UnexpectedEof) }
 {}
 
+/// Damage: a line that is repaired, bits that stand before an EOL, and what strict data and data without EOLs have.
+pub fn damage_examples()
+    ensures no_damage { damage_in (group3_1d 8 0 "l") "0019800C700033" ≡ [] }
+    ensures middle_line { damage_in (group3_1d 8 0 "l") "0019800C400033" ≡ record { row = 1; start = 29; fault = DecodeError.InvalidCode } ∷ [] }
+    ensures last_line { damage_in (group3_1d 8 2 "l") "0019800C400033" ≡ record { row = 1; start = 29; fault = DecodeError.InvalidCode } ∷ [] }
+    ensures bits_before_an_eol { damage_in (group3_1d 8 2 "l") "0019F800CC" ≡ record { row = 0; start = 17; fault = DecodeError.InvalidCode } ∷ [] }
+    ensures none_of_these_is_repaired { repairs_in (group3_1d 8 2 "l") "0019F800CC" ≡ [] }
+    ensures a_missing_line { damage_in (group3_1d 8 0 "l") "" ≡ record { row = 0; start = 0; fault = DecodeError.UnexpectedEof } ∷ [] }
+    ensures a_tagged_line { damage_in (group3_2d 8 0 "l") "18C0" ≡ record { row = 0; start = 0; fault = DecodeError.InvalidCode } ∷ [] }
+    ensures given_up { damage_in (group3_1d 2 0 "l") "7770" ≡ record { row = 0; start = 4; fault = DecodeError.InvalidCode } ∷ [] }
+    ensures strict { damage_in (group3_1d 8 0 "ls") "0019800C400033" ≡ [] }
+    ensures without_eols { damage_in (group3_1d 8 1 "") "01" ≡ [] }
+{}
+
 /// Encodings: two lines of T.6, and two of T.4 closed by RTC.
 pub fn encoding_examples()
     ensures t6 { EncodesTwoLines }
     ensures t4 { EncodesTaggedRows }
 {}
 
-/// Locality: four bodies of which each may stand for the others, and the rows of three; and a limit that a later row
+/// Locality: four bodies of which each may replace the others, and the rows of three; and a limit that a later row
 /// meets, where the counts still differ by as much as the lengths.
 pub fn locality_examples()
     ensures bodies { HaveLocalBodies }

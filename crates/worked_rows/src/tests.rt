@@ -1,5 +1,5 @@
-//! What no clause says: that the rules are those of the standards, and that each call succeeds. The answers were
-//! worked out from T.4 and T.6, apart from the decoder.
+//! What no clause says: that the rules are those of the standards, and that each call succeeds. The results were worked
+//! out from T.4 and T.6, apart from the decoder.
 
 ghost use Rattle.std.specs.Prelude.{◌≡◌};
 
@@ -17,14 +17,14 @@ use hayro_ccitt::codes::{Color, Mode, Ticks};
 use hayro_ccitt::context::{decode_1d_line, decode_2d_line};
 use hayro_ccitt::tables::Tables;
 use hayro_ccitt::{
-    DecodeError, DecodeSettings, Decoder, DecoderContext, EncodingMode, Result, RowReader,
-    bits_fit, decode, decode_low_first, group4,
+    DecodeError, DecodeSettings, Decoder, DecoderContext, EncodingMode, Result, RowCursor,
+    RowReader, bits_fit, decode, decode_low_first, group4,
 };
 use std::alloc::{AllocError, AllocGlobal, Global};
 use std::process::Abort;
 use std::test::Fail;
 
-/// A sink that keeps so many rows and refuses the next.
+/// A sink that keeps up to a number of rows and refuses the next.
 #[derive(Drop)]
 struct Limited {
     alloc: Global,
@@ -59,7 +59,7 @@ impl Decoder for Limited {
     }
 }
 
-/// A sink for rows of so many columns.
+/// Creates a sink for rows of a width.
 fn sink_of(alloc: Global, columns: u32, limit: usize) -> Limited
     ensures { result.columns ≡ columns }
 {
@@ -124,7 +124,7 @@ fn has_rows(rt: &impl Abort, sink: &Limited, rows: &[&[u32]], data: &[u8]) {
     }
 }
 
-/// The bytes with their bits in the other order.
+/// Returns the bytes with their bits in the other order.
 fn mirrored(rt: &(impl Abort + AllocGlobal), data: &[u8]) -> Vec<u8> {
     let mut bytes = Vec::new(rt.alloc());
     for byte in data {
@@ -134,7 +134,7 @@ fn mirrored(rt: &(impl Abort + AllocGlobal), data: &[u8]) -> Vec<u8> {
 }
 
 /// Decodes in a context, with the highest bit first and then mirrored with the lowest, and compares the rows and the
-/// answers.
+/// results.
 fn decodes_in(
     rt: &(impl Abort + AllocGlobal),
     ctx: &mut DecoderContext,
@@ -169,7 +169,7 @@ fn decodes_in(
     has_rows(rt, &sink, rows, front);
 }
 
-/// Decodes in a context of its own, and compares the rows and the answer.
+/// Decodes in a context of its own, and compares the rows and the result.
 fn decodes(
     rt: &(impl Abort + AllocGlobal),
     settings: DecodeSettings,
@@ -183,7 +183,7 @@ fn decodes(
     decodes_in(rt, &mut ctx, data, rows, answer);
 }
 
-/// So many copies of a piece, and what follows them.
+/// Returns `times` copies of a piece, and what follows them.
 fn repeated(
     alloc: Global,
     piece: &[u8],
@@ -198,7 +198,7 @@ fn repeated(
     Ok(data)
 }
 
-/// The bytes of hexadecimal digits, two a byte.
+/// Returns the bytes of hexadecimal digits, two a byte.
 fn bytes_of(alloc: Global, digits: &str) -> std::result::Result<Vec<u8>, AllocError> {
     let mut data = Vec::new(alloc);
     let mut high = None;
@@ -219,7 +219,7 @@ fn bytes_of(alloc: Global, digits: &str) -> std::result::Result<Vec<u8>, AllocEr
     Ok(data)
 }
 
-/// Decodes hexadecimal digits in a context of its own, and compares the rows and the answer.
+/// Decodes hexadecimal digits in a context of its own, and compares the rows and the result.
 fn reads(
     rt: &(impl Abort + AllocGlobal),
     settings: DecodeSettings,
@@ -233,7 +233,7 @@ fn reads(
     decodes(rt, settings, &data, rows, answer);
 }
 
-/// Refuses each row in turn; the same context then gives all the rows and the answer.
+/// Refuses each row in turn; the same context then decodes all the rows with the expected result.
 fn refuses_each(
     rt: &(impl Abort + AllocGlobal),
     settings: DecodeSettings,
@@ -633,16 +633,37 @@ fn reads_rows(
     let mut reader = RowReader::new(rt.alloc(), data, BitOrder::HighestFirst, settings).expect(
         rt, "memory",
     );
+    let mut cursor = RowCursor::new(rt.alloc(), data, BitOrder::HighestFirst, settings).expect(
+        rt, "memory",
+    );
     for (row, start) in rows {
-        assert_eq!(rt; reader.next_row(), Ok(true));
+        assert_eq!(rt;
+            (reader.next_row(), cursor.next_row(data)),
+            (Ok(true), Ok(true))
+        );
         assert_eq!(rt; (reader.row(), reader.line_start()), (*row, *start));
+        assert_eq!(rt; (cursor.row(), cursor.line_start()), (*row, *start));
+        assert_eq!(rt; cursor.damage(), reader.damage());
     }
-    assert_eq!(rt; reader.next_row(), end);
-    assert_eq!(rt; reader.next_row(), end, "it stays at the end");
+    assert_eq!(rt; (reader.next_row(), cursor.next_row(data)), (end, end));
+    assert_eq!(rt;
+        (reader.next_row(), cursor.next_row(data)),
+        (end, end),
+        "it stays at the end"
+    );
     assert_eq!(rt;
         (reader.rows_read(), reader.bytes_read()),
         (rows.len() as u64, bytes)
     );
+    assert_eq!(rt;
+        (
+            cursor.rows_read(),
+            cursor.bytes_read(),
+            cursor.damaged_rows()
+        ),
+        (rows.len() as u64, bytes, reader.damaged_rows())
+    );
+    assert_eq!(rt; cursor.settings().columns, settings.columns);
 }
 
 #[test]
@@ -673,6 +694,93 @@ fn rows_one_at_a_time(rt: HostRuntime) {
         2,
     );
     reads_rows(&rt, &padded, group_4(0, 0, ""), &[], Ok(false), 0);
+}
+
+/// What a reader of rows says of the damage of each row, and a context of their number.
+fn tells_damage(
+    rt: &(impl Abort + AllocGlobal),
+    data: &[u8],
+    settings: DecodeSettings,
+    faults: &[Option<DecodeError>],
+) {
+    assert!(rt; bits_fit(data));
+    let mut reader = RowReader::new(rt.alloc(), data, BitOrder::HighestFirst, settings).expect(
+        rt, "memory",
+    );
+    assert_eq!(rt; (reader.damage(), reader.damaged_rows()), (None, 0));
+    let mut damaged_rows = 0;
+    for fault in faults {
+        if fault.is_some() {
+            damaged_rows += 1;
+        }
+        assert_eq!(rt; reader.next_row(), Ok(true));
+        assert_eq!(rt;
+            (reader.damage(), reader.damaged_rows()),
+            (*fault, damaged_rows)
+        );
+    }
+    assert!(rt; reader.next_row() != Ok(true), "no row more");
+    let Ok(mut ctx) = DecoderContext::new(rt.alloc(), settings) else {
+        panic!(rt; "no memory");
+    };
+    for _ in 0..2 {
+        let mut sink = sink_of(rt.alloc(), settings.columns, usize::MAX);
+        let _ = decode(data, &mut sink, &mut ctx);
+        assert_eq!(rt; ctx.damaged_rows(), damaged_rows, "of each image alone");
+    }
+    ctx.reset();
+    assert_eq!(rt; ctx.damaged_rows(), 0);
+}
+
+#[test]
+fn damage_is_told(rt: HostRuntime) {
+    // The black run of the middle line has no word.
+    let cut = [0x00, 0x19, 0x80, 0x0C, 0x40, 0x00, 0x33];
+    let middle = [None, Some(InvalidCode), None];
+    tells_damage(&rt, &cut, group_3_1d(8, 0, "l"), &middle);
+    tells_damage(&rt, &cut, group_3_1d(8, 2, "l"), &middle[..2]);
+    // A line's end is damaged: the row is whole, and a strict reading fails at the bits behind it.
+    let whole = [0x00, 0x19, 0xF8, 0x00, 0xCC];
+    tells_damage(&rt, &whole, group_3_1d(8, 2, "l"), &[None, None]);
+    tells_damage(&rt, &[], group_3_1d(8, 0, "l"), &[Some(UnexpectedEof)]);
+    tells_damage(
+        &rt,
+        &[0x18, 0xC0],
+        group_3_2d(8, 0, "l"),
+        &[Some(InvalidCode)],
+    );
+    tells_damage(&rt, &[0x31, 0xC0], group_4(8, 0, ""), &[None]);
+}
+
+/// Where a reader of rows stands after an error.
+fn fails_at(
+    rt: &(impl Abort + AllocGlobal),
+    data: &[u8],
+    settings: DecodeSettings,
+    rows: u64,
+    place: usize,
+) {
+    assert!(rt; bits_fit(data));
+    let mut reader = RowReader::new(rt.alloc(), data, BitOrder::HighestFirst, settings).expect(
+        rt, "memory",
+    );
+    for _ in 0..rows {
+        assert_eq!(rt; reader.next_row(), Ok(true));
+    }
+    assert_eq!(rt; reader.next_row(), Err(InvalidCode));
+    assert_eq!(rt; (reader.rows_read(), reader.line_start()), (rows, place));
+}
+
+#[test]
+fn faults_have_a_place(rt: HostRuntime) {
+    // The second line's black run has no word.
+    let cut = [0x00, 0x19, 0x80, 0x0C, 0x40, 0x00, 0x33];
+    fails_at(&rt, &cut, group_3_1d(8, 0, "ls"), 1, 29);
+    // Bits stand before the second EOL, from the end of the first line on.
+    let whole = [0x00, 0x19, 0xF8, 0x00, 0xCC];
+    fails_at(&rt, &whole, group_3_1d(8, 2, "ls"), 1, 17);
+    // One row, and then padding that is no mode.
+    fails_at(&rt, &[0x31, 0xC0], group_4(8, 0, ""), 1, 10);
 }
 
 #[test]

@@ -1,4 +1,4 @@
--- What counting EOLs leaves, as the reader's calls say it.
+-- What counting EOLs leaves, in the terms of the reader's calls.
 use Rattle.std.proofs.Common.{◌≡◌, ◌≤◌, ℕ, length, ap, subst}
 use Rattle.hayro_ccitt.specs.Bits.{Bits}
 use Rattle.hayro_ccitt.specs.EndOfLine.{eols, all_eols}

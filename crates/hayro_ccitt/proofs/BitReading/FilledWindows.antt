@@ -6,7 +6,7 @@ use Rattle.hayro_ccitt.specs.Bits.{Bits, bit_of, bits_in}
 use Rattle.hayro_ccitt.specs.Window.{IsFilled}
 use Rattle.hayro_ccitt.proofs.BitReading.WindowWords.{holds_on, zeros_behind, joined}
 
--- it has all bits up to the next place
+-- it has all bits up to the next position
 pub filled_on : (r : Inside) (n : ℕ) → IsFilled r → r.place + n ≤ r.limit → IsFilled record r { place = r.place + n; window = r.window * 2 ^ n % 2 ^ 64 }
 filled_on r n f within =
     let bits : Bits = bits_in r.order r.«data».now in
@@ -51,7 +51,7 @@ filled_ahead r n f fits past before =
       whole = λ h. whole;
     }
 
--- the word behind the one ahead has the rest
+-- the word after the one ahead has the rest
 pub filled_afresh : (r : Inside) (n word : ℕ) → IsFilled r → n ≤ 32 → word < 2 ^ 64 → r.edge * 8 < r.place + n → r.edge + 8 + 8 ≤ length r.«data».now
     → ((k : ℕ) → k < 64 → bit_of word (63 - k) ≡ get_or (bits_in r.order r.«data».now) (8 * (r.edge + 8) + k) false)
     → IsFilled record r {

@@ -1,4 +1,4 @@
--- The arrays of the code are the code lists, and the look-ups of the arrays those of the lists.
+-- The arrays of the code are the code lists, and the lookup tables of the arrays those of the lists.
 use Rattle.std.proofs.Common.{◌≡◌, ℕ, ◌++◌, ◌⊎◌, inl, inr, List, refl, ap, ◌∙◌}
 use Rattle.hayro_ccitt.specs.declared.codes.Color.{Color}
 use Rattle.hayro_ccitt.specs.declared.codes.Color.TheVariants.{White, Black}
@@ -25,7 +25,7 @@ numbered_of terminating makeup (inl e) =
 numbered_of terminating makeup (inr e) =
     (Black, ap (λ (t : Table). numbered (t ++ makeup ++ COMMON_MAKEUP)) e.0 ∙ ap (λ (m : Table). numbered (BLACK_TERMINATING ++ m ++ COMMON_MAKEUP)) e.1 ∙ numbered_black)
 
--- the look-ups of both
+-- the lookup tables of both
 pub of_colors : (white black : List ℕ) → AreEntries white_codes white → AreEntries black_codes black → AreOfColors (record { white = white; black = black })
 of_colors white black w b White = w
 of_colors white black w b Black = b

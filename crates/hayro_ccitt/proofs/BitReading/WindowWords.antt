@@ -1,4 +1,4 @@
--- Words of 64 bits that hold bits of the data, the first in the highest position.
+-- Words of 64 bits that contain bits of the data, the first in the highest position.
 use Rattle.std.proofs.Common.{◌≡◌, ℕ, zero, suc, ◌+◌, ◌-◌, ◌*◌, ◌/◌, ◌%◌, ◌^◌, ◌<◌, ◌≤◌, eqb, false, List, [], ◌∷◌, length, get_or, slice_get, pow_pos, drop, refl, sym, ap, ◌∙◌, arith, inl, inr, Bool, true, ◌||◌, max, min}
 use Rattle.std.specs.Int.{bit_at, from_be_bytes, w64}
 use Rattle.std.specs.Int.RustNames.{bit_or}
@@ -14,7 +14,7 @@ use Rattle.hayro_ccitt.specs.Bits.{Bits, bit_of, bits_of, bits_in}
 use Rattle.hayro_ccitt.specs.Window.{place_in_word}
 use Rattle.hayro_ccitt.proofs.BitReading.BitLists.{length-bits_in, place_in_byte, slice_get-bits_in}
 
--- the bit at a place, and a zero past the end
+-- the bit at a position, and a zero past the end
 pub get_or-bits_in : (order : BitOrder) (bytes : List ℕ) (n : ℕ) → get_or (bits_in order bytes) n false ≡ bit_of (get_or bytes (n / 8) 0) (place_in_byte order (n % 8))
 get_or-bits_in order bytes n = elim (cases_lt n (8 * length bytes)) [
   | inl inside ↦
@@ -38,7 +38,7 @@ bits_in-drop order bytes b n =
 abbrev pub IsBytes : List ℕ → Type 0
 IsBytes bytes = (i : ℕ) → get_or bytes i 0 < 256
 
--- the number that bytes spell, behind a number
+-- the number that bytes spell, after a number
 abbrev onto : ℕ → List ℕ → ℕ
 onto n [] = n
 onto n (b ∷ bytes) = onto (n * 2 ^ 8 + b) bytes
@@ -52,7 +52,7 @@ bit_before (b ∷ bytes) n i fits =
     let down : (8 + i) - 8 ≡ i = omega arith in
     rw e (bit_before bytes (n * 2 ^ 8 + b) (8 + i) (λ k. fits (suc k)) ∙ bit_at_cat_high n 8 b (8 + i) low (omega arith) ∙ ap (bit_at n) down)
 
--- the bit at a place, counted from the last
+-- the bit at a position, counted from the last
 bit_from_end : (bytes : List ℕ) (n k j : ℕ) → IsBytes bytes → k < length bytes → j < 8
     → bit_at (onto n bytes) (8 * (length bytes - 1 - k) + (7 - j)) ≡ bit_at (get_or bytes k 0) (7 - j)
 bit_from_end [] n k j fits h l = absurd (omega arith)
@@ -97,7 +97,7 @@ word_bit bytes k fits h =
     (ap (λ (b : ℕ). eqb b 1) (bit_from_end (eight bytes) 0 (k / 8) (k % 8) (eight_fit bytes fits) byte (omega arith)
     ∙ ap (λ (b : ℕ). bit_at b (7 - k % 8)) (eight_at bytes (k / 8) byte)) ∙ sym (get_or-bits_in HighestFirst bytes k))
 
--- and in either order where it is so arranged
+-- and in either order if it is so arranged
 pub ordered_bit : (order : BitOrder) (bytes : List ℕ) (w k : ℕ) → bit_of w (63 - k) ≡ bit_of (from_be_bytes w64 bytes) (63 - place_in_word order k) → IsBytes bytes → k < 64
     → bit_of w (63 - k) ≡ get_or (bits_in order bytes) k false
 ordered_bit HighestFirst bytes w k is fits h = is ∙ word_bit bytes k fits h
@@ -108,7 +108,7 @@ ordered_bit LowestFirst bytes w k is fits h =
     is ∙ word_bit bytes place fits (omega arith) ∙ get_or-bits_in HighestFirst bytes place ∙ rw (byte, bit) (sym (get_or-bits_in LowestFirst bytes k))
 
 -- ---- A window that is moved.
--- a bit below the top of a word is one of its own, whatever stands above
+-- a bit below the top of a word is one of its own, whatever is above
 pub bit_at-mod : (w i : ℕ) → i < 64 → bit_at (w % 2 ^ 64) i ≡ bit_at w i
 bit_at-mod w i h =
     let whole : w ≡ w / 2 ^ 64 * 2 ^ 64 + w % 2 ^ 64 = omega arith in
@@ -123,7 +123,7 @@ shifted_bit w n k h =
     ap (λ (b : ℕ). eqb b 1) (bit_at-mod (w * 2 ^ n) (63 - k) (omega arith) ∙ ap (λ (v : ℕ). bit_at v (63 - k)) none
     ∙ bit_at_cat_high w n 0 (63 - k) small (omega arith) ∙ ap (bit_at w) down)
 
--- and has zeros behind its own bits
+-- and has zeros after its own bits
 shifted_out : (w n k : ℕ) → k < 64 → 64 ≤ n + k → bit_of (w * 2 ^ n % 2 ^ 64) (63 - k) ≡ false
 shifted_out w n k h past =
     let none : w * 2 ^ n ≡ w * 2 ^ n + 0 = omega arith in
@@ -133,13 +133,13 @@ shifted_out w n k h past =
 pub bit_at-shr : (n k i : ℕ) → bit_at (n / 2 ^ k) i ≡ bit_at n (k + i)
 bit_at-shr n k i = ap (λ (v : ℕ). v % 2) (div-div-eq-div-mul n (2 ^ k) (2 ^ i) ∙ ap (λ (d : ℕ). n / d) (sym (pow-add 2 k i)))
 
--- a word that is shifted down by n bits stands n bits on
+-- a word that is shifted down by n bits is n bits further on
 shifted_down : (w n k : ℕ) → k < 64 → n ≤ k → bit_of (w / 2 ^ n) (63 - k) ≡ bit_of w (63 - (k - n))
 shifted_down w n k h le =
     let place : n + (63 - k) ≡ 63 - (k - n) = omega arith in
     ap (λ (b : ℕ). eqb b 1) (bit_at-shr w n (63 - k) ∙ ap (bit_at w) place)
 
--- and has zeros in front of its own bits
+-- and has zeros before its own bits
 shifted_in : (w n k : ℕ) → w < 2 ^ 64 → k < 64 → k < n → bit_of (w / 2 ^ n) (63 - k) ≡ false
 shifted_in w n k fits h lt = ap (λ (b : ℕ). eqb b 1) (bit_at-shr w n (63 - k) ∙ bit_at_above w 64 (n + (63 - k)) fits (omega arith))
 
@@ -173,21 +173,21 @@ upper_bit w k h =
     let joined : 2 ^ 32 * 2 ^ (31 - k) ≡ 2 ^ (63 - k) = sym (pow-add 2 32 (31 - k)) ∙ ap (λ (i : ℕ). 2 ^ i) place in
     ap (λ (v : ℕ). eqb (v % 2) 1) (div-div-eq-div-mul w (2 ^ 32) (2 ^ (31 - k)) ∙ ap (λ (d : ℕ). w / d) joined)
 
--- A word holds so many bits from a place on: shifted, it holds those that are left.
+-- A word contains n bits from a position on: shifted, it contains those that are left.
 pub holds_on : (bits : Bits) (place n most w : ℕ) → most ≤ 64 → ((k : ℕ) → k < most → bit_of w (63 - k) ≡ get_or bits (place + k) false)
     → (k : ℕ) → n + k < most → bit_of (w * 2 ^ n % 2 ^ 64) (63 - k) ≡ get_or bits (place + n + k) false
 holds_on bits place n most w le held k h =
     let at : place + (n + k) ≡ place + n + k = omega arith in
     shifted_bit w n k (omega arith) ∙ held (n + k) h ∙ ap (λ (i : ℕ). get_or bits i false) at
 
--- And behind them it holds zeros, as before.
+-- And after them it contains zeros, as before.
 pub zeros_behind : (n most w : ℕ) → ((k : ℕ) → k < 64 → most ≤ k → bit_of w (63 - k) ≡ false) → (k : ℕ) → k < 64 → most ≤ n + k → bit_of (w * 2 ^ n % 2 ^ 64) (63 - k) ≡ false
 zeros_behind n most w behind k h past = elim (cases_lt (n + k) 64) [
   | inl own ↦ shifted_bit w n k own ∙ behind (n + k) own past
   | inr out ↦ shifted_out w n k h out
 ]
 
--- A window that is shifted, with the word ahead behind its own bits, holds 64.
+-- A window that is shifted, with the word ahead after its own bits, contains 64.
 pub joined : (bits : Bits) (place n most w a t : ℕ) → most ≤ 64 → n + t ≤ most → a < 2 ^ 64 → ((k : ℕ) → k < most → bit_of w (63 - k) ≡ get_or bits (place + k) false)
     → ((k : ℕ) → k < 64 → most ≤ k → bit_of w (63 - k) ≡ false) → ((k : ℕ) → k < 64 → bit_of a (63 - k) ≡ get_or bits (place + n + t + k) false)
     → (k : ℕ) → k < 64 → bit_of (bit_or (w * 2 ^ n % 2 ^ 64) (a / 2 ^ t)) (63 - k) ≡ get_or bits (place + n + k) false
@@ -205,14 +205,14 @@ joined bits place n most w a t le reach fits held behind ahead k h =
           ]
     ]
 
--- a word from a byte on, shifted to a place in that byte
+-- a word from a byte on, shifted to a position in that byte
 pub filled : (order : BitOrder) (bytes : List ℕ) (place w : ℕ) → ((k : ℕ) → k < 64 → bit_of w (63 - k) ≡ get_or (bits_in order bytes) (8 * (place / 8) + k) false)
     → (k : ℕ) → place % 8 + k < 64 → bit_of (w * 2 ^ (place % 8) % 2 ^ 64) (63 - k) ≡ get_or (bits_in order bytes) (place + k) false
 filled order bytes place w held k h =
     let at : 8 * (place / 8) + place % 8 + k ≡ place + k = omega arith in
     holds_on (bits_in order bytes) (8 * (place / 8)) (place % 8) 64 w (omega arith) held k h ∙ ap (λ (i : ℕ). get_or (bits_in order bytes) i false) at
 
--- and zeros behind it, and past the end
+-- and zeros after it, and past the end
 pub filled_behind : (order : BitOrder) (bytes : List ℕ) (place w : ℕ) → ((k : ℕ) → k < 64 → bit_of w (63 - k) ≡ get_or (bits_in order bytes) (8 * (place / 8) + k) false)
     → (k : ℕ) → k < 64 → min (place / 8 * 8 + 31) (length bytes * 8) + 33 ≤ place + k → bit_of (w * 2 ^ (place % 8) % 2 ^ 64) (63 - k) ≡ false
 filled_behind order bytes place w held k h past = elim (cases_lt (place % 8 + k) 64) [

@@ -30,7 +30,7 @@ agrees_at table (entry ∷ entries) from (suc index) e lt =
     let at : from + suc index ≡ suc from + index = omega arith in
     rw at (agrees_at table entries (suc from) index both.1 (omega arith))
 
--- 1024 entries from an index on; a check of more at once is too long
+-- 1024 entries from an index on; checking more at once takes too long
 abbrev part_agrees : Table → List ℕ → ℕ → Bool
 part_agrees table entries from = agrees table (take 1024 (drop from entries)) from
 

@@ -10,6 +10,7 @@ use Rattle.hayro_ccitt.specs.Ticks.{looked}
 use Rattle.hayro_ccitt.proofs.BitReading.BitLists.{drop_some}
 use Rattle.hayro_ccitt.proofs.CodeWords.ReadRuns.{chosen}
 use Rattle.hayro_ccitt.proofs.Readings.TurnsMoveOn.{after_eol_shorter, length-one_more, one_more-count}
+use Rattle.std.proofs.lemmas.Grind.{common_steps}
 
 pub leading_zeros-one : (n : ℕ) (bits : Bits) → leading_zeros (replicate n false ++ (true ∷ bits)) ≡ n
 leading_zeros-one zero bits = refl
@@ -19,7 +20,7 @@ pub leading_zeros-replicate : (n : ℕ) → leading_zeros (replicate n false) �
 leading_zeros-replicate zero = refl
 leading_zeros-replicate (suc n) = ap suc (leading_zeros-replicate n)
 
--- what is looked at where zeros and a one stand
+-- what is examined if there are zeros and a one
 pub looked_run : (k : ℕ) (rest : Bits) → looked (replicate k false ++ true ∷ rest) ≡ k + 1
 looked_run zero rest = refl
 looked_run (suc k) rest = omega (arith, looked_run k rest)
@@ -32,54 +33,39 @@ after_eol_run k rest = from 0 k ∙ let e : 0 + k ≡ k = omega arith in ap (λ 
     from seen zero = let e : seen + 0 ≡ seen = omega arith in rw e refl
     from seen (suc k) = let e : suc seen + k ≡ seen + suc k = omega arith in from (suc seen) k ∙ ap (λ (n : ℕ). cond (leb 11 n) (Some rest) None) e
 
--- a count of zeros looks at the bits of an EOL
+-- a count of zeros examines the bits of an EOL
 pub looked_eol : (seen : ℕ) (here after : Bits) → after_eol seen here ≡ Some after → looked here + length after ≡ length here
 looked_eol seen [] after e = absurd cc
 looked_eol seen (false ∷ here) after e = omega (arith, looked_eol (suc seen) here after e)
-looked_eol seen (true ∷ here) after e = elim (chosen (leb 11 seen) _ _ _ e) [
-  | inl a ↦ let same : here ≡ after = let f = a.1 in cc in omega (arith, ap length same)
-  | inr a ↦ absurd (let f = a.1 in cc)
-]
+looked_eol seen (true ∷ here) after e = grind (arith, common_steps)
 
 -- the first of some EOLs
 pub eols_one : (most : ℕ) (here after : Bits) → after_eol 0 here ≡ Some after → 0 < most
     → eols most here ≡ (suc (eols (most - 1) after).0, (eols (most - 1) after).1)
-eols_one zero here after e lt = absurd (omega arith)
-eols_one (suc most) here after e lt =
-    let n : suc most - 1 ≡ most = omega arith in
-    rw (e, n, eols) (by (eols most after))
-  where
-    by : (found : ℕ × Bits) → one_more found ≡ (suc found.0, found.1)
-    by (count, rest) = refl
+eols_one most here after e lt = grind (arith, common_steps)
 
 -- an EOL more, and those after it
 pub eols_stepped : (max count : ℕ) (start now after : Bits) → eols max start ≡ (count + (eols (max - count) now).0, (eols (max - count) now).1)
     → after_eol 0 now ≡ Some after → count < max
     → eols max start ≡ (count + 1 + (eols (max - (count + 1)) after).0, (eols (max - (count + 1)) after).1)
 eols_stepped max count start now after e h lt =
-    let one = eols_one (max - count) now after h (omega arith) in
-    let n : max - count - 1 ≡ max - (count + 1) = omega arith in
-    let f : eols (max - count) now ≡ (suc (eols (max - (count + 1)) after).0, (eols (max - (count + 1)) after).1) = rw n at one in
-    let m : count + suc (eols (max - (count + 1)) after).0 ≡ count + 1 + (eols (max - (count + 1)) after).0 = omega arith in
-    e ∙ rw f (ap (λ (k : ℕ). (k, (eols (max - (count + 1)) after).1)) m)
+    grind (arith, common_steps, common_steps, eols_one (max - count) now after h (omega arith))
 
--- an EOL takes a bit
+-- an EOL has at least one bit
 pub eols_fewer : (most : ℕ) (here : Bits) → (eols most here).0 + length (eols most here).1 ≤ length here
 eols_fewer zero here = omega arith
 eols_fewer (suc most) here = by (λ rest. eols_fewer most rest) (after_eol 0 here) refl
   where
     by : ((rest : Bits) → (eols most rest).0 + length (eols most rest).1 ≤ length rest) → (o : Option Bits) → after_eol 0 here ≡ o
         → (eols (suc most) here).0 + length (eols (suc most) here).1 ≤ length here
-    by on None e = rw (e, eols) (omega arith)
-    by on (Some rest) e = rw (e, eols) (omega (arith, length-one_more (eols most rest), one_more-count (eols most rest), on rest, after_eol_shorter 0 here rest e))
+    by on o e = grind (arith, common_steps, after_eol_shorter, length-one_more, one_more-count)
 
--- where at least as many EOLs as bits are looked for, all are
+-- if at least as many EOLs as bits are looked for, all are
 pub eols_enough : (most : ℕ) (here : Bits) → length here ≤ most → eols most here ≡ all_eols here
 eols_enough most here le = alike most (length here) here le (omega arith)
   where
     none : (most : ℕ) → eols most [] ≡ (0, [])
-    none zero = refl
-    none (suc most) = refl
+    none most = grind (arith, common_steps)
 
     alike : (most others : ℕ) (here : Bits) → length here ≤ most → length here ≤ others → eols most here ≡ eols others here
     alike most others [] le le1 = none most ∙ sym (none others)
@@ -89,24 +75,15 @@ eols_enough most here le = alike most (length here) here le (omega arith)
       where
         by : ((rest : Bits) → length rest ≤ most → length rest ≤ others → eols most rest ≡ eols others rest) → (o : Option Bits)
             → after_eol 0 (bit ∷ here) ≡ o → eols (suc most) (bit ∷ here) ≡ eols (suc others) (bit ∷ here)
-        by on None e = rw (e, eols) refl
-        by on (Some rest) e =
-            let shorter = after_eol_shorter 0 (bit ∷ here) rest e in
-            rw (e, eols) (ap one_more (on rest (omega (arith, le, shorter)) (omega (arith, le1, shorter))))
+        by on o e = grind (arith, common_steps, after_eol_shorter)
 
--- where more EOLs than bits are looked for, the bits after the last are looked at
+-- if more EOLs than bits are looked for, the bits after the last are examined
 pub eols_look_on : (most : ℕ) (here rest : Bits) (count : ℕ) → length here < most → eols most here ≡ (count, rest)
     → cond (eqb count most) 0 (looked rest) ≡ looked rest
-eols_look_on most here rest count lt e = by (eqb count most) refl
-  where
-    by : (b : Bool) → eqb count most ≡ b → cond b 0 (looked rest) ≡ looked rest
-    by false h = refl
-    by true h =
-        let counts : count + length rest ≤ length here = subst (λ (found : ℕ × Bits). found.0 + length found.1 ≤ length here) e (eols_fewer most here) in
-        absurd (omega (arith, counts, lt, eqb-true count most h))
+eols_look_on most here rest count lt e = grind (arith, common_steps, eols_fewer, eqb-true)
 
 -- ---- A bit read.
--- a bit that stands at the place is the first here
+-- a bit at the position is the first here
 pub here_next : (old new : BitsAt) (bit : Bool) → slice_get old.bits old.place ≡ Some bit → new ≡ record old { place = old.place + 1 }
     → here old ≡ bit ∷ here new
 here_next old new bit h e = rw e (drop_some old.bits old.place bit h)

@@ -1,4 +1,4 @@
--- What reading a list answers, by the words that stand there.
+-- What reading a code list returns, by the words there.
 use Rattle.std.proofs.Common.{◌≡◌, true, false, List, [], ◌∷◌, ◌++◌, Option, Some, None, Ok, Err, refl, sym, ap, ◌∙◌, append_assoc, inl, inr}
 use Rattle.std.proofs.lemmas.Bool.{or_parts, or_cases, false≢true}
 use Rattle.hayro_ccitt.specs.declared.error.DecodeError.TheVariants.{UnexpectedEof, InvalidCode}
@@ -7,7 +7,7 @@ use Rattle.hayro_ccitt.specs.CodeLists.{Code}
 use Rattle.hayro_ccitt.specs.CodeReading.{after, is_prefix, word_at, is_cut, Has, read_code, is_prefix_free, Stands, NoneStands, IsCut, ReadsCodes}
 use Rattle.hayro_ccitt.proofs.CodeWords.ReadCodes.{after_is, after_at, word_at_again, read_code_again, cases_reading, read_code_found}
 
--- where no word is found, none stands
+-- if no word is found, there is none
 none_stands : {V : Type 0} (list : List (Code V)) (here : Bits) → is_prefix_free list ≡ true → word_at list here ≡ None → NoneStands list here
 none_stands list here free e v rest (w, has, h) =
     absurd (let a = word_at_again list v w rest free has in let b : word_at list (w ++ rest) ≡ None = rw h at e in cc)
@@ -33,7 +33,7 @@ is_not_cut (c ∷ list) here e v w more (inl i) h =
 is_not_cut (c ∷ list) here e v w more (inr i) h =
     is_not_cut list here (or_parts (is_prefix here c.word) (is_cut list here) e).1 v w more i h
 
--- what a word that stands here gives
+-- what a word here yields
 found_again : {V : Type 0} (list : List (Code V)) (here : Bits) (v : V) (rest : Bits) → is_prefix_free list ≡ true → Stands list here v rest → read_code list here ≡ Ok (v, rest)
 found_again list here v rest free (w, has, h) = rw h (read_code_again list v w rest free has)
 

@@ -1,4 +1,4 @@
--- What the entry of a look-up says of the run code that stands here.
+-- What the entry of a lookup table says of the run code here.
 use Rattle.std.proofs.Common.{◌≡◌, ◌≢◌, ℕ, ◌-◌, ◌/◌, ◌%◌, ◌<◌, ◌≤◌, inl, inr, true, false, leb, ltb, List, [], ◌∷◌, length, drop, Option, Some, None, Ok, Err, refl, sym, ap, ◌∙◌, arith}
 use Rattle.std.specs.List.{list_all}
 use Rattle.std.proofs.lemmas.Bool.{ltb-true, and_parts}
@@ -15,18 +15,11 @@ use Rattle.hayro_ccitt.proofs.CodeWords.ReadCodes.{word_at_found}
 use Rattle.hayro_ccitt.proofs.CodeWords.LooksAhead.{length-padded, TellsWords, has_none, telling_is, telling_none, tells_cut, tells_found, tells_wrong}
 use Rattle.hayro_ccitt.proofs.CodeWords.ReadRuns.{words_not_empty, word_length}
 use Rattle.hayro_ccitt.proofs.BitReading.ZerosInWords.{codes_free, modes_free}
+use Rattle.std.proofs.lemmas.Grind.{common_steps}
 
--- ---- Thirteen bits tell a run code, seven a mode.
+-- ---- Thirteen bits decide a run code, seven a mode.
 pub codes_tell : (color : Color) → TellsWords 13 (codes_of color)
-codes_tell color = record { free = codes_free color; short = short color; some = some color }
-  where
-    short : (color : Color) → each_word (λ w. leb (length w) 13) (codes_of color) ≡ true
-    short White = refl
-    short Black = refl
-
-    some : (color : Color) → has_none (codes_of color) ≡ false
-    some White = refl
-    some Black = refl
+codes_tell color = grind (arith, common_steps)
 
 pub modes_tell : TellsWords 7 mode_codes
 modes_tell = record { free = modes_free; short = refl; some = refl }
@@ -36,8 +29,7 @@ abbrev runs_below : List (Code ℕ) → Type 0
 runs_below list = list_all (λ c. ltb c.value 4095) list ≡ true
 
 codes_below : (color : Color) → runs_below (codes_of color)
-codes_below White = refl
-codes_below Black = refl
+codes_below color = grind (arith, common_steps)
 
 run_below : (list : List (Code ℕ)) (v : ℕ) (w : Bits) → runs_below list → Has list v w → v < 4095
 run_below [] v w e i = elim i [ ]
@@ -69,7 +61,7 @@ high_bits color here entry e = omega (arith, e, run_small color here)
 pub low_twelve : (color : Color) (here : Bits) (entry : ℕ) → entry ≡ entry_of (codes_of color) here → entry % 4096 ≡ run_or_none (codes_of color) here
 low_twelve color here entry e = omega (arith, e, run_small color here)
 
--- ---- What they tell of the bits here.
+-- ---- What they say of the bits here.
 pub looked_up_cut : (color : Color) (here : Bits) → length here < telling_bits (codes_of color) (padded 13 here) → read_code (codes_of color) here ≡ Err UnexpectedEof
 looked_up_cut color here h = tells_cut 13 (codes_of color) (codes_tell color) here h
 
@@ -89,9 +81,14 @@ looked_up_found color here e h = by (word_at (codes_of color) (padded 13 here)) 
     by : (o : Option (ℕ × Bits)) → word_at (codes_of color) (padded 13 here) ≡ o
         → read_code (codes_of color) here ≡ Ok (run_or_none (codes_of color) (padded 13 here), drop (telling_bits (codes_of color) (padded 13 here)) here)
     by (Some found) a =
-        let run = run_of_found (codes_of color) (padded 13 here) found a in
-        tells_found 13 (codes_of color) (codes_tell color) here found a h
-        ∙ ap (λ (n : ℕ). Ok (n, drop (telling_bits (codes_of color) (padded 13 here)) here)) (sym run)
+        grind (
+          arith,
+          common_steps,
+          codes_tell color,
+          run_of_found (codes_of color) (padded 13 here) found a,
+          tells_found 13
+              (codes_of color) (codes_tell color) here found a h,
+        )
     by None a = absurd (e (run_of_none (codes_of color) (padded 13 here) a))
 
 -- at least one bit is needed
@@ -104,18 +101,16 @@ some_bits_tell color here = by (word_at (codes_of color) (padded 13 here)) refl
         omega (arith, telling_is 13 (codes_of color) (codes_tell color) here found w e at, word_length (codes_of color) found.0 w (words_not_empty color) has)
     by None e = omega (arith, telling_none 13 (codes_of color) (codes_tell color) here e)
 
--- a word that is there is within the bits looked at
+-- a word that is there is within the bits examined
 pub word_within : (color : Color) (here : Bits) → run_or_none (codes_of color) (padded 13 here) ≢ 4095
     → telling_bits (codes_of color) (padded 13 here) ≤ 13
 word_within color here e = by (word_at (codes_of color) (padded 13 here)) refl
   where
     by : (o : Option (ℕ × Bits)) → word_at (codes_of color) (padded 13 here) ≡ o → telling_bits (codes_of color) (padded 13 here) ≤ 13
-    by (Some found) a =
-        let is : telling_bits (codes_of color) (padded 13 here) ≡ length (padded 13 here) - length found.1 = rw (a, telling_bits) refl in
-        omega (arith, is, length-padded 13 here)
+    by (Some found) a = grind (arith, common_steps, length-padded 13 here)
     by None a = absurd (e (run_of_none (codes_of color) (padded 13 here) a))
 
--- what the entry of thirteen bits that are there says: the word that stands, and how wide it is
+-- what the entry of thirteen bits that are there says: the word there, and its width
 pub record IsWordThere (color : Color) (here : Bits) (run width : ℕ) : Type 0 where
   pub read : read_code (codes_of color) here ≡ Ok (run, drop width here)
   pub few : width ≤ 13

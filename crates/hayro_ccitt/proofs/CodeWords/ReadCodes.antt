@@ -1,4 +1,4 @@
--- What reading a list finds, by the words that stand there.
+-- What reading a list finds, by the words there.
 use Rattle.std.proofs.Common.{◌≡◌, Bool, true, false, not, List, [], ◌∷◌, ◌++◌, Option, Some, None, Result, Ok, Err, refl, sym, ap, subst, ◌∙◌, ◌⊎◌, inl, inr}
 use Rattle.std.proofs.lemmas.Bool.{and_parts, false≢true, not-true}
 use Rattle.std.specs.List.{list_all}
@@ -22,7 +22,7 @@ after_at [] rest = refl
 after_at (true ∷ word) rest = after_at word rest
 after_at (false ∷ word) rest = after_at word rest
 
--- of two words that stand at one place, one is a prefix of the other
+-- of two words at one position, one is a prefix of the other
 either_prefix : (u w here rest : Bits) → after u (w ++ here) ≡ Some rest → (is_prefix u w ≡ true) ⊎ (is_prefix w u ≡ true)
 either_prefix [] w here rest e = inl refl
 either_prefix (b ∷ u) [] here rest e = inr refl
@@ -31,7 +31,7 @@ either_prefix (false ∷ u) (false ∷ w) here rest e = either_prefix u w here r
 either_prefix (true ∷ u) (false ∷ w) here rest e = absurd cc
 either_prefix (false ∷ u) (true ∷ w) here rest e = absurd cc
 
--- where neither is, the first doesn't stand
+-- if neither is, the first isn't there
 pub apart_misses : (u w here : Bits) → apart u w ≡ true → after u (w ++ here) ≡ None
 apart_misses u w here h =
     let both = and_parts (not (is_prefix u w)) (not (is_prefix w u)) h in
@@ -50,7 +50,7 @@ apart_in u [] v w h i = elim i [ ]
 apart_in u (c ∷ list) v w h (inl e) = rw (← e.1) (and_parts (apart u c.word) (list_all (λ d. apart u d.word) list) h).0
 apart_in u (c ∷ list) v w h (inr i) = apart_in u list v w (and_parts (apart u c.word) (list_all (λ d. apart u d.word) list) h).1 i
 
--- A word of a list that is prefix-free is found wherever it stands.
+-- A word of a list that is prefix-free is found wherever it is.
 pub word_at_again : {V : Type 0} (list : List (Code V)) (v : V) (w rest : Bits) → is_prefix_free list ≡ true → Has list v w → word_at list (w ++ rest) ≡ Some (v, rest)
 word_at_again [] v w rest free i = elim i [ ]
 word_at_again (c ∷ list) v w rest free (inl e) = rw (← e.0, ← e.1, after_at c.word rest, word_at) refl
@@ -61,7 +61,7 @@ word_at_again (c ∷ list) v w rest free (inr i) =
 pub read_code_again : {V : Type 0} (list : List (Code V)) (v : V) (w rest : Bits) → is_prefix_free list ≡ true → Has list v w → read_code list (w ++ rest) ≡ Ok (v, rest)
 read_code_again list v w rest free i = rw (word_at_again list v w rest free i, read_code) refl
 
--- What is found stands there, in the list.
+-- What is found is there, in the list.
 pub word_at_found : {V : Type 0} (list : List (Code V)) (here : Bits) (found : V × Bits) → word_at list here ≡ Some found → (w : Bits) × Has list found.0 w × (here ≡ w ++ found.1)
 word_at_found [] here found e = absurd cc
 word_at_found {V} (c ∷ list) here found e =
@@ -74,7 +74,7 @@ word_at_found {V} (c ∷ list) here found e =
     ] in
     by (after c.word here) refl e
 
--- What reading answers, in three cases.
+-- What reading returns, in three cases.
 pub cases_reading : {V : Type 0} (list : List (Code V)) (here : Bits) (answer : Result (V × Bits) DecodeError) → read_code list here ≡ answer
     → ((found : V × Bits) × (answer ≡ Ok found) × (word_at list here ≡ Some found))
     ⊎ (((answer ≡ Err UnexpectedEof) × (word_at list here ≡ None) × (is_cut list here ≡ true))
@@ -102,7 +102,7 @@ read_code_missed list here e r h k = elim (cases_reading list here (Err e) h) [
   | inr b ↦ elim b [ inl c ↦ let f : r ≡ Err UnexpectedEof = cc in rw f refl | inr c ↦ let f : r ≡ Err InvalidCode = cc in rw f refl ]
 ]
 
--- Found: a word of the list stands here.
+-- Found: a word of the list is here.
 pub read_code_found : {V : Type 0} (list : List (Code V)) (here : Bits) (v : V) (rest : Bits) → read_code list here ≡ Ok (v, rest) → (w : Bits) × Has list v w × (here ≡ w ++ rest)
 read_code_found {V} list here v rest e = elim (cases_reading list here (Ok (v, rest)) e) [
   | inl a ↦ let p : (v, rest) ≡ a.0 = cc in subst (λ (x : V × Bits). (w : Bits) × Has list x.0 w × (here ≡ w ++ x.1)) (sym p) (word_at_found list here a.0 a.2)

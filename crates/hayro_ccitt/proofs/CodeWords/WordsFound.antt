@@ -1,4 +1,4 @@
--- The words that a line finds stand in a row from where it begins, and end before each EOL's one.
+-- The words that a line finds are consecutive from where it begins, and end before each EOL's one.
 use Rattle.std.proofs.Common.{ltb, leb, cond, ◌≡◌, take, ◌-◌, Result, Ok, Err, subst, append_assoc, ℕ, zero, suc, ◌+◌, ◌<◌, Bool, true, false}
 use Rattle.std.proofs.Common.{List, [], ◌∷◌, ◌++◌, length, replicate, refl, sym, ap, ◌∙◌, arith, inl, inr}
 use Rattle.std.proofs.lemmas.Bool.{false≢true, cases_lt}
@@ -24,13 +24,14 @@ use Rattle.hayro_ccitt.proofs.Readings.Repeated.{after_turn}
 use Rattle.hayro_ccitt.proofs.CodeWords.ReadCodes.{read_code_found}
 use Rattle.hayro_ccitt.proofs.CodeWords.ReadRuns.{chosen, word_next, not_done, done_is}
 use Rattle.hayro_ccitt.proofs.BitReading.ZerosInWords.{codes_free, modes_free, free_by, no_one, holds_a_one, word_one, no_eleven_in, prefix_of_prefix}
+use Rattle.std.proofs.lemmas.Grind.{common_steps}
 
--- what the turns after this one give
+-- the words of the turns after this one
 abbrev pub gathered_after : {S R A : Type 0} → (S → List A) → Turn S R → List A
 gathered_after rest (Turn.next s) = rest s
 gathered_after rest (Turn.done r) = []
 
--- ---- Words that stand in a row here.
+-- ---- Consecutive words here.
 pub record Stands (here : Bits) (found : List Bits) (rest : Bits) : Type 0 where
   pub words : AreWords found
   pub place : here ≡ joined found ++ rest
@@ -45,19 +46,15 @@ pub joined_append : (a b : List Bits) → joined (a ++ b) ≡ joined a ++ joined
 joined_append [] b = refl
 joined_append (w ∷ a) b = ap (λ (x : Bits). w ++ x) (joined_append a b) ∙ sym (append_assoc w (joined a) (joined b))
 
--- words that stand behind words
+-- words after words
 pub stands_append : (here middle rest : Bits) (a b : List Bits) → Stands here a middle → Stands middle b rest → Stands here (a ++ b) rest
-stands_append here middle rest a b p q = record {
-  words = are_words_append a b p.words q.words;
-  place = p.place ∙ ap (λ (x : Bits). joined a ++ x) q.place ∙ sym (append_assoc (joined a) (joined b) rest)
-      ∙ ap (λ (x : Bits). x ++ rest) (sym (joined_append a b));
-}
+stands_append here middle rest a b p q = grind (arith, common_steps, append_assoc, are_words_append, joined_append)
 
--- no words stand anywhere
+-- no words are anywhere
 pub stands_none : (here : Bits) → Stands here [] here
 stands_none here = record { words = tt; place = refl }
 
--- what the turns find stands in a row, and where an answer names the rest it is what follows
+-- what the turns find is consecutive, and if a result names the rest it is what follows
 pub gathered_stands : {S R : Type 0} (step : S → Turn S R) (late : R) (gives : S → List Bits) (here_of : S → Bits) (Ends : R → Bits → Type 0)
     → ((b : Bits) → Ends late b)
     → ((s t : S) → step s ≡ Turn.next t → Stands (here_of s) (gives s) (here_of t))
@@ -80,22 +77,16 @@ take_append : (a b : Bits) → take (length a) (a ++ b) ≡ a
 take_append [] b = refl
 take_append (x ∷ a) b = ap (λ (y : Bits). x ∷ y) (take_append a b)
 
--- a word that a reading found stands here
+-- a word that a reading found is here
 pub word_stands : {V : Type 0} (list : List (Code V)) (here : Bits) (v : V) (rest : Bits) → ((w : Bits) → Has list v w → IsWord w)
     → read_code list here ≡ Ok (v, rest) → Stands here (word_found list here) rest
 word_stands {V} list here v rest is e =
-    let f = read_code_found list here v rest e in
-    let n : length here - length rest ≡ length f.0 = omega (arith, ap length f.2, length-append f.0 rest) in
-    let w : take (length here - length rest) here ≡ f.0 = ap (λ (k : ℕ). take k here) n ∙ ap (λ (x : Bits). take (length f.0) x) f.2 ∙ take_append f.0 rest in
-    let found : word_found list here ≡ f.0 ∷ [] = rw (e, word_found) (ap (λ (x : Bits). x ∷ []) w) in
-    subst (λ (x : List Bits). Stands here x rest) (sym found)
-    (record { words = (is f.0 f.1, tt); place = f.2 ∙ ap (λ (x : Bits). x ++ rest) (sym (append-nil f.0)) })
+    grind (arith, common_steps, append-nil, common_steps, length-append, read_code_found list here v rest e, take_append)
 
 -- a reading that found no word
 pub no_word_stands : {V : Type 0} (list : List (Code V)) (here : Bits) (fault : DecodeError) → read_code list here ≡ Err fault
     → Stands here (word_found list here) here
-no_word_stands list here fault e = let found : word_found list here ≡ []
-    = rw (e, word_found) refl in subst (λ (x : List Bits). Stands here x here) (sym found) (stands_none here)
+no_word_stands list here fault e = grind (arith, common_steps)
 
 -- ---- The words of a run.
 abbrev pub RunEnds : Result (ℕ × Bits) DecodeError → Bits → Type 0
@@ -111,31 +102,27 @@ run_word color v w i = inl (color, v, i)
 
 run_goes : (color : Color) (total : ℕ) (here : Bits) (t : ℕ × Bits) (r : Result (ℕ × Bits) DecodeError) → read_code (codes_of color) here ≡ r
     → run_turn color (total, here) ≡ Turn.next t → Stands here (word_found (codes_of color) here) t.1
-run_goes color total here t (Err e) h k =
-    let g : ◌≡◌ {A = RunTurn} (Turn.done (Err e)) (Turn.next t) = rw (h, run_turn) at k in absurd (not_done _ t g)
+run_goes color total here t (Err e) h k = grind (arith, common_steps)
 run_goes color total here t (Ok found) h k =
-    let g : run_of_word total found ≡ Turn.next t = rw (h, run_turn) at k in
-    subst (λ (x : ℕ × Bits). Stands here (word_found (codes_of color) here) x.1) (word_next total found t g)
-    (word_stands (codes_of color) here found.0 found.1 (run_word color found.0) h)
+    grind (
+      arith,
+      common_steps,
+      run_word color found.0,
+      word_next total found t,
+      word_stands (codes_of color) here found.0
+          found.1 (run_word color found.0) h,
+    )
 
 run_ends : (color : Color) (total : ℕ) (here : Bits) (r : Result (ℕ × Bits) DecodeError) (q : Result (ℕ × Bits) DecodeError)
     → read_code (codes_of color) here ≡ q → run_turn color (total, here) ≡ Turn.done r
     → (rest : Bits) × Stands here (word_found (codes_of color) here) rest × RunEnds r rest
-run_ends color total here r (Err e) h k =
-    let g : ◌≡◌ {A = RunTurn} (Turn.done (Err e)) (Turn.done r) = rw (h, run_turn) at k in
-    (here, no_word_stands (codes_of color) here e h, subst (λ (x : Result (ℕ × Bits) DecodeError). RunEnds x here) (done_is _ r g) tt)
+run_ends color total here r (Err e) h k = grind (arith, common_steps, done_is, no_word_stands (codes_of color) here e h)
 run_ends color total here r (Ok found) h k =
     let g : run_of_word total found ≡ Turn.done r = rw (h, run_turn) at k in
     let stands = word_stands (codes_of color) here found.0 found.1 (run_word color found.0) h in
-    elim (chosen (ltb 4294967295 (total + found.0)) _ _ _ g) [
-      | inl a ↦ (found.1, stands, subst (λ (x : Result (ℕ × Bits) DecodeError). RunEnds x found.1) (done_is _ r a.1) tt)
-      | inr a ↦ elim (chosen (ltb found.0 64) _ _ _ a.1) [
-        | inl b ↦ (found.1, stands, subst (λ (x : Result (ℕ × Bits) DecodeError). RunEnds x found.1) (done_is _ r b.1) refl)
-        | inr b ↦ absurd (not_done r _ (sym b.1))
-      ]
-    ]
+    grind (arith, common_steps, chosen, done_is, not_done)
 
--- the words of a run stand in a row
+-- the words of a run are consecutive
 pub run_stands : (color : Color) (total : ℕ) (here : Bits) → (rest : Bits) × Stands here (run_found color (total, here)) rest
     × RunEnds (run_from color (total, here)) rest
 run_stands color total here =
@@ -149,39 +136,34 @@ abbrev pub LineEnds : Line → Bits → Type 0
 LineEnds (Line.whole row after) rest = after ≡ rest
 LineEnds (Line.broken front fault) rest = Unit {0}
 
--- what a turn finds stands in a row, up to where it goes on or ends
+-- what a turn finds is consecutive, up to where it continues or ends
 abbrev pub TurnStands : {A : Type 0} → Bits → (A → Bits) → Turn A Line → List Bits → Type 0
 TurnStands here rest_of (Turn.next x) found = Stands here found (rest_of x)
 TurnStands here rest_of (Turn.done line) found = (rest : Bits) × Stands here found rest × LineEnds line rest
 
--- what drawing finds stands in a row
+-- what drawing finds is consecutive
 abbrev pub DrawingStands : {A : Type 0} → Bits → (A → Bits) → Drawing A → Type 0
 DrawingStands here rest_of drawing = TurnStands here rest_of drawing.turn drawing.words
 
--- the bits behind a pen
+-- the bits after a pen
 abbrev pub rest_of_pen : Pen → Bits
 rest_of_pen pen = pen.rest
 
--- a turn behind words
+-- a turn after words
 pub turn_after : {A : Type 0} (here middle : Bits) (rest_of : A → Bits) (a b : List Bits) (turn : Turn A Line) → Stands here a middle
     → TurnStands middle rest_of turn b → TurnStands here rest_of turn (a ++ b)
 turn_after here middle rest_of a b (Turn.next x) p q = stands_append here middle (rest_of x) a b p q
 turn_after here middle rest_of a b (Turn.done line) p q = (q.0, stands_append here middle q.0 a b p q.1, q.2)
 
--- drawing, and what is drawn behind it
+-- drawing, and what is drawn after it
 pub behind_stands : {A B : Type 0} (here : Bits) (rest_of : A → Bits) (last_of : B → Bits) (drawing : Drawing A) (behind : A → Drawing B)
     → DrawingStands here rest_of drawing → ((x : A) → DrawingStands (rest_of x) last_of (behind x)) → DrawingStands here last_of (drawing >>= behind)
-behind_stands {A} {B} here rest_of last_of drawing behind stands each = by drawing.turn drawing.words stands
-  where
-    by : (turn : Turn A Line) (words : List Bits) → TurnStands here rest_of turn words
-        → TurnStands here last_of (turn_behind turn (λ x. (behind x).turn)) (words ++ words_behind turn (λ x. (behind x).words))
-    by (Turn.next x) words p = turn_after here (rest_of x) last_of words (behind x).words (behind x).turn p (each x)
-    by (Turn.done line) words p = (p.0, stands_append here p.0 p.0 words [] p.1 (stands_none p.0), p.2)
+behind_stands {A} {B} here rest_of last_of drawing behind stands each =
+    grind (arith, common_steps, stands_append, stands_none, turn_after)
 
 -- what finds no words
 wordless_stands : {A : Type 0} (here : Bits) (pen : Pen) (result : Result A DecodeError) → DrawingStands here (λ (x : A). here) (finds pen [] result)
-wordless_stands here pen (Ok x) = stands_none here
-wordless_stands here pen (Err fault) = (here, stands_none here, tt)
+wordless_stands here pen result = grind (arith, common_steps)
 
 -- a run that is read
 run_read_stands : (pen : Pen)
@@ -193,8 +175,7 @@ run_read_stands pen = by (run_from pen.color (0, pen.rest)) stands.2
 
     by : (r : Result (ℕ × Bits) DecodeError) → RunEnds r stands.0
         → TurnStands pen.rest (λ (run : ℕ × Bits). run.1) (unless_fault pen.front r) (run_found pen.color (0, pen.rest))
-    by (Ok run) ends = subst (λ (x : Bits). Stands pen.rest (run_found pen.color (0, pen.rest)) x) (sym ends) stands.1
-    by (Err fault) ends = (stands.0, stands.1, tt)
+    by r ends = grind (arith, common_steps, stands)
 
 mode_word : (v : Mode) (w : Bits) → Has mode_codes v w → IsWord w
 mode_word v w i = inr (v, i)
@@ -220,11 +201,7 @@ draw_run_stands strict columns pen =
 
 -- a full line finds nothing more
 pub unless_full_stands : (columns : ℕ) (pen : Pen) → DrawingStands pen.rest rest_of_pen (unless_full columns pen)
-unless_full_stands columns pen = by (leb columns (length pen.front))
-  where
-    by : (full : Bool) → TurnStands pen.rest rest_of_pen (cond full (Turn.done (Line.whole pen.front pen.rest)) (Turn.next pen)) []
-    by true = (pen.rest, stands_none pen.rest, refl)
-    by false = stands_none pen.rest
+unless_full_stands columns pen = grind (arith, common_steps)
 
 -- what a mode draws
 mode_stands : (strict : Bool) (columns : ℕ) (reference : Row) (pen : Pen) (mode : Mode) → DrawingStands pen.rest rest_of_pen (draw_mode strict columns reference pen mode)
@@ -268,18 +245,18 @@ pen_stands draw each n pen =
     (λ s r e. subst (λ (x : Turn Pen Line). TurnStands s.rest rest_of_pen x (draw s).words) e (each s))
     n pen
 
--- the words of a one-dimensional line stand in a row
+-- the words of a one-dimensional line are consecutive
 pub line_1d_stands : (strict : Bool) (columns : ℕ) (here : Bits) → (rest : Bits) × Stands here (found_1d strict columns here) rest
     × LineEnds (line_1d strict columns here) rest
 line_1d_stands strict columns here = pen_stands (draw_1d strict columns) (draw_1d_stands strict columns) (suc (length here)) (start here)
 
--- the words of a two-dimensional line stand in a row
+-- the words of a two-dimensional line are consecutive
 pub line_2d_stands : (strict : Bool) (columns : ℕ) (reference : Row) (here : Bits) → (rest : Bits)
     × Stands here (found_2d strict columns reference here) rest × LineEnds (line_2d strict columns reference here) rest
 line_2d_stands strict columns reference here =
     pen_stands (draw_2d strict columns reference) (draw_2d_stands strict columns reference) (suc (length here)) (start here)
 
--- ---- No EOL's one stands before their end.
+-- ---- No EOL's one precedes their end.
 ends_before : (tag : Bits) (words : List Bits) (here rest : Bits) → (HoldsZeros 11 (tag ++ joined words) → ⊥) → here ≡ (tag ++ joined words) ++ rest
     → (before after : Bits) → here ≡ before ++ replicate 11 false ++ true ∷ after → length (tag ++ joined words) < length before + 11
 ends_before tag words here rest free stand before after eol = elim (cases_lt (length (tag ++ joined words)) (length before + 11)) [
@@ -320,28 +297,20 @@ found_end Group4 strict columns reference here = let found
 -- ---- A whole line ends with the last of its words.
 whole_rest : (line : Line) (row : Row) (end rest here words : Bits) → line ≡ Line.whole row rest → LineEnds line end → here ≡ words ++ end
     → here ≡ words ++ rest
-whole_rest line row end rest here words whole ends is = let same : rest ≡ end = subst (λ (l : Line). LineEnds l end) whole ends in is
-    ∙ ap (λ (b : Bits). words ++ b) (sym same)
+whole_rest line row end rest here words whole ends is = grind (arith, common_steps)
 
 found_to_the_end : (encoding : EncodingMode) (strict : Bool) (columns : ℕ) (reference row : Row) (here rest : Bits)
     → line_by encoding strict columns reference here ≡ Line.whole row rest
     → here ≡ (tag_at encoding here ++ joined (line_found encoding strict columns reference here)) ++ rest
 found_to_the_end Group3_2D strict columns reference row [] rest whole = absurd cc
 found_to_the_end Group3_2D strict columns reference row (true ∷ here) rest whole =
-    let found = line_1d_stands strict columns here in
-    ap (λ (b : Bits). true ∷ b) (whole_rest (line_1d strict columns here) row found.0 rest here
-    (joined (found_1d strict columns here)) whole found.2 found.1.place)
+    grind (arith, common_steps, common_steps, line_1d_stands strict columns here, whole_rest)
 found_to_the_end Group3_2D strict columns reference row (false ∷ here) rest whole =
-    let found = line_2d_stands strict columns reference here in
-    ap (λ (b : Bits). false ∷ b) (whole_rest (line_2d strict columns reference here) row found.0 rest here
-    (joined (found_2d strict columns reference here)) whole found.2 found.1.place)
+    grind (arith, common_steps, common_steps, line_2d_stands strict columns reference here, whole_rest)
 found_to_the_end Group3_1D strict columns reference row here rest whole =
-    let found = line_1d_stands strict columns here in
-    whole_rest (line_1d strict columns here) row found.0 rest here (joined (found_1d strict columns here)) whole found.2 found.1.place
+    grind (arith, common_steps, line_1d_stands strict columns here, whole_rest (line_1d strict columns here) row)
 found_to_the_end Group4 strict columns reference row here rest whole =
-    let found = line_2d_stands strict columns reference here in
-    whole_rest (line_2d strict columns reference here) row found.0 rest here
-    (joined (found_2d strict columns reference here)) whole found.2 found.1.place
+    grind (arith, common_steps, common_steps, line_2d_stands strict columns reference here, whole_rest)
 
 -- the law
 pub words_synchronised : Synchronised

@@ -25,10 +25,11 @@ use Rattle.hayro_ccitt.proofs.DamagedLines.LinesByEols.{past_shorter, seeks}
 use Rattle.hayro_ccitt.proofs.DamagedLines.EolsAlike.{Closes, RestAlike, all_eols_alike}
 use Rattle.hayro_ccitt.proofs.DamagedLines.RunsAlike.{RowsAlike, EndsAlike, RunsAlike, IsTail, moves_alike}
 use Rattle.hayro_ccitt.proofs.DamagedLines.LineTails.{after_eol_is, is_tail}
+use Rattle.std.proofs.lemmas.Grind.{common_steps}
 
--- ---- From the ends of two runs to their answers
+-- ---- From the ends of two runs to their results
 
--- the count at a place
+-- the count at a position
 count_at : (bits : Bits) (rest : Bits) (place : ℕ) → place + length rest ≡ length bits → bytes_before bits (Ok rest) ≡ Ok ((place + 7) / 8)
 count_at bits rest place e = let sum : length bits - length rest ≡ place = omega (arith, e) in ap (λ (n : ℕ). Ok ((n + 7) / 8)) sum
 
@@ -53,7 +54,7 @@ module _ (settings : DecodeSettings) (wide : 0 < settings.columns) (one two : Bi
       → (plain settings bits).outcome ≡ bytes_before bits r
   outcome_of bits r e = ap (λ (a : Reading). a.outcome) (plain_is bits) ∙ ap (bytes_before bits) e
 
-  -- in both readings the line is read when these rows stand
+  -- in both readings the line is read after these rows
   abbrev Begins : List Row → Type 0
   Begins rows = Reaches (move_on settings) (first_line settings one) (sought rows x)
       × Reaches (move_on settings) (first_line settings two) (sought rows y)
@@ -64,7 +65,7 @@ module _ (settings : DecodeSettings) (wide : 0 < settings.columns) (one two : Bi
   comes_two : (rows : List Row) → Begins rows → ComesToLine settings two from (length rows)
   comes_two rows begins = (sought rows y, begins.1, y_is, refl)
 
-  -- what the law says of both answers
+  -- what the law says of both results
   abbrev Differ : Type 0
   Differ = OneRowDiffers settings one two from (plain settings one).rows (plain settings two).rows
       × EndAlike settings one two from (plain settings one).rows (plain settings one).outcome (plain settings two).outcome
@@ -73,12 +74,16 @@ module _ (settings : DecodeSettings) (wide : 0 < settings.columns) (one two : Bi
       → OneRowDiffers settings one two from (plain settings one).rows (plain settings two).rows
   rows_differ (inl e) = inl (rows_of two ∙ sym e ∙ sym (rows_of one))
   rows_differ (inr (before, a, b, more, e, f, begins)) =
-      inr (
-        length before,
-        b,
+      grind (
+        arith,
+        common_steps,
         comes_one before begins,
         comes_two before begins,
-        rows_of two ∙ f ∙ sym (ap (λ (l : List Row). set l (length before) b) (rows_of one ∙ e) ∙ set_at before a more b (length before) refl),
+        rows_of two,
+        rows_of one,
+        set,
+        set_at before
+            a more b (length before) refl,
       )
 
   ends_at : (bits : Bits) (rest : Bits) (place : ℕ) → (end_of settings bits).outcome ≡ Ok rest
@@ -91,7 +96,7 @@ module _ (settings : DecodeSettings) (wide : 0 < settings.columns) (one two : Bi
   shorter_y : length after < length y
   shorter_y = past_shorter 0 y after tail_y.next
 
-  -- readings that end alike give answers of which the law holds
+  -- readings that end alike have results of which the law is true
   pub answers_alike : EndsAlike settings Begins from x y after end_one end_two → Differ
   answers_alike (EndsAlike.faults fault e f rows) =
       (rows_differ rows, EndAlike.faults fault (outcome_of one (Err fault) e) (outcome_of two (Err fault) f))
@@ -130,7 +135,7 @@ module _ (settings : DecodeSettings) (wide : 0 < settings.columns) (one two : Bi
 
 -- ---- How the two runs begin
 
--- the bits before a place where an EOL ends: they end with eleven zeros and a one
+-- the bits before a position where an EOL ends: they end with eleven zeros and a one
 ends_eol : (bits : Bits) (from : ℕ) (place : ℕ) → IsEol bits place from → (front : Bits) × Closes front × (bits ≡ front ++ true ∷ drop from bits)
 ends_eol bits from place eol =
     let is = after_eol_is 0 (drop place bits) (drop from bits) eol.2 in
@@ -154,7 +159,7 @@ module _ (settings : DecodeSettings) (one two : Bits) (from : ℕ) (after : Bits
   abbrev first : Bits → Progress
   first bits = first_line settings bits
 
-  -- in both readings the line is read when these rows stand
+  -- in both readings the line is read after these rows
   abbrev Begun : List Row → Type 0
   Begun rows = Reaches (move_on settings) (first one) (sought rows (drop from one))
       × Reaches (move_on settings) (first two) (sought rows (drop from two))
@@ -166,10 +171,7 @@ module _ (settings : DecodeSettings) (one two : Bits) (from : ℕ) (after : Bits
   begin_there zero_from eol = RunsAlike.there [] (at one tail_one.none) (at two tail_two.none)
     where
       at : (bits : Bits) → after_eol 0 (drop from bits) ≡ None → first bits ≡ sought [] (drop from bits)
-      at bits none =
-          let all : drop from bits ≡ bits = ap (λ (n : ℕ). drop n bits) zero_from in
-          let counted : all_eols bits ≡ (0, bits) = all_eols-none bits (ap (after_eol 0) (sym all) ∙ none) in
-          first_is bits (drop from bits) (or_right (ltb 0 (all_eols bits).0) settings.end_of_line eol) (ap (λ (f : ℕ × Bits). f.1) counted ∙ sym all)
+      at bits none = grind (arith, common_steps, all_eols-none, first_is, or_right)
 
   begin_ahead : (front : Bits) → Closes front → one ≡ front ++ true ∷ drop from one → (ltb 0 (all_eols one).0 || settings.end_of_line) ≡ true
       → RunsAlike Begun from (drop from one) (drop from two) after (first one) (first two)
@@ -247,10 +249,7 @@ locality settings one are whole_one two from to to2 whole_two differ = by (cases
     no_columns e bits = cond-true (eqb settings.columns 0) _ _ (eq-eqb settings.columns 0 e)
 
     same_after : local_two.closes.0 ≡ local_one.closes.0
-    same_after =
-        let e : ◌≡◌ {A = Option Bits} (Some local_two.closes.0) (Some local_one.closes.0) = sym local_two.closes.1 ∙ ap (after_eol 0) (sym differ.behind)
-        ∙ local_one.closes.1 in
-        cc
+    same_after = grind (arith, common_steps)
 
     tail_one : IsTail settings.columns local_one.closes.0 (drop from one)
     tail_one = is_tail settings one from to local_one
@@ -261,10 +260,7 @@ locality settings one are whole_one two from to to2 whole_two differ = by (cases
     by : (settings.columns ≡ 0) ⊎ (settings.columns ≡ 0 → ⊥)
         → OneRowDiffers settings one two from (plain settings one).rows (plain settings two).rows
         × EndAlike settings one two from (plain settings one).rows (plain settings one).outcome (plain settings two).outcome
-    by (inl e) = (
-      inl (ap (λ (a : Reading). a.rows) (no_columns e two ∙ sym (no_columns e one))),
-      EndAlike.no_columns e (ap (λ (a : Reading). a.outcome) (no_columns e one)) (ap (λ (a : Reading). a.outcome) (no_columns e two)),
-    )
+    by (inl e) = grind (arith, common_steps)
     by (inr e) =
         let wide : 0 < settings.columns = elim (cases_lt 0 settings.columns) [ inl lt ↦ lt | inr ge ↦ absurd (e (omega arith)) ] in
         let fits_one : from ≤ length one = omega (arith, local_one.order, local_one.within) in
@@ -275,7 +271,7 @@ locality settings one are whole_one two from to to2 whole_two differ = by (cases
         answers_alike settings wide one two from (drop from one) (drop from two) local_one.closes.0 whole_one whole_two
         (omega (arith, fits_one, length-drop from one)) (omega (arith, fits_two, length-drop from two)) refl refl tail_one tail_two ends
 
--- a run that gave the rows and the outcome of the plain reading has what the law says
+-- a run with the rows and the result of the plain reading has what the law says
 pub damage_stays : (settings : DecodeSettings) (bits : Bits) (rows : List Row) (outcome : Result ℕ DecodeError) → AreSettings settings → AreWholeBytes bits
     → rows ≡ (plain settings bits).rows → outcome ≡ (plain settings bits).outcome → DamageStaysInRow settings bits rows outcome
 damage_stays settings bits rows outcome are whole rows_are outcome_is = rw (rows_are, outcome_is) (locality settings bits are whole)

@@ -1,4 +1,4 @@
--- EOLs of two data that are equal up to one place, where an EOL ends and none begins.
+-- EOLs of two data that are equal up to one position, where an EOL ends and none begins.
 use Rattle.std.proofs.Common.{◌≡◌, ℕ, zero, suc, ◌<◌, ◌≤◌, Bool, true, false, cond, leb, [], ◌∷◌, ◌++◌, length, replicate, Option, Some, None}
 use Rattle.std.proofs.Common.{refl, sym, ap, ◌∙◌, append_assoc, arith, ◌⊎◌, inl, inr}
 use Rattle.std.proofs.lemmas.List.{length-append}
@@ -7,12 +7,13 @@ use Rattle.hayro_ccitt.specs.EndOfLine.{after_eol, all_eols}
 use Rattle.hayro_ccitt.proofs.DamagedLines.PastEol.{past, all_eols-some, all_eols-none}
 use Rattle.hayro_ccitt.proofs.BitReading.ZerosInWords.{scan, scan_holds}
 use Rattle.hayro_ccitt.proofs.DamagedLines.LinesBeforeEol.{Inside}
+use Rattle.std.proofs.lemmas.Grind.{common_steps}
 
 -- bits that end with the zeros of an EOL
 abbrev pub Closes : Bits → Type 0
 Closes bits = (first : Bits) × (bits ≡ first ++ replicate 11 false)
 
--- no zeros hold a one
+-- no zeros contain a one
 pub no_one : (n : ℕ) (before after : Bits) → before ++ true ∷ after ≡ replicate n false → ⊥
 no_one zero [] after e = absurd cc
 no_one zero (b ∷ before) after e = absurd cc
@@ -26,7 +27,7 @@ closes_after [] after (b ∷ first) e = (first, cc)
 closes_after (b ∷ before) after [] e = absurd (no_one 11 (b ∷ before) after e)
 closes_after (b ∷ before) after (c ∷ first) e = closes_after before after first (let f : before ++ true ∷ after ≡ first ++ replicate 11 false = cc in f)
 
--- what ends in eleven zeros holds them
+-- what ends with eleven zeros contains them
 pub closes_inside : (bits : Bits) → Closes bits → Inside bits
 closes_inside bits closes = record { holds = ap (scan 3) closes.1 ∙ scan_holds 3 closes.0 [] (omega arith); last = ([], closes.0, closes.1) }
 
@@ -46,13 +47,9 @@ module _ (x y : Bits) where
   EolAlike bits o p = ((before after : Bits) × (bits ≡ before ++ true ∷ after) × (o ≡ Some (after ++ true ∷ x)) × (p ≡ Some (after ++ true ∷ y)))
       ⊎ (((o ≡ Some x) × (p ≡ Some y)) ⊎ ((o ≡ None) × (p ≡ None)))
 
-  -- an EOL that stands before the one in the one data stands there in the other
+  -- an EOL before the one in the one data is there in the other
   pub after_eol_alike : (seen : ℕ) (bits : Bits) → EolAlike bits (after_eol seen (bits ++ true ∷ x)) (after_eol seen (bits ++ true ∷ y))
-  after_eol_alike seen [] = by (leb 11 seen)
-    where
-      by : (b : Bool) → EolAlike [] (cond b (Some x) None) (cond b (Some y) None)
-      by true = inr (inl (refl, refl))
-      by false = inr (inr (refl, refl))
+  after_eol_alike seen [] = grind (arith, common_steps)
   after_eol_alike seen (false ∷ bits) = elim (after_eol_alike (suc seen) bits) [
     | inl a ↦ inl (false ∷ a.0, a.1, ap (λ (z : Bits). false ∷ z) a.2, a.3, a.4)
     | inr a ↦ inr a
@@ -70,11 +67,7 @@ module _ (x y : Bits) where
 
   -- the next EOL ends alike in both
   pub past_alike : (seen : ℕ) (bits : Bits) → PastAlike bits (past seen (bits ++ true ∷ x)) (past seen (bits ++ true ∷ y))
-  past_alike seen [] = by (leb 11 seen)
-    where
-      by : (b : Bool) → PastAlike [] (cond b (Some x) (past 0 x)) (cond b (Some y) (past 0 y))
-      by true = inr (inl (refl, refl))
-      by false = inr (inr (refl, refl))
+  past_alike seen [] = grind (arith, common_steps)
   past_alike seen (false ∷ bits) = elim (past_alike (suc seen) bits) [
     | inl a ↦ inl (false ∷ a.0, a.1, ap (λ (z : Bits). false ∷ z) a.2, a.3, a.4)
     | inr a ↦ inr a
@@ -119,17 +112,17 @@ module _ (x y : Bits) where
               ],
             )
         by on o p e f (inr (inl a)) =
-            rw (
-              all_eols-some (bits ++ true ∷ x) x (e ∙ a.0),
-              all_eols-some (bits ++ true ∷ y) y
-                  (f ∙ a.1),
+            grind (
+              arith,
+              common_steps,
               all_eols-none x none_x,
               all_eols-none y none_y,
-            ) (refl, inr (refl, refl))
-        by on o p e f (inr (inr a)) =
-            rw (all_eols-none (bits ++ true ∷ x) (e ∙ a.0), all_eols-none (bits ++ true ∷ y) (f ∙ a.1))
-            (refl, inl (bits, omega arith, λ closes. closes, refl, refl))
+              all_eols-some (bits ++ true ∷ x) x (e ∙
+                  a.0),
+              all_eols-some (bits ++ true ∷ y) y (f ∙ a.1),
+            )
+        by on o p e f (inr (inr a)) = grind (arith, common_steps, all_eols-none)
 
-    -- the EOLs that stand in a row are alike in both
+    -- the consecutive EOLs are alike in both
     pub all_eols_alike : (bits : Bits) → CountAlike bits (all_eols (bits ++ true ∷ x)) (all_eols (bits ++ true ∷ y))
     all_eols_alike bits = count_for (suc (length bits)) bits (omega arith)

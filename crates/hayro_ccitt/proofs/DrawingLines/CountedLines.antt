@@ -21,7 +21,7 @@ use Rattle.hayro_ccitt.specs.Rows.{Row, paint}
 use Rattle.hayro_ccitt.specs.Runs.{run_from}
 use Rattle.hayro_ccitt.specs.Ticks.{run_found, word_found}
 
--- painting finds no word, nor does what goes on behind it
+-- painting finds no word, nor does what follows it
 none_painted : {A : Type 0} (front : Row) (result : Result A DecodeError) → ◌≡◌ {A = List Bits} ([] ++ words_behind (unless_fault front result) (λ x. [])) []
 none_painted front (Ok x) = refl
 none_painted front (Err fault) = refl
@@ -52,7 +52,7 @@ found_1d_from strict columns pen = words_drawn (draw_1d strict columns) pen
 abbrev pub found_2d_from : Bool → ℕ → Row → Pen → List Bits
 found_2d_from strict columns reference pen = words_drawn (draw_2d strict columns reference) pen
 
--- where a row isn't full, a step finds what its drawing does
+-- if a row isn't full, a step finds what its drawing does
 unless_full_words : (full : Bool) (line : Line) (pen : Pen) (words : Pen → List Bits) → full ≡ false
     → ◌≡◌ {A = List Bits} ([] ++ words_behind (cond full (Turn.done line) (Turn.next pen)) words) (words pen)
 unless_full_words true line pen words open_row = absurd (false≢true (sym open_row))
@@ -64,7 +64,7 @@ unless_full_step : (full : Bool) (line : Line) (pen : Pen) (step : Pen → Step)
 unless_full_step true line pen step open_row = absurd (false≢true (sym open_row))
 unless_full_step false line pen step open_row = refl
 
--- what a step of a two-dimensional line finds and comes to, where its row isn't full
+-- what a step of a two-dimensional line finds and yields, if its row isn't full
 abbrev mode_words : Bool → ℕ → Row → Pen → List Bits
 mode_words strict columns reference pen =
     word_found mode_codes pen.rest ++ words_behind (unless_fault pen.front (read_code mode_codes pen.rest)) (λ mode. (draw_mode strict columns reference (record pen { rest = mode.1 }) mode.0).words)
@@ -73,7 +73,7 @@ abbrev mode_turn : Bool → ℕ → Row → Pen → Step
 mode_turn strict columns reference pen =
     try pen.front (read_code mode_codes pen.rest) (λ mode. mode_step strict columns reference (record pen { rest = mode.1 }) mode.0)
 
--- a one-dimensional line whose row isn't full finds the words of its next run, and then those behind it
+-- a one-dimensional line whose row isn't full finds the words of its next run, and then those after it
 pub found_1d_on : (strict : Bool) (columns : ℕ) (pen : Pen) → length pen.front < columns
     → found_1d_from strict columns pen ≡ (draw_run strict columns pen).words ++ found_after (found_1d_from strict columns) (draw_run strict columns pen).turn
 found_1d_on strict columns pen open_row =
@@ -83,7 +83,7 @@ found_1d_on strict columns pen open_row =
     ∙ ap (λ (step : Step). (draw_run strict columns pen).words ++ found_after (found_1d_from strict columns) step)
     (unless_full_step (leb columns (length pen.front)) (Line.whole pen.front pen.rest) pen (λ pen. (draw_run strict columns pen).turn) (lt-leb columns (length pen.front) open_row))
 
--- a two-dimensional line whose row isn't full finds what reading and drawing its next mode does, and then the words behind it
+-- a two-dimensional line whose row isn't full finds what reading and drawing its next mode does, and then the words after it
 found_2d_turn : (strict : Bool) (columns : ℕ) (reference : Row) (pen : Pen) → length pen.front < columns
     → found_2d_from strict columns reference pen ≡ mode_words strict columns reference pen ++ found_after (found_2d_from strict columns reference) (mode_turn strict columns reference pen)
 found_2d_turn strict columns reference pen open_row =
@@ -93,7 +93,7 @@ found_2d_turn strict columns reference pen open_row =
     ∙ ap (λ (step : Step). mode_words strict columns reference pen ++ found_after (found_2d_from strict columns reference) step)
     (unless_full_step (leb columns (length pen.front)) (Line.whole pen.front pen.rest) pen (mode_turn strict columns reference) (lt-leb columns (length pen.front) open_row))
 
--- so where a mode stands, its word, those of its drawing, and those behind it
+-- so if there is a mode, its word, those of its drawing, and those after it
 pub found_2d_on : (strict : Bool) (columns : ℕ) (reference : Row) (pen : Pen) (mode : Mode) (rest : Bits) → length pen.front < columns
     → read_code mode_codes pen.rest ≡ Ok (mode, rest)
     → length (found_2d_from strict columns reference pen) ≡ 1 + length (draw_mode strict columns reference (record pen { rest = rest }) mode).words
@@ -113,7 +113,7 @@ found_2d_on strict columns reference pen mode rest open_row reads =
 
 -- ---- What the calls that draw a step need of them.
 
--- a context whose row isn't full, in a one-dimensional line: the words of its next run, and those behind it
+-- a context whose row isn't full, in a one-dimensional line: the words of its next run, and those after it
 pub counted_by_run : (before now : Held) (at : Bits) → now ≡ redrawn before now.front now.color → length now.front < now.settings.columns
     → length (found_1d_from before.settings.strict before.settings.columns (pen_of now at))
     ≡ length (words_of_run now at) + length (found_after (found_1d_from before.settings.strict before.settings.columns) (step_of_run now at))
@@ -123,7 +123,7 @@ counted_by_run before now at kept open_row =
     ≡ length (words_of_run now at) + length (found_after (found_1d_from s.strict s.columns) (step_of_run now at))) (ap (λ (h : Held). h.settings) kept)
     (ap length (found_1d_on now.settings.strict now.settings.columns (pen_of now at) open_row) ∙ length-append (words_of_run now at) words)
 
--- and in a two-dimensional one: the word of the mode that is read, those of its drawing, and those behind it
+-- and in a two-dimensional one: the word of the mode that is read, those of its drawing, and those after it
 pub counted_by_mode : (before now : Held) (at rest : Bits) (mode : Mode) → now ≡ redrawn before now.front now.color → length now.front < now.settings.columns
     → read_code mode_codes at ≡ Ok (mode, rest)
     → length (found_2d_from before.settings.strict before.settings.columns before.reference (pen_of now at))
@@ -145,15 +145,15 @@ none_after_fault rest step Overflow pen is draws = rw draws refl
 none_after_fault rest step OutOfMemory pen is draws = absurd is
 none_after_fault rest step Refused pen is draws = absurd is
 
--- Between two modes of a line, of whose words so many were to be found and so many are still to come: each word found
--- was counted, as were the changes passed and three more for each word, and nothing where there are no words.
+-- Between two modes of a line, of whose words some are found and some are still to come: each word found was counted,
+-- as were the changes passed and three more for each word, and nothing if there are no words.
 pub record IsCountedSoFar (changes begun now passed all left : ℕ) : Type 0 where
   pub at_least : begun + all ≤ now + left
   pub at_most : now + 4 * left ≤ begun + 4 * all + passed
   pub within : passed ≤ changes
   pub no_words : all ≡ 0 → (now ≡ begun) × (left ≡ 0)
 
--- what follows from what holds of an answer holds of it as well
+-- what follows from what is true of a result is true of it as well
 pub on_answer_weaker : {T P Q : Type 0} (result : Result T DecodeError) → (P → Q) → OnAnswer result P → OnAnswer result Q
 on_answer_weaker (Ok x) follows p = follows p
 on_answer_weaker (Err fault) follows p = λ is. follows (p is)

@@ -1,4 +1,4 @@
--- The turns of drawing, one behind another.
+-- The turns of drawing, one after another.
 use Rattle.std.proofs.Common.{◌≡◌, ℕ, suc, Bool, true, false, cond, leb, [], length, Result, Ok, Err, refl}
 use Rattle.hayro_ccitt.specs.declared.codes.Mode.{Mode}
 use Rattle.hayro_ccitt.specs.declared.codes.Mode.TheVariants.{Horizontal}
@@ -17,7 +17,7 @@ use Rattle.hayro_ccitt.specs.Lines.{Line, Pen, turn_behind, unless_fault, draw_r
 abbrev pub try : {A : Type 0} → Row → Result A DecodeError → (A → Step) → Step
 try front result behind = turn_behind (unless_fault front result) behind
 
--- a run that is read and painted, and a step behind it
+-- a run that is read and painted, and a step after it
 abbrev pub run_then : Bool → ℕ → Pen → (Pen → Step) → Step
 run_then strict columns pen behind = try pen.front (run_from pen.color (0, pen.rest)) (λ run.
     try pen.front (paint strict columns pen.front pen.color run.0) (λ front.
@@ -57,7 +57,7 @@ pub step_2d_is : (strict : Bool) (columns : ℕ) (reference : Row) (pen : Pen)
 step_2d_is strict columns reference pen =
     unless_full_is (leb columns (length pen.front)) (Line.whole pen.front pen.rest) pen (λ p. try p.front (read_code mode_codes p.rest) (λ mode. mode_step strict columns reference (record p { rest = mode.1 }) mode.0))
 
--- a step behind a run is the run, and then that step
+-- a step after a run is the run, and then that step
 pub run_then_is : (strict : Bool) (columns : ℕ) (pen : Pen) (behind : Pen → Step) → run_then strict columns pen behind ≡ turn_behind (draw_run strict columns pen).turn behind
 run_then_is strict columns pen behind = by (run_from pen.color (0, pen.rest))
   where

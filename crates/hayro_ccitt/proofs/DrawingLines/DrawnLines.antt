@@ -27,7 +27,7 @@ use Rattle.hayro_ccitt.proofs.DrawingLines.ReadLines.{draw_mode_next, modes_not_
 use Rattle.hayro_ccitt.proofs.CodeWords.ReadRuns.{chosen, read_code_shorter}
 use Rattle.hayro_ccitt.proofs.Readings.Repeated.{Shrinks, after_turn}
 
--- ---- What painting gives.
+-- ---- What painting yields.
 
 -- what was painted is the front and some more pixels of the colour
 pub paint_ok : (strict : Bool) (columns : ℕ) (front : Row) (color : Color) (n : ℕ) (row : Row) → paint strict columns front color n ≡ Ok row → (k : ℕ) × (front ++ replicate k (is_black color) ≡ row)
@@ -38,7 +38,7 @@ paint_ok strict columns front color n row e = elim (chosen (strict && ltb (colum
 
 -- ---- A front that ends at a change.
 
--- a row that goes on further has the same change
+-- a row that continues further has the same change
 later_change : (row front more : Row) → StopsAtChange row front → StopsAtChange (row ++ more) front
 later_change row front more stops =
     (stops.0, stops.1 ++ more, ap (λ (r : Row). r ++ more) stops.2 ∙ append_assoc front (stops.0 ∷ stops.1) more, stops.3)
@@ -54,7 +54,7 @@ other_pixels : (front : Row) (color : Color) (k : ℕ) → length front < length
 other_pixels front color zero more other = absurd (omega (arith, length-append front (replicate zero (is_black color))))
 other_pixels front color (suc k) more other = (is_black color, replicate k (is_black color), refl, λ e. other (sym e))
 
--- where a change is stored, the front that stands ends at a change of the new row
+-- if a change is stored, the front ends at a change of the new row
 pub stores_change : (held : Held) (count : ℕ) → (stored : StoresChange held count) → StopsAtChange stored.0 held.front
 stores_change held count stored =
     let p = paint_ok held.settings.strict held.settings.columns held.front held.color count stored.0 stored.1 in
@@ -77,11 +77,11 @@ change_has_black row front stops = subst HasBlack (sym stops.2) (by stops.0 stop
     by true other = Contains-append_right front (true ∷ stops.1) true (first_black stops.1)
     by false other = Contains-append_left front (false ∷ stops.1) true (last_black false front refl (λ e. other (sym e)))
 
--- a line that is cut off for want of memory has a black pixel
+-- a line that is cut off by an allocation failure has a black pixel
 pub memory_has_black : (line : Line) (front : Row) (rest : Bits) → DrawsLine line (Err OutOfMemory) front rest → HasBlack (front_of line)
 memory_has_black line front rest draws = change_has_black (front_of line) front draws
 
--- ---- What a step answers.
+-- ---- What a step returns.
 
 -- a fault of the data ends the line with the front that is left
 pub fault_ends : (step : Step) (e : DecodeError) (pen : Pen) → IsFault e → step ≡ Turn.done (Line.broken pen.front e) → DrawsStep step (Err e) pen
@@ -91,13 +91,13 @@ fault_ends step Overflow pen fault e = e
 fault_ends step OutOfMemory pen fault e = absurd fault
 fault_ends step Refused pen fault e = absurd fault
 
--- why painting so many pixels is refused
+-- why painting this many pixels is refused
 pub record IsUnpainted (held : Held) (count : ℕ) (e : DecodeError) : Type 0 where
   pub too_many : ◌≡◌ {A = Result (Unit {0}) DecodeError} (Err e) (Err InvalidCode) → paint held.settings.strict held.settings.columns held.front held.color count ≡ Err InvalidCode
   pub memory : ◌≡◌ {A = Result (Unit {0}) DecodeError} (Err e) (Err OutOfMemory) → StoresChange held count
   pub only : (e ≡ InvalidCode) ⊎ (e ≡ OutOfMemory)
 
--- what an answer of painting says, where it is an error
+-- what a result of painting says, if it is an error
 pub unpainted : (held : Held) (count : ℕ) (r : Result (Unit {0}) DecodeError) (e : DecodeError) → r ≡ Err e
     → ((r ≡ Err InvalidCode) ↔ (paint held.settings.strict held.settings.columns held.front held.color count ≡ Err InvalidCode))
     → (r ≡ Err OutOfMemory → StoresChange held count) → IfErr r (λ e. (e ≡ InvalidCode) ⊎ (e ≡ OutOfMemory)) → IsUnpainted held count e
@@ -107,7 +107,7 @@ unpainted held count r e is too_many memory only = record {
   only = subst (λ (r : Result (Unit {0}) DecodeError). IfErr r (λ e. (e ≡ InvalidCode) ⊎ (e ≡ OutOfMemory))) is only;
 }
 
--- an error of painting is that of the step that paints and goes on
+-- an error of painting is that of the step that paints and continues
 pub paint_fails : (held : Held) (count : ℕ) (go_on : Row → Step) (e : DecodeError) (pen : Pen) → pen.front ≡ held.front → IsUnpainted held count e → ((row : Row) → StopsAtChange row held.front → StopsAtChange (front_after (go_on row)) held.front)
     → DrawsStep (try held.front (paint held.settings.strict held.settings.columns held.front held.color count) go_on) (Err e) pen
 paint_fails held count go_on e pen same unpainted keeps = elim unpainted.only [
@@ -115,7 +115,7 @@ paint_fails held count go_on e pen same unpainted keeps = elim unpainted.only [
   | inr is ↦ let stored = unpainted.memory (rw is refl) in rw (is, stored.1, same) (keeps stored.0 (stores_change held count stored))
 ]
 
--- a step that paints and keeps the colour, where the painting answers this
+-- a step that paints and keeps the colour, if the painting returns this
 pub paint_draws : (held new : Held) (count : ℕ) (rest : Bits) (r : Result (Unit {0}) DecodeError) → OnOk r (paint held.settings.strict held.settings.columns held.front held.color count ≡ Ok new.front)
     → OnOk r (new ≡ redrawn held new.front held.color) → OnErr r (new ≡ held) → ((e : DecodeError) → r ≡ Err e → IsUnpainted held count e)
     → DrawsStep (try held.front (paint held.settings.strict held.settings.columns held.front held.color count) (λ front. Turn.next (record (pen_of held rest) { front = front }))) r (pen_of new rest)
@@ -131,16 +131,16 @@ pass_draws old held new count rest r same counts draws =
     let at_old = subst (λ (h : Held). DrawsStep (try h.front (paint h.settings.strict h.settings.columns h.front h.color count) (λ front. Turn.next (record (pen_of h rest) { front = front }))) r (pen_of new rest)) same draws in
     subst (λ (n : ℕ). DrawsStep (try old.front (paint old.settings.strict old.settings.columns old.front old.color n) (λ front. Turn.next (record (pen_of old rest) { front = front }))) r (pen_of new rest)) counts at_old
 
--- the place of a vertical mode, where it fits in 32 bits and is not left of the pixels painted
+-- the position of a vertical mode, where it fits in 32 bits and is not left of the pixels painted
 pub place_ok : (painted p : ℕ) (z : ℤ) → z ≡ pos p → p ≤ 4294967295 → painted ≤ p → place_from painted z ≡ Ok p
 place_ok painted p z is fits above = rw (is, le-leb painted p above, le-leb p 4294967295 fits) refl
 
--- what is known of a value that stands where a fact holds
+-- what is known of a value for which a fact is true
 pub some_where : {P : Type 0} {v : ℕ} (o : Option ℕ) (x : ℕ) → SomeIff o P v → o ≡ Some x → P × (x ≡ v)
 some_where None x iff is = absurd (let f : ◌≡◌ {A = Option ℕ} None (Some x) = is in cc)
 some_where {P} {v} (Some y) x iff is = let same : y ≡ x = cc in (iff.0, sym same ∙ iff.1)
 
--- a sum that fits in 32 bits unsigned is a place
+-- a sum that fits in 32 bits unsigned is a position
 pub place_of : (z : ℤ) (o : Option ℕ) (p : ℕ) → SomeIff o (FitsUnsigned w32 z) (nat_abs z) → o ≡ Some p → (z ≡ pos p) × (p ≤ 4294967295)
 place_of (pos n) o p iff is = let a = some_where o p iff is in (ap (λ (m : ℕ). pos m) (sym a.1), omega (arith, ints, a.0.1, a.1))
 place_of (negsuc n) o p iff is = absurd (let a = some_where o p iff is in omega (arith, ints, a.0.0))
@@ -167,9 +167,9 @@ run_unpainted held new n rest after e reads same unpainted =
     let whole : step_of_run held rest ≡ try held.front (paint held.settings.strict held.settings.columns held.front held.color n) go_on = rw reads refl in
     subst (λ (s : Step). DrawsStep s (Err e) (pen_of new after)) (sym whole) (paint_fails held n go_on e (pen_of new after) (ap (λ (h : Held). h.front) same) unpainted (λ row stops. stops))
 
--- ---- A step keeps what is painted: a change behind a front that stood is there in the finished row.
+-- ---- A step keeps what is painted: a change after the earlier front is in the finished row.
 
--- where a front has a change behind the front that stood, a step from it has it too
+-- if a front has a change after the earlier front, a step from it has it too
 abbrev Keeps : Row → (Pen → Step) → Type 0
 Keeps stood go_on = (pen : Pen) → StopsAtChange pen.front stood → StopsAtChange (front_after (go_on pen)) stood
 
@@ -215,7 +215,7 @@ step_1d_keeps stood strict columns pen stops =
     (keeps_either stood (leb columns (length pen.front)) (Turn.done (Line.whole pen.front pen.rest)) (run_then strict columns pen Turn.next) stops
     (draw_run_keeps stood strict columns pen Turn.next (λ q h. h) stops))
 
--- a line keeps the change that it goes on from
+-- a line keeps the change that it continues from
 keeps_on : (stood : Row) (step : Pen → Step) → Shrinks step left → Keeps stood step → (n : ℕ) (pen : Pen) → left pen < n → StopsAtChange pen.front stood → StopsAtChange (front_of (repeated step (Line.broken [] UnexpectedEof) n pen)) stood
 keeps_on stood step shrinks keeps zero pen lt stops = absurd (omega arith)
 keeps_on stood step shrinks keeps (suc n) pen lt stops = by (λ p small h. keeps_on stood step shrinks keeps n p small h) (step pen) refl (keeps pen stops)
@@ -231,7 +231,7 @@ keeps_after : (stood : Row) (step : Pen → Step) → Shrinks step left → Keep
 keeps_after stood step shrinks keeps (Turn.next pen) stops = keeps_on stood step shrinks keeps (suc (length pen.rest)) pen (omega arith) stops
 keeps_after stood step shrinks keeps (Turn.done line) stops = stops
 
--- a line that isn't full goes on with a run, or with a mode
+-- a line that isn't full continues with a run, or with a mode
 pub run_open : (strict : Bool) (columns : ℕ) (pen : Pen) → length pen.front < columns
     → drawn_by (step_1d strict columns) pen ≡ after_turn (drawn_by (step_1d strict columns)) (run_then strict columns pen Turn.next)
 run_open strict columns pen open_row =
@@ -250,7 +250,7 @@ pub line_mode : (strict : Bool) (columns : ℕ) (reference : Row) (pen : Pen) (m
     → drawn_by (step_2d strict columns reference) pen ≡ after_turn (drawn_by (step_2d strict columns reference)) (mode_step strict columns reference (record pen { rest = rest }) mode)
 line_mode strict columns reference pen mode rest open_row reads = line_open strict columns reference pen open_row ∙ rw reads refl
 
--- ---- What a line answers.
+-- ---- What a line returns.
 
 -- an error of a step is that of the line
 fails_by : (step : Pen → Step) → Shrinks step left → ((stood : Row) → Keeps stood step) → (line : Line) (turn : Step) (e : DecodeError) (pen : Pen) → line ≡ after_turn (drawn_by step) turn
@@ -269,7 +269,7 @@ pub line_2d_fails : (strict : Bool) (columns : ℕ) (reference : Row) (line : Li
     → DrawsStep step (Err e) pen → DrawsLine line (Err e) pen.front pen.rest
 line_2d_fails strict columns reference = fails_by (step_2d strict columns reference) (step_2d_shrinks strict columns reference) (λ stood. step_2d_keeps stood strict columns reference)
 
--- the line of a context whose row isn't full is what comes of the run that is drawn
+-- if the row isn't full, the line of a context is what comes of the run that is drawn
 pub line_by_run : (before now : Held) (line : Line) (at : Bits) → now ≡ redrawn before now.front now.color
     → drawn_by (step_1d before.settings.strict before.settings.columns) (pen_of now at) ≡ line → length now.front < now.settings.columns
     → line ≡ after_turn (drawn_by (step_1d before.settings.strict before.settings.columns)) (step_of_run now at)
@@ -280,7 +280,7 @@ line_by_run before now line at kept so_far open_row =
     sym so_far ∙ run_open before.settings.strict before.settings.columns (pen_of now at) columns
     ∙ ap (λ (s : DecodeSettings). after (run_then s.strict s.columns (pen_of now at) Turn.next)) (sym settings)
 
--- the line of a context whose row isn't full is what comes of the mode that is read
+-- if the row isn't full, the line of a context is what comes of the mode that is read
 pub line_by_mode : (before now : Held) (line : Line) (at rest : Bits) (mode : Mode) → now ≡ redrawn before now.front now.color
     → drawn_by (step_2d before.settings.strict before.settings.columns before.reference) (pen_of now at) ≡ line → length now.front < now.settings.columns → read_code mode_codes at ≡ Ok (mode, rest)
     → line ≡ after_turn (drawn_by (step_2d before.settings.strict before.settings.columns before.reference)) (step_of_mode now rest mode)
@@ -298,7 +298,7 @@ pub open_by : (full : Bool) (n columns : ℕ) → full ≡ false → (columns �
 open_by true n columns e said = absurd (false≢true (sym e))
 open_by false n columns e said = elim (cases_lt n columns) [ inl lt ↦ lt | inr ge ↦ absurd (false≢true (said ge)) ]
 
--- a mode that is read and drawn takes bits
+-- a mode that is read and drawn consumes bits
 pub mode_shorter : (strict : Bool) (columns : ℕ) (reference : Row) (pen t : Pen) (at : Bits) (mode : Mode) → read_code mode_codes at ≡ Ok (mode, pen.rest) → mode_step strict columns reference pen mode ≡ Turn.next t → length t.rest < length at
 mode_shorter strict columns reference pen t at mode reads draws =
     omega (arith, draw_mode_next strict columns reference pen mode t draws, read_code_shorter mode_codes at mode pen.rest modes_not_empty reads)
@@ -323,14 +323,14 @@ second_run held new rest after r pen first kept second =
     let whole : step_of_mode held rest Horizontal ≡ behind (pen_of new after) = ap (λ (step : Step). turn_behind step behind) first in
     subst (λ (s : Step). DrawsStep s r pen) (sym whole) (subst (λ (s : DecodeSettings). DrawsStep (run_then s.strict s.columns (pen_of new after) Turn.next) r pen) settings second)
 
--- two runs, where the first is refused
+-- two runs, if the first is refused
 pub first_run_fails : (held : Held) (rest : Bits) (left : Pen) (e : DecodeError) → DrawsStep (step_of_run held rest) (Err e) left → DrawsStep (step_of_mode held rest Horizontal) (Err e) left
 first_run_fails held rest left e draws =
     behind_fails (λ pen. run_then held.settings.strict held.settings.columns pen Turn.next) (step_of_run held rest) e left
     (λ p stops. draw_run_keeps left.front held.settings.strict held.settings.columns p Turn.next (λ q g. g) stops) draws
 
--- Between two steps of a line: the line from the pen on is the whole line; all but the front and the colour of the
--- context stands.
+-- Between two steps of a line: the line from the pen on is the whole line; nothing but the front and the colour of the
+-- context has changed.
 pub record IsDrawnSoFar (step : Pen → Step) (before now : Context) (begun at : BitsAt) : Type 0 where
   pub line : drawn_by step (pen_of now.held (here at)) ≡ drawn_by step (start (here begun))
   pub held : now.held ≡ redrawn before.held now.held.front now.held.color

@@ -16,12 +16,12 @@ use Rattle.hayro_ccitt.specs.Lines.{Line, Pen, Drawing, start, drawn, turn_behin
 use Rattle.hayro_ccitt.specs.PlainReading.{line_by}
 use Rattle.hayro_ccitt.proofs.Readings.Repeated.{repeated_keeps}
 
--- a turn goes on with what has a property, or with a line of at most so many pixels
+-- a turn continues with what has a property, or with a line of at most this width
 abbrev pub Holds : {A : Type 0} → ℕ → (A → Type 0) → Turn A Line → Type 0
 Holds columns P (Turn.next x) = P x
 Holds columns P (Turn.done line) = length (front_of line) ≤ columns
 
--- a front has at most so many pixels
+-- a front has at most this many pixels
 abbrev pub IsWithin : ℕ → Row → Type 0
 IsWithin columns front = length front ≤ columns
 

@@ -1,4 +1,4 @@
--- What a line leaves are the last of the bits that it began with.
+-- What a line leaves is a suffix of the bits that it began with.
 use Rattle.std.proofs.Common.{◌≡◌, ℕ, suc, ◌+◌, Bool, true, false, cond, ltb, leb, [], ◌++◌, length, Result, Ok, Err, refl, sym, ap, subst, ◌∙◌, append_assoc}
 use Rattle.hayro_ccitt.specs.declared.codes.Color.{Color}
 use Rattle.hayro_ccitt.specs.declared.error.DecodeError.{DecodeError}
@@ -14,11 +14,11 @@ use Rattle.hayro_ccitt.specs.Answers.{Step}
 use Rattle.hayro_ccitt.proofs.Readings.Repeated.{repeated_keeps}
 use Rattle.hayro_ccitt.proofs.CodeWords.ReadCodes.{read_code_found}
 
--- the second bits are the last of the first
+-- the second bits are a suffix of the first
 abbrev pub Leaves : Bits → Bits → Type 0
 Leaves here rest = (before : Bits) × (here ≡ before ++ rest)
 
--- the last of the last are the last
+-- a suffix of a suffix is a suffix
 pub leaves_trans : (a b c : Bits) → Leaves a b → Leaves b c → Leaves a c
 leaves_trans a b c f g = (f.0 ++ g.0, f.1 ∙ ap (λ (x : Bits). f.0 ++ x) g.1 ∙ sym (append_assoc f.0 g.0 c))
 
@@ -85,7 +85,7 @@ step_1d_leaves strict columns pen = subst (StepLeaves pen.rest) (sym (step_1d_is
     full true = ([], refl)
     full false = drew (run_from pen.color (0, pen.rest)) (run_leaves pen.color 0 pen.rest)
 
--- a one-dimensional line leaves the last of its bits
+-- a one-dimensional line leaves a suffix of its bits
 pub line_1d_leaves : (strict : Bool) (columns : ℕ) (here : Bits) → LineLeaves here (line_1d strict columns here)
 line_1d_leaves strict columns here =
     repeated_keeps (step_1d strict columns) (Line.broken [] UnexpectedEof) (λ s. Leaves here s.rest) (LineLeaves here) tt

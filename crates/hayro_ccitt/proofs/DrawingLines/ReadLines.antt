@@ -27,7 +27,7 @@ next_is s t e = cc
 pub not_next : (l : Line) (t : Pen) → ◌≡◌ {A = Step} (Turn.done l) (Turn.next t) → ⊥
 not_next l t e = cc
 
--- what went on had no fault
+-- what continued had no fault
 pub try_next : {A : Type 0} (front : Row) (r : Result A DecodeError) (f : A → Step) (t : Pen) → try front r f ≡ Turn.next t → (x : A) × (r ≡ Ok x) × (f x ≡ Turn.next t)
 try_next front (Ok x) f t e = (x, refl, e)
 try_next front (Err fault) f t e = absurd (not_next _ t e)
@@ -41,7 +41,7 @@ unless_full_next columns pen step t e = elim (chosen (leb columns (length pen.fr
 abbrev pub left : Pen → ℕ
 left pen = length pen.rest
 
--- a run that was drawn took bits
+-- a run that was drawn consumed bits
 draw_run_next : (strict : Bool) (columns : ℕ) (pen : Pen) (f : Pen → Step) (t : Pen) → run_then strict columns pen f ≡ Turn.next t → (p : Pen) × (f p ≡ Turn.next t) × (left p < left pen)
 draw_run_next strict columns pen f t e =
     let a = try_next pen.front (run_from pen.color (0, pen.rest)) (λ run. try pen.front (paint strict columns pen.front pen.color run.0) (λ front. f (record { front = front; color = opposite pen.color; rest = run.1 }))) t e in
@@ -83,7 +83,7 @@ drawn1 strict columns pen = repeated_turn (step_1d strict columns) (Line.broken 
 pub drawn2 : (strict : Bool) (columns : ℕ) (reference : Row) (pen : Pen) → drawn_by (step_2d strict columns reference) pen ≡ after_turn (drawn_by (step_2d strict columns reference)) (step_2d strict columns reference pen)
 drawn2 strict columns reference pen = repeated_turn (step_2d strict columns reference) (Line.broken [] UnexpectedEof) left (step_2d_shrinks strict columns reference) pen
 
--- ---- A whole line took bits.
+-- ---- A whole line consumed bits.
 abbrev pub GoesOn : Step → Type 0
 GoesOn (Turn.next t) = Unit {0}
 GoesOn (Turn.done (Line.broken front fault)) = Unit {0}
@@ -118,7 +118,7 @@ abbrev pub TookBits : ℕ → Line → Type 0
 TookBits n (Line.whole row rest) = length rest < n
 TookBits n (Line.broken front fault) = Unit {0}
 
--- the pen has taken bits, or has painted nothing
+-- the pen has consumed bits, or has painted nothing
 abbrev HasRead : ℕ → Pen → Type 0
 HasRead n pen = (left pen < n) ⊎ ((left pen ≡ n) × (length pen.front ≡ 0))
 

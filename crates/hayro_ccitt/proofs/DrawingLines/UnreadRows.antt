@@ -19,7 +19,7 @@ module _ {M : Type 0} (line : Line) (row : Result (Row × Bits) DecodeError) (st
   at_fault e is memory refused =
       record { taken = tt; fault = λ f. is; kept = refl; held = held; memory = λ k. absurd (memory k); refused = λ k. absurd (refused k); flag = λ k. absurd (refused k); no_flag = λ k. refl }
 
-  -- memory is wanted where the line paints a black pixel
+  -- an allocation fails only if the line paints a black pixel
   pub wants_memory : DrawsLine line (Err OutOfMemory) new.front rest → TakesOneRow line row step sink sink old new (Err OutOfMemory) rest
   wants_memory draws =
       record { taken = tt; fault = λ f. absurd f; kept = refl; held = held; memory = λ k. memory_has_black line new.front rest draws; refused = λ k. cc; flag = λ k. cc; no_flag = λ k. refl }
@@ -33,7 +33,7 @@ module _ {M : Type 0} (line : Line) (row : Result (Row × Bits) DecodeError) (st
   is_unread OutOfMemory fails draws = wants_memory draws
   is_unread Refused fails draws = absurd draws
 
--- what a line that wants memory, or whose rest does, is taken for
+-- what a line that fails to allocate, or whose rest does, is taken for
 wants_rest : {M : Type 0} (line : Line) (row : Result (Row × Bits) DecodeError) (step : M → List ℕ → M) (sink : SinkState M) (old new : Held) (rest : Bits)
     → new ≡ redrawn old new.front new.color → HasBlack (front_of line) → TakesOneRow line row step sink sink old new (Err OutOfMemory) rest
 wants_rest line row step sink old new rest held black =
@@ -45,7 +45,7 @@ module _ {M : Type 0} (line : Line) (start : Bits) (step : M → List ℕ → M)
   abbrev row : Result (Row × Bits) DecodeError
   row = row_of_line old.settings old.has_eols start line
 
-  -- the answer of a repair that failed with an error
+  -- the result of a repair that failed with an error
   pub isnt_repaired : (e answer : DecodeError) → DrawsLine line (Err e) new.front rest
       → (IsRepairable new e → answer ≡ OutOfMemory) → (IsRepairable new e → ◌≡◌ {A = Result (Unit {0}) DecodeError} (Err answer) (Err OutOfMemory) → RepairStoresChange new)
       → ((IsRepairable new e → ⊥) → ◌≡◌ {A = Result (Unit {0}) DecodeError} (Err answer) (Err e)) → TakesOneRow line row step sink sink old new (Err answer) rest

@@ -29,7 +29,7 @@ use Rattle.hayro_ccitt.proofs.PixelRows.ChangesAndPixels.{length-pixels, turned,
 use Rattle.hayro_ccitt.proofs.PixelRows.ReferencePlaces.{end_within}
 use Rattle.hayro_ccitt.proofs.Readings.Repeated.{after_turn}
 
--- ---- Drawing goes on.
+-- ---- Drawing continues.
 pub twice_2d : (strict : Bool) (columns : ℕ) (reference : Row) (a b c : Pen) (m n o p q r : ℕ) → GoesOn2d strict columns reference a b m n p q → GoesOn2d strict columns reference b c n o q r
     → GoesOn2d strict columns reference a c m o p r
 twice_2d strict columns reference a b c m n o p q r first second = record {
@@ -57,7 +57,7 @@ mode_on strict columns reference pen next mode rest words ticks now passed later
       none = λ zero. absurd (omega (arith, found, zero));
     }
 
--- ---- Painting up to a place of the row, in the colour of its end.
+-- ---- Painting up to a position of the row, in the colour of its end.
 colored_end : (row : List ℕ) (color : Color) → TurnsFrom (length row) color → turned false row ≡ is_black color
 colored_end row White even = turned-even false row ∙ rw even refl
 colored_end row Black odd = turned-even false row ∙ rw odd refl
@@ -173,7 +173,7 @@ module _ (columns : ℕ) (places : List ℕ) (painted index : ℕ) (color : Colo
         rw empty tt
   ]
 
-  -- the row is turned at a place
+  -- the row is turned at a position
   pub turned_stroke : (place next : ℕ) (new : List ℕ) → place < columns → AreChanges place row → new ≡ row ++ place ∷ [] → IsB1 columns places place next (opposite color)
       → IsStroke columns places place next (opposite color) new
   turned_stroke place next new inside lawful_there is at =
@@ -192,7 +192,7 @@ module _ (columns : ℕ) (places : List ℕ) (painted index : ℕ) (color : Colo
   v0_stroke new new_color below is turns =
       rw turns (turned_stroke (get_or places index columns) (index + 1) new below (b1_is_next below) is (after_v0 columns places ascend painted index color (stroke.at open_row) below))
 
-  -- the place of VR
+  -- the position of VR
   pub right_near : (more : ℕ) → 0 < more → IsNear columns places (get_or places index columns + more) (index + 1)
   right_near more some = (after_vr columns places ascend painted index color (stroke.at open_row) more some).1
 
@@ -210,7 +210,30 @@ module _ (columns : ℕ) (places : List ℕ) (painted index : ℕ) (color : Colo
       let there : AreChanges place row = AreChanges-wider (painted + 1) place row (omega (arith, right)) stroke.lawful in
       rw turns (turned_stroke place next new inside there is at)
 
-  -- that of a pass
+  -- that of VL at the row's left edge
+  no_index : painted ≡ 0 → color ≡ White → index ≡ 0
+  no_index none white =
+      let at = stroke.at open_row in
+      let even : index % 2 ≡ 0 = subst (TurnsFrom index) white at.turns in
+      elim (cases_lt index 2) [
+        | inl lt ↦ omega (arith, even)
+        | inr ge ↦ absurd (omega (arith, (at.near.left 0 (omega arith)).0, none))
+      ]
+
+  pub edge_stroke : (new : List ℕ) (new_color : Color) → painted ≡ 0 → color ≡ White → new ≡ row ++ painted ∷ [] → new_color ≡ opposite color → IsStroke columns places painted (index + 1) new_color new
+  edge_stroke new new_color none white is turns =
+      let first : index ≡ 0 = no_index none white in
+      let empty : row ≡ [] = none_yet row (rw none at stroke.lawful) (subst (TurnsFrom (length row)) white (stroke.colored open_row)) in
+      let there : AreChanges painted row = rw empty tt in
+      rw turns
+      (turned_stroke painted (index + 1) new open_row there is
+      (record {
+        turns = turns_next index color (stroke.at open_row).turns;
+        near = record { left = λ k l. absurd (omega (arith, l, first)) };
+        right = λ some. absurd (omega (arith, some, none));
+      }))
+
+  -- that of pass mode
   pub b2_onward : painted ≤ get_or places (index + 1) columns
   b2_onward = omega (arith, b1_onward, rising columns places ascend index (index + 1) (omega arith))
 
@@ -338,7 +361,7 @@ are_passed columns places place index color row some ascend stroke = record {
   ]);
 }
 
--- a line that is begun so
+-- a line that is begun like this
 pub begun_2d : (before new : Context) (at next : BitsAt)
     → GoesOn2d before.held.settings.strict before.held.settings.columns before.held.reference (start (here at)) (pen_of new.held (here next)) before.ticks new.ticks 0 new.passed
     → new.held ≡ redrawn before.held new.held.front new.held.color → next.bits ≡ at.bits → new.passed ≤ length (changes before.held.reference)

@@ -22,7 +22,7 @@ use Rattle.hayro_ccitt.proofs.DrawingLines.DrawnLines.{IsDrawnSoFar, run_open}
 use Rattle.hayro_ccitt.proofs.PixelRows.ChangesAndPixels.{turned, turned-even, AreChanges-wider, AreChanges-push, length-pixels, pixels_from-on, pixels_from-push}
 use Rattle.hayro_ccitt.proofs.Readings.Repeated.{after_turn}
 
--- ---- Drawing goes on.
+-- ---- Drawing continues.
 pub goes_on_twice : (strict : Bool) (columns : ℕ) (a b c : Pen) (m n o : ℕ) → GoesOn strict columns a b m n → GoesOn strict columns b c n o → GoesOn strict columns a c m o
 goes_on_twice strict columns a b c m n o first second = record {
   line = second.line ∙ first.line;
@@ -56,11 +56,11 @@ run_on strict columns pen run words rest front ticks open_row reads found paints
       counted = omega (arith, ap length words_on, length-append (draw_run strict columns pen).words behind, on, first);
     }
 
--- ---- Rows of changes whose last one may stand at their end.
+-- ---- Rows of changes whose last one may equal the row's end.
 even_is_white : (row : List ℕ) → length row % 2 ≡ 0 → turned false row ≡ false
 even_is_white row even = turned-even false row ∙ rw even refl
 
--- pixels of the colour behind the changes
+-- pixels of the colour after the changes
 pub pixels-on : (place more : ℕ) (row : List ℕ) → AreChanges (suc place) row → pixels (place + more) row ≡ pixels place row ++ replicate more (turned false row)
 pixels-on place more row lawful = pixels_from-on 0 false place more row (omega arith) lawful
 
@@ -70,12 +70,12 @@ length-pixels-on place row lawful =
     let whole : length (pixels (place + 1) row) ≡ place + 1 = length-pixels (place + 1) row (rw one at lawful) in
     omega (arith, whole, ap length (pixels-on place 1 row lawful), length-append (pixels place row) (replicate 1 (turned false row)), length-replicate 1 (turned false row))
 
--- a change where the row ends, and pixels behind it
+-- a change where the row ends, and pixels after it
 pixels-turned : (place more : ℕ) (row : List ℕ) → length row % 2 ≡ 0 → pixels (place + more) (row ++ place ∷ []) ≡ pixels place row ++ replicate more true
 pixels-turned place more row even =
     pixels_from-push 0 false place more row ∙ ap (λ (color : Bool). pixels place row ++ replicate more (not color)) (even_is_white row even)
 
--- a change at the end of the row isn't seen yet
+-- a change at the end of the row isn't visible yet
 pub pixels-pending : (place : ℕ) (row : List ℕ) → pixels place (row ++ place ∷ []) ≡ pixels place row
 pixels-pending place row =
     let none : place + 0 ≡ place = omega arith in
@@ -111,7 +111,7 @@ black_on strict columns painted place row at run width words ticks lawful even o
     run_on strict columns (pen_at painted row Black at) run words (here (moved width at)) (pixels place (row ++ painted ∷ [])) ticks (omega (arith, len)) here_run.read here_run.found
     (paints ∙ ap Ok (sym row_on))
 
--- ---- What a call answers that draws them.
+-- ---- What a call that draws them returns.
 
 -- one more
 pub one_more : (painted : ℕ) (row : List ℕ) → AreChanges (painted + 1) row → AreChanges (suc painted) row
@@ -125,7 +125,7 @@ white_ends strict columns painted row at first next run width words ticks now op
     rw (on, counts, ← same) (white_on strict columns painted columns row first run width words ticks (one_more painted row lawful) even open_row
     (run_here_too White first run width words there) fits (omega (arith, open_row, far)))
 
--- a white run, and a black one behind it
+-- a white run, and a black one after it
 pub two_runs : (strict : Bool) (columns painted place : ℕ) (row : List ℕ) (at first next last : BitsAt) (run width words run2 width2 words2 ticks between now : ℕ)
     → painted < columns → AreChanges (painted + 1) row → length row % 2 ≡ 0 → first ≡ at → IsRunHere White (moved 0 first) run width words → run < columns - painted
     → IsRunHere Black (moved width first) run2 width2 words2 → (run2 ≤ columns - (painted + run)) ⊎ (strict ≡ false)
@@ -141,7 +141,7 @@ two_runs strict columns painted place row at first next last run width words run
     (black_on strict columns (painted + run) place row (moved width first) run2 width2 words2 (ticks + words)
     (AreChanges-wider (painted + 1) (suc (painted + run)) row (omega arith) lawful) even (omega (arith, short)) second fits reach))
 
--- the row is lawful at the next change
+-- the row is lawful up to the next change
 pub next_lawful : (painted run : ℕ) (row : List ℕ) → AreChanges (painted + 1) row → (0 < run) ⊎ (row ≡ []) → AreChanges (painted + run) row
 next_lawful painted run row lawful (inl some) = AreChanges-wider (painted + 1) (painted + run) row (omega (arith, some)) lawful
 next_lawful painted run row lawful (inr none) = rw none tt
@@ -180,9 +180,9 @@ reached_both columns place run row between new some short lawful even first seco
       whole = λ le. absurd (omega (arith, le, short));
     })
 
--- ---- A row that is taken up, and laid down.
+-- ---- A row that is taken from the context, and put back.
 
--- the last of ascending places
+-- the last of ascending positions
 last_from : (first width : ℕ) (row : List ℕ) (last : ℕ) → AscendFrom first width (row ++ last ∷ []) → (first ≤ last) × (last < width)
 last_from first width [] last ascend = (ascend.0, ascend.1)
 last_from first width (place ∷ row) last ascend =
@@ -201,7 +201,7 @@ with_last first width (place ∷ row) last ascend lt =
     let on = last_from (suc place) (suc width) row last ascend.2 in
     (ascend.0, omega (arith, on.0, lt), with_last (suc place) width row last ascend.2 lt)
 
--- a change that stands where the row ends is laid down
+-- a change at the row's end is dropped
 pub laid_down : (painted : ℕ) (row new : List ℕ) (last : ℕ) → AreChanges (painted + 1) row → row ≡ new ++ last ∷ [] → last ≡ painted
     → AreChanges painted new × (pixels painted new ≡ pixels painted row)
 laid_down painted row new last lawful is same =
@@ -225,7 +225,7 @@ IsDrawn1d before now begun at =
     × (now.ticks + length (found_1d_from before.held.settings.strict before.held.settings.columns (pen_of now.held (here at)))
     ≡ before.ticks + length (words_from_1d before.held (here begun)))
 
--- and more, where drawing goes on
+-- and more, where drawing continues
 pub drawn_on : (before now new : Context) (begun at next : BitsAt) → IsDrawn1d before now begun at
     → GoesOn now.held.settings.strict now.held.settings.columns (pen_of now.held (here at)) (pen_of new.held (here next)) now.ticks new.ticks
     → new.held ≡ redrawn now.held new.held.front new.held.color → next.bits ≡ at.bits → IsDrawn1d before new begun next
@@ -242,7 +242,7 @@ drawn_on before now new begun at next so_far goes held same =
       omega (arith, on.counted, so_far.1),
     )
 
--- a reader that stands further on has no more bits
+-- a reader that is further on has no more bits
 pub not_longer : (from to : BitsAt) (n : ℕ) → length (here from) < n → to.bits ≡ from.bits → from.place ≤ to.place → length (here to) < n
 not_longer from to n shorter same onward =
     omega (arith, shorter, ap length same, onward, length-drop from.place from.bits, length-drop to.place to.bits)

@@ -75,7 +75,7 @@ next_carries : Carries Turn.next
 next_carries pen t e = let same : pen ≡ t
     = next_is pen t e in ([], ap (λ (p : Pen). p.rest) same, λ more. ap (λ (p : Pen). Turn.next (record p { rest = more })) same)
 
--- what keeps the bits carries
+-- what keeps the bits is preserved
 keeps_carries : (f : Pen → Step) → ((pen t : Pen) → f pen ≡ Turn.next t → (pen.rest ≡ t.rest)
     × ((more : Bits) → f (record pen { rest = more }) ≡ Turn.next (record t { rest = more }))) → Carries f
 keeps_carries f keeps pen t e = let k = keeps pen t e in ([], k.0, k.1)

@@ -20,6 +20,7 @@ use Rattle.hayro_ccitt.proofs.DrawingLines.WhatFollows.{line_2d_found}
 use Rattle.hayro_ccitt.proofs.EncodedPictures.Bodies.{gap_at_eofb}
 use Rattle.hayro_ccitt.proofs.EncodedPictures.PictureLines.{IsLineStart, mode_starts, between, plain_ends}
 use Rattle.hayro_ccitt.proofs.Readings.GapsAndRows.{gap_and_row_unsought, row_behind_eols, t6_end}
+use Rattle.std.proofs.lemmas.Grind.{common_steps}
 
 -- ---- EOLs.
 after_eol_found : (seen : ℕ) (here rest : Bits) → after_eol seen here ≡ Some rest → (w : Bits) × (here ≡ w ++ rest)
@@ -34,7 +35,8 @@ after_eol_found seen (true ∷ here) rest e = elim (chosen (leb 11 seen) _ _ _ e
 one_more_is : (found : ℕ × Bits) → one_more found ≡ (suc found.0, found.1)
 one_more_is (count, here) = refl
 
--- the EOLs that were counted are a front, and are counted again whatever follows, if no EOL does or enough were asked for
+-- the EOLs that were counted are a prefix, and are counted again whatever follows, if no EOL does or enough were asked
+-- for
 abbrev EolsFound : ℕ → Bits → ℕ × Bits → Type 0
 EolsFound most here found = (w : Bits) × (here ≡ w ++ found.1)
     × ((more : Bits) → (found.0 ≡ most) ⊎ (after_eol 0 more ≡ None) → eols most (w ++ more) ≡ (found.0, more))
@@ -76,8 +78,7 @@ aligned_split true j =
     let pad : Bits = take n j in
     let whole : j ≡ pad ++ drop n j = sym (take-append-drop n j) in
     let len : length pad ≡ n = length-take-le n j (omega arith) in
-    let sum : length j ≡ length pad + length (drop n j) = ap length whole ∙ length-append pad (drop n j) in
-    (pad, whole, λ more e. drop_at pad more (length (pad ++ more) % 8) (omega (arith, len, sum, e, length-append pad more)))
+    grind (arith, common_steps, drop_at, length-append)
 
 -- ---- A row of a run, and the gap before it.
 record MoveFound (settings : DecodeSettings) (run after : Progress) : Type 0 where
@@ -91,12 +92,12 @@ record MoveFound (settings : DecodeSettings) (run after : Progress) : Type 0 whe
 abbrev reader : DecodeSettings → Progress → Bits → Line
 reader settings run = line_2d settings.strict settings.columns (row_before settings.columns run.rows)
 
--- a run that comes to its end so
+-- a run that reaches such an end
 abbrev Ends : DecodeSettings → Progress → Ending → Type 0
 Ends settings run end = (last : Progress) × Reaches (gap_and_row settings) run last × (pass_gap settings last ≡ Turn.done end)
 
 module _ (settings : DecodeSettings) (four : settings.encoding ≡ Group4) (block : settings.end_of_block ≡ true) (wide : 0 < settings.columns) where
-  -- the EOLs that are counted, at most two, and the line behind them
+  -- the EOLs that are counted, at most two, and the line after them
   counts_two : (here : Bits) → eols_here settings here ≡ eols 2 here
   counts_two here = ap (λ (e : EncodingMode). eols_by e settings.end_of_block here) four ∙ ap (λ (b : Bool). eols_by Group4 b here) block
 
@@ -106,13 +107,7 @@ module _ (settings : DecodeSettings) (four : settings.encoding ≡ Group4) (bloc
   by_line : (run after : Progress) (count : ℕ) (t : Bits) (line : Line) → run.has_eols ≡ false → eols 2 run.rest ≡ (count, t)
       → is_over settings (length run.rows) (count, t) ≡ false → reader settings run t ≡ line
       → add_row_alone (record run { rest = t }) (row_of_line settings run.has_eols t line) ≡ Turn.next after → MoveFound settings run after
-  by_line run after count t (Line.broken front fault) unsought counted over read e =
-      by settings.strict (ap (λ (h : Bool). add_row_alone (record run { rest = t }) (row_of_line settings h t (Line.broken front fault))) (sym unsought) ∙ e)
-    where
-      by : (strict : Bool) → add_row_alone (record run { rest = t }) (row_of_line (record settings { strict = strict }) false t (Line.broken front fault)) ≡ Turn.next after
-          → MoveFound settings run after
-      by true e = absurd (not_next _ after e)
-      by false e = absurd (not_next _ after e)
+  by_line run after count t (Line.broken front fault) unsought counted over read e = grind (arith, common_steps)
   by_line run after count t (Line.whole row j) unsought counted over read e =
       let b : Bool = settings.rows_are_byte_aligned && not run.has_eols in
       let line = line_2d_found settings.strict settings.columns (row_before settings.columns run.rows) t row j read in
@@ -156,11 +151,11 @@ module _ (settings : DecodeSettings) (four : settings.encoding ≡ Group4) (bloc
   move_found run after unsought e = by_eols run after (eols 2 run.rest) unsought refl
       (sym (gap_and_row_unsought settings run unsought ∙ ap (row_behind_eols settings run) (counts_two run.rest)) ∙ e)
 
-  -- ---- A run that comes to two EOLs.
+  -- ---- A run that reaches two EOLs.
   abbrev ended_at : Progress → Bits → Ending
   ended_at last rest = record { rows = last.rows; has_eols = last.has_eols; outcome = Ok rest }
 
-  -- what was read up to two EOLs gives the same rows again, whatever follows
+  -- what was read up to two EOLs yields the same rows again, whatever follows
   pub closed_found : (run last : Progress) (rest : Bits) → run.has_eols ≡ false → Reaches (gap_and_row settings) run last → eols 2 last.rest ≡ (2, rest)
       → (w : Bits) × (run.rest ≡ w ++ rest) × ((more : Bits) → length more % 8 ≡ length rest % 8
       → Ends settings (record run { rest = w ++ more }) (ended_at last more))
@@ -194,27 +189,27 @@ closed_plain settings last w rest four wide ends stream more is whole =
     let end : Ending = record { rows = last.rows; has_eols = last.has_eols; outcome = Ok more } in
     let (state, leads, over) = ends more whole in
     let here : end_of settings stream ≡ end = ap (end_of settings) is ∙ t6_end settings wide (w ++ more) state end four leads over in
-    let n : (length stream - length more + 7) / 8 ≡ (length w + 7) / 8 = omega (arith, ap length is, length-append w more) in
-    plain_ends settings stream end more wide here refl ∙ ap {B = Reading} (λ (k : ℕ). record { rows = last.rows; outcome = Ok k; has_eols = last.has_eols }) n
+    grind (arith, common_steps, length-append, plain_ends)
 
--- data with the same bytes begin with the same bits, and go on with whole bytes as far
+-- data with the same first bytes begin with the same bits, and continue with whole bytes
 same_front : (one two : Bits) (count : ℕ) (w rest : Bits) → AreWholeBytes one → AreWholeBytes two → one ≡ w ++ rest → (length w + 7) / 8 ≡ count
     → take (8 * count) two ≡ take (8 * count) one → (more : Bits) × (two ≡ w ++ more) × (length more % 8 ≡ length rest % 8)
 same_front one two count w rest whole_one whole_two is count_is same =
-    let len1 : length one ≡ length w + length rest = ap length is ∙ length-append w rest in
-    let head : Bits = take (8 * count) one in
-    let head_len : length head ≡ 8 * count = length-take-le (8 * count) one (omega (arith, count_is, len1, whole_one)) in
-    let front = prefix_of_prefix w rest head (drop (8 * count) one) (take-append-drop (8 * count) one ∙ is) (omega (arith, head_len, count_is)) in
-    let more : Bits = front.0 ++ drop (8 * count) two in
-    let two_is : two ≡ w ++ more
-    = sym (take-append-drop (8 * count) two) ∙ ap (λ (x : Bits). x ++ drop (8 * count) two) (same ∙ front.1) ∙ append_assoc w front.0 (drop (8 * count) two) in
-    let len2 : length two ≡ length w + length more = ap length two_is ∙ length-append w more in
-    (more, two_is, omega (arith, len1, len2, whole_one, whole_two))
+    grind (
+      arith,
+      common_steps,
+      append_assoc w,
+      length-append w rest,
+      length-append w,
+      length-take-le (8 * count) one,
+      prefix_of_prefix w rest,
+      take-append-drop (8 * count) one,
+      take-append-drop (8 * count) two,
+    )
 
 -- without columns nothing is read
 plain_no_columns : (settings : DecodeSettings) (stream : Bits) → settings.columns ≡ 0 → plain settings stream ≡ nothing_read
-plain_no_columns settings stream none = cond-true (eqb settings.columns 0) nothing_read
-    (whole_reading stream (end_of settings stream)) (eq-eqb settings.columns 0 none)
+plain_no_columns settings stream none = grind (arith, common_steps)
 
 -- the law
 pub after_eofb : AfterEofb
@@ -228,8 +223,7 @@ after_eofb settings one two count are whole_one whole_two four block comes count
       let found = closed_found settings four block wide (between [] one) comes.0 rest refl comes_so closes in
       let first : plain settings one ≡ record { rows = comes.0.rows; outcome = Ok ((length found.0 + 7) / 8); has_eols = comes.0.has_eols }
       = closed_plain settings comes.0 found.0 rest four wide found.2 one rest found.1 refl in
-      let count_is : (length found.0 + 7) / 8 ≡ count = let f : ◌≡◌ {A = Result ℕ DecodeError} (Ok ((length found.0 + 7) / 8)) (Ok count)
-      = sym (ap (λ (a : Reading). a.outcome) first) ∙ counted in cc in
+      let count_is : (length found.0 + 7) / 8 ≡ count = grind (arith, common_steps) in
       let front = same_front one two count found.0 rest whole_one whole_two found.1 count_is same in
       closed_plain settings comes.0 found.0 rest four wide found.2 two front.0 front.1 front.2 ∙ sym first
 ]

@@ -6,17 +6,16 @@ use Rattle.std.proofs.lemmas.Grind.{get_or_default_zero}
 use Rattle.hayro_ccitt.specs.declared.codes.Color.{Color}
 use Rattle.hayro_ccitt.specs.declared.codes.Color.TheVariants.{White, Black}
 use Rattle.hayro_ccitt.specs.Rows.{Row, AreChanges, pixels, is_black, opposite, right_of, b1, b2}
-use Rattle.hayro_ccitt.specs.Context.{right_of_painted, passed_changes}
+use Rattle.hayro_ccitt.specs.Context.{right_of_painted}
 use Rattle.hayro_ccitt.specs.UsualModes.{TurnsFrom, IsNear, IsB1}
-use Rattle.hayro_ccitt.proofs.PixelRows.ReferencePlaces.{turned, turned-not, turned_by_parity, not_not, IsSplit, IsSplit-painted, IsSplit-none, order, end_within, in_list_if_below, b1_is, b2_after_b1, split_passed}
-use Rattle.hayro_ccitt.proofs.DrawingLines.UsualStrokes.{length-pixels-on}
+use Rattle.hayro_ccitt.proofs.PixelRows.ReferencePlaces.{turned, turned-not, turned_by_parity, not_not, IsSplit, IsSplit-painted, IsSplit-none, order, end_within, in_list_if_below, b1_is, b2_after_b1}
 
 -- ---- The colour that a change turns from.
 turns_by : (index : ℕ) (color : Color) → TurnsFrom index color → turned index false ≡ is_black color
 turns_by index White e = (turned_by_parity index).0 e
 turns_by index Black e = (turned_by_parity index).1 e
 
--- an index of the parity of so many changes that are drawn
+-- an index with the parity of the number of changes that are drawn
 pub turns_alike : (index drawn : ℕ) (color : Color) → index % 2 ≡ drawn % 2 → TurnsFrom drawn color → TurnsFrom index color
 turns_alike index drawn White same e = omega arith
 turns_alike index drawn Black same e = omega arith
@@ -43,7 +42,7 @@ right_of_length (p ∷ front) zero e = absurd (omega arith)
 right_of_length (p ∷ front) (suc n) e = let u : length front ≡ n = omega arith in rw u refl
 
 module _ (columns : ℕ) (places : List ℕ) (ascend : AreChanges columns places) where
-  -- ---- The changes, and the row's end behind them, ascend.
+  -- ---- The changes, and the row's end after them, ascend.
   pub rising : (j k : ℕ) → j ≤ k → get_or places j columns ≤ get_or places k columns
   rising j k le = elim (cases_lt k (length places)) [
     | inl lt ↦ elim (cases_eq j k) [
@@ -85,7 +84,7 @@ module _ (columns : ℕ) (places : List ℕ) (ascend : AreChanges columns places
   near_up painted index some left = record { left = λ k l. (some, omega (arith, left, rising k index (omega arith))) }
 
   -- ---- b1 and b2.
-  -- of so many changes that are left of a0 or at it
+  -- of the number of changes that are left of a0 or at it
   split_some : (painted j : ℕ) → 0 < painted → painted < columns → ((k : ℕ) → k < j → get_or places k columns ≤ painted) → painted < get_or places j columns
       → IsSplit places (right_of_painted painted) j
   split_some painted j some inside left right = IsSplit-painted places painted j some (within j left) earlier (λ l. omega (arith, right, get_or_default_zero places j columns l))
@@ -137,7 +136,7 @@ module _ (columns : ℕ) (places : List ℕ) (ascend : AreChanges columns places
   pub starts_b1 : IsB1 columns places 0 0 White
   starts_b1 = record { turns = refl; near = record { left = λ k l. absurd (omega arith) }; right = λ l. absurd (omega arith) }
 
-  -- the end of going up by twos
+  -- the end of stepping by twos
   pub ends_at_b1 : (painted index : ℕ) (color : Color) → TurnsFrom index color → IsNear columns places painted index → painted < get_or places index columns
       → IsB1 columns places painted index color
   ends_at_b1 painted index color turns near right = record { turns = turns; near = near; right = λ some. right }
@@ -167,7 +166,7 @@ module _ (columns : ℕ) (places : List ℕ) (ascend : AreChanges columns places
     }
 
   module _ (painted before : ℕ) (color : Color) (at : IsB1 columns places painted (before + 1) color) (place : ℕ) (right : painted < place) (left : place < get_or places (before + 1) columns) where
-    -- the one behind b1
+    -- the one after b1
     pub after_vl_on : get_or places before columns ≤ place → IsB1 columns places place (before + 2) (opposite color)
     after_vl_on is_left = record {
       turns = turns_second before (opposite color) (turns_before before color at.turns);

@@ -1,9 +1,9 @@
--- What the turns of a repeated step give, however many turns it is allowed.
+-- The values of the turns of a repeated step, however many turns it is allowed.
 use Rattle.std.proofs.Common.{◌≡◌, ℕ, zero, suc, ◌<◌, List, [], ◌++◌, refl, ap, arith}
 use Rattle.hayro_ccitt.specs.Repetition.{Turn, gathered}
 use Rattle.hayro_ccitt.proofs.Readings.Repeated.{Shrinks}
 
--- what the turns after a turn give
+-- the values of the turns after a turn
 abbrev pub gathered_after : {S R A : Type 0} → (S → List A) → Turn S R → List A
 gathered_after rest (Turn.next s) = rest s
 gathered_after rest (Turn.done r) = []

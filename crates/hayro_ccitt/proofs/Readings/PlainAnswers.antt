@@ -1,4 +1,4 @@
--- What decoding leaves of whole data, where it is known what a driver leaves of its bits.
+-- What decoding leaves of whole data, given what a driver leaves of its bits.
 use Rattle.std.proofs.Common.{◌≡◌, ◌≢◌, ℕ, ◌+◌, ◌-◌, ◌*◌, ◌/◌, ◌≤◌, IfOk, Bool, true, false, eqb, List, length, drop, Result, Ok, Err, refl, sym, ap, subst, ◌∙◌, arith}
 use Rattle.std.proofs.lemmas.Bool.{cond-false, eqb-true}
 use Rattle.std.proofs.lemmas.List.{length-drop}
@@ -7,11 +7,13 @@ use Rattle.hayro_ccitt.specs.declared.error.DecodeError.TheVariants.{OutOfMemory
 use Rattle.hayro_ccitt.specs.declared.settings.DecodeSettings.{DecodeSettings}
 use Rattle.hayro_ccitt.specs.Bits.{Bits}
 use Rattle.hayro_ccitt.specs.Context.{Held}
-use Rattle.hayro_ccitt.specs.Decoding.{SinkState, TakesRows, StopsShort}
+use Rattle.hayro_ccitt.specs.Answers.{OnAnswer}
+use Rattle.hayro_ccitt.specs.Damage.{Damaged, repaired_by_turn, repairs_by_line}
+use Rattle.hayro_ccitt.specs.Decoding.{SinkState, TakesRows, StopsShort, CountsRepairs}
 use Rattle.hayro_ccitt.specs.Lines.{Line}
 use Rattle.hayro_ccitt.specs.PlainReading.{Ending, Reading, plain, end_of, lines_of, gathered_of, line_of_turn, bytes_before, whole_reading}
 
--- some columns are not none
+-- a number of columns that isn't 0
 pub some_columns : (n : ℕ) → n ≢ 0 → eqb n 0 ≡ false
 some_columns n some = by (eqb n 0) refl
   where
@@ -19,24 +21,24 @@ some_columns n some = by (eqb n 0) refl
     by true e = absurd (some (eqb-true n 0 e))
     by false e = refl
 
--- what is known of the rows that were taken and of the answer, as the contract of `decode` says it
+-- what is known of the accepted rows and of the result, in the terms of the contract of `decode`
 abbrev pub LeavesRows : {M : Type 0} → DecodeSettings → Bits → (M → List ℕ → M) → SinkState M → SinkState M → Held → Result ℕ DecodeError → Type 0
 LeavesRows settings bits step before after held answer =
     TakesRows (plain settings bits).rows (plain settings bits).outcome (plain settings bits).has_eols step before after held answer
     × StopsShort (plain settings bits).rows (lines_of settings bits) before after held answer
 
--- the same, where the reading and its lines are known
+-- the same, if the reading and its lines are known
 abbrev Leaves : {M : Type 0} → Reading → List Line → (M → List ℕ → M) → SinkState M → SinkState M → Held → Result ℕ DecodeError → Type 0
 Leaves reading lines step before after held answer =
     TakesRows reading.rows reading.outcome reading.has_eols step before after held answer × StopsShort reading.rows lines before after held answer
 
--- the bits before a place, in whole bytes
+-- the bits before a position, in whole bytes
 pub bytes_before-place : (bits : Bits) (place : ℕ) → place ≤ length bits → bytes_before bits (Ok (drop place bits)) ≡ Ok ((place + 7) / 8)
 bytes_before-place bits place within =
     let taken : length bits - length (drop place bits) ≡ place = omega (arith, length-drop place bits, within) in
     ap {B = Result ℕ DecodeError} (λ (n : ℕ). Ok ((n + 7) / 8)) taken
 
--- a count of bytes within so many bits is within so many bytes
+-- a byte count within a number of bits is within the number of bytes
 pub whole_bytes_within : (answer : Result ℕ DecodeError) (bits bytes : ℕ) → bits ≡ 8 * bytes → IfOk answer (λ n. 8 * n ≤ bits) → IfOk answer (λ n. n ≤ bytes)
 whole_bytes_within (Ok n) bits bytes e within = omega (arith, e, within)
 whole_bytes_within (Err fault) bits bytes e within = tt
@@ -56,7 +58,7 @@ module _ {M : Type 0} (settings : DecodeSettings) (bits : Bits) (step : M → Li
         subst (λ (r : Reading). Leaves r (lines_of settings bits) step before after held answer) (sym reading)
         (subst (λ (ls : List Line). Leaves (whole_reading bits end) ls step before after held answer) (sym all) leaves)
 
-    -- where the driver ended well at a place
+    -- where the driver ended well at a position
     pub decodes_well : (place : ℕ) → place ≤ length bits → TakesRows end.rows end.outcome end.has_eols step before after held (Ok (drop place bits))
         → StopsShort {A = Bits} end.rows lines before after held (Ok (drop place bits)) → LeavesRows settings bits step before after held (Ok ((place + 7) / 8))
     decodes_well place within takes short = known (Ok ((place + 7) / 8)) (
@@ -113,6 +115,16 @@ driver_left given settings read whole step before after held answer same same_bi
 
 -- ---- What a driver left, as what `decode` leaves
 
+-- how many rows were repaired
+pub repairs_left : (given settings : DecodeSettings) (read whole : Bits) → given ≡ settings → read ≡ whole → given.columns ≢ 0 → (held : Held) (answer : Result Bits DecodeError) (said : Result ℕ DecodeError)
+    → ((P : Type 0) → OnAnswer answer P → OnAnswer said P) → CountsRepairs (gathered_of given (repaired_by_turn given read) read) held answer
+    → CountsRepairs (repairs_by_line settings whole) held said
+repairs_left given settings read whole same same_bits some held answer said alike counted =
+    let all : repairs_by_line given read ≡ gathered_of given (repaired_by_turn given read) read = cond-false (eqb given.columns 0) _ _ (some_columns given.columns some) in
+    let known : CountsRepairs (repairs_by_line given read) held answer = subst (λ (x : List (List Damaged)). CountsRepairs x held answer) (sym all) counted in
+    let there = subst (λ (b : Bits). CountsRepairs (repairs_by_line settings b) held answer) same_bits (subst (λ (s : DecodeSettings). CountsRepairs (repairs_by_line s read) held answer) same known) in
+    record { taken = there.taken; all = alike _ there.all }
+
 module _ {M : Type 0} (given settings : DecodeSettings) (read whole : Bits) (same : given ≡ settings) (same_bits : read ≡ whole) (some : given.columns ≢ 0)
     (step : M → List ℕ → M) (before after : SinkState M) (held : Held) where
   abbrev columns : settings.columns ≢ 0
@@ -125,7 +137,7 @@ module _ {M : Type 0} (given settings : DecodeSettings) (read whole : Bits) (sam
       let left = driver_left given settings read whole step before after held (Err error) same same_bits takes short in
       decodes_badly settings whole step before after held columns error left.0 left.1
 
-  -- where it ended well at a place, and so many bytes lie before that
+  -- if it ended well at an offset, before which there are this many bytes
   pub left_well : (place : ℕ) (bits : Bits) (count : ℕ) → bits ≡ read → place ≤ length bits → (place + 7) / 8 ≡ count
       → TakesRows (end_of given read).rows (end_of given read).outcome (end_of given read).has_eols step before after held (Ok (drop place bits))
       → StopsShort {A = Bits} (end_of given read).rows (gathered_of given (line_of_turn given) read) before after held (Ok (drop place bits))

@@ -1,15 +1,17 @@
--- Rows one at a time: where a reader of rows stands, the run of a driver stands whose sink keeps nothing.
+-- Rows one at a time: a reader of rows is where the run of a driver is whose sink keeps nothing.
 use Rattle.std.proofs.Common.{◌≡◌, ◌+◌, ◌-◌, ◌<◌, ◌≤◌, ℕ, zero, suc, Bool, true, false, eqb, List, [], ◌∷◌, ◌++◌, length, drop, get_or, Some, Result, Ok, Err, refl, sym, ap, ◌∙◌, subst, arith}
-use Rattle.std.proofs.lemmas.Bool.{cond-false, false≢true}
+use Rattle.std.proofs.lemmas.Bool.{cond-true, cond-false, eq-eqb, ne_eqb, false≢true}
 use Rattle.std.proofs.lemmas.List.{length-append, length-drop}
-use Rattle.std.specs.Prelude.{slice_get, IsOkUnless, ◌≢◌, None}
+use Rattle.std.proofs.Common.{cond, take, not, ◌||◌, None, Option}
+use Rattle.std.specs.Prelude.{OnErr, sum_by, slice_get, IsOkUnless, ◌≢◌}
 use Rattle.hayro_ccitt.specs.declared.error.DecodeError.{DecodeError}
 use Rattle.hayro_ccitt.specs.declared.error.DecodeError.TheVariants.{InvalidCode, OutOfMemory, Refused}
 use Rattle.hayro_ccitt.specs.declared.settings.DecodeSettings.{DecodeSettings}
 use Rattle.hayro_ccitt.specs.Answers.{PaintsBlack}
 use Rattle.hayro_ccitt.specs.Bits.{Bits, BitsAt, IsPrefix, here}
-use Rattle.hayro_ccitt.specs.Context.{Held, fresh}
-use Rattle.hayro_ccitt.specs.Decoding.{SinkState, TakesOneRow, gap_said}
+use Rattle.hayro_ccitt.specs.Context.{Held, Repairs, fresh}
+use Rattle.hayro_ccitt.specs.Damage.{Damaged, fault_in, repaired_in, repaired_by_turn, repairs_by_line}
+use Rattle.hayro_ccitt.specs.Decoding.{SinkState, TakesOneRow, repairs_with, gap_said}
 use Rattle.hayro_ccitt.specs.Lines.{Line}
 use Rattle.hayro_ccitt.specs.PlainReading.{Progress, Ending, Reading, Move, Gap, row_before, with_row, at_gap, gap_behind_row, row_of_line, add_row, line_here, line_of_turn, move_on, first_gap, first_line, at_front, ending_from, ending_behind, one_each, gathered_from, gathered_behind, gathered_of, bytes_before, whole_reading, plain, lines_of}
 use Rattle.hayro_ccitt.specs.Repetition.{Turn, Reaches}
@@ -19,16 +21,19 @@ use Rattle.hayro_ccitt.specs.declared.row_reader.Stand.TheVariants.{AtLine, Behi
 use Rattle.hayro_ccitt.specs.declared.row_reader.RowReader.TheInside.{Inside}
 use Rattle.hayro_ccitt.specs.declared.settings.EncodingMode.{EncodingMode}
 use Rattle.hayro_ccitt.specs.declared.settings.EncodingMode.TheVariants.{Group4}
+use Rattle.hayro_ccitt.proofs.Readings.Gathered.{gathered_after}
 use Rattle.hayro_ccitt.proofs.Readings.GapsAndRows.{first_gap_t4}
 use Rattle.hayro_ccitt.proofs.Readings.Repeated.{reaches_on}
-use Rattle.hayro_ccitt.specs.RowsRead.{RowsRead, ComesToLine, read_so_far, line_after, IsReading, Stands, rows_read_of, ended, stand_after, is_at_line, StandsAtLine, StandsBehindRow, HasEnded, HasFailed, context_at, line_starts}
+use Rattle.hayro_ccitt.specs.RowsRead.{RowsRead, damage_since, start_after, ComesToLine, read_so_far, line_after, IsReading, RepairsAreCounted, Stands, rows_read_of, ended, stand_after, is_at_line, StandsAtLine, StandsBehindRow, HasEnded, HasFailed, context_at, line_starts}
 use Rattle.hayro_ccitt.proofs.Readings.PlainAnswers.{some_columns, bytes_before-place}
 use Rattle.hayro_ccitt.proofs.Readings.TurnsAddRows.{Keeps, first_gap_keeps}
 use Rattle.hayro_ccitt.proofs.Readings.TurnsMoveOn.{left_to_read, left_below, next_is, not_next}
-use Rattle.hayro_ccitt.proofs.Readings.RunsOverRows.{Comes, Between, Leaves, held_between-more, comes_first, comes_next, comes_done, comes_more, comes_line, get_or-behind, row_fails}
+use Rattle.hayro_ccitt.proofs.Readings.RepairsCounted.{repaired_counts}
+use Rattle.hayro_ccitt.proofs.Work.RunsCount.{sum_more}
+use Rattle.hayro_ccitt.proofs.Readings.RunsOverRows.{lines, lines_on, drop-suc_cons, Comes, Between, Leaves, held_between-more, comes_first, comes_next, comes_done, comes_more, comes_line, get_or-behind, row_fails}
 use Rattle.hayro_ccitt.proofs.Readings.RowsTaken.{by_rows_left, row_of_turn, reads_row, turn_is}
 
--- what the sink means that keeps nothing, and refuses no row
+-- what a sink that keeps nothing, and refuses no row, means
 abbrev pub nothing_kept : SinkState (Unit {0})
 nothing_kept = record { meaning = tt; refused = false; refuses = λ row. ⊥ }
 
@@ -41,7 +46,13 @@ get_or-there [] k x other is = absurd cc
 get_or-there (y ∷ xs) zero x other is = cc
 get_or-there (y ∷ xs) (suc k) x other is = get_or-there xs k x other is
 
--- a turn that goes on adds one row
+-- and behind all elements there is none
+get_or-behind_all : {A : Type 0} (xs : List A) (k : ℕ) (other : A) → drop k xs ≡ [] → get_or xs k other ≡ other
+get_or-behind_all [] k other is = refl
+get_or-behind_all (x ∷ xs) zero other is = absurd cc
+get_or-behind_all (x ∷ xs) (suc k) other is = get_or-behind_all xs k other is
+
+-- a turn that continues adds one row
 turn_adds : (settings : DecodeSettings) (s after : Progress) → move_on settings s ≡ Turn.next after → length after.rows ≡ suc (length s.rows)
 turn_adds settings s after e = by (row_of_turn settings s) e
   where
@@ -72,7 +83,7 @@ module _ (settings : DecodeSettings) (wide : 0 < settings.columns) (bits : Bits)
       cond-false (eqb settings.columns 0) _ _ (some_columns settings.columns (λ none. absurd (omega (arith, wide, none))))
       ∙ gathered_is (line_of_turn settings)
 
-  -- it comes to each state that is reached
+  -- it reaches each state that is reached
   comes_along : {A : Type 0} (gives : Progress → A) (s t : Progress) → Comes (move_on settings) (one_each gives) left_to_read first s → Reaches (move_on settings) s t
       → Comes (move_on settings) (one_each gives) left_to_read first t
   comes_along gives s t comes (Reaches.stays same) = comes
@@ -94,12 +105,23 @@ module _ (settings : DecodeSettings) (wide : 0 < settings.columns) (bits : Bits)
         plain_is ∙ ap (whole_reading bits) (comes_done (move_on settings) (one_each (line_of_turn settings)) left_to_read (by_rows_left settings wide) first none_first so_far (comes (line_of_turn settings)) end is)
 
     -- the offset of its line
-    pub line_start_is : get_or (line_starts settings bits) (length so_far.rows) 0 ≡ length bits - length so_far.rest
-    line_start_is =
+    pub line_start_is : (other : ℕ) → get_or (line_starts settings bits) (length so_far.rows) other ≡ length bits - length so_far.rest
+    line_start_is other =
         let gives : Progress → ℕ = λ s. length bits - length s.rest in
-        get_or-there (line_starts settings bits) (length so_far.rows) (gives so_far) 0
+        get_or-there (line_starts settings bits) (length so_far.rows) (gives so_far) other
         (ap (λ (xs : List ℕ). slice_get xs (length so_far.rows)) (gathered_is gives)
         ∙ comes_line (move_on settings) (one_each gives) left_to_read (by_rows_left settings wide) first none_first so_far (comes gives) (gives so_far) refl)
+
+    -- where its turn is the last, no line begins behind it
+    pub no_line_behind : (end : Ending) → move_on settings so_far ≡ Turn.done end → (other : ℕ) → get_or (line_starts settings bits) (length so_far.rows + 1) other ≡ other
+    no_line_behind end ends other =
+        let gives : Progress → ℕ = λ s. length bits - length s.rest in
+        let follow = ap (λ (xs : List ℕ). drop (length so_far.rows) xs) (gathered_is gives)
+        ∙ lines_on (move_on settings) (one_each gives) left_to_read (by_rows_left settings wide) first none_first so_far (comes gives) (gives so_far) refl in
+        let last = follow ∙ ap (λ (turn : Move). gives so_far ∷ gathered_after (lines (move_on settings) (one_each gives) left_to_read) turn) ends in
+        let next : length so_far.rows + 1 ≡ suc (length so_far.rows) = omega arith in
+        ap (λ (n : ℕ). get_or (line_starts settings bits) n other) next
+        ∙ get_or-behind_all (line_starts settings bits) (suc (length so_far.rows)) other (drop-suc_cons (line_starts settings bits) (length so_far.rows) (gives so_far) [] last)
 
     module _ (row : Row) (rest : Bits) (is : row_of_turn settings so_far ≡ Ok (row, rest)) where
       prefix : IsPrefix (so_far.rows ++ row ∷ []) (plain settings bits).rows
@@ -115,16 +137,43 @@ module _ (settings : DecodeSettings) (wide : 0 < settings.columns) (bits : Bits)
       pub row_is_there : length so_far.rows + 1 ≤ length (plain settings bits).rows
       row_is_there = omega (arith, ap length prefix.1, length-append (so_far.rows ++ row ∷ []) prefix.0, length-append so_far.rows (row ∷ []))
 
+    -- what is repaired of its line
+    module _ (rows : ℕ) (taken : rows ≡ length so_far.rows) where
+      abbrev repaired : List Damaged
+      repaired = repaired_by_turn settings bits so_far
+
+      abbrev by_line : List (List Damaged)
+      by_line = repairs_by_line settings bits
+
+      repairs_are : by_line ≡ gathered_from (move_on settings) (one_each (repaired_by_turn settings bits)) first
+      repairs_are =
+          cond-false (eqb settings.columns 0) _ _ (some_columns settings.columns (λ none. absurd (omega (arith, wide, none))))
+          ∙ gathered_is (repaired_by_turn settings bits)
+
+      pub repaired_is : get_or by_line rows [] ≡ repaired
+      repaired_is =
+          get_or-there by_line rows repaired []
+          (ap (λ (n : ℕ). slice_get by_line n) taken ∙ ap (λ (xs : List (List Damaged)). slice_get xs (length so_far.rows)) repairs_are
+          ∙ comes_line (move_on settings) (one_each (repaired_by_turn settings bits)) left_to_read (by_rows_left settings wide) first none_first so_far (comes (repaired_by_turn settings bits)) repaired refl)
+
+      -- with it one line more is counted
+      pub repaired_more : sum_by length (take (rows + 1) by_line) ≡ sum_by length (take rows by_line) + length repaired
+      repaired_more =
+          let on = ap (λ (n : ℕ). drop n by_line) taken ∙ ap (λ (xs : List (List Damaged)). drop (length so_far.rows) xs) repairs_are
+          ∙ lines_on (move_on settings) (one_each (repaired_by_turn settings bits)) left_to_read (by_rows_left settings wide) first none_first so_far (comes (repaired_by_turn settings bits)) repaired refl in
+          let next : rows + 1 ≡ suc rows = omega arith in
+          ap (λ (n : ℕ). sum_by length (take n by_line)) next ∙ sum_more by_line rows repaired _ on
+
     -- a driver whose sink keeps nothing stands there
-    abbrev pub between_of : Between (move_on settings) (one_each (line_of_turn settings)) left_to_read first settings no_step nothing_kept nothing_kept (context_at settings so_far) so_far.rest
-    between_of = record { so_far = so_far; comes = comes (line_of_turn settings); held = refl; here = refl; meaning = refl; refused = refl }
+    abbrev pub between_of : (repairs : Repairs) → Between (move_on settings) (one_each (line_of_turn settings)) left_to_read first settings no_step nothing_kept nothing_kept (context_at settings so_far repairs) so_far.rest
+    between_of repairs = record { so_far = so_far; comes = comes (line_of_turn settings); held = refl; here = refl; meaning = refl; refused = refl }
 
     -- so where a row isn't read, the reading ends
-    pub row_not_read : (after : SinkState (Unit {0})) (new : Held) (left_over : Bits) (e : DecodeError)
-        → TakesOneRow (line_of_turn settings so_far) (row_of_turn settings so_far) no_step nothing_kept after (context_at settings so_far) new (Err e) left_over
+    pub row_not_read : (repairs : Repairs) (after : SinkState (Unit {0})) (new : Held) (left_over : Bits) (e : DecodeError)
+        → TakesOneRow (line_of_turn settings so_far) (row_of_turn settings so_far) no_step nothing_kept after (context_at settings so_far repairs) new (Err e) left_over
         → Leaves (ending_from (move_on settings) first) (gathered_from (move_on settings) (one_each (line_of_turn settings)) first) no_step nothing_kept after new (Err e)
-    row_not_read after new left_over e takes =
-        row_fails (move_on settings) (one_each (line_of_turn settings)) left_to_read (by_rows_left settings wide) first none_first settings no_step nothing_kept nothing_kept (context_at settings so_far) so_far.rest between_of
+    row_not_read repairs after new left_over e takes =
+        row_fails (move_on settings) (one_each (line_of_turn settings)) left_to_read (by_rows_left settings wide) first none_first settings no_step nothing_kept nothing_kept (context_at settings so_far repairs) so_far.rest (between_of repairs)
         (line_of_turn settings so_far) (row_of_turn settings so_far) (reads_row settings so_far) after new left_over e takes
 
 -- ---- A reader of rows at a line
@@ -142,18 +191,41 @@ module _ (settings : DecodeSettings) (bits : Bits) (held : Held) (here : Bits) (
   pub few : held.taken ≤ length bits + 1
   few = omega (arith, few_rows settings stands.wide bits stands.first stands.begins so_far stands.reaches stands.room, taken_is)
 
-  -- the line that stands here is that of the turn
+  -- the line here is that of the turn
   module _ (new : Held) (left_over : Bits) (answer : Result (Unit {0}) DecodeError)
       (takes : TakesOneRow (line_here held.settings held.reference here) (row_of_line held.settings held.has_eols here (line_here held.settings held.reference here))
       no_step nothing_kept nothing_kept held new answer left_over) where
-    takes_turn : TakesOneRow (line_of_turn settings so_far) (row_of_turn settings so_far) no_step nothing_kept nothing_kept (context_at settings so_far) new answer left_over
+    takes_turn : TakesOneRow (line_of_turn settings so_far) (row_of_turn settings so_far) no_step nothing_kept nothing_kept (context_at settings so_far held.repairs) new answer left_over
     takes_turn =
         let known : TakesOneRow (line_here settings (row_before settings.columns so_far.rows) here)
-        (row_of_line settings so_far.has_eols here (line_here settings (row_before settings.columns so_far.rows) here)) no_step nothing_kept nothing_kept (context_at settings so_far) new answer left_over
+        (row_of_line settings so_far.has_eols here (line_here settings (row_before settings.columns so_far.rows) here)) no_step nothing_kept nothing_kept (context_at settings so_far held.repairs) new answer left_over
         = subst (λ (h : Held). TakesOneRow (line_here h.settings h.reference here) (row_of_line h.settings h.has_eols here (line_here h.settings h.reference here)) no_step nothing_kept nothing_kept h new answer left_over)
         stands.held_is takes in
         subst (λ (x : Bits). TakesOneRow (line_here settings (row_before settings.columns so_far.rows) x)
-        (row_of_line settings so_far.has_eols x (line_here settings (row_before settings.columns so_far.rows) x)) no_step nothing_kept nothing_kept (context_at settings so_far) new answer left_over) stands.rest_is known
+        (row_of_line settings so_far.has_eols x (line_here settings (row_before settings.columns so_far.rows) x)) no_step nothing_kept nothing_kept (context_at settings so_far held.repairs) new answer left_over) stands.rest_is known
+
+-- what is repaired of a line is told
+repaired_told : (settings : DecodeSettings) (has_eols : Bool) (index offset : ℕ) (start : Bits) (line : Line) (row : Row) (rest : Bits) (before : Repairs)
+    → row_of_line settings has_eols start line ≡ Ok (row, rest)
+    → damage_since (repairs_with line before) before.rows ≡ fault_in (repaired_in settings has_eols index offset line)
+repaired_told settings has_eols index offset start (Line.whole pixels behind) row rest before is = cond-true (eqb before.rows before.rows) None (Some before.fault) (eq-eqb before.rows before.rows refl)
+repaired_told settings has_eols index offset start (Line.broken front fault) row rest before is = by (settings.strict || not has_eols) refl
+  where
+    by : (b : Bool) → (settings.strict || not has_eols) ≡ b
+        → damage_since (record { rows = before.rows + 1; fault = fault }) before.rows ≡ fault_in (repaired_in settings has_eols index offset (Line.broken front fault))
+    by true e = let never = sym (cond-true (settings.strict || not has_eols) _ _ e) ∙ is in cc
+    by false e =
+        cond-false (eqb (before.rows + 1) before.rows) None (Some fault) (ne_eqb (before.rows + 1) before.rows (λ same. absurd (omega (arith, same))))
+        ∙ sym (ap fault_in (cond-false {A = List Damaged} (settings.strict || not has_eols) [] (record { row = index; start = offset; fault = fault } ∷ []) e))
+
+-- it is one row at most
+repaired_once : (settings : DecodeSettings) (has_eols : Bool) (index offset : ℕ) (line : Line) → length (repaired_in settings has_eols index offset line) ≤ 1
+repaired_once settings has_eols index offset (Line.whole pixels behind) = omega arith
+repaired_once settings has_eols index offset (Line.broken front fault) = by (settings.strict || not has_eols)
+  where
+    by : (b : Bool) → length (cond {A = List Damaged} b [] (record { row = index; start = offset; fault = fault } ∷ [])) ≤ 1
+    by true = omega arith
+    by false = omega arith
 
 -- a row was read there
 pub record IsRead (settings : DecodeSettings) (bits : Bits) (held new : Held) (here left_over : Bits) : Type 0 where
@@ -163,6 +235,9 @@ pub record IsRead (settings : DecodeSettings) (bits : Bits) (held new : Held) (h
   pub within : new.taken ≤ length (plain settings bits).rows
   pub row : new.reference ≡ get_or (plain settings bits).rows held.taken []
   pub line_start : length bits - length here ≡ get_or (line_starts settings bits) held.taken 0
+  pub damage : damage_since new.repairs held.repairs.rows ≡ fault_in (get_or (repairs_by_line settings bits) held.taken [])
+  pub few : held.repairs.rows ≤ held.taken → new.repairs.rows ≤ new.taken
+  pub counted : held.repairs.rows ≡ sum_by length (take held.taken (repairs_by_line settings bits)) → new.repairs.rows ≡ sum_by length (take new.taken (repairs_by_line settings bits))
 
 pub is_read : (settings : DecodeSettings) (bits : Bits) (held : Held) (here : Bits) → StandsAtLine settings bits held here → (new : Held) (left_over : Bits)
     → TakesOneRow (line_here held.settings held.reference here) (row_of_line held.settings held.has_eols here (line_here held.settings held.reference here))
@@ -172,6 +247,11 @@ is_read settings bits held here stands new left_over takes =
     let taken = (takes_turn settings bits held here stands new left_over (Ok tt) takes).taken in
     let before : held.taken ≡ length so_far.rows = ap (λ (h : Held). h.taken) stands.held_is in
     let after : new.taken ≡ length so_far.rows + 1 = ap (λ (h : Held). h.taken) taken.held in
+    let line = line_of_turn settings so_far in
+    let with_line : Repairs = repairs_with line held.repairs in
+    let repaired : new.repairs ≡ with_line = ap (λ (h : Held). h.repairs) taken.held in
+    let offset = length bits - length so_far.rest in
+    let one = repaired_counts settings so_far.has_eols (length so_far.rows) offset so_far.rest line taken.taken left_over held.repairs taken.is in
     let there = row_is_there settings stands.wide bits stands.first stands.begins so_far stands.reaches taken.taken left_over taken.is in
     record {
       stands = record {
@@ -183,7 +263,8 @@ is_read settings bits held here stands new left_over takes =
         room = stands.room;
         reaches = stands.reaches;
         row_is = taken.is;
-        held_is = taken.held ∙ held_between-more settings so_far taken.taken left_over;
+        held_is = taken.held ∙ held_between-more settings so_far taken.taken left_over held.repairs with_line
+            ∙ ap (context_at settings (with_row so_far taken.taken left_over)) (sym repaired);
       };
       settings_are = ap (λ (h : Held). h.settings) taken.held;
       more = omega (arith, before, after);
@@ -191,8 +272,27 @@ is_read settings bits held here stands new left_over takes =
       row = ap (λ (h : Held). h.reference) taken.held
           ∙ sym (ap (λ (n : ℕ). get_or (plain settings bits).rows n []) before ∙ row_is_next settings stands.wide bits stands.first stands.begins so_far stands.reaches taken.taken left_over taken.is);
       line_start = ap (λ (x : Bits). length bits - length x) stands.rest_is
-          ∙ sym (ap (λ (n : ℕ). get_or (line_starts settings bits) n 0) before ∙ line_start_is settings stands.wide bits stands.first stands.begins so_far stands.reaches);
+          ∙ sym (ap (λ (n : ℕ). get_or (line_starts settings bits) n 0) before ∙ line_start_is settings stands.wide bits stands.first stands.begins so_far stands.reaches 0);
+      damage = ap (λ (r : Repairs). damage_since r held.repairs.rows) repaired
+          ∙ repaired_told settings so_far.has_eols (length so_far.rows) offset so_far.rest line taken.taken left_over held.repairs taken.is
+          ∙ sym (ap fault_in (repaired_is settings stands.wide bits stands.first stands.begins so_far stands.reaches held.taken before));
+      few = λ so. omega (arith, so, before, after, one, ap (λ (r : Repairs). r.rows) repaired, repaired_once settings so_far.has_eols (length so_far.rows) offset line);
+      counted = λ so. omega (
+        arith,
+        so,
+        one,
+        ap (λ (r : Repairs). r.rows) repaired,
+        repaired_more settings stands.wide bits stands.first stands.begins so_far stands.reaches held.taken before,
+        ap (λ (n : ℕ). sum_by length (take n (repairs_by_line settings bits))) (after ∙ ap (λ (n : ℕ). n + 1) (sym before)),
+      );
     }
+
+-- its line begins there
+pub starts_there : (settings : DecodeSettings) (bits : Bits) (held : Held) (here : Bits) → StandsAtLine settings bits held here → (other : ℕ)
+    → length bits - length here ≡ get_or (line_starts settings bits) held.taken other
+starts_there settings bits held here stands other =
+    ap (λ (x : Bits). length bits - length x) stands.rest_is
+    ∙ sym (ap (λ (n : ℕ). get_or (line_starts settings bits) n other) (ap (λ (h : Held). h.taken) stands.held_is) ∙ line_start_is settings stands.wide bits stands.first stands.begins stands.so_far stands.reaches other)
 
 -- no row was read there
 pub isnt_read : (settings : DecodeSettings) (bits : Bits) (held : Held) (here : Bits) → StandsAtLine settings bits held here → (new : Held) (left_over : Bits) (e : DecodeError)
@@ -202,7 +302,7 @@ isnt_read settings bits held here stands new left_over e takes =
     let so_far = stands.so_far in
     let reading = plain_is settings stands.wide bits stands.first stands.begins in
     let lines = lines_are settings stands.wide bits stands.first stands.begins in
-    let leaves = row_not_read settings stands.wide bits stands.first stands.begins so_far stands.reaches nothing_kept new left_over e
+    let leaves = row_not_read settings stands.wide bits stands.first stands.begins so_far stands.reaches held.repairs nothing_kept new left_over e
     (takes_turn settings bits held here stands new left_over (Err e) takes) in
     record {
       all = λ fault. leaves.0.all fault ∙ ap (λ (r : Reading). length r.rows) (sym reading);
@@ -211,8 +311,8 @@ isnt_read settings bits held here stands new left_over e takes =
       not_refused = λ is. leaves.1.refused_row (ap (λ (x : DecodeError). Err x) is);
     }
 
--- where a line stands, the invariant says so
-at_line_stands : (stand : Stand) (settings : DecodeSettings) (bits : Bits) (held : Held) (place : ℕ) → is_at_line stand ≡ true → Stands stand settings bits held place
+-- if a line is here, the invariant says so
+pub at_line_stands : (stand : Stand) (settings : DecodeSettings) (bits : Bits) (held : Held) (place : ℕ) → is_at_line stand ≡ true → Stands stand settings bits held place
     → StandsAtLine settings bits held (drop place bits)
 at_line_stands AtLine settings bits held place is stands = stands
 at_line_stands BehindRow settings bits held place is stands = absurd (false≢true is)
@@ -222,10 +322,10 @@ at_line_stands (AtFault error) settings bits held place is stands = absurd (fals
 pub reader_at_line : (inside : Inside) (now : RowsRead) → rows_read_of inside ≡ now → now.at_line ≡ true → IsReading inside
     → StandsAtLine inside.ctx.held.settings inside.reader.bits inside.ctx.held (here inside.reader)
 reader_at_line inside now view is reading =
-    at_line_stands inside.stand inside.ctx.held.settings inside.reader.bits inside.ctx.held inside.reader.place (ap (λ (r : RowsRead). r.at_line) view ∙ is) reading
+    at_line_stands inside.stand inside.ctx.held.settings inside.reader.bits inside.ctx.held inside.reader.place (ap (λ (r : RowsRead). r.at_line) view ∙ is) reading.0
 
--- so it does behind a row
-behind_row_stands : (stand : Stand) (settings : DecodeSettings) (bits : Bits) (held : Held) (place : ℕ) → ended stand ≡ None → is_at_line stand ≡ false
+-- so it does after a row
+pub behind_row_stands : (stand : Stand) (settings : DecodeSettings) (bits : Bits) (held : Held) (place : ℕ) → ended stand ≡ None → is_at_line stand ≡ false
     → Stands stand settings bits held place → StandsBehindRow settings bits held (drop place bits)
 behind_row_stands AtLine settings bits held place unended no_line stands = absurd (false≢true (sym no_line))
 behind_row_stands BehindRow settings bits held place unended no_line stands = stands
@@ -235,7 +335,7 @@ behind_row_stands (AtFault error) settings bits held place unended no_line stand
 pub reader_behind_row : (inside : Inside) (now : RowsRead) → rows_read_of inside ≡ now → now.end ≡ None → is_at_line inside.stand ≡ false → IsReading inside
     → StandsBehindRow inside.ctx.held.settings inside.reader.bits inside.ctx.held (here inside.reader)
 reader_behind_row inside now view unended no_line reading =
-    behind_row_stands inside.stand inside.ctx.held.settings inside.reader.bits inside.ctx.held inside.reader.place (ap (λ (r : RowsRead). r.end) view ∙ unended) no_line reading
+    behind_row_stands inside.stand inside.ctx.held.settings inside.reader.bits inside.ctx.held inside.reader.place (ap (λ (r : RowsRead). r.end) view ∙ unended) no_line reading.0
 
 -- ---- A gap is passed
 
@@ -245,7 +345,7 @@ code_failed : (settings : DecodeSettings) (bits : Bits) (taken : ℕ) (e : Decod
 code_failed settings bits taken e is all outcome =
     record { all = λ f. all; fault = λ f. outcome; memory = λ g. let never : InvalidCode ≡ OutOfMemory = sym is ∙ g in absurd cc; not_refused = λ g. let never : InvalidCode ≡ Refused = sym is ∙ g in absurd cc }
 
--- where the gap before a turn ends the reading, it ends so
+-- if the gap before a turn ends the reading, it ends like this
 module _ (settings : DecodeSettings) (bits : Bits) (rows : List Row) (last : Held) (place : ℕ) (within : place ≤ length bits) (taken : last.taken ≡ length rows) where
   ended_well : (has_eols : Bool) → plain settings bits ≡ whole_reading bits (record { rows = rows; has_eols = has_eols; outcome = Ok (drop place bits) }) → HasEnded settings bits last.taken place
   ended_well has_eols is = record {
@@ -258,7 +358,7 @@ module _ (settings : DecodeSettings) (bits : Bits) (rows : List Row) (last : Hel
   ended_badly has_eols e code is =
       code_failed settings bits last.taken e code (taken ∙ ap (λ (r : Reading). length r.rows) (sym is)) (ap (λ (r : Reading). r.outcome) is)
 
--- the gap behind a row leads to a line, or to the end
+-- the gap after a row leads to a line, or to the end
 module _ (settings : DecodeSettings) (bits : Bits) (held : Held) (here_now : Bits) (stands : StandsBehindRow settings bits held here_now) (last : Held) (place : ℕ) (within : place ≤ length bits)
     (frame : last ≡ record held { has_eols = last.has_eols }) where
   abbrev next : Progress
@@ -273,6 +373,20 @@ module _ (settings : DecodeSettings) (bits : Bits) (held : Held) (here_now : Bit
   last_taken : last.taken ≡ length next.rows
   last_taken = ap (λ (h : Held). h.taken) frame ∙ ap (λ (h : Held). h.taken) stands.held_is
 
+  -- no line begins behind a gap that is at fault
+  pub no_start_behind : (e : DecodeError) → gap_behind_row held.settings held.taken held.has_eols here_now ≡ gap_said (Err e) last.has_eols (drop place bits)
+      → (other : ℕ) → get_or (line_starts settings bits) held.taken other ≡ other
+  no_start_behind e said other =
+      let more : held.taken ≡ length stands.so_far.rows + 1
+      = ap (λ (h : Held). h.taken) stands.held_is ∙ length-append stands.so_far.rows (stands.row ∷ []) in
+      ap (λ (n : ℕ). get_or (line_starts settings bits) n other) more
+      ∙ no_line_behind settings stands.wide bits stands.first stands.begins stands.so_far stands.reaches _ (turn_said (Err e) said) other
+
+  pub starts_behind : (answer : Result Bool DecodeError) → gap_behind_row held.settings held.taken held.has_eols here_now ≡ gap_said answer last.has_eols (drop place bits)
+      → (offset before : ℕ) → offset ≡ place → OnErr answer (start_after answer offset before ≡ get_or (line_starts settings bits) held.taken place)
+  starts_behind (Ok over) said offset before is = tt
+  starts_behind (Err e) said offset before is = is ∙ sym (no_start_behind e said place)
+
   pub gap_stands : (answer : Result Bool DecodeError) → gap_behind_row held.settings held.taken held.has_eols here_now ≡ gap_said answer last.has_eols (drop place bits)
       → IsOkUnless answer InvalidCode → Stands (stand_after answer) settings bits last place
   gap_stands (Ok true) said code =
@@ -285,14 +399,15 @@ module _ (settings : DecodeSettings) (bits : Bits) (held : Held) (here_now : Bit
     begins = stands.begins;
     room = stands.room;
     reaches = reaches_on (move_on settings) stands.first stands.so_far (record next { has_eols = last.has_eols; rest = drop place bits }) stands.reaches (turn_said (Ok false) said);
-    held_is = frame ∙ ap (λ (h : Held). record h { has_eols = last.has_eols }) stands.held_is;
+    held_is = frame ∙ ap (λ (h : Held). record h { has_eols = last.has_eols }) stands.held_is
+        ∙ ap (context_at settings (record next { has_eols = last.has_eols; rest = drop place bits })) (sym (ap (λ (h : Held). h.repairs) frame));
     rest_is = refl;
   }
   gap_stands (Err e) said code =
       ended_badly settings bits next.rows last place within last_taken next.has_eols e code
       (ends_with_turn settings stands.wide bits stands.first stands.begins stands.so_far stands.reaches _ (turn_said (Err e) said))
 
--- so does the first gap of Group 4
+-- the first gap of Group 4 does too
 module _ (settings : DecodeSettings) (wide : 0 < settings.columns) (bits : Bits) (is : settings.encoding ≡ Group4) (last : Held) (place : ℕ) (within : place ≤ length bits)
     (frame : last ≡ record (fresh settings) { has_eols = last.has_eols }) where
   first_said : (answer : Result Bool DecodeError) → gap_behind_row settings 0 false bits ≡ gap_said answer last.has_eols (drop place bits)
@@ -317,7 +432,7 @@ module _ (settings : DecodeSettings) (wide : 0 < settings.columns) (bits : Bits)
     begins = first_said (Ok false) said;
     room = omega (arith, length-drop place bits);
     reaches = Reaches.stays (record { rows = []; has_eols = last.has_eols; rest = drop place bits });
-    held_is = frame;
+    held_is = frame ∙ ap (context_at settings (record { rows = []; has_eols = last.has_eols; rest = drop place bits })) (sym (ap (λ (h : Held). h.repairs) frame));
     rest_is = refl;
   }
   first_gap_stands (Err e) said code = ended_badly settings bits [] last place within none false e code (first_ended _ (first_said (Err e) said))
@@ -333,16 +448,27 @@ first_line_stands settings wide bits other last rest frame is room = record {
   begins = first_gap_t4 settings bits other;
   room = omega (arith, room, ap length is);
   reaches = Reaches.stays (first_line settings bits);
-  held_is = frame;
+  held_is = frame ∙ ap (context_at settings (first_line settings bits)) (sym (ap (λ (h : Held). h.repairs) frame));
   rest_is = is;
 }
 
+-- what was counted stands where no row is read
+pub repairs_stay : (settings given : DecodeSettings) (bits read : Bits) (held last : Held) → given ≡ settings → read ≡ bits → last.taken ≡ held.taken → last.repairs ≡ held.repairs
+    → RepairsAreCounted settings bits held → RepairsAreCounted given read last
+repairs_stay settings given bits read held last same are taken repairs counted = record {
+  few = omega (arith, counted.few, taken, ap (λ (r : Repairs). r.rows) repairs);
+  counted = ap (λ (r : Repairs). r.rows) repairs ∙ counted.counted ∙ ap (λ (n : ℕ). sum_by length (take n (repairs_by_line settings bits))) (sym taken)
+      ∙ ap (λ (s : DecodeSettings). sum_by length (take last.taken (repairs_by_line s bits))) (sym same)
+      ∙ ap (λ (b : Bits). sum_by length (take last.taken (repairs_by_line given b))) (sym are);
+}
+
 -- what a call says that passes a gap
-pub comes_to_line : (old : RowsRead) (last : Held) (at : BitsAt) (n : ℕ) (answer : Result Bool DecodeError) → last.settings ≡ old.settings → at.bits ≡ old.bits → last.taken ≡ old.taken
-    → Stands (stand_after answer) old.settings old.bits last at.place → ComesToLine old (read_so_far last at n (stand_after answer)) (line_after answer)
-comes_to_line old last at n (Ok true) settings bits taken stands =
-    record { settings = settings; bits = bits; taken = taken; line = λ e. cc; end = λ e. (refl, stands); error = tt }
-comes_to_line old last at n (Ok false) settings bits taken stands =
-    record { settings = settings; bits = bits; taken = taken; line = λ e. refl; end = λ e. cc; error = tt }
-comes_to_line old last at n (Err error) settings bits taken stands =
-    record { settings = settings; bits = bits; taken = taken; line = λ e. cc; end = λ e. cc; error = (refl, stands) }
+pub comes_to_line : (old : RowsRead) (last : Held) (at : BitsAt) (n : ℕ) (damage : Option DecodeError) (answer : Result Bool DecodeError) → last.settings ≡ old.settings → at.bits ≡ old.bits → last.taken ≡ old.taken
+    → Stands (stand_after answer) old.settings old.bits last at.place → OnErr answer (n ≡ get_or (line_starts old.settings old.bits) old.taken at.place)
+    → ComesToLine old (read_so_far last at n damage (stand_after answer)) (line_after answer)
+comes_to_line old last at n damage (Ok true) settings bits taken stands start =
+    record { fault_start = tt; settings = settings; bits = bits; taken = taken; line = λ e. cc; unended = λ e. cc; end = λ e. (refl, stands); error = tt }
+comes_to_line old last at n damage (Ok false) settings bits taken stands start =
+    record { fault_start = tt; settings = settings; bits = bits; taken = taken; line = λ e. refl; unended = λ e. refl; end = λ e. cc; error = tt }
+comes_to_line old last at n damage (Err error) settings bits taken stands start =
+    record { fault_start = start; settings = settings; bits = bits; taken = taken; line = λ e. cc; unended = λ e. cc; end = λ e. cc; error = (refl, stands) }

@@ -60,7 +60,7 @@ module _ (settings : DecodeSettings) where
       (line_by_within settings.encoding settings.strict settings.columns (row_before settings.columns so_far.rows) so_far.rest)
       (line_by_full settings.encoding settings.strict settings.columns (row_before settings.columns so_far.rows) so_far.rest)
 
-  -- the rows that turns come to
+  -- the rows that turns yield
   ending_width : (so_far : Progress) → HaveWidth settings.columns so_far.rows → HaveWidth settings.columns (ending_from (move_on settings) so_far).rows
   ending_width so_far have =
       repeated_keeps (move_on settings) (record { rows = so_far.rows; has_eols = so_far.has_eols; outcome = Err UnexpectedEof })

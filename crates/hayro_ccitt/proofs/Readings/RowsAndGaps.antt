@@ -1,4 +1,4 @@
--- The turns of the plain reading with the rows so far in hand: what stands between rows, over a state and not over numbers.
+-- The turns of the plain reading with the rows so far: what is between rows, over a state and not over numbers.
 use Rattle.std.proofs.Common.{◌≡◌, ℕ, Bool, true, false, cond, not, ◌&&◌, ◌||◌, eqb, leb, length, Option, Some, None, Ok, Err, refl, sym, ap, ◌∙◌}
 use Rattle.std.proofs.lemmas.Bool.{and_parts}
 use Rattle.hayro_ccitt.specs.declared.error.DecodeError.TheVariants.{InvalidCode}
@@ -11,7 +11,7 @@ use Rattle.hayro_ccitt.specs.EndOfLine.{next_eol}
 use Rattle.hayro_ccitt.specs.Repetition.{Turn}
 use Rattle.hayro_ccitt.specs.PlainReading.{eols_of_end, Progress, Gap, with_row, behind_row, add_row, after_line, Move, at_end, limit_met, eols_here, behind_eols, from_next_eol, missing_eol, ends_with, at_gap, pass_gap}
 
--- EOLs were counted behind the rows so far
+-- EOLs were counted after the rows so far
 abbrev pub unless_over : DecodeSettings → Progress → ℕ × Bits → Move
 unless_over settings so_far (count, rest) =
     cond ((settings.end_of_block && leb (eols_of_end settings.encoding) count) || limit_met settings (length so_far.rows) || at_end rest)
@@ -33,7 +33,7 @@ after_row settings so_far =
     cond ((eqb (eols_here settings so_far.rest).0 0) && so_far.has_eols && not (limit_met settings (length so_far.rows)) && not (at_end so_far.rest))
     (seek_eol settings so_far) (unless_over settings so_far (eols_here settings so_far.rest))
 
--- a row is added, in front of these bits
+-- a row is added, before these bits
 abbrev pub row_added : DecodeSettings → Progress → Row → Bits → Move
 row_added settings so_far row rest = after_row settings (with_row so_far row (behind_row settings so_far.has_eols rest))
 
@@ -44,12 +44,12 @@ at_gap-cond : (so_far : Progress) (b : Bool) (x y : Gap) → at_gap so_far (cond
 at_gap-cond so_far true x y = refl
 at_gap-cond so_far false x y = refl
 
--- two choices are equal where both cases are, each where it is taken
+-- two choices are equal if both cases are, each where it applies
 cond-same : {A : Type 0} (b : Bool) (x y z w : A) → (b ≡ true → x ≡ z) → (b ≡ false → y ≡ w) → cond b x y ≡ cond b z w
 cond-same true x y z w one two = one refl
 cond-same false x y z w one two = two refl
 
--- behind EOLs
+-- after EOLs
 behind_eols-is : (settings : DecodeSettings) (so_far : Progress) (has_eols : Bool) (found : ℕ × Bits) → so_far.has_eols ≡ has_eols
     → at_gap so_far (behind_eols settings (length so_far.rows) has_eols found) ≡ unless_over settings so_far found
 behind_eols-is settings so_far has_eols (count, rest) is =
@@ -63,7 +63,7 @@ from_eol : (settings : DecodeSettings) (so_far : Progress) (next : Option Bits) 
 from_eol settings so_far (Some found) is = behind_eols-is settings so_far true (eols_here settings found) is
 from_eol settings so_far None is = refl
 
--- what stands behind the rows
+-- what follows the rows
 pub pass_gap-is : (settings : DecodeSettings) (so_far : Progress) → pass_gap settings so_far ≡ after_row settings so_far
 pass_gap-is settings so_far =
     let test : Bool = (eqb (eols_here settings so_far.rest).0 0) && so_far.has_eols && not (limit_met settings (length so_far.rows)) && not (at_end so_far.rest) in

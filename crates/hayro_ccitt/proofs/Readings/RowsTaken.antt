@@ -1,13 +1,14 @@
 -- The turns of the loop over rows: a line, and the gap behind its row.
-use Rattle.std.proofs.Common.{◌≡◌, ◌≢◌, ◌+◌, ◌*◌, ◌<◌, ◌≤◌, ℕ, suc, Bool, true, false, cond, List, [], ◌∷◌, ◌++◌, length, append-nil, Result, Ok, Err, refl, sym, ap, ◌∙◌, subst, arith}
+use Rattle.std.proofs.Common.{◌≡◌, ◌≢◌, ◌+◌, ◌-◌, ◌*◌, ◌<◌, ◌≤◌, ℕ, suc, Bool, true, false, cond, List, [], ◌∷◌, ◌++◌, length, append-nil, Result, Ok, Err, refl, sym, ap, ◌∙◌, subst, arith}
 use Rattle.std.proofs.lemmas.List.{length-append}
 use Rattle.std.proofs.lemmas.Bool.{false≢true}
 use Rattle.hayro_ccitt.specs.declared.error.DecodeError.{DecodeError}
 use Rattle.hayro_ccitt.specs.declared.settings.DecodeSettings.{DecodeSettings}
 use Rattle.hayro_ccitt.specs.Bits.{Bits}
 use Rattle.hayro_ccitt.specs.Answers.{IsFault, meaning_after}
-use Rattle.hayro_ccitt.specs.Context.{Held}
-use Rattle.hayro_ccitt.specs.Decoding.{SinkState, TakesOneRow, RowIsTaken, with_row_taken, gap_said}
+use Rattle.hayro_ccitt.specs.Context.{Held, Repairs}
+use Rattle.hayro_ccitt.specs.Damage.{repaired_by_turn}
+use Rattle.hayro_ccitt.specs.Decoding.{SinkState, TakesOneRow, RowIsTaken, CountsRepairs, repairs_with, with_row_taken, gap_said}
 use Rattle.hayro_ccitt.specs.PlainReading.{Progress, Ending, Gap, gap_behind_row, line_here, line_of_turn, row_of_line, row_before, at_gap, add_row, pass_gap, with_row, move_on, one_each, ending_from, gathered_from}
 use Rattle.hayro_ccitt.specs.Repetition.{Turn}
 use Rattle.hayro_ccitt.specs.Rows.{Row, changes}
@@ -20,23 +21,24 @@ use Rattle.hayro_ccitt.proofs.Work.RunsCount.{WordsCounted, counted_next, counte
 use Rattle.hayro_ccitt.proofs.Readings.TurnsAddRows.{Adds, Keeps, after_row_keeps, keeps_adds, move_adds}
 use Rattle.hayro_ccitt.proofs.Readings.TurnsMoveOn.{left_to_read, left_below, move_shrinks}
 use Rattle.hayro_ccitt.proofs.Readings.RowsAndGaps.{after_row, pass_gap-is}
+use Rattle.hayro_ccitt.proofs.Readings.RepairsCounted.{RepairsCounted, all_repairs, repaired_counts, repaired_none, repairs_next, repairs_end, repairs_end_behind}
 use Rattle.hayro_ccitt.proofs.Readings.RunsOverRows.{RowByRow, ReadsRow, Leaves, Between, comes_done, comes_next, row_fails, ends_well, ends_at_fault, held_between, held_between-more, meaning_after-more}
 
 -- where a run over rows begins at a line
 abbrev pub from_line : Bool → Bits → Progress
 from_line sought rest = record { rows = []; has_eols = sought; rest = rest }
 
--- its turns leave less to read, or give up EOLs, and add rows
+-- its turns leave less to read, or cease to seek EOLs, and add rows
 pub by_rows_left : (settings : DecodeSettings) → 0 < settings.columns → RowByRow (move_on settings) left_to_read
 by_rows_left settings wide =
     record { shrinks = move_shrinks settings wide; adds = move_adds settings; below = left_below }
 
 module _ (settings : DecodeSettings) (so_far : Progress) where
-  -- what the line of a turn comes to
+  -- what the line of a turn yields
   abbrev pub row_of_turn : Result (Row × Bits) DecodeError
   row_of_turn = row_of_line settings so_far.has_eols so_far.rest (line_of_turn settings so_far)
 
-  -- what stands behind a row leaves the rows as they are
+  -- what follows a row leaves the rows as they are
   behind_adds : (taken : Row) (rest : Bits) → Adds (so_far.rows ++ taken ∷ []) (pass_gap settings (with_row so_far taken rest))
   behind_adds taken rest =
       let next : Progress = with_row so_far taken rest in
@@ -51,30 +53,30 @@ module _ (settings : DecodeSettings) (so_far : Progress) where
     adds = λ taken rest is. subst (Adds (so_far.rows ++ taken ∷ [])) (sym (ap (add_row settings so_far) is)) (behind_adds taken rest);
   }
 
-  -- and goes on, or ends, as what stands behind its row says
+  -- and continues, or ends, as what follows its row says
   pub turn_is : (taken : Row) (rest : Bits) (gap : Gap) → row_of_turn ≡ Ok (taken, rest)
       → gap_behind_row settings (length (so_far.rows ++ taken ∷ [])) so_far.has_eols rest ≡ gap → move_on settings so_far ≡ at_gap (with_row so_far taken rest) gap
   turn_is taken rest gap is stands = ap (add_row settings so_far) is ∙ ap (at_gap (with_row so_far taken rest)) stands
 
 -- ---- A turn of the loop, between two rows
 
--- what is counted most in data of Group 3
+-- the most that is counted in data of Group 3
 pub most_counted_t4 : (encoding : EncodingMode) (bits : ℕ) → encoding ≢ Group4 → most_counted encoding bits ≡ 36 * bits + 14
 most_counted_t4 Group4 bits other = absurd (other refl)
 most_counted_t4 Group3_1D bits other = refl
 most_counted_t4 Group3_2D bits other = refl
 
--- giving up EOLs costs at most so much
+-- ceasing to seek EOLs costs at most this much
 pub given_up_at_most : (sought : Bool) (bits : ℕ) → most_given_up sought bits ≤ 8 * bits + 8
 given_up_at_most true bits = omega arith
 given_up_at_most false bits = omega arith
 
--- EOLs can be given up only in a run that sought them, which has paid for that
+-- only a run that sought EOLs can cease to, and it has paid for that
 pub giving_up_is_paid : (sought has_eols : Bool) (bits : ℕ) → (sought ≡ false → has_eols ≡ false) → has_eols ≡ true → 8 * bits + 8 ≤ most_given_up sought bits
 giving_up_is_paid true has_eols bits unsought is = omega arith
 giving_up_is_paid false has_eols bits unsought is = absurd (false≢true (sym (unsought refl) ∙ is))
 
--- a row is read and handed over, where these bits stand
+-- a row is read and passed on, with these bits left
 abbrev pub TakesRow : {M : Type 0} → (M → List ℕ → M) → SinkState M → SinkState M → Held → Bits → Held → Result (Unit {0}) DecodeError → Bits → Type 0
 TakesRow step now after held here new answer rest =
     TakesOneRow (line_here held.settings held.reference here) (row_of_line held.settings held.has_eols here (line_here held.settings held.reference here))
@@ -101,7 +103,7 @@ module _ {M : Type 0} (settings : DecodeSettings) (wide : 0 < settings.columns) 
   abbrev words : List Bits
   words = words_of_turn settings so_far
 
-  -- what was taken is what the turn reads
+  -- what was accepted is what the turn reads
   pub takes_is : (answer : Result (Unit {0}) DecodeError) → TakesRow (step_of now_width) now after held here new answer rest
       → TakesOneRow (line_of_turn settings so_far) (row_of_turn settings so_far) step now after held new answer rest
   takes_is answer takes =
@@ -113,12 +115,25 @@ module _ {M : Type 0} (settings : DecodeSettings) (wide : 0 < settings.columns) 
       subst (λ (x : Bits). TakesOneRow (line_here settings (row_before settings.columns so_far.rows) x)
       (row_of_line settings so_far.has_eols x (line_here settings (row_before settings.columns so_far.rows) x)) step now after held new answer rest) between.here known
 
-  -- a row that isn't taken ends the run
+  -- a row that isn't accepted ends the run
   pub turn_fails : (e : DecodeError) → TakesRow (step_of now_width) now after held here new (Err e) rest
       → Leaves (ending_from (move_on settings) (from_line sought rest0)) (gathered_from (move_on settings) (one_each (line_of_turn settings)) (from_line sought rest0)) step before after new (Err e)
   turn_fails e takes =
       row_fails (move_on settings) (one_each (line_of_turn settings)) left_to_read (by_rows_left settings wide) (from_line sought rest0) refl settings step before now held here between
       (line_of_turn settings so_far) (row_of_turn settings so_far) (reads_row settings so_far) after new rest e (takes_is (Err e) takes)
+
+  -- what was repaired until then is counted
+  pub fails_repaired : {A : Type 0} (e : DecodeError) → TakesRow (step_of now_width) now after held here new (Err e) rest
+      → RepairsCounted settings bits (from_line sought rest0) so_far held.repairs.rows → CountsRepairs {A = A} (all_repairs settings bits (from_line sought rest0)) new (Err e)
+  fails_repaired e takes counted =
+      let known = takes_is (Err e) takes in
+      repairs_end settings bits (from_line sought rest0) (by_rows_left settings wide) refl so_far held.repairs.rows counted e new
+      (ap (λ (h : Held). h.taken) known.held ∙ ap (λ (h : Held). h.taken) between.held) (ap (λ (h : Held). h.repairs.rows) known.held)
+      (λ fault. (
+        repaired_none settings so_far.has_eols (length so_far.rows) (length bits - length so_far.rest) so_far.rest (line_of_turn settings so_far) e (known.fault fault),
+        _,
+        (reads_row settings so_far).fails e (known.fault fault),
+      ))
 
   -- the words as the settings of the run say
   words_here : length (found_here held.settings held.reference here) ≡ length (found_here settings held.reference here)
@@ -135,10 +150,10 @@ module _ {M : Type 0} (settings : DecodeSettings) (wide : 0 < settings.columns) 
     fails_paid = line_ends settings wide begun (length bits) giving_up held.reference held.has_eols here within ticks (length (changes held.reference)) paid then line_counted
 
     module _ (takes : TakesRow (step_of now_width) now after held here new (Ok tt) rest) where
-      abbrev row_taken : RowIsTaken (row_of_turn settings so_far) step now after held new rest
+      abbrev row_taken : RowIsTaken (line_of_turn settings so_far) (row_of_turn settings so_far) step now after held new rest
       row_taken = (takes_is (Ok tt) takes).taken
 
-      -- the row that was taken is the line's
+      -- the accepted row is the line's
       row_is : row_of_line settings held.has_eols here (line_here settings held.reference here) ≡ Ok (row_taken.taken, rest)
       row_is =
           subst (λ (h : Held). row_of_line settings h.has_eols here (line_here settings h.reference here) ≡ Ok (row_taken.taken, rest)) (sym between.held)
@@ -185,15 +200,28 @@ module _ {M : Type 0} (settings : DecodeSettings) (wide : 0 < settings.columns) 
               (subst (λ (b : Bool). gap_behind_row new.settings new.taken b rest ≡ Gap.line_at last.has_eols left_over) row_eols gap)
 
   module _ (takes : TakesRow (step_of now_width) now after held here new (Ok tt) rest) where
-    abbrev taken : RowIsTaken (row_of_turn settings so_far) step now after held new rest
+    abbrev taken : RowIsTaken (line_of_turn settings so_far) (row_of_turn settings so_far) step now after held new rest
     taken = (takes_is (Ok tt) takes).taken
 
-    -- the rows with the one that was taken
+    -- the rows with the accepted one
     abbrev next : Progress
     next = with_row so_far taken.taken rest
 
-    pub next_held : new ≡ held_between settings next
-    next_held = taken.held ∙ ap (λ (h : Held). with_row_taken h taken.taken) between.held ∙ held_between-more settings so_far taken.taken rest
+    -- what was repaired, with its line
+    abbrev next_repairs : Repairs
+    next_repairs = repairs_with (line_of_turn settings so_far) held.repairs
+
+    pub next_held : new ≡ held_between settings next new.repairs
+    next_held =
+        taken.held ∙ ap (λ (h : Held). record (with_row_taken h taken.taken) { repairs = next_repairs }) between.held
+        ∙ held_between-more settings so_far taken.taken rest held.repairs next_repairs
+        ∙ ap (held_between settings next) (sym (ap (λ (h : Held). h.repairs) taken.held))
+
+    -- and how much
+    one_repaired : new.repairs.rows ≡ held.repairs.rows + length (repaired_by_turn settings bits so_far)
+    one_repaired =
+        ap (λ (h : Held). h.repairs.rows) taken.held
+        ∙ repaired_counts settings so_far.has_eols (length so_far.rows) (length bits - length so_far.rest) so_far.rest (line_of_turn settings so_far) taken.taken rest held.repairs taken.is
 
     pub next_meaning : after.meaning ≡ meaning_after step before.meaning next.rows
     next_meaning = taken.meaning ∙ ap (λ (m : M). step m (changes taken.taken)) between.meaning ∙ sym (meaning_after-more step before.meaning so_far.rows taken.taken)
@@ -239,18 +267,35 @@ module _ {M : Type 0} (settings : DecodeSettings) (wide : 0 < settings.columns) 
       pub goes_on : answer ≡ Ok false → move_on settings so_far ≡ Turn.next on
       goes_on is = turn ∙ ap (λ (a : Result Bool DecodeError). at_gap next (gap_said a last.has_eols left_over)) is
 
-      -- else the run goes on
+      -- else the run continues
       abbrev pub next_between : answer ≡ Ok false
           → Between (move_on settings) (one_each (line_of_turn settings)) left_to_read (from_line sought rest0) settings step before after last left_over
       next_between is = record {
         so_far = on;
         comes = comes_next (move_on settings) (one_each (line_of_turn settings)) left_to_read (by_rows_left settings wide) (from_line sought rest0) refl so_far between.comes
             (line_of_turn settings so_far) refl on (goes_on is) (omega (arith, length-append so_far.rows (taken.taken ∷ [])));
-        held = frame ∙ ap (λ (h : Held). record h { has_eols = last.has_eols }) next_held;
+        held = frame ∙ ap (λ (h : Held). record h { has_eols = last.has_eols }) next_held ∙ ap (held_between settings on) (sym (ap (λ (h : Held). h.repairs) frame));
         here = refl;
         meaning = next_meaning;
         refused = next_refused;
       }
+
+      last_repaired : last.repairs.rows ≡ held.repairs.rows + length (repaired_by_turn settings bits so_far)
+      last_repaired = ap (λ (h : Held). h.repairs.rows) frame ∙ one_repaired
+
+      -- what is repaired is counted
+      pub next_repaired : answer ≡ Ok false → RepairsCounted settings bits (from_line sought rest0) so_far held.repairs.rows
+          → RepairsCounted settings bits (from_line sought rest0) on last.repairs.rows
+      next_repaired is counted =
+          repairs_next settings bits (from_line sought rest0) (by_rows_left settings wide) refl so_far held.repairs.rows counted on last.repairs.rows (goes_on is)
+          (omega (arith, length-append so_far.rows (taken.taken ∷ []))) last_repaired
+
+      -- also where the row is the last one
+      pub last_repairs : {A : Type 0} (outcome : Result Bits DecodeError) → gap_said answer last.has_eols left_over ≡ Gap.over outcome → (said : Result A DecodeError)
+          → RepairsCounted settings bits (from_line sought rest0) so_far held.repairs.rows → CountsRepairs (all_repairs settings bits (from_line sought rest0)) last said
+      last_repairs outcome over said counted =
+          repairs_end_behind settings bits (from_line sought rest0) (by_rows_left settings wide) refl so_far held.repairs.rows counted _ (turn ∙ ap (at_gap next) over) last said
+          (omega (arith, last_taken, length-append so_far.rows (taken.taken ∷ []))) last_repaired
 
       -- and where the line's words are counted, those of all rows are
       pub next_counted : answer ≡ Ok false → (begun ticks then : ℕ)
@@ -268,7 +313,7 @@ module _ {M : Type 0} (settings : DecodeSettings) (wide : 0 < settings.columns) 
           counted_ends_behind (move_on settings) (one_each (words_of_turn settings)) left_to_read (by_rows_left settings wide) (from_line sought rest0) refl so_far begun ticks counted
           words last.taken then most refl (omega (arith, last_taken, length-append so_far.rows (taken.taken ∷ []))) at_least at_most
 
-      -- where less is left, or EOLs were given up
+      -- if less is left, or EOLs are no longer sought
       pub next_shorter : answer ≡ Ok false
           → cond last.has_eols (suc (length left_over)) (length left_over) < cond held.has_eols (suc (length here)) (length here)
       next_shorter is =

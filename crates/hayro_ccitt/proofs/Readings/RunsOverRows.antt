@@ -11,7 +11,7 @@ use Rattle.hayro_ccitt.specs.declared.error.DecodeError.TheVariants.{UnexpectedE
 use Rattle.hayro_ccitt.specs.declared.settings.DecodeSettings.{DecodeSettings}
 use Rattle.hayro_ccitt.specs.Answers.{IsFault, PaintsBlack, meaning_after}
 use Rattle.hayro_ccitt.specs.Bits.{Bits, IsPrefix}
-use Rattle.hayro_ccitt.specs.Context.{Held}
+use Rattle.hayro_ccitt.specs.Context.{Held, Repairs}
 use Rattle.hayro_ccitt.specs.Decoding.{SinkState, TakesRows, StopsShort, TakesOneRow, IsRefusedBy, with_row_taken}
 use Rattle.hayro_ccitt.specs.Lines.{Line}
 use Rattle.hayro_ccitt.specs.PlainReading.{Progress, Ending, Move, row_before, ends_with, with_row, ending_from, gathered_from}
@@ -22,20 +22,20 @@ use Rattle.hayro_ccitt.proofs.Readings.TurnsAddRows.{Adds, repeated_adds, prefix
 use Rattle.hayro_ccitt.proofs.EncodedPictures.PictureLines.{row_before_push}
 use Rattle.hayro_ccitt.proofs.Readings.Repeated.{Shrinks, after_turn, repeated_turn, repeated_same}
 
--- the element at an index begins what stands from there on
+-- the element at an index begins what is there from it on
 slice_get-drop_cons : {A : Type 0} (xs : List A) (k : ℕ) (x : A) (more : List A) → drop k xs ≡ x ∷ more → slice_get xs k ≡ Some x
 slice_get-drop_cons [] zero x more e = absurd cc
 slice_get-drop_cons [] (suc k) x more e = absurd cc
 slice_get-drop_cons (y ∷ xs) zero x more e = cc
 slice_get-drop_cons (y ∷ xs) (suc k) x more e = slice_get-drop_cons xs k x more e
 
-drop-suc_cons : {A : Type 0} (xs : List A) (k : ℕ) (x : A) (more : List A) → drop k xs ≡ x ∷ more → drop (suc k) xs ≡ more
+pub drop-suc_cons : {A : Type 0} (xs : List A) (k : ℕ) (x : A) (more : List A) → drop k xs ≡ x ∷ more → drop (suc k) xs ≡ more
 drop-suc_cons [] zero x more e = absurd cc
 drop-suc_cons [] (suc k) x more e = absurd cc
 drop-suc_cons (y ∷ xs) zero x more e = cc
 drop-suc_cons (y ∷ xs) (suc k) x more e = drop-suc_cons xs k x more e
 
--- the element behind a list is the one of its length
+-- the element after a list is the one of its length
 pub get_or-behind : {A : Type 0} (xs : List A) (x : A) (more : List A) (other : A) → get_or ((xs ++ x ∷ []) ++ more) (length xs) other ≡ x
 get_or-behind [] x more other = refl
 get_or-behind (y ∷ xs) x more other = get_or-behind xs x more other
@@ -46,24 +46,25 @@ pub meaning_after-more : {M : Type 0} (step : M → List ℕ → M) (meaning : M
 meaning_after-more step meaning rows row =
     ap (fold step meaning) (map-append changes rows (row ∷ [])) ∙ fold-append step meaning (map changes rows) (changes row ∷ [])
 
--- what a context holds between two lines
-abbrev pub held_between : DecodeSettings → Progress → Held
-held_between settings so_far = record {
+-- what a context holds between two lines, where so much was repaired
+abbrev pub held_between : DecodeSettings → Progress → Repairs → Held
+held_between settings so_far repairs = record {
   reference = row_before settings.columns so_far.rows;
   front = [];
   color = White;
   taken = length so_far.rows;
+  repairs = repairs;
   has_eols = so_far.has_eols;
   settings = settings;
 }
 
 -- with one more row it holds what it then holds between two lines
-pub held_between-more : (settings : DecodeSettings) (so_far : Progress) (row : Row) (rest : Bits)
-    → with_row_taken (held_between settings so_far) row ≡ held_between settings (with_row so_far row rest)
-held_between-more settings so_far row rest =
+pub held_between-more : (settings : DecodeSettings) (so_far : Progress) (row : Row) (rest : Bits) (before now : Repairs)
+    → record (with_row_taken (held_between settings so_far before) row) { repairs = now } ≡ held_between settings (with_row so_far row rest) now
+held_between-more settings so_far row rest before now =
     let more : length so_far.rows + 1 ≡ length (so_far.rows ++ row ∷ []) = omega (arith, length-append so_far.rows (row ∷ [])) in
-    ap (λ (r : Row). record (held_between settings so_far) { reference = r; taken = length so_far.rows + 1 }) (sym (row_before_push settings.columns so_far.rows row))
-    ∙ ap (λ (n : ℕ). record (held_between settings (with_row so_far row rest)) { taken = n }) more
+    ap (λ (r : Row). record (held_between settings so_far now) { reference = r; taken = length so_far.rows + 1 }) (sym (row_before_push settings.columns so_far.rows row))
+    ∙ ap (λ (n : ℕ). record (held_between settings (with_row so_far row rest) now) { taken = n }) more
 
 -- what a run of turns needs of its move: each leaves less to read, and adds rows
 pub record RowByRow (move : Progress → Move) (left : Progress → ℕ) : Type 0 where
@@ -76,17 +77,17 @@ abbrev pub ending : (Progress → Move) → (Progress → ℕ) → Progress → 
 ending move left start so_far =
     repeated move (record { rows = start.rows; has_eols = start.has_eols; outcome = Err UnexpectedEof }) (suc (left so_far)) so_far
 
--- what the turns from a state on give: the lines that are read, or the words that these find
+-- the values of the turns from a state on: the lines that are read, or the words that these find
 abbrev pub lines : {A : Type 0} → (Progress → Move) → (Progress → List A) → (Progress → ℕ) → Progress → List A
 lines move gives left so_far = gathered move gives (suc (left so_far)) so_far
 
--- The reading comes to a state: how it ends and which lines follow is known from there on.
+-- The reading reaches a state: how it ends and which lines follow is known from there on.
 pub record Comes {A : Type 0} (move : Progress → Move) (gives : Progress → List A) (left : Progress → ℕ) (start so_far : Progress) : Type 0 where
   pub ends : ending_from move start ≡ ending move left start so_far
   pub follow : drop (length so_far.rows) (gathered_from move gives start) ≡ lines move gives left so_far
   pub room : length so_far.rows + left so_far ≤ left start
 
--- A turn from a state reads this line, which comes to this row.
+-- A turn from a state reads this line, which yields this row.
 pub record ReadsRow (move : Progress → Move) (gives : Progress → List Line) (so_far : Progress) (line : Line) (row : Result (Row × Bits) DecodeError) : Type 0 where
   pub reads : gives so_far ≡ line ∷ []
   pub fails : (fault : DecodeError) → row ≡ Err fault → move so_far ≡ ends_with so_far (Err fault)
@@ -102,7 +103,7 @@ module _ {A : Type 0} (move : Progress → Move) (gives : Progress → List A) (
   abbrev never : Ending
   never = record { rows = start.rows; has_eols = start.has_eols; outcome = Err UnexpectedEof }
 
-  -- it comes to its start
+  -- it reaches its start
   pub comes_first : Comes move gives left start start
   comes_first = record {
     ends = repeated_same move never left by_rows.shrinks (suc (suc (length start.rest))) (suc (left start)) start (by_rows.below start) (omega arith);
@@ -145,7 +146,7 @@ module _ {A : Type 0} (move : Progress → Move) (gives : Progress → List A) (
       pub comes_line : slice_get all_lines (length so_far.rows) ≡ Some line
       comes_line = slice_get-drop_cons all_lines (length so_far.rows) line _ lines_on
 
-      -- a turn that adds its row comes to the next state
+      -- a turn that adds its row reaches the next state
       pub comes_next : (after : Progress) → move so_far ≡ Turn.next after → length after.rows ≡ suc (length so_far.rows) → Comes move gives left start after
       comes_next after is more = record {
         ends = comes_done_or after is;
@@ -159,13 +160,13 @@ module _ {A : Type 0} (move : Progress → Move) (gives : Progress → List A) (
 
 -- ---- What a run leaves
 
--- what the drivers say of a run that ends so and reads these lines
+-- what the drivers say of a run that ends like this and reads these lines
 abbrev pub Leaves : {M : Type 0} → Ending → List Line → (M → List ℕ → M) → SinkState M → SinkState M → Held → Result Bits DecodeError → Type 0
 Leaves end lines step before after held answer =
     TakesRows end.rows end.outcome end.has_eols step before after held answer × StopsShort end.rows lines before after held answer
 
 module _ {M : Type 0} (step : M → List ℕ → M) (before after : SinkState M) (held : Held) where
-  -- the sink means the rows, as the first so many of all
+  -- the sink means the rows, as the first ones of all
   means : (rows all : List Row) → IsPrefix rows all → held.taken ≡ length rows → after.meaning ≡ meaning_after step before.meaning rows
       → after.meaning ≡ meaning_after step before.meaning (take held.taken all)
   means rows all prefix taken meaning =
@@ -232,7 +233,7 @@ module _ {M : Type 0} (step : M → List ℕ → M) (before after : SinkState M)
       has_eols = λ f. absurd (no_fault f);
     }
 
-    -- a run that wanted memory
+    -- a run that failed to allocate
     pub wants_memory : PaintsBlack lines held.taken → after.refused ≡ before.refused → Leaves end lines step before after held (Err OutOfMemory)
     wants_memory black refused = (
       takes_some OutOfMemory (λ f. f),
@@ -248,12 +249,12 @@ module _ {M : Type 0} (step : M → List ℕ → M) (before after : SinkState M)
 
 -- ---- Between two rows
 
--- What is known between two rows of a run: the reading comes to a state, and context, bits and sink stand there.
+-- What is known between two rows of a run: the reading reaches a state, and context, bits and sink are there.
 pub record Between {M : Type 0} (move : Progress → Move) (gives : Progress → List Line) (left : Progress → ℕ) (start : Progress) (settings : DecodeSettings)
     (step : M → List ℕ → M) (before now : SinkState M) (context : Held) (rest : Bits) : Type 0 where
   pub so_far : Progress
   pub comes : Comes move gives left start so_far
-  pub held : context ≡ held_between settings so_far
+  pub held : context ≡ held_between settings so_far context.repairs
   pub here : rest ≡ so_far.rest
   pub meaning : now.meaning ≡ meaning_after step before.meaning so_far.rows
   pub refused : now.refused ≡ before.refused
@@ -268,7 +269,7 @@ module _ {M : Type 0} (move : Progress → Move) (gives : Progress → List Line
   the_lines = gathered_from move gives start
 
   module _ (line : Line) (row : Result (Row × Bits) DecodeError) (reads : ReadsRow move gives between.so_far line row) (after : SinkState M) (new : Held) (rest : Bits) where
-    -- a row that isn't taken ends the run
+    -- a row that isn't accepted ends the run
     pub row_fails : (e : DecodeError) → TakesOneRow line row step now after held new (Err e) rest → Leaves the_end the_lines step before after new (Err e)
     row_fails e takes = by e takes
       where

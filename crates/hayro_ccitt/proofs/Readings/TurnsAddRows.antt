@@ -26,7 +26,7 @@ keeps_cond : (rows : List Row) (b : Bool) (x y : Move) → Keeps rows x → Keep
 keeps_cond rows true x y p q = p
 keeps_cond rows false x y p q = q
 
--- the rows stay those that stand
+-- the rows so far don't change
 pub unless_over_keeps : (settings : DecodeSettings) (run : Progress) (found : ℕ × Bits) → Keeps run.rows (unless_over settings run found)
 unless_over_keeps settings run (count, rest) =
     keeps_cond run.rows (((settings.end_of_block && leb (eols_of_end settings.encoding) count) || limit_met settings (length run.rows)) || at_end rest) (ends_with run (Ok rest))
@@ -79,11 +79,11 @@ after_line_adds settings run (Line.broken front fault) =
 pub move_adds : (settings : DecodeSettings) (run : Progress) → Adds run.rows (move_on settings run)
 move_adds settings run = after_line_adds settings run (line_here settings (row_before settings.columns run.rows) run.rest)
 
--- a front of a front is a front
+-- a prefix of a prefix is a prefix
 pub prefix_trans : {A : Type 0} (a b c : List A) → IsPrefix a b → IsPrefix b c → IsPrefix a c
 prefix_trans a b c f g = (f.0 ++ g.0, g.1 ∙ ap (λ (x : List _). x ++ g.0) f.1 ∙ append_assoc a f.0 g.0)
 
--- the rows of a state are a front of the answer's
+-- the rows of a state are a prefix of the result's
 pub repeated_adds : (move : Progress → Move) (late : Ending) (size : Progress → ℕ) → Shrinks move size → ((run : Progress) → Adds run.rows (move run))
     → (n : ℕ) (run : Progress) → size run < n → IsPrefix run.rows (repeated move late n run).rows
 repeated_adds move late size shrinks adds n run lt =

@@ -1,4 +1,4 @@
--- Each line of a run moves the place on.
+-- Each line of a run moves the offset on.
 use Rattle.std.proofs.Common.{◌≡◌, ℕ, zero, suc, ◌+◌, ◌-◌, ◌%◌, ◌<◌, ◌≤◌, Bool, true, false, cond, not, ◌&&◌, ◌||◌, eqb, leb, [], ◌∷◌, ◌++◌}
 use Rattle.std.proofs.Common.{length, replicate, Option, Some, None, Result, Ok, Err, refl, sym, ap, subst, ◌∙◌, arith, ◌⊎◌, inl, inr}
 use Rattle.std.proofs.lemmas.List.{length-drop}
@@ -52,7 +52,7 @@ eols_shorter (suc most) here =
 pub next_is : (s t : Progress) → ◌≡◌ {A = Move} (Turn.next s) (Turn.next t) → s ≡ t
 next_is s t e = cc
 
--- a turn that ends does not go on
+-- a turn that ends does not continue
 pub not_next : (l : Ending) (t : Progress) → ◌≡◌ {A = Move} (Turn.done l) (Turn.next t) → ⊥
 not_next l t e = cc
 
@@ -70,16 +70,16 @@ cond_le false x y n p q = q
 pub one_more-count : (found : ℕ × Bits) → (one_more found).0 ≡ suc found.0
 one_more-count (count, here) = refl
 
--- where an EOL stands, the count of EOLs is that of those after it, and one more
+-- if there is an EOL, the count of EOLs is that of those after it, and one more
 pub eols-some : (most : ℕ) (here rest : Bits) → after_eol 0 here ≡ Some rest → eols (suc most) here ≡ one_more (eols most rest)
 eols-some most here rest e = rw (e, eols) refl
 
--- where no EOL stands, none is counted
+-- if there is no EOL, none is counted
 pub eols-none : (most : ℕ) (here : Bits) → after_eol 0 here ≡ None → eols most here ≡ (0, here)
 eols-none zero here e = refl
 eols-none (suc most) here e = rw (e, eols) refl
 
--- the place is moved on by each EOL
+-- each EOL moves the offset on
 pub eols_moves : (most : ℕ) (here : Bits) → 0 < (eols most here).0 → length (eols most here).1 < length here
 eols_moves zero here some = absurd (omega arith)
 eols_moves (suc most) here some = by (after_eol 0 here) refl
@@ -89,7 +89,7 @@ eols_moves (suc most) here some = by (after_eol 0 here) refl
     by (Some rest) e = rw (eols-some most here rest e)
         (omega (arith, length-one_more (eols most rest), eols_shorter most rest, after_eol_shorter 0 here rest e))
 
--- where the next EOL was found, one stands
+-- if the next EOL was found, there is one
 pub next_eol_found : (here found : Bits) → next_eol here ≡ Some found → (length found ≤ length here) × ((after : Bits) × (after_eol 0 found ≡ Some after))
 next_eol_found [] found e = absurd cc
 next_eol_found (bit ∷ here) found e = by (next_eol_found here found) (after_eol 0 (bit ∷ here)) refl
@@ -102,12 +102,12 @@ next_eol_found (bit ∷ here) found e = by (next_eol_found here found) (after_eo
         let same : (bit ∷ here) ≡ found = cc in
         subst (λ (x : Bits). (length x ≤ length (bit ∷ here)) × ((after : Bits) × (after_eol 0 x ≡ Some after))) same (omega arith, (rest, f))
 
--- an EOL that stands is counted
+-- an EOL that is there is counted
 pub eols_some_counts : (here rest : Bits) → after_eol 0 here ≡ Some rest → 0 < (all_eols here).0
 eols_some_counts [] rest e = absurd cc
 eols_some_counts (bit ∷ here) rest e = rw (eols-some (length here) (bit ∷ here) rest e) (omega (arith, one_more-count (eols (length here) rest)))
 
--- a tag is passed, or nothing
+-- a tag is consumed, or nothing
 pub past_tag_shorter : (here : Bits) → length (past_tag here) ≤ length here
 past_tag_shorter [] = omega arith
 past_tag_shorter (false ∷ here) = omega arith
@@ -117,12 +117,12 @@ past_tag_shorter (true ∷ here) = by (after_eol 0 here) refl
     by None e = rw (e, past_tag) (omega arith)
     by (Some rest) e = rw (e, past_tag) (omega arith)
 
--- where an EOL stands, the count of EOLs with their tags is that of those after it and its tag, and one more
+-- if there is an EOL, the count of EOLs with their tags is that of those after it and its tag, and one more
 pub eols_with_tags-some : (most : ℕ) (here rest : Bits) → after_eol 0 here ≡ Some rest
     → eols_with_tags (suc most) here ≡ one_more (eols_with_tags most (past_tag rest))
 eols_with_tags-some most here rest e = rw (e, eols_with_tags) refl
 
--- where no EOL stands, none is counted
+-- if there is no EOL, none is counted
 pub eols_with_tags-none : (most : ℕ) (here : Bits) → after_eol 0 here ≡ None → eols_with_tags most here ≡ (0, here)
 eols_with_tags-none zero here e = refl
 eols_with_tags-none (suc most) here e = rw (e, eols_with_tags) refl
@@ -137,7 +137,7 @@ eols_with_tags_shorter (suc most) here = by (λ rest. eols_with_tags_shorter mos
     by on (Some rest) e = rw (eols_with_tags-some most here rest e)
         (omega (arith, length-one_more (eols_with_tags most (past_tag rest)), on (past_tag rest), past_tag_shorter rest, after_eol_shorter 0 here rest e))
 
--- the place is moved on by each of them
+-- each of them moves the offset on
 eols_with_tags_moves : (most : ℕ) (here : Bits) → 0 < (eols_with_tags most here).0 → length (eols_with_tags most here).1 < length here
 eols_with_tags_moves zero here some = absurd (omega arith)
 eols_with_tags_moves (suc most) here some = by (after_eol 0 here) refl
@@ -186,7 +186,7 @@ tagged_eols_counted here =
           omega (arith, last_tag_shorter found, eols_with_tags_moves (length here) here counts),
     )
 
--- so many EOLs took bits
+-- that many EOLs consumed bits
 pub eols_here_counted : (settings : DecodeSettings) (here : Bits) → Counted here (eols_here settings here)
 eols_here_counted settings here = by settings.encoding settings.end_of_block
   where
@@ -202,7 +202,7 @@ tagged_eols_some_counts (bit ∷ here) rest e =
     let found : ℕ × Bits = eols_with_tags (length here) (past_tag rest) in
     rw (eols_with_tags-some (length here) (bit ∷ here) rest e) (omega (arith, last_tag_count (one_more found), one_more-count found))
 
--- where an EOL stands, one is counted
+-- if there is an EOL, one is counted
 pub eols_here_some : (settings : DecodeSettings) (here rest : Bits) → after_eol 0 here ≡ Some rest → 0 < (eols_here settings here).0
 eols_here_some settings here rest e = by settings.encoding settings.end_of_block
   where
@@ -212,18 +212,18 @@ eols_here_some settings here rest e = by settings.encoding settings.end_of_block
     by Group4 true = omega (arith, ap (λ (found : ℕ × Bits). found.0) (eols-some 1 here rest e), one_more-count (eols 1 rest))
     by Group4 false = eols_some_counts here rest e
 
--- what is left of a run: its bits, and the EOLs that may be given up once
+-- what is left of a run: its bits, and one more while EOLs are sought
 abbrev pub left_to_read : Progress → ℕ
 left_to_read run = cond run.has_eols (suc (length run.rest)) (length run.rest)
 
--- where the reading goes on, it does so behind the EOLs
+-- if the reading continues, it does so after the EOLs
 pub unless_over_next : (settings : DecodeSettings) (run t : Progress) (found : ℕ × Bits) → unless_over settings run found ≡ Turn.next t
     → ◌≡◌ {A = Progress} (record run { rest = found.1 }) t
 unless_over_next settings run t (count, rest) e =
     next_is _ t (unless_next (((settings.end_of_block && leb (eols_of_end settings.encoding) count) || limit_met settings (length run.rows)) || at_end rest) run (Ok rest)
     (Turn.next (record run { rest = rest })) t e)
 
--- a run goes on neither at its limit nor at the end
+-- a run continues neither at its limit nor at the end
 pub unless_over_open : (settings : DecodeSettings) (run t : Progress) (found : ℕ × Bits) → unless_over settings run found ≡ Turn.next t
     → (limit_met settings (length run.rows) ≡ false) × (at_end found.1 ≡ false)
 unless_over_open settings run t (count, rest) e =
@@ -269,7 +269,7 @@ took_more : (line : Line) (n : ℕ) → TookBits n line → TookBits (suc n) lin
 took_more (Line.whole row rest) n took = omega arith
 took_more (Line.broken front fault) n took = tt
 
--- where a run goes on without seeking an EOL, one came or none are sought
+-- if a run continues without seeking an EOL, one came or none are sought
 went_on : (settings : DecodeSettings) (run : Progress) (found : ℕ × Bits) → Counted run.rest found → limit_met settings (length run.rows) ≡ false
     → at_end found.1 ≡ false
     → (((eqb found.0 0 && run.has_eols) && not (limit_met settings (length run.rows))) && not (at_end run.rest)) ≡ false → (0 < found.0)
@@ -286,7 +286,7 @@ went_on settings run found counted open_limit open_end e =
       | inr a ↦ absurd (let b = not_at_end run.rest (not-false (at_end run.rest) a) in omega (arith, b, counted.0, at_end_length found.1 open_end))
     ]
 
--- the EOLs after a row leave less than there was before its line: it took bits, or EOLs are sought
+-- the EOLs after a row leave less than there was before its line: it consumed bits, or EOLs are sought
 pub after_row_next : (settings : DecodeSettings) (run t : Progress) (n : ℕ) → after_row settings run ≡ Turn.next t → length run.rest < n → left_to_read t < n
 after_row_next settings run t n e small = elim
     (chosen ((((eqb (eols_here settings run.rest).0 0) && run.has_eols) && not (limit_met settings (length run.rows))) && not (at_end run.rest)) _ _ _ e) [
@@ -310,7 +310,7 @@ after_row_next settings run t n e small = elim
     either true k lt = lt
     either false k lt = omega arith
 
--- a whole line took bits
+-- a whole line consumed bits
 pub line_by_took : (encoding : EncodingMode) (strict : Bool) (columns : ℕ) (reference : Row) (here : Bits) → 0 < columns
     → TookBits (length here) (line_by encoding strict columns reference here)
 line_by_took Group3_1D strict columns reference here wide = line_1d_took_bits strict columns here wide
@@ -346,7 +346,7 @@ after_line_next settings run t (Line.broken front fault) took e =
           rw left_is (after_row_next settings more t (suc (length run.rest)) a.1 (omega (arith, shorter)))
     ]
 
--- a turn of Group 3 leaves fewer bits, or gives up EOLs
+-- a turn of Group 3 leaves fewer bits, or ceases to seek EOLs
 pub move_shrinks : (settings : DecodeSettings) → 0 < settings.columns → Shrinks (move_on settings) left_to_read
 move_shrinks settings wide run t e =
     let reference : Row = row_before settings.columns run.rows in

@@ -102,7 +102,7 @@ run_count strict columns pen =
     by (Ok run) e = painted run (run_has_word pen.color pen.rest run.0 run.1 e) (paint strict columns pen.front pen.color run.0) refl
     by (Err fault) e = omega arith
 
--- what may be tried adds as much as what it comes to
+-- what is tried adds at most what it yields
 try_count : {A : Type 0} (n : ℕ) (front : Row) (r : Result A DecodeError) (behind : A → Step) → count front ≤ n → ((x : A) → r ≡ Ok x → StepCount n (behind x))
     → StepCount n (try front r behind)
 try_count n front (Ok x) behind le each = each x refl
@@ -116,7 +116,7 @@ behind_run_count strict columns n words (Turn.next pen) few =
     (omega (arith, few, length-append words (draw_run strict columns pen).words)) (run_count strict columns pen)
 behind_run_count strict columns n words (Turn.done line) few = omega (arith, few, length-append words [])
 
--- a mode, behind its word
+-- a mode, after its word
 mode_count : (strict : Bool) (columns : ℕ) (reference : Row) (pen : Pen) (mode : Mode)
     → StepCount (count pen.front + suc (length (draw_mode strict columns reference pen mode).words)) (draw_mode strict columns reference pen mode).turn
 mode_count strict columns reference pen Pass =

@@ -1,4 +1,4 @@
--- The EOLs that are passed where a line follows, and the bits that are looked at ahead of it.
+-- The EOLs that are consumed before a line, and the bits that are examined ahead of it.
 use Rattle.std.proofs.Common.{◌<◌, ◌≡◌, ℕ, suc, ◌+◌, ◌-◌, ◌*◌, ◌≤◌, Bool, true, false, not, ◌&&◌, ◌||◌, eqb, leb, [], ◌∷◌, ◌++◌, length, replicate, drop}
 use Rattle.std.proofs.Common.{Option, Some, None, Result, Ok, Err, refl, sym, ap, ◌∙◌, subst, arith, ◌⊎◌, inl, inr}
 use Rattle.std.proofs.lemmas.Bool.{and_parts, or_parts, false≢true}
@@ -18,14 +18,14 @@ use Rattle.hayro_ccitt.proofs.DamagedLines.LineTails.{after_eol_is}
 use Rattle.hayro_ccitt.proofs.DamagedLines.PastEol.{all_eols-none}
 use Rattle.hayro_ccitt.proofs.Readings.TurnsMoveOn.{eols-none, length-one_more, eols_shorter, eols-some, eols_with_tags-some, eols_with_tags-none, eols_with_tags_shorter, past_tag_shorter, last_tag_shorter, eols_here_counted, eols_here_some, next_eol_found}
 
--- ---- An EOL that stands here or further on
+-- ---- An EOL here or further on
 
--- an EOL stands here or further on, perhaps behind fill, and ends where `after` begins
+-- an EOL is here or further on, perhaps after fill, and ends where `after` begins
 pub record EolWithin (here after : Bits) : Type 0 where
   pub fill : Bits
   pub place : here ≡ fill ++ replicate 11 false ++ true ∷ after
 
--- an EOL that stands here
+-- an EOL here
 pub eol_within : (here after : Bits) → after_eol 0 here ≡ Some after → EolWithin here after
 eol_within here after e =
     let is = after_eol_is 0 here after e in
@@ -37,7 +37,7 @@ eol_within here after e =
 within_further : (bit : Bool) (here after : Bits) → EolWithin here after → EolWithin (bit ∷ here) after
 within_further bit here after eol = record { fill = bit ∷ eol.fill; place = ap (λ (x : Bits). bit ∷ x) eol.place }
 
--- the next EOL stands here or further on
+-- the next EOL is here or further on
 pub next_eol_within : (here found : Bits) → next_eol here ≡ Some found → (after : Bits) × (after_eol 0 found ≡ Some after) × EolWithin here after
 next_eol_within [] found e = absurd cc
 next_eol_within (bit ∷ here) found e = by (λ f. next_eol_within here found f) (after_eol 0 (bit ∷ here)) refl
@@ -82,7 +82,7 @@ tagged_eols_past (bit ∷ here) after e =
     )) in
     omega (arith, last_tag_shorter (eols_with_tags (length (bit ∷ here)) (bit ∷ here)), passed)
 
--- where an EOL stands, counting passes it
+-- if there is an EOL, counting consumes it
 pub eols_here_past : (settings : DecodeSettings) (here after : Bits) → after_eol 0 here ≡ Some after → length (eols_here settings here).1 ≤ length after
 eols_here_past settings here after e = by settings.encoding settings.end_of_block
   where
@@ -101,7 +101,7 @@ tagged_eols-none here e = rw (eols_with_tags-none (length here) here e, tagged_e
     by (false ∷ here) = refl
     by (true ∷ here) = refl
 
--- where no EOL stands, none is counted
+-- if there is no EOL, none is counted
 pub eols_here-none : (settings : DecodeSettings) (here : Bits) → after_eol 0 here ≡ None → eols_here settings here ≡ (0, here)
 eols_here-none settings here e = by settings.encoding settings.end_of_block
   where
@@ -111,7 +111,7 @@ eols_here-none settings here e = by settings.encoding settings.end_of_block
     by Group4 true = eols-none 2 here e
     by Group4 false = all_eols-none here e
 
--- where none is counted, the place stays
+-- if none is counted, the offset doesn't change
 pub eols_here_stay : (settings : DecodeSettings) (here rest : Bits) → eols_here settings here ≡ (0, rest) → rest ≡ here
 eols_here_stay settings here rest is = by (after_eol 0 here) refl
   where
@@ -119,7 +119,7 @@ eols_here_stay settings here rest is = by (after_eol 0 here) refl
     by None e = sym (ap (λ (found : ℕ × Bits). found.1) (sym (eols_here-none settings here e) ∙ is))
     by (Some after) e = absurd (omega (arith, eols_here_some settings here after e, ap (λ (found : ℕ × Bits). found.0) is))
 
--- ---- A line that stands behind a row
+-- ---- A line after a row
 
 lines_same : (h k : Bool) (here rest : Bits) → ◌≡◌ {A = Gap} (Gap.line_at h here) (Gap.line_at k rest) → (h ≡ k) × (here ≡ rest)
 lines_same h k here rest e = (cc, cc)
@@ -127,7 +127,7 @@ lines_same h k here rest e = (cc, cc)
 over_no_line : (outcome : Result Bits DecodeError) (h : Bool) (rest : Bits) → ◌≡◌ {A = Gap} (Gap.over outcome) (Gap.line_at h rest) → ⊥
 over_no_line outcome h rest e = cc
 
--- a line stands behind EOLs neither at the limit nor at the end
+-- a line follows EOLs neither at the limit nor at the end
 behind_line : (settings : DecodeSettings) (taken : ℕ) (h k : Bool) (found : ℕ × Bits) (rest : Bits)
     → behind_eols settings taken h found ≡ Gap.line_at k rest
     → (h ≡ k) × (found.1 ≡ rest) × (limit_met settings taken ≡ false) × (at_end found.1 ≡ false)
@@ -141,7 +141,7 @@ behind_line settings taken h k (count, here) rest e =
           (same.0, same.1, open_limit.1, open_end.1)
     ]
 
--- The line stands behind the EOLs that stand here.
+-- The line follows the EOLs here.
 record AfterEols (settings : DecodeSettings) (taken : ℕ) (h k : Bool) (here rest : Bits) : Type 0 where
   unsought : (((eqb (eols_here settings here).0 0 && h) && not (limit_met settings taken)) && not (at_end here)) ≡ false
   flag : h ≡ k
@@ -149,7 +149,7 @@ record AfterEols (settings : DecodeSettings) (taken : ℕ) (h k : Bool) (here re
   open_limit : limit_met settings taken ≡ false
   open_end : at_end (eols_here settings here).1 ≡ false
 
--- The line stands behind the next EOL, which was sought.
+-- The line follows the next EOL, which was sought.
 record AfterNextEol (settings : DecodeSettings) (h k : Bool) (here rest : Bits) : Type 0 where
   sought : h ≡ true
   kept : k ≡ true
@@ -157,13 +157,13 @@ record AfterNextEol (settings : DecodeSettings) (h k : Bool) (here rest : Bits) 
   next : next_eol here ≡ Some found
   place : (eols_here settings found).1 ≡ rest
 
--- No EOL is left, and the line stands here.
+-- No EOL is left, and the line is here.
 record GivenUp (h k : Bool) (here rest : Bits) : Type 0 where
   sought : h ≡ true
   given_up : k ≡ false
   place : here ≡ rest
 
--- the ways in which a line stands behind a row
+-- the ways in which a line follows a row
 line_behind : (settings : DecodeSettings) (taken : ℕ) (h k : Bool) (here rest : Bits) → gap_behind_row settings taken h here ≡ Gap.line_at k rest
     → AfterEols settings taken h k here rest ⊎ (AfterNextEol settings h k here rest ⊎ GivenUp h k here rest)
 line_behind settings taken h k here rest e =
@@ -190,7 +190,7 @@ line_behind settings taken h k here rest e =
         let same = lines_same false k here rest f in
         inr (record { sought = sought; given_up = sym same.0; place = same.1 })
 
--- where EOLs are still sought, one stood here or further on, and the line begins behind it
+-- if EOLs are still sought, one was here or further on, and the line begins after it
 pub line_past_eol : (settings : DecodeSettings) (taken : ℕ) (here rest : Bits) → gap_behind_row settings taken true here ≡ Gap.line_at true rest
     → (after : Bits) × EolWithin here after × (length rest ≤ length after)
 line_past_eol settings taken here rest e = elim (line_behind settings taken true true here rest e) [
@@ -212,7 +212,7 @@ line_past_eol settings taken here rest e = elim (line_behind settings taken true
         = rw (none, is.open_limit, open_end) refl in
         absurd (false≢true (sym is.unsought ∙ seeks))
 
--- where EOLs are given up, the line stands here
+-- if EOLs are no longer sought, the line is here
 pub line_given_up : (settings : DecodeSettings) (taken : ℕ) (here rest : Bits) → gap_behind_row settings taken true here ≡ Gap.line_at false rest → rest ≡ here
 line_given_up settings taken here rest e = elim (line_behind settings taken true false here rest e) [
   | inl is ↦ absurd (false≢true (sym is.flag))
@@ -220,7 +220,7 @@ line_given_up settings taken here rest e = elim (line_behind settings taken true
   | inr (inr is) ↦ sym is.place
 ]
 
--- a line that stands behind a row begins there or further on
+-- a line that follows a row begins there or further on
 pub line_behind_shorter : (settings : DecodeSettings) (taken : ℕ) (h k : Bool) (here rest : Bits) → gap_behind_row settings taken h here ≡ Gap.line_at k rest
     → length rest ≤ length here
 line_behind_shorter settings taken h k here rest e = elim (line_behind settings taken h k here rest e) [
@@ -241,7 +241,7 @@ line_without_eols settings taken k here rest e = (
   line_behind_shorter settings taken false k here rest e,
 )
 
--- where a line stands, bits are left
+-- if there is a line, bits are left
 pub line_has_bits : (settings : DecodeSettings) (taken : ℕ) (k : Bool) (here rest : Bits) → gap_behind_row settings taken false here ≡ Gap.line_at k rest
     → 0 < length rest
 line_has_bits settings taken k here rest e = elim (line_behind settings taken false k here rest e) [
@@ -254,7 +254,7 @@ line_has_bits settings taken k here rest e = elim (line_behind settings taken fa
     by [] rest open_end same = absurd (false≢true (sym open_end))
     by (bit ∷ next) rest open_end same = omega (arith, ap length (sym same))
 
--- ---- What is looked at ahead
+-- ---- What is examined ahead
 
 -- there are few tests of tags
 pub few_tag_tests : (encoding : EncodingMode) → tag_tests encoding ≤ 3
@@ -262,19 +262,19 @@ few_tag_tests Group3_1D = omega arith
 few_tag_tests Group3_2D = omega arith
 few_tag_tests Group4 = omega arith
 
--- no more than the bits here are looked at
+-- no more than the bits here are examined
 pub looked_most : (here : Bits) → looked here ≤ length here
 looked_most [] = omega arith
 looked_most (false ∷ here) = omega (arith, looked_most here)
 looked_most (true ∷ here) = omega arith
 
--- behind the first bit at most one bit less is looked at
+-- after the first bit at most one bit less is examined
 pub looked_later : (here : Bits) → looked here ≤ suc (looked (drop 1 here))
 looked_later [] = omega arith
 looked_later (false ∷ here) = omega arith
 looked_later (true ∷ here) = omega arith
 
--- no bit behind a one is looked at
+-- no bit after a one is examined
 looked_to_one : (before after : Bits) → looked (before ++ true ∷ after) + length after ≤ length (before ++ true ∷ after)
 looked_to_one [] after = omega arith
 looked_to_one (false ∷ before) after = omega (arith, looked_to_one before after)
@@ -284,19 +284,19 @@ length-later : (here : Bits) → length (drop 1 here) ≤ length here
 length-later [] = omega arith
 length-later (bit ∷ here) = omega arith
 
--- a count of zeros looks at no more than one bit besides what stands ahead
+-- a count of zeros examines no more than one bit besides what is ahead
 pub looked_before : (encoding : EncodingMode) (here : Bits) → looked here ≤ suc (looked_ahead encoding here)
 looked_before Group3_2D here = looked_later here
 looked_before Group3_1D here = omega arith
 looked_before Group4 here = omega arith
 
--- no more than the bits here are looked at ahead
+-- no more than the bits here are examined ahead
 pub looked_ahead_most : (encoding : EncodingMode) (here : Bits) → looked_ahead encoding here ≤ length here
 looked_ahead_most Group3_2D here = omega (arith, looked_most (drop 1 here), length-later here)
 looked_ahead_most Group3_1D here = looked_most here
 looked_ahead_most Group4 here = looked_most here
 
--- where an EOL stands here or further on, no bit behind it is looked at
+-- if an EOL is here or further on, no bit after it is examined
 looked_to_eol : (here after : Bits) → EolWithin here after → (looked here + length after ≤ length here) × (looked (drop 1 here) + length after ≤ length here)
 looked_to_eol here after eol = rw eol.place (by eol.fill)
   where
@@ -306,15 +306,15 @@ looked_to_eol here after eol = rw eol.place (by eol.fill)
     by (bit ∷ fill) =
         (looked_to_one (bit ∷ fill ++ replicate 11 false) after, omega (arith, looked_to_one (fill ++ replicate 11 false) after))
 
--- Where the next EOL is found and counted, no bit behind it is looked at: not where none stood before, and not where it
--- was found.
+-- If the next EOL is found and counted, no bit after it is examined: not where none was before, and not where it was
+-- found.
 pub sought_looks : (settings : DecodeSettings) (here found : Bits) → next_eol here ≡ Some found
     → looked here + looked found + 2 * length (eols_here settings found).1 ≤ length here + length found
 sought_looks settings here found next =
     let eol = next_eol_within here found next in
     omega (arith, (looked_to_eol here eol.0 eol.2).0, looked_eol 0 found eol.0 eol.1, eols_here_past settings found eol.0 eol.1)
 
--- where an EOL stands here or further on, no bit behind it is looked at ahead
+-- if an EOL is here or further on, no bit after it is examined ahead
 pub looked_ahead_to_eol : (encoding : EncodingMode) (here after : Bits) → EolWithin here after → looked_ahead encoding here + length after ≤ length here
 looked_ahead_to_eol Group3_2D here after eol = (looked_to_eol here after eol).1
 looked_ahead_to_eol Group3_1D here after eol = (looked_to_eol here after eol).0

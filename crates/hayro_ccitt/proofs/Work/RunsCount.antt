@@ -9,7 +9,7 @@ use Rattle.hayro_ccitt.specs.Work.{CountsRun}
 use Rattle.hayro_ccitt.proofs.Readings.RunsOverRows.{RowByRow, Comes, comes_next, lines_on}
 
 -- the words of one line more
-sum_more : (words : List (List Bits)) (k : ℕ) (line : List Bits) (more : List (List Bits)) → drop k words ≡ line ∷ more
+pub sum_more : {A : Type 0} (words : List (List A)) (k : ℕ) (line : List A) (more : List (List A)) → drop k words ≡ line ∷ more
     → sum_by length (take (suc k) words) ≡ sum_by length (take k words) + length line
 sum_more [] zero line more e = absurd cc
 sum_more [] (suc k) line more e = absurd cc

@@ -1,4 +1,4 @@
--- What a turn counts is paid by the bits that it passes, or by giving up EOLs, which is done once.
+-- What a turn counts is paid by the bits that it consumes, or by ceasing to seek EOLs, which happens once.
 use Rattle.std.proofs.Common.{◌≡◌, ◌≢◌, ℕ, ◌+◌, ◌*◌, ◌<◌, ◌≤◌, Bool, true, false, not, ◌&&◌, ◌||◌, cond, [], ◌∷◌, length, Result, Ok, Err, refl, sym, ap, ◌∙◌, subst, arith}
 use Rattle.std.proofs.lemmas.Bool.{false≢true}
 use Rattle.hayro_ccitt.specs.declared.error.DecodeError.{DecodeError}
@@ -16,7 +16,7 @@ use Rattle.hayro_ccitt.proofs.Work.WordsPay.{line_1d_paid, line_2d_paid, either_
 
 -- ---- What a line and its row pay
 
--- the bits that a line took hold its words, the zeros ahead of these, and one bit at least
+-- the bits of a line contain its words, the zeros ahead of these, and at least one bit
 pub record PaysLine (encoding : EncodingMode) (here rest : Bits) (found : ℕ) : Type 0 where
   pub some : length rest < length here
   pub words : found + length rest ≤ length here
@@ -44,7 +44,7 @@ further_pays : (encoding : EncodingMode) (here rest further : Bits) (found : ℕ
 further_pays encoding here rest further found pays le =
     record { some = omega (arith, pays.some, le); words = omega (arith, pays.words, le); zeros = omega (arith, pays.zeros, le) }
 
--- the bits behind a row
+-- the bits after a row
 abbrev rest_of : Result (Row × Bits) DecodeError → Bits
 rest_of (Ok x) = x.1
 rest_of (Err fault) = []
@@ -52,12 +52,12 @@ rest_of (Err fault) = []
 behind_shorter : (settings : DecodeSettings) (h : Bool) (rest : Bits) → length (behind_row settings h rest) ≤ length rest
 behind_shorter settings h rest = either_shorter (settings.rows_are_byte_aligned && not h) rest
 
--- where data have EOLs nothing is aligned
+-- data with EOLs are not aligned
 behind_with_eols : (aligns : Bool) (rest : Bits) → cond (aligns && not true) (aligned rest) rest ≡ rest
 behind_with_eols true rest = refl
 behind_with_eols false rest = refl
 
--- a broken line is repaired in lenient data with EOLs alone, and its place is where it began
+-- a broken line is repaired only in lenient data with EOLs, and the reader is then at its start
 broken_row : (settings : DecodeSettings) (h : Bool) (here rest : Bits) (front row : Row) (fault : DecodeError)
     → row_of_line settings h here (Line.broken front fault) ≡ Ok (row, rest) → (h ≡ true) × (rest ≡ here)
 broken_row settings true here rest front row fault is = by settings.strict is
@@ -85,7 +85,7 @@ row_shorter settings h reference here rest row wide is = by (line_here settings 
         omega (arith, pays.some, ap length same, behind_shorter settings h behind)
     by (Line.broken front fault) e given = omega (arith, ap length (broken_row settings h here rest front row fault given).1)
 
--- a row behind which the reading goes on, seeking EOLs as before, is paid by the bits up to there
+-- a row after which the reading continues, seeking EOLs as before, is paid by the bits up to there
 turn_pays : (settings : DecodeSettings) (h : Bool) (taken : ℕ) (reference : Row) (here rest next : Bits) (row : Row) → 0 < settings.columns
     → row_of_line settings h here (line_here settings reference here) ≡ Ok (row, rest) → gap_behind_row settings taken h rest ≡ Gap.line_at h next
     → PaysLine settings.encoding here next (length (found_here settings reference here))
@@ -114,8 +114,8 @@ turn_pays settings h taken reference here rest next row wide is gap = by (line_h
 
 -- ---- The account
 
--- Between two rows, of data of so many bits: what was counted, and the changes of the reference row, are paid by the bits
--- that were passed, by the zeros ahead, and where EOLs aren't sought by what giving them up may have cost.
+-- Between two rows, of data of this many bits: what was counted, and the changes of the reference row, are paid by the
+-- bits that were consumed, by the zeros ahead, and if EOLs aren't sought by what ceasing to seek them may have cost.
 abbrev pub IsPaidUpTo : ℕ → ℕ → ℕ → EncodingMode → Bool → ℕ → ℕ → Bits → Type 0
 IsPaidUpTo begun bits giving_up encoding has_eols ticks changes here =
     ticks + changes + 16 * length here ≤ begun + 16 * bits + looked_ahead encoding here + 1 + cond has_eols 0 giving_up
@@ -151,7 +151,7 @@ module _ (settings : DecodeSettings) (wide : 0 < settings.columns) (begun bits g
     gap_ends last left_over counted =
         omega (arith, paid, line, within, found_fits, row_fits, counted, looked_ahead_most settings.encoding here, looked_ahead_most settings.encoding left_over, either_given h)
 
-    -- else the account goes on
+    -- else the account continues
     pub turn_goes_on : (taken : ℕ) (k : Bool) (next : Bits) (last stored : ℕ) → gap_behind_row settings taken h rest ≡ Gap.line_at k next → stored ≤ found + 1
         → (k ≡ h → last + 4 * length next ≤ now + 4 * length rest + 3 + looked_ahead settings.encoding next) → (k ≢ h → last ≤ now + 2 * length rest)
         → (h ≡ true → 8 * bits + 8 ≤ giving_up) → IsPaidUpTo begun bits giving_up settings.encoding k last stored next

@@ -1,4 +1,4 @@
--- What the words that a line finds say of the bits that it took: they pay for what it counts.
+-- What the words that a line finds say of the bits that it consumed: they pay for what it counts.
 use Rattle.std.proofs.Common.{◌≡◌, ℕ, suc, ◌+◌, ◌%◌, cond, ◌<◌, ◌≤◌, Bool, true, false, List, [], ◌∷◌, ◌++◌, length, replicate, sym, ap, ◌∙◌, subst, arith, append_assoc, inl, inr}
 use Rattle.std.proofs.lemmas.Bool.{false≢true, cases_lt}
 use Rattle.std.proofs.lemmas.List.{length-append, length-drop}
@@ -14,7 +14,7 @@ use Rattle.hayro_ccitt.proofs.BitReading.ZerosInWords.{holds_a_one, word_one, no
 use Rattle.hayro_ccitt.proofs.CodeWords.WordsFound.{Stands, LineEnds, line_1d_stands, line_2d_stands}
 use Rattle.hayro_ccitt.proofs.DrawingLines.ReadLines.{TookBits, line_1d_took_bits, line_2d_took_bits}
 
--- ---- Words that stand in a row hold a bit each, and a one.
+-- ---- Consecutive words have a bit each, and contain a one.
 
 not_empty : (word : Bits) → holds_a_one word ≡ true → 0 < length word
 not_empty [] e = absurd (false≢true e)
@@ -33,7 +33,7 @@ looked_word [] more e = absurd (false≢true e)
 looked_word (true ∷ word) more e = omega arith
 looked_word (false ∷ word) more e = omega (arith, looked_word word more e)
 
--- a count of zeros from where words stand ends within them
+-- a count of zeros from the start of words ends within them
 stands_looked : (here : Bits) (word : Bits) (found : List Bits) (rest : Bits) → Stands here (word ∷ found) rest → looked here + length rest ≤ length here
 stands_looked here word found rest stands =
     let same : here ≡ word ++ (joined found ++ rest) = stands.place ∙ append_assoc word (joined found) rest in
@@ -58,7 +58,7 @@ stands_before_eol tag here found rest fill after stands e =
 
 -- ---- What a line pays.
 
--- a whole line: some words, within the bits that it took, and zeros ahead within them
+-- a whole line: some words, within the bits that it consumed, and zeros ahead within them
 pub record IsPaid (here rest : Bits) (found : List Bits) : Type 0 where
   pub some : 0 < length found
   pub words : length found + length rest ≤ length here
@@ -107,12 +107,12 @@ found_within Group3_1D strict columns reference here =
 found_within Group4 strict columns reference here =
     let stands = line_2d_stands strict columns reference here in omega (arith, stands_count here (found_2d strict columns reference here) stands.0 stands.1)
 
--- no EOL stands at the end of the data
+-- there is no EOL at the end of the data
 no_eol_at_the_end : (fill after : Bits) → ◌≡◌ {A = Bits} [] (fill ++ replicate 11 false ++ true ∷ after) → ⊥
 no_eol_at_the_end [] after e = cc
 no_eol_at_the_end (bit ∷ fill) after e = cc
 
--- and where an EOL stands at or after its start, no more than there are bits before the EOL's end
+-- and if there is an EOL at or after its start, no more than there are bits before the EOL's end
 pub found_before_eol : (encoding : EncodingMode) (strict : Bool) (columns : ℕ) (reference : Row) (here fill after : Bits)
     → here ≡ fill ++ replicate 11 false ++ true ∷ after → length (line_found encoding strict columns reference here) + length after ≤ length here
 found_before_eol Group3_2D strict columns reference [] fill after e = absurd (no_eol_at_the_end fill after e)

@@ -11,7 +11,7 @@ use Rattle.hayro_ccitt_c.proofs.Reporting.{on_settings}
 use Rattle.hayro_ccitt_c.proofs.hayro_ccitt_decode_changes.Goals as goal
 
 module _ (c : goal.After-told) where
-  -- the settings that C means
+  -- the settings that C passes
   meant : settings_of c.args.settings.now ≡ Some c.in-Some.meant
   meant = sym (c.settings_for.ensures.meant c.in-Some.ensures.fit) ∙ c.in-Some.is
 
@@ -34,7 +34,7 @@ module _ (c : goal.After-told) where
     name = c.decoded-report.new.sink.lists.ghost_name;
   }
 
-  -- the memory is lent from its front
+  -- the memory is borrowed from its start
   holds : HoldsLists c.in-Some.meant (bits_in c.order_of.result c.args.«data».now) c.decoded-report.result.rows c.args.lists.now c.decoded-report.new.sink.lists.now start final
   holds =
       holds_lists c.in-Some.meant (bits_in c.order_of.result c.args.«data».now) c.decoded-report.result.rows start final c.args.lists.now c.decoded-report.new.sink.lists.now c.new-rows.ensures.end
@@ -42,7 +42,7 @@ module _ (c : goal.After-told) where
       (ap (λ n. drop n c.new-rows.result.lists.now) c.new-rows.ensures.end ∙ c.new-rows.ensures.numbers)
       c.new-rows.ensures.changes refl refl c.decoded-report.ensures.meaning
 
--- a fact of what was decoded, and of the memory that is left, is one of what C asks for
+-- a statement about what was decoded, and about the memory that is left, is one about what C asks for
 on : (c : goal.After-told) (P : DecodeSettings → Bits → List ℕ → Type 0) (memory : List ℕ) → P c.in-Some.meant (bits_in c.order_of.result c.args.«data».now) memory
     → BitsFit c.args.«data».now → IfSome (settings_of c.args.settings.now) (λ s. P s (bits_in (order_of c.args.settings.now) c.args.«data».now) memory)
 on c P memory = on_settings c.args.settings.now c.in-Some.meant c.args.«data».now c.order_of.result (λ s bits. P s bits memory) (meant c) c.order_of.ensures

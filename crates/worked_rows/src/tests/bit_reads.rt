@@ -26,7 +26,7 @@ const LOW_FIRST: &str = "1001001111110000010110110100010110000100000101100100001
     0100000011010000011111010110010111011100110010001101100101000100\
     1000101001010010000100001001111001110001001011000010000010111011";
 
-/// The first 32 of some bits, written as digits, as a number; zeros where there are fewer.
+/// Returns the first 32 of some bits, written as digits, as a number; zeros if there are fewer.
 fn first_32(bits: &[u8]) -> u32 {
     let mut number = 0;
     for place in 0..32usize {
@@ -69,7 +69,7 @@ fn consumes_as_a_list_of_bits(rt: HostRuntime) {
     }
 }
 
-/// From each place a clone reads a bit, one moves to a whole byte, and the zeros are counted.
+/// From each offset a clone reads a bit, one moves to a whole byte, and the zeros are counted.
 #[test]
 fn reads_on_as_a_list_of_bits(rt: HostRuntime) -> std::result::Result<(), Fail> {
     let mut ticks = Ticks::new();
@@ -117,7 +117,7 @@ fn reads_on_as_a_list_of_bits(rt: HostRuntime) -> std::result::Result<(), Fail> 
     Ok(())
 }
 
-/// Zeros of each number in 17 bytes, with a one behind them, and without.
+/// Zeros of each number in 17 bytes, with a one after them, and without.
 #[test]
 fn counts_zeros(rt: HostRuntime) {
     let mut ticks = Ticks::new();

@@ -45,7 +45,7 @@ fn reads_eols_with_tags(rt: HostRuntime) -> std::result::Result<(), Fail> {
     Ok(())
 }
 
-/// No EOLs, no memory, a refusal.
+/// No EOLs, no allocation, a refusal.
 #[test]
 fn leaves_errors_as_they_are(rt: HostRuntime) -> std::result::Result<(), Fail> {
     let mut ctx = DecoderContext::new(rt.alloc(), group_3_1d(8, 0, ""))?;
@@ -62,7 +62,7 @@ fn leaves_errors_as_they_are(rt: HostRuntime) -> std::result::Result<(), Fail> {
     Ok(())
 }
 
-/// White 3, black 2, and a front of a white run.
+/// White 3, black 2, and the start of a white run.
 #[test]
 fn repairs_lines(rt: HostRuntime) -> std::result::Result<(), Fail> {
     let mut ctx = DecoderContext::new(rt.alloc(), group_3_1d(8, 0, "l"))?;
@@ -84,7 +84,7 @@ fn repairs_lines(rt: HostRuntime) -> std::result::Result<(), Fail> {
     Ok(())
 }
 
-/// The ends of an image and the EOLs that stand behind a white row.
+/// The ends of an image and the EOLs after a white row.
 #[test]
 fn looks_behind_a_row(rt: HostRuntime) -> std::result::Result<(), Fail> {
     for (settings, digits, answer, place, has_eols) in [

@@ -24,7 +24,7 @@ fn lines_without_eols(rt: HostRuntime) {
     reads(&rt, group_3_1d(8, 2, "a"), "9898", &[&[], &[]], Ok(2));
     reads(&rt, group_3_1d(8, 2, "as"), "9898", &[&[], &[]], Ok(2));
     reads(&rt, group_3_1d(2, 0, "a"), "7770", &[&[], &[]], Ok(2));
-    // the row behind which EOLs are given up isn't aligned
+    // the row after which EOLs are no longer sought isn't aligned
     reads(&rt, group_3_1d(2, 0, "la"), "7770", &[&[], &[], &[]], Ok(2));
 }
 
@@ -63,7 +63,7 @@ fn damaged_lines(rt: HostRuntime) {
     reads(&rt, settings, "0019800C400033", black_front, Ok(7));
     let white_front: &[&[u32]] = &[&[], &[], &[]];
     reads(&rt, settings, "0019800C000033", white_front, Ok(7));
-    // the last code takes zeros of the EOL
+    // the last code word uses zeros of the EOL
     let past_eol: &[&[u32]] = &[&[], &[1, 5]];
     reads(&rt, settings, "00198008EE0033", past_eol, Err(InvalidCode));
     // repaired, and the same bits are read again
@@ -171,7 +171,7 @@ fn one_context_reads_lines_again(rt: HostRuntime) -> std::result::Result<(), Fai
     Ok(())
 }
 
-/// EOLs came or were announced, and were not given up.
+/// EOLs came or were announced, and are still sought.
 #[test]
 fn eols_that_were_there(rt: HostRuntime) -> std::result::Result<(), Fail> {
     for (settings, digits, has_eols) in [

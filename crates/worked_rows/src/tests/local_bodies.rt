@@ -8,7 +8,7 @@ use std::alloc::AllocGlobal;
 use std::process::Abort;
 use std::test::Fail;
 
-/// Settings without a limit of rows; 1d and 2d name the encodings.
+/// Settings without a row limit; 1d and 2d name the encodings.
 fn settings_by(encoding: &str, columns: u32, flags: &str) -> DecodeSettings {
     let encoding = if encoding == "2d" {
         EncodingMode::Group3_2D
@@ -18,7 +18,7 @@ fn settings_by(encoding: &str, columns: u32, flags: &str) -> DecodeSettings {
     settings_of(encoding, columns, 0, flags)
 }
 
-/// Compares the answer of `body_is_local`.
+/// Compares the result of `body_is_local`.
 fn is_local(
     rt: &(impl Abort + AllocGlobal),
     ctx: &mut DecoderContext,
@@ -62,8 +62,8 @@ fn bodies_that_are_local(rt: HostRuntime) -> std::result::Result<(), Fail> {
     Ok(())
 }
 
-/// Bodies that stand for each other, of one length and of two: the row that is read there alone differs, and the
-/// data is read to its end. Where the limit is met there, the counts may differ.
+/// Bodies that replace each other, of one length and of two: only the row that is read there differs, and the data is
+/// read to its end. If the limit is met there, the counts may differ.
 #[test]
 fn local_bodies_change_one_row(rt: HostRuntime) -> std::result::Result<(), Fail> {
     for (limit, digits, to, row, count) in [
@@ -85,7 +85,7 @@ fn local_bodies_change_one_row(rt: HostRuntime) -> std::result::Result<(), Fail>
     Ok(())
 }
 
-/// Random lines with EOLs between them, and random places.
+/// Random lines with EOLs between them, and random offsets.
 #[test]
 fn bodies_of_random_lines(rt: HostRuntime) -> std::result::Result<(), Fail> {
     for (encoding, columns, flags, digits, from, to, local) in [

@@ -9,7 +9,7 @@ use hayro_ccitt::tables::{
 use std::process::Abort;
 use std::test::Fail;
 
-/// How many bits of a word, from its front, begin thirteen bits.
+/// Returns how many bits of a word, from its start, begin thirteen bits.
 fn agreement(bits: u32, width: u8, word: u16) -> u32 {
     let others = 13u32.saturating_sub(u32::from(width));
     let whole = u32::from(word).checked_shl(others).unwrap_or(0);
@@ -19,7 +19,7 @@ fn agreement(bits: u32, width: u8, word: u16) -> u32 {
         .min(u32::from(width))
 }
 
-/// The entry of thirteen bits, by a scan of a colour's lists.
+/// Returns the entry of thirteen bits, by a scan of a colour's lists.
 fn scanned(bits: u32, terminating: &[(u16, u8, u16)], makeup: &[(u16, u8, u16)]) -> u32 {
     let mut longest = 0;
     for list in [terminating, makeup, &COMMON_MAKEUP] {

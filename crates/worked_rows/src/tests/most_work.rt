@@ -1,4 +1,4 @@
-//! The data on which decoding does the most work that is known: it ends, with these answers.
+//! The data on which decoding does the most work that is known: it ends, with these results.
 
 use super::{bytes_of, decodes, group_3_1d, group_3_2d, repeated};
 use hayro_ccitt::DecodeError::{InvalidCode, UnexpectedEof};

@@ -3,7 +3,7 @@ use Rattle.std.proofs.lemmas.List.{length-map}
 use Rattle.faxrows.specs.Arguments.{arguments_of_words}
 use Rattle.faxrows.proofs.arguments.arguments_of.Goals as goal
 
--- fewer than four words mean nothing
+-- fewer than four arguments are invalid
 too_few : (words : List (List ℕ)) → length words < 4 → None ≡ arguments_of_words words
 too_few [] few = refl
 too_few (a ∷ []) few = refl

@@ -13,12 +13,12 @@ use Rattle.faxrows.proofs.arguments.number_of.Goals as goal
 by_value : IsNumeralModel (λ ds. list_all is_ascii_digit ds ≡ true) (digits_value 10)
 by_value = numerals_by_value _ (search rules)
 
--- what a number's test comes to, where the digits are good
+-- the result of a number's test, if the digits are good
 number_of-digits : (word : List ℕ) → are_digits word ≡ true
     → number_of word ≡ cond (nat_le (digits_value 10 word) 4294967295) (Some (digits_value 10 word)) None
 number_of-digits word digits = ap (λ b. cond (b && nat_le (digits_value 10 word) 4294967295) (Some (digits_value 10 word)) None) digits
 
--- an answer that is right about a number of 32 bits
+-- a result that is right about a number of 32 bits
 same_answer : {E : Type 0} (r : Result ℕ E) (n long : ℕ) → 0 < long
     → OkIff r ((0 < long) × (n < 2 ^ 32)) n → result_ok r ≡ cond (nat_le n 4294967295) (Some n) None
 same_answer (Ok x) n long some h =

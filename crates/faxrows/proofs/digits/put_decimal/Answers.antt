@@ -11,7 +11,7 @@ two_digits n more small =
     ap length (decimal_step n more small) ∙ length-append (decimal (n / 10)) _ in
     omega (arith, split, decimal_nonempty (n / 10) (omega arith))
 
--- the digits that are left to write have their room among the twenty
+-- the digits that are left to write have room among the twenty
 room_left : (number rest start end : ℕ) (old new : List ℕ) → number < 2 ^ 64 → start < end → end ≤ length old → length new ≡ length old
     → decimal number ++ drop end old ≡ decimal rest ++ drop (start + 1) new → end + length (decimal rest) ≤ start + 21
 room_left number rest start end old new small before within same e =

@@ -2,7 +2,7 @@ use Rattle.std.proofs.Common.{◌≡◌, ◌<◌, ◌+◌, ◌++◌, length, dro
 use Rattle.std.specs.Fmt.{decimal}
 use Rattle.faxrows.proofs.digits.put_decimal.Given as goal
 
--- the digits that stand, after those of what is left
+-- the digits written, after those of what is left
 abbrev pub invariant-loop-rest : goal.invariant-loop-rest
 invariant-loop-rest l = record {
   before : l.start < l.end;

@@ -4,7 +4,7 @@ use Rattle.std.proofs.lemmas.Grind.{drop-set_at}
 use Rattle.std.specs.Fmt.{decimal}
 use Rattle.faxrows.proofs.last_line.put_ok.Goals as goal
 
--- three bytes written before a place
+-- three bytes written before a position
 three_before : (bytes : List ℕ) (place a b c : ℕ) → 3 ≤ place → place ≤ length bytes
     → drop (place - 3) (set (set (set bytes (place - 1) c) (place - 2) b) (place - 3) a) ≡ a ∷ b ∷ c ∷ drop place bytes
 three_before bytes place a b c room within =

@@ -10,7 +10,7 @@ use Rattle.faxrows.proofs.packed.run_packed.Given.{Over}
 use Rattle.faxrows.proofs.packed.run_packed.Goals as goal
 
 module _ (g : Over) (c : goal.After-drop-input-2 g) where
-  -- bytes were written that are packed of some data, with this answer
+  -- the bytes written are packed of some data, with this result
   abbrev Wrote : Result (Unit {0}) DecodeError → DecodeSettings → Bits → Type 0
   Wrote answer settings bits =
       (bytes : List ℕ) × IsPackedOf settings bits answer bytes

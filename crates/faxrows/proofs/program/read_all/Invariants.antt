@@ -7,7 +7,7 @@ use Rattle.faxrows.proofs.program.read_all.Given as goal
 abbrev pub invariant-loop-count : goal.invariant-loop-count
 invariant-loop-count g l = record {
   flag : l.reader.1 ≡ l.fn.reader.1;
-  buffer : length l.buffer ≡ 4096;
+  buffer : length l.buffer ≡ 65536;
   consumed : Consumes (g.R.Read.remaining l.fn.reader.0) (g.R.Read.remaining l.reader.0) l.input.items;
   fit : BitsFit l.input.items;
 }

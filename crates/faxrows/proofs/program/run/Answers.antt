@@ -13,23 +13,23 @@ use Rattle.faxrows.proofs.program.run.Given.{Over}
 use Rattle.faxrows.proofs.program.run.Goals as goal
 
 module _ (g : Over) (c : goal.After-drop-input-2 g) where
-  -- the settings that the words mean
+  -- the settings that the arguments mean
   abbrev settings : DecodeSettings
   settings = c.in-Ok.ctx.held.settings
 
-  -- the bits of what was read, in the order that the words mean
+  -- the bits of what was read, in the order that the arguments select
   abbrev bits : Bits
   bits = bits_in c.in-Some.arguments.order c.as_slice.result.now
 
-  -- how many rows were taken
+  -- how many rows were accepted
   abbrev taken : ℕ
   taken = c.write_decoded.new.ctx.held.taken
 
-  -- what the writer holds grew by a text
+  -- a text was appended to what the writer has
   abbrev Grew : List ℕ → Type 0
   Grew text = Appends (g.W.Write.contents c.args.writer.now.0) (g.W.Write.contents c.write_decoded.new.writer.0) text
 
-  -- what was written, where the run ended so
+  -- what was written, if the run ended like this
   abbrev Written : Done → Type 0
   Written done =
       (outcome : Outcome)
@@ -40,14 +40,14 @@ module _ (g : Over) (c : goal.After-drop-input-2 g) where
   written : (done : Done) → c.write_decoded.result ≡ Ok done → Written done
   written done e = IfOk-at_ok Written e c.write_decoded.ensures.written
 
-  -- a fact of what was decoded is one of what is known
+  -- a statement about what was decoded is one about what is known
   abbrev Known : (DecodeSettings → Bits → Type 0) → Type 0
   Known = OnKnown (arguments_of_words (map string_bytes c.args.words.now)) (g.R.Read.remaining c.args.reader.now.0)
 
   known : (P : DecodeSettings → Bits → Type 0) → P settings bits → Known P
   known P holds = on_known _ c.in-Some.arguments settings _ c.as_slice.result.now P (search rules) (search rules) (search rules) holds
 
-  -- all the text was written, and what the run's end says of the outcome is so
+  -- all the text was written, and what the run's end says of the result is true
   whole : (done : Done) (P : DecodeSettings → Bits → Type 0)
       → ((outcome : Outcome) → EndsAfter settings bits taken outcome → done_of outcome ≡ done → (text_after settings bits taken outcome ≡ whole_text settings bits) × P settings bits)
       → c.write_decoded.result ≡ Ok done → Known (λ s b. Grew (whole_text s b)) × Known P

@@ -13,7 +13,7 @@ module _ (g : Over) (c : goal.After-drop-sink-inside-2 g) where
   abbrev bits : Bits
   bits = bits_in c.args.order c.args.input.now
 
-  -- what the writer holds grew by a text
+  -- a text was appended to what the writer has
   abbrev Grew : List ℕ → Type 0
   Grew text = Appends (g.W.Write.contents c.args.writer.now.0) (g.W.Write.contents c.write_last_line.new.writer.0) text
 
@@ -23,7 +23,7 @@ module _ (g : Over) (c : goal.After-drop-sink-inside-2 g) where
       Appends-trans (g.W.Write.contents c.args.writer.now.0) (g.W.Write.contents c.write_all.new.writer.0) (g.W.Write.contents c.write_last_line.new.writer.0)
       c.text-lines.result.now (line_of_outcome c.decode_in-outcome.result) (search rules) (search rules)
 
-  -- the sink's text is the lines of the rows that were taken
+  -- the sink's text is the lines of the accepted rows
   lines : c.text-lines.result.now ≡ lines_of_rows (take c.decode_in-outcome.new.ctx.held.taken (rows_of c.args.ctx.now.held.settings bits))
   lines = c.text-lines.ensures ∙ sink_text c.args.ctx.now.held.settings bits _ _ _ _ (search rules) c.decode_in-outcome.ensures.decodes.reading
 

@@ -3,7 +3,7 @@ use Rattle.std.proofs.lemmas.List.{take-take, take-append-le}
 use Rattle.std.specs.Io.{StartsWith}
 use Rattle.faxrows.proofs.text_sink.push_line.Goals as goal
 
--- what begins with a text begins with the front of that text
+-- what begins with a text begins with a prefix of that text
 StartsWith-front : (new text front rest : List ℕ) → text ≡ front ++ rest → StartsWith new text → StartsWith new front
 StartsWith-front new text front rest e starts =
     let lengths : length text ≡ length front + length rest = ap length e ∙ length-append front rest in

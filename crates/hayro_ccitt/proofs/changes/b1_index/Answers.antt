@@ -4,7 +4,7 @@ use Rattle.hayro_ccitt.proofs.PixelRows.ReferencePlaces.{IsSplit, IsSplit-painte
 use Rattle.hayro_ccitt.proofs.changes.b1_index.Goals.{After-is_white, then-painted-gt0+then-loop-index-test+else-changes-index, then-painted-gt0+else-loop-index-test, else-painted-gt0}
 use Rattle.hayro_ccitt.proofs.changes.b1_index.Goals as goal
 
--- the loop has passed the changes that are not right of a0, and no other
+-- the loop has passed the changes that are not right of a0, and no others
 split : (c : After-is_white) → IsSplit c.args.changes.now (right_of_painted c.args.painted) c.if-painted-gt0.index
 split c = elim c.if-painted-gt0.branch [
   | then-painted-gt0+then-loop-index-test+else-changes-index w ↦ rw w.index-is

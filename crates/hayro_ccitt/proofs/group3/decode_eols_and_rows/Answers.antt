@@ -36,4 +36,4 @@ returns-clause-rows g c =
       ap length at,
       ap length c.read_leading_eols.ensures.same_bits,
     ))
-    middle _ _ (first_gap_t4 settings bits c.requires.encoding ∙ ap Turn.next first) (ap (λ (h : Held). h.settings) eols) c.read_leading_eols.ensures.counts from
+    middle _ _ c.read_leading_eols.new.reader.bits c.read_leading_eols.ensures.same_bits (first_gap_t4 settings bits c.requires.encoding ∙ ap Turn.next first) (ap (λ (h : Held). h.settings) eols) c.read_leading_eols.ensures.counts from

@@ -17,7 +17,7 @@ use Rattle.hayro_ccitt.proofs.group4.decode.Given.{Over}
 use Rattle.hayro_ccitt.proofs.group4.decode.Goals.{After-pass_gap}
 use Rattle.hayro_ccitt.proofs.group4.decode.Goals as goal
 
--- the gap at the front is what was said
+-- the gap at the start is as stated
 gap_is : (g : Over) (c : After-pass_gap g) → gap_behind_row c.args.ctx.now.held.settings 0 false c.args.reader.now.bits
     ≡ gap_said c.pass_gap.result c.pass_gap.new.ctx.held.has_eols (here c.pass_gap.new.reader)
 gap_is g c =
@@ -26,7 +26,7 @@ gap_is g c =
     ∙ ap (λ (n : ℕ). gap_behind_row held.settings held.taken held.has_eols (drop n c.args.reader.now.bits)) (sym c.requires.start)
     ∙ c.pass_gap.ensures.gap
 
--- and so the reading goes on there, or ends
+-- and so the reading continues there, or ends
 first_is : (g : Over) (c : After-pass_gap g) → first_gap c.args.ctx.now.held.settings.encoding c.args.ctx.now.held.settings c.args.reader.now.bits
     ≡ at_gap (at_front c.args.reader.now.bits) (gap_said c.pass_gap.result c.pass_gap.new.ctx.held.has_eols (here c.pass_gap.new.reader))
 first_is g c =
@@ -45,12 +45,13 @@ returns-in_err-pass_gap-clause-rows g c =
     let sink : SinkState g.D.Decoder.Meaning = record { meaning = g.D.Decoder.meaning c.args.decoder.now; refused = g.D.Decoder.has_refused c.args.decoder.now; refuses = g.D.Decoder.refuses c.args.decoder.now } in
     let end : Ending = record { rows = []; has_eols = false; outcome = Err c.in_err-pass_gap.field-0.0 } in
     let step = g.D.Decoder.step (g.D.Decoder.width c.args.decoder.now) in
+    let unrepaired : new.repairs.rows ≡ 0 = ap (λ (h : Held). h.repairs.rows) (c.pass_gap.ensures.held ∙ ap (λ (h : Held). record h { has_eols = new.has_eols }) c.requires.fresh) in
     let taken : new.taken ≡ 0 = ap (λ (h : Held). h.taken) (c.pass_gap.ensures.held ∙ ap (λ (h : Held). record h { has_eols = new.has_eols }) c.requires.fresh) in
     let first = first_is g at ∙ ap (λ (a : Result Bool DecodeError). at_gap (at_front bits) (gap_said a new.has_eols rest)) c.in_err-pass_gap.was in
     rw (answer.1, answer.2)
     (decodes_none bits step sink sink c.args.ctx.now c.pass_gap.new.ctx (Err c.in_err-pass_gap.field-0.0)
     (omega (arith, ap (λ (e : EncodingMode). most_counted e (length bits)) c.requires.encoding, c.in_err-pass_gap.ensures.work_refused, looked_most (here c.args.reader.now), ap (λ (n : ℕ). length (drop n bits)) c.requires.start))
-    end first (ap (λ (h : Held). h.settings) c.pass_gap.ensures.held) taken c.pass_gap.ensures.counts
+    end first (ap (λ (h : Held). h.settings) c.pass_gap.ensures.held) taken c.pass_gap.ensures.counts unrepaired
     (ends_at_fault step sink sink new end [] taken refl
     (c.in_err-pass_gap.ensures.kept ∙ ap (λ (h : Held). h.has_eols) c.requires.fresh) refl c.in_err-pass_gap.field-0.0 (subst IsFault (sym code) tt) refl))
 
@@ -64,6 +65,7 @@ returns-then-branch-clause-rows g c =
     let sink : SinkState g.D.Decoder.Meaning = record { meaning = g.D.Decoder.meaning c.args.decoder.now; refused = g.D.Decoder.has_refused c.args.decoder.now; refuses = g.D.Decoder.refuses c.args.decoder.now } in
     let end : Ending = record { rows = []; has_eols = false; outcome = Ok rest } in
     let step = g.D.Decoder.step (g.D.Decoder.width c.args.decoder.now) in
+    let unrepaired : new.repairs.rows ≡ 0 = ap (λ (h : Held). h.repairs.rows) (c.pass_gap.ensures.held ∙ ap (λ (h : Held). record h { has_eols = new.has_eols }) c.requires.fresh) in
     let taken : new.taken ≡ 0 = ap (λ (h : Held). h.taken) (c.pass_gap.ensures.held ∙ ap (λ (h : Held). record h { has_eols = new.has_eols }) c.requires.fresh) in
     let kept = c.in_ok-pass_gap.ensures.given_up c.if-branch.true in
     let first = first_is g at ∙ ap (λ (a : Result Bool DecodeError). at_gap (at_front bits) (gap_said a new.has_eols rest)) is in
@@ -76,7 +78,7 @@ returns-then-branch-clause-rows g c =
       looked_ahead_most c.args.ctx.now.held.settings.encoding rest,
       ap (λ (n : ℕ). length (drop n bits)) c.requires.start,
     ))
-    end first (ap (λ (h : Held). h.settings) c.pass_gap.ensures.held) taken c.pass_gap.ensures.counts
+    end first (ap (λ (h : Held). h.settings) c.pass_gap.ensures.held) taken c.pass_gap.ensures.counts unrepaired
     (ends_well step sink sink new end [] taken refl (kept ∙ ap (λ (h : Held). h.has_eols) c.requires.fresh) refl rest refl)
 
 pub returns-clause-rows : goal.returns-clause-rows
@@ -107,4 +109,4 @@ returns-clause-rows g c =
       ap (λ (n : ℕ). length (drop n bits)) c.requires.start,
       ap length c.pass_gap.ensures.same_bits,
     ))
-    middle _ _ first (ap (λ (h : Held). h.settings) c.pass_gap.ensures.held) c.pass_gap.ensures.counts from
+    middle _ _ c.pass_gap.new.reader.bits c.pass_gap.ensures.same_bits first (ap (λ (h : Held). h.settings) c.pass_gap.ensures.held) c.pass_gap.ensures.counts from

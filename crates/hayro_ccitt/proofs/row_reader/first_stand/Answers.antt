@@ -50,6 +50,7 @@ returns-in-Group3_1D c =
     = ap (λ (b : Bits). drop at.place b) (sym c.read_leading_eols.ensures.same_bits) ∙ c.read_leading_eols.ensures.rest ∙ ap (λ (x : Bits). (all_eols x).1) begins in
     record {
       none_taken = ap (λ (h : Held). h.taken) frame;
+      none_repaired = ap (λ (h : Held). h.repairs.rows) frame;
       settings = ap (λ (h : Held). h.settings) frame;
       same_bits = c.read_leading_eols.ensures.same_bits;
       stands = first_line_stands settings wide bits other last (drop at.place bits) frame rest (omega (arith, length-drop at.place bits));

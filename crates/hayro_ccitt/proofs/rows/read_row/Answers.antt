@@ -1,4 +1,4 @@
-use Rattle.std.proofs.Common.{◌≤◌, length, ap, subst, arith, ◌∙◌}
+use Rattle.std.proofs.Common.{◌≤◌, length, ap, subst, arith}
 use Rattle.std.proofs.lemmas.Result.{err_from_is_err_and, on_ok_weaker}
 use Rattle.hayro_ccitt.specs.Answers.{front_of}
 use Rattle.hayro_ccitt.specs.Lines.{Line}
@@ -8,33 +8,40 @@ use Rattle.hayro_ccitt.proofs.Work.ChangesStored.{changes_found, changes_repaire
 use Rattle.hayro_ccitt.specs.Bits.{here}
 use Rattle.hayro_ccitt.specs.Context.{Context, Held}
 use Rattle.hayro_ccitt.specs.PlainReading.{line_here}
-use Rattle.hayro_ccitt.proofs.DrawingLines.FullRows.{IsFull, line_by_full, repaired_full}
+use Rattle.hayro_ccitt.proofs.DrawingLines.FullRows.{IsFull, line_by_full}
 use Rattle.hayro_ccitt.proofs.DrawingLines.UnreadRows.{isnt_repaired, line_breaks}
-use Rattle.hayro_ccitt.proofs.rows.read_row.Goals.{in-Err+in_ok-recover, in_default}
 use Rattle.hayro_ccitt.proofs.rows.read_row.Goals as goal
 
-pub returns-in_err-recover-clause-row : goal.returns-in_err-recover-clause-row
-returns-in_err-recover-clause-row g c =
+pub returns-in_err-recover_from-clause-row : goal.returns-in_err-recover_from-clause-row
+returns-in_err-recover_from-clause-row g c =
     let held = c.args.ctx.now.held in
     let start = here c.args.reader.now in
     let answer = err_from_is_err_and c.from_residual.result c.from_residual.ensures.1 in
     let ends = isnt_repaired (line_here held.settings held.reference start) start (g.D.Decoder.step (g.D.Decoder.width c.args.decoder.now))
     (record { meaning = g.D.Decoder.meaning c.args.decoder.now; refused = g.D.Decoder.has_refused c.args.decoder.now; refuses = g.D.Decoder.refuses c.args.decoder.now }) held c.decode_line.new.ctx.held
-    c.decode_line.ensures.held (here c.decode_line.new.reader) c.in-Err.error c.in_err-recover.field-0.0 c.in-Err.ensures.line
-    c.in_err-recover.ensures.only_memory c.in_err-recover.ensures.memory c.in_err-recover.ensures.otherwise in
-    rw (answer.1, answer.2, c.in_err-recover.ensures.unchanged.0, c.in_err-recover.ensures.unchanged.1) ends
+    c.decode_line.ensures.held (here c.decode_line.new.reader) c.in-Err.error c.in_err-recover_from.field-0.0 c.in-Err.ensures.line
+    c.in_err-recover_from.ensures.only_memory c.in_err-recover_from.ensures.memory c.in_err-recover_from.ensures.otherwise in
+    rw (answer.1, answer.2, c.in_err-recover_from.ensures.unchanged.0, c.in_err-recover_from.ensures.unchanged.1) ends
 
 pub take_row-requires-clause-full : goal.take_row-requires-clause-full
-take_row-requires-clause-full g c = elim c.match-decode_line.branch [
-  | in-Err+in_ok-recover w ↦
-      let left = c.decode_line.new.ctx.held in
-      rw (w.ctx-is, w.in_ok-recover.ensures.frame) (repaired_full left.settings.columns left.front)
-  | in_default w ↦
-      let held = c.args.ctx.now.held in
-      let full = subst (IsFull held.settings.columns) w.in_default.ensures.line
-      (line_by_full held.settings.encoding held.settings.strict held.settings.columns held.reference (here c.args.reader.now)) in
-      rw (w.ctx-is, ap (λ (h : Held). h.settings.columns) c.decode_line.ensures.held) full
-]
+take_row-requires-clause-full g c =
+    let held = c.args.ctx.now.held in
+    let full = subst (IsFull held.settings.columns) c.in_default.ensures.line
+    (line_by_full held.settings.encoding held.settings.strict held.settings.columns held.reference (here c.args.reader.now)) in
+    rw (ap (λ (h : Held). h.settings.columns) c.decode_line.ensures.held) full
+
+pub returns-in-Err-clause-stored : goal.returns-in-Err-clause-stored
+returns-in-Err-clause-stored g c =
+    let held = c.args.ctx.now.held in
+    let start = here c.args.reader.now in
+    let words = found_here held.settings held.reference start in
+    let few = changes_found held.settings.encoding held.settings.strict held.settings.columns held.reference start in
+    let left = c.decode_line.new.ctx.held in
+    let breaks = line_breaks (line_here held.settings held.reference start) c.in-Err.error left.front (here c.decode_line.new.reader) c.in_ok-recover_from.ensures.only_damage.fault c.in-Err.ensures.line in
+    let drawn = subst (λ (l : Line). length (changes (front_of l)) ≤ length words) breaks few in
+    let stands = ap (λ (x : Context). length (changes x.held.front)) c.in_ok-recover_from.ensures.frame in
+    on_ok_weaker c.take_damaged_row.result (λ taken. omega (arith, drawn, stands, changes_repaired left.settings.columns left.front, ap (λ (h : Held). length (changes h.reference)) taken))
+    c.take_damaged_row.ensures.taken
 
 pub returns-clause-stored : goal.returns-clause-stored
 returns-clause-stored g c =
@@ -42,15 +49,5 @@ returns-clause-stored g c =
     let start = here c.args.reader.now in
     let words = found_here held.settings held.reference start in
     let few = changes_found held.settings.encoding held.settings.strict held.settings.columns held.reference start in
-    elim c.match-decode_line.branch [
-      | in-Err+in_ok-recover w ↦
-          let left = c.decode_line.new.ctx.held in
-          let breaks = line_breaks (line_here held.settings held.reference start) w.in-Err.error left.front (here c.decode_line.new.reader) w.in_ok-recover.ensures.only_damage.fault w.in-Err.ensures.line in
-          let drawn = subst (λ (l : Line). length (changes (front_of l)) ≤ length words) breaks few in
-          let stands = ap (λ (x : Context). length (changes x.held.front)) (w.ctx-is ∙ w.in_ok-recover.ensures.frame) in
-          on_ok_weaker c.take_row.result (λ taken. omega (arith, drawn, stands, changes_repaired left.settings.columns left.front, ap (λ (h : Held). length (changes h.reference)) taken)) c.take_row.ensures.taken
-      | in_default w ↦
-          let drawn = subst (λ (l : Line). length (changes (front_of l)) ≤ length words) w.in_default.ensures.line few in
-          let stands = ap (λ (x : Context). length (changes x.held.front)) w.ctx-is in
-          on_ok_weaker c.take_row.result (λ taken. omega (arith, drawn, stands, ap (λ (h : Held). length (changes h.reference)) taken)) c.take_row.ensures.taken
-    ]
+    let drawn = subst (λ (l : Line). length (changes (front_of l)) ≤ length words) c.in_default.ensures.line few in
+    on_ok_weaker c.take_row.result (λ taken. omega (arith, drawn, ap (λ (h : Held). length (changes h.reference)) taken)) c.take_row.ensures.taken

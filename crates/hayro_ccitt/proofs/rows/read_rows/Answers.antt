@@ -1,14 +1,15 @@
-use Rattle.std.proofs.Common.{rules, ◌≡◌, ◌≤◌, ◌+◌, Result, Bool, true, false, length, Ok, refl, sym, ap, ◌∙◌, subst, arith}
+use Rattle.std.proofs.Common.{rules, ◌≡◌, ◌≤◌, ◌+◌, Result, Bool, true, false, length, Ok, Err, refl, sym, ap, ◌∙◌, subst, arith}
 use Rattle.std.proofs.lemmas.Result.{err_from_is_err_and}
 use Rattle.std.proofs.lemmas.List.{length-drop}
 use Rattle.hayro_ccitt.specs.declared.error.DecodeError.TheVariants.{InvalidCode}
 use Rattle.hayro_ccitt.specs.Answers.{IsFault}
 use Rattle.hayro_ccitt.specs.Bits.{here}
 use Rattle.hayro_ccitt.specs.Context.{Held}
-use Rattle.hayro_ccitt.specs.PlainReading.{move_on, one_each, line_of_turn, gathered_from, gap_behind_row}
+use Rattle.hayro_ccitt.specs.PlainReading.{move_on, one_each, line_here, line_of_turn, gathered_from, gap_behind_row}
 use Rattle.hayro_ccitt.proofs.Readings.TurnsMoveOn.{left_to_read}
-use Rattle.hayro_ccitt.proofs.Readings.RunsOverRows.{comes_first}
-use Rattle.hayro_ccitt.proofs.Readings.RowsTaken.{from_line, by_rows_left, left_start, turn_fails, turn_misses, turn_ends, next_between, next_counted, next_paid, next_shorter, counted_last, fails_paid, giving_up_is_paid, misses_paid, ends_paid, words_are}
+use Rattle.hayro_ccitt.proofs.Readings.RunsOverRows.{comes_first, held_between}
+use Rattle.hayro_ccitt.proofs.Readings.RepairsCounted.{RepairsCounted, none_repaired, few_repaired}
+use Rattle.hayro_ccitt.proofs.Readings.RowsTaken.{from_line, by_rows_left, left_start, turn_fails, turn_misses, turn_ends, next_between, next_counted, next_repaired, last_repairs, fails_repaired, next_paid, next_shorter, counted_last, fails_paid, giving_up_is_paid, misses_paid, ends_paid, words_are}
 use Rattle.hayro_ccitt.specs.Work.{CountsRun, most_given_up, most_from_line, words_of_turn}
 use Rattle.hayro_ccitt.specs.declared.error.DecodeError.{DecodeError}
 use Rattle.hayro_ccitt.specs.Decoding.{gap_said}
@@ -27,7 +28,7 @@ rows-init g c =
       record {
         so_far = first;
         comes = comes_first (move_on settings) (one_each (line_of_turn settings)) left_to_read (by_rows_left settings c.requires.columns) first refl;
-        held = c.requires.first;
+        held = c.requires.first ∙ ap (held_between settings first) (sym (ap (λ (h : Held). h.repairs) c.requires.first));
         here = refl;
         meaning = refl;
         refused = refl;
@@ -45,11 +46,14 @@ rows-init g c =
         changes_white settings.columns,
         length-drop c.args.reader.now.place c.args.reader.now.bits,
       ),
+      subst (RepairsCounted settings c.args.reader.now.bits first first) (sym (ap (λ (h : Held). h.repairs.rows) c.requires.first))
+          (none_repaired settings c.args.reader.now.bits first (by_rows_left settings c.requires.columns) refl),
+      omega (arith, ap (λ (h : Held). h.repairs.rows) c.requires.first),
     )
 
 pub read_row-requires-clause-rows : goal.read_row-requires-clause-rows
 read_row-requires-clause-rows g c =
-    let (between, unsought, same, width, words, paid) = c.rows.invariant in
+    let (between, unsought, same, width, words, paid, repaired, few) = c.rows.invariant in
     let settings = c.args.ctx.now.held.settings in
     let sought = c.args.ctx.now.held.has_eols in
     let rest0 = here c.args.reader.now in
@@ -59,7 +63,7 @@ read_row-requires-clause-rows g c =
 
 pub rows-smaller : goal.rows-smaller
 rows-smaller g c =
-    let (between, unsought, same, width, words, paid) = c.rows.invariant in
+    let (between, unsought, same, width, words, paid, repaired, few) = c.rows.invariant in
     let settings = c.args.ctx.now.held.settings in
     let sought = c.args.ctx.now.held.has_eols in
     let rest0 = here c.args.reader.now in
@@ -70,7 +74,7 @@ rows-smaller g c =
 
 pub rows-preserved : goal.rows-preserved
 rows-preserved g c =
-    let (between, unsought, same, width, words, paid) = c.rows.invariant in
+    let (between, unsought, same, width, words, paid, repaired, few) = c.rows.invariant in
     let settings = c.args.ctx.now.held.settings in
     let sought = c.args.ctx.now.held.has_eols in
     let rest0 = here c.args.reader.now in
@@ -88,14 +92,25 @@ rows-preserved g c =
     within c.args.ctx.now.ticks (most_given_up sought (length bits)) c.rows.ctx.ticks paid c.read_row.new.ctx.ticks c.in_ok-read_row.ensures.at_most c.in_ok-read_row.ensures.row
     c.pass_gap.new.ctx.ticks c.pass_gap.new.ctx.held (here c.pass_gap.new.reader) gap c.pass_gap.ensures.held c.in_ok-read_row.ensures.stored
     (λ kept. omega (arith, c.in_ok-pass_gap.ensures.work kept, few_tag_tests c.read_row.new.ctx.held.settings.encoding)) c.in_ok-pass_gap.ensures.work_given_up (giving_up_is_paid sought c.rows.ctx.held.has_eols (length bits) unsought) in
+    let told = next_repaired settings c.requires.columns sought rest0 bits g.D.Decoder.step _ _ _ _ _ between _ width _ _ _
+    c.in_ok-read_row.ensures.row c.pass_gap.new.ctx.held (here c.pass_gap.new.reader) c.pass_gap.result c.pass_gap.ensures.gap c.pass_gap.ensures.held is repaired in
+    let fewer : c.pass_gap.new.ctx.held.repairs.rows ≤ c.pass_gap.new.ctx.held.taken =
+    omega (
+      arith,
+      few,
+      ap (λ (h : Held). h.repairs.rows) c.pass_gap.ensures.held,
+      ap (λ (h : Held). h.taken) c.pass_gap.ensures.held,
+      few_repaired (line_here c.rows.ctx.held.settings c.rows.ctx.held.reference (here c.rows.reader)) c.rows.ctx.held c.read_row.new.ctx.held c.in_ok-read_row.ensures.row.taken.taken
+          c.in_ok-read_row.ensures.row.taken.held,
+    ) in
     let row = ap (λ (h : Held). h.has_eols) c.in_ok-read_row.ensures.row.taken.held in
     let none = λ (sought_not : sought ≡ false). (line_without_eols c.read_row.new.ctx.held.settings c.read_row.new.ctx.held.taken c.pass_gap.new.ctx.held.has_eols (here c.read_row.new.reader) (here c.pass_gap.new.reader)
     (ap (λ (b : Bool). gap_behind_row c.read_row.new.ctx.held.settings c.read_row.new.ctx.held.taken b (here c.read_row.new.reader)) (sym (row ∙ unsought sought_not)) ∙ gap)).0 in
-    (next, none, c.pass_gap.ensures.same_bits ∙ c.read_row.ensures.same_bits ∙ same, c.read_row.ensures.width ∙ width, counted, goes_on)
+    (next, none, c.pass_gap.ensures.same_bits ∙ c.read_row.ensures.same_bits ∙ same, c.read_row.ensures.width ∙ width, counted, goes_on, told, fewer)
 
 pub returns-in_err-read_row-clause-rows : goal.returns-in_err-read_row-clause-rows
 returns-in_err-read_row-clause-rows g c =
-    let (between, unsought, same, width, words, paid) = c.rows.invariant in
+    let (between, unsought, same, width, words, paid, repaired, few) = c.rows.invariant in
     let settings = c.args.ctx.now.held.settings in
     let sought = c.args.ctx.now.held.has_eols in
     let rest0 = here c.args.reader.now in
@@ -109,6 +124,9 @@ returns-in_err-read_row-clause-rows g c =
       settings = search rules;
       reading = leaves.0;
       short = leaves.1;
+      repaired = fails_repaired settings c.requires.columns sought rest0 bits g.D.Decoder.step _ _ _ _ _ between _ width
+          (record { meaning = g.D.Decoder.meaning c.read_row.new.decoder; refused = g.D.Decoder.has_refused c.read_row.new.decoder; refuses = g.D.Decoder.refuses c.read_row.new.decoder })
+          c.read_row.new.ctx.held (here c.read_row.new.reader) c.in_err-read_row.field-0.0 c.in_err-read_row.ensures.row repaired;
       work = counted_ends (move_on settings) (one_each (words_of_turn settings)) left_to_read (by_rows_left settings c.requires.columns) (from_line sought rest0) refl between.so_far
           c.args.ctx.now.ticks c.rows.ctx.ticks words c.read_row.new.ctx.held.taken c.read_row.new.ctx.ticks (most_from_line sought (length bits))
           (taken ∙ ap (λ (h : Held). h.taken) between.held) c.in_err-read_row.ensures.counts
@@ -118,12 +136,12 @@ returns-in_err-read_row-clause-rows g c =
     }
     )
 
--- what is counted where what stands behind a row ends the run, within the bound
+-- what is counted if what follows a row ends the run, within the bound
 last_counted : (g : Over) (c : After-pass_gap g) → c.pass_gap.new.ctx.ticks ≤ c.args.ctx.now.ticks + (most_from_line c.args.ctx.now.held.has_eols (length c.args.reader.now.bits))
     → CountsRun (gathered_from (move_on c.args.ctx.now.held.settings) (one_each (words_of_turn c.args.ctx.now.held.settings)) (from_line c.args.ctx.now.held.has_eols (here c.args.reader.now))) c.pass_gap.new.ctx.held.taken c.args.ctx.now.ticks c.pass_gap.new.ctx.ticks
     (most_from_line c.args.ctx.now.held.has_eols (length c.args.reader.now.bits))
 last_counted g c most =
-    let (between, unsought, same, width, words, paid) = c.rows.invariant in
+    let (between, unsought, same, width, words, paid, repaired, few) = c.rows.invariant in
     let settings = c.args.ctx.now.held.settings in
     let sought = c.args.ctx.now.held.has_eols in
     let rest0 = here c.args.reader.now in
@@ -135,7 +153,7 @@ last_counted g c most =
 
 pub returns-in_err-pass_gap-clause-rows : goal.returns-in_err-pass_gap-clause-rows
 returns-in_err-pass_gap-clause-rows g c =
-    let (between, unsought, same, width, words, paid) = c.rows.invariant in
+    let (between, unsought, same, width, words, paid, repaired, few) = c.rows.invariant in
     let settings = c.args.ctx.now.held.settings in
     let sought = c.args.ctx.now.held.has_eols in
     let rest0 = here c.args.reader.now in
@@ -150,6 +168,10 @@ returns-in_err-pass_gap-clause-rows g c =
       settings = search rules;
       reading = leaves.0;
       short = leaves.1;
+      repaired = last_repairs settings c.requires.columns sought rest0 bits g.D.Decoder.step _ _ _ _ _ between _ width _ _ _
+          c.in_ok-read_row.ensures.row c.pass_gap.new.ctx.held (here c.pass_gap.new.reader) c.pass_gap.result c.pass_gap.ensures.gap c.pass_gap.ensures.held
+          (Err c.in_err-pass_gap.field-0.0) (ap (λ (a : Result Bool DecodeError). gap_said a c.pass_gap.new.ctx.held.has_eols (here c.pass_gap.new.reader)) c.in_err-pass_gap.was)
+          (Err c.in_err-pass_gap.field-0.0) repaired;
       work = last_counted g (goal.at.returns-in_err-pass_gap-clause-rows g c).After-pass_gap
           (misses_paid settings c.requires.columns sought rest0 bits g.D.Decoder.step _ _ _ _ _ between _ width _ _ _
           within c.args.ctx.now.ticks (most_given_up sought (length bits)) c.rows.ctx.ticks paid c.read_row.new.ctx.ticks c.in_ok-read_row.ensures.at_most c.in_ok-read_row.ensures.row
@@ -159,7 +181,7 @@ returns-in_err-pass_gap-clause-rows g c =
 
 pub returns-then-branch-clause-rows : goal.returns-then-branch-clause-rows
 returns-then-branch-clause-rows g c =
-    let (between, unsought, same, width, words, paid) = c.rows.invariant in
+    let (between, unsought, same, width, words, paid, repaired, few) = c.rows.invariant in
     let settings = c.args.ctx.now.held.settings in
     let sought = c.args.ctx.now.held.has_eols in
     let rest0 = here c.args.reader.now in
@@ -172,6 +194,10 @@ returns-then-branch-clause-rows g c =
       settings = search rules;
       reading = leaves.0;
       short = leaves.1;
+      repaired = last_repairs settings c.requires.columns sought rest0 bits g.D.Decoder.step _ _ _ _ _ between _ width _ _ _
+          c.in_ok-read_row.ensures.row c.pass_gap.new.ctx.held (here c.pass_gap.new.reader) c.pass_gap.result c.pass_gap.ensures.gap c.pass_gap.ensures.held
+          (Ok (here c.pass_gap.new.reader)) (ap (λ (a : Result Bool DecodeError). gap_said a c.pass_gap.new.ctx.held.has_eols (here c.pass_gap.new.reader)) is)
+          (Ok (here c.pass_gap.new.reader)) repaired;
       work = last_counted g (goal.at.returns-then-branch-clause-rows g c).After-pass_gap
           (ends_paid settings c.requires.columns sought rest0 bits g.D.Decoder.step _ _ _ _ _ between _ width _ _ _
           within c.args.ctx.now.ticks (most_given_up sought (length bits)) c.rows.ctx.ticks paid c.read_row.new.ctx.ticks c.in_ok-read_row.ensures.at_most c.in_ok-read_row.ensures.row
@@ -181,15 +207,15 @@ returns-then-branch-clause-rows g c =
 
 pub returns-in_err-read_row-clause-no_eols : goal.returns-in_err-read_row-clause-no_eols
 returns-in_err-read_row-clause-no_eols g c = λ none.
-    let (between, unsought, same, width, words, paid) = c.rows.invariant in
+    let (between, unsought, same, width, words, paid, repaired, few) = c.rows.invariant in
     ap (λ (h : Held). h.has_eols) c.in_err-read_row.ensures.row.held ∙ unsought none
 
 pub returns-in_err-pass_gap-clause-no_eols : goal.returns-in_err-pass_gap-clause-no_eols
 returns-in_err-pass_gap-clause-no_eols g c = λ none.
-    let (between, unsought, same, width, words, paid) = c.rows.invariant in
+    let (between, unsought, same, width, words, paid, repaired, few) = c.rows.invariant in
     c.in_err-pass_gap.ensures.kept ∙ ap (λ (h : Held). h.has_eols) c.in_ok-read_row.ensures.row.taken.held ∙ unsought none
 
 pub returns-then-branch-clause-no_eols : goal.returns-then-branch-clause-no_eols
 returns-then-branch-clause-no_eols g c = λ none.
-    let (between, unsought, same, width, words, paid) = c.rows.invariant in
+    let (between, unsought, same, width, words, paid, repaired, few) = c.rows.invariant in
     c.in_ok-pass_gap.ensures.given_up c.if-branch.true ∙ ap (λ (h : Held). h.has_eols) c.in_ok-read_row.ensures.row.taken.held ∙ unsought none

@@ -1,4 +1,4 @@
-use Rattle.std.proofs.Common.{◌≡◌, false, suc, cond, length}
+use Rattle.std.proofs.Common.{◌≡◌, ◌≤◌, false, suc, cond, length}
 use Rattle.hayro_ccitt.specs.Bits.{here}
 use Rattle.hayro_ccitt.specs.PlainReading.{move_on, one_each, line_of_turn}
 use Rattle.hayro_ccitt.specs.Rows.{changes}
@@ -7,10 +7,11 @@ use Rattle.hayro_ccitt.proofs.Work.RunsCount.{WordsCounted}
 use Rattle.hayro_ccitt.proofs.Work.TurnsPaid.{IsPaidUpTo}
 use Rattle.hayro_ccitt.proofs.Readings.TurnsMoveOn.{left_to_read}
 use Rattle.hayro_ccitt.proofs.Readings.RunsOverRows.{Between}
+use Rattle.hayro_ccitt.proofs.Readings.RepairsCounted.{RepairsCounted}
 use Rattle.hayro_ccitt.proofs.Readings.RowsTaken.{from_line}
 use Rattle.hayro_ccitt.proofs.rows.read_rows.Given as goal
 
--- some rows were read and taken, and the reading comes to them with what is left
+-- the rows so far were read and accepted, and the rest of the reading is left
 abbrev pub invariant-rows : goal.invariant-rows
 invariant-rows g l =
     (between : Between (move_on l.fn.ctx.held.settings) (one_each (line_of_turn l.fn.ctx.held.settings)) left_to_read (from_line l.fn.ctx.held.has_eols (here l.fn.reader)) l.fn.ctx.held.settings
@@ -23,7 +24,9 @@ invariant-rows g l =
     × WordsCounted (move_on l.fn.ctx.held.settings) (one_each (words_of_turn l.fn.ctx.held.settings)) left_to_read (from_line l.fn.ctx.held.has_eols (here l.fn.reader)) between.so_far
     l.fn.ctx.ticks l.ctx.ticks
     × IsPaidUpTo l.fn.ctx.ticks (length l.fn.reader.bits) (most_given_up l.fn.ctx.held.has_eols (length l.fn.reader.bits)) l.fn.ctx.held.settings.encoding l.ctx.held.has_eols l.ctx.ticks (length (changes l.ctx.held.reference)) (here l.reader)
+    × RepairsCounted l.fn.ctx.held.settings l.fn.reader.bits (from_line l.fn.ctx.held.has_eols (here l.fn.reader)) between.so_far l.ctx.held.repairs.rows
+    × (l.ctx.held.repairs.rows ≤ l.ctx.held.taken)
 
--- the bits that are left, and the EOLs that may be given up once
+-- the bits that are left, and one more while EOLs are sought
 abbrev pub decreases-rows : goal.decreases-rows
 decreases-rows g l = cond l.ctx.held.has_eols (suc (length (here l.reader))) (length (here l.reader))

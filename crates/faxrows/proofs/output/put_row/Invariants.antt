@@ -1,0 +1,13 @@
+use Rattle.std.proofs.Common.{◌≡◌, ◌∷◌, take}
+use Rattle.std.specs.Prelude.{flat_map}
+use Rattle.faxrows.specs.Output.{PassesOn}
+use Rattle.faxrows.specs.Text.{text_of_change}
+use Rattle.faxrows.proofs.output.put_row.Given as goal
+
+-- the line as far as the changes came
+abbrev pub invariant-loop-change : goal.invariant-loop-change
+invariant-loop-change g l = record {
+  line : PassesOn (g.W.Write.contents l.fn.writer.0) (g.W.Write.contents l.writer.0) l.fn.waiting.items
+      (114 ∷ flat_map text_of_change (take l.change-index l.changes)) l.waiting.items;
+  flag : l.writer.1 ≡ l.fn.writer.1;
+}

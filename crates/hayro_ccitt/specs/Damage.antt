@@ -1,0 +1,63 @@
+-- Damage that a lenient reading of Group 3 data with EOLs gets over: rows that it repairs, and EOLs that it misses (T.4, 4.1.2).
+use Rattle.std.specs.Prelude.{ℕ, ◌+◌, ◌-◌, Bool, not, ◌&&◌, ◌||◌, List, [], ◌∷◌, ◌++◌, length, flat_map, ◌==◌, Option, Some, None, if◌then◌else◌}
+use Rattle.hayro_ccitt.specs.declared.error.DecodeError.{DecodeError}
+use Rattle.hayro_ccitt.specs.declared.error.DecodeError.TheVariants.{InvalidCode}
+use Rattle.hayro_ccitt.specs.declared.settings.DecodeSettings.{DecodeSettings}
+use Rattle.hayro_ccitt.specs.Bits.{Bits}
+use Rattle.hayro_ccitt.specs.Lines.{Line}
+use Rattle.hayro_ccitt.specs.PlainReading.{Progress, gathered_of, line_of_turn, misses_eol, behind_row}
+
+-- damage: the index of the row, the offset in bits from which on bits are passed over, and the fault; a line that is repaired is
+-- passed over from its first bit on, and an EOL is missed behind a whole one
+pub record Damaged : Type 0 where
+  pub row : ℕ
+  pub start : ℕ
+  pub fault : DecodeError
+
+-- ---- Rows that are repaired
+
+-- what is repaired of a line that begins at this offset: a broken one, in lenient data with EOLs (T.4, 4.1.2)
+abbrev pub repaired_in : DecodeSettings → Bool → ℕ → ℕ → Line → List Damaged
+repaired_in settings has_eols row start (Line.whole pixels rest) = []
+repaired_in settings has_eols row start (Line.broken front fault) =
+    if settings.strict || not has_eols then [] else record { row = row; start = start; fault = fault } ∷ []
+
+-- the fault of what is repaired of a line, if anything is
+abbrev pub fault_in : List Damaged → Option DecodeError
+fault_in [] = None
+fault_in (damaged ∷ more) = Some damaged.fault
+
+-- glue: of the line of a turn
+abbrev pub repaired_by_turn : DecodeSettings → Bits → Progress → List Damaged
+repaired_by_turn settings bits so_far =
+    repaired_in settings so_far.has_eols (length so_far.rows) (length bits - length so_far.rest) (line_of_turn settings so_far)
+
+-- What is repaired of each line of the plain reading, in the order of `lines_of`: one row or none.
+abbrev pub repairs_by_line : DecodeSettings → Bits → List (List Damaged)
+repairs_by_line settings bits = if settings.columns == 0 then [] else gathered_of settings (repaired_by_turn settings bits) bits
+
+-- The rows that the plain reading repairs, in order (T.4, 4.1.2).
+abbrev pub repairs_of : DecodeSettings → Bits → List Damaged
+repairs_of settings bits = flat_map (λ repaired. repaired) (repairs_by_line settings bits)
+
+-- ---- EOLs that are missed
+
+-- what is missed behind a line: its EOL, where it is whole and other bits stand, in lenient data with EOLs (T.4, 4.1.2)
+abbrev pub missed_behind : DecodeSettings → Bits → Progress → Line → List Damaged
+missed_behind settings bits so_far (Line.whole row rest) =
+    if misses_eol settings (length so_far.rows + 1) so_far.has_eols (behind_row settings so_far.has_eols rest) && not settings.strict
+    then record { row = length so_far.rows; start = length bits - length (behind_row settings so_far.has_eols rest); fault = InvalidCode } ∷ []
+    else []
+missed_behind settings bits so_far (Line.broken front fault) = []
+
+-- ---- All damage
+
+-- glue: of a turn
+abbrev pub damaged_by_turn : DecodeSettings → Bits → Progress → List Damaged
+damaged_by_turn settings bits so_far = repaired_by_turn settings bits so_far ++ missed_behind settings bits so_far (line_of_turn settings so_far)
+
+-- All damage that the plain reading gets over, in order: each row that it repairs, and each row behind which it misses the EOL
+-- (T.4, 4.1.2).
+abbrev pub damage_of : DecodeSettings → Bits → List Damaged
+damage_of settings bits =
+    if settings.columns == 0 then [] else flat_map (λ damaged. damaged) (gathered_of settings (damaged_by_turn settings bits) bits)
