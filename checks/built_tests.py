@@ -8,7 +8,13 @@ import tempfile
 # others name none. A test that has each allocation refused in turn names one more than there are.
 NAMED = {
     "fax_callers": {"tests::refused_memory": (11, 8)},
-    "fax_encode": {"tests::refused_memory": (40, 34), "tests::sink_without_memory": (1, 0)},
+    "fax_encode": {
+        "settings_tests::refused_memory": (10, 8),
+        "settings_tests::refused_memory_row_by_row": (11, 9),
+        "settings_tests::wanting_memory_stays": (1, 1),
+        "tests::refused_memory": (40, 34),
+        "tests::sink_without_memory": (1, 0),
+    },
     "faxrows": {
         "tests::refused_memory_by_row": (57, 24),
         "tests::refused_memory_of_damage": (38, 16),

@@ -353,7 +353,8 @@ fn comes_back(rt: &(impl Abort + AllocGlobal), settings: EncodeSettings) -> Resu
         panic!(rt; "no memory");
     };
     assert!(rt; bits_fit(&bytes));
-    let mut sink = BitmapSink::new(alloc, 24);
+    let columns = ctx.settings().columns;
+    let mut sink = BitmapSink::new(alloc, columns);
     let read = decode_in(settings.order, &bytes, &mut sink, &mut ctx);
     assert_eq!(rt; read, Ok(bytes.len()), "bytes by {settings:?}");
     assert_eq!(rt; sink.bytes(), BITMAP.as_slice(), "rows by {settings:?}");
