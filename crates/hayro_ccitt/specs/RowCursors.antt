@@ -23,8 +23,8 @@ IsStanding rows reader =
 abbrev pub IsStandingAtLine : RowState → BitsAt → Type 0
 IsStandingAtLine rows reader = (is_at_line rows.stand ≡ true) × (IsStanding rows reader)
 
--- what is kept of a reading whose data is elsewhere: the context, the order of the bits, the offset of the next bit, that of the
--- last row's line and its fault where it was repaired, and where the reading is
+-- what is kept of a reading whose data is elsewhere: the context, the order of the bits, the offset of the next bit, that
+-- of the last row's line and its fault if it was repaired, and where the reading is
 pub record Paused : Type 0 where
   pub held : Held
   pub order : BitOrder
@@ -45,7 +45,8 @@ paused_of r = record {
 
 -- what was read of these bits
 abbrev pub rows_over : Bits → Paused → RowsRead
-rows_over bits paused = read_so_far paused.held (record { bits = bits; place = paused.place }) paused.line_start paused.damage paused.stand
+rows_over bits paused = read_so_far paused.held (record { bits = bits; place = paused.place }) paused.line_start
+    paused.damage paused.stand
 
 -- It is a reading of these bits: its rows so far are those of the plain reading.
 pub record IsReadingOf (bits : Bits) (paused : Paused) : Type 0 where

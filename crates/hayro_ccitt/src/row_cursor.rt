@@ -30,7 +30,8 @@ impl RowState {
     /// Passes the gap before the next line, and returns whether a line stands there.
     fn come_to_line(&mut self, reader: &mut BitReader<'_>) -> Result<bool>
         requires { ended self.old.stand ≡ None }
-        ensures comes { IsStanding self.old reader.old → ComesToLine (seen self.old reader.old) (seen self.new reader.new) result }
+        ensures comes { IsStanding self.old reader.old
+            → ComesToLine (seen self.old reader.old) (seen self.new reader.new) result }
         ensures stands { IsStanding self.old reader.old → IsStanding self.new reader.new }
         ensures settings { self.new.ctx.held.settings ≡ self.old.ctx.held.settings }
         ensures same_bits { reader.new.bits ≡ reader.old.bits }
@@ -60,7 +61,8 @@ impl RowState {
     fn read_line(&mut self, reader: &mut BitReader<'_>) -> Result<bool>
         requires rows { self.old.ctx.held.taken ≤ length reader.old.bits + 1 }
         requires damaged { self.old.ctx.held.repairs.rows ≤ self.old.ctx.held.taken }
-        ensures reads { IsStandingAtLine self.old reader.old → ReadsNext (seen self.old reader.old) (seen self.new reader.new) result }
+        ensures reads { IsStandingAtLine self.old reader.old
+            → ReadsNext (seen self.old reader.old) (seen self.new reader.new) result }
         ensures stands { IsStandingAtLine self.old reader.old → IsStanding self.new reader.new }
         ensures settings { self.new.ctx.held.settings ≡ self.old.ctx.held.settings }
         ensures same_bits { reader.new.bits ≡ reader.old.bits }
@@ -89,7 +91,8 @@ impl RowState {
     /// `UnexpectedEof`.
     fn next_row(&mut self, reader: &mut BitReader<'_>) -> Result<bool>
         requires { ended self.old.stand ≡ None }
-        ensures reads { IsStanding self.old reader.old → ReadsNext (seen self.old reader.old) (seen self.new reader.new) result }
+        ensures reads { IsStanding self.old reader.old
+            → ReadsNext (seen self.old reader.old) (seen self.new reader.new) result }
         ensures stands { IsStanding self.old reader.old → IsStanding self.new reader.new }
         ensures settings { self.new.ctx.held.settings ≡ self.old.ctx.held.settings }
         ensures same_bits { reader.new.bits ≡ reader.old.bits }
@@ -163,8 +166,10 @@ impl RowCursor {
         requires fit { BitsFit «data».now }
         requires unended { ended self.old.stand ≡ None }
         ensures reads { IsReadingOf (bits_in self.old.order «data».now) self.old → ReadsNext
-            (rows_over (bits_in self.old.order «data».now) self.old) (rows_over (bits_in self.old.order «data».now) self.new) result }
-        ensures reading { IsReadingOf (bits_in self.old.order «data».now) self.old → IsReadingOf (bits_in self.old.order «data».now) self.new }
+            (rows_over (bits_in self.old.order «data».now) self.old)
+            (rows_over (bits_in self.old.order «data».now) self.new) result }
+        ensures reading { IsReadingOf (bits_in self.old.order «data».now) self.old
+            → IsReadingOf (bits_in self.old.order «data».now) self.new }
         ensures settings { self.new.held.settings ≡ self.old.held.settings }
         ensures order { self.new.order ≡ self.old.order }
     {
@@ -177,8 +182,8 @@ impl RowCursor {
         answer
     }
 
-    /// Reads the next row of the data, and returns whether there was one; its changes are those of [`row`](RowCursor::row). At the
-    /// end of the image it returns `Ok(false)`, and so does each further call.
+    /// Reads the next row of the data, and returns whether there was one; its changes are those of [`row`](RowCursor::row). At
+    /// the end of the image it returns `Ok(false)`, and so does each further call.
     ///
     /// # Errors
     ///
@@ -187,8 +192,10 @@ impl RowCursor {
     pub fn next_row(&mut self, data: &[u8]) -> Result<bool>
         requires fit { BitsFit «data».now }
         ensures reads { IsReadingOf (bits_in self.old.order «data».now) self.old → ended self.old.stand ≡ None → ReadsNext
-            (rows_over (bits_in self.old.order «data».now) self.old) (rows_over (bits_in self.old.order «data».now) self.new) result }
-        ensures reading { IsReadingOf (bits_in self.old.order «data».now) self.old → IsReadingOf (bits_in self.old.order «data».now) self.new }
+            (rows_over (bits_in self.old.order «data».now) self.old)
+            (rows_over (bits_in self.old.order «data».now) self.new) result }
+        ensures reading { IsReadingOf (bits_in self.old.order «data».now) self.old
+            → IsReadingOf (bits_in self.old.order «data».now) self.new }
         ensures ended { (end : Result (Unit {0}) DecodeError) → ended self.old.stand ≡ Some end
             → (self.new ≡ self.old) × (result ≡ at_end_of_rows end) }
         ensures settings { self.new.held.settings ≡ self.old.held.settings }

@@ -14,7 +14,8 @@ use Rattle.hayro_ccitt.proofs.row_cursor.RowState.come_to_line.Goals.{After-line
 
 -- where the reading is behind the gap
 passed : (c : After-line_after_gap) → IsStanding c.args.self.now c.args.reader.now
-    → Stands (stand_after c.pass_gap-over.result) c.args.self.now.ctx.held.settings c.args.reader.now.bits c.pass_gap-over.new.ctx.held c.pass_gap-over.new.reader.place
+    → Stands (stand_after c.pass_gap-over.result) c.args.self.now.ctx.held.settings c.args.reader.now.bits
+    c.pass_gap-over.new.ctx.held c.pass_gap-over.new.reader.place
 passed c stands =
     let rows = c.args.self.now in
     let held = rows.ctx.held in
@@ -24,7 +25,8 @@ passed c stands =
     let behind = behind_row_stands rows.stand held.settings bits held c.args.reader.now.place c.requires
     (sym c.is_at_line.ensures ∙ c.if-is_at_line.false) stands.0 in
     let said = subst (λ (b : Bits). gap_behind_row held.settings held.taken held.has_eols (here c.args.reader.now)
-    ≡ gap_said c.pass_gap-over.result last.has_eols (drop at.place b)) c.pass_gap-over.ensures.same_bits c.pass_gap-over.ensures.gap in
+    ≡ gap_said c.pass_gap-over.result last.has_eols (drop at.place b)) c.pass_gap-over.ensures.same_bits
+    c.pass_gap-over.ensures.gap in
     gap_stands held.settings bits held (here c.args.reader.now) behind last at.place
     (omega (arith, c.bit_pos-place.ensures.place, c.bit_pos-place.ensures.within, ap length c.pass_gap-over.ensures.same_bits))
     c.pass_gap-over.ensures.held c.pass_gap-over.result said c.pass_gap-over.ensures.only_code
@@ -36,11 +38,14 @@ returns-clause-stands c stands =
     let at = c.pass_gap-over.new.reader in
     let same : last.settings ≡ settings = ap (λ (h : Held). h.settings) c.pass_gap-over.ensures.held in
     let held = c.args.self.now.ctx.held in
-    let counted = repairs_stay settings last.settings c.args.reader.now.bits at.bits held last same c.pass_gap-over.ensures.same_bits
-    (ap (λ (h : Held). h.taken) c.pass_gap-over.ensures.held) (ap (λ (h : Held). h.repairs) c.pass_gap-over.ensures.held) stands.1 in (
+    let counted = repairs_stay settings last.settings c.args.reader.now.bits at.bits held last same
+    c.pass_gap-over.ensures.same_bits
+    (ap (λ (h : Held). h.taken) c.pass_gap-over.ensures.held) (ap (λ (h : Held). h.repairs) c.pass_gap-over.ensures.held)
+    stands.1 in (
       subst (λ (s : Stand). Stands s last.settings at.bits last at.place) (sym c.stand_after_gap-self.ensures)
           (subst (λ (s : DecodeSettings). Stands (stand_after c.pass_gap-over.result) s at.bits last at.place) (sym same)
-          (subst (λ (b : Bits). Stands (stand_after c.pass_gap-over.result) settings b last at.place) (sym c.pass_gap-over.ensures.same_bits) (passed c stands))),
+          (subst (λ (b : Bits). Stands (stand_after c.pass_gap-over.result) settings b last at.place)
+          (sym c.pass_gap-over.ensures.same_bits) (passed c stands))),
       counted,
     )
 
@@ -52,6 +57,9 @@ returns-clause-comes c stands =
     let at = c.pass_gap-over.new.reader in
     let settings : last.settings ≡ rows.ctx.held.settings = ap (λ (h : Held). h.settings) c.pass_gap-over.ensures.held in
     let taken : last.taken ≡ rows.ctx.held.taken = ap (λ (h : Held). h.taken) c.pass_gap-over.ensures.held in
-    subst (λ (s : Stand). ComesToLine old (read_so_far last at rows.started_at rows.damage s) c.line_after_gap.result) (sym c.stand_after_gap-self.ensures)
-    (subst (λ (r : Result Bool DecodeError). ComesToLine old (read_so_far last at rows.started_at rows.damage (stand_after c.pass_gap-over.result)) r) (sym c.line_after_gap.ensures)
-    (comes_to_line old last at rows.started_at rows.damage c.pass_gap-over.result settings c.pass_gap-over.ensures.same_bits taken (passed c stands)))
+    subst (λ (s : Stand). ComesToLine old (read_so_far last at rows.started_at rows.damage s) c.line_after_gap.result)
+    (sym c.stand_after_gap-self.ensures)
+    (subst (λ (r : Result Bool DecodeError). ComesToLine old (read_so_far last at rows.started_at rows.damage
+    (stand_after c.pass_gap-over.result)) r) (sym c.line_after_gap.ensures)
+    (comes_to_line old last at rows.started_at rows.damage c.pass_gap-over.result settings c.pass_gap-over.ensures.same_bits
+    taken (passed c stands)))

@@ -26,9 +26,11 @@ row_was_read c at =
     let bits = c.args.reader.now.bits in
     let rest = here c.args.reader.now in
     let stands = at_line_stands rows.stand held.settings bits held c.args.reader.now.place at.0 at.1.0 in
-    let same = begun_is held.settings bits held rest stands c.begin_line.new.self (ap (λ (x : Context). x.held) c.begin_line.ensures.frame) in
+    let same = begun_is held.settings bits held rest stands c.begin_line.new.self
+    (ap (λ (x : Context). x.held) c.begin_line.ensures.frame) in
     subst (λ (h : Held). IsRead held.settings bits h c.read_row.new.ctx.held rest (here c.read_row.new.reader)) same
-    (is_read held.settings bits c.begin_line.new.self.held rest (subst (λ (h : Held). StandsAtLine held.settings bits h rest) (sym same) stands)
+    (is_read held.settings bits c.begin_line.new.self.held rest (subst (λ (h : Held). StandsAtLine held.settings bits h rest)
+    (sym same) stands)
     c.read_row.new.ctx.held (here c.read_row.new.reader) c.in-Ok.ensures.row)
 
 -- or it wasn't
@@ -40,20 +42,25 @@ row_was_not_read c at =
     let bits = c.args.reader.now.bits in
     let rest = here c.args.reader.now in
     let stands = at_line_stands rows.stand held.settings bits held c.args.reader.now.place at.0 at.1.0 in
-    let same = begun_is held.settings bits held rest stands c.begin_line.new.self (ap (λ (x : Context). x.held) c.begin_line.ensures.frame) in
-    isnt_read held.settings bits c.begin_line.new.self.held rest (subst (λ (h : Held). StandsAtLine held.settings bits h rest) (sym same) stands)
+    let same = begun_is held.settings bits held rest stands c.begin_line.new.self
+    (ap (λ (x : Context). x.held) c.begin_line.ensures.frame) in
+    isnt_read held.settings bits c.begin_line.new.self.held rest (subst
+    (λ (h : Held). StandsAtLine held.settings bits h rest) (sym same) stands)
     c.read_row.new.ctx.held (here c.read_row.new.reader) c.in-Err.error c.in-Err.ensures.row
 
 -- what an error leaves of the context
 settings_left : (c : After-self-in-Err-1) → c.read_row.new.ctx.held.settings ≡ c.args.self.now.ctx.held.settings
-settings_left c = ap (λ (h : Held). h.settings) c.in-Err.ensures.row.held ∙ ap (λ (x : Context). x.held.settings) c.begin_line.ensures.frame
+settings_left c = ap (λ (h : Held). h.settings) c.in-Err.ensures.row.held ∙ ap (λ (x : Context). x.held.settings)
+    c.begin_line.ensures.frame
 
 taken_left : (c : After-self-in-Err-1) → c.read_row.new.ctx.held.taken ≡ c.args.self.now.ctx.held.taken
-taken_left c = ap (λ (h : Held). h.taken) c.in-Err.ensures.row.held ∙ ap (λ (x : Context). x.held.taken) c.begin_line.ensures.frame
+taken_left c = ap (λ (h : Held). h.taken) c.in-Err.ensures.row.held ∙ ap (λ (x : Context). x.held.taken)
+    c.begin_line.ensures.frame
 
 -- what it leaves of the count of repairs
 repairs_left : (c : After-self-in-Err-1) → c.read_row.new.ctx.held.repairs ≡ c.args.self.now.ctx.held.repairs
-repairs_left c = ap (λ (h : Held). h.repairs) c.in-Err.ensures.row.held ∙ ap (λ (x : Context). x.held.repairs) c.begin_line.ensures.frame
+repairs_left c = ap (λ (h : Held). h.repairs) c.in-Err.ensures.row.held ∙ ap (λ (x : Context). x.held.repairs)
+    c.begin_line.ensures.frame
 
 pub returns-in-Ok-clause-stands : goal.returns-in-Ok-clause-stands
 returns-in-Ok-clause-stands c at =
@@ -64,7 +71,8 @@ returns-in-Ok-clause-stands c at =
     let read_bits = c.read_row.new.reader.bits in
     let counted = at.1.1 in (
       subst (λ (s : DecodeSettings). StandsBehindRow s read_bits new (here c.read_row.new.reader)) (sym read.settings_are)
-          (subst (λ (b : Bits). StandsBehindRow settings b new (here c.read_row.new.reader)) (sym c.read_row.ensures.same_bits) read.stands),
+          (subst (λ (b : Bits). StandsBehindRow settings b new (here c.read_row.new.reader))
+          (sym c.read_row.ensures.same_bits) read.stands),
       repairs_stay settings new.settings bits read_bits new new read.settings_are c.read_row.ensures.same_bits refl refl
           (record { few = read.few counted.few; counted = read.counted counted.counted }),
     )
@@ -76,8 +84,10 @@ returns-in-Err-clause-stands c at =
     let new = c.read_row.new.ctx.held in
     let read_bits = c.read_row.new.reader.bits in (
       subst (λ (s : DecodeSettings). HasFailed s read_bits new.taken c.in-Err.error) (sym (settings_left c))
-          (subst (λ (b : Bits). HasFailed held.settings b new.taken c.in-Err.error) (sym c.read_row.ensures.same_bits) (row_was_not_read c at)),
-      repairs_stay held.settings new.settings bits read_bits held new (settings_left c) c.read_row.ensures.same_bits (taken_left c) (repairs_left c) at.1.1,
+          (subst (λ (b : Bits). HasFailed held.settings b new.taken c.in-Err.error) (sym c.read_row.ensures.same_bits)
+          (row_was_not_read c at)),
+      repairs_stay held.settings new.settings bits read_bits held new (settings_left c) c.read_row.ensures.same_bits
+          (taken_left c) (repairs_left c) at.1.1,
     )
 
 pub returns-in-Ok-clause-reads : goal.returns-in-Ok-clause-reads
@@ -89,15 +99,18 @@ returns-in-Ok-clause-reads c at =
       bits = c.read_row.ensures.same_bits;
       more = λ e. (refl, read.more, read.within);
       row = λ e. read.row;
-      line_start = λ e. line_start_of reader.place reader.bits c.bit_pos-line_start.result c.bit_pos-line_start.ensures.place c.bit_pos-line_start.ensures.within ∙ read.line_start;
+      line_start = λ e. line_start_of reader.place reader.bits c.bit_pos-line_start.result c.bit_pos-line_start.ensures.place
+          c.bit_pos-line_start.ensures.within ∙ read.line_start;
       damage = λ e. c.damage_since-self.ensures
           ∙ ap (λ (n : ℕ). damage_since c.read_row.new.ctx.held.repairs n)
-          (c.damaged_rows-damaged_rows.ensures ∙ ap (λ (x : Context). x.held.repairs.rows) c.begin_line.ensures.frame) ∙ read.damage;
+          (c.damaged_rows-damaged_rows.ensures ∙ ap (λ (x : Context). x.held.repairs.rows) c.begin_line.ensures.frame)
+          ∙ read.damage;
       end = λ e. cc;
       error = tt;
     }
   where
-    line_start_of : (place : ℕ) (bits : Bits) (result : ℕ) → result ≡ place → result ≤ length bits → result ≡ length bits - length (drop place bits)
+    line_start_of : (place : ℕ) (bits : Bits) (result : ℕ) → result ≡ place → result ≤ length bits
+        → result ≡ length bits - length (drop place bits)
     line_start_of place bits result is within = omega (arith, is, within, length-drop place bits)
 
 pub returns-in-Err-clause-reads : goal.returns-in-Err-clause-reads
