@@ -196,7 +196,7 @@ def installed():
 
 
 def versions_agree(version):
-    """One version: of the header, hayro_ccitt.pc, the manual pages and CHANGELOG.md."""
+    """One version: of the header, hayro_ccitt.pc, `faxrows --version`, the manual pages and CHANGELOG.md."""
     with open("c/hayro_ccitt.h", encoding="utf-8") as file:
         header = file.read()
     number = 0
@@ -206,6 +206,8 @@ def versions_agree(version):
     with open("CHANGELOG.md", encoding="utf-8") as file:
         newest = re.search(r"^## (\S+)", file.read(), re.MULTILINE).group(1)
     assert newest == version, f"CHANGELOG.md: {newest}, not {version}"
+    with open("crates/faxrows/src/main.rt", encoding="utf-8") as file:
+        assert f'const VERSION: &str = "faxrows {version}";\n' in file.read(), version
     for name in ("man/faxrows.1", "man/hayro_ccitt.3"):
         with open(name, encoding="utf-8") as file:
             assert f'"hayro_ccitt {version}"' in file.read(), name

@@ -10,7 +10,7 @@ use Rattle.fax_encode.specs.declared.words.Word.{Word}
 use Rattle.fax_encode.specs.Chosen.{word_of_length}
 use Rattle.fax_encode.specs.Writing.{IsWord}
 
-same_bits : Bits → Bits → Bool
+unfoldable pub same_bits : Bits → Bits → Bool
 same_bits [] [] = true
 same_bits (a ∷ x) (b ∷ y) = beq a b && same_bits x y
 same_bits [] (b ∷ y) = false
@@ -22,7 +22,7 @@ beq-true false false e = refl
 beq-true true false e = absurd (false≢true e)
 beq-true false true e = absurd (false≢true e)
 
-same_bits-true : (x y : Bits) → same_bits x y ≡ true → x ≡ y
+pub same_bits-true : (x y : Bits) → same_bits x y ≡ true → x ≡ y
 unfolding same_bits
 same_bits-true [] [] e = refl
 same_bits-true (a ∷ x) (b ∷ y) e =

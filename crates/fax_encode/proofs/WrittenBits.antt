@@ -36,7 +36,7 @@ low_bits_cat (suc width) k a b lt =
     let rest = low_bits_cat width k a b lt in
     ap (λ (m : ℕ). low_bits m (a * 2 ^ k + b)) n ∙ (let both : bit_of (a * 2 ^ k + b) (width + k) ∷ low_bits (width + k) (a * 2 ^ k + b) ≡ bit_of a width ∷ (low_bits width a ++ low_bits k b) = cc in both)
 
-power_positive : (k : ℕ) → 0 < 2 ^ k
+pub power_positive : (k : ℕ) → 0 < 2 ^ k
 power_positive zero = omega arith
 power_positive (suc k) = omega (arith, power_positive k)
 

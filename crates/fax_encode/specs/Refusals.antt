@@ -2,7 +2,7 @@
 use Rattle.std.specs.Prelude.{ℕ, ◌<◌, List, ◌++◌, length, get_or, codes, decimal, [], All, Option, Some, None}
 use Rattle.hayro_ccitt.specs.Rows.{AreChanges}
 use Rattle.fax_encode.specs.declared.error.EncodeError.{EncodeError}
-use Rattle.fax_encode.specs.declared.error.EncodeError.TheVariants.{NoColumns, NoRows, NotARow, OutOfMemory}
+use Rattle.fax_encode.specs.declared.error.EncodeError.TheVariants.{NoEncoding, NoColumns, NoRows, NotARow, OutOfMemory}
 
 -- the first list, counted from 0, that isn't strictly ascending and below the width
 pub record IsFirstUnlawful (columns : ℕ) (lists : List (List ℕ)) (k : ℕ) : Type 0 where
@@ -16,6 +16,7 @@ AreRows columns lists = All (AreChanges columns) lists
 
 -- the text of a refusal
 abbrev pub text_of_refusal : EncodeError → List ℕ
+text_of_refusal NoEncoding = codes "no encoding"
 text_of_refusal NoColumns = codes "no columns"
 text_of_refusal NoRows = codes "no rows"
 text_of_refusal (NotARow k) = codes "row " ++ decimal k ++ codes " is not a list of changes"
@@ -24,6 +25,7 @@ text_of_refusal OutOfMemory = codes "out of memory"
 -- the text of a refusal, whatever the width and other options it is printed with; the text of a refusal that has a
 -- number is not specified
 abbrev pub text_with_options : EncodeError → Option (List ℕ)
+text_with_options NoEncoding = Some (text_of_refusal NoEncoding)
 text_with_options NoColumns = Some (text_of_refusal NoColumns)
 text_with_options NoRows = Some (text_of_refusal NoRows)
 text_with_options (NotARow k) = None

@@ -1,27 +1,39 @@
 -- The encoding that is chosen, by settings (T.4, 4.1 and 4.2; T.6, 2.2).
-use Rattle.std.specs.Prelude.{ℕ, zero, suc, ◌+◌, ◌-◌, ◌%◌, Bool, true, false, ◌&&◌, nat_le, List, [], ◌∷◌, ◌++◌, length, if◌then◌else◌}
+use Rattle.std.specs.Prelude.{ℕ, zero, suc, ◌+◌, ◌-◌, ◌%◌, Bool, true, false, not, ◌&&◌, nat_le, nat_lt, List, [], ◌∷◌, ◌++◌, length, if◌then◌else◌}
 use Rattle.hayro_ccitt.specs.declared.settings.EncodingMode.{EncodingMode}
 use Rattle.hayro_ccitt.specs.declared.settings.EncodingMode.TheVariants.{Group4, Group3_1D, Group3_2D}
 use Rattle.hayro_ccitt.specs.declared.settings.DecodeSettings.{DecodeSettings}
 use Rattle.hayro_ccitt.specs.Bits.{Bits}
 use Rattle.hayro_ccitt.specs.Rows.{Row, white_row}
 use Rattle.hayro_ccitt.specs.Encodings.{padding, eol, tag_of}
+use Rattle.fax_encode.specs.declared.settings.EncodeSettings.{EncodeSettings}
 use Rattle.fax_encode.specs.Chosen.{chosen_line_1d, chosen_line_2d}
 
--- what an encoding goes by
-pub record EncodeSettings : Type 0 where
-  -- how the lines are encoded
-  pub encoding : EncodingMode
-  -- K of two-dimensional Group 3: behind a one-dimensional line stand at most K - 1 two-dimensional ones (T.4, 4.2.1)
-  pub k : ℕ
-  -- whether an EOL stands before each line of Group 3 (T.4, 4.1.2)
-  pub end_of_line : Bool
-  -- whether fill stands before EOLs so that they end at whole bytes (T.4, 4.1.3)
-  pub eols_end_at_bytes : Bool
-  -- whether lines without EOLs are filled up to whole bytes
-  pub rows_are_byte_aligned : Bool
-  -- whether EOFB stands behind the last line of Group 4, and RTC behind that of Group 3 with EOLs (T.4, 4.1.4; T.6, 2.4.1.1)
-  pub end_of_block : Bool
+-- ---- settings that name an encoding
+
+-- whether settings of Group 3 name an encoding, whatever K is: with EOLs no line is filled up to a whole byte; without them there is no fill
+-- before them (T.4, 4.1.3), and no RTC, which is EOLs (T.4, 4.1.4)
+abbrev pub names_group3 : Bool → Bool → Bool → Bool → Bool
+names_group3 true fills aligned closed = not aligned
+names_group3 false fills aligned closed = not fills && not closed
+
+-- Whether settings of an encoding name one that there is: Group 4 has no EOLs before its lines, and so no fill (T.6, 2.2); and K of
+-- two-dimensional Group 3 counts the one-dimensional line (T.4, 4.2.1).
+abbrev pub is_encoding : EncodingMode → Bool → ℕ → Bool → Bool → Bool → Bool
+is_encoding Group4 eols k fills aligned closed = not eols && not fills
+is_encoding Group3_1D eols k fills aligned closed = names_group3 eols fills aligned closed
+is_encoding Group3_2D eols k fills aligned closed = nat_lt 0 k && names_group3 eols fills aligned closed
+
+-- whether settings name an encoding
+abbrev pub names_encoding : EncodeSettings → Bool
+names_encoding settings =
+    is_encoding settings.encoding settings.end_of_line settings.k settings.eols_end_at_bytes settings.rows_are_byte_aligned settings.end_of_block
+
+-- whether a picture needs a row: EOFB alone stands for none (T.6, 2.4.1.1)
+abbrev pub needs_row : EncodingMode → Bool → Bool
+needs_row Group4 closed = not closed
+needs_row Group3_1D closed = true
+needs_row Group3_2D closed = true
 
 -- ---- one line
 
@@ -38,9 +50,12 @@ chosen_line Group3_1D left reference row = chosen_line_1d row
 chosen_line Group3_2D left reference row =
     if is_two_dimensional left reference row then false ∷ chosen_line_2d reference row else true ∷ chosen_line_1d row
 
--- how many lines behind a line may be two-dimensional
-abbrev pub left_after : ℕ → ℕ → Row → Row → ℕ
-left_after k left reference row = if is_two_dimensional left reference row then left - 1 else k - 1
+-- how many lines behind a line may be two-dimensional: K - 1 behind a one-dimensional one (T.4, 4.2.1). They are counted in two-dimensional
+-- Group 3 alone.
+abbrev pub left_after : EncodingMode → ℕ → ℕ → Row → Row → ℕ
+left_after Group4 k left reference row = 0
+left_after Group3_1D k left reference row = 0
+left_after Group3_2D k left reference row = if is_two_dimensional left reference row then left - 1 else k - 1
 
 -- ---- lines
 
@@ -49,7 +64,7 @@ abbrev pub chosen_lines : EncodingMode → ℕ → Bool → ℕ → Row → List
 chosen_lines encoding k aligned left reference [] = []
 chosen_lines encoding k aligned left reference (row ∷ rows) =
     chosen_line encoding left reference row ++ (if aligned then padding (length (chosen_line encoding left reference row)) else [])
-    ++ chosen_lines encoding k aligned (left_after k left reference row) row rows
+    ++ chosen_lines encoding k aligned (left_after encoding k left reference row) row rows
 
 -- how many zeros of fill an EOL takes that begins behind so many bits, where it ends at a whole byte (T.4, 4.1.3)
 abbrev pub fill_of : Bool → ℕ → ℕ
@@ -60,13 +75,40 @@ abbrev pub chosen_lines_with_eols : EncodingMode → ℕ → Bool → ℕ → �
 chosen_lines_with_eols encoding k fills at left reference [] = []
 chosen_lines_with_eols encoding k fills at left reference (row ∷ rows) =
     eol (fill_of fills at) ++ chosen_line encoding left reference row
-    ++ chosen_lines_with_eols encoding k fills (at + 12 + fill_of fills at + length (chosen_line encoding left reference row)) (left_after k left reference row) row rows
+    ++ chosen_lines_with_eols encoding k fills (at + 12 + fill_of fills at + length (chosen_line encoding left reference row)) (left_after encoding k left reference row) row rows
 
 -- so many EOLs behind so many bits, each with its tag: six are RTC (T.4, 4.1.4 and 4.2.4)
 abbrev pub chosen_eols : EncodingMode → Bool → ℕ → ℕ → Bits
 chosen_eols encoding fills at zero = []
 chosen_eols encoding fills at (suc n) =
     eol (fill_of fills at) ++ tag_of encoding ++ chosen_eols encoding fills (at + 12 + fill_of fills at + length (tag_of encoding)) n
+
+-- ---- lines one by one
+
+-- whether EOLs stand before the lines
+abbrev pub has_eols : EncodingMode → Bool → Bool
+has_eols Group4 eols = false
+has_eols Group3_1D eols = eols
+has_eols Group3_2D eols = eols
+
+-- a line behind so many bits, with what belongs to it: the EOL before it, or zeros up to a whole byte where lines are aligned
+abbrev pub chosen_part : EncodeSettings → ℕ → ℕ → Row → Row → Bits
+chosen_part settings at left reference row =
+    if has_eols settings.encoding settings.end_of_line
+    then eol (fill_of settings.eols_end_at_bytes at) ++ chosen_line settings.encoding left reference row
+    else chosen_line settings.encoding left reference row
+    ++ (if settings.rows_are_byte_aligned then padding (length (chosen_line settings.encoding left reference row)) else [])
+
+-- what stands behind the lines, which take so many bits: EOFB or RTC where the picture is closed
+abbrev pub chosen_end : EncodingMode → Bool → Bool → Bool → ℕ → Bits
+chosen_end Group4 eols fills closed at = if closed then eol 0 ++ eol 0 else []
+chosen_end Group3_1D eols fills closed at = if eols && closed then chosen_eols Group3_1D fills at 6 else []
+chosen_end Group3_2D eols fills closed at = if eols && closed then chosen_eols Group3_2D fills at 6 else []
+
+-- lines, and what stands behind them
+abbrev pub with_end : EncodeSettings → Bits → Bits
+with_end settings lines =
+    lines ++ chosen_end settings.encoding settings.end_of_line settings.eols_end_at_bytes settings.end_of_block (length lines)
 
 -- ---- pictures
 
@@ -77,8 +119,8 @@ chosen_with_eols encoding k fills closed white rows =
     ++ (if closed then chosen_eols encoding fills (length (chosen_lines_with_eols encoding k fills 0 0 white rows)) 6 else [])
 
 -- a picture of Group 4: its lines, and EOFB where it is closed (T.6, 2.4.1.1)
-abbrev pub chosen_group4 : Bool → Bool → Row → List Row → Bits
-chosen_group4 aligned closed white rows = chosen_lines Group4 1 aligned 0 white rows ++ (if closed then eol 0 ++ eol 0 else [])
+abbrev pub chosen_group4 : ℕ → Bool → Bool → Row → List Row → Bits
+chosen_group4 k aligned closed white rows = chosen_lines Group4 k aligned 0 white rows ++ (if closed then eol 0 ++ eol 0 else [])
 
 -- a picture of Group 3, with EOLs or without
 abbrev pub chosen_group3 : EncodingMode → Bool → ℕ → Bool → Bool → Bool → Row → List Row → Bits
@@ -87,7 +129,7 @@ chosen_group3 encoding false k fills aligned closed white rows = chosen_lines en
 
 -- a picture of any kind
 abbrev pub chosen_picture : EncodingMode → Bool → ℕ → Bool → Bool → Bool → Row → List Row → Bits
-chosen_picture Group4 eols k fills aligned closed white rows = chosen_group4 aligned closed white rows
+chosen_picture Group4 eols k fills aligned closed white rows = chosen_group4 k aligned closed white rows
 chosen_picture Group3_1D eols k fills aligned closed white rows = chosen_group3 Group3_1D eols k fills aligned closed white rows
 chosen_picture Group3_2D eols k fills aligned closed white rows = chosen_group3 Group3_2D eols k fills aligned closed white rows
 

@@ -12,6 +12,11 @@ pub record Written : Type 0 where
 abbrev pub all_bits : Written → Bits
 all_bits written = bits_of written.bytes ++ written.rest
 
+-- what stood in a writer: how many bytes, and the bits after them
+pub record Marked : Type 0 where
+  pub count : ℕ
+  pub rest : Bits
+
 -- a number whose lowest bits, at most 13, spell this word
 pub record IsWord (word : Bits) (coded : Word) : Type 0 where
   pub few : coded.count ≤ 13

@@ -1,6 +1,6 @@
 //! Bits written one after another into bytes, each byte's highest bit first.
 
-ghost use Rattle.std.specs.Prelude.{◌≡◌, ◌+◌, ◌-◌, ◌*◌, ◌%◌, ◌^◌, ◌<◌, ◌≤◌, ◌++◌, [], OnOk, IfOk, length};
+ghost use Rattle.std.specs.Prelude.{◌≡◌, ◌+◌, ◌-◌, ◌*◌, ◌%◌, ◌^◌, ◌<◌, ◌≤◌, ◌++◌, [], OnOk, IfOk, length, take};
 ghost use Rattle.hayro_ccitt.specs.Bits.{bits_of, low_bits};
 ghost use Rattle.fax_encode.specs.Writing.{all_bits};
 ghost use Rattle.fax_encode.specs.Chosen.{filled_up};
@@ -18,7 +18,7 @@ pub struct BitWriter {
 }
 
 impl Model for BitWriter {
-    ghost use Rattle.std.specs.Prelude.{◌<◌, ◌≤◌, ◌-◌};
+    ghost use Rattle.std.specs.Prelude.{◌≡◌, ◌<◌, ◌≤◌, ◌-◌, ◌%◌, length};
     ghost use Rattle.hayro_ccitt.specs.Bits.{low_bits};
     ghost use Rattle.fax_encode.specs.Writing.{Written};
 
@@ -26,7 +26,27 @@ impl Model for BitWriter {
 
     ghost view = { λ w. record { bytes = w.bytes.items; rest = low_bits (64 - w.room) w.pending } };
 
-    ghost invariant = { λ w. (0 < w.room) × (w.room ≤ 64) };
+    ghost invariant = { λ w. (length w.bytes.items % 8 ≡ 0) × (0 < w.room) × (w.room ≤ 64) };
+}
+
+/// What a writer had written: how many bytes, and the bits after them.
+#[derive(Drop)]
+pub struct Mark {
+    count: usize,
+    pending: u64,
+    room: u32,
+}
+
+impl Model for Mark {
+    ghost use Rattle.std.specs.Prelude.{◌≡◌, ◌<◌, ◌≤◌, ◌-◌, ◌%◌};
+    ghost use Rattle.hayro_ccitt.specs.Bits.{low_bits};
+    ghost use Rattle.fax_encode.specs.Writing.{Marked};
+
+    ghost Value = { Marked };
+
+    ghost view = { λ m. record { count = m.count; rest = low_bits (64 - m.room) m.pending } };
+
+    ghost invariant = { λ m. (m.count % 8 ≡ 0) × (0 < m.room) × (m.room ≤ 64) };
 }
 
 /// Stores the whole bytes among the lowest bits of a number, and returns how many bits are left.
@@ -93,6 +113,41 @@ impl BitWriter {
         ensures { OnOk result (all_bits self.new ≡ filled_up (all_bits self.old)) }
     {
         self.put(0, self.room % 8)
+    }
+
+    /// How many zeros of fill an EOL of twelve bits takes that is to end at a whole byte.
+    pub fn eol_fill(&self) -> u32
+        ensures { result ≡ (8 - (length (all_bits self.now) + 12) % 8) % 8 }
+    {
+        (self.room + 4) % 8
+    }
+
+    /// The number of bits that were written.
+    pub fn bit_count(&self) -> u128
+        ensures { result ≡ length (all_bits self.now) }
+    {
+        self.bytes.len() as u128 * 8 + u128::from(64 - self.room)
+    }
+
+    /// What was written so far, for [`BitWriter::cut_back`].
+    pub fn mark(&self) -> Mark
+        ensures { result ≡ record { count = length self.now.bytes; rest = self.now.rest } }
+    {
+        Mark {
+            count: self.bytes.len(),
+            pending: self.pending,
+            room: self.room,
+        }
+    }
+
+    /// Drops what was written after the mark.
+    pub fn cut_back(&mut self, mark: Mark)
+        requires { 8 * mark.count + length mark.rest ≤ length (all_bits self.old) }
+        ensures { all_bits self.new ≡ take (8 * mark.count) (all_bits self.old) ++ mark.rest }
+    {
+        self.bytes.truncate(mark.count);
+        self.pending = mark.pending;
+        self.room = mark.room;
     }
 
     /// Returns all that was written, with zeros up to a whole byte.

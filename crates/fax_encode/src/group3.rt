@@ -1,17 +1,19 @@
 //! One-dimensional Group 3 (T.4, section 4.1).
 
-ghost use Rattle.std.specs.Prelude.{◌≡◌, ◌<◌, ◌++◌, ◌↔◌, ℕ, map, length, Err, IfOk, OnOk};
+ghost use Rattle.std.specs.Prelude.{◌≡◌, ◌≢◌, ◌<◌, ◌++◌, ◌↔◌, ℕ, map, length, Err, IfOk, OnOk};
 ghost use Rattle.hayro_ccitt.specs.Bits.{bits_of};
 ghost use Rattle.hayro_ccitt.specs.Rows.{AreChanges};
-ghost use Rattle.hayro_ccitt.specs.Encodings.{eol};
+ghost use Rattle.hayro_ccitt.specs.Encodings.{eol, tag_of};
 ghost use Rattle.fax_encode.specs.Chosen.{chosen_lines_1d, chosen_t4, filled_up, return_to_control, rows_of};
 ghost use Rattle.fax_encode.specs.Refusals.{AreRows, IsFirstUnlawful};
+ghost use Rattle.fax_encode.specs.Settings.{chosen_eols, fill_of};
 ghost use Rattle.fax_encode.specs.Writing.{all_bits};
 
 use crate::EncodeError;
 use crate::bit_writer::BitWriter;
 use crate::rows::first_unlawful;
 use crate::runs::put_row;
+use hayro_ccitt::EncodingMode;
 use std::alloc::{AllocError, Global};
 
 /// Writes an end-of-line code without fill: eleven zeros and a one (T.4, section 4.1.2).
@@ -19,6 +21,58 @@ pub fn put_eol(writer: &mut BitWriter) -> Result<(), AllocError>
     ensures { OnOk result (all_bits writer.new ≡ all_bits writer.old ++ eol 0) }
 {
     writer.put(1, 12)
+}
+
+/// How many zeros of fill the next EOL takes.
+#[inline(always)]
+fn fill_of(writer: &BitWriter, fills: bool) -> u32
+    ensures fill { result ≡ fill_of fills (length (all_bits writer.now)) }
+    ensures few { result < 8 }
+{
+    if fills { writer.eol_fill() } else { 0 }
+}
+
+/// Writes an EOL, with fill before it where it is to end at a whole byte (T.4, sections 4.1.2 and 4.1.3).
+#[inline(always)]
+pub fn put_filled_eol(writer: &mut BitWriter, fills: bool) -> Result<(), AllocError>
+    ensures { OnOk result (all_bits writer.new
+        ≡ all_bits writer.old ++ eol (fill_of fills (length (all_bits writer.old)))) }
+{
+    let fill = fill_of(writer, fills);
+    writer.put(1, 12 + fill)
+}
+
+/// Writes an EOL and the tag behind it (T.4, section 4.2.4).
+fn put_tagged_eol(
+    writer: &mut BitWriter,
+    encoding: EncodingMode,
+    fills: bool,
+) -> Result<(), AllocError>
+    ensures { OnOk result (all_bits writer.new ≡ all_bits writer.old
+        ++ (eol (fill_of fills (length (all_bits writer.old))) ++ tag_of encoding)) }
+{
+    put_filled_eol(writer, fills)?;
+    match encoding {
+        EncodingMode::Group3_2D => writer.put(1, 1),
+        _ => Ok(()),
+    }
+}
+
+/// Writes RTC: six EOLs, each with its tag (T.4, sections 4.1.4 and 4.2.4).
+pub fn put_closing_eols(
+    writer: &mut BitWriter,
+    encoding: EncodingMode,
+    fills: bool,
+) -> Result<(), AllocError>
+    ensures { OnOk result (all_bits writer.new ≡ all_bits writer.old
+        ++ chosen_eols encoding fills (length (all_bits writer.old)) 6) }
+{
+    let mut left: u32 = 6;
+    while left > 0 {
+        put_tagged_eol(writer, encoding, fills)?;
+        left -= 1;
+    }
+    Ok(())
 }
 
 /// Writes the lines of a picture, an EOL before each.
@@ -71,6 +125,7 @@ pub fn encode_1d(
     rows: &[Vec<u32>],
 ) -> std::result::Result<Vec<u8>, EncodeError>
     ensures no_columns { (result ≡ Err EncodeError.NoColumns) ↔ (columns ≡ 0) }
+    ensures no_encoding { result ≢ Err EncodeError.NoEncoding }
     ensures no_rows { (result ≡ Err EncodeError.NoRows) ↔ ((0 < columns) × (length rows.now ≡ 0)) }
     ensures not_a_row { (k : ℕ) → (result ≡ Err (EncodeError.NotARow k))
         ↔ ((0 < columns) × IsFirstUnlawful columns (map (λ row. row.items) rows.now) k) }

@@ -249,6 +249,7 @@ pub fn encode_g4(
     aligned: bool,
 ) -> std::result::Result<Vec<u8>, EncodeError>
     ensures no_columns { (result ≡ Err EncodeError.NoColumns) ↔ (columns ≡ 0) }
+    ensures no_encoding { result ≢ Err EncodeError.NoEncoding }
     ensures not_a_row { (k : ℕ) → (result ≡ Err (EncodeError.NotARow k))
         ↔ ((0 < columns) × IsFirstUnlawful columns (map (λ row. row.items) rows.now) k) }
     ensures no_rows { result ≢ Err EncodeError.NoRows }

@@ -70,6 +70,7 @@ pub fn bitmap_by_group4(
     aligned: bool,
 ) -> std::result::Result<BitmapSink, EncodeError>
     ensures no_columns { (result ≡ Err EncodeError.NoColumns) ↔ (columns ≡ 0) }
+    ensures no_encoding { result ≢ Err EncodeError.NoEncoding }
     ensures not_a_row { (k : ℕ) → (result ≡ Err (EncodeError.NotARow k))
         ↔ ((0 < columns) × IsFirstUnlawful columns (map (λ row. row.items) rows.now) k) }
     ensures no_rows { result ≢ Err EncodeError.NoRows }
@@ -93,6 +94,7 @@ pub fn bitmap_by_group3(
     ensures packed { IfOk result (λ sink. bits_of sink.bytes
         ≡ packed (rows_of columns (map (λ row. row.items) rows.now))) }
     ensures no_columns { (result ≡ Err EncodeError.NoColumns) ↔ (columns ≡ 0) }
+    ensures no_encoding { result ≢ Err EncodeError.NoEncoding }
     ensures no_rows { (result ≡ Err EncodeError.NoRows) ↔ ((0 < columns) × (length rows.now ≡ 0)) }
     ensures not_a_row { (k : ℕ) → (result ≡ Err (EncodeError.NotARow k))
         ↔ ((0 < columns) × IsFirstUnlawful columns (map (λ row. row.items) rows.now) k) }

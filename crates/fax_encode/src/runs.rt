@@ -1,6 +1,6 @@
 //! Runs of one colour, and one-dimensional lines (T.4, section 4.1).
 
-ghost use Rattle.std.specs.Prelude.{◌≡◌, ◌^◌, ◌<◌, ◌≤◌, ◌++◌, OnOk};
+ghost use Rattle.std.specs.Prelude.{◌≡◌, ◌^◌, ◌<◌, ◌≤◌, ◌++◌, OnOk, length, nat_le};
 ghost use Rattle.hayro_ccitt.specs.Bits.{low_bits};
 ghost use Rattle.hayro_ccitt.specs.Rows.{AreChanges};
 ghost use Rattle.fax_encode.specs.Chosen.{chosen_rest, chosen_run, chosen_runs};
@@ -93,4 +93,37 @@ pub fn put_row(writer: &mut BitWriter, columns: u32, changes: &[u32]) -> Result<
     let black = changes[next];
     put_run(writer, Color::White, black - place)?;
     put_run(writer, Color::Black, columns - black)
+}
+
+/// The number of bits of the words of a run.
+#[inline(always)]
+fn run_bits(color: Color, pixels: u32) -> u32
+    ensures { result ≡ length (chosen_run color pixels) }
+{
+    let rest = pixels % 2560;
+    let long = pixels / 2560 * 12 + u32::from(terminating_word(color, rest % 64).count);
+    if rest < 64 {
+        return long;
+    }
+    long + u32::from(makeup_word(color, rest / 64).count)
+}
+
+/// Whether the runs of a row take at least so many bits. It looks at as many runs as it takes to know.
+pub fn takes_at_least(columns: u32, changes: &[u32], bits: u128) -> bool
+    requires { AreChanges columns changes.now }
+    ensures { result ≡ nat_le bits (length (chosen_runs columns Color.White 0 changes.now)) }
+{
+    let mut left = bits;
+    let mut place = 0;
+    let mut color = Color::White;
+    for change in changes {
+        let run = u128::from(run_bits(color, *change - place));
+        if left <= run {
+            return true;
+        }
+        left -= run;
+        place = *change;
+        color = color.opposite();
+    }
+    left <= u128::from(run_bits(color, columns - place))
 }

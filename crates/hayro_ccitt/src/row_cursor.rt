@@ -1,111 +1,18 @@
 //! Rows one at a time, of data that is handed in at each call.
 
-ghost use Rattle.std.specs.Prelude.{◌≡◌, ◌≤◌, ◌+◌, ◌/◌, true, None, Some, IfOk, IsOkUnless, Result, length};
+ghost use Rattle.std.specs.Prelude.{◌≡◌, ◌+◌, ◌/◌, None, Some, IfOk, IsOkUnless, Result, length};
 ghost use Rattle.hayro_ccitt.specs.Bits.{BitsFit, bits_in};
 ghost use Rattle.hayro_ccitt.specs.Rows.{AreChanges, changes};
-ghost use Rattle.hayro_ccitt.specs.RowsRead.{ComesToLine, ReadsNext, at_end_of_rows, ended, is_at_line};
-ghost use Rattle.hayro_ccitt.specs.RowCursors.{IsReadingOf, IsStanding, IsStandingAtLine, rows_over, seen};
+ghost use Rattle.hayro_ccitt.specs.RowsRead.{ReadsNext, at_end_of_rows, ended};
+ghost use Rattle.hayro_ccitt.specs.RowCursors.{IsReadingOf, rows_over};
 
 use crate::bit_reader::{BitOrder, BitReader};
 use crate::context::DecoderContext;
-use crate::row_reader::{
-    NoRows, Stand, damage_since, first_stand, is_at_line, line_after_gap, stand_after_gap,
-};
-use crate::rows::{pass_gap, read_row};
+use crate::row_reader::{RowState, Stand, first_stand};
 use crate::settings::DecodeSettings;
 use crate::{DecodeError, Result};
 use std::alloc::Global;
 use std::marker::Model;
-
-/// What a reading keeps between two rows, beside the bits.
-#[derive(Drop)]
-pub(crate) struct RowState {
-    ctx: DecoderContext,
-    started_at: usize,
-    damage: Option<DecodeError>,
-    stand: Stand,
-}
-
-impl RowState {
-    /// Passes the gap before the next line, and returns whether a line stands there.
-    fn come_to_line(&mut self, reader: &mut BitReader<'_>) -> Result<bool>
-        requires { ended self.old.stand ≡ None }
-        ensures comes { IsStanding self.old reader.old
-            → ComesToLine (seen self.old reader.old) (seen self.new reader.new) result }
-        ensures stands { IsStanding self.old reader.old → IsStanding self.new reader.new }
-        ensures settings { self.new.ctx.held.settings ≡ self.old.ctx.held.settings }
-        ensures same_bits { reader.new.bits ≡ reader.old.bits }
-    {
-        if is_at_line(self.stand) {
-            return Ok(true);
-        }
-        let over = pass_gap(&mut self.ctx, reader);
-        // That an offset is within the data is known once it is read.
-        let _place = reader.bit_pos();
-        self.stand = stand_after_gap(over);
-        line_after_gap(over)
-    }
-
-    /// Whether no more rows were read than these bits have room for. Where it is false, they were read of other data.
-    fn has_room(&self, reader: &BitReader<'_>) -> bool
-        ensures rows { result ≡ true → self.now.ctx.held.taken ≤ length reader.now.bits + 1 }
-        ensures damaged { result ≡ true → self.now.ctx.held.repairs.rows ≤ self.now.ctx.held.taken }
-        ensures room { self.now.ctx.held.taken ≤ length reader.now.bits + 1
-            → self.now.ctx.held.repairs.rows ≤ self.now.ctx.held.taken → result ≡ true }
-    {
-        let rows = self.ctx.decoded_rows();
-        rows <= reader.bit_len() as u64 + 1 && self.ctx.damaged_rows() <= rows
-    }
-
-    /// Reads the line that stands here.
-    fn read_line(&mut self, reader: &mut BitReader<'_>) -> Result<bool>
-        requires rows { self.old.ctx.held.taken ≤ length reader.old.bits + 1 }
-        requires damaged { self.old.ctx.held.repairs.rows ≤ self.old.ctx.held.taken }
-        ensures reads { IsStandingAtLine self.old reader.old
-            → ReadsNext (seen self.old reader.old) (seen self.new reader.new) result }
-        ensures stands { IsStandingAtLine self.old reader.old → IsStanding self.new reader.new }
-        ensures settings { self.new.ctx.held.settings ≡ self.old.ctx.held.settings }
-        ensures same_bits { reader.new.bits ≡ reader.old.bits }
-    {
-        self.ctx.begin_line();
-        let mut sink = NoRows {
-            columns: self.ctx.settings().columns,
-        };
-        let line_start = reader.bit_pos();
-        let damaged_rows = self.ctx.damaged_rows();
-        match read_row(&mut self.ctx, reader, &mut sink) {
-            Ok(()) => {
-                self.started_at = line_start;
-                self.damage = damage_since(&self.ctx, damaged_rows);
-                self.stand = Stand::BehindRow;
-                Ok(true)
-            }
-            Err(error) => {
-                self.stand = Stand::AtFault(error);
-                Err(error)
-            }
-        }
-    }
-
-    /// Reads the next row, and returns whether there was one. Where more rows were read than these bits have room for, it is
-    /// `UnexpectedEof`.
-    fn next_row(&mut self, reader: &mut BitReader<'_>) -> Result<bool>
-        requires { ended self.old.stand ≡ None }
-        ensures reads { IsStanding self.old reader.old
-            → ReadsNext (seen self.old reader.old) (seen self.new reader.new) result }
-        ensures stands { IsStanding self.old reader.old → IsStanding self.new reader.new }
-        ensures settings { self.new.ctx.held.settings ≡ self.old.ctx.held.settings }
-        ensures same_bits { reader.new.bits ≡ reader.old.bits }
-    {
-        if !self.come_to_line(reader)? {
-            return Ok(false);
-        }
-        if !self.has_room(reader) {
-            return Err(DecodeError::UnexpectedEof);
-        }
-        self.read_line(reader)
-    }
-}
 
 /// Reads the rows of an image one at a time, as [`RowReader`](crate::RowReader) does, but holds no reference to the data: each
 /// call is handed the data again. It holds two rows in memory and the tables of the code words.
@@ -166,10 +73,8 @@ impl RowCursor {
         requires fit { BitsFit «data».now }
         requires unended { ended self.old.stand ≡ None }
         ensures reads { IsReadingOf (bits_in self.old.order «data».now) self.old → ReadsNext
-            (rows_over (bits_in self.old.order «data».now) self.old)
-            (rows_over (bits_in self.old.order «data».now) self.new) result }
-        ensures reading { IsReadingOf (bits_in self.old.order «data».now) self.old
-            → IsReadingOf (bits_in self.old.order «data».now) self.new }
+            (rows_over (bits_in self.old.order «data».now) self.old) (rows_over (bits_in self.old.order «data».now) self.new) result }
+        ensures reading { IsReadingOf (bits_in self.old.order «data».now) self.old → IsReadingOf (bits_in self.old.order «data».now) self.new }
         ensures settings { self.new.held.settings ≡ self.old.held.settings }
         ensures order { self.new.order ≡ self.old.order }
     {
@@ -182,8 +87,8 @@ impl RowCursor {
         answer
     }
 
-    /// Reads the next row of the data, and returns whether there was one; its changes are those of [`row`](RowCursor::row). At
-    /// the end of the image it returns `Ok(false)`, and so does each further call.
+    /// Reads the next row of the data, and returns whether there was one; its changes are those of [`row`](RowCursor::row). At the
+    /// end of the image it returns `Ok(false)`, and so does each further call.
     ///
     /// # Errors
     ///
@@ -192,10 +97,8 @@ impl RowCursor {
     pub fn next_row(&mut self, data: &[u8]) -> Result<bool>
         requires fit { BitsFit «data».now }
         ensures reads { IsReadingOf (bits_in self.old.order «data».now) self.old → ended self.old.stand ≡ None → ReadsNext
-            (rows_over (bits_in self.old.order «data».now) self.old)
-            (rows_over (bits_in self.old.order «data».now) self.new) result }
-        ensures reading { IsReadingOf (bits_in self.old.order «data».now) self.old
-            → IsReadingOf (bits_in self.old.order «data».now) self.new }
+            (rows_over (bits_in self.old.order «data».now) self.old) (rows_over (bits_in self.old.order «data».now) self.new) result }
+        ensures reading { IsReadingOf (bits_in self.old.order «data».now) self.old → IsReadingOf (bits_in self.old.order «data».now) self.new }
         ensures ended { (end : Result (Unit {0}) DecodeError) → ended self.old.stand ≡ Some end
             → (self.new ≡ self.old) × (result ≡ at_end_of_rows end) }
         ensures settings { self.new.held.settings ≡ self.old.held.settings }

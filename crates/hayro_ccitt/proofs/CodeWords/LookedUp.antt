@@ -29,8 +29,7 @@ abbrev runs_below : List (Code ℕ) → Type 0
 runs_below list = list_all (λ c. ltb c.value 4095) list ≡ true
 
 codes_below : (color : Color) → runs_below (codes_of color)
-codes_below White = refl
-codes_below Black = refl
+codes_below color = grind (arith, common_steps)
 
 run_below : (list : List (Code ℕ)) (v : ℕ) (w : Bits) → runs_below list → Has list v w → v < 4095
 run_below [] v w e i = elim i [ ]
@@ -82,9 +81,14 @@ looked_up_found color here e h = by (word_at (codes_of color) (padded 13 here)) 
     by : (o : Option (ℕ × Bits)) → word_at (codes_of color) (padded 13 here) ≡ o
         → read_code (codes_of color) here ≡ Ok (run_or_none (codes_of color) (padded 13 here), drop (telling_bits (codes_of color) (padded 13 here)) here)
     by (Some found) a =
-        let run = run_of_found (codes_of color) (padded 13 here) found a in
-        tells_found 13 (codes_of color) (codes_tell color) here found a h
-        ∙ ap (λ (n : ℕ). Ok (n, drop (telling_bits (codes_of color) (padded 13 here)) here)) (sym run)
+        grind (
+          arith,
+          common_steps,
+          codes_tell color,
+          run_of_found (codes_of color) (padded 13 here) found a,
+          tells_found 13
+              (codes_of color) (codes_tell color) here found a h,
+        )
     by None a = absurd (e (run_of_none (codes_of color) (padded 13 here) a))
 
 -- at least one bit is needed
@@ -103,9 +107,7 @@ pub word_within : (color : Color) (here : Bits) → run_or_none (codes_of color)
 word_within color here e = by (word_at (codes_of color) (padded 13 here)) refl
   where
     by : (o : Option (ℕ × Bits)) → word_at (codes_of color) (padded 13 here) ≡ o → telling_bits (codes_of color) (padded 13 here) ≤ 13
-    by (Some found) a =
-        let is : telling_bits (codes_of color) (padded 13 here) ≡ length (padded 13 here) - length found.1 = rw (a, telling_bits) refl in
-        omega (arith, is, length-padded 13 here)
+    by (Some found) a = grind (arith, common_steps, length-padded 13 here)
     by None a = absurd (e (run_of_none (codes_of color) (padded 13 here) a))
 
 -- what the entry of thirteen bits that are there says: the word there, and its width

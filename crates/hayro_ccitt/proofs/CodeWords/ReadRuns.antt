@@ -15,6 +15,7 @@ use Rattle.hayro_ccitt.specs.Runs.{codes_of, run_of_word, run_turn, run_from}
 use Rattle.hayro_ccitt.proofs.Readings.Repeated.{Shrinks, after_turn, repeated_turn, repeated_keeps}
 use Rattle.hayro_ccitt.proofs.CodeWords.ReadCodes.{read_code_found}
 use Rattle.std.proofs.lemmas.Grind.{common_steps}
+use Rattle.std.proofs.Common.{rules}
 
 abbrev is_empty : Bits → Bool
 is_empty [] = true
@@ -25,12 +26,10 @@ abbrev pub has_no_empty_word : {V : Type 0} → List (Code V) → Bool
 has_no_empty_word list = list_all (λ c. not (is_empty c.word)) list
 
 pub words_not_empty : (color : Color) → has_no_empty_word (codes_of color) ≡ true
-words_not_empty White = refl
-words_not_empty Black = refl
+words_not_empty color = grind (arith, common_steps)
 
 not_empty : (w : Bits) → not (is_empty w) ≡ true → 0 < length w
-not_empty [] e = absurd (false≢true e)
-not_empty (b ∷ w) e = omega arith
+not_empty w e = grind (arith, common_steps)
 
 pub word_length : {V : Type 0} (list : List (Code V)) (v : V) (w : Bits) → has_no_empty_word list ≡ true → Has list v w → 0 < length w
 word_length [] v w e i = elim i [ ]
@@ -39,10 +38,7 @@ word_length (c ∷ list) v w e (inr i) = word_length list v w (and_parts (not (i
 
 -- what is left after a word is shorter
 pub read_code_shorter : {V : Type 0} (list : List (Code V)) (here : Bits) (v : V) (rest : Bits) → has_no_empty_word list ≡ true → read_code list here ≡ Ok (v, rest) → length rest < length here
-read_code_shorter list here v rest e h =
-    let a = read_code_found list here v rest h in
-    let l : length here ≡ length a.0 + length rest = ap length a.2 ∙ length-append a.0 rest in
-    omega (arith, word_length list v a.0 e a.1)
+read_code_shorter list here v rest e h = grind (arith, common_steps, length-append, read_code_found, word_length)
 
 -- the size of a state of a run
 abbrev pub size : ℕ × Bits → ℕ
@@ -53,8 +49,7 @@ RunTurn = Turn (ℕ × Bits) (Result (ℕ × Bits) DecodeError)
 
 -- which way a test went
 pub chosen : {A : Type 0} (b : Bool) (x y z : A) → cond b x y ≡ z → ((b ≡ true) × (x ≡ z)) ⊎ ((b ≡ false) × (y ≡ z))
-chosen true x y z e = inl (refl, e)
-chosen false x y z e = inr (refl, e)
+chosen b x y z e = grind (arith, common_steps)
 
 goes_to : (s t : ℕ × Bits) → ◌≡◌ {A = RunTurn} (Turn.next s) (Turn.next t) → s ≡ t
 goes_to s t e = cc

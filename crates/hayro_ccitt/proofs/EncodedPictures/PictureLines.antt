@@ -55,14 +55,7 @@ mode_starts mode word more has = grind (arith, common_steps)
 
 pub line_2d_starts : (reference row : Row) (from : ℕ) (color : Color) (bits more : Bits) → EncodesLine2D reference row from color bits → from ≤ length row
     → IsLineStart (bits ++ more)
-line_2d_starts reference row from color bits more EncodesLine2D.over le = absurd (omega arith)
-line_2d_starts reference row from color bits more (EncodesLine2D.pass from2 word {bits = next} inside has left_of steps) le =
-    subst IsLineStart (sym (append_assoc word next more)) (mode_starts _ word (next ++ more) has)
-line_2d_starts reference row from color bits more (EncodesLine2D.vertical from2 word k {bits = next} inside has exact steps) le =
-    subst IsLineStart (sym (append_assoc word next more)) (mode_starts _ word (next ++ more) has)
-line_2d_starts reference row from color bits more
-    (EncodesLine2D.horizontal from2 word {first = run1} {second = run2} {bits = next} inside has one two steps) le =
-    subst IsLineStart (sym (append_assoc word (run1 ++ (run2 ++ next)) more)) (mode_starts _ word ((run1 ++ (run2 ++ next)) ++ more) has)
+line_2d_starts reference row from color bits more given le = grind (arith, common_steps)
 
 -- ---- One line of a run.
 pub allows_sum : (settings : DecodeSettings) (n : ℕ) → Allows settings n → Allows settings (0 + n)
@@ -70,12 +63,10 @@ allows_sum settings n allows = let e : 0 + n ≡ n = omega arith in rw e allows
 
 -- a limit that allows more rows is not met
 pub not_met : (settings : DecodeSettings) (n k : ℕ) → Allows settings n → k < n → limit_met settings k ≡ false
-not_met settings n k (inl none) lt = and_left (not (eqb settings.rows 0)) (eqb settings.rows k) (rw (eq-eqb settings.rows 0 none) refl)
-not_met settings n k (inr le) lt = and_right (not (eqb settings.rows 0)) (eqb settings.rows k) (ne_eqb settings.rows k (λ e. absurd (omega arith)))
+not_met settings n k given lt = grind (arith, common_steps)
 
 pub same_pair : {A : Type 0} (b : Bool) (x y z : A) → x ≡ z → y ≡ z → cond b x y ≡ z
-same_pair true x y z e f = e
-same_pair false x y z e f = f
+same_pair b x y z e f = grind (arith, common_steps)
 
 -- ---- Padding.
 abbrev pub fill : Bool → Bits → Bits
@@ -87,13 +78,11 @@ length-fill line = length-replicate ((8 - length line % 8) % 8) false
 -- from a whole byte on, a line with its padding ends at a whole byte
 pub aligned_again : (b : Bool) (line next : Bits) → (b ≡ true → length ((line ++ fill b line) ++ next) % 8 ≡ 0)
     → cond b (aligned (fill b line ++ next)) (fill b line ++ next) ≡ next
-aligned_again false line next whole = refl
-aligned_again true line next whole = grind (arith, common_steps)
+aligned_again b line next whole = grind (arith, common_steps)
 
 -- the next line begins at a whole byte too
 pub aligned_on : (b : Bool) (line next : Bits) → (b ≡ true → length ((line ++ fill b line) ++ next) % 8 ≡ 0) → b ≡ true → length next % 8 ≡ 0
-aligned_on false line next whole e = absurd (false≢true e)
-aligned_on true line next whole e = grind (arith, common_steps)
+aligned_on b line next whole e = grind (arith, common_steps)
 
 -- ---- The lines of a picture.
 pub row_before_push : (columns : ℕ) (rows : List Row) (row : Row) → row_before columns (rows ++ row ∷ []) ≡ row

@@ -11,9 +11,9 @@ put_over-requires-clause-full c = omega (
   c.if-count-self.true,
   ap (λ (w : Written). length w.rest) c.self.view_is,
   length-low_bits (64 - c.self.inside.room) c.self.inside.pending,
-  c.self.invariant.1,
+  c.self.invariant.2,
 )
 
 pub returns : goal.returns
-returns c = rw (← c.self.view_is) (put_more c.self.inside.bytes.items c.self.inside.pending c.self.inside.room c.args.count c.args.word _ c.if-count-self.false c.self.invariant.1
+returns c = rw (← c.self.view_is) (put_more c.self.inside.bytes.items c.self.inside.pending c.self.inside.room c.args.count c.args.word _ c.if-count-self.false c.self.invariant.2
     c.requires.word (ap (λ (n : ℕ). bit_or (c.self.inside.pending * 2 ^ c.args.count % 2 ^ 64) n) c.from.ensures))

@@ -1,0 +1,197 @@
+//! Encoding by settings: what belongs to each line, and what follows the last one.
+
+ghost use Rattle.std.specs.Prelude.{◌≡◌, ◌%◌, ◌++◌, [], false, true, ◌∷◌, length, nat_le, IfOk, OnOk, if◌then◌else◌};
+ghost use Rattle.hayro_ccitt.specs.Rows.{AreChanges, pixels};
+ghost use Rattle.fax_encode.specs.Chosen.{chosen_line_1d, chosen_line_2d};
+ghost use Rattle.fax_encode.specs.Settings.{chosen_line, chosen_part, has_eols, left_after, names_encoding, names_group3, with_end};
+ghost use Rattle.fax_encode.specs.Writing.{all_bits};
+
+use crate::EncodeSettings;
+use crate::bit_writer::BitWriter;
+use crate::group3::{put_closing_eols, put_eol, put_filled_eol};
+use crate::group4::{put_line, put_padding};
+use crate::runs::{put_row, takes_at_least};
+use hayro_ccitt::EncodingMode;
+use std::alloc::AllocError;
+
+/// Whether settings of either kind of Group 3 name an encoding, whatever K is.
+fn names_group3(settings: EncodeSettings) -> bool
+    ensures { result ≡ names_group3 settings.end_of_line settings.eols_end_at_bytes settings.rows_are_byte_aligned settings.end_of_block }
+{
+    if settings.end_of_line {
+        return !settings.rows_are_byte_aligned;
+    }
+    !settings.eols_end_at_bytes && !settings.end_of_block
+}
+
+/// Whether settings name an encoding.
+pub fn names_encoding(settings: EncodeSettings) -> bool
+    ensures { result ≡ names_encoding settings }
+{
+    match settings.encoding {
+        EncodingMode::Group4 => !settings.end_of_line && !settings.eols_end_at_bytes,
+        EncodingMode::Group3_1D => names_group3(settings),
+        EncodingMode::Group3_2D => settings.k > 0 && names_group3(settings),
+    }
+}
+
+/// Writes a two-dimensional line of Group 3 and the tag before it, unless the one-dimensional line is shorter: then nothing is
+/// written, and the result is false.
+fn put_if_shorter(
+    writer: &mut BitWriter,
+    columns: u32,
+    reference: &[u32],
+    changes: &[u32],
+) -> Result<bool, AllocError>
+    requires reference { AreChanges columns reference.now }
+    requires changes { AreChanges columns changes.now }
+    ensures shorter { IfOk result (λ is_written. is_written
+        ≡ nat_le (length (chosen_line_2d (pixels columns reference.now) (pixels columns changes.now)))
+        (length (chosen_line_1d (pixels columns changes.now)))) }
+    ensures written { IfOk result (λ is_written. all_bits writer.new ≡ all_bits writer.old
+        ++ (if is_written then false ∷ chosen_line_2d (pixels columns reference.now) (pixels columns changes.now) else [])) }
+{
+    let mark = writer.mark();
+    writer.put(0, 1)?;
+    let start = writer.bit_count();
+    put_line(writer, columns, reference, changes)?;
+    if takes_at_least(columns, changes, writer.bit_count() - start) {
+        return Ok(true);
+    }
+    writer.cut_back(mark);
+    Ok(false)
+}
+
+/// Writes a one-dimensional line of two-dimensional Group 3 and the tag before it (T.4, section 4.2.2).
+fn put_one_dimensional(
+    writer: &mut BitWriter,
+    columns: u32,
+    changes: &[u32],
+) -> Result<(), AllocError>
+    requires { AreChanges columns changes.now }
+    ensures { OnOk result (all_bits writer.new ≡ all_bits writer.old ++ true ∷ chosen_line_1d (pixels columns changes.now)) }
+{
+    writer.put(1, 1)?;
+    put_row(writer, columns, changes)
+}
+
+/// Writes a line of two-dimensional Group 3 and the tag before it (T.4, sections 4.2.1 and 4.2.2). So many lines may still be
+/// two-dimensional before it; the result is how many after it.
+fn put_line_by_k(
+    writer: &mut BitWriter,
+    columns: u32,
+    k: u32,
+    left: u32,
+    reference: &[u32],
+    changes: &[u32],
+) -> Result<u32, AllocError>
+    requires reference { AreChanges columns reference.now }
+    requires changes { AreChanges columns changes.now }
+    ensures written { OnOk result (all_bits writer.new ≡ all_bits writer.old
+        ++ chosen_line EncodingMode.Group3_2D left (pixels columns reference.now) (pixels columns changes.now)) }
+    ensures left { IfOk result (λ after. after
+        ≡ left_after EncodingMode.Group3_2D k left (pixels columns reference.now) (pixels columns changes.now)) }
+{
+    let most = k.saturating_sub(1);
+    if left == 0 {
+        put_one_dimensional(writer, columns, changes)?;
+        return Ok(most);
+    }
+    if put_if_shorter(writer, columns, reference, changes)? {
+        return Ok(left - 1);
+    }
+    put_one_dimensional(writer, columns, changes)?;
+    Ok(most)
+}
+
+/// Writes a line by its encoding. So many lines may still be two-dimensional before it; the result is how many after it.
+#[inline(always)]
+fn put_line_of(
+    writer: &mut BitWriter,
+    columns: u32,
+    settings: EncodeSettings,
+    left: u32,
+    reference: &[u32],
+    changes: &[u32],
+) -> Result<u32, AllocError>
+    requires reference { AreChanges columns reference.now }
+    requires changes { AreChanges columns changes.now }
+    ensures written { OnOk result (all_bits writer.new ≡ all_bits writer.old
+        ++ chosen_line settings.encoding left (pixels columns reference.now) (pixels columns changes.now)) }
+    ensures left { IfOk result (λ after. after
+        ≡ left_after settings.encoding settings.k left (pixels columns reference.now) (pixels columns changes.now)) }
+{
+    match settings.encoding {
+        EncodingMode::Group4 => {
+            put_line(writer, columns, reference, changes)?;
+            Ok(0)
+        }
+        EncodingMode::Group3_1D => {
+            put_row(writer, columns, changes)?;
+            Ok(0)
+        }
+        EncodingMode::Group3_2D => {
+            put_line_by_k(writer, columns, settings.k, left, reference, changes)
+        }
+    }
+}
+
+/// Whether EOLs precede the lines.
+fn has_eols(settings: EncodeSettings) -> bool
+    ensures { result ≡ has_eols settings.encoding settings.end_of_line }
+{
+    match settings.encoding {
+        EncodingMode::Group4 => false,
+        _ => settings.end_of_line,
+    }
+}
+
+/// Writes a line with what belongs to it: the EOL before it, or zeros up to a whole byte behind it. So many lines may still be
+/// two-dimensional before it; the result is how many after it.
+#[inline(always)]
+pub fn put_part(
+    writer: &mut BitWriter,
+    columns: u32,
+    settings: EncodeSettings,
+    left: u32,
+    reference: &[u32],
+    changes: &[u32],
+) -> Result<u32, AllocError>
+    requires reference { AreChanges columns reference.now }
+    requires changes { AreChanges columns changes.now }
+    requires whole { has_eols settings.encoding settings.end_of_line ≡ false → settings.rows_are_byte_aligned ≡ true
+        → length (all_bits writer.old) % 8 ≡ 0 }
+    ensures written { OnOk result (all_bits writer.new ≡ all_bits writer.old
+        ++ chosen_part settings (length (all_bits writer.old)) left (pixels columns reference.now) (pixels columns changes.now)) }
+    ensures left { IfOk result (λ after. after
+        ≡ left_after settings.encoding settings.k left (pixels columns reference.now) (pixels columns changes.now)) }
+    ensures whole { OnOk result (has_eols settings.encoding settings.end_of_line ≡ false → settings.rows_are_byte_aligned ≡ true
+        → length (all_bits writer.new) % 8 ≡ 0) }
+{
+    if has_eols(settings) {
+        put_filled_eol(writer, settings.eols_end_at_bytes)?;
+        return put_line_of(writer, columns, settings, left, reference, changes);
+    }
+    let after = put_line_of(writer, columns, settings, left, reference, changes)?;
+    put_padding(writer, settings.rows_are_byte_aligned)?;
+    Ok(after)
+}
+
+/// Writes EOFB or RTC, where the picture is closed.
+pub fn put_end(writer: &mut BitWriter, settings: EncodeSettings) -> Result<(), AllocError>
+    ensures { OnOk result (all_bits writer.new ≡ with_end settings (all_bits writer.old)) }
+{
+    if !settings.end_of_block {
+        return Ok(());
+    }
+    match settings.encoding {
+        EncodingMode::Group4 => {
+            put_eol(writer)?;
+            put_eol(writer)
+        }
+        _ if settings.end_of_line => {
+            put_closing_eols(writer, settings.encoding, settings.eols_end_at_bytes)
+        }
+        _ => Ok(()),
+    }
+}

@@ -1,0 +1,12 @@
+//! What the programs have in common: devices that know whether they have failed, the faults of a run, and the words of its
+//! arguments.
+#![tactic(auto)]
+
+pub mod device;
+pub mod fault;
+pub mod files;
+pub mod words;
+
+pub use device::{Device, Failed};
+pub use fault::{RunFault, status_of_fault};
+pub use files::{read_all, write_all};

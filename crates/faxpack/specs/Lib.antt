@@ -1,0 +1,4 @@
+pub mod Arguments
+pub mod Pictures
+pub mod Runs
+pub mod Statuses

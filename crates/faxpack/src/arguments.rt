@@ -1,0 +1,129 @@
+//! The arguments of a call, and what they mean.
+
+ghost use Rattle.std.specs.Prelude.{◌≡◌, map, string_bytes};
+ghost use Rattle.std.specs.List.{list_all};
+ghost use Rattle.faxpack.specs.Arguments.{arguments_of_words, picture_words, rows_words, settings_of_words, k_of, are_flags, are_apart, is_flag};
+
+use fax_encode::{EncodeSettings, names_encoding};
+use fax_program::words::{has_flag, is_first_word, mode_of, number_of, order_with, times};
+
+/// The size of rows that come without a header.
+#[derive(Debug, Clone, Copy)]
+pub struct Size {
+    /// The width in pixels.
+    pub columns: u32,
+    /// The largest number of rows, or 0 for no limit.
+    pub rows: u32,
+}
+
+/// What the arguments of a call mean.
+#[derive(Debug, Clone, Copy)]
+pub struct Arguments {
+    /// The size of the rows, or `None` if a PBM picture says it.
+    pub size: Option<Size>,
+    /// The settings of encoding.
+    pub settings: EncodeSettings,
+}
+
+/// Returns what the arguments of a call mean, or `None` if they are invalid or name no encoding.
+pub fn arguments_of(words: &[String]) -> Option<Arguments>
+    ensures { result ≡ arguments_of_words (map string_bytes words.now) }
+{
+    if is_first_word(words, "-o") {
+        return rows_words(&words[1..]);
+    }
+    picture_words(words)
+}
+
+/// What a mode and flags mean, for a PBM picture.
+fn picture_words(words: &[String]) -> Option<Arguments>
+    ensures { result ≡ picture_words (map string_bytes words.now) }
+{
+    let [mode, flags, more @ ..] = words else {
+        return None;
+    };
+    let settings = settings_of_words(mode.as_str(), flags.as_str(), more)?;
+    Some(Arguments {
+        size: None,
+        settings,
+    })
+}
+
+/// What a mode, the columns, the rows and flags mean, for rows without a header.
+fn rows_words(words: &[String]) -> Option<Arguments>
+    ensures { result ≡ rows_words (map string_bytes words.now) }
+{
+    let [mode, columns, rows, flags, more @ ..] = words else {
+        return None;
+    };
+    let settings = settings_of_words(mode.as_str(), flags.as_str(), more)?;
+    let columns = number_of(columns.as_str())?;
+    let rows = number_of(rows.as_str())?;
+    Some(Arguments {
+        size: Some(Size { columns, rows }),
+        settings,
+    })
+}
+
+/// The settings that a mode, flags and the words behind them mean, if they name an encoding.
+fn settings_of_words(mode: &str, flags: &str, more: &[String]) -> Option<EncodeSettings>
+    ensures { result ≡ settings_of_words mode.now flags.now (map string_bytes more.now) }
+{
+    let encoding = mode_of(mode)?;
+    let k = k_of(more)?;
+    let flags = flags.as_bytes();
+    if !are_flags(flags) {
+        return None;
+    }
+    let settings = EncodeSettings {
+        encoding,
+        k,
+        end_of_line: has_flag(flags, b'l'),
+        eols_end_at_bytes: has_flag(flags, b'f'),
+        rows_are_byte_aligned: has_flag(flags, b'a'),
+        end_of_block: has_flag(flags, b'b'),
+        order: order_with(flags),
+    };
+    if !names_encoding(settings) {
+        return None;
+    }
+    Some(settings)
+}
+
+/// The K that the words behind the flags mean: without one it is 4.
+fn k_of(words: &[String]) -> Option<u32>
+    ensures { result ≡ k_of (map string_bytes words.now) }
+{
+    match words {
+        [] => Some(4),
+        [word] => number_of(word.as_str()),
+        _ => None,
+    }
+}
+
+/// Whether a word is `-`, or one or more of the letters b, l, a, s, r and f, none of them twice.
+fn are_flags(word: &[u8]) -> bool
+    ensures { result ≡ are_flags word.now }
+{
+    let is_none = word == b"-".as_slice();
+    is_none || (!word.is_empty() && are_letters(word) && are_apart(word))
+}
+
+/// Returns whether a word has only letters of flags.
+fn are_letters(word: &[u8]) -> bool
+    ensures { result ≡ list_all is_flag word.now }
+{
+    word.iter().all(|byte| matches!(*byte, b'b' | b'l' | b'a' | b's' | b'r' | b'f'))
+}
+
+/// Returns whether no letter of a flag occurs twice in a word.
+fn are_apart(word: &[u8]) -> bool
+    ensures { result ≡ are_apart word.now }
+{
+    times(word, b'b') <= 1
+        && times(word, b'l') <= 1
+        && times(word, b'a') <= 1
+        && times(word, b's') <= 1
+        && times(word, b'r') <= 1
+        && times(word, b'f') <= 1
+}

@@ -1,0 +1,83 @@
+//! `faxpack`: encodes a bitmap from standard input as a fax image, and writes the strip to standard output.
+//!
+//! It is called as `faxpack MODE FLAGS`, with a PBM picture (P4) on standard input, or as `faxpack -o MODE COLUMNS ROWS FLAGS`,
+//! with the rows that `faxrows -o` writes for the same words. The mode is `g4`, `1d` or `2d`, columns and rows are decimal
+//! numbers, 0 rows for all, and the flags are `-` or letters: `b` for EOFB or RTC after the last line, `l` for an EOL before
+//! each, `f` for fill before EOLs so that they end at whole bytes, `a` for aligned rows, `r` for the lowest bit of each byte
+//! first; `s`, with which `faxrows` reads strictly, has no effect. A last word may be the K of two-dimensional lines, else
+//! it is 4.
+#![tactic(auto)]
+
+ghost use Rattle.std.specs.Prelude.{◌≡◌, ◌⊎◌, IfOk};
+ghost use Rattle.faxpack.specs.Statuses.{IsStatusOfRun, status_of_answer};
+
+mod arguments;
+pub mod picture;
+pub mod program;
+
+use fax_program::words::is_only_word;
+use fax_program::{Device, RunFault, status_of_fault};
+pub use picture::PictureFault;
+pub use program::run;
+use std::env;
+use std::process::ExitCode;
+
+fn main(rt: HostRuntime) -> ExitCode {
+    match run_words(&rt) {
+        Ok(status) => ExitCode::from(status),
+        Err(fault) => {
+            let _ = eprintln!(rt; "faxpack: {fault}");
+            ExitCode::from(status_of_fault(fault))
+        }
+    }
+}
+
+/// Runs with the arguments of the environment, on standard input and output. Returns the exit status. What is wrong with the
+/// picture is printed.
+fn run_words(rt: &HostRuntime) -> Result<u8, RunFault>
+    ensures status { IfOk result IsStatusOfRun }
+{
+    let Ok(all) = env::args(rt) else {
+        return Err(RunFault::BadArguments);
+    };
+    let Ok(words) = all.skip(1).collect(rt.alloc()) else {
+        return Err(RunFault::BadArguments);
+    };
+    let words: Vec<String> = words;
+    let words = words.as_slice();
+    if is_only_word(words, "--help") {
+        let printed = println!(rt; "{USAGE}");
+        return printed.map(|_| 0u8).map_err(|_| RunFault::Write);
+    }
+    if is_only_word(words, "--version") {
+        let printed = println!(rt; "{VERSION}");
+        return printed.map(|_| 0u8).map_err(|_| RunFault::Write);
+    }
+    let mut reader = Device::new(rt.stdin());
+    let mut writer = Device::new(rt.stdout());
+    let answer = run(rt.alloc(), words, &mut reader, &mut writer)?;
+    if let Err(fault) = answer {
+        let _ = eprintln!(rt; "faxpack: {fault}");
+    }
+    Ok(status_of_answer(answer))
+}
+
+/// What `--help` prints.
+const USAGE: &str =
+    "faxpack MODE FLAGS [K]\nfaxpack -o MODE COLUMNS ROWS FLAGS [K]\nfaxpack --help\nfaxpack --version";
+
+/// What `--version` prints.
+const VERSION: &str = "faxpack 0.6.0";
+
+/// The status of a run that read its input: 0 if the strip was written, 1 if the input is no picture that can be encoded.
+fn status_of_answer(answer: Result<(), PictureFault>) -> u8
+    ensures status { result ≡ status_of_answer answer }
+{
+    match answer {
+        Ok(()) => 0,
+        Err(_) => 1,
+    }
+}
+
+#[cfg(test)]
+mod tests;
