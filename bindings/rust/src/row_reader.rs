@@ -80,8 +80,8 @@ impl<'a> RowReader<'a> {
         self.changes = zeros(wanted.min(self.columns as usize).max(64));
     }
 
-    /// Reads the next row, and returns it packed: `columns.div_ceil(8)` bytes, one bit a pixel, 1 for black, the leftmost pixel in
-    /// a byte's highest bit; `None` at the end of the image.
+    /// Reads the next row, and returns it packed: `columns.div_ceil(8)` bytes, one bit a pixel, 1 for black, the leftmost pixel
+    /// in a byte's highest bit; `None` at the end of the image.
     ///
     /// # Errors
     ///

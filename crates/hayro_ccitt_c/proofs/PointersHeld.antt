@@ -39,8 +39,12 @@ module _ (A : RattleType) (L : Laws A) (g : Ghosts A.Denot) where
   fields p a vs = (Struct (record { name = []; args = []; types = []; fields = RawPtr ∷ A ∷ [] })).own_val (p, (a, tt)) vs
 
   -- such a value has its type
-  pub beside_good : (p : Ptr) (h : Val) → Good (layout A) h → T (has_ty ty_ptr (ptr_val p) && (has_ty (layout A) h && true)) × WT (beside (ptr_val p) h)
-  beside_good p h fits = (both_hold (has_ty ty_ptr (ptr_val p)) (has_ty (layout A) h) (Ptr-Good p).0 fits.0, ((Ptr-Good p).1, (fits.1, tt)))
+  pub beside_good : (p : Ptr) (h : Val) → Good (layout A) h → T (has_ty ty_ptr (ptr_val p) && (has_ty (layout A) h && true))
+      × WT (beside (ptr_val p) h)
+  beside_good p h fits = (
+    both_hold (has_ty ty_ptr (ptr_val p)) (has_ty (layout A) h) (Ptr-Good p).0 fits.0,
+    ((Ptr-Good p).1, (fits.1, tt)),
+  )
 
   module _ {M : Type 1} {𝓤 : Ura M} {𝓛 : Logic 𝓤} {K : Type 0} {Γ : List (Item 𝓤)} {G : Goal 𝓤 𝓛.H} where
     -- open: the pointer owns nothing, and what is left is the allocator's
@@ -59,5 +63,6 @@ module _ (A : RattleType) (L : Laws A) (g : Ghosts A.Denot) where
         nothing t $ move t (1 ∷ 0 ∷ []) $ fjoin t $ feq_i t (List Val) (ptr_val p ∷ []) (ptr_val p ∷ []) refl $ fjoin t $
         feq_i t (List Val) (beside (ptr_val p) h ∷ []) (beside (ptr_val p) h ∷ []) refl $ fjoin t $
         fpack t (Valss (RawPtr ∷ A ∷ []))
-        (within (record { name = []; args = []; types = []; fields = RawPtr ∷ A ∷ [] }) (p, (a, tt)) (beside (ptr_val p) h ∷ []))
+        (within (record { name = []; args = []; types = []; fields = RawPtr ∷ A ∷ [] }) (p, (a, tt))
+        (beside (ptr_val p) h ∷ []))
         (ptr_val p ∷ [], (h ∷ [], tt)) $ s)

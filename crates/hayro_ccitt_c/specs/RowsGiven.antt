@@ -63,7 +63,16 @@ pub record IsPacked (columns : ℕ) (row : Row) (before after : List ℕ) : Type
 
 -- nothing is told
 abbrev pub told_nothing : RowOutcome
-told_nothing = record { rows = 0; changes = 0; line_start = 0; bytes_read = 0; damaged_rows = 0; damage = 0; reserved_1 = 0; reserved_2 = 0 }
+told_nothing = record {
+  rows = 0;
+  changes = 0;
+  line_start = 0;
+  bytes_read = 0;
+  damaged_rows = 0;
+  damage = 0;
+  reserved_1 = 0;
+  reserved_2 = 0;
+}
 
 -- the status of the fault of a row that was repaired, 0 for one that was whole
 abbrev pub damage_told : Option DecodeError → ℕ

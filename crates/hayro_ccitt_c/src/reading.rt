@@ -101,7 +101,8 @@ impl Reading {
 
     /// Gives the last row packed, or keeps it where there is no room for it. Returns whether there was.
     fn pack_row(&mut self, bytes: &mut [u8]) -> bool
-        ensures packed { result ≡ true → IsPacked self.old.rows.held.settings.columns self.old.rows.held.reference bytes.old bytes.new }
+        ensures packed { result ≡ true
+            → IsPacked self.old.rows.held.settings.columns self.old.rows.held.reference bytes.old bytes.new }
         ensures refused { result ≡ false → length bytes.new < bytes_of_row self.old.rows.held.settings.columns }
         ensures unwritten { result ≡ false → bytes.new ≡ bytes.old }
         ensures rows { self.new.rows ≡ self.old.rows }
@@ -137,7 +138,8 @@ impl Reading {
     pub(crate) fn pack_next(&mut self, data: &[u8], bytes: &mut [u8]) -> u32
         requires fit { BitsFit «data».now }
         ensures gives { GivesRow «data».now self.old self.new result }
-        ensures packed { result ≡ 0 → IsPacked self.new.rows.held.settings.columns self.new.rows.held.reference bytes.old bytes.new }
+        ensures packed { result ≡ 0
+            → IsPacked self.new.rows.held.settings.columns self.new.rows.held.reference bytes.old bytes.new }
         ensures refused { result ≡ 5 → length bytes.new < bytes_of_row self.new.rows.held.settings.columns }
         ensures unwritten { result ≢ 0 → bytes.new ≡ bytes.old }
     {

@@ -74,7 +74,8 @@ from_box_spec 𝓤 𝓛 𝓜 𝓡 wired T A LT LA g da dt dd allocates glue_t gl
     enter ! 𝓣.C 𝓣.Λ fn (w ∷ []) _ $ alloc_all ! (λ l. pass_all ! refl (beside_good Alloc L g given.ptr h fits, tt) $
     sets ! (of_opd ! (get ! refl)) refl (beside_good Alloc L g given.ptr h fits) $
     calls_at ! (fm 𝓛 𝓜 𝓡) call
-    (met 𝓤 𝓛 𝓜 𝓡 (code.calls-std_alloc::boxed::Box::into_raw_with_allocator 𝓡.env wired) T A LT LA g da dd dt allocates glue_a glue_t)
+    (met 𝓤 𝓛 𝓜 𝓡 (code.calls-std_alloc::boxed::Box::into_raw_with_allocator 𝓡.env wired) T A LT LA g da dd dt allocates
+    glue_a glue_t)
     y (and_then ! (get ! refl) (no_more !)) (λ u.
     use1 𝓛 (later (some (λ (r : Ptr × A.Denot). (alive ⊛ ‵ (pair.own_val r (u ∷ []))) ⊛
     some (λ (ls : Lasts end κs y.0.3). ‵ (lasts end κs y.0.3 ls) ⊛
@@ -97,4 +98,5 @@ from_box_spec 𝓤 𝓛 𝓜 𝓡 wired T A LT LA g da dt dd allocates glue_t gl
     use0 𝓛 (raw (fact 𝓤 (made.value ≡ given.value))) (fact_i 𝓤 (made.value ≡ given.value) (emp 𝓤) refl) $
     nothing ! $ nothing ! $ fjoin ! $
     returns ! (look_at ! 0 refl) $ free_all ! refl $
-    keep ! (3 ∷ 0 ∷ 2 ∷ 1 ∷ []) $ by ! (leaves 𝓛 T̂ stayed c z (beside (ptr_val r.0) k) made ((tt, (tt, tt)), tt) (tt, tt))))))))))
+    keep ! (3 ∷ 0 ∷ 2 ∷ 1 ∷ []) $ by ! (leaves 𝓛 T̂ stayed c z (beside (ptr_val r.0) k) made ((tt, (tt, tt)), tt)
+    (tt, tt))))))))))
