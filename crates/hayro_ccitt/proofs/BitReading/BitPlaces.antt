@@ -1,11 +1,12 @@
 -- Places among the bits of bytes.
-use Rattle.std.proofs.Common.{◌≡◌, ℕ, zero, suc, ◌+◌, ◌-◌, ◌*◌, ◌/◌, ◌%◌, ◌<◌, ◌≤◌, inl, inr, true, false, leb, List, [], ◌∷◌, length, drop, min, refl, sym, ◌∙◌, arith}
+use Rattle.std.proofs.Common.{◌≡◌, ℕ, zero, suc, ◌+◌, ◌-◌, ◌*◌, ◌/◌, ◌%◌, ◌<◌, ◌≤◌, true, false, leb, List, [], ◌∷◌, length, drop, min, refl, arith}
 use Rattle.std.proofs.lemmas.Bool.{cases_lt, le-leb, lt-leb}
 use Rattle.std.proofs.lemmas.List.{length-drop, drop-drop}
 use Rattle.hayro_ccitt.specs.declared.bit_reader.BitOrder.{BitOrder}
 use Rattle.hayro_ccitt.specs.Bits.{Bits, BitsAt, bits_in, here}
 use Rattle.hayro_ccitt.specs.PlainReading.{at_end, aligned}
 use Rattle.hayro_ccitt.proofs.BitReading.BitLists.{length-bits_in}
+use Rattle.std.proofs.lemmas.Grind.{common_steps}
 
 -- these bits, at a place
 abbrev pub bits_at : Bits → ℕ → BitsAt
@@ -30,30 +31,20 @@ at_end_before (x ∷ xs) (suc i) h = at_end_before xs i (omega arith)
 
 -- no bit is left where all bytes are passed
 pub at_end-drop : (order : BitOrder) (bytes : List ℕ) (place : ℕ) → leb (length bytes) (place / 8) ≡ at_end (drop place (bits_in order bytes))
-at_end-drop order bytes place = elim (cases_lt place (8 * length bytes)) [
-  | inl lt ↦ lt-leb _ _ (omega arith) ∙ sym (at_end_before (bits_in order bytes) place (omega (arith, length-bits_in order bytes)))
-  | inr ge ↦ le-leb _ _ (omega arith) ∙ sym (at_end_past (bits_in order bytes) place (omega (arith, length-bits_in order bytes)))
-]
+at_end-drop order bytes place = grind (arith, common_steps, at_end_before, at_end_past, cases_lt, le-leb, length-bits_in, lt-leb)
 
 -- the next whole byte leaves whole bytes
 pub aligned-drop : (order : BitOrder) (bytes : List ℕ) (place next : ℕ) → place ≤ 8 * length bytes → next ≡ place + (8 * length bytes - place) % 8
     → drop next (bits_in order bytes) ≡ aligned (drop place (bits_in order bytes))
-aligned-drop order bytes place next h e =
-    let left : length (drop place (bits_in order bytes)) ≡ 8 * length bytes - place = omega (arith, length-bits_in order bytes, length-drop place (bits_in order bytes)) in
-    rw (left, drop-drop ((8 * length bytes - place) % 8) place (bits_in order bytes), e) refl
+aligned-drop order bytes place next h e = grind (arith, common_steps, drop-drop, length-bits_in, length-drop)
 
 -- ---- So many bits from the place on, where they are there and where they aren't.
 pub bits_missing : (at : BitsAt) (n k : ℕ) → n ≡ k → 0 < k → length at.bits < at.place + n → length (here at) < k
 bits_missing at n k e some past = omega (arith, length-drop at.place at.bits)
 
 pub bits_enough : (at : BitsAt) (n k : ℕ) → n ≡ k → (length at.bits < at.place + n → ⊥) → k ≤ length (here at)
-bits_enough at n k e there = elim (cases_lt (length at.bits) (at.place + n)) [
-  | inl lt ↦ absurd (there lt)
-  | inr ge ↦ omega (arith, length-drop at.place at.bits)
-]
+bits_enough at n k e there = grind (arith, common_steps)
 
 pub moved_on : (at next : BitsAt) (n k : ℕ) → n ≡ k → next ≡ bits_at at.bits (min (at.place + n) (length at.bits)) → k ≤ length (here at) → 0 < k
     → here next ≡ drop k (here at)
-moved_on at next n k e moved there some =
-    let place : min (at.place + n) (length at.bits) ≡ at.place + k = omega (arith, length-drop at.place at.bits) in
-    rw (moved, place) (sym (drop-drop k at.place at.bits))
+moved_on at next n k e moved there some = grind (arith, common_steps)

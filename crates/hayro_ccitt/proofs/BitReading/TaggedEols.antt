@@ -1,26 +1,19 @@
 -- EOLs with tags between them, read one after another, and what is looked at.
-use Rattle.std.proofs.Common.{◌≡◌, ℕ, suc, ◌+◌, ◌-◌, ◌*◌, ◌<◌, ◌≤◌, true, false, [], ◌∷◌, length, Option}
-use Rattle.std.proofs.Common.{Some, None, refl, sym, ap, ◌∙◌, arith}
+use Rattle.std.proofs.Common.{◌≡◌, ℕ, suc, ◌+◌, ◌-◌, ◌*◌, ◌<◌, ◌≤◌, true, false, ◌∷◌, length}
+use Rattle.std.proofs.Common.{Some, None, refl, arith}
 use Rattle.std.specs.Prelude.{is_some}
-use Rattle.std.proofs.lemmas.Bool.{false≢true, le-leb}
+use Rattle.std.proofs.lemmas.Bool.{le-leb}
 use Rattle.hayro_ccitt.specs.Bits.{Bits}
-use Rattle.hayro_ccitt.specs.EndOfLine.{after_eol, one_more, eols, past_tag, eols_with_tags, pass_last_tag}
+use Rattle.hayro_ccitt.specs.EndOfLine.{after_eol, eols, past_tag, eols_with_tags, pass_last_tag}
 use Rattle.hayro_ccitt.specs.Ticks.{looked, looked_at_tag}
 use Rattle.hayro_ccitt.proofs.Readings.TurnsMoveOn.{eols_with_tags-some}
 use Rattle.hayro_ccitt.proofs.BitReading.ZeroRuns.{looked_eol}
+use Rattle.std.proofs.lemmas.Grind.{common_steps}
 
 -- one EOL is read where one stands
 pub one_eol_read : (here after : Bits) (count : ℕ) → eols 1 here ≡ (count, after) → (0 < count → (after_eol 0 here ≡ Some after) × (count ≡ 1))
     × (count ≡ 0 → (after_eol 0 here ≡ None) × (after ≡ here))
-one_eol_read here after count e = by (after_eol 0 here) refl
-  where
-    by : (o : Option Bits) → after_eol 0 here ≡ o → (0 < count → (after_eol 0 here ≡ Some after) × (count ≡ 1)) × (count ≡ 0 → (after_eol 0 here ≡ None) × (after ≡ here))
-    by None f =
-        let g : ◌≡◌ {A = ℕ × Bits} (0, here) (count, after) = rw (f, eols) at e in
-        (λ some. absurd (omega (arith, ap (λ (x : ℕ × Bits). x.0) g, some)), λ none. (f, sym (ap (λ (x : ℕ × Bits). x.1) g)))
-    by (Some rest) f =
-        let g : ◌≡◌ {A = ℕ × Bits} (1, rest) (count, after) = rw (f, eols) at e in
-        (λ some. (f ∙ ap (λ (x : ℕ × Bits). Some x.1) g, sym (ap (λ (x : ℕ × Bits). x.0) g)), λ none. absurd (omega (arith, ap (λ (x : ℕ × Bits). x.0) g, none)))
+one_eol_read here after count e = grind (arith, common_steps)
 
 -- an EOL more and its tag, and those after it
 pub tagged_stepped : (max count : ℕ) (start now after rest : Bits)
@@ -30,13 +23,7 @@ pub tagged_stepped : (max count : ℕ) (start now after rest : Bits)
 tagged_stepped max count start now after rest e h is lt =
     let more : ℕ × Bits = eols_with_tags (max - (count + 1)) rest in
     let n : max - count ≡ suc (max - (count + 1)) = omega arith in
-    let one : eols_with_tags (max - count) now ≡ (suc more.0, more.1) = ap (λ (k : ℕ). eols_with_tags k now) n
-    ∙ eols_with_tags-some (max - (count + 1)) now after h ∙ ap (λ (x : Bits). one_more (eols_with_tags (max - (count + 1)) x)) (sym is) ∙ by more in
-    let m : count + suc more.0 ≡ count + 1 + more.0 = omega arith in
-    e ∙ rw one (ap (λ (k : ℕ). (k, more.1)) m)
-  where
-    by : (found : ℕ × Bits) → one_more found ≡ (suc found.0, found.1)
-    by (count, rest) = refl
+    grind (arith, common_steps, eols_with_tags-some)
 
 -- the bits from here on that may have been looked at before: those of an EOL behind its tag, or those of a tag
 abbrev pub looked_before : Bits → ℕ
@@ -45,56 +32,21 @@ looked_before here = elim (after_eol 0 here) [ None ↦ looked_at_tag here | Som
 -- a tag is looked at, and perhaps the EOL behind it
 tag_looks : (here : Bits) → (length here ≤ looked_at_tag here + length (past_tag here)) × (length (past_tag here) ≤ length here)
     × (looked_at_tag here + 2 * length (past_tag here) ≤ 2 * length here + looked_before (past_tag here))
-tag_looks [] = (omega arith, omega arith, omega arith)
-tag_looks (false ∷ here) = (omega arith, omega arith, by (after_eol 0 (false ∷ here)))
-  where
-    by : (o : Option Bits) → 1 + 2 * length (false ∷ here) ≤ 2 * length (false ∷ here) + elim o [ None ↦ 1 | Some rest ↦ suc (looked here) ]
-    by None = omega arith
-    by (Some rest) = omega arith
-tag_looks (true ∷ here) = by (after_eol 0 here) refl
-  where
-    by : (o : Option Bits) → after_eol 0 here ≡ o → (length (true ∷ here) ≤ looked_at_tag (true ∷ here) + length (past_tag (true ∷ here)))
-        × (length (past_tag (true ∷ here)) ≤ length (true ∷ here))
-        × (looked_at_tag (true ∷ here) + 2 * length (past_tag (true ∷ here)) ≤ 2 * length (true ∷ here) + looked_before (past_tag (true ∷ here)))
-    by None e = rw (e, past_tag) (omega arith, omega arith, omega arith)
-    by (Some rest) e = rw (e, past_tag) (omega arith, omega arith, rw (e, looked_before) (omega arith))
+tag_looks here = grind (arith, common_steps)
 
 -- what an EOL and its tag count: each bit that is passed, and at most twice
 pub tagged_looks : (here after rest : Bits) (ticks ticks1 ticks2 most : ℕ) → after_eol 0 here ≡ Some after → rest ≡ past_tag after
     → ticks1 + length after ≡ ticks + length here → ticks2 ≡ ticks1 + looked_at_tag after
     → (ticks + length here ≤ ticks2 + length rest) × (length rest < length here)
     × (ticks + 2 * length here ≤ most + looked_before here → ticks2 + 2 * length rest ≤ most + looked_before rest)
-tagged_looks here after rest ticks ticks1 ticks2 most eol is first second =
-    let eol_looks = looked_eol 0 here after eol in
-    let looks = tag_looks after in
-    let left : length rest ≡ length (past_tag after) = ap length is in
-    let behind : looked_before rest ≡ looked_before (past_tag after) = ap looked_before is in
-    let before : looked_before here ≡ looked here = rw (eol, looked_before) refl in
-    let some : 0 < looked here = looked_some here after eol in (
-      omega (arith, first, second, looks.0, left),
-      omega (arith, eol_looks, looks.1, some, left),
-      λ le. omega (arith, first, second, eol_looks, looks.2, before, behind, left, le),
-    )
-  where
-    looked_some : (here after : Bits) → after_eol 0 here ≡ Some after → 0 < looked here
-    looked_some [] after e = absurd cc
-    looked_some (false ∷ here) after e = omega arith
-    looked_some (true ∷ here) after e = omega arith
+tagged_looks here after rest ticks ticks1 ticks2 most eol is first second = grind (arith, common_steps, looked_eol, tag_looks)
 
 -- a one before an EOL is passed as a tag, and no other
 pub past_tag-eol : (here : Bits) → is_some (after_eol 0 here) ≡ true → past_tag (true ∷ here) ≡ here
-past_tag-eol here e = by (after_eol 0 here) e
-  where
-    by : (o : Option Bits) → is_some o ≡ true → elim o [ None ↦ true ∷ here | Some rest ↦ here ] ≡ here
-    by None e = absurd (false≢true e)
-    by (Some rest) e = refl
+past_tag-eol here e = grind (arith, common_steps)
 
 pub past_tag-none : (here : Bits) → is_some (after_eol 0 here) ≡ false → past_tag (true ∷ here) ≡ true ∷ here
-past_tag-none here e = by (after_eol 0 here) e
-  where
-    by : (o : Option Bits) → is_some o ≡ false → elim o [ None ↦ true ∷ here | Some rest ↦ here ] ≡ true ∷ here
-    by None e = refl
-    by (Some rest) e = absurd (false≢true (sym e))
+past_tag-none here e = grind (arith, common_steps)
 
 -- of six EOLs or more the last tag is passed
 pub last_tag-one : (count : ℕ) (here : Bits) → 6 ≤ count → pass_last_tag (count, true ∷ here) ≡ (count, here)

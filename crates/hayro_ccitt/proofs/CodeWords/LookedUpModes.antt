@@ -1,15 +1,14 @@
 -- What seven bits say of the mode that stands here.
-use Rattle.std.proofs.Common.{◌≡◌, ℕ, zero, suc, ◌-◌, ◌/◌, ◌^◌, ◌<◌, ◌≤◌, true, [], ◌∷◌, length, drop, Option, Some, None, option_map, Ok, Err, refl, sym, ap, ◌∙◌, arith}
+use Rattle.std.proofs.Common.{◌≡◌, ℕ, ◌-◌, ◌/◌, ◌^◌, ◌<◌, ◌≤◌, true, length, drop, Option, Some, None, option_map, Ok, Err, refl, ◌∙◌, arith}
 use Rattle.std.proofs.lemmas.Bool.{eq-eqb, false≢true}
 use Rattle.hayro_ccitt.specs.declared.error.DecodeError.TheVariants.{UnexpectedEof, InvalidCode}
 use Rattle.hayro_ccitt.specs.declared.codes.Mode.{Mode}
 use Rattle.hayro_ccitt.specs.Bits.{Bits, BitsAt, low_bits, here}
 use Rattle.hayro_ccitt.specs.CodeLists.{mode_codes}
-use Rattle.hayro_ccitt.specs.CodeReading.{after, is_prefix, word_at, read_code, Has}
+use Rattle.hayro_ccitt.specs.CodeReading.{after, is_prefix, read_code, Has}
 use Rattle.hayro_ccitt.specs.LookUps.{padded, seven_bits, telling_bits, mode_told}
-use Rattle.hayro_ccitt.proofs.CodeWords.ReadCodes.{after_is, word_at_again, word_at_found}
-use Rattle.hayro_ccitt.proofs.CodeWords.ReadRuns.{word_length}
-use Rattle.hayro_ccitt.proofs.CodeWords.LooksAhead.{telling_is, telling_none, tells_cut, tells_found, tells_wrong}
+use Rattle.hayro_ccitt.proofs.CodeWords.ReadCodes.{after_is, word_at_again}
+use Rattle.hayro_ccitt.proofs.CodeWords.LooksAhead.{tells_cut}
 use Rattle.hayro_ccitt.proofs.CodeWords.LookedUp.{modes_tell}
 use Rattle.hayro_ccitt.proofs.BitReading.BitLists.{length-low_bits}
 use Rattle.hayro_ccitt.proofs.BitReading.WordRanges.{word_begins_of}
@@ -18,6 +17,7 @@ use Rattle.std.proofs.lemmas.List.{length-append, drop-drop}
 use Rattle.std.specs.Prelude.{IfSome, pos}
 use Rattle.hayro_ccitt.specs.declared.codes.Mode.TheVariants.{Vertical}
 use Rattle.hayro_ccitt.specs.Window.{moved}
+use Rattle.std.proofs.lemmas.Grind.{common_steps}
 
 -- ---- The word that begins seven bits.
 begins : (width word n : ℕ) → width ≤ 7 → word < 2 ^ width → n < 128 → n / 2 ^ (7 - width) ≡ word → is_prefix (low_bits width word) (seven_bits n) ≡ true
@@ -32,64 +32,35 @@ mode_begins mode width word n has le fits below e = by (after (low_bits width wo
     by None a = absurd (false≢true (rw (a, is_prefix) at (begins width word n le fits below e)))
     by (Some rest) a =
         let stands = after_is (low_bits width word) (seven_bits n) rest a in
-        let found : word_at mode_codes (seven_bits n) ≡ Some (mode, rest) = rw stands (word_at_again mode_codes mode (low_bits width word) rest modes_free has) in
-        let bits : telling_bits mode_codes (seven_bits n) ≡ length (seven_bits n) - length rest = rw (found, telling_bits) refl in
-        let first : Some mode ≡ option_map (λ f. f.0) (word_at mode_codes (seven_bits n)) = sym (ap (λ (o : Option (Mode × Bits)). option_map (λ f. f.0) o) found) in
-        let second : width ≡ telling_bits mode_codes (seven_bits n) = omega (arith, bits, ap length stands, length-append (low_bits width word) rest, length-low_bits width word) in
-        cc
+        grind (arith, common_steps, length-append, length-low_bits, modes_free, option_map, word_at_again)
 
 -- no word begins with six zeros
 pub mode_none : (n : ℕ) → n < 2 → ◌≡◌ {A = Option Mode × ℕ} (None, 6) (mode_told (seven_bits n))
 unfolding seven_bits
-mode_none zero h = refl
-mode_none (suc zero) h = refl
-mode_none (suc (suc n)) h = absurd (omega arith)
+mode_none n h = grind (arith, common_steps)
 
 -- ---- What they tell of the bits here.
 pub mode_cut : (here : Bits) → length here < telling_bits mode_codes (padded 7 here) → read_code mode_codes here ≡ Err UnexpectedEof
 mode_cut here h = tells_cut 7 mode_codes modes_tell here h
 
 pub mode_wrong : (here : Bits) → None ≡ (mode_told (padded 7 here)).0 → telling_bits mode_codes (padded 7 here) ≤ length here → read_code mode_codes here ≡ Err InvalidCode
-mode_wrong here e h = by (word_at mode_codes (padded 7 here)) refl
-  where
-    by : (o : Option (Mode × Bits)) → word_at mode_codes (padded 7 here) ≡ o → read_code mode_codes here ≡ Err InvalidCode
-    by (Some found) a = absurd (let there = ap (λ (o : Option (Mode × Bits)). option_map (λ f. f.0) o) a in cc)
-    by None a = tells_wrong 7 mode_codes modes_tell here a h
+mode_wrong here e h = grind (arith, common_steps)
 
 pub mode_found : (here : Bits) (mode : Mode) → Some mode ≡ (mode_told (padded 7 here)).0 → telling_bits mode_codes (padded 7 here) ≤ length here
     → read_code mode_codes here ≡ Ok (mode, drop (telling_bits mode_codes (padded 7 here)) here)
-mode_found here mode e h = by (word_at mode_codes (padded 7 here)) refl
-  where
-    by : (o : Option (Mode × Bits)) → word_at mode_codes (padded 7 here) ≡ o
-        → read_code mode_codes here ≡ Ok (mode, drop (telling_bits mode_codes (padded 7 here)) here)
-    by (Some found) a =
-        let there = ap (λ (o : Option (Mode × Bits)). option_map (λ f. f.0) o) a in
-        let same : found.0 ≡ mode = cc in
-        tells_found 7 mode_codes modes_tell here found a h ∙ ap (λ (m : Mode). Ok (m, drop (telling_bits mode_codes (padded 7 here)) here)) same
-    by None a = absurd (let there = ap (λ (o : Option (Mode × Bits)). option_map (λ f. f.0) o) a in cc)
+mode_found here mode e h = grind (arith, common_steps)
 
 -- at least one bit is needed
 pub some_mode_bits : (here : Bits) → 0 < telling_bits mode_codes (padded 7 here)
-some_mode_bits here = by (word_at mode_codes (padded 7 here)) refl
-  where
-    by : (o : Option (Mode × Bits)) → word_at mode_codes (padded 7 here) ≡ o → 0 < telling_bits mode_codes (padded 7 here)
-    by (Some found) e =
-        let (w, has, at) = word_at_found mode_codes (padded 7 here) found e in
-        omega (arith, telling_is 7 mode_codes modes_tell here found w e at, word_length mode_codes found.0 w refl has)
-    by None e = omega (arith, telling_none 7 mode_codes modes_tell here e)
+some_mode_bits here = grind (arith, common_steps)
 
 -- what is told of the mode here, where seven bits are
 pub mode_stands : (at : BitsAt) (told : Option Mode × ℕ) → told ≡ mode_told (padded 7 (here at)) → told.1 ≤ length (here at)
     → IfSome told.0 (λ mode. read_code mode_codes (here at) ≡ Ok (mode, here (moved told.1 at)))
 mode_stands at (None, width) e enough = tt
 mode_stands at (Some mode, width) e enough =
-    let first : ◌≡◌ {A = Option Mode} (Some mode) (mode_told (padded 7 (here at))).0 = ap (λ (t : Option Mode × ℕ). t.0) e in
-    let second : width ≡ telling_bits mode_codes (padded 7 (here at)) = ap (λ (t : Option Mode × ℕ). t.1) e in
-    mode_found (here at) mode first (omega (arith, enough, second))
-    ∙ ap (λ (n : ℕ). Ok (mode, drop n (here at))) (sym second)
-    ∙ ap (λ (bits : Bits). Ok (mode, bits)) (drop-drop width at.place at.bits)
+    grind (arith, common_steps, drop-drop width at.place at.bits, mode_found (here at) mode)
 
 -- V0 doesn't stand where no bit is
 pub v0_there : (here : Bits) → ◌≡◌ {A = Option Mode} (Some (Vertical (pos 0))) (mode_told (padded 7 here)).0 → 0 < length here
-v0_there [] e = absurd (let f : ◌≡◌ {A = Option Mode} (Some (Vertical (pos 0))) None = e in cc)
-v0_there (b ∷ here) e = omega arith
+v0_there here e = grind (arith, common_steps)

@@ -1,12 +1,11 @@
 -- Runs, a word at a time.
-use Rattle.std.proofs.Common.{sym, suc, ◌≡◌, ℕ, ◌+◌, ◌<◌, ◌≤◌, Bool, true, false, cond, not, List, [], ◌∷◌, length, Result, Ok, Err, ltb, refl, ap, subst, ◌∙◌, arith, ◌⊎◌, inl, inr}
+use Rattle.std.proofs.Common.{suc, ◌≡◌, ℕ, ◌+◌, ◌<◌, ◌≤◌, Bool, true, false, cond, not, List, [], ◌∷◌, length, Result, Ok, Err, refl, subst, ◌∙◌, arith, ◌⊎◌, inl, inr}
 use Rattle.std.specs.List.{list_all}
-use Rattle.std.proofs.lemmas.Bool.{and_parts, lt-ltb, le-ltb, false≢true}
+use Rattle.std.proofs.lemmas.Bool.{and_parts, lt-ltb, le-ltb}
 use Rattle.std.proofs.lemmas.List.{length-append}
 use Rattle.hayro_ccitt.specs.declared.error.DecodeError.{DecodeError}
 use Rattle.hayro_ccitt.specs.declared.error.DecodeError.TheVariants.{UnexpectedEof, Overflow}
 use Rattle.hayro_ccitt.specs.declared.codes.Color.{Color}
-use Rattle.hayro_ccitt.specs.declared.codes.Color.TheVariants.{White, Black}
 use Rattle.hayro_ccitt.specs.Bits.{Bits}
 use Rattle.hayro_ccitt.specs.CodeLists.{Code}
 use Rattle.hayro_ccitt.specs.CodeReading.{read_code, Has}
@@ -14,6 +13,7 @@ use Rattle.hayro_ccitt.specs.Repetition.{Turn}
 use Rattle.hayro_ccitt.specs.Runs.{codes_of, run_of_word, run_turn, run_from}
 use Rattle.hayro_ccitt.proofs.Readings.Repeated.{Shrinks, after_turn, repeated_turn, repeated_keeps}
 use Rattle.hayro_ccitt.proofs.CodeWords.ReadCodes.{read_code_found}
+use Rattle.std.proofs.lemmas.Grind.{common_steps}
 
 abbrev is_empty : Bits → Bool
 is_empty [] = true
@@ -24,12 +24,10 @@ abbrev pub has_no_empty_word : {V : Type 0} → List (Code V) → Bool
 has_no_empty_word list = list_all (λ c. not (is_empty c.word)) list
 
 pub words_not_empty : (color : Color) → has_no_empty_word (codes_of color) ≡ true
-words_not_empty White = refl
-words_not_empty Black = refl
+words_not_empty color = grind (arith, common_steps)
 
 not_empty : (w : Bits) → not (is_empty w) ≡ true → 0 < length w
-not_empty [] e = absurd (false≢true e)
-not_empty (b ∷ w) e = omega arith
+not_empty w e = grind (arith, common_steps)
 
 pub word_length : {V : Type 0} (list : List (Code V)) (v : V) (w : Bits) → has_no_empty_word list ≡ true → Has list v w → 0 < length w
 word_length [] v w e i = elim i [ ]
@@ -38,10 +36,7 @@ word_length (c ∷ list) v w e (inr i) = word_length list v w (and_parts (not (i
 
 -- what is left after a word is shorter
 pub read_code_shorter : {V : Type 0} (list : List (Code V)) (here : Bits) (v : V) (rest : Bits) → has_no_empty_word list ≡ true → read_code list here ≡ Ok (v, rest) → length rest < length here
-read_code_shorter list here v rest e h =
-    let a = read_code_found list here v rest h in
-    let l : length here ≡ length a.0 + length rest = ap length a.2 ∙ length-append a.0 rest in
-    omega (arith, word_length list v a.0 e a.1)
+read_code_shorter list here v rest e h = grind (arith, common_steps, length-append, read_code_found, word_length)
 
 -- the size of a state of a run
 abbrev pub size : ℕ × Bits → ℕ
@@ -52,11 +47,7 @@ RunTurn = Turn (ℕ × Bits) (Result (ℕ × Bits) DecodeError)
 
 -- which way a test went
 pub chosen : {A : Type 0} (b : Bool) (x y z : A) → cond b x y ≡ z → ((b ≡ true) × (x ≡ z)) ⊎ ((b ≡ false) × (y ≡ z))
-chosen true x y z e = inl (refl, e)
-chosen false x y z e = inr (refl, e)
-
-goes_to : (s t : ℕ × Bits) → ◌≡◌ {A = RunTurn} (Turn.next s) (Turn.next t) → s ≡ t
-goes_to s t e = cc
+chosen b x y z e = grind (arith, common_steps)
 
 pub not_done : (r : Result (ℕ × Bits) DecodeError) (t : ℕ × Bits) → ◌≡◌ {A = RunTurn} (Turn.done r) (Turn.next t) → ⊥
 not_done r t e = cc
@@ -65,17 +56,10 @@ pub done_is : (r q : Result (ℕ × Bits) DecodeError) → ◌≡◌ {A = RunTur
 done_is r q e = cc
 
 pub word_next : (total : ℕ) (found t : ℕ × Bits) → run_of_word total found ≡ Turn.next t → (total + found.0, found.1) ≡ t
-word_next total found t e = elim (chosen (ltb 4294967295 (total + found.0)) _ _ _ e) [
-  | inl a ↦ absurd (not_done _ t a.1)
-  | inr a ↦ elim (chosen (ltb found.0 64) _ _ _ a.1) [
-    | inl b ↦ absurd (not_done _ t b.1)
-    | inr b ↦ goes_to _ t b.1
-  ]
-]
+word_next total found t e = grind (arith, common_steps)
 
 shrinks_by : (color : Color) (total : ℕ) (here : Bits) (t : ℕ × Bits) (r : Result (ℕ × Bits) DecodeError) → read_code (codes_of color) here ≡ r → run_turn color (total, here) ≡ Turn.next t → length t.1 < length here
-shrinks_by color total here t (Err e) h k =
-    let g : ◌≡◌ {A = RunTurn} (Turn.done (Err e)) (Turn.next t) = rw (h, run_turn) at k in absurd (not_done _ t g)
+shrinks_by color total here t (Err e) h k = grind (arith, common_steps)
 shrinks_by color total here t (Ok found) h k =
     let g : run_of_word total found ≡ Turn.next t = rw (h, run_turn) at k in
     subst (λ (s : ℕ × Bits). length s.1 < length here) (word_next total found t g) (read_code_shorter (codes_of color) here found.0 found.1 (words_not_empty color) h)
@@ -105,13 +89,7 @@ leaves_below n (Ok found) = length found.1 < n
 leaves_below n (Err e) = Unit {0}
 
 word_done : (total n : ℕ) (found : ℕ × Bits) (r : Result (ℕ × Bits) DecodeError) → length found.1 < n → run_of_word total found ≡ Turn.done r → leaves_below n r
-word_done total n found r h e = elim (chosen (ltb 4294967295 (total + found.0)) _ _ _ e) [
-  | inl a ↦ subst (leaves_below n) (done_is _ r a.1) tt
-  | inr a ↦ elim (chosen (ltb found.0 64) _ _ _ a.1) [
-    | inl b ↦ subst (leaves_below n) (done_is _ r b.1) h
-    | inr b ↦ absurd (not_done r _ (sym b.1))
-  ]
-]
+word_done total n found r h e = grind (arith, common_steps)
 
 turn_done : (color : Color) (total n : ℕ) (here : Bits) (r : Result (ℕ × Bits) DecodeError) (q : Result (ℕ × Bits) DecodeError) → length here ≤ n → read_code (codes_of color) here ≡ q → run_turn color (total, here) ≡ Turn.done r → leaves_below n r
 turn_done color total n here r (Err fault) h e k = subst (leaves_below n) (done_is _ r (rw (e, run_turn) at k)) tt

@@ -7,6 +7,7 @@ use Rattle.hayro_ccitt.specs.EndOfLine.{after_eol, all_eols}
 use Rattle.hayro_ccitt.proofs.DamagedLines.PastEol.{past, all_eols-some, all_eols-none}
 use Rattle.hayro_ccitt.proofs.BitReading.ZerosInWords.{scan, scan_holds}
 use Rattle.hayro_ccitt.proofs.DamagedLines.LinesBeforeEol.{Inside}
+use Rattle.std.proofs.lemmas.Grind.{common_steps}
 
 -- bits that end with the zeros of an EOL
 abbrev pub Closes : Bits → Type 0
@@ -48,11 +49,7 @@ module _ (x y : Bits) where
 
   -- an EOL that stands before the one in the one data stands there in the other
   pub after_eol_alike : (seen : ℕ) (bits : Bits) → EolAlike bits (after_eol seen (bits ++ true ∷ x)) (after_eol seen (bits ++ true ∷ y))
-  after_eol_alike seen [] = by (leb 11 seen)
-    where
-      by : (b : Bool) → EolAlike [] (cond b (Some x) None) (cond b (Some y) None)
-      by true = inr (inl (refl, refl))
-      by false = inr (inr (refl, refl))
+  after_eol_alike seen [] = grind (arith, common_steps)
   after_eol_alike seen (false ∷ bits) = elim (after_eol_alike (suc seen) bits) [
     | inl a ↦ inl (false ∷ a.0, a.1, ap (λ (z : Bits). false ∷ z) a.2, a.3, a.4)
     | inr a ↦ inr a
@@ -70,11 +67,7 @@ module _ (x y : Bits) where
 
   -- the next EOL ends alike in both
   pub past_alike : (seen : ℕ) (bits : Bits) → PastAlike bits (past seen (bits ++ true ∷ x)) (past seen (bits ++ true ∷ y))
-  past_alike seen [] = by (leb 11 seen)
-    where
-      by : (b : Bool) → PastAlike [] (cond b (Some x) (past 0 x)) (cond b (Some y) (past 0 y))
-      by true = inr (inl (refl, refl))
-      by false = inr (inr (refl, refl))
+  past_alike seen [] = grind (arith, common_steps)
   past_alike seen (false ∷ bits) = elim (past_alike (suc seen) bits) [
     | inl a ↦ inl (false ∷ a.0, a.1, ap (λ (z : Bits). false ∷ z) a.2, a.3, a.4)
     | inr a ↦ inr a
@@ -119,16 +112,10 @@ module _ (x y : Bits) where
               ],
             )
         by on o p e f (inr (inl a)) =
-            rw (
-              all_eols-some (bits ++ true ∷ x) x (e ∙ a.0),
-              all_eols-some (bits ++ true ∷ y) y
-                  (f ∙ a.1),
-              all_eols-none x none_x,
-              all_eols-none y none_y,
-            ) (refl, inr (refl, refl))
-        by on o p e f (inr (inr a)) =
-            rw (all_eols-none (bits ++ true ∷ x) (e ∙ a.0), all_eols-none (bits ++ true ∷ y) (f ∙ a.1))
-            (refl, inl (bits, omega arith, λ closes. closes, refl, refl))
+            let step = all_eols-some (bits ++ true ∷ x) x (e ∙ a.0) in
+            let step2 = all_eols-some (bits ++ true ∷ y) y (f ∙ a.1) in
+            grind (arith, common_steps, all_eols-none x none_x, all_eols-none y none_y, step, step2)
+        by on o p e f (inr (inr a)) = grind (arith, common_steps, all_eols-none)
 
     -- the EOLs that stand in a row are alike in both
     pub all_eols_alike : (bits : Bits) → CountAlike bits (all_eols (bits ++ true ∷ x)) (all_eols (bits ++ true ∷ y))

@@ -1,11 +1,12 @@
 -- What follows the next EOL.
-use Rattle.std.proofs.Common.{◌≡◌, ℕ, zero, suc, ◌+◌, ◌<◌, ◌≤◌, true, false, cond, leb, [], ◌∷◌, ◌++◌, length, Option, Some, None, refl, sym, ap, ◌∙◌}
-use Rattle.std.proofs.Common.{arith, inl, inr}
+use Rattle.std.proofs.Common.{◌≡◌, ℕ, zero, suc, ◌+◌, ◌≤◌, true, false, cond, leb, [], ◌∷◌, ◌++◌, length, Option, Some, None, refl}
+use Rattle.std.proofs.Common.{arith}
 use Rattle.std.proofs.lemmas.Bool.{cases_lt, lt-leb, le-leb}
 use Rattle.std.proofs.lemmas.List.{length-append}
 use Rattle.hayro_ccitt.specs.Bits.{Bits}
 use Rattle.hayro_ccitt.specs.EndOfLine.{after_eol, one_more, eols, all_eols, next_eol}
 use Rattle.hayro_ccitt.proofs.Readings.TurnsMoveOn.{eols-some, eols-none, after_eol_shorter}
+use Rattle.std.proofs.lemmas.Grind.{common_steps}
 
 -- what follows the next EOL that ends further on, so many zeros having been seen
 abbrev pub past : ℕ → Bits → Option Bits
@@ -17,19 +18,13 @@ past seen (true ∷ here) = cond (leb 11 seen) (Some here) (past 0 here)
 pub past-eol : (seen : ℕ) (here after : Bits) → after_eol seen here ≡ Some after → past seen here ≡ Some after
 past-eol seen [] after e = absurd cc
 past-eol seen (false ∷ here) after e = past-eol (suc seen) here after e
-past-eol seen (true ∷ here) after e = elim (cases_lt seen 11) [
-  | inl lt ↦ absurd (let f : ◌≡◌ {A = Option Bits} None (Some after) = rw (lt-leb 11 seen lt) at e in cc)
-  | inr ge ↦ rw (le-leb 11 seen ge) (rw (le-leb 11 seen ge) at e)
-]
+past-eol seen (true ∷ here) after e = grind (arith, common_steps)
 
 -- where none stands, a zero less makes no difference
 past-none : (seen : ℕ) (here : Bits) → after_eol (suc seen) here ≡ None → past (suc seen) here ≡ past seen here
 past-none seen [] e = refl
 past-none seen (false ∷ here) e = past-none (suc seen) here e
-past-none seen (true ∷ here) e = elim (cases_lt (suc seen) 11) [
-  | inl lt ↦ let lt2 : seen < 11 = omega arith in rw (lt-leb 11 (suc seen) lt, lt-leb 11 seen lt2) refl
-  | inr ge ↦ absurd (let f : ◌≡◌ {A = Option Bits} (Some here) None = rw (le-leb 11 (suc seen) ge) at e in cc)
-]
+past-none seen (true ∷ here) e = grind (arith, common_steps)
 
 -- what follows the EOL that was found
 abbrev pub then_after : Option Bits → Option Bits
@@ -44,8 +39,7 @@ past_is (false ∷ here) = by (past_is here) (after_eol 0 (false ∷ here)) refl
   where
     by : past 0 here ≡ then_after (next_eol here) → (o : Option Bits) → after_eol 0 (false ∷ here) ≡ o
         → past 0 (false ∷ here) ≡ then_after (next_eol (false ∷ here))
-    by same None e = rw (e, next_eol) (past-none 0 here e ∙ same)
-    by same (Some after) e = rw (e, next_eol) (past-eol 0 (false ∷ here) after e ∙ sym e)
+    by same given e = grind (arith, common_steps, past-eol, past-none)
 
 -- the number of EOLs asked for doesn't matter, if there are no more bits
 pub eols_same : (n m : ℕ) (here : Bits) → length here ≤ n → length here ≤ m → eols n here ≡ eols m here
@@ -58,17 +52,11 @@ eols_same (suc n) (suc m) here h k = by (λ rest. eols_same n m rest) (after_eol
   where
     by : ((rest : Bits) → length rest ≤ n → length rest ≤ m → eols n rest ≡ eols m rest) → (o : Option Bits) → after_eol 0 here ≡ o
         → eols (suc n) here ≡ eols (suc m) here
-    by on None e = eols-none (suc n) here e ∙ sym (eols-none (suc m) here e)
-    by on (Some rest) e =
-        let shorter = after_eol_shorter 0 here rest e in
-        eols-some n here rest e ∙ ap one_more (on rest (omega arith) (omega arith)) ∙ sym (eols-some m here rest e)
+    by on o e = grind (arith, common_steps, after_eol_shorter, eols-none, eols-some)
 
 -- where an EOL stands, it is counted, and those after it
 pub all_eols-some : (here rest : Bits) → after_eol 0 here ≡ Some rest → all_eols here ≡ one_more (all_eols rest)
-all_eols-some [] rest e = absurd cc
-all_eols-some (b ∷ here) rest e =
-    let shorter = after_eol_shorter 0 (b ∷ here) rest e in
-    eols-some (length here) (b ∷ here) rest e ∙ ap one_more (eols_same (length here) (length rest) rest (omega arith) (omega arith))
+all_eols-some here rest e = grind (arith, common_steps, after_eol_shorter, common_steps, eols-some, eols_same)
 
 -- where none stands, none is counted
 pub all_eols-none : (here : Bits) → after_eol 0 here ≡ None → all_eols here ≡ (0, here)
@@ -79,23 +67,11 @@ pub past_here : (seen fewer : ℕ) (here after : Bits) → fewer ≤ seen → pa
     → past fewer here ≡ Some after
 past_here seen fewer [] after le e far = absurd cc
 past_here seen fewer (false ∷ here) after le e far = past_here (suc seen) (suc fewer) here after (omega arith) e (omega arith)
-past_here seen fewer (true ∷ here) after le e far = elim (cases_lt seen 11) [
-  | inl lt ↦ let lt2 : fewer < 11 = omega arith in rw (lt-leb 11 fewer lt2) (rw (lt-leb 11 seen lt) at e)
-  | inr ge ↦
-      let f : ◌≡◌ {A = Option Bits} (Some here) (Some after) = rw (le-leb 11 seen ge) at e in
-      let same : here ≡ after = cc in
-      let ge2 : 11 ≤ fewer = omega (arith, far, ap length same) in
-      rw (le-leb 11 fewer ge2) f
-]
+past_here seen fewer (true ∷ here) after le e far = grind (arith, common_steps)
 
 -- an EOL with its last twelve bits still to come is the next one from further on too
 pub past_later : (seen : ℕ) (before here after : Bits) → past seen (before ++ here) ≡ Some after → length after + 12 ≤ length here → past 0 here ≡ Some after
 past_later seen [] here after e far = past_here seen 0 here after (omega arith) e (omega (arith, far))
 past_later seen (false ∷ before) here after e far = past_later (suc seen) before here after e far
-past_later seen (true ∷ before) here after e far = elim (cases_lt seen 11) [
-  | inl lt ↦ past_later 0 before here after (rw (lt-leb 11 seen lt) at e) far
-  | inr ge ↦ absurd (
-      let f : ◌≡◌ {A = Option Bits} (Some (before ++ here)) (Some after) = rw (le-leb 11 seen ge) at e in
-      let same : before ++ here ≡ after = cc in
-      omega (arith, far, ap length same, length-append before here))
-]
+past_later seen (true ∷ before) here after e far =
+    grind (arith, common_steps, cases_lt, le-leb, length-append, lt-leb, past_later 0 before here after)

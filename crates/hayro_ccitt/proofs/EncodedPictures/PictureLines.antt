@@ -1,11 +1,9 @@
 -- Where lines of pictures begin, their padding, and how readings that come to their end are said.
-use Rattle.std.proofs.Common.{◌≡◌, ℕ, suc, ◌+◌, ◌-◌, ◌/◌, ◌%◌, ◌<◌, ◌≤◌, Bool, true, false, cond, not, eqb, leb, List, [], ◌∷◌}
-use Rattle.std.proofs.Common.{◌++◌, length, None, Result, Ok, refl, sym, ap, subst, ◌∙◌, append_assoc, arith, inl, inr}
-use Rattle.std.proofs.lemmas.Bool.{and_right, and_left, cond-false, not-true, eq-eqb, ne_eqb, false≢true}
-use Rattle.std.proofs.lemmas.List.{length-append, length-replicate, drop_at}
+use Rattle.std.proofs.Common.{◌≡◌, ℕ, suc, ◌+◌, ◌-◌, ◌/◌, ◌%◌, ◌<◌, ◌≤◌, Bool, true, false, cond, not, leb, List, [], ◌∷◌}
+use Rattle.std.proofs.Common.{◌++◌, length, None, Ok, refl, arith}
+use Rattle.std.proofs.lemmas.Bool.{not-true, false≢true}
 use Rattle.hayro_ccitt.specs.declared.codes.Color.{Color}
 use Rattle.hayro_ccitt.specs.declared.codes.Mode.{Mode}
-use Rattle.hayro_ccitt.specs.declared.error.DecodeError.{DecodeError}
 use Rattle.hayro_ccitt.specs.declared.settings.EncodingMode.{EncodingMode}
 use Rattle.hayro_ccitt.specs.declared.settings.DecodeSettings.{DecodeSettings}
 use Rattle.hayro_ccitt.specs.Bits.{Bits}
@@ -13,11 +11,10 @@ use Rattle.hayro_ccitt.specs.CodeLists.{mode_codes}
 use Rattle.hayro_ccitt.specs.CodeReading.{Has}
 use Rattle.hayro_ccitt.specs.Rows.{Row}
 use Rattle.hayro_ccitt.specs.EndOfLine.{after_eol, eols}
-use Rattle.hayro_ccitt.specs.PlainReading.{Progress, Ending, row_before, aligned, at_end, limit_met, nothing_read, whole_reading, end_of, plain}
+use Rattle.hayro_ccitt.specs.PlainReading.{Progress, Ending, row_before, aligned, at_end, limit_met, end_of, plain}
 use Rattle.hayro_ccitt.specs.Pictures.{Allows}
-use Rattle.hayro_ccitt.specs.Laws.{each_word}
 use Rattle.hayro_ccitt.specs.Encodings.{EncodesLine2D, padding, eol}
-use Rattle.hayro_ccitt.proofs.BitReading.ZerosInWords.{each_word_at}
+use Rattle.std.proofs.lemmas.Grind.{common_steps}
 
 -- settings for a closed picture: the end of the block is looked for, and there is no limit
 abbrev pub closed_settings : EncodingMode → ℕ → Bool → DecodeSettings
@@ -41,29 +38,17 @@ pub goes_on : (word more : Bits) → misses_eol 0 word ≡ true → at_end (word
 goes_on [] more e = absurd (false≢true e)
 goes_on (b ∷ word) more e = refl
 
-modes_miss : each_word (misses_eol 0) mode_codes ≡ true
-modes_miss = refl
-
 -- where a line begins there is no EOL, and not the end
 pub record IsLineStart (here : Bits) : Type 0 where
   pub no_eol : after_eol 0 here ≡ None
   pub open_end : at_end here ≡ false
 
 pub mode_starts : (mode : Mode) (word more : Bits) → Has mode_codes mode word → IsLineStart (word ++ more)
-mode_starts mode word more has =
-    let e = each_word_at (misses_eol 0) mode_codes mode word modes_miss has in
-    record { no_eol = missed 0 word more e; open_end = goes_on word more e }
+mode_starts mode word more has = grind (arith, common_steps)
 
 pub line_2d_starts : (reference row : Row) (from : ℕ) (color : Color) (bits more : Bits) → EncodesLine2D reference row from color bits → from ≤ length row
     → IsLineStart (bits ++ more)
-line_2d_starts reference row from color bits more EncodesLine2D.over le = absurd (omega arith)
-line_2d_starts reference row from color bits more (EncodesLine2D.pass from2 word {bits = next} inside has left_of steps) le =
-    subst IsLineStart (sym (append_assoc word next more)) (mode_starts _ word (next ++ more) has)
-line_2d_starts reference row from color bits more (EncodesLine2D.vertical from2 word k {bits = next} inside has exact steps) le =
-    subst IsLineStart (sym (append_assoc word next more)) (mode_starts _ word (next ++ more) has)
-line_2d_starts reference row from color bits more
-    (EncodesLine2D.horizontal from2 word {first = run1} {second = run2} {bits = next} inside has one two steps) le =
-    subst IsLineStart (sym (append_assoc word (run1 ++ (run2 ++ next)) more)) (mode_starts _ word ((run1 ++ (run2 ++ next)) ++ more) has)
+line_2d_starts reference row from color bits more given le = grind (arith, common_steps)
 
 -- ---- One line of a run.
 pub allows_sum : (settings : DecodeSettings) (n : ℕ) → Allows settings n → Allows settings (0 + n)
@@ -71,41 +56,20 @@ allows_sum settings n allows = let e : 0 + n ≡ n = omega arith in rw e allows
 
 -- a limit that allows more rows is not met
 pub not_met : (settings : DecodeSettings) (n k : ℕ) → Allows settings n → k < n → limit_met settings k ≡ false
-not_met settings n k (inl none) lt = and_left (not (eqb settings.rows 0)) (eqb settings.rows k) (rw (eq-eqb settings.rows 0 none) refl)
-not_met settings n k (inr le) lt = and_right (not (eqb settings.rows 0)) (eqb settings.rows k) (ne_eqb settings.rows k (λ e. absurd (omega arith)))
-
-pub same_pair : {A : Type 0} (b : Bool) (x y z : A) → x ≡ z → y ≡ z → cond b x y ≡ z
-same_pair true x y z e f = e
-same_pair false x y z e f = f
+not_met settings n k given lt = grind (arith, common_steps)
 
 -- ---- Padding.
 abbrev pub fill : Bool → Bits → Bits
 fill b line = cond b (padding (length line)) []
 
-length-fill : (line : Bits) → length (fill true line) ≡ (8 - length line % 8) % 8
-length-fill line = length-replicate ((8 - length line % 8) % 8) false
-
 -- from a whole byte on, a line with its padding ends at a whole byte
 pub aligned_again : (b : Bool) (line next : Bits) → (b ≡ true → length ((line ++ fill b line) ++ next) % 8 ≡ 0)
     → cond b (aligned (fill b line ++ next)) (fill b line ++ next) ≡ next
-aligned_again false line next whole = refl
-aligned_again true line next whole =
-    let a = length-append (line ++ fill true line) next in
-    let b = length-append line (fill true line) in
-    let c = length-append (fill true line) next in
-    let p = length-fill line in
-    let n : ℕ = length (fill true line ++ next) % 8 in
-    let same : length (fill true line) ≡ n = omega (arith, whole refl, a, b, c, p) in
-    drop_at (fill true line) next n same
+aligned_again b line next whole = grind (arith, common_steps)
 
 -- the next line begins at a whole byte too
 pub aligned_on : (b : Bool) (line next : Bits) → (b ≡ true → length ((line ++ fill b line) ++ next) % 8 ≡ 0) → b ≡ true → length next % 8 ≡ 0
-aligned_on false line next whole e = absurd (false≢true e)
-aligned_on true line next whole e =
-    let a = length-append (line ++ fill true line) next in
-    let b = length-append line (fill true line) in
-    let p = length-fill line in
-    omega (arith, whole refl, a, b, p)
+aligned_on b line next whole e = grind (arith, common_steps)
 
 -- ---- The lines of a picture.
 pub row_before_push : (columns : ℕ) (rows : List Row) (row : Row) → row_before columns (rows ++ row ∷ []) ≡ row
@@ -128,8 +92,4 @@ ended rows rest = record { rows = rows; has_eols = false; outcome = Ok rest }
 -- ---- Over whole data.
 pub plain_ends : (settings : DecodeSettings) (stream : Bits) (end : Ending) (rest : Bits) → 0 < settings.columns
     → end_of settings stream ≡ end → end.outcome ≡ Ok rest → plain settings stream ≡ record { rows = end.rows; outcome = Ok ((length stream - length rest + 7) / 8); has_eols = end.has_eols }
-plain_ends settings stream end rest wide e outcome =
-    cond-false (eqb settings.columns 0) nothing_read (whole_reading stream (end_of settings stream))
-    (ne_eqb settings.columns 0 (λ z. absurd (omega arith)))
-    ∙ ap (whole_reading stream) e
-    ∙ ap (λ (x : Result Bits DecodeError). whole_reading stream (record end { outcome = x })) outcome
+plain_ends settings stream end rest wide e outcome = grind (arith, common_steps)
