@@ -9,7 +9,7 @@ use Rattle.hayro_ccitt.specs.declared.codes.Color.TheVariants.{White, Black}
 use Rattle.hayro_ccitt.specs.Bits.{Bits, low_bits}
 use Rattle.hayro_ccitt.specs.CodeLists.{Code, numbered}
 use Rattle.hayro_ccitt.specs.CodeReading.{after, agreement, word_at, Has, apart, is_prefix, is_prefix_free}
-use Rattle.hayro_ccitt.specs.LookUps.{thirteen_bits, longest_agreement, telling_bits, entry_of, with_row, with_rows, run_or_none}
+use Rattle.hayro_ccitt.specs.LookUps.{thirteen_bits, longest_agreement, entry_of, with_row, with_rows}
 use Rattle.hayro_ccitt.specs.Runs.{codes_of}
 use Rattle.hayro_ccitt.proofs.CodeWords.ReadCodes.{after_is, apart_misses, word_at_again}
 use Rattle.hayro_ccitt.proofs.BitReading.BitLists.{length-low_bits}
@@ -171,14 +171,8 @@ seven_zeros color = grind (arith, common_steps)
 -- the entry if there is no word of a run
 entry_of_none : (color : Color) (here : Bits) → length here ≡ 13 → word_at (codes_of color) here ≡ None → entry_of (codes_of color) here ≡ 36863
 entry_of_none color here h e =
-    grind (
-      arith,
-      common_steps,
-      eight_zeros_there color here h e,
-      longest_ended (codes_of color) eight_zeros,
-      seven_zeros color,
-      zeros_end color,
-    )
+    let step = longest_ended (codes_of color) eight_zeros in
+    grind (arith, common_steps, eight_zeros_there color here h e, step, seven_zeros color, zeros_end color)
 
 entry_of_found : (list : List (Code ℕ)) (here : Bits) (found : ℕ × Bits) → word_at list here ≡ Some found → entry_of list here ≡ (length here - length found.1) * 4096 + found.0
 entry_of_found list here found e = grind (arith, common_steps)

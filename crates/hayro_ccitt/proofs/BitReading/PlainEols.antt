@@ -1,5 +1,5 @@
 -- EOLs without fill.
-use Rattle.std.proofs.Common.{◌≡◌, ℕ, suc, ◌+◌, ◌-◌, ◌*◌, ◌/◌, ◌%◌, ◌^◌, ◌<◌, ◌≤◌, true, false, eqb, [], ◌∷◌, ◌++◌, length, get_or, drop, replicate, min, Some, None, refl, sym, ap, ◌∙◌, arith, inl, inr}
+use Rattle.std.proofs.Common.{◌≡◌, ℕ, ◌+◌, ◌-◌, ◌*◌, ◌/◌, ◌%◌, ◌^◌, ◌<◌, ◌≤◌, true, false, eqb, ◌∷◌, ◌++◌, length, get_or, drop, replicate, min, Some, None, sym, ap, ◌∙◌, arith, inl, inr}
 use lib.Count.{count_leading_zeros, count_trailing_zeros}
 use Rattle.std.specs.Int.{bit_at, w32}
 use Rattle.std.proofs.lemmas.Bool.{cases_lt}
@@ -8,7 +8,7 @@ use Rattle.std.proofs.lemmas.Nat.{leading_top, shr-shr}
 use Rattle.std.proofs.Math.Nat.{pow-le-pow_right}
 use Rattle.std.proofs.lemmas.Nat.Bits.{bit_at_above, bit_at_cat_low, bit_at-trailing_zeros}
 use Rattle.hayro_ccitt.specs.Bits.{Bits, BitsAt, here, bit_of}
-use Rattle.hayro_ccitt.specs.EndOfLine.{after_eol, one_more, all_eols, eols, past_tag, eols_with_tags, pass_last_tag, tagged_eols}
+use Rattle.hayro_ccitt.specs.EndOfLine.{after_eol, all_eols, past_tag, pass_last_tag, tagged_eols}
 use Rattle.hayro_ccitt.proofs.BitReading.SoughtEols.{one_near}
 use Rattle.hayro_ccitt.proofs.BitReading.ZeroRuns.{after_eol_run, eols_one, eols_enough}
 use Rattle.hayro_ccitt.proofs.BitReading.ZerosPassed.{Holds, run_ahead}
@@ -75,18 +75,10 @@ module _ (at : BitsAt) (w : ℕ) (small : w < 2 ^ 32) (held : Holds w at) where
     -- no EOL begins after the twelve bits before it, nor a bit later
     pub none_behind : (next : BitsAt) → next.bits ≡ at.bits → next.place ≡ at.place + 12 → (after_eol 0 (here next) ≡ None) × (after_eol 0 (drop 1 (here next)) ≡ None)
     none_behind next same place =
-        grind (
-          arith,
-          common_steps,
-          get_or-drop next.place next.bits (10 - zeros_behind) false,
-          get_or-drop 1 (here next) (9 -
-              zeros_behind) false,
-          one_near 0 (10 - zeros_behind) (here next) (omega arith),
-          one_near 0 (9 - zeros_behind) (drop 1
-              (here next)) (omega arith),
-          one_there,
-          within_ten,
-        )
+        let step = one_near 0 (9 - zeros_behind) (drop 1 (here next)) (omega arith) in
+        let step2 = get_or-drop next.place next.bits (10 - zeros_behind) false in
+        let step3 = one_near 0 (10 - zeros_behind) (here next) (omega arith) in
+        grind (arith, common_steps, step2, get_or-drop 1 (here next) (9 - zeros_behind) false, step3, step, one_there, within_ten)
 
 -- ---- The EOLs.
 -- eleven zeros and a one are an EOL

@@ -1,10 +1,10 @@
 -- EOLs with tags between them, read one after another, and what is examined.
-use Rattle.std.proofs.Common.{◌≡◌, ℕ, suc, ◌+◌, ◌-◌, ◌*◌, ◌<◌, ◌≤◌, true, false, [], ◌∷◌, length, Option}
-use Rattle.std.proofs.Common.{Some, None, refl, sym, ap, ◌∙◌, arith}
+use Rattle.std.proofs.Common.{◌≡◌, ℕ, suc, ◌+◌, ◌-◌, ◌*◌, ◌<◌, ◌≤◌, true, false, ◌∷◌, length}
+use Rattle.std.proofs.Common.{Some, None, refl, arith}
 use Rattle.std.specs.Prelude.{is_some}
-use Rattle.std.proofs.lemmas.Bool.{false≢true, le-leb}
+use Rattle.std.proofs.lemmas.Bool.{le-leb}
 use Rattle.hayro_ccitt.specs.Bits.{Bits}
-use Rattle.hayro_ccitt.specs.EndOfLine.{after_eol, one_more, eols, past_tag, eols_with_tags, pass_last_tag}
+use Rattle.hayro_ccitt.specs.EndOfLine.{after_eol, eols, past_tag, eols_with_tags, pass_last_tag}
 use Rattle.hayro_ccitt.specs.Ticks.{looked, looked_at_tag}
 use Rattle.hayro_ccitt.proofs.Readings.TurnsMoveOn.{eols_with_tags-some}
 use Rattle.hayro_ccitt.proofs.BitReading.ZeroRuns.{looked_eol}

@@ -1,9 +1,8 @@
 -- The numbers whose bits begin with a word, and the entries that are written at them.
-use Rattle.std.proofs.Common.{◌≡◌, ℕ, zero, suc, ◌+◌, ◌-◌, ◌*◌, ◌/◌, ◌%◌, ◌^◌, ◌<◌, ◌≤◌, ◌⊎◌, inl, inr, true, false, eqb, [], ◌∷◌, ◌++◌, length, Option, Some, None, bit_or, refl, sym, ap, subst, ◌∙◌, arith}
+use Rattle.std.proofs.Common.{◌≡◌, ℕ, zero, suc, ◌+◌, ◌-◌, ◌*◌, ◌/◌, ◌%◌, ◌^◌, ◌<◌, ◌≤◌, ◌⊎◌, true, false, eqb, [], ◌∷◌, ◌++◌, length, Option, Some, None, bit_or, refl, sym, ◌∙◌, arith}
 use Rattle.std.specs.Int.{bit_at}
-use Rattle.std.proofs.lemmas.Bool.{cases_eq, eq-eqb, ne_eqb, false≢true}
-use Rattle.std.proofs.lemmas.Nat.{shr-shr, mod-pow-add, div_below, le-div, div-add-mod', mod_below, pow_pos, pow-add, mul-le, or_shifted, shl_whole, one_shl}
-use Rattle.std.proofs.lemmas.Bool.{and_parts, leb-true, ltb-true}
+use Rattle.std.proofs.lemmas.Bool.{cases_eq, eq-eqb, ne_eqb}
+use Rattle.std.proofs.lemmas.Nat.{shr-shr, mod-pow-add, div_below, pow_pos, pow-add, mul-le, shl_whole, one_shl}
 use Rattle.std.proofs.lemmas.Nat.Bits.{bit_at-lt}
 use Rattle.std.proofs.Math.Nat.{mod-eq_of_lt}
 use Rattle.hayro_ccitt.specs.Bits.{Bits, bit_of, low_bits}
@@ -30,17 +29,9 @@ bit_number a b h k e = grind (arith, common_steps)
 pub low_bits-same : (width a b : ℕ) → low_bits width a ≡ low_bits width b → a % 2 ^ width ≡ b % 2 ^ width
 low_bits-same zero a b e = omega arith
 low_bits-same (suc width) a b e =
-    grind (
-      arith,
-      common_steps,
-      bit_at-lt a width,
-      bit_at-lt b width,
-      bit_number (bit_at a width) (bit_at b width) (bit_at-lt a
-          width) (bit_at-lt b width),
-      mod-pow-add a 1 width,
-      mod-pow-add b 1 width,
-      low_bits-same width a b,
-    )
+    let step = bit_number (bit_at a width) (bit_at b width) (bit_at-lt a width) (bit_at-lt b width) in
+    let step2 = low_bits-same width a b in
+    grind (arith, common_steps, bit_at-lt a width, bit_at-lt b width, step, mod-pow-add a 1 width, mod-pow-add b 1 width, step2)
 
 same_front : (a b x y : Bits) → length a ≡ length b → a ++ x ≡ b ++ y → a ≡ b
 same_front [] [] x y h e = refl
@@ -60,20 +51,7 @@ word_begins width rest word n fits below some = rw (low_bits-append width rest n
         → is_prefix (low_bits width word) (low_bits width (n / 2 ^ rest) ++ low_bits rest n) ≡ false
     differ None e other = rw (e, is_prefix) refl
     differ (Some more) e other =
-        grind (
-          arith,
-          common_steps,
-          after_is (low_bits width word) (low_bits width (n / 2 ^ rest) ++ low_bits rest n) more e,
-          length-low_bits width (n / 2 ^ rest),
-          length-low_bits width word,
-          low_bits-same width (n / 2 ^ rest) word,
-          mod-eq_of_lt
-              small,
-          mod-eq_of_lt fits,
-          same_front (low_bits width (n / 2 ^ rest)) (low_bits width word) (low_bits rest n) more
-              (length-low_bits width (n / 2 ^ rest) ∙ sym (length-low_bits width word)),
-          small,
-        )
+        grind (arith, common_steps, after_is (low_bits width word) (low_bits width (n / 2 ^ rest) ++ low_bits rest n) more e, length-low_bits width (n / 2 ^ rest), length-low_bits width word, low_bits-same width (n / 2 ^ rest) word, mod-eq_of_lt small, mod-eq_of_lt fits, same_front (low_bits width (n / 2 ^ rest)) (low_bits width word) (low_bits rest n) more (length-low_bits width (n / 2 ^ rest) ∙ sym (length-low_bits width word)), small)
 
     by : (n / 2 ^ rest ≡ word) ⊎ (n / 2 ^ rest ≡ word → ⊥)
         → is_prefix (low_bits width word) (low_bits width (n / 2 ^ rest) ++ low_bits rest n) ≡ eqb (n / 2 ^ rest) word
@@ -105,13 +83,8 @@ is_row_is run width word e = grind (arith, common_steps)
 -- the numbers whose bits begin with a word are below 8192
 pub range_fits : (run width word : ℕ) → IsRow run width word → word * 2 ^ (13 - width) + 2 ^ (13 - width) ≤ 8192
 range_fits run width word is =
-    grind (
-      arith,
-      common_steps,
-      mul-le (word + 1) (2 ^ (13 - width)) (2 ^ width) (2 ^ (13 - width)) (omega (arith, is.fits))
-          (omega arith),
-      pow-add 2 width (13 - width),
-    )
+    let step = mul-le (word + 1) (2 ^ (13 - width)) (2 ^ width) (2 ^ (13 - width)) (omega (arith, is.fits)) (omega arith) in
+    grind (arith, common_steps, step, pow-add 2 width (13 - width))
 
 -- what the shifts compute
 pub shifted_entry : (run width word : ℕ) → IsRow run width word → bit_or (width * 4096 % 65536) run ≡ width * 4096 + run

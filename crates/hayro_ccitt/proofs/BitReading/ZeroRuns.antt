@@ -1,14 +1,13 @@
 -- Zeros and EOLs that are counted a bit and an EOL at a time.
 use Rattle.std.proofs.Common.{◌≡◌, ℕ, zero, suc, ◌+◌, ◌-◌, ◌<◌, ◌≤◌, Bool, true, false, cond, leb, eqb, [], ◌∷◌, ◌++◌, length, replicate, Option}
-use Rattle.std.proofs.Common.{Some, None, refl, sym, ap, ◌∙◌, subst, arith, inl, inr}
+use Rattle.std.proofs.Common.{Some, None, refl, sym, ap, ◌∙◌, arith}
 use Rattle.std.specs.Prelude.{slice_get}
 use Rattle.std.proofs.lemmas.Bool.{eqb-true}
 use Rattle.hayro_ccitt.specs.Bits.{Bits, BitsAt, here}
 use Rattle.hayro_ccitt.specs.CodeReading.{leading_zeros}
-use Rattle.hayro_ccitt.specs.EndOfLine.{after_eol, one_more, eols, all_eols}
+use Rattle.hayro_ccitt.specs.EndOfLine.{after_eol, eols, all_eols}
 use Rattle.hayro_ccitt.specs.Ticks.{looked}
 use Rattle.hayro_ccitt.proofs.BitReading.BitLists.{drop_some}
-use Rattle.hayro_ccitt.proofs.CodeWords.ReadRuns.{chosen}
 use Rattle.hayro_ccitt.proofs.Readings.TurnsMoveOn.{after_eol_shorter, length-one_more, one_more-count}
 use Rattle.std.proofs.lemmas.Grind.{common_steps}
 

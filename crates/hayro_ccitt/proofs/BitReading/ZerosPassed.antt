@@ -4,7 +4,7 @@ use lib.Count.{count_leading_zeros, count_trailing_zeros}
 use Rattle.std.specs.Int.{bit_at, w32}
 use Rattle.std.proofs.lemmas.Bool.{cases_lt, false≢true}
 use Rattle.std.proofs.lemmas.List.{get_or_past, get_or-drop, length-drop, drop-drop, replicate-append-replicate}
-use Rattle.std.proofs.lemmas.Nat.{leading_top, leading_length, leading_le, div-mul-add, pow_pos, shr-shr}
+use Rattle.std.proofs.lemmas.Nat.{leading_top, leading_length, leading_le, pow_pos, shr-shr}
 use Rattle.std.proofs.Math.Nat.{pow-suc, pow-le-pow_right}
 use Rattle.std.proofs.lemmas.Nat.Bits.{bit_at_above, bit_at-trailing_zeros}
 use Rattle.std.proofs.lemmas.Option.{slice_get-get_or, slice_get_within}

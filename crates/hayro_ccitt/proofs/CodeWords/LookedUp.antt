@@ -1,20 +1,18 @@
 -- What the entry of a lookup table says of the run code here.
-use Rattle.std.proofs.Common.{◌≡◌, ◌≢◌, ℕ, ◌-◌, ◌/◌, ◌%◌, ◌<◌, ◌≤◌, inl, inr, true, false, leb, ltb, List, [], ◌∷◌, length, drop, Option, Some, None, Ok, Err, refl, sym, ap, ◌∙◌, arith}
+use Rattle.std.proofs.Common.{◌≡◌, ◌≢◌, ℕ, ◌/◌, ◌%◌, ◌<◌, ◌≤◌, inl, inr, true, ltb, List, [], ◌∷◌, length, drop, Option, Some, None, Ok, Err, refl, sym, ◌∙◌, arith}
 use Rattle.std.specs.List.{list_all}
 use Rattle.std.proofs.lemmas.Bool.{ltb-true, and_parts}
 use Rattle.hayro_ccitt.specs.declared.error.DecodeError.TheVariants.{UnexpectedEof, InvalidCode}
 use Rattle.hayro_ccitt.specs.declared.codes.Color.{Color}
-use Rattle.hayro_ccitt.specs.declared.codes.Color.TheVariants.{White, Black}
 use Rattle.hayro_ccitt.specs.Bits.{Bits}
 use Rattle.hayro_ccitt.specs.CodeLists.{Code, mode_codes}
 use Rattle.hayro_ccitt.specs.CodeReading.{word_at, read_code, Has}
-use Rattle.hayro_ccitt.specs.Laws.{each_word}
 use Rattle.hayro_ccitt.specs.LookUps.{padded, telling_bits, run_or_none, entry_of}
 use Rattle.hayro_ccitt.specs.Runs.{codes_of}
 use Rattle.hayro_ccitt.proofs.CodeWords.ReadCodes.{word_at_found}
-use Rattle.hayro_ccitt.proofs.CodeWords.LooksAhead.{length-padded, TellsWords, has_none, telling_is, telling_none, tells_cut, tells_found, tells_wrong}
+use Rattle.hayro_ccitt.proofs.CodeWords.LooksAhead.{length-padded, TellsWords, telling_is, telling_none, tells_cut, tells_found, tells_wrong}
 use Rattle.hayro_ccitt.proofs.CodeWords.ReadRuns.{words_not_empty, word_length}
-use Rattle.hayro_ccitt.proofs.BitReading.ZerosInWords.{codes_free, modes_free}
+use Rattle.hayro_ccitt.proofs.BitReading.ZerosInWords.{modes_free}
 use Rattle.std.proofs.lemmas.Grind.{common_steps}
 
 -- ---- Thirteen bits decide a run code, seven a mode.
@@ -81,14 +79,8 @@ looked_up_found color here e h = by (word_at (codes_of color) (padded 13 here)) 
     by : (o : Option (ℕ × Bits)) → word_at (codes_of color) (padded 13 here) ≡ o
         → read_code (codes_of color) here ≡ Ok (run_or_none (codes_of color) (padded 13 here), drop (telling_bits (codes_of color) (padded 13 here)) here)
     by (Some found) a =
-        grind (
-          arith,
-          common_steps,
-          codes_tell color,
-          run_of_found (codes_of color) (padded 13 here) found a,
-          tells_found 13
-              (codes_of color) (codes_tell color) here found a h,
-        )
+        let step = tells_found 13 (codes_of color) (codes_tell color) here found a h in
+        grind (arith, common_steps, codes_tell color, run_of_found (codes_of color) (padded 13 here) found a, step)
     by None a = absurd (e (run_of_none (codes_of color) (padded 13 here) a))
 
 -- at least one bit is needed

@@ -1,15 +1,14 @@
 -- What seven bits say of the mode here.
-use Rattle.std.proofs.Common.{◌≡◌, ℕ, zero, suc, ◌-◌, ◌/◌, ◌^◌, ◌<◌, ◌≤◌, true, [], ◌∷◌, length, drop, Option, Some, None, option_map, Ok, Err, refl, sym, ap, ◌∙◌, arith}
+use Rattle.std.proofs.Common.{◌≡◌, ℕ, ◌-◌, ◌/◌, ◌^◌, ◌<◌, ◌≤◌, true, length, drop, Option, Some, None, option_map, Ok, Err, refl, ◌∙◌, arith}
 use Rattle.std.proofs.lemmas.Bool.{eq-eqb, false≢true}
 use Rattle.hayro_ccitt.specs.declared.error.DecodeError.TheVariants.{UnexpectedEof, InvalidCode}
 use Rattle.hayro_ccitt.specs.declared.codes.Mode.{Mode}
 use Rattle.hayro_ccitt.specs.Bits.{Bits, BitsAt, low_bits, here}
 use Rattle.hayro_ccitt.specs.CodeLists.{mode_codes}
-use Rattle.hayro_ccitt.specs.CodeReading.{after, is_prefix, word_at, read_code, Has}
+use Rattle.hayro_ccitt.specs.CodeReading.{after, is_prefix, read_code, Has}
 use Rattle.hayro_ccitt.specs.LookUps.{padded, seven_bits, telling_bits, mode_told}
-use Rattle.hayro_ccitt.proofs.CodeWords.ReadCodes.{after_is, word_at_again, word_at_found}
-use Rattle.hayro_ccitt.proofs.CodeWords.ReadRuns.{word_length}
-use Rattle.hayro_ccitt.proofs.CodeWords.LooksAhead.{telling_is, telling_none, tells_cut, tells_found, tells_wrong}
+use Rattle.hayro_ccitt.proofs.CodeWords.ReadCodes.{after_is, word_at_again}
+use Rattle.hayro_ccitt.proofs.CodeWords.LooksAhead.{tells_cut}
 use Rattle.hayro_ccitt.proofs.CodeWords.LookedUp.{modes_tell}
 use Rattle.hayro_ccitt.proofs.BitReading.BitLists.{length-low_bits}
 use Rattle.hayro_ccitt.proofs.BitReading.WordRanges.{word_begins_of}

@@ -1,5 +1,5 @@
 -- What a fixed number of bits, padded with zeros, says of the word here.
-use Rattle.std.proofs.Common.{◌≡◌, ℕ, zero, suc, ◌+◌, ◌-◌, ◌<◌, ◌≤◌, inl, inr, Bool, true, false, leb, List, [], ◌∷◌, ◌++◌, length, drop, Option, Some, None, Ok, Err, refl, sym, ap, ◌∙◌, append_assoc, arith}
+use Rattle.std.proofs.Common.{◌≡◌, ℕ, zero, suc, ◌-◌, ◌<◌, ◌≤◌, inl, inr, Bool, true, false, leb, List, [], ◌∷◌, ◌++◌, length, drop, Some, None, Ok, Err, refl, sym, append_assoc, arith}
 use Rattle.std.proofs.lemmas.Bool.{leb-true, cases_lt, false≢true}
 use Rattle.std.proofs.lemmas.List.{length-append}
 use Rattle.hayro_ccitt.specs.declared.error.DecodeError.TheVariants.{UnexpectedEof, InvalidCode}
@@ -123,16 +123,9 @@ module _ {V : Type 0} (n : ℕ) (list : List (Code V)) (tells : TellsWords n lis
     where
       uncut : IsCut list here → ⊥
       uncut (v, w, has, begins) =
-          grind (
-            arith,
-            common_steps,
-            length-append here begins.0,
-            longest_bounds list (padded n here) v w has,
-            prefix_agrees n
-                here begins.0,
-            telling_none e,
-            width_of v w has,
-          )
+          let step = longest_bounds list (padded n here) v w has in
+          let step2 = prefix_agrees n here begins.0 in
+          grind (arith, common_steps, length-append here begins.0, step, step2, telling_none e, width_of v w has)
 
   -- of a prefix that is shorter than its word no word is a prefix
   none_of : (v : V) (w more : Bits) → Has list v w → w ≡ here ++ more → length here < length w → NoneStands list here
@@ -147,16 +140,8 @@ module _ {V : Type 0} (n : ℕ) (list : List (Code V)) (tells : TellsWords n lis
 
   by_none : word_at list (padded n here) ≡ None → length here < telling_bits list (padded n here) → read_code list here ≡ Err UnexpectedEof
   by_none e h =
-      grind (
-        arith,
-        common_steps,
-        agrees_with_all n here,
-        none_here e,
-        reached_of list (padded n here) tells.some,
-        reads_codes
-            list tells.free,
-        telling_none e,
-      )
+      let step = reached_of list (padded n here) tells.some in
+      grind (arith, common_steps, agrees_with_all n here, none_here e, step, reads_codes list tells.free, telling_none e)
 
   -- if fewer bits are left than decide what is here, the end is missing
   pub tells_cut : length here < telling_bits list (padded n here) → read_code list here ≡ Err UnexpectedEof

@@ -1,5 +1,5 @@
 -- The words that a line finds are consecutive from where it begins, and end before each EOL's one.
-use Rattle.std.proofs.Common.{ltb, leb, cond, ◌≡◌, take, ◌-◌, Result, Ok, Err, subst, append_assoc, ℕ, zero, suc, ◌+◌, ◌<◌, Bool, true, false}
+use Rattle.std.proofs.Common.{◌≡◌, take, Result, Ok, Err, subst, append_assoc, ℕ, zero, suc, ◌+◌, ◌<◌, Bool, true, false}
 use Rattle.std.proofs.Common.{List, [], ◌∷◌, ◌++◌, length, replicate, refl, sym, ap, ◌∙◌, arith, inl, inr}
 use Rattle.std.proofs.lemmas.Bool.{false≢true, cases_lt}
 use Rattle.std.proofs.lemmas.List.{length-append, length-replicate, append-nil}
@@ -16,7 +16,7 @@ use Rattle.hayro_ccitt.specs.CodeReading.{read_code, Has}
 use Rattle.hayro_ccitt.specs.Repetition.{Turn, repeated, gathered}
 use Rattle.hayro_ccitt.specs.Rows.{Row, opposite, b2, right_of}
 use Rattle.hayro_ccitt.specs.Runs.{codes_of, run_of_word, run_turn, run_from}
-use Rattle.hayro_ccitt.specs.Lines.{Line, Pen, Drawing, ◌>>=◌, turn_behind, words_behind, go_on, unless_fault, finds, run_here, mode_here, painted, painted_to, place_by, unless_full, draw_run, draw_mode, draw_1d, draw_2d, start, line_1d, line_2d, found_1d, found_2d, tag_at, line_found}
+use Rattle.hayro_ccitt.specs.Lines.{Line, Pen, Drawing, ◌>>=◌, go_on, unless_fault, finds, run_here, mode_here, painted, painted_to, place_by, unless_full, draw_run, draw_mode, draw_1d, draw_2d, start, line_1d, line_2d, found_1d, found_2d, tag_at, line_found}
 use Rattle.hayro_ccitt.specs.Ticks.{word_found, run_gives, run_found}
 use Rattle.hayro_ccitt.specs.PlainReading.{line_by}
 use Rattle.hayro_ccitt.specs.Laws.{IsWord, AreWords, joined, HoldsZeros, EndBeforeEol, Synchronised}
@@ -100,14 +100,8 @@ run_goes : (color : Color) (total : ℕ) (here : Bits) (t : ℕ × Bits) (r : Re
     → run_turn color (total, here) ≡ Turn.next t → Stands here (word_found (codes_of color) here) t.1
 run_goes color total here t (Err e) h k = grind (arith, common_steps)
 run_goes color total here t (Ok found) h k =
-    grind (
-      arith,
-      common_steps,
-      run_word color found.0,
-      word_next total found t,
-      word_stands (codes_of color) here found.0
-          found.1 (run_word color found.0) h,
-    )
+    let step = word_stands (codes_of color) here found.0 found.1 (run_word color found.0) h in
+    grind (arith, common_steps, run_word color found.0, word_next total found t, step)
 
 run_ends : (color : Color) (total : ℕ) (here : Bits) (r : Result (ℕ × Bits) DecodeError) (q : Result (ℕ × Bits) DecodeError)
     → read_code (codes_of color) here ≡ q → run_turn color (total, here) ≡ Turn.done r

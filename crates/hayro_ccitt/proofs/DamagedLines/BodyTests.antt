@@ -2,11 +2,11 @@
 use Rattle.std.proofs.Common.{◌≡◌, ◌≢◌, ℕ, zero, suc, ◌+◌, ◌-◌, ◌<◌, ◌≤◌, ◌⊎◌, Bool, true, false, cond, eqb, ltb, leb, [], ◌∷◌, ◌++◌, length, take, drop}
 use Rattle.std.proofs.Common.{replicate, Option, Some, None, Err, IsTrue, refl, sym, ap, subst, ◌∙◌, arith, inl, inr}
 use Rattle.std.specs.Prelude.{◌↔◌, is_some}
-use Rattle.std.proofs.lemmas.Bool.{cases_lt, lt-ltb, le-leb, lt-leb, ltb-true, leb-true, eqb-true, eq-eqb, false≢true}
+use Rattle.std.proofs.lemmas.Bool.{cases_lt, lt-ltb, le-leb, lt-leb, ltb-true, leb-true, eqb-true, eq-eqb}
 use Rattle.std.proofs.lemmas.Option.{none-some}
 use Rattle.std.proofs.lemmas.List.{length-append, length-replicate, length-drop, take-append-drop, drop-drop}
 use Rattle.hayro_ccitt.specs.declared.error.DecodeError.{DecodeError}
-use Rattle.hayro_ccitt.specs.declared.error.DecodeError.TheVariants.{UnexpectedEof, InvalidCode, Overflow, OutOfMemory, Refused}
+use Rattle.hayro_ccitt.specs.declared.error.DecodeError.TheVariants.{OutOfMemory}
 use Rattle.hayro_ccitt.specs.declared.settings.DecodeSettings.{DecodeSettings}
 use Rattle.hayro_ccitt.specs.declared.settings.EncodingMode.TheVariants.{Group3_1D}
 use Rattle.hayro_ccitt.specs.Answers.{DrawsLine, line_from_1d}
@@ -48,15 +48,8 @@ behind_eol bits rest place zeros far within is eol = (
         by : (b : Bool) → cond b (Some rest) None ≡ Some (drop place bits) → zeros ≡ 11
         by false e = absurd (let f : ◌≡◌ {A = Option Bits} None (Some (drop place bits)) = e in cc)
         by true e =
-            grind (
-              arith,
-              common_steps,
-              length-append (replicate zeros false) (true ∷ rest),
-              length-drop place bits,
-              length-drop
-                  (place - 12) bits,
-              length-replicate zeros false,
-            )
+            let step = length-append (replicate zeros false) (true ∷ rest) in
+            grind (arith, common_steps, step, length-drop place bits, length-drop (place - 12) bits, length-replicate zeros false)
 
 -- ---- A one in a body.
 zeros_only : (m : ℕ) (here : Bits) → m ≤ leading_zeros here → take m here ≡ replicate m false
@@ -134,21 +127,13 @@ eol_in_front m here found after next eol = found_ends (take m here) ∙ by (past
 pub eol_by_ends : (bits : Bits) (from to end : ℕ) (found : Bits) → from ≤ to → to ≤ length bits → end ≤ length bits → next_eol (drop from bits) ≡ Some found
     → after_eol 0 found ≡ Some (drop end bits) → is_some (next_eol (take (to - from) (drop from bits))) ≡ leb end to
 eol_by_ends bits from to end found order within le next eol =
-    grind (
-      arith,
-      common_steps,
-      cases_lt to end,
-      drop-drop (to - from) from bits,
-      eol_in_front (to - from) (drop from bits)
-          found (drop end bits) next eol,
-      le-leb (length (drop to bits)) (length (drop end bits)),
-      le-leb end to,
-      length-drop end
-          bits,
-      length-drop to bits,
-      lt-leb (length (drop to bits)) (length (drop end bits)),
-      lt-leb end to,
-    )
+    let step = eol_in_front (to - from) (drop from bits) found (drop end bits) next eol in
+    let step2 = le-leb (length (drop to bits)) (length (drop end bits)) in
+    let step3 = lt-leb (length (drop to bits)) (length (drop end bits)) in
+    let step4 = drop-drop (to - from) from bits in
+    let step5 = length-drop end bits in
+    let step6 = length-drop to bits in
+    grind (arith, common_steps, cases_lt to end, step4, step, step2, le-leb end to, step5, step6, step3, lt-leb end to)
 
 -- the next EOL, if one is found, is there
 pub eol_found_stands : (here found : Bits) → next_eol here ≡ Some found → after_eol 0 found ≡ None → ⊥

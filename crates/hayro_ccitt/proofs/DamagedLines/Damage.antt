@@ -1,7 +1,7 @@
 -- Damage to one line changes its row alone.
 use Rattle.std.proofs.Common.{◌≡◌, ℕ, suc, ◌+◌, ◌-◌, ◌*◌, ◌/◌, ◌<◌, ◌≤◌, Bool, true, false, ◌||◌, eqb, ltb, List, [], ◌∷◌, ◌++◌, length, take, drop}
-use Rattle.std.proofs.Common.{replicate, set, Option, Some, None, Result, Ok, Err, refl, sym, ap, subst, ◌∙◌, append_assoc, arith, ◌⊎◌, inl, inr}
-use Rattle.std.proofs.lemmas.Bool.{cases_lt, cases_eq, eq-eqb, ne_eqb, or_right, cond-true, cond-false}
+use Rattle.std.proofs.Common.{replicate, set, None, Result, Ok, Err, refl, sym, ap, subst, ◌∙◌, append_assoc, arith, ◌⊎◌, inl, inr}
+use Rattle.std.proofs.lemmas.Bool.{cases_lt, cases_eq, ne_eqb, or_right, cond-false}
 use Rattle.std.proofs.lemmas.List.{length-append, length-take-le, length-drop, take-append-drop, append_cancel_right, replicate-append-replicate}
 use Rattle.std.proofs.lemmas.List.{set_at}
 use Rattle.hayro_ccitt.specs.declared.error.DecodeError.{DecodeError}
@@ -14,7 +14,7 @@ use Rattle.hayro_ccitt.specs.Settings.{AreSettings}
 use Rattle.hayro_ccitt.specs.Repetition.{repeated, Reaches}
 use Rattle.hayro_ccitt.specs.Rows.{Row}
 use Rattle.hayro_ccitt.specs.EndOfLine.{after_eol, all_eols}
-use Rattle.hayro_ccitt.specs.PlainReading.{Progress, Ending, first_line, move_on, first_gap, ending_behind, end_of, bytes_before, plain, Reading, nothing_read, whole_reading}
+use Rattle.hayro_ccitt.specs.PlainReading.{Progress, Ending, first_line, move_on, first_gap, ending_behind, end_of, bytes_before, plain, Reading, whole_reading}
 use Rattle.hayro_ccitt.specs.Locality.{IsEol, IsLocal, ComesToLine, OneRowDiffers, EndsAt, EndAlike, DamageStaysInRow, Locality}
 use Rattle.hayro_ccitt.proofs.Readings.Repeated.{reached_follows}
 use Rattle.hayro_ccitt.proofs.Readings.GapsAndRows.{ending_t4}
@@ -74,17 +74,8 @@ module _ (settings : DecodeSettings) (wide : 0 < settings.columns) (one two : Bi
       → OneRowDiffers settings one two from (plain settings one).rows (plain settings two).rows
   rows_differ (inl e) = inl (rows_of two ∙ sym e ∙ sym (rows_of one))
   rows_differ (inr (before, a, b, more, e, f, begins)) =
-      grind (
-        arith,
-        common_steps,
-        comes_one before begins,
-        comes_two before begins,
-        rows_of two,
-        rows_of one,
-        set,
-        set_at before
-            a more b (length before) refl,
-      )
+      let step = set_at before a more b (length before) refl in
+      grind (arith, common_steps, comes_one before begins, comes_two before begins, rows_of two, rows_of one, set, step)
 
   ends_at : (bits : Bits) (rest : Bits) (place : ℕ) → (end_of settings bits).outcome ≡ Ok rest
       → place + length rest ≡ length bits → EndsAt settings bits (plain settings bits).outcome place ((place + 7) / 8)

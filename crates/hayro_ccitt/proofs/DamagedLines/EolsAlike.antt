@@ -112,15 +112,9 @@ module _ (x y : Bits) where
               ],
             )
         by on o p e f (inr (inl a)) =
-            grind (
-              arith,
-              common_steps,
-              all_eols-none x none_x,
-              all_eols-none y none_y,
-              all_eols-some (bits ++ true ∷ x) x (e ∙
-                  a.0),
-              all_eols-some (bits ++ true ∷ y) y (f ∙ a.1),
-            )
+            let step = all_eols-some (bits ++ true ∷ x) x (e ∙ a.0) in
+            let step2 = all_eols-some (bits ++ true ∷ y) y (f ∙ a.1) in
+            grind (arith, common_steps, all_eols-none x none_x, all_eols-none y none_y, step, step2)
         by on o p e f (inr (inr a)) = grind (arith, common_steps, all_eols-none)
 
     -- the consecutive EOLs are alike in both

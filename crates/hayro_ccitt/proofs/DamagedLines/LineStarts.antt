@@ -2,9 +2,9 @@
 use Rattle.std.proofs.Common.{◌≡◌, ℕ, zero, suc, ◌+◌, ◌<◌, ◌≤◌, Bool, true, false, cond, not, ◌&&◌, leb, List, [], ◌∷◌, ◌++◌, length, take, drop}
 use Rattle.std.proofs.Common.{replicate, Option, Some, None, refl, sym, ap, subst, ◌∙◌, append_assoc, arith, ◌⊎◌, inl, inr}
 use Rattle.std.specs.Prelude.{Contains, All, is_some}
-use Rattle.std.proofs.lemmas.Bool.{cases_lt, le-leb, leb-true, and_parts, and_from, not-true, not_from_false, false≢true}
+use Rattle.std.proofs.lemmas.Bool.{cases_lt, le-leb, leb-true, and_parts, and_from, not-true, not_from_false}
 use Rattle.std.proofs.lemmas.List.{length-append, length-drop, take-append-drop, length-replicate, append_cancel_left}
-use Rattle.std.proofs.lemmas.List.Elements.{Contains-append_left, Contains-append_right, Contains-append_cases, All-nil, All-cons, All-append, All-weaker}
+use Rattle.std.proofs.lemmas.List.Elements.{Contains-append_left, Contains-append_right, Contains-append_cases, All-nil, All-append, All-weaker}
 use Rattle.hayro_ccitt.specs.Bits.{Bits}
 use Rattle.hayro_ccitt.specs.EndOfLine.{after_eol, all_eols}
 use Rattle.hayro_ccitt.specs.PlainReading.{at_end}
@@ -63,15 +63,8 @@ from_later seen (true ∷ here) end c =
     by : (b : Bool) → (leb 11 seen && begins_line here) ≡ b → (Contains (later_starts 0 here) end → EndsLater 0 here end × (begins_line end ≡ true))
         → Contains (cond b (here ∷ []) []) end ⊎ Contains (later_starts 0 here) end → EndsLater seen (true ∷ here) end × (begins_line end ≡ true)
     by true e on (inl found) =
-        grind (
-          arith,
-          common_steps,
-          and_parts (leb 11 seen) (begins_line here) e,
-          contains_one here end found,
-          eol_of 0 seen
-              here,
-          leb-true 11 seen,
-        )
+        let step = and_parts (leb 11 seen) (begins_line here) e in
+        grind (arith, common_steps, step, contains_one here end found, eol_of 0 seen here, leb-true 11 seen)
     by false e on (inl found) = absurd (contains_none end found)
     by b e on (inr found) =
         let f = on found in
@@ -144,17 +137,10 @@ to_later seen (true ∷ here) end (at, leaves, eol, lt) b = elim (cases_lt (leng
     inside less = elim (cases_lt (length here) (length at)) [
       | inl longer ↦ absurd (
           let f = shorter_end leaves.0 at (replicate seen false) (true ∷ here) (sym leaves.1) (omega arith) in
-          omega (
-            arith,
-            less,
-            first_one is.0 end f.0 here (sym is.1 ∙ f.1),
-            ap length f.1,
-            length-append f.0
-                (true ∷ here),
-            ap length is.1,
-            length-append (replicate is.0 false) (true ∷ end),
-            length-replicate is.0 false,
-          ))
+          let step = length-append (replicate is.0 false) (true ∷ end) in
+          let step2 = first_one is.0 end f.0 here (sym is.1 ∙ f.1) in
+          let step3 = length-append f.0 (true ∷ here) in
+          omega (arith, less, step2, ap length f.1, step3, ap length is.1, step, length-replicate is.0 false))
       | inr short ↦ shorter_end (replicate seen false ++ true ∷ []) here leaves.0 at (append_assoc (replicate seen false) (true ∷ []) here ∙ leaves.1) short
     ]
 
@@ -260,19 +246,12 @@ module _ (bits : Bits) where
               ∙ ap (λ (b : Bits). b ++ (all_eols bits).1) (sym is) ∙ whole in
               let f = shorter_end (take at bits) (drop at bits) more (true ∷ (all_eols bits).1) (sym split) (omega (arith, longer)) in
               let zeros_one = after_eol_is 0 (drop at bits) (drop place bits) eol.2 in
-              omega (
-                arith,
-                first_one zeros_one.0 (drop place bits) f.0 (all_eols bits).1 (sym zeros_one.1 ∙ f.1),
-                ap length f.1,
-                length-append f.0 (true ∷ (all_eols bits).1),
-                ap length zeros_one.1,
-                length-append (replicate zeros_one.0 false) (true ∷ drop place bits),
-                length-replicate zeros_one.0 false,
-                length-drop place bits,
-                later,
-                below,
-                first_length,
-              )
+              let step = first_one zeros_one.0 (drop place bits) f.0 (all_eols bits).1 (sym zeros_one.1 ∙ f.1) in
+              let step2 = length-append (replicate zeros_one.0 false) (true ∷ drop place bits) in
+              let step3 = length-append f.0 (true ∷ (all_eols bits).1) in
+              let step4 = length-replicate zeros_one.0 false in
+              let step5 = length-drop place bits in
+              omega (arith, step, ap length f.1, step3, ap length zeros_one.1, step2, step4, step5, later, below, first_length)
 
 -- the law
 pub starts_are : StartsAre

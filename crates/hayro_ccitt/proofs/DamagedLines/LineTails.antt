@@ -1,6 +1,6 @@
 -- What the premises of locality say of the bits from a line on, and of those before it.
 use Rattle.std.proofs.Common.{◌≡◌, ℕ, zero, suc, ◌+◌, ◌-◌, ◌≤◌, true, false, List, [], ◌∷◌, ◌++◌, length, take, drop, replicate, Option, Some, None}
-use Rattle.std.proofs.Common.{refl, sym, ap, ◌∙◌, append_assoc, arith, inl, inr}
+use Rattle.std.proofs.Common.{refl, sym, ap, ◌∙◌, append_assoc, arith}
 use Rattle.std.proofs.lemmas.Bool.{cases_lt, lt-leb, le-leb}
 use Rattle.std.proofs.lemmas.List.{length-append, length-take-le, length-drop, length-replicate, take-append-drop, drop-drop}
 use Rattle.hayro_ccitt.specs.declared.settings.DecodeSettings.{DecodeSettings}
@@ -102,18 +102,7 @@ module _ (settings : DecodeSettings) (bits : Bits) (from to : ℕ) (local : IsLo
   not_within : (before rest : Bits) (k : ℕ) (found : Bits) → line_on ≡ before ++ found → found ≡ replicate k false ++ true ∷ rest
       → after_eol 0 found ≡ Some rest → length before + (k + 1) ≤ to - from → ⊥
   not_within before rest k found e f eol le =
-      grind (
-        arith,
-        common_steps,
-        append_assoc,
-        drop_at bits (take from bits ++ before) found (from + length before),
-        drop_at
-            bits ((take from bits ++ before) ++ (replicate k false ++ true ∷ [])) rest (from + (length before + (k + 1))),
-        front_length,
-        length-append,
-        length-replicate,
-        whole,
-      )
+      grind (arith, common_steps, append_assoc, drop_at bits (take from bits ++ before) found (from + length before), drop_at bits ((take from bits ++ before) ++ (replicate k false ++ true ∷ [])) rest (from + (length before + (k + 1))), front_length, length-append, length-replicate, whole)
 
   -- no EOL ends within the body
   pub none_in_body : past 0 body ≡ None

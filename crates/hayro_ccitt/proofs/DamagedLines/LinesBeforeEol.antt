@@ -1,16 +1,16 @@
 -- A line that begins before the zeros of an EOL ends before their end, whatever comes after them.
-use Rattle.std.proofs.Common.{◌≡◌, ℕ, suc, ◌+◌, ◌-◌, ◌≤◌, Bool, true, false, cond, ltb, leb, [], ◌∷◌, ◌++◌, length, replicate, min, Option, Some}
-use Rattle.std.proofs.Common.{None, Result, Ok, Err, refl, sym, ap, subst, ◌∙◌, append_assoc, arith, inl, inr}
+use Rattle.std.proofs.Common.{◌≡◌, ℕ, suc, ◌≤◌, Bool, true, false, cond, leb, [], ◌∷◌, ◌++◌, length, replicate, Option, Some}
+use Rattle.std.proofs.Common.{None, Result, Ok, Err, refl, sym, ap, ◌∙◌, append_assoc, arith, inl, inr}
 use Rattle.std.proofs.lemmas.Bool.{cases_lt, lt-ltb, le-ltb}
 use Rattle.std.proofs.lemmas.List.{append_cancel_left}
 use Rattle.hayro_ccitt.specs.declared.codes.Color.{Color}
 use Rattle.hayro_ccitt.specs.declared.error.DecodeError.{DecodeError}
-use Rattle.hayro_ccitt.specs.declared.error.DecodeError.TheVariants.{UnexpectedEof, Overflow}
+use Rattle.hayro_ccitt.specs.declared.error.DecodeError.TheVariants.{UnexpectedEof}
 use Rattle.hayro_ccitt.specs.Bits.{Bits}
 use Rattle.hayro_ccitt.specs.CodeReading.{read_code}
 use Rattle.hayro_ccitt.specs.Repetition.{Turn}
-use Rattle.hayro_ccitt.specs.Rows.{Row, is_black, opposite, paint}
-use Rattle.hayro_ccitt.specs.Runs.{codes_of, run_of_word, run_turn, run_from}
+use Rattle.hayro_ccitt.specs.Rows.{Row, opposite, paint}
+use Rattle.hayro_ccitt.specs.Runs.{codes_of, run_turn, run_from}
 use Rattle.hayro_ccitt.specs.Lines.{Line, Pen, start, line_1d}
 use Rattle.hayro_ccitt.proofs.DrawingLines.Drawings.{try, step_1d, step_1d_is}
 use Rattle.hayro_ccitt.specs.Answers.{Step}
@@ -107,7 +107,6 @@ module _ (x y : Bits) where
   Runs s t = (s.0 ≡ t.0) × InFront x y s.1 t.1
 
   module _ (color : Color) (rest : ℕ × Bits → Result (ℕ × Bits) DecodeError) where
-
     turn_alike : (total : ℕ) (bits : Bits) → Inside bits
         → Follows Runs (FoundAlike x y) rest (run_turn color (total, bits ++ x)) (run_turn color (total, bits ++ y))
     turn_alike total bits inside = by (read_code (codes_of color) (bits ++ x)) (read_code (codes_of color) (bits ++ y)) refl refl
@@ -147,7 +146,6 @@ module _ (x y : Bits) where
         rw (step_1d_is false columns (record { front = front; color = color; rest = here }), step_1d_is false columns (record { front = front; color = color; rest = there }))
         (full (leb columns (length front)))
       where
-
         drawn_by : Result (ℕ × Bits) DecodeError → Step
         drawn_by r = try front r (λ run. try front (paint false columns front color run.0)
             (λ more. Turn.next (record { front = more; color = opposite color; rest = run.1 })))

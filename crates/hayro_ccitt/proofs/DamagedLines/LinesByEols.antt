@@ -1,26 +1,25 @@
 -- Lines by EOLs.
-use Rattle.std.proofs.Common.{◌≡◌, ℕ, zero, suc, ◌<◌, Bool, true, false, cond, not, ◌||◌, eqb, ltb, List, [], ◌∷◌, ◌++◌, length, map, Option, Some}
-use Rattle.std.proofs.Common.{None, Ok, Err, refl, sym, ap, subst, ◌∙◌, append_assoc, arith, ◌⊎◌, inl, inr}
-use Rattle.std.specs.Prelude.{All, is_some}
+use Rattle.std.proofs.Common.{◌≡◌, ℕ, zero, suc, ◌<◌, Bool, true, false, cond, ◌||◌, eqb, ltb, List, [], ◌∷◌, ◌++◌, length, map, Option, Some}
+use Rattle.std.proofs.Common.{None, Ok, Err, refl, sym, ap, subst, ◌∙◌, append_assoc, arith, ◌⊎◌}
+use Rattle.std.specs.Prelude.{All}
 use Rattle.std.proofs.lemmas.List.Elements.{All-head, All-tail, All-same}
 use Rattle.std.proofs.lemmas.List.{append-nil}
-use Rattle.std.proofs.lemmas.Bool.{cases_lt, lt-leb, le-leb, lt-ltb, ne_eqb, and_right, or_left, or_right, cond-true, cond-false}
+use Rattle.std.proofs.lemmas.Bool.{cases_lt, lt-leb, le-leb, ne_eqb, and_right, cond-false}
 use Rattle.hayro_ccitt.specs.declared.error.DecodeError.TheVariants.{UnexpectedEof}
-use Rattle.hayro_ccitt.specs.declared.settings.EncodingMode.{EncodingMode}
 use Rattle.hayro_ccitt.specs.declared.settings.EncodingMode.TheVariants.{Group3_1D}
 use Rattle.hayro_ccitt.specs.declared.settings.DecodeSettings.{DecodeSettings}
 use Rattle.hayro_ccitt.specs.Bits.{Bits, IsPrefix}
 use Rattle.hayro_ccitt.specs.Repetition.{Turn, repeated}
 use Rattle.hayro_ccitt.specs.Rows.{Row}
 use Rattle.hayro_ccitt.specs.Lines.{Line, line_1d}
-use Rattle.hayro_ccitt.specs.EndOfLine.{after_eol, one_more, all_eols}
-use Rattle.hayro_ccitt.specs.PlainReading.{Progress, Ending, Move, limit_met, at_end, ends_with, move_on, first_gap, ending_behind, end_of}
+use Rattle.hayro_ccitt.specs.EndOfLine.{after_eol, all_eols}
+use Rattle.hayro_ccitt.specs.PlainReading.{Progress, Ending, Move, limit_met, at_end, ends_with, move_on}
 use Rattle.hayro_ccitt.specs.Locality.{begins_line, later_starts, starts, row_at, StaysBefore, IsEolAt, LinesByEols}
 use Rattle.hayro_ccitt.proofs.Readings.Repeated.{after_turn, repeated_turn, repeated_same}
 use Rattle.hayro_ccitt.proofs.Readings.GapsAndRows.{ending_t4}
-use Rattle.hayro_ccitt.proofs.Readings.TurnsMoveOn.{after_eol_shorter, eols_shorter, eols_some_counts, left_to_read, left_below, move_shrinks}
+use Rattle.hayro_ccitt.proofs.Readings.TurnsMoveOn.{after_eol_shorter, eols_shorter, left_to_read, left_below, move_shrinks}
 use Rattle.hayro_ccitt.proofs.Readings.TurnsAddRows.{Keeps, after_row_keeps, move_adds, repeated_adds}
-use Rattle.hayro_ccitt.proofs.DamagedLines.PastEol.{past, past-eol, past_later, all_eols-some, all_eols-none}
+use Rattle.hayro_ccitt.proofs.DamagedLines.PastEol.{past, past-eol, past_later, all_eols-some}
 use Rattle.hayro_ccitt.proofs.DamagedLines.SoughtTurns.{sought, rest_of, found_next, after_row_past, move_line}
 use Rattle.hayro_ccitt.proofs.DrawingLines.LinesLeaveBits.{line_1d_leaves, LineLeaves}
 use Rattle.hayro_ccitt.proofs.Readings.RowsAndGaps.{unless_over, after_row}

@@ -46,14 +46,8 @@ take-split {A} (suc j) (suc m) (x ∷ xs) le = grind (arith, common_steps, take-
 eol_lengths : (bits : Bits) (place end zeros : ℕ) → drop place bits ≡ replicate zeros false ++ true ∷ drop end bits
     → length bits - place ≡ zeros + (1 + (length bits - end))
 eol_lengths bits place end zeros is =
-    grind (
-      arith,
-      common_steps,
-      length-append (replicate zeros false) (true ∷ drop end bits),
-      length-drop place bits,
-      length-drop end bits,
-      length-replicate zeros false,
-    )
+    let step = length-append (replicate zeros false) (true ∷ drop end bits) in
+    grind (arith, common_steps, step, length-drop place bits, length-drop end bits, length-replicate zeros false)
 
 module _ (settings : DecodeSettings) (bits : Bits) (from to : ℕ) where
   from_tests : IsLocalByTests settings bits from to → IsLocal settings bits from to

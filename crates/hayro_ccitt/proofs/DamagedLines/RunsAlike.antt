@@ -1,7 +1,7 @@
 -- Two runs over data that differ in one line.
 use Rattle.std.proofs.Common.{◌≡◌, ℕ, suc, ◌-◌, ◌%◌, ◌<◌, ◌≤◌, Bool, true, false, cond, not, ◌&&◌, ◌||◌, eqb, leb, List, [], ◌∷◌, ◌++◌, length}
-use Rattle.std.proofs.Common.{replicate, Option, Some, None, Ok, Err, refl, sym, ap, subst, ◌∙◌, append_assoc, arith, ◌⊎◌, inl, inr}
-use Rattle.std.proofs.lemmas.Bool.{cases_Bool, and_parts, eqb-true}
+use Rattle.std.proofs.Common.{replicate, Option, Some, None, Ok, Err, refl, sym, ap, subst, ◌∙◌, arith, ◌⊎◌, inl, inr}
+use Rattle.std.proofs.lemmas.Bool.{cases_Bool}
 use Rattle.std.proofs.lemmas.List.{length-append, length-drop}
 use Rattle.hayro_ccitt.specs.declared.error.DecodeError.{DecodeError}
 use Rattle.hayro_ccitt.specs.declared.error.DecodeError.TheVariants.{InvalidCode}
@@ -12,7 +12,7 @@ use Rattle.hayro_ccitt.specs.Repetition.{Turn}
 use Rattle.hayro_ccitt.specs.Rows.{Row}
 use Rattle.hayro_ccitt.specs.Lines.{Line, line_1d}
 use Rattle.hayro_ccitt.specs.EndOfLine.{after_eol, one_more, all_eols, next_eol}
-use Rattle.hayro_ccitt.specs.PlainReading.{eols_of_end, Progress, Ending, Move, row_before, aligned, limit_met, at_end, ends_with, eols_here}
+use Rattle.hayro_ccitt.specs.PlainReading.{eols_of_end, Progress, Ending, Move, aligned, limit_met, at_end, ends_with, eols_here}
 use Rattle.hayro_ccitt.specs.PlainReading.{after_line, move_on}
 use Rattle.hayro_ccitt.specs.Locality.{row_of, row_at, StaysBefore}
 use Rattle.hayro_ccitt.proofs.Readings.Repeated.{Follows}
@@ -207,26 +207,12 @@ module _ (settings : DecodeSettings) (encoding : settings.encoding ≡ Group3_1D
           (unless_ahead rows (bits ++ true ∷ x) (bits ++ true ∷ y) (suc (all_eols (a ++ true ∷ x)).0) a (all_eols (a ++ true ∷ x)).1
           (all_eols (a ++ true ∷ y)).1 closes (omega arith) both.1))
       by_past open_limit o p e f (inr (inl (g, h))) =
-          grind (
-            arith,
-            common_steps,
-            after_row_past settings encoding lenient rows (bits ++ true ∷ x) x open_limit (e ∙ g),
-            after_row_past settings encoding lenient rows (bits ++ true ∷ y) y open_limit (f ∙ h),
-            all_eols-none x tail_x.none,
-            all_eols-none y tail_y.none,
-            unless_there rows (bits ++ true ∷ x) (bits ++ true ∷ y) 1,
-          )
+          let step = after_row_past settings encoding lenient rows (bits ++ true ∷ x) x open_limit (e ∙ g) in
+          let step2 = after_row_past settings encoding lenient rows (bits ++ true ∷ y) y open_limit (f ∙ h) in
+          let step3 = unless_there rows (bits ++ true ∷ x) (bits ++ true ∷ y) 1 in
+          grind (arith, common_steps, step, step2, all_eols-none x tail_x.none, all_eols-none y tail_y.none, step3)
       by_past open_limit o p e f (inr (inr (g, h))) =
-          grind (
-            arith,
-            common_steps,
-            after_row_past settings encoding lenient rows (bits ++ true ∷ x) after open_limit (e ∙ g ∙
-                tail_x.next),
-            after_row_past settings encoding lenient rows (bits ++ true ∷ y) after open_limit (f ∙ h ∙ tail_y.next),
-            eols_shorter (length after) after,
-            unless_beyond rows rows true (bits ++ true ∷ x) (bits ++ true ∷ y) (one_more
-                (all_eols after)) (inl refl) (eols_shorter (length after) after),
-          )
+          grind (arith, common_steps, after_row_past settings encoding lenient rows (bits ++ true ∷ x) after open_limit (e ∙ g ∙ tail_x.next), after_row_past settings encoding lenient rows (bits ++ true ∷ y) after open_limit (f ∙ h ∙ tail_y.next), eols_shorter (length after) after, unless_beyond rows rows true (bits ++ true ∷ x) (bits ++ true ∷ y) (one_more (all_eols after)) (inl refl) (eols_shorter (length after) after))
 
       by_limit : (limit_met settings (length rows) ≡ true) ⊎ (limit_met settings (length rows) ≡ false)
           → Both (after_row settings (sought rows (bits ++ true ∷ x))) (after_row settings (sought rows (bits ++ true ∷ y)))

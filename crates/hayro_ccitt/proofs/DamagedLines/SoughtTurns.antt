@@ -1,7 +1,7 @@
 -- A turn of a one-dimensional lenient run that seeks EOLs.
-use Rattle.std.proofs.Common.{◌≡◌, ℕ, ◌-◌, Bool, true, false, not, ◌&&◌, ◌||◌, eqb, leb, List, [], ◌∷◌, ◌++◌, length, replicate, Option, Some, None}
-use Rattle.std.proofs.Common.{Ok, Err, refl, sym, ap, ◌∙◌, arith}
-use Rattle.std.proofs.lemmas.Bool.{and_left, and_right, and_from, or_from, or_left, or_right, not_from_true, not_from_false, cond-true, cond-false, ne_eqb}
+use Rattle.std.proofs.Common.{◌≡◌, ℕ, Bool, true, false, not, ◌&&◌, eqb, List, [], ◌∷◌, ◌++◌, length, Option, Some, None}
+use Rattle.std.proofs.Common.{Ok, refl, ap, ◌∙◌, arith}
+use Rattle.std.proofs.lemmas.Bool.{and_left, and_from, not_from_false, cond-true, cond-false, ne_eqb}
 use Rattle.hayro_ccitt.specs.declared.settings.EncodingMode.{EncodingMode}
 use Rattle.hayro_ccitt.specs.declared.settings.EncodingMode.TheVariants.{Group3_1D}
 use Rattle.hayro_ccitt.specs.declared.settings.DecodeSettings.{DecodeSettings}
@@ -9,12 +9,12 @@ use Rattle.hayro_ccitt.specs.Bits.{Bits}
 use Rattle.hayro_ccitt.specs.Rows.{Row}
 use Rattle.hayro_ccitt.specs.Lines.{Line, line_1d}
 use Rattle.hayro_ccitt.specs.EndOfLine.{after_eol, one_more, all_eols, next_eol}
-use Rattle.hayro_ccitt.specs.PlainReading.{eols_of_end, Progress, row_before, line_by, eols_by, line_here, aligned, limit_met, at_end, ends_with, eols_here}
+use Rattle.hayro_ccitt.specs.PlainReading.{Progress, row_before, line_by, eols_by, line_here, limit_met, at_end, ends_with, eols_here}
 use Rattle.hayro_ccitt.specs.PlainReading.{after_line, move_on}
 use Rattle.hayro_ccitt.specs.Locality.{row_of, row_at}
 use Rattle.hayro_ccitt.proofs.Readings.TurnsMoveOn.{one_more-count}
 use Rattle.hayro_ccitt.proofs.DamagedLines.PastEol.{past, past-eol, past_is, then_after, all_eols-some, all_eols-none}
-use Rattle.hayro_ccitt.proofs.Readings.RowsAndGaps.{unless_over, seek_from, after_row, row_added, after_whole-is, after_damage-is}
+use Rattle.hayro_ccitt.proofs.Readings.RowsAndGaps.{unless_over, seek_from, after_row}
 use Rattle.std.proofs.lemmas.Grind.{common_steps}
 
 -- a run that seeks EOLs
@@ -53,21 +53,7 @@ module _ (settings : DecodeSettings) (encoding : settings.encoding ≡ Group3_1D
       by : (o : Option Bits) → after_eol 0 here ≡ o
           → after_row settings (sought rows here) ≡ unless_over settings (sought rows here) (one_more (all_eols after))
       by (Some next) f =
-          grind (
-            arith,
-            common_steps,
-            all_eols-some,
-            and_left,
-            common_steps,
-            cond-false,
-            eols_here_is,
-            ne_eqb,
-            one_more-count,
-            past-eol 0 here next f,
-            run,
-            test,
-            unless_over,
-          )
+          grind (arith, common_steps, all_eols-some, and_left, common_steps, cond-false, eols_here_is, ne_eqb, one_more-count, past-eol 0 here next f, run, test, unless_over)
       by None f =
           let none : eqb (eols_here settings here).0 0 ≡ true = ap (λ (x : ℕ × Bits). eqb x.0 0) (eols_here_is here ∙ all_eols-none here f) in
           let is_true : test ≡ true = grind (arith, common_steps, and_from, not_from_false, not_past_end) in
@@ -85,7 +71,6 @@ module _ (settings : DecodeSettings) (encoding : settings.encoding ≡ Group3_1D
   move_line rows here = ap (after_line settings (sought rows here)) (line_is (row_before settings.columns rows) here)
       ∙ by (line_1d false settings.columns here)
     where
-
       by : (line : Line) → after_line settings (sought rows here) line ≡ after_row settings
           (sought (rows ++ row_of settings.columns line ∷ []) (rest_of line here))
       by (Line.whole row rest) = grind (arith, common_steps)

@@ -1,9 +1,8 @@
 -- What follows EOFB changes nothing.
-use Rattle.std.proofs.Common.{◌≡◌, ℕ, zero, suc, ◌+◌, ◌-◌, ◌*◌, ◌/◌, ◌%◌, ◌<◌, Bool, true, false, cond, not, ◌&&◌, eqb, leb, [], ◌∷◌}
-use Rattle.std.proofs.Common.{◌++◌, length, take, drop, Option, Some, None, Result, Ok, refl, sym, ap, subst, ◌∙◌, append_assoc, arith, ◌⊎◌, inl, inr}
-use Rattle.std.proofs.lemmas.Bool.{or_parts, or_from, cond-true, cond-false, cases_lt, eq-eqb}
+use Rattle.std.proofs.Common.{◌≡◌, ℕ, zero, suc, ◌+◌, ◌*◌, ◌/◌, ◌%◌, ◌<◌, Bool, true, false, cond, not, ◌&&◌, leb, [], ◌∷◌}
+use Rattle.std.proofs.Common.{◌++◌, length, take, drop, Option, Some, None, Ok, refl, sym, ap, subst, ◌∙◌, append_assoc, arith, ◌⊎◌, inl, inr}
+use Rattle.std.proofs.lemmas.Bool.{or_parts, or_from, cond-false, cases_lt}
 use Rattle.std.proofs.lemmas.List.{length-append, length-take-le, take-append-drop, drop_at}
-use Rattle.hayro_ccitt.specs.declared.error.DecodeError.{DecodeError}
 use Rattle.hayro_ccitt.specs.declared.settings.EncodingMode.{EncodingMode}
 use Rattle.hayro_ccitt.specs.declared.settings.EncodingMode.TheVariants.{Group4}
 use Rattle.hayro_ccitt.specs.declared.settings.DecodeSettings.{DecodeSettings}
@@ -11,7 +10,7 @@ use Rattle.hayro_ccitt.specs.Bits.{Bits, AreWholeBytes}
 use Rattle.hayro_ccitt.specs.Repetition.{Turn, Reaches}
 use Rattle.hayro_ccitt.specs.Lines.{Line, line_2d}
 use Rattle.hayro_ccitt.specs.EndOfLine.{after_eol, one_more, eols}
-use Rattle.hayro_ccitt.specs.PlainReading.{eols_by, eols_here, is_over, Progress, Ending, row_before, aligned, line_by, line_of_turn, row_of_line, ends_with, pass_gap, at_front, Reading, nothing_read, whole_reading, end_of, plain}
+use Rattle.hayro_ccitt.specs.PlainReading.{eols_by, eols_here, is_over, Progress, Ending, row_before, aligned, line_by, line_of_turn, row_of_line, ends_with, pass_gap, at_front, nothing_read, end_of, plain}
 use Rattle.hayro_ccitt.specs.Laws.{AfterEofb, add_row_alone, row_behind, gap_and_row, for_t6}
 use Rattle.hayro_ccitt.proofs.Readings.TurnsMoveOn.{eols-none, next_is, not_next}
 use Rattle.hayro_ccitt.proofs.CodeWords.ReadRuns.{chosen}
@@ -195,17 +194,11 @@ closed_plain settings last w rest four wide ends stream more is whole =
 same_front : (one two : Bits) (count : ℕ) (w rest : Bits) → AreWholeBytes one → AreWholeBytes two → one ≡ w ++ rest → (length w + 7) / 8 ≡ count
     → take (8 * count) two ≡ take (8 * count) one → (more : Bits) × (two ≡ w ++ more) × (length more % 8 ≡ length rest % 8)
 same_front one two count w rest whole_one whole_two is count_is same =
-    grind (
-      arith,
-      common_steps,
-      append_assoc w,
-      length-append w rest,
-      length-append w,
-      length-take-le (8 * count) one,
-      prefix_of_prefix w rest,
-      take-append-drop (8 * count) one,
-      take-append-drop (8 * count) two,
-    )
+    let step = take-append-drop (8 * count) one in
+    let step2 = take-append-drop (8 * count) two in
+    let step3 = length-take-le (8 * count) one in
+    let step4 = prefix_of_prefix w rest in
+    grind (arith, common_steps, append_assoc w, length-append w rest, length-append w, step3, step4, step, step2)
 
 -- without columns nothing is read
 plain_no_columns : (settings : DecodeSettings) (stream : Bits) → settings.columns ≡ 0 → plain settings stream ≡ nothing_read

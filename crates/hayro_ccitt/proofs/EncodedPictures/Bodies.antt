@@ -1,8 +1,8 @@
 -- Lines without EOLs are read as their rows, in every encoding: bodies of T.6 data, and of T.4 data that the limit ends.
-use Rattle.std.proofs.Common.{◌≡◌, ◌≢◌, ℕ, ◌+◌, ◌%◌, ◌<◌, ◌≤◌, Bool, true, false, cond, not, ◌&&◌, ◌||◌, eqb, ltb, leb, List, [], ◌∷◌, ◌++◌, length}
-use Rattle.std.proofs.Common.{replicate, None, Ok, refl, sym, ap, subst, ◌∙◌, append_assoc, arith, inr}
+use Rattle.std.proofs.Common.{◌≡◌, ◌≢◌, ◌+◌, ◌%◌, ◌<◌, ◌≤◌, Bool, true, false, ◌&&◌, List, [], ◌∷◌, ◌++◌, length}
+use Rattle.std.proofs.Common.{replicate, Ok, sym, ap, subst, ◌∙◌, append_assoc, arith, inr}
 use Rattle.std.specs.Prelude.{All}
-use Rattle.std.proofs.lemmas.Bool.{and_right, and_from, not_from_false, or_from, or_left, or_right, cond-true, cond-false, eq-eqb, ne_eqb}
+use Rattle.std.proofs.lemmas.Bool.{and_from, not_from_false, eq-eqb, ne_eqb}
 use Rattle.std.proofs.lemmas.List.{length-append, length-replicate, append-nil}
 use Rattle.std.proofs.lemmas.List.Elements.{All-head, All-tail}
 use Rattle.hayro_ccitt.specs.declared.codes.Color.TheVariants.{White}
@@ -13,16 +13,15 @@ use Rattle.hayro_ccitt.specs.Bits.{Bits}
 use Rattle.hayro_ccitt.specs.Repetition.{Turn, Reaches}
 use Rattle.hayro_ccitt.specs.Rows.{Row}
 use Rattle.hayro_ccitt.specs.Lines.{Line}
-use Rattle.hayro_ccitt.specs.EndOfLine.{after_eol, eols, all_eols, pass_last_tag}
-use Rattle.hayro_ccitt.specs.PlainReading.{eols_of_end, eols_by, eols_here, is_over, Progress, row_before, aligned, limit_met, ends_with, line_by, line_here, row_of_line, pass_gap, ending_behind, first_line, end_of, Reading}
+use Rattle.hayro_ccitt.specs.EndOfLine.{eols}
+use Rattle.hayro_ccitt.specs.PlainReading.{eols_here, Progress, row_before, limit_met, ends_with, line_here, pass_gap, ending_behind, end_of}
 use Rattle.hayro_ccitt.specs.Encodings.{EncodesLine, IsPicture, EncodesRows}
 use Rattle.hayro_ccitt.specs.Pictures.{Allows}
-use Rattle.hayro_ccitt.specs.Laws.{gap_and_row, row_behind, add_row_alone, ReadsLimitedRowsT4}
-use Rattle.hayro_ccitt.proofs.Readings.GapsAndRows.{first_gap_t4, gap_unsought, reaches_end}
-use Rattle.hayro_ccitt.proofs.Readings.RowsAndGaps.{unless_over}
-use Rattle.hayro_ccitt.proofs.Readings.TurnsMoveOn.{few_eols, eols-none, eols_with_tags-none}
+use Rattle.hayro_ccitt.specs.Laws.{gap_and_row, ReadsLimitedRowsT4}
+use Rattle.hayro_ccitt.proofs.Readings.GapsAndRows.{first_gap_t4, reaches_end}
+use Rattle.hayro_ccitt.proofs.Readings.TurnsMoveOn.{eols-none}
 use Rattle.hayro_ccitt.proofs.EncodedPictures.EncodedLines.{line_2d_again}
-use Rattle.hayro_ccitt.proofs.EncodedPictures.PictureLines.{IsLineStart, line_2d_starts, allows_sum, not_met, same_pair, row_before_push, plain_ends, fill, aligned_again, aligned_on, between, ended}
+use Rattle.hayro_ccitt.proofs.EncodedPictures.PictureLines.{IsLineStart, line_2d_starts, allows_sum, not_met, row_before_push, plain_ends, fill, aligned_again, aligned_on, between, ended}
 use Rattle.hayro_ccitt.proofs.EncodedPictures.PicturesT4.{line_t4_again, line_t4_starts}
 use Rattle.std.proofs.lemmas.Grind.{common_steps}
 

@@ -1,27 +1,24 @@
 -- A two-dimensional line is read as the row that was encoded.
-use Rattle.std.proofs.Common.{◌≡◌, ℕ, suc, ◌+◌, ◌-◌, ◌<◌, ◌≤◌, Bool, false, [], ◌++◌, length, take, replicate, Result, Ok, refl, sym, ap, subst, ◌∙◌}
+use Rattle.std.proofs.Common.{◌≡◌, ℕ, suc, ◌+◌, ◌-◌, ◌<◌, ◌≤◌, Bool, false, [], ◌++◌, length, take, replicate, Ok, refl, sym, ap, subst, ◌∙◌}
 use Rattle.std.proofs.Common.{append_assoc, arith, inl, inr}
 use Rattle.std.specs.Prelude.{pos, ◌+ℤ◌, ℤ}
-use Rattle.std.proofs.lemmas.Bool.{lt-leb, le-leb, cases_lt, false≢true}
-use Rattle.std.proofs.lemmas.List.{length-take-le, take_all, append-nil}
+use Rattle.std.proofs.lemmas.Bool.{cases_lt}
+use Rattle.std.proofs.lemmas.List.{length-take-le, append-nil}
 use Rattle.hayro_ccitt.specs.declared.codes.Color.{Color}
 use Rattle.hayro_ccitt.specs.declared.codes.Color.TheVariants.{White, Black}
 use Rattle.hayro_ccitt.specs.declared.codes.Mode.{Mode}
 use Rattle.hayro_ccitt.specs.declared.codes.Mode.TheVariants.{Pass, Horizontal, Vertical}
-use Rattle.hayro_ccitt.specs.declared.error.DecodeError.{DecodeError}
 use Rattle.hayro_ccitt.specs.Bits.{Bits}
 use Rattle.hayro_ccitt.specs.CodeLists.{mode_codes}
-use Rattle.hayro_ccitt.specs.CodeReading.{Has, read_code}
+use Rattle.hayro_ccitt.specs.CodeReading.{Has}
 use Rattle.hayro_ccitt.specs.Repetition.{Turn}
-use Rattle.hayro_ccitt.specs.Rows.{Row, is_black, opposite, pixel, pixel_before, is_change, right_of, b1, b2, a1, a2, paint}
+use Rattle.hayro_ccitt.specs.Rows.{Row, is_black, opposite, pixel, pixel_before, is_change, right_of, b1, b2, a1, a2}
 use Rattle.hayro_ccitt.specs.Runs.{run_from}
-use Rattle.hayro_ccitt.specs.Lines.{Line, Pen, line_2d, place_from}
-use Rattle.hayro_ccitt.proofs.DrawingLines.Drawings.{try, run_then, mode_step, drawn_by, step_2d, horizontal_is}
+use Rattle.hayro_ccitt.specs.Lines.{Line, Pen, line_2d}
+use Rattle.hayro_ccitt.proofs.DrawingLines.Drawings.{run_then, mode_step, drawn_by, step_2d, horizontal_is}
 use Rattle.hayro_ccitt.specs.Answers.{Step}
 use Rattle.hayro_ccitt.specs.Encodings.{Spells, EncodesLine2D}
 use Rattle.hayro_ccitt.proofs.Readings.Repeated.{after_turn}
-use Rattle.hayro_ccitt.proofs.CodeWords.ReadCodes.{read_code_again}
-use Rattle.hayro_ccitt.proofs.BitReading.ZerosInWords.{modes_free}
 use Rattle.hayro_ccitt.proofs.DrawingLines.ReadLines.{drawn2}
 use Rattle.hayro_ccitt.proofs.EncodedPictures.EncodedRuns.{run_spelled, read_as, paint_fits, draws}
 use Rattle.hayro_ccitt.proofs.PixelRows.ChangePlaces.{a1_next, a2_next, a2_least, b2_above, b1_right, b2_right, before_same, pixels_same, at_change, take_painted}
@@ -77,14 +74,8 @@ painted_to : (row front : Row) (from p : ℕ) (color : Color) → IsAt row front
     → ((q : ℕ) → from ≤ q → q < p → is_change row q ≡ false)
     → front ++ replicate (p - length front) (is_black color) ≡ take p row
 painted_to row front from p color at inside above within none =
-    grind (
-      arith,
-      common_steps,
-      length_at row front from color (omega arith),
-      pixels_same row from p (is_black color) (at.inside
-          inside) none,
-      take_painted row (from - 1),
-    )
+    let step = pixels_same row from p (is_black color) (at.inside inside) none in
+    grind (arith, common_steps, length_at row front from color (omega arith), step, take_painted row (from - 1))
 
 -- the second run of a horizontal mode; it may be empty, at the row's end
 second_painted : (row front : Row) (p r : ℕ) (color : Color) → IsAt row front (suc p) color → length front ≡ p → p ≤ length row → p ≤ r

@@ -1,16 +1,15 @@
 -- What was encoded is read again.
-use Rattle.std.proofs.Common.{◌≡◌, ℕ, ◌+◌, ◌-◌, ◌<◌, ◌≤◌, min, Bool, false, ◌++◌, length, replicate, Result, Ok, refl, ap, ◌∙◌, append_assoc, add_assoc, arith}
-use Rattle.std.proofs.lemmas.Bool.{le-ltb, lt-leb, le-leb, and_right}
-use Rattle.std.proofs.lemmas.List.{length-append, length-replicate, append-nil}
+use Rattle.std.proofs.Common.{◌≡◌, ℕ, ◌+◌, ◌<◌, ◌≤◌, Bool, ◌++◌, length, replicate, Result, Ok, ap, ◌∙◌, append_assoc, add_assoc, arith}
+use Rattle.std.proofs.lemmas.Bool.{lt-leb}
+use Rattle.std.proofs.lemmas.List.{length-append, length-replicate}
 use Rattle.hayro_ccitt.specs.declared.codes.Color.{Color}
 use Rattle.hayro_ccitt.specs.declared.error.DecodeError.{DecodeError}
 use Rattle.hayro_ccitt.specs.Bits.{Bits}
-use Rattle.hayro_ccitt.specs.CodeReading.{read_code}
 use Rattle.hayro_ccitt.specs.Repetition.{Turn}
 use Rattle.hayro_ccitt.specs.Rows.{Row, is_black, opposite, paint}
 use Rattle.hayro_ccitt.specs.Runs.{codes_of, run_from}
 use Rattle.hayro_ccitt.specs.Lines.{Line, Pen}
-use Rattle.hayro_ccitt.proofs.DrawingLines.Drawings.{try, run_then, drawn_by, step_1d}
+use Rattle.hayro_ccitt.proofs.DrawingLines.Drawings.{run_then, drawn_by, step_1d}
 use Rattle.hayro_ccitt.specs.Answers.{Step}
 use Rattle.hayro_ccitt.specs.Encodings.{Spells, EncodesLine1D}
 use Rattle.hayro_ccitt.proofs.Readings.Repeated.{after_turn}
@@ -26,17 +25,8 @@ pub run_spelled : (color : Color) (n : ℕ) (bits : Bits) (total : ℕ) (more : 
 run_spelled color n bits total more (Spells.terminating m word has small) le =
     run_ends color total n (bits ++ more) more (read_code_again (codes_of color) n bits more (codes_free color) has) le small
 run_spelled color n bits total more (Spells.makeup m word {n = k} {bits = next} has large rest) le =
-    grind (
-      arith,
-      common_steps,
-      add_assoc,
-      append_assoc,
-      codes_free,
-      read_code_again,
-      run_goes_on,
-      run_spelled color k next
-          (total + m) more rest (omega arith),
-    )
+    let step = run_spelled color k next (total + m) more rest (omega arith) in
+    grind (arith, common_steps, add_assoc, append_assoc, codes_free, read_code_again, run_goes_on, step)
 
 -- a run that was read
 abbrev pub read_as : Bits → ℕ → Result (ℕ × Bits) DecodeError

@@ -1,11 +1,9 @@
 -- Where lines of pictures begin, their padding, and how readings that reach their end are described.
-use Rattle.std.proofs.Common.{◌≡◌, ℕ, suc, ◌+◌, ◌-◌, ◌/◌, ◌%◌, ◌<◌, ◌≤◌, Bool, true, false, cond, not, eqb, leb, List, [], ◌∷◌}
-use Rattle.std.proofs.Common.{◌++◌, length, None, Result, Ok, refl, sym, ap, subst, ◌∙◌, append_assoc, arith, inl, inr}
-use Rattle.std.proofs.lemmas.Bool.{and_right, and_left, cond-false, not-true, eq-eqb, ne_eqb, false≢true}
-use Rattle.std.proofs.lemmas.List.{length-append, length-replicate, drop_at}
+use Rattle.std.proofs.Common.{◌≡◌, ℕ, suc, ◌+◌, ◌-◌, ◌/◌, ◌%◌, ◌<◌, ◌≤◌, Bool, true, false, cond, not, leb, List, [], ◌∷◌}
+use Rattle.std.proofs.Common.{◌++◌, length, None, Ok, refl, arith}
+use Rattle.std.proofs.lemmas.Bool.{not-true, false≢true}
 use Rattle.hayro_ccitt.specs.declared.codes.Color.{Color}
 use Rattle.hayro_ccitt.specs.declared.codes.Mode.{Mode}
-use Rattle.hayro_ccitt.specs.declared.error.DecodeError.{DecodeError}
 use Rattle.hayro_ccitt.specs.declared.settings.EncodingMode.{EncodingMode}
 use Rattle.hayro_ccitt.specs.declared.settings.DecodeSettings.{DecodeSettings}
 use Rattle.hayro_ccitt.specs.Bits.{Bits}
@@ -13,11 +11,9 @@ use Rattle.hayro_ccitt.specs.CodeLists.{mode_codes}
 use Rattle.hayro_ccitt.specs.CodeReading.{Has}
 use Rattle.hayro_ccitt.specs.Rows.{Row}
 use Rattle.hayro_ccitt.specs.EndOfLine.{after_eol, eols}
-use Rattle.hayro_ccitt.specs.PlainReading.{Progress, Ending, row_before, aligned, at_end, limit_met, nothing_read, whole_reading, end_of, plain}
+use Rattle.hayro_ccitt.specs.PlainReading.{Progress, Ending, row_before, aligned, at_end, limit_met, end_of, plain}
 use Rattle.hayro_ccitt.specs.Pictures.{Allows}
-use Rattle.hayro_ccitt.specs.Laws.{each_word}
 use Rattle.hayro_ccitt.specs.Encodings.{EncodesLine2D, padding, eol}
-use Rattle.hayro_ccitt.proofs.BitReading.ZerosInWords.{each_word_at}
 use Rattle.std.proofs.lemmas.Grind.{common_steps}
 
 -- settings for a closed picture: the end of the block is looked for, and there is no limit
@@ -61,9 +57,6 @@ allows_sum settings n allows = let e : 0 + n ≡ n = omega arith in rw e allows
 -- a limit that allows more rows is not met
 pub not_met : (settings : DecodeSettings) (n k : ℕ) → Allows settings n → k < n → limit_met settings k ≡ false
 not_met settings n k given lt = grind (arith, common_steps)
-
-pub same_pair : {A : Type 0} (b : Bool) (x y z : A) → x ≡ z → y ≡ z → cond b x y ≡ z
-same_pair b x y z e f = grind (arith, common_steps)
 
 -- ---- Padding.
 abbrev pub fill : Bool → Bits → Bits

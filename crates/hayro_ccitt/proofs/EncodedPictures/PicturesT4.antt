@@ -1,30 +1,29 @@
 -- A T.4 picture is read again.
-use Rattle.std.proofs.Common.{◌≡◌, ◌≢◌, ℕ, zero, suc, ◌+◌, ◌<◌, ◌≤◌, Bool, true, false, cond, not, ◌&&◌, ◌||◌, eqb, ltb, leb, List, [], ◌∷◌, ◌++◌, length, replicate, Some, None, Ok, Err, refl, sym, ap, subst, ◌∙◌, append_assoc, arith, inl, inr}
+use Rattle.std.proofs.Common.{◌≡◌, ◌≢◌, ℕ, zero, suc, ◌+◌, ◌<◌, ◌≤◌, Bool, true, false, cond, ◌&&◌, ◌||◌, ltb, leb, List, [], ◌∷◌, ◌++◌, length, replicate, Some, None, Ok, Err, refl, sym, ap, subst, ◌∙◌, append_assoc, arith, inl, inr}
 use Rattle.std.specs.Prelude.{All}
-use Rattle.std.proofs.lemmas.Bool.{and_right, and_left, and_from, not_from_false, not_from_true, or_from, or_left, or_right, cond-true, cond-false}
+use Rattle.std.proofs.lemmas.Bool.{and_right, and_from, not_from_false, or_from, cond-false}
 use Rattle.std.proofs.lemmas.Bool.{eq-eqb, ne_eqb}
 use Rattle.std.proofs.lemmas.List.{length-append, length-replicate, append-nil}
 use Rattle.std.proofs.lemmas.List.Elements.{All-head, All-tail}
 use Rattle.hayro_ccitt.specs.declared.codes.Color.{Color}
-use Rattle.hayro_ccitt.specs.declared.codes.Color.TheVariants.{White, Black}
+use Rattle.hayro_ccitt.specs.declared.codes.Color.TheVariants.{White}
 use Rattle.hayro_ccitt.specs.declared.error.DecodeError.TheVariants.{UnexpectedEof}
 use Rattle.hayro_ccitt.specs.declared.settings.EncodingMode.{EncodingMode}
 use Rattle.hayro_ccitt.specs.declared.settings.EncodingMode.TheVariants.{Group3_1D, Group3_2D, Group4}
 use Rattle.hayro_ccitt.specs.declared.settings.DecodeSettings.{DecodeSettings}
 use Rattle.hayro_ccitt.specs.Bits.{Bits}
-use Rattle.hayro_ccitt.specs.CodeLists.{mode_codes}
 use Rattle.hayro_ccitt.specs.Repetition.{Turn, repeated}
 use Rattle.hayro_ccitt.specs.Rows.{Row}
 use Rattle.hayro_ccitt.specs.Runs.{codes_of}
 use Rattle.hayro_ccitt.specs.Lines.{Line, line_1d, line_2d}
 use Rattle.hayro_ccitt.specs.EndOfLine.{after_eol, one_more, eols, all_eols, past_tag, eols_with_tags, pass_last_tag, tagged_eols}
-use Rattle.hayro_ccitt.specs.PlainReading.{eols_of_end, ending_behind, Progress, Ending, row_before, aligned, at_end, limit_met, ends_with, line_here, eols_here, Reading}
+use Rattle.hayro_ccitt.specs.PlainReading.{eols_of_end, ending_behind, Progress, Ending, row_before, aligned, at_end, limit_met, line_here, eols_here}
 use Rattle.hayro_ccitt.specs.PlainReading.{after_line, move_on, ending_from}
 use Rattle.hayro_ccitt.specs.PlainReading.{end_of}
 use Rattle.hayro_ccitt.specs.Encodings.{Spells, EncodesLine1D, EncodesLine2D, EncodesLine, eol, tag_of, IsPicture, EncodesRowsWithEols}
 use Rattle.hayro_ccitt.specs.Encodings.{ClosesWithEols, PictureT4}
 use Rattle.hayro_ccitt.specs.Laws.{each_word, ReadsPictureT4, ReadsLimitedPictureT4, OnePictureT4}
-use Rattle.hayro_ccitt.proofs.Readings.TurnsMoveOn.{few_eols, many_eols, eols-none, one_more-count, eol_of, eols_with_tags-some, eols_with_tags-none, last_tag_count}
+use Rattle.hayro_ccitt.proofs.Readings.TurnsMoveOn.{few_eols, eols-none, one_more-count, eol_of, eols_with_tags-some, eols_with_tags-none, last_tag_count}
 use Rattle.hayro_ccitt.specs.Pictures.{Allows}
 use Rattle.hayro_ccitt.proofs.Readings.Repeated.{after_turn}
 use Rattle.hayro_ccitt.proofs.BitReading.ZerosInWords.{each_word_at}
@@ -32,7 +31,7 @@ use Rattle.hayro_ccitt.proofs.EncodedPictures.EncodedRuns.{line_1d_again}
 use Rattle.hayro_ccitt.proofs.EncodedPictures.EncodedLines.{line_2d_again}
 use Rattle.hayro_ccitt.proofs.EncodedPictures.PictureLines.{closed_settings, misses_eol, missed, goes_on, IsLineStart, not_met, row_before_push, plain_ends}
 use Rattle.hayro_ccitt.proofs.Readings.GapsAndRows.{first_gap_t4, ending_t4}
-use Rattle.hayro_ccitt.proofs.Readings.RowsAndGaps.{unless_over, after_row, seek_eol, after_whole-is}
+use Rattle.hayro_ccitt.proofs.Readings.RowsAndGaps.{unless_over, after_row, after_whole-is}
 use Rattle.std.proofs.lemmas.Grind.{common_steps}
 
 -- ---- What a line begins with.
@@ -124,16 +123,8 @@ tagged_eols_closing : (n most : ℕ) (closing more : Bits) → ClosesWithEols Gr
 tagged_eols_closing zero most closing more is le = omega arith
 tagged_eols_closing (suc n) zero closing more is le = absurd (omega arith)
 tagged_eols_closing (suc n) (suc most) closing more (fill, next, then, is) le =
-    grind (
-      arith,
-      common_steps,
-      one_more-count,
-      tag_after,
-      tagged_eols_behind,
-      tagged_eols_more,
-      tagged_eols_closing n most next
-          more,
-    )
+    let step = tagged_eols_closing n most next more in
+    grind (arith, common_steps, one_more-count, tag_after, tagged_eols_behind, tagged_eols_more, step)
 
 six_tagged : (closing more : Bits) → ClosesWithEols Group3_2D 6 closing → 6 ≤ (tagged_eols (closing ++ more)).0
 six_tagged closing more is = grind (arith, common_steps, last_tag_count, length-closing, tagged_eols_closing)
@@ -319,16 +310,7 @@ one_picture_at : (settings : DecodeSettings) (encoding : EncodingMode) (rows oth
     → Matches encoding settings → settings.end_of_block ≡ true → settings.rows ≡ 0
     → PictureT4 encoding settings.columns rows bits → PictureT4 encoding settings.columns others (bits ++ more) → rows ≡ others
 one_picture_at settings encoding rows others bits more small matches block none one two =
-    grind (
-      arith,
-      common_steps,
-      append-nil two.1,
-      append_assoc one.0 one.1 more,
-      closed_t4_end settings one.3.0 small encoding
-          rows one.0 one.1 more matches block one.2 one.3 one.4 one.5 (inl none),
-      closed_t4_end settings two.3.0 small encoding others
-          two.0 two.1,
-    )
+    grind (arith, common_steps, append-nil two.1, append_assoc one.0 one.1 more, closed_t4_end settings one.3.0 small encoding rows one.0 one.1 more matches block one.2 one.3 one.4 one.5 (inl none), closed_t4_end settings two.3.0 small encoding others two.0 two.1)
 
 -- the law
 pub one_picture_t4 : OnePictureT4

@@ -1,12 +1,12 @@
 -- The positions b1, b2, a1 and a2, and the pixels between changes.
 use Rattle.std.proofs.Common.{◌≡◌, ℕ, zero, suc, ◌+◌, ◌-◌, ◌<◌, ◌≤◌, Bool, true, false, cond, not, ◌&&◌, ltb, leb, [], ◌∷◌, ◌++◌, length, take}
-use Rattle.std.proofs.Common.{replicate, Option, Some, refl, sym, ap, ◌∙◌, arith, inl, inr}
+use Rattle.std.proofs.Common.{replicate, Option, Some, refl, ◌∙◌, arith, inl, inr}
 use mathlib.Core.Bool.{beq}
 use Rattle.std.specs.List.{range_with_len, find}
 use Rattle.std.specs.Option.{unwrap_or}
 use Rattle.std.proofs.lemmas.Bool.{ltb-true, leb-true, lt-ltb, le-leb, and_parts, and_cases, false≢true, cases_lt, cases_eq}
 use Rattle.hayro_ccitt.specs.declared.codes.Color.{Color}
-use Rattle.hayro_ccitt.specs.declared.codes.Color.TheVariants.{White, Black}
+use Rattle.hayro_ccitt.specs.declared.codes.Color.TheVariants.{Black}
 use Rattle.hayro_ccitt.specs.Rows.{Row, is_black, opposite, pixel, pixel_before, is_change, least_below, right_of, b1, b2, a1, a2}
 use Rattle.std.proofs.lemmas.Grind.{common_steps}
 

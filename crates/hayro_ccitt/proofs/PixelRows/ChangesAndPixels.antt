@@ -1,8 +1,7 @@
 -- Lawful lists of changes and rows of pixels correspond one to one, and what painting does to both.
-use Rattle.std.proofs.Common.{◌≡◌, ℕ, zero, suc, ◌+◌, ◌-◌, ◌%◌, ◌<◌, ◌≤◌, eqb, inl, inr, Bool, true, false, cond, not, List, [], ◌∷◌, ◌++◌, length, get_or, replicate, refl, sym, ap, ◌∙◌, arith, append_assoc, length-append, add-one}
+use Rattle.std.proofs.Common.{◌≡◌, ℕ, zero, suc, ◌+◌, ◌-◌, ◌%◌, ◌<◌, ◌≤◌, eqb, Bool, true, false, cond, not, List, [], ◌∷◌, ◌++◌, length, get_or, replicate, refl, sym, ap, ◌∙◌, arith, append_assoc, length-append, add-one}
 use mathlib.Core.Bool.{beq}
 use Rattle.std.specs.List.{range_with_len, filter}
-use Rattle.std.proofs.lemmas.Bool.{cases_eq}
 use Rattle.std.proofs.lemmas.List.{length-replicate, replicate-append-replicate}
 use Rattle.hayro_ccitt.specs.Rows.{Row, pixel, pixel_before, is_change, changes, AscendFrom, AreChanges, pixels_from, pixels, last_pixel}
 use Rattle.hayro_ccitt.specs.Context.{continued}
@@ -52,15 +51,8 @@ pub length-pixels_from : (place : ℕ) (color : Bool) (width : ℕ) (places : Li
     → place + length (pixels_from place color width places) ≡ width
 length-pixels_from place color width [] le ascend = omega (arith, length-replicate (width - place) color)
 length-pixels_from place color width (change ∷ places) le ascend =
-    grind (
-      arith,
-      common_steps,
-      AscendFrom-here,
-      length-append,
-      length-replicate,
-      length-pixels_from change (not color) width
-          places (omega arith) (AscendFrom-here change width places ascend.2),
-    )
+    let step = length-pixels_from change (not color) width places (omega arith) (AscendFrom-here change width places ascend.2) in
+    grind (arith, common_steps, AscendFrom-here, length-append, length-replicate, step)
 
 -- a row of lawful changes has as many pixels as its width
 pub length-pixels : (width : ℕ) (places : List ℕ) → AreChanges width places → length (pixels width places) ≡ width
@@ -102,16 +94,8 @@ pub last_pixel-pixels_from : (place : ℕ) (color : Bool) (width : ℕ) (places 
     → last_pixel color (pixels_from place color width places) ≡ turned color places
 last_pixel-pixels_from place color width [] ascend = last_pixel-same (width - place) color
 last_pixel-pixels_from place color width (change ∷ places) ascend =
-    grind (
-      arith,
-      common_steps,
-      AscendFrom-here,
-      last_pixel-append,
-      last_pixel-same,
-      pixels_from-first,
-      last_pixel-pixels_from
-          change (not color) width places (AscendFrom-here change width places ascend.2),
-    )
+    let step = last_pixel-pixels_from change (not color) width places (AscendFrom-here change width places ascend.2) in
+    grind (arith, common_steps, AscendFrom-here, last_pixel-append, last_pixel-same, pixels_from-first, step)
 
 -- the last pixel of a row of lawful changes
 pub last_pixel-pixels : (width : ℕ) (places : List ℕ) → AreChanges width places → last_pixel false (pixels width places) ≡ turned false places
@@ -128,28 +112,14 @@ pub pixels_from-wider : (place : ℕ) (color : Bool) (width more : ℕ) (places 
     → pixels_from place color (width + more) places ≡ pixels_from place color width places ++ replicate more (turned color places)
 pixels_from-wider place color width more [] le ascend = grind (arith, common_steps, replicate-append-replicate)
 pixels_from-wider place color width more (change ∷ places) le ascend =
-    grind (
-      arith,
-      common_steps,
-      AscendFrom-here,
-      append_assoc,
-      pixels_from-wider change (not color) width more places (omega
-          arith) (AscendFrom-here change width places ascend.2),
-    )
+    grind (arith, common_steps, AscendFrom-here, append_assoc, pixels_from-wider change (not color) width more places (omega arith) (AscendFrom-here change width places ascend.2))
 
 -- the same if the last change may equal the width
 pub pixels_from-on : (place : ℕ) (color : Bool) (width more : ℕ) (places : List ℕ) → place ≤ width → AscendFrom place (suc width) places
     → pixels_from place color (width + more) places ≡ pixels_from place color width places ++ replicate more (turned color places)
 pixels_from-on place color width more [] le ascend = grind (arith, common_steps, replicate-append-replicate)
 pixels_from-on place color width more (change ∷ places) le ascend =
-    grind (
-      arith,
-      common_steps,
-      AscendFrom-here,
-      append_assoc,
-      pixels_from-on change (not color) width more places (omega arith)
-          (AscendFrom-here change (suc width) places ascend.2),
-    )
+    grind (arith, common_steps, AscendFrom-here, append_assoc, pixels_from-on change (not color) width more places (omega arith) (AscendFrom-here change (suc width) places ascend.2))
 
 -- so painting pixels of the last colour adds no change
 pub pixels-same : (width more : ℕ) (places : List ℕ) → AreChanges width places
@@ -202,18 +172,8 @@ changes-rest : (front row : Row)
     → filter (is_change (front ++ row)) (range_with_len (length front) (length row)) ≡ changes_from (length front) (last_pixel false front) row
 changes-rest front [] = refl
 changes-rest front (here ∷ row) =
-    grind (
-      arith,
-      common_steps,
-      add-one,
-      append_assoc,
-      is_change-next,
-      last_pixel-append,
-      length-append,
-      listed,
-      changes-rest
-          (front ++ here ∷ []) row,
-    )
+    let step = changes-rest (front ++ here ∷ []) row in
+    grind (arith, common_steps, add-one, append_assoc, is_change-next, last_pixel-append, length-append, listed, step)
 
 -- the changes of a row, by recursion
 pub changes-recursive : (row : Row) → changes row ≡ changes_from 0 false row

@@ -1,5 +1,5 @@
 -- What painting does to the changes.
-use Rattle.std.proofs.Common.{◌≡◌, ℕ, zero, suc, ◌+◌, Bool, true, false, cond, List, [], ◌∷◌, ◌++◌, length, replicate, refl, sym, arith}
+use Rattle.std.proofs.Common.{◌≡◌, ℕ, zero, suc, ◌+◌, Bool, true, cond, List, [], ◌∷◌, ◌++◌, length, replicate, refl, arith}
 use mathlib.Core.Bool.{beq}
 use Rattle.hayro_ccitt.specs.Rows.{Row, last_pixel}
 use Rattle.std.proofs.lemmas.Grind.{common_steps}

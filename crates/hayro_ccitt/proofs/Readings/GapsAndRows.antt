@@ -1,19 +1,16 @@
 -- The first gap, and what gaps and rows lead to.
-use Rattle.std.proofs.Common.{◌≡◌, ◌≢◌, ◌<◌, suc, Bool, true, false, cond, not, ◌&&◌, eqb, [], length, arith, Result, Ok, Err, refl, ap, subst, ◌∙◌, ℕ}
-use Rattle.std.proofs.lemmas.Bool.{and_left, and_right, cond-false}
+use Rattle.std.proofs.Common.{◌≡◌, ◌≢◌, ◌<◌, suc, false, cond, [], length, arith, Result, Ok, Err, refl, ap, subst, ◌∙◌, ℕ}
 use Rattle.hayro_ccitt.specs.declared.error.DecodeError.{DecodeError}
 use Rattle.hayro_ccitt.specs.declared.error.DecodeError.TheVariants.{UnexpectedEof}
 use Rattle.hayro_ccitt.specs.declared.settings.DecodeSettings.{DecodeSettings}
-use Rattle.hayro_ccitt.specs.declared.settings.EncodingMode.{EncodingMode}
-use Rattle.hayro_ccitt.specs.declared.settings.EncodingMode.TheVariants.{Group4, Group3_1D, Group3_2D}
+use Rattle.hayro_ccitt.specs.declared.settings.EncodingMode.TheVariants.{Group4}
 use Rattle.hayro_ccitt.specs.Bits.{Bits, IsPrefix}
 use Rattle.hayro_ccitt.specs.Laws.{add_row_alone, row_behind, gap_and_row}
-use Rattle.hayro_ccitt.specs.PlainReading.{Progress, Ending, Move, at_end, limit_met, eols_here, is_over, ends_with, row_of_line, pass_gap, add_row, move_on, line_of_turn, at_front, first_line, first_gap, ending_from, ending_behind, end_of}
+use Rattle.hayro_ccitt.specs.PlainReading.{Progress, Ending, Move, eols_here, is_over, ends_with, row_of_line, pass_gap, add_row, move_on, line_of_turn, at_front, first_line, first_gap, ending_from, ending_behind, end_of}
 use Rattle.hayro_ccitt.specs.Repetition.{Turn, repeated, Reaches}
 use Rattle.hayro_ccitt.specs.Rows.{Row}
 use Rattle.hayro_ccitt.proofs.Readings.Repeated.{Follows, after_turn, repeated_follows, repeated_turn}
-use Rattle.hayro_ccitt.proofs.Readings.RowsAndGaps.{seek_eol, unless_over, pass_gap-is}
-use Rattle.hayro_ccitt.proofs.Readings.TurnsMoveOn.{left_to_read, left_below, move_shrinks, next_is, not_next}
+use Rattle.hayro_ccitt.proofs.Readings.TurnsMoveOn.{left_to_read, left_below, move_shrinks, not_next}
 use Rattle.hayro_ccitt.proofs.Readings.TurnsAddRows.{move_adds, repeated_adds}
 use Rattle.std.proofs.lemmas.Grind.{common_steps}
 
@@ -29,10 +26,6 @@ abbrev pub ending_t4 : DecodeSettings → Bits → Ending
 ending_t4 settings bits = ending_from (move_on settings) (first_line settings bits)
 
 -- ---- A gap where no EOLs are sought
-
-pub gap_unsought : (settings : DecodeSettings) (run : Progress) → run.has_eols ≡ false
-    → pass_gap settings run ≡ unless_over settings run (eols_here settings run.rest)
-gap_unsought settings run unsought = grind (arith, common_steps)
 
 -- EOLs were counted, and the row of the line after them is read
 abbrev pub row_behind_eols : DecodeSettings → Progress → ℕ × Bits → Move

@@ -1,4 +1,4 @@
-use Rattle.std.proofs.Common.{◌≡◌, ℕ, ◌+◌, ◌-◌, ◌*◌, ◌≤◌, length, drop, Some, None, sym, ap, ◌∙◌, arith}
+use Rattle.std.proofs.Common.{◌≡◌, ◌+◌, ◌-◌, ◌*◌, ◌≤◌, length, drop, Some, sym, ap, ◌∙◌, arith}
 use Rattle.hayro_ccitt.specs.Bits.{Bits, BitsAt, bits_of, here}
 use Rattle.hayro_ccitt.specs.EndOfLine.{after_eol, next_eol}
 use Rattle.hayro_ccitt.specs.Ticks.{looked}

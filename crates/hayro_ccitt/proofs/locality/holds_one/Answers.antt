@@ -1,7 +1,5 @@
-use Rattle.std.proofs.Common.{◌-◌, ◌≤◌, ap, ◌∙◌, length, drop, arith}
+use Rattle.std.proofs.Common.{arith}
 use Rattle.std.proofs.lemmas.List.{length-drop}
-use Rattle.hayro_ccitt.specs.Bits.{BitsAt, bits_of, here}
-use Rattle.hayro_ccitt.specs.CodeReading.{leading_zeros}
 use Rattle.hayro_ccitt.proofs.BitReading.BitLists.{length-bits_of}
 use Rattle.hayro_ccitt.proofs.DamagedLines.BodyTests.{one_by_zeros}
 use Rattle.hayro_ccitt.proofs.locality.holds_one.Goals as goal

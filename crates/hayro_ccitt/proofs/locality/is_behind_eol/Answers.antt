@@ -1,6 +1,4 @@
-use Rattle.std.proofs.Common.{◌≤◌, length, sym, ap, ◌∙◌, arith}
-use Rattle.hayro_ccitt.specs.Bits.{BitsAt, bits_of, here}
-use Rattle.hayro_ccitt.specs.EndOfLine.{after_eol}
+use Rattle.std.proofs.Common.{arith}
 use Rattle.hayro_ccitt.proofs.BitReading.BitLists.{length-bits_of}
 use Rattle.hayro_ccitt.proofs.DamagedLines.BodyTests.{behind_eol}
 use Rattle.hayro_ccitt.proofs.locality.is_behind_eol.Goals as goal

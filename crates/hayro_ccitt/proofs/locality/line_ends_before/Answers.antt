@@ -1,8 +1,8 @@
-use Rattle.std.proofs.Common.{◌≡◌, ◌≢◌, ℕ, ◌+◌, ◌≤◌, false, length, drop, Err, refl, sym, ap, subst, ◌∙◌, arith}
+use Rattle.std.proofs.Common.{◌≡◌, ◌≢◌, ◌+◌, ◌≤◌, false, length, drop, Err, refl, sym, ap, subst, ◌∙◌, arith}
 use Rattle.hayro_ccitt.specs.declared.error.DecodeError.TheVariants.{OutOfMemory}
 use Rattle.std.proofs.lemmas.Bool.{false≢true}
 use Rattle.hayro_ccitt.specs.Answers.{DrawsLine, words_from_1d}
-use Rattle.hayro_ccitt.specs.Bits.{Bits, BitsAt, bits_of, here}
+use Rattle.hayro_ccitt.specs.Bits.{BitsAt, bits_of, here}
 use Rattle.hayro_ccitt.specs.Context.{Context}
 use Rattle.hayro_ccitt.specs.Lines.{Line, line_1d, found_1d}
 use Rattle.hayro_ccitt.proofs.BitReading.BitLists.{length-bits_of}

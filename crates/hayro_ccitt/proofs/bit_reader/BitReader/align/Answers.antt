@@ -1,5 +1,4 @@
-use Rattle.std.proofs.Common.{◌≡◌, ◌+◌, ◌*◌, ◌/◌, ◌%◌, ◌-◌, length, min, ap, ◌∙◌, arith}
-use Rattle.hayro_ccitt.specs.Bits.{bits_in, here}
+use Rattle.std.proofs.Common.{min, arith}
 use Rattle.hayro_ccitt.proofs.BitReading.BitLists.{length-bits_in}
 use Rattle.hayro_ccitt.proofs.BitReading.BitPlaces.{bits_at, aligned-drop}
 use Rattle.hayro_ccitt.proofs.bit_reader.BitReader.align.Goals as goal

@@ -1,10 +1,9 @@
-use Rattle.std.proofs.Common.{length, ◌≡◌, ℕ, Option, Some, ◌+◌, ◌<◌, Err, refl, ap, ◌∙◌, arith}
+use Rattle.std.proofs.Common.{◌≡◌, ℕ, Option, Some, Err, refl, arith}
 use Rattle.std.specs.Option.{SomeIff}
 use Rattle.std.proofs.lemmas.Result.{err_from_is_err_and}
 use Rattle.hayro_ccitt.specs.declared.error.DecodeError.{DecodeError}
 use Rattle.hayro_ccitt.specs.Bits.{here}
-use Rattle.hayro_ccitt.specs.Runs.{codes_of, run_from}
-use Rattle.hayro_ccitt.specs.Ticks.{run_found}
+use Rattle.hayro_ccitt.specs.Runs.{codes_of}
 use Rattle.hayro_ccitt.proofs.CodeWords.RunWords.{run_found_on, run_found_missed}
 use Rattle.hayro_ccitt.proofs.CodeWords.ReadCodes.{read_code_missed}
 use Rattle.hayro_ccitt.proofs.CodeWords.ReadRuns.{read_code_shorter, words_not_empty, run_goes_on}

@@ -1,8 +1,6 @@
-use Rattle.std.proofs.Common.{◌≡◌, ℕ, ◌+◌, ◌<◌, true, false, ◌∷◌, ◌++◌, drop, replicate, ap, ◌∙◌, arith}
+use Rattle.std.proofs.Common.{◌≡◌, ℕ, ◌+◌, ◌<◌, true, false, ◌∷◌, ◌++◌, drop, replicate, arith}
 use lib.Count.{count_leading_zeros}
 use Rattle.hayro_ccitt.specs.Bits.{Bits, here}
-use Rattle.hayro_ccitt.specs.EndOfLine.{after_eol}
-use Rattle.hayro_ccitt.specs.Ticks.{looked}
 use Rattle.hayro_ccitt.proofs.BitReading.SoughtEols.{few_zeros}
 use Rattle.hayro_ccitt.proofs.BitReading.ZeroRuns.{looked_run}
 use Rattle.hayro_ccitt.proofs.BitReading.ZerosPassed.{run_ahead, near_one}

@@ -1,5 +1,5 @@
-use Rattle.std.proofs.Common.{◌≡◌, sym, ap, ◌∙◌, arith}
-use Rattle.hayro_ccitt.specs.Bits.{Bits, here}
+use Rattle.std.proofs.Common.{sym, ap, ◌∙◌, arith}
+use Rattle.hayro_ccitt.specs.Bits.{Bits}
 use Rattle.hayro_ccitt.specs.EndOfLine.{pass_last_tag}
 use Rattle.hayro_ccitt.proofs.BitReading.TaggedEols.{last_tag-one}
 use Rattle.hayro_ccitt.proofs.bit_reader.BitReader.pass_last_tag.Goals as goal

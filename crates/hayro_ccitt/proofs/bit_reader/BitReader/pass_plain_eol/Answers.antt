@@ -1,5 +1,4 @@
 use Rattle.std.proofs.Common.{arith}
-use Rattle.hayro_ccitt.specs.Bits.{here}
 use Rattle.hayro_ccitt.proofs.BitReading.PlainEols.{plain_eol, plain_eol_within, twelve_more, eleven_are_eol}
 use Rattle.hayro_ccitt.proofs.bit_reader.BitReader.pass_plain_eol.Goals as goal
 use Rattle.std.proofs.lemmas.Grind.{common_steps}

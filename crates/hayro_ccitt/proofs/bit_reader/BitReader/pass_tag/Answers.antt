@@ -1,5 +1,4 @@
 use Rattle.std.proofs.Common.{◌≡◌, sym, ap, ◌∙◌, arith}
-use Rattle.hayro_ccitt.specs.Bits.{here}
 use Rattle.hayro_ccitt.specs.EndOfLine.{past_tag}
 use Rattle.hayro_ccitt.specs.Ticks.{looked_at_tag}
 use Rattle.hayro_ccitt.proofs.BitReading.TaggedEols.{past_tag-eol, past_tag-none}

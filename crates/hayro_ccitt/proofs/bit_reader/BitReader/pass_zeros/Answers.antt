@@ -1,5 +1,4 @@
-use Rattle.std.proofs.Common.{ap, ◌∙◌, arith}
-use Rattle.hayro_ccitt.specs.Bits.{BitsAt}
+use Rattle.std.proofs.Common.{arith}
 use Rattle.hayro_ccitt.proofs.BitReading.ZerosPassed.{word_passed, one_follows}
 use Rattle.hayro_ccitt.proofs.bit_reader.BitReader.pass_zeros.Goals as goal
 use Rattle.std.proofs.lemmas.Grind.{common_steps}

@@ -1,6 +1,4 @@
-use Rattle.std.proofs.Common.{◌≡◌, Some, ◌∙◌, arith}
-use Rattle.hayro_ccitt.specs.Bits.{here}
-use Rattle.hayro_ccitt.specs.EndOfLine.{after_eol}
+use Rattle.std.proofs.Common.{arith}
 use Rattle.hayro_ccitt.proofs.BitReading.ZeroRuns.{looked_eol, eols_stepped}
 use Rattle.hayro_ccitt.proofs.bit_reader.BitReader.read_eols.Goals as goal
 use Rattle.std.proofs.lemmas.Grind.{common_steps}

@@ -1,5 +1,4 @@
-use Rattle.std.proofs.Common.{◌≡◌, length, min, ap, ◌∙◌, arith}
-use Rattle.hayro_ccitt.specs.Bits.{bits_in}
+use Rattle.std.proofs.Common.{min, arith}
 use Rattle.hayro_ccitt.proofs.BitReading.BitLists.{length-bits_in}
 use Rattle.hayro_ccitt.proofs.BitReading.BitPlaces.{bits_at}
 use Rattle.hayro_ccitt.proofs.bit_reader.BitReader.refill_near_end.Goals as goal

@@ -1,8 +1,5 @@
-use Rattle.std.proofs.Common.{◌≡◌, ◌+◌, ◌<◌, ◌≤◌, Some, refl, length, sym, ap, ◌∙◌, arith}
+use Rattle.std.proofs.Common.{arith}
 use Rattle.std.proofs.lemmas.Bool.{le-leb}
-use Rattle.hayro_ccitt.specs.Bits.{Bits, BitsAt, here}
-use Rattle.hayro_ccitt.specs.EndOfLine.{after_eol, next_eol}
-use Rattle.hayro_ccitt.specs.Ticks.{looked}
 use Rattle.hayro_ccitt.proofs.BitReading.ZeroRuns.{looked_run}
 use Rattle.hayro_ccitt.proofs.BitReading.SoughtEols.{next_eol-behind, next_eol-here, next_eol-zeros, looked-one, looked-zeros}
 use Rattle.hayro_ccitt.proofs.bit_reader.BitReader.skip_to_eol.Goals as goal

@@ -1,9 +1,8 @@
-use Rattle.std.proofs.Common.{◌≡◌, ◌-◌, ◌++◌, ◌∷◌, replicate, true, false, refl, sym, ap, ◌∙◌, arith}
+use Rattle.std.proofs.Common.{◌≡◌, ◌-◌, ◌++◌, ◌∷◌, replicate, true, false, sym, ap, ◌∙◌, arith}
 use Rattle.std.proofs.lemmas.List.{append-nil, length-replicate}
-use Rattle.hayro_ccitt.specs.Bits.{Bits, BitsAt, here}
+use Rattle.hayro_ccitt.specs.Bits.{here}
 use Rattle.hayro_ccitt.specs.CodeReading.{leading_zeros}
 use Rattle.hayro_ccitt.specs.EndOfLine.{after_eol}
-use Rattle.hayro_ccitt.specs.Ticks.{looked}
 use Rattle.hayro_ccitt.proofs.BitReading.SoughtEols.{zeros_end, looked-zeros}
 use Rattle.hayro_ccitt.proofs.BitReading.ZeroRuns.{after_eol_run, looked_run, leading_zeros-one, leading_zeros-replicate}
 use Rattle.hayro_ccitt.proofs.BitReading.ZerosPassed.{run_passed, one_passed}
