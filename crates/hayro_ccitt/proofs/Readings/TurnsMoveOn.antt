@@ -366,9 +366,3 @@ pub few_eols : (encoding : EncodingMode) (count : ℕ) → count < 2 → leb (eo
 few_eols Group4 count few = lt-leb 2 count few
 few_eols Group3_1D count few = lt-leb 6 count (omega (arith, few))
 few_eols Group3_2D count few = lt-leb 6 count (omega (arith, few))
-
--- six end all
-pub many_eols : (encoding : EncodingMode) (count : ℕ) → 6 ≤ count → leb (eols_of_end encoding) count ≡ true
-many_eols Group4 count many = le-leb 2 count (omega (arith, many))
-many_eols Group3_1D count many = le-leb 6 count many
-many_eols Group3_2D count many = le-leb 6 count many

@@ -1,5 +1,5 @@
 -- Where a strict reading is at no fault, a lenient one gets over no damage.
-use Rattle.std.proofs.Common.{◌≡◌, ◌<◌, ◌+◌, ◌-◌, ◌⊎◌, ◌≢◌, inl, inr, ℕ, zero, suc, Bool, true, false, cond, not, ◌&&◌, eqb, List, [], ◌∷◌, ◌++◌, length, take, Result, Ok, Err, refl, sym, ap, subst, ◌∙◌, arith}
+use Rattle.std.proofs.Common.{◌≡◌, ◌<◌, ◌+◌, ◌-◌, ◌⊎◌, inl, inr, ℕ, zero, suc, Bool, true, false, cond, ◌&&◌, eqb, List, [], ◌∷◌, ◌++◌, length, take, Err, refl, sym, ap, subst, ◌∙◌, arith}
 use Rattle.std.specs.Prelude.{IsOk, sum_by, flat_map}
 use Rattle.std.proofs.lemmas.Bool.{cond-true, cond-false, cases_lt, cases_eq, eq-eqb, ne_eqb, false≢true}
 use Rattle.std.proofs.lemmas.List.{length-append}
@@ -16,7 +16,7 @@ use Rattle.hayro_ccitt.specs.Damage.{Damaged, repaired_in, repaired_by_turn, mis
 use Rattle.hayro_ccitt.specs.Laws.{StrictIsUndamaged, PicturesAreUndamaged}
 use Rattle.hayro_ccitt.specs.Lines.{Line}
 use Rattle.hayro_ccitt.specs.Pictures.{IsClosedPicture, IsLimitedPicture}
-use Rattle.hayro_ccitt.specs.PlainReading.{Progress, Ending, Gap, Move, Reading, row_before, after_line, line_of_turn, misses_eol, behind_row, gap_behind_row, with_row, at_gap, pass_gap, at_front, move_on, one_each, first_gap, ending_from, ending_behind, end_of, gathered_from, gathered_behind, gathered_of, plain, bytes_before}
+use Rattle.hayro_ccitt.specs.PlainReading.{Progress, Ending, Gap, Move, Reading, row_before, after_line, line_of_turn, misses_eol, behind_row, gap_behind_row, with_row, at_gap, pass_gap, at_front, move_on, one_each, first_gap, ending_from, ending_behind, end_of, gathered_from, gathered_behind, gathered_of, plain}
 use Rattle.hayro_ccitt.specs.Repetition.{Turn, repeated, gathered}
 use Rattle.hayro_ccitt.specs.Rows.{Row}
 use Rattle.hayro_ccitt.proofs.EncodedPictures.PicturesOfEachKind.{closed_pictures, limited_pictures}

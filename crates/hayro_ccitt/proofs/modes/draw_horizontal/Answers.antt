@@ -1,8 +1,4 @@
-use Rattle.std.proofs.Common.{◌≡◌, ◌≤◌, ◌+◌, ℕ, List, [], ◌∷◌, ◌++◌, ap, refl, subst, arith}
-use Rattle.hayro_ccitt.specs.Bits.{BitsAt}
-use Rattle.hayro_ccitt.specs.UsualModes.{GoesOn2d}
-use Rattle.hayro_ccitt.specs.UsualRuns.{pen_at}
-use Rattle.hayro_ccitt.specs.Window.{moved}
+use Rattle.std.proofs.Common.{◌≡◌, ◌+◌, refl, arith}
 use Rattle.hayro_ccitt.proofs.DrawingLines.UsualModes.{horizontal_on, horizontal_near, first_lawful, first_stroke, horizontal_stroke}
 use Rattle.hayro_ccitt.proofs.DrawingLines.UsualStrokes.{pixels-pending}
 use Rattle.hayro_ccitt.proofs.modes.draw_horizontal.Goals as goal

@@ -1,4 +1,4 @@
-use Rattle.std.proofs.Common.{◌≡◌, ◌≤◌, ◌+◌, ◌-◌, get_or, negsuc, arith}
+use Rattle.std.proofs.Common.{◌-◌, negsuc, arith}
 use Rattle.hayro_ccitt.proofs.DrawingLines.UsualModes.{vertical_on, b1_within, left_stroke, named_left}
 use Rattle.hayro_ccitt.proofs.DrawingLines.UsualStrokes.{pixels-pending}
 use Rattle.hayro_ccitt.proofs.modes.draw_left.Goals as goal

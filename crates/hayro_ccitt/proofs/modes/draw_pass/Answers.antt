@@ -1,4 +1,4 @@
-use Rattle.std.proofs.Common.{◌≡◌, ◌≤◌, ◌+◌, ◌-◌, get_or, arith}
+use Rattle.std.proofs.Common.{◌≡◌, ◌+◌, get_or, arith}
 use Rattle.hayro_ccitt.proofs.DrawingLines.UsualModes.{pass_on, b2_within, b2_onward, full_stroke, pass_stroke}
 use Rattle.hayro_ccitt.proofs.modes.draw_pass.Goals as goal
 
