@@ -30,6 +30,7 @@ MANDIR ?= $(PREFIX)/share/man
 BUILD = build
 PROVED = crates/hayro_ccitt_c/out/libhayro_ccitt_c.a
 FAXROWS = crates/faxrows/out/faxrows
+FAXPACK = crates/faxpack/out/faxpack
 HEADERS = c/hayro_ccitt.h c/fax_encode.h c/hayro_ccitt_heap.h
 CALLS = hayro_ccitt_measure hayro_ccitt_decode_packed hayro_ccitt_decode_changes \
 	hayro_ccitt_open hayro_ccitt_next_changes hayro_ccitt_next_packed hayro_ccitt_close fax_encode_bitmap
@@ -39,20 +40,21 @@ SHARED = libhayro_ccitt.so.$(VERSION)
 SONAME = libhayro_ccitt.so.$(INTERFACE)
 OBJECTS = $(BUILD)/proved.o $(BUILD)/calls.o $(BUILD)/heap.o
 
-.PHONY: all library programs check install uninstall clean prove-library prove-program
+.PHONY: all library programs check install uninstall clean prove-library prove-programs
 
 all: library programs
 library: $(BUILD)/libhayro_ccitt.a $(BUILD)/libhayro_ccitt.so $(BUILD)/hayro_ccitt.pc
-programs: prove-program $(BUILD)/faxrows $(EXAMPLES:%=$(BUILD)/%)
+programs: prove-programs $(BUILD)/faxrows $(BUILD)/faxpack $(EXAMPLES:%=$(BUILD)/%)
 
 # rt itself rebuilds what has changed, and what depends on it.
 prove-library:
 	cd crates/hayro_ccitt_c && $(RT) lib $(RT_JOBS)
-prove-program:
+prove-programs:
 	cd crates/faxrows && printf '\061\300' | $(RT) run $(RT_JOBS) -- g4 8 1 -
+	cd crates/faxpack && printf 'P4\n8 1\n\030' | $(RT) run $(RT_JOBS) -- g4 - > /dev/null
 
 $(PROVED): prove-library ;
-$(FAXROWS): prove-program ;
+$(FAXROWS) $(FAXPACK): prove-programs ;
 
 $(BUILD):
 	mkdir -p $@
@@ -76,6 +78,8 @@ $(BUILD)/hayro_ccitt.pc: c/hayro_ccitt.pc.in c/hayro_ccitt.h Makefile | $(BUILD)
 
 $(BUILD)/faxrows: $(FAXROWS) | $(BUILD)
 	cp $< $@
+$(BUILD)/faxpack: $(FAXPACK) | $(BUILD)
+	cp $< $@
 $(BUILD)/%: examples/%.c $(HEADERS) $(BUILD)/libhayro_ccitt.a
 	$(CC) $(CFLAGS) $(WARNINGS) -std=c99 -Ic $(LDFLAGS) -o $@ $< $(BUILD)/libhayro_ccitt.a
 
@@ -84,6 +88,7 @@ check: all
 	$(CC) $(CFLAGS) $(WARNINGS) -Ic -o $(BUILD)/first $(BUILD)/first.c $(BUILD)/libhayro_ccitt.a
 	test "$$($(BUILD)/first)" = 18
 	$(BUILD)/strip_to_pbm g4 1240 1754 b < corpus/strips/page/gs-g4 | tail -c +14 | cmp - corpus/pictures/page
+	$(BUILD)/faxpack -o g4 1240 1754 b < corpus/pictures/page | $(BUILD)/faxrows -o g4 1240 1754 b | cmp - corpus/pictures/page
 	@echo "the first program and a picture: as they should be"
 
 install: $(if $(wildcard $(BUILD)/faxrows),,all)
@@ -96,15 +101,15 @@ install: $(if $(wildcard $(BUILD)/faxrows),,all)
 	ln -sf $(SHARED) $(DESTDIR)$(LIBDIR)/$(SONAME)
 	ln -sf $(SONAME) $(DESTDIR)$(LIBDIR)/libhayro_ccitt.so
 	$(INSTALL) -m 644 $(BUILD)/hayro_ccitt.pc $(DESTDIR)$(LIBDIR)/pkgconfig
-	$(INSTALL) -m 755 $(BUILD)/faxrows $(BUILD)/fax2pbm $(DESTDIR)$(BINDIR)
-	$(INSTALL) -m 644 man/faxrows.1 $(DESTDIR)$(MANDIR)/man1
+	$(INSTALL) -m 755 $(BUILD)/faxrows $(BUILD)/faxpack $(BUILD)/fax2pbm $(DESTDIR)$(BINDIR)
+	$(INSTALL) -m 644 man/faxrows.1 man/faxpack.1 $(DESTDIR)$(MANDIR)/man1
 	$(INSTALL) -m 644 man/hayro_ccitt.3 $(DESTDIR)$(MANDIR)/man3
 
 uninstall:
 	cd $(DESTDIR)$(INCLUDEDIR) && rm -f $(notdir $(HEADERS))
 	cd $(DESTDIR)$(LIBDIR) && rm -f libhayro_ccitt.a $(SHARED) $(SONAME) libhayro_ccitt.so pkgconfig/hayro_ccitt.pc
-	cd $(DESTDIR)$(BINDIR) && rm -f faxrows fax2pbm
-	cd $(DESTDIR)$(MANDIR) && rm -f man1/faxrows.1 man3/hayro_ccitt.3
+	cd $(DESTDIR)$(BINDIR) && rm -f faxrows faxpack fax2pbm
+	cd $(DESTDIR)$(MANDIR) && rm -f man1/faxrows.1 man1/faxpack.1 man3/hayro_ccitt.3
 
 clean:
 	rm -rf $(BUILD)

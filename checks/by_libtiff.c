@@ -3,8 +3,9 @@
  *   by_libtiff decode MODE COLUMNS ROWS FILE < strip > bitmap
  *   by_libtiff encode MODE COLUMNS ROWS FILE < bitmap > strip
  *
- * MODE is g4, 1d, or rle: lines of 1d without EOLs, aligned to bytes. FILE is a name for a TIFF file of one strip. The status is
- * 0 if libtiff reports neither an error nor a warning. */
+ * MODE is g4, 1d, 2d, or rle: lines of 1d without EOLs, aligned to bytes. After it may come a colon and letters: f for EOLs that
+ * end at whole bytes, r for the lowest bit of each byte first, h for a high resolution, at which libtiff's K is 4, and not 2. FILE
+ * is a name for a TIFF file of one strip. The status is 0 if libtiff reports neither an error nor a warning. */
 #include <stdint.h>
 #include <stdio.h>
 #include <stdlib.h>
@@ -36,7 +37,7 @@ int main(int count, char **words)
     TIFFSetErrorHandler(say);
     TIFFSetWarningHandler(say);
     int decodes = !strcmp(words[1], "decode");
-    const char *mode = words[2];
+    const char *mode = words[2], *letters = strchr(mode, ':');
     uint32_t columns = strtoul(words[3], NULL, 10), rows = strtoul(words[4], NULL, 10);
     size_t size = ((size_t)columns + 7) / 8 * rows, room = 16 * size + (1 << 16);
     uint8_t *in = malloc(room), *out = calloc(1, room);
@@ -51,7 +52,14 @@ int main(int count, char **words)
     TIFFSetField(tiff, TIFFTAG_BITSPERSAMPLE, 1);
     TIFFSetField(tiff, TIFFTAG_PHOTOMETRIC, PHOTOMETRIC_MINISWHITE);
     TIFFSetField(tiff, TIFFTAG_COMPRESSION,
-                 !strcmp(mode, "g4") ? COMPRESSION_CCITTFAX4 : !strcmp(mode, "1d") ? COMPRESSION_CCITTFAX3 : COMPRESSION_CCITTRLE);
+                 *mode == 'g' ? COMPRESSION_CCITTFAX4 : *mode == 'r' ? COMPRESSION_CCITTRLE : COMPRESSION_CCITTFAX3);
+    if (*mode == '1' || *mode == '2')
+        TIFFSetField(tiff, TIFFTAG_GROUP3OPTIONS,
+                     (*mode == '2' ? GROUP3OPT_2DENCODING : 0) | (letters && strchr(letters, 'f') ? GROUP3OPT_FILLBITS : 0));
+    if (letters && strchr(letters, 'r'))
+        TIFFSetField(tiff, TIFFTAG_FILLORDER, FILLORDER_LSB2MSB);
+    if (letters && strchr(letters, 'h'))
+        TIFFSetField(tiff, TIFFTAG_YRESOLUTION, 196.0);
     tmsize_t made = decodes ? TIFFWriteRawStrip(tiff, 0, in, length) : TIFFWriteEncodedStrip(tiff, 0, in, length);
     TIFFClose(tiff);
 

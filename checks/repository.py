@@ -169,6 +169,7 @@ NO_WRONG_BODY = {
     },
     # It returns the only value of a type parameter that it has.
     "faxrows": {"device::Device::into_inner"},
+    "fax_program": {"device::Device::into_inner"},
 }
 
 

@@ -23,6 +23,7 @@ import hostile  # noqa: E402
 import installed  # noqa: E402
 import large  # noqa: E402
 import memory  # noqa: E402
+import packing  # noqa: E402
 import program  # noqa: E402
 import refusals  # noqa: E402
 import repository  # noqa: E402
@@ -31,30 +32,31 @@ import users  # noqa: E402
 from left_out import LEFT_OUT  # noqa: E402
 
 
-def build():
-    """The program as LLVM builds it. `rt run` proves it first, and runs it with its stored arguments and input.
+def build(name, path):
+    """A program as LLVM builds it. `rt run` proves it first, and runs it with its stored arguments and input.
 
     Its status is the program's own if it was built, so that a program of an older build is never used.
     """
-    folder = "crates/faxrows"
+    folder = f"crates/{name}"
     with open(f"{folder}/args", encoding="utf-8") as file:
         words = file.read().splitlines()
     with open(f"{folder}/stdin", "rb") as stored:
         done = subprocess.run(["rt", "run", "--", *words], cwd=folder, stdin=stored, capture_output=True, check=False)
-    if done.returncode != 0 or not os.path.exists(program.PROGRAM):
+    if done.returncode != 0 or not os.path.exists(path):
         print(done.stdout.decode(errors="replace")[-2000:], done.stderr.decode(errors="replace")[-2000:])
-        sys.exit("faxrows was not built")
+        sys.exit(f"{name} was not built")
 
 
 def main():
     passed = failed = 0
     all_files = [
-        repository, program, built_tests, c_library, row_by_row, encoder, refusals, devices, cuts, hostile, memory, large, installed, users, files, cost,
+        repository, program, built_tests, packing, c_library, row_by_row, encoder, refusals, devices, cuts, hostile, memory, large, installed, users, files, cost,
     ]
     words = sys.argv[1:]
     chosen = [it for it in all_files if not words or (it.__name__ in words) != (words[0] == "--without")]
     if {*chosen} - {repository, built_tests}:
-        build()
+        build("faxrows", program.PROGRAM)
+        build("faxpack", packing.PROGRAM)
     for check in [check for file in chosen for check in file.CHECKS]:
         try:
             check()

@@ -78,6 +78,3 @@ fn status_of_answer(answer: Result<(), PictureFault>) -> u8
         Err(_) => 1,
     }
 }
-
-#[cfg(test)]
-mod tests;
