@@ -12,12 +12,12 @@ NAMED = {
         "settings_tests::refused_memory": (10, 8),
         "settings_tests::refused_memory_row_by_row": (11, 9),
         "settings_tests::wanting_memory_stays": (1, 1),
-        "tests::refused_memory": (40, 34),
+        "tests::refused_memory": (36, 30),
         "tests::sink_without_memory": (1, 0),
     },
     "faxrows": {
-        "tests::refused_memory_by_row": (57, 24),
-        "tests::refused_memory_of_damage": (38, 16),
+        "tests::refused_memory_by_row": (57, 18),
+        "tests::refused_memory_of_damage": (38, 12),
         "tests::sink_without_memory": (1, 0),
     },
     "worked_rows": {
