@@ -32,8 +32,9 @@ PROVED = crates/hayro_ccitt_c/out/libhayro_ccitt_c.a
 FAXROWS = crates/faxrows/out/faxrows
 FAXPACK = crates/faxpack/out/faxpack
 HEADERS = c/hayro_ccitt.h c/fax_encode.h c/hayro_ccitt_heap.h
-CALLS = hayro_ccitt_measure hayro_ccitt_decode_packed hayro_ccitt_decode_changes fax_encode_bitmap
-EXAMPLES = strip_to_pbm pbm_to_strip fax2pbm
+CALLS = hayro_ccitt_measure hayro_ccitt_decode_packed hayro_ccitt_decode_changes \
+	hayro_ccitt_open hayro_ccitt_next_changes hayro_ccitt_next_packed hayro_ccitt_close fax_encode_bitmap
+EXAMPLES = strip_to_pbm pbm_to_strip fax2pbm rows_to_pbm
 
 SHARED = libhayro_ccitt.so.$(VERSION)
 SONAME = libhayro_ccitt.so.$(INTERFACE)

@@ -17,6 +17,8 @@ pub struct Outcome {
     rows: u64,
     changes: u64,
     bytes_read: u64,
+    damaged_rows: u64,
+    reserved: [u64; 2],
 }
 
 struct Count<'a>(&'a mut Outcome);

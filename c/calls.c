@@ -13,6 +13,10 @@ uint32_t proved_hayro_ccitt_decode_packed(const uint8_t *, size_t, const hayro_c
                                           hayro_ccitt_outcome *);
 uint32_t proved_hayro_ccitt_decode_changes(const uint8_t *, size_t, const hayro_ccitt_settings *, uint32_t *, size_t,
                                            hayro_ccitt_outcome *);
+uint32_t proved_hayro_ccitt_open(const uint8_t *, size_t, const hayro_ccitt_settings *, hayro_ccitt_reader *);
+uint32_t proved_hayro_ccitt_next_changes(const uint8_t *, size_t, hayro_ccitt_reader *, uint32_t *, size_t, hayro_ccitt_row *);
+uint32_t proved_hayro_ccitt_next_packed(const uint8_t *, size_t, hayro_ccitt_reader *, uint8_t *, size_t, hayro_ccitt_row *);
+uint32_t proved_hayro_ccitt_close(hayro_ccitt_reader *);
 uint32_t proved_fax_encode_bitmap(const uint8_t *, size_t, const fax_encode_settings *, uint8_t *, size_t, fax_encode_outcome *);
 
 #ifdef __cplusplus
@@ -45,6 +49,31 @@ uint32_t hayro_ccitt_decode_changes(const uint8_t *data, size_t data_length, con
 {
     return proved_hayro_ccitt_decode_changes(OR_NONE(data, data_length, no_data), data_length, settings,
                                              OR_NONE(lists, lists_length, no_numbers), lists_length, outcome);
+}
+
+uint32_t hayro_ccitt_open(const uint8_t *data, size_t data_length, const hayro_ccitt_settings *settings,
+                          hayro_ccitt_reader *reader)
+{
+    return proved_hayro_ccitt_open(OR_NONE(data, data_length, no_data), data_length, settings, reader);
+}
+
+uint32_t hayro_ccitt_next_changes(const uint8_t *data, size_t data_length, hayro_ccitt_reader *reader, uint32_t *changes,
+                                  size_t changes_length, hayro_ccitt_row *row)
+{
+    return proved_hayro_ccitt_next_changes(OR_NONE(data, data_length, no_data), data_length, reader,
+                                           OR_NONE(changes, changes_length, no_numbers), changes_length, row);
+}
+
+uint32_t hayro_ccitt_next_packed(const uint8_t *data, size_t data_length, hayro_ccitt_reader *reader, uint8_t *packed,
+                                 size_t packed_length, hayro_ccitt_row *row)
+{
+    return proved_hayro_ccitt_next_packed(OR_NONE(data, data_length, no_data), data_length, reader,
+                                          OR_NONE(packed, packed_length, no_bytes), packed_length, row);
+}
+
+uint32_t hayro_ccitt_close(hayro_ccitt_reader *reader)
+{
+    return proved_hayro_ccitt_close(reader);
 }
 
 uint32_t fax_encode_bitmap(const uint8_t *bitmap, size_t bitmap_length, const fax_encode_settings *settings,

@@ -25,8 +25,8 @@
  * Threads. Calls share no state, so several threads may call at the same time. Don't call from a signal handler, nor after fork
  * in the child of a process with threads.
  *
- * Memory. The library allocates by malloc, and frees all of it before a call returns. hayro_ccitt_heap.h says how a program
- * gives it another allocator. */
+ * Memory. The library allocates by malloc, and frees all of it before a call returns, except what an open reader holds.
+ * hayro_ccitt_heap.h says how a program gives it another allocator. */
 #ifndef HAYRO_CCITT_H
 #define HAYRO_CCITT_H
 
@@ -66,9 +66,12 @@ typedef struct {
 
 /* What every call fills in, whatever it returns. */
 typedef struct {
-    uint64_t rows;       /* the number of rows that were decoded */
-    uint64_t changes;    /* the number of their changes of colour, saturated at 2 ^ 64 - 1 */
-    uint64_t bytes_read; /* the bytes consumed, if the call returns HAYRO_CCITT_OK; else 0 */
+    uint64_t rows;         /* the number of rows that were decoded */
+    uint64_t changes;      /* the number of their changes of colour, saturated at 2 ^ 64 - 1 */
+    uint64_t bytes_read;   /* the bytes consumed, if the call returns HAYRO_CCITT_OK; else 0 */
+    uint64_t damaged_rows; /* the number of rows among them whose line was damaged and repaired */
+    uint64_t reserved_1;   /* 0 */
+    uint64_t reserved_2;   /* 0 */
 } hayro_ccitt_outcome;
 
 /* What a call returns. Unless it is HAYRO_CCITT_NOT_TAKEN, the outcome's rows were decoded: on an error, those before it. */
@@ -79,8 +82,9 @@ enum {
     HAYRO_CCITT_OVERFLOW = 3,       /* a length or a position exceeds 32 bits, or a changing element lies left of a0 */
     HAYRO_CCITT_OUT_OF_MEMORY = 4,  /* an allocation failed */
     HAYRO_CCITT_REFUSED = 5,        /* there is no room for the next row, of which nothing is written */
-    HAYRO_CCITT_NOT_TAKEN = 6       /* the settings are invalid, or the data has 2 ^ 61 - 8 bytes or more; the outcome is zeros,
+    HAYRO_CCITT_NOT_TAKEN = 6,      /* the settings are invalid, or the data has 2 ^ 61 - 8 bytes or more; the outcome is zeros,
                                      * and nothing else is written */
+    HAYRO_CCITT_NO_ROW = 7          /* no row is left: only from the calls that read one row */
 };
 
 /* Counts rows and their changes. It never returns HAYRO_CCITT_REFUSED. */
@@ -97,6 +101,54 @@ uint32_t hayro_ccitt_decode_packed(const uint8_t *data, size_t data_length, cons
  * their values. */
 uint32_t hayro_ccitt_decode_changes(const uint8_t *data, size_t data_length, const hayro_ccitt_settings *settings,
                                     uint32_t *lists, size_t lists_length, hayro_ccitt_outcome *outcome);
+
+/* Rows one at a time, in memory for two rows and the tables of the code words, however long the data is: open a reader, read
+ * rows until the status isn't HAYRO_CCITT_OK, and close the reader. The rows, the last status and bytes_read are those of
+ * hayro_ccitt_decode_changes, except that HAYRO_CCITT_NO_ROW says what HAYRO_CCITT_OK says there. examples/rows_to_pbm.c is a
+ * program that does so.
+ *
+ * A reader doesn't keep the data: each call takes it again, and it must be the data of hayro_ccitt_open. With other data the
+ * rows are meaningless, but a call still returns, and reads and writes nothing else.
+ *
+ * Several readers may be open at a time. Each belongs to one thread at a time. A reader that isn't closed leaks its memory. */
+typedef struct {
+    void *reading;         /* the fields are the library's own: set all to zero before hayro_ccitt_open, change none after it, */
+    void *nowhere;         /* and don't copy an open reader */
+    unsigned char is_open;
+} hayro_ccitt_reader;
+
+/* What hayro_ccitt_next_changes and hayro_ccitt_next_packed fill in, of the last row that was read; zeros after
+ * HAYRO_CCITT_NOT_TAKEN. */
+typedef struct {
+    uint64_t rows;         /* the number of rows read so far */
+    uint64_t changes;      /* the number of changes of the last one */
+    uint64_t line_start;   /* the offset in bits at which its line begins, after its EOL */
+    uint64_t bytes_read;   /* the bytes consumed so far; after HAYRO_CCITT_NO_ROW, those of the image */
+    uint64_t damaged_rows; /* the number of rows read so far whose line was damaged and repaired */
+    uint64_t damage;       /* the status of the fault of the last row if its line was damaged and repaired; else 0 */
+    uint64_t reserved_1;   /* 0 */
+    uint64_t reserved_2;   /* 0 */
+} hayro_ccitt_row;
+
+/* Opens a reader before the first row. Unless it returns HAYRO_CCITT_OK, the reader stays as it is. HAYRO_CCITT_NOT_TAKEN also
+ * means that the reader is open. */
+uint32_t hayro_ccitt_open(const uint8_t *data, size_t data_length, const hayro_ccitt_settings *settings,
+                          hayro_ccitt_reader *reader);
+
+/* Reads the next row, and lists its changes; a row has at most `columns`. After HAYRO_CCITT_REFUSED the next call returns the
+ * same row; `changes` of `row` says how many numbers it needs. HAYRO_CCITT_NOT_TAKEN also means that the reader isn't open. After
+ * an error or HAYRO_CCITT_NO_ROW each further call returns the same. The numbers after the last change keep their values, and
+ * all of them unless the call returns HAYRO_CCITT_OK. */
+uint32_t hayro_ccitt_next_changes(const uint8_t *data, size_t data_length, hayro_ccitt_reader *reader, uint32_t *changes,
+                                  size_t changes_length, hayro_ccitt_row *row);
+
+/* The same, but packs the row, into (columns + 7) / 8 bytes as hayro_ccitt_decode_packed does. */
+uint32_t hayro_ccitt_next_packed(const uint8_t *data, size_t data_length, hayro_ccitt_reader *reader, uint8_t *packed,
+                                 size_t packed_length, hayro_ccitt_row *row);
+
+/* Closes a reader, and frees its memory. Returns HAYRO_CCITT_OK, or HAYRO_CCITT_NOT_TAKEN if it isn't open: then it does
+ * nothing. */
+uint32_t hayro_ccitt_close(hayro_ccitt_reader *reader);
 
 #ifdef __cplusplus
 }

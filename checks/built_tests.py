@@ -7,13 +7,23 @@ import tempfile
 # The tests of each crate that name allocations: how often each names one, and how many of these were made, and so refused. All
 # others name none. A test that has each allocation refused in turn names one more than there are.
 NAMED = {
-    "fax_callers": {"tests::refused_memory": (17, 14)},
-    "fax_encode": {"tests::refused_memory": (40, 34), "tests::sink_without_memory": (1, 0)},
-    "faxrows": {"tests::sink_without_memory": (1, 0)},
+    "fax_callers": {"tests::refused_memory": (11, 8)},
+    "fax_encode": {
+        "settings_tests::refused_memory": (10, 8),
+        "settings_tests::refused_memory_row_by_row": (11, 9),
+        "settings_tests::wanting_memory_stays": (1, 1),
+        "tests::refused_memory": (40, 34),
+        "tests::sink_without_memory": (1, 0),
+    },
+    "faxrows": {
+        "tests::refused_memory_by_row": (57, 24),
+        "tests::refused_memory_of_damage": (38, 16),
+        "tests::sink_without_memory": (1, 0),
+    },
     "worked_rows": {
         "tests::refused_memory::calls_without_memory": (1, 0),
+        "tests::refused_memory::contexts_without_memory": (1, 0),
         "tests::refused_memory::refused_bodies": (2, 1),
-        "tests::refused_memory::refused_contexts": (3, 2),
         "tests::refused_memory::refused_growths_of_a_row": (12, 11),
         "tests::refused_memory::refused_rows": (8, 5),
         "tests::refused_memory::white_rows_without_memory": (5, 0),

@@ -27,9 +27,10 @@ class Settings(ctypes.Structure):
 
 
 class Outcome(ctypes.Structure):
-    _fields_ = [(name, ctypes.c_uint64) for name in ("rows", "changes", "bytes_read")]
+    _fields_ = [(name, ctypes.c_uint64) for name in ("rows", "changes", "bytes_read", "damaged_rows", "reserved_1", "reserved_2")]
 
     def told(self):
+        assert (self.reserved_1, self.reserved_2) == (0, 0), (self.reserved_1, self.reserved_2)
         return self.rows, self.changes, self.bytes_read
 
 
@@ -88,7 +89,7 @@ def loaded(folder, heap="c/heap.c"):
 
 def called(call, data, settings, *memory):
     """The status and outcome of a call, with memory of these items and a guard after it."""
-    outcome = Outcome(7, 7, 7)
+    outcome = Outcome(*[7] * 6)
     source = (ctypes.c_uint8 * (len(data) + 1)).from_buffer_copy(data + b"\0")
     lent = [word for items in memory for word in (items, ctypes.c_size_t(len(items) - GUARD))]
     answer = call(source, ctypes.c_size_t(len(data)), ctypes.byref(settings), *lent, ctypes.byref(outcome))

@@ -22,9 +22,10 @@ def each_read_and_write():
             return done.returncode, done.stdout, done.stderr
 
         for words, data, rows, last in refusals.DATA[:3]:
-            for bitmap in ("", "-o "):
-                text = refusals.picture_of(8, rows) if bitmap else refusals.text_of(rows, last)
-                whole, all_words = (0, text, b""), bitmap + words
+            for first in ("", "-o ", "-i ", "-d "):
+                text = refusals.picture_of(8, rows) if first == "-o " else refusals.text_of(rows, last)
+                text = refusals.damage_of(words, len(rows), last) if first == "-d " else text
+                whole, all_words = (0, text, b""), first + words
                 assert run(all_words, data) == whole, all_words
                 assert run(all_words, data, READ_BYTES=1) == whole, all_words
                 for number in range(1, len(data) + 2):
@@ -33,8 +34,8 @@ def each_read_and_write():
                 assert run(all_words, data, READ_BYTES=1, READ_FAILS=len(data) + 2) == whole, "it reads after the end"
                 for most in (1, 3):
                     assert run(all_words, data, WRITE_BYTES=most, READ_BYTES=2) == whole, all_words
-                # the text is written in two pieces: the rows, and the last line
-                pieces = [text] if bitmap else [text[: -len(last) - 1], text[-len(last) - 1 :]]
+                # the text is written in two pieces: the rows, and the last line; row by row, and damage, in pieces of 64 KiB
+                pieces = [text] if first else [text[: -len(last) - 1], text[-len(last) - 1 :]]
                 fronts = [b"".join(pieces[:k]) + piece[:end] for k, piece in enumerate(pieces) for end in range(len(piece))]
                 for number, front in enumerate(fronts, 1):
                     for failing in ("WRITE_FAILS", "WRITE_TAKES_NONE"):
@@ -53,7 +54,7 @@ def each_read_and_write():
 def readers_without_end():
     """Input without an end, in 64 MB of memory: an allocation failure, and nothing is written."""
     runs = 0
-    for words in ("g4 8 0 -", "1d 8 1 l", "2d 4294967295 0 bls", "-o g4 8 1 -"):
+    for words in ("g4 8 0 -", "1d 8 1 l", "2d 4294967295 0 bls", "-o g4 8 1 -", "-i g4 8 1 -"):
         with open("/dev/zero", "rb") as zeros:
             done = subprocess.run(
                 [program.PROGRAM, *words.split()], stdin=zeros, capture_output=True, preexec_fn=refusals.limit_memory, timeout=60, check=False
@@ -63,4 +64,30 @@ def readers_without_end():
     print(f"  {runs} readers without end")
 
 
-CHECKS = [each_read_and_write, readers_without_end]
+def writes_in_pieces():
+    """Row by row text is written in pieces of at most 64 KiB, a line in two of them too: a writer that fails at its second
+    write has exactly the first piece."""
+    rows = 20000
+    text, data = b"r 3 5\n" * rows + b"ok 20000\n", b"\x31\xc0" + b"\xe0" * (rows - 1)
+    runs = 0
+    with tempfile.TemporaryDirectory() as folder:
+        variables = {**os.environ, "LD_PRELOAD": refusals.shim(folder, "devices")}
+        whole = program.run("-i g4 8 0 a".split(), data, env=variables)
+        last = whole.stdout[6 * rows :]
+        assert (whole.returncode, whole.stdout[: 6 * rows]) == (0, text[: 6 * rows]), whole.stdout[:60]
+        assert last == b"ok %d\n" % len(data), last
+        previous = 0
+        for number in range(1, 4):
+            done = program.run("-i g4 8 0 a".split(), data, env={**variables, "WRITE_FAILS": str(number)})
+            if done.returncode == 0:
+                break
+            assert (done.returncode, done.stderr) == (3, CANNOT_WRITE), done.returncode
+            assert whole.stdout.startswith(done.stdout), number
+            assert number == 1 or 65536 - 30 < len(done.stdout) - previous <= 65536, (number, len(done.stdout))
+            previous = len(done.stdout)
+            runs += 1
+    assert runs == 2, runs
+    print(f"  {runs} writers that fail within {len(text)} bytes")
+
+
+CHECKS = [each_read_and_write, readers_without_end, writes_in_pieces]

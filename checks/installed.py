@@ -25,6 +25,20 @@ static int same(uint32_t one, const hayro_ccitt_outcome *first, uint32_t two, co
     return one == two && first->rows == second->rows && first->changes == second->changes && first->bytes_read == second->bytes_read;
 }
 
+static uint32_t by_rows(const uint8_t *data, size_t length, const hayro_ccitt_settings *settings, uint8_t *bytes, uint32_t *numbers,
+                        hayro_ccitt_outcome *outcome)
+{
+    hayro_ccitt_reader reader = {0, 0, 0};
+    hayro_ccitt_row row;
+    uint32_t opened = hayro_ccitt_open(data, length, settings, &reader);
+    uint32_t listed = hayro_ccitt_next_changes(data, length, &reader, numbers, 0, &row);
+    uint32_t packed = hayro_ccitt_next_packed(data, length, &reader, bytes, 0, &row);
+    outcome->rows = row.rows;
+    outcome->changes = row.changes;
+    outcome->bytes_read = row.bytes_read;
+    return opened + 10 * listed + 100 * packed + 1000 * hayro_ccitt_close(&reader);
+}
+
 int main(void)
 {
     static const uint32_t widths[4] = {0, 1, 8, 1728};
@@ -54,6 +68,12 @@ int main(void)
                 all += !same(one, &first, two, &second);
                 one = hayro_ccitt_decode_changes(row, 2, &settings, NULL, 0, &first);
                 two = hayro_ccitt_decode_changes(row, 2, &settings, &number, 0, &second);
+                all += !same(one, &first, two, &second);
+                one = by_rows(NULL, 0, &settings, NULL, NULL, &first);
+                two = by_rows(&none, 0, &settings, &none, &number, &second);
+                all += !same(one, &first, two, &second);
+                one = by_rows(row, 2, &settings, NULL, NULL, &first);
+                two = by_rows(row, 2, &settings, &none, &number, &second);
                 all += !same(one, &first, two, &second);
                 one = fax_encode_bitmap(NULL, 0, &encoded, NULL, 0, &told);
                 two = fax_encode_bitmap(&none, 0, &encoded, &none, 0, &other);
@@ -176,7 +196,7 @@ def installed():
 
 
 def versions_agree(version):
-    """One version: of the header, hayro_ccitt.pc, the manual pages and CHANGELOG.md."""
+    """One version: of the header, hayro_ccitt.pc, `faxrows --version`, the manual pages and CHANGELOG.md."""
     with open("c/hayro_ccitt.h", encoding="utf-8") as file:
         header = file.read()
     number = 0
@@ -186,6 +206,9 @@ def versions_agree(version):
     with open("CHANGELOG.md", encoding="utf-8") as file:
         newest = re.search(r"^## (\S+)", file.read(), re.MULTILINE).group(1)
     assert newest == version, f"CHANGELOG.md: {newest}, not {version}"
+    for program in ("faxrows", "faxpack"):
+        with open(f"crates/{program}/src/main.rt", encoding="utf-8") as file:
+            assert f'const VERSION: &str = "{program} {version}";\n' in file.read(), version
     for name in ("man/faxrows.1", "man/faxpack.1", "man/hayro_ccitt.3"):
         with open(name, encoding="utf-8") as file:
             assert f'"hayro_ccitt {version}"' in file.read(), name

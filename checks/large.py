@@ -3,6 +3,7 @@ follows by rule from how the data is made, with the plain encoder of bench/strip
 import ctypes
 import itertools
 import os
+import resource
 import subprocess
 import sys
 import tempfile
@@ -65,7 +66,7 @@ def decodes(library, picture, mode, flags, data):
     for (read, letters), made in zip(in_both_orders(data, flags), [calls, calls[1:2]]):
         settings = c_library.settings_of(mode, picture.columns, 0, letters)
         for name, written in made:
-            outcome, lent = c_library.Outcome(7, 7, 7), []
+            outcome, lent = c_library.Outcome(*[7] * 6), []
             if written is not None:
                 memory = bytearray(b"\xa5" * len(written))
                 lent = [(ctypes.c_uint8 * len(memory)).from_buffer(memory), ctypes.c_size_t(len(memory) // (4 if name == CHANGES else 1))]
@@ -86,13 +87,15 @@ def encodes(library, picture, encoding, flags, data):
     assert memory == data, f"encoding {encoding} {flags}: other bytes"
 
 
-def writes(folder, words, data, pieces):
-    """Runs the program on data, and compares what it writes: each piece a number of times."""
+def writes(folder, words, data, pieces, memory=None):
+    """Runs the program on data, with at most this many bytes of memory where a limit is given, and compares what it writes: each
+    piece a number of times."""
     with open(f"{folder}/input", "wb") as file:
         file.write(data)
     command = ["timeout", LIMIT, program.PROGRAM, *words.split()]
+    limit = memory and (lambda: resource.setrlimit(resource.RLIMIT_AS, (memory, memory)))
     with open(f"{folder}/input", "rb") as stdin, open(f"{folder}/errors", "w+b") as errors:
-        with subprocess.Popen(command, stdin=stdin, stdout=subprocess.PIPE, stderr=errors) as done:
+        with subprocess.Popen(command, stdin=stdin, stdout=subprocess.PIPE, stderr=errors, preexec_fn=limit) as done:
             for piece, times in pieces:
                 for number in range(times):
                     found = done.stdout.read(len(piece))
@@ -187,6 +190,7 @@ def many_rows():
         decodes(library, picture, "1d", "bls", long)
         for read, letters in in_both_orders(long, "b"):
             size = writes(folder, f"1d {COLUMNS} 0 {letters}", read, [*text, ok(long)])
+            writes(folder, f"-i 1d {COLUMNS} 0 {letters}", read, [*text, ok(long)])
             writes(folder, f"-o 1d {COLUMNS} 0 {letters}", read, [(picture.bitmap, 1)])
         writes(folder, f"-o g4 {COLUMNS} 0 b", group_4, [(picture.bitmap, 1)])
     print(f"  {picture.count} rows, {picture.changes} changes; {size[0]} bytes read, {size[1]} of text, {len(picture.bitmap)} of bitmap")
@@ -206,9 +210,31 @@ def long_text():
     copies = V0 * ((WIDE_CHANGES + 1) * (WIDE_ROWS - 1))
     data = strips.packed(front + pairs + V0 + copies + EOL * 2)
     with tempfile.TemporaryDirectory() as folder:
-        _, size = writes(folder, f"g4 {(1 << 32) - 1} 0 b", data, [(text_of([row]) * 100, WIDE_ROWS // 100), ok(data)])
+        pieces = [(text_of([row]) * 100, WIDE_ROWS // 100), ok(data)]
+        _, size = writes(folder, f"g4 {(1 << 32) - 1} 0 b", data, pieces)
+        writes(folder, f"-i g4 {(1 << 32) - 1} 0 b", data, pieces, len(data) + 16 * MEGABYTE)
     assert size > 256 * MEGABYTE
     print(f"  {size} bytes of text")
+
+
+def rows_by_row():
+    """10 MB of Group 4 row by row, and for their damage, by the program in 16 MB more than the data. Without `-i` and `-d` it
+    takes more than that."""
+    first, *others = lines_2d()
+    cycles = "".join([first, *others]) * 8
+    times = 10 * MEGABYTE * 8 // len(cycles) + 1
+    data = strips.packed(cycles) * times + strips.packed(EOL * 2)
+    memory = len(data) + 16 * MEGABYTE
+    text = [(text_of(CYCLE) * 8, times), ok(data)]
+    with tempfile.TemporaryDirectory() as folder:
+        _, size = writes(folder, f"-i g4 {COLUMNS} 0 b", data, text, memory)
+        writes(folder, f"-d g4 {COLUMNS} 0 b", data, [(f"ok {8 * len(CYCLE) * times} 0 {len(data)}\n".encode(), 1)], memory)
+        try:
+            writes(folder, f"g4 {COLUMNS} 0 b", data, text, memory)
+        except AssertionError:
+            print(f"  {size} bytes of text from {len(data)} bytes of data in {memory} bytes of memory")
+            return
+    raise AssertionError("the whole text fits into memory that is for a row")
 
 
 def long_data():
@@ -218,6 +244,7 @@ def long_data():
     assert len(data) > 128 * MEGABYTE
     with tempfile.TemporaryDirectory() as folder:
         writes(folder, "1d 8 0 b", data, [(text_of([[3, 5]] * FILLED_ROWS), 1), ok(data)])
+        writes(folder, "-i 1d 8 0 b", data, [(text_of([[3, 5]] * FILLED_ROWS), 1), ok(data)])
         writes(folder, "-o 1d 8 0 b", data, [(b"\x18" * FILLED_ROWS, 1)])
     print(f"  {len(data)} bytes of data")
 
@@ -261,7 +288,7 @@ def settings_at_the_ends():
                 settings = c_library.settings_of(mode, columns, limit, flags)
                 read = data.translate(c_library.MIRRORED) if "r" in flags else data
                 memory = (ctypes.c_uint32 * 2)(7, 7)
-                outcome = c_library.Outcome(7, 7, 7)
+                outcome = c_library.Outcome(*[7] * 6)
                 call = ctypes.c_char_p(read), ctypes.c_size_t(len(read)), ctypes.byref(settings)
                 for name, lent in ((MEASURE, ()), (CHANGES, (memory, ctypes.c_size_t(2)))):
                     status = getattr(library, name)(*call, *lent, ctypes.byref(outcome))
@@ -274,15 +301,16 @@ def settings_at_the_ends():
                     assert (status, outcome.told(), bytes(lent)) == (0, expected, bitmap), (PACKED, mode, columns, limit, flags)
                     calls += 1
                 if flags in ("", "blsr"):
-                    writes(folder, f"{mode} {columns} {limit} {flags or '-'}", read, [(text_of(rows), 1), ok(data[: expected[2]])])
-                    runs += 1
+                    for first in ("", "-i "):
+                        writes(folder, f"{first}{mode} {columns} {limit} {flags or '-'}", read, [(text_of(rows), 1), ok(data[: expected[2]])])
+                        runs += 1
                     if columns <= 1 << 16:
                         writes(folder, f"-o {mode} {columns} {limit} {flags or '-'}", read, [(bitmap, 1)])
                         runs += 1
     print(f"  {calls} calls, {runs} runs of the program")
 
 
-CHECKS = [a_dense_row, many_rows, long_text, long_data, settings_at_the_ends]
+CHECKS = [a_dense_row, many_rows, rows_by_row, long_text, long_data, settings_at_the_ends]
 
 if __name__ == "__main__":
     import time

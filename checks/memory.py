@@ -14,8 +14,6 @@ sys.path.append("bench")
 
 import strips  # noqa: E402
 
-# The two lookup tables of each call that decodes: 8192 entries of two bytes each.
-TABLES, TABLE_BYTES = 2, 2 * 8192 * 2
 # A list of changes or of bytes has room for 4, and for 8 bytes, at first, and for twice as many when it is full.
 FIRST_CHANGES, FIRST_BYTES = 4 * 4, 8
 
@@ -43,7 +41,7 @@ HUNDRED = 100
 
 
 def white_data():
-    """Each call on white data allocates the two lookup tables, and nothing else."""
+    """No call on white data allocates."""
     c_library.build()
     seen = 0
     with tempfile.TemporaryDirectory() as folder:
@@ -52,9 +50,9 @@ def white_data():
             library.refuse(0)
             library.answer(called.settings_of(words), data)
             asked = library.calls.requests_seen(), library.calls.bytes_asked()
-            assert asked == (TABLES, TABLE_BYTES), (words, asked)
+            assert asked == (0, 0), (words, asked)
             seen += 1
-    print(f"  {seen} data, {TABLE_BYTES} bytes each")
+    print(f"  {seen} data")
 
 
 def equal_rows():
@@ -71,7 +69,7 @@ def equal_rows():
                     answer = c_library.called(library.calls.hayro_ccitt_measure, data, called.settings_of(f"{mode} 64 0 b"))
                     assert answer == (0, (count, count * len(row), len(data))), (mode, row, answer)
                     asked = library.calls.requests_seen(), library.calls.bytes_asked()
-                    expected = together((TABLES, TABLE_BYTES), changes_kept(row, min(count, 2)))
+                    expected = changes_kept(row, min(count, 2))
                     assert asked == expected, (mode, row, count, asked, expected)
                     seen += 1
     print(f"  {seen} data of up to {HUNDRED} equal rows")
@@ -115,8 +113,8 @@ def runs_of_the_program():
                 text = "".join(" ".join(["r", *map(str, row)]) + "\n" for _ in range(HUNDRED))
                 written = 8 * HUNDRED if first else len(text)
                 found = allocations(f"{first}g4 64 0 b", data) - alone
-                # the tables, one buffer for the data, what is written, and the lists
-                expected = together((TABLES + 1, 0), doubled(FIRST_BYTES, written), changes_kept(row, 2))[0]
+                # one buffer for the data, what is written, and the lists
+                expected = together((1, 0), doubled(FIRST_BYTES, written), changes_kept(row, 2))[0]
                 assert found == expected, (first, row, found, expected)
                 runs += 1
     print(f"  {runs} runs with exact numbers of allocations")

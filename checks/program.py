@@ -30,6 +30,24 @@ def row_text(picture, columns, row):
     return " ".join(["r", *map(str, changes)]), len(changes)
 
 
+def assert_same_by_row(words, data, done):
+    """With `-i` the program writes and answers what it did without."""
+    by_row = run(["-i", *words], data)
+    assert (by_row.returncode, by_row.stdout, by_row.stderr) == (done.returncode, done.stdout, done.stderr), ("-i", words, by_row)
+
+
+def assert_damage(words, data, lines, status):
+    """With `-d` the program reads as many rows, and ends in the same way. Only lenient data of Group 3 are repaired."""
+    done = run(["-d", *words], data)
+    *damaged, last = done.stdout.decode().splitlines()
+    rows, (end, _, told) = len(lines) - 1, lines[-1].partition(" ")
+    expected = f"ok {rows} {len(damaged)} {told}" if end == "ok" else f"error {rows} {told}"
+    assert (done.returncode, last, done.stderr) == (status, expected, b""), ("-d", words, done)
+    numbers = [int(line.split()[1]) for line in damaged]
+    assert numbers == sorted(set(numbers)) and all(number < rows for number in numbers), ("-d", words, damaged)
+    assert not damaged or (words[0] != "g4" and "s" not in words[3]), ("-d", words, damaged)
+
+
 def real_strips():
     """Each strip is decoded to exactly the picture that it was made from, with each of its settings; with the first ones also with
     the bits of each byte reversed."""
@@ -52,6 +70,7 @@ def real_strips():
             assert done.stderr == b"", f"{name} {setting}: {done.stderr!r} on standard error"
             if limit == "0" and end != "-":
                 assert text[-1] == f"ok {end}", f"{name} {setting}: {text[-1]}, not {end}"
+            assert_same_by_row(*here, done)
             if setting == runs.split(",")[0]:
                 turned = run(*there)
                 assert (turned.returncode, turned.stdout, turned.stderr) == (0, done.stdout, b""), f"{name} {setting}: in the other order"
@@ -86,6 +105,8 @@ def known_cases():
                 assert text == answer.replace("/", "\n") + "\n", f"{words} {data}: {text!r}, not {answer}"
                 assert done.stderr == b"", f"{words} {data}: {done.stderr!r} on standard error"
                 assert done.returncode == (0 if answer.split("/")[-1].startswith("ok") else 1), words
+                assert_same_by_row(words, read, done)
+                assert_damage(words, read, text.splitlines(), done.returncode)
             seen += 1
     assert seen > 0
     print(f"  {seen} cases, each in both orders of bits")
@@ -122,6 +143,26 @@ def statuses():
         done = run(words.split(), bytes.fromhex(data))
         error = b"faxrows: bad arguments\n" if status == 2 else b""
         assert (done.returncode, done.stdout, done.stderr) == (status, text, error), (words, done)
+        assert_same_by_row(words.split(), bytes.fromhex(data), done)
+    for words in ("-i", "-i -i g4 8 1 -", "-i -o g4 8 1 -", "-o -i g4 8 1 -", "-i --help", "--help -i", "--version -i"):
+        done = run(words.split(), bytes.fromhex("31C0"))
+        assert (done.returncode, done.stdout, done.stderr) == (2, b"", b"faxrows: bad arguments\n"), (words, done)
+
+
+def words_alone():
+    """`--help` and `--version` read nothing, and print: the forms of a call; the name, and the version of the C header."""
+    with open("c/hayro_ccitt.h", encoding="utf-8") as file:
+        version = re.search(r'^#define HAYRO_CCITT_VERSION_TEXT "(.*)"$', file.read(), re.MULTILINE).group(1)
+    done = run(["--version"], b"")
+    assert (done.returncode, done.stdout, done.stderr) == (0, f"faxrows {version}\n".encode(), b""), done
+    done = run(["--help"], b"")
+    forms = [f"faxrows {form}MODE COLUMNS ROWS FLAGS" for form in ("", "-o ", "-i ", "-d ")]
+    text = "\n".join([*forms, "faxrows --help", "faxrows --version", ""])
+    assert (done.returncode, done.stdout, done.stderr) == (0, text.encode(), b""), done
+    with open("/dev/full", "wb") as full:
+        for word in ("--help", "--version"):
+            done = subprocess.run([PROGRAM, word], stdout=full, stderr=subprocess.PIPE, timeout=60, check=False)
+            assert (done.returncode, done.stderr) == (3, b"faxrows: cannot write\n"), done
 
 
 # Arguments after `-o` and data, the bytes that the program writes, its standard error, and its status.
@@ -140,6 +181,36 @@ def bitmaps():
     for words, data, text, error, status in BITMAPS:
         done = run(words.split(), bytes.fromhex(data))
         assert (done.returncode, done.stdout, done.stderr) == (status, text, error), (words, done)
+
+
+INVALID, CUT = "invalid CCITT code sequence", "unexpected end of input"
+# Words behind `-d` and data, the lines that the program writes, and its status: data without damage, an EOL that is missed, a
+# damaged second line, which begins behind its EOL at 17 to 29, the same in a strict reading, a tag that is missing, a fault where
+# nothing is repaired, and a thousand EOLs with a line of four ones behind each, the last of which is cut and read again.
+DAMAGE = [
+    ("g4 8 1 -", "31C0", ["ok 1 0 2"], 0),
+    ("g4 8 1 r", "8C03", ["ok 1 0 2"], 0),
+    ("1d 8 2 l", "0019F800CC", ["ok 2 0 5"], 0),
+    ("1d 8 0 l", "0019800C400033", [f"damaged 1 29 {INVALID}", "ok 3 1 7"], 0),
+    ("1d 8 0 sl", "0019800C400033", [f"error 1 {INVALID}"], 1),
+    ("2d 8 0 l", "", [f"damaged 0 0 {CUT}", "ok 1 1 0"], 0),
+    ("g4 8 0 -", "31C000", [f"error 1 {INVALID}"], 1),
+    (
+        "1d 8 0 l",
+        "001F" * 1000,
+        [*[f"damaged {row} {12 + 16 * row} {INVALID}" for row in range(999)], f"damaged 999 15996 {CUT}", f"error 1000 {CUT}"],
+        1,
+    ),
+]
+
+
+def damage():
+    for words, data, lines, status in DAMAGE:
+        done = run(["-d", *words.split()], bytes.fromhex(data))
+        assert (done.returncode, done.stdout.decode().splitlines(), done.stderr) == (status, lines, b""), (words, done)
+    for words in ("-d", "-d -i g4 8 1 -", "-i -d g4 8 1 -", "-d g4 8 1 -d"):
+        done = run(words.split(), bytes.fromhex("31C0"))
+        assert (done.returncode, done.stdout, done.stderr) == (2, b"", b"faxrows: bad arguments\n"), (words, done)
 
 
 def devices_that_fail():
@@ -167,10 +238,11 @@ def a_file_and_a_pipe():
 
 def long_data():
     """A hundred thousand rows, and a wide one."""
-    done = run(["g4", "8", "0", "a"], b"\x80" * 100000)
-    assert done.stdout == b"r\n" * 100000 + b"ok 100000\n", done.stdout[-40:]
-    done = run(["g4", "4294967295", "1", "-"], b"\x50")
-    assert done.stdout == b"r 4294967294\nok 1\n", done
+    for first in ([], ["-i"]):
+        done = run([*first, "g4", "8", "0", "a"], b"\x80" * 100000)
+        assert done.stdout == b"r\n" * 100000 + b"ok 100000\n", done.stdout[-40:]
+        done = run([*first, "g4", "4294967295", "1", "-"], b"\x50")
+        assert done.stdout == b"r 4294967294\nok 1\n", done
 
 
 # The result of a run if one allocation is refused: before decoding, with status and standard error ..
@@ -223,4 +295,4 @@ def refused_memory():
             print(f"  {words}: {len(answers)} allocations refused in turn, {len(expected)} answers")
 
 
-CHECKS = [real_strips, known_cases, statuses, bitmaps, devices_that_fail, a_file_and_a_pipe, long_data, refused_memory]
+CHECKS = [real_strips, known_cases, statuses, words_alone, bitmaps, damage, devices_that_fail, a_file_and_a_pipe, long_data, refused_memory]

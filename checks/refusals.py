@@ -15,7 +15,6 @@ WHITE_8, WHITE_ROW = "10011", "001" + "10011" + "0000110111"
 LINE, HORIZONTAL = "1000" + "11" + "1000", "001" + "1000" + "11" + "1"
 ALTERNATE = "000111" + "010"
 WIDEST = 4294967295
-LOOK_UPS = 2
 LIMIT = 64 << 20
 
 
@@ -90,9 +89,8 @@ def each_request_of_the_library():
                     assert call() == whole, (words, number)
                     assert library.calls.blocks_held() == 0, "memory is held"
                     refused += 1
-                assert taken[:LOOK_UPS] == [0] * LOOK_UPS and taken == sorted(taken), (words, taken)
-                assert len(taken) > LOOK_UPS and all(rows[count] for count in taken[LOOK_UPS:]), (words, taken)
-                assert taken[LOOK_UPS] == next(number for number, row in enumerate(rows) if row), (words, taken)
+                assert taken and taken == sorted(taken) and all(rows[count] for count in taken), (words, taken)
+                assert taken[0] == next(number for number, row in enumerate(rows) if row), (words, taken)
                 library.refuse(requests + 1)
                 assert call() == whole and library.calls.requests_seen() == requests, words
     assert refused > 0
@@ -107,6 +105,19 @@ def shim(folder, name):
 
 def text_of(rows, last):
     return "".join("r" + "".join(f" {change}" for change in row) + "\n" for row in rows).encode() + last.encode() + b"\n"
+
+
+# Of data that are damaged the indices of the rows, and where their lines begin.
+DAMAGED = {"1d 8 0 l": [(1, 29)]}
+
+
+def damage_of(words, count, last):
+    """The damage of the first rows, and the last line: of a good reading, or the error behind these rows."""
+    damaged = [place for place in DAMAGED.get(words, []) if place[0] < count]
+    lines = [f"damaged {row} {start} invalid CCITT code sequence" for row, start in damaged]
+    end, _, told = last.partition(" ")
+    lines.append(f"ok {count} {len(damaged)} {told}" if end == "ok" else f"error {count} {told}")
+    return "".join(line + "\n" for line in lines).encode()
 
 
 def each_request_of_the_program():
@@ -130,6 +141,21 @@ def each_request_of_the_program():
                     assert answer in [whole, *program.BEFORE_DECODING, *wants, *refusals], (words, bitmap, answer)
                 for answer in [*program.BEFORE_DECODING, wants[next(k for k, row in enumerate(rows) if row)], refusals[0]]:
                     assert answer in answers, (words, bitmap, answer)
+                runs += len(answers)
+            # row by row no row is refused: where there is no memory to gather text it is written at once
+            texts = [
+                ("-i ", text_of(rows, last), [text_of(front, "error: out of memory") for front in fronts]),
+                ("-d ", damage_of(words, len(rows), last), [damage_of(words, count, "error: out of memory") for count in range(len(rows))]),
+            ]
+            for first, text, ended in texts:
+                whole, wants = (0, text, b""), [(3, text, b"") for text in ended]
+                *answers, end = program.refused_in_turn(first + words, data.hex(), refuse)
+                assert end == whole, (first, words)
+                for answer in answers:
+                    assert answer in [whole, *program.BEFORE_DECODING, *wants], (first, words, answer)
+                for answer in [*program.BEFORE_DECODING, wants[next(k for k, row in enumerate(rows) if row)]]:
+                    assert answer in answers, (first, words, answer)
+                assert answers.count(whole) > 1, (first, words)
                 runs += len(answers)
     print(f"  {len(DATA)} data, {runs} allocations refused in turn")
 
@@ -207,35 +233,34 @@ def white_data_takes_none():
             for call in calls_of(library, words, data, white)[: 3 if settings.columns < 1 << 16 else 1]:
                 library.refuse(0)
                 assert call() == answer, words
-                assert library.calls.requests_seen() == LOOK_UPS, (words, library.calls.requests_seen())
-                assert library.calls.bytes_asked() < 1 << 17, library.calls.bytes_asked()
+                assert library.calls.requests_seen() == 0, (words, library.calls.requests_seen())
                 seen += 1
             library.refuse(0)
             library.answer(settings, data)
-            assert library.calls.requests_seen() == LOOK_UPS, words
+            assert library.calls.requests_seen() == 0, words
             seen += 1
             rows += len(white)
     assert seen > 0 and rows > 0
-    print(f"  {seen} calls on white data, {rows} rows: {LOOK_UPS} requests each")
+    print(f"  {seen} calls on white data, {rows} rows: no requests")
 
 
-# Arguments, data, and how many allocations a run makes besides those for its arguments: none if these are invalid; the lookup
-# tables; one buffer for the input, and one for the text or the bitmap of a row.
+# Arguments, data, and how many allocations a run makes besides those for its arguments: none if these are invalid; one buffer
+# for the input, and one for the text or the bitmap of a row.
 ALLOCATIONS = [
     ("g4 8 0 x", "", 0),
-    ("g4 8 0 -", "", LOOK_UPS),
-    ("g4 0 0 -", "80", LOOK_UPS + 1),
-    ("g4 8 0 s", "00", LOOK_UPS + 1),
-    ("g4 1 1 -", "80", LOOK_UPS + 2),
-    ("g4 8 1 -", "80", LOOK_UPS + 2),
-    ("1d 8 1 -", "98", LOOK_UPS + 2),
-    ("2d 8 1 -", "CC", LOOK_UPS + 2),
-    ("2d 8 1 -", "40", LOOK_UPS + 2),
+    ("g4 8 0 -", "", 0),
+    ("g4 0 0 -", "80", 1),
+    ("g4 8 0 s", "00", 1),
+    ("g4 1 1 -", "80", 2),
+    ("g4 8 1 -", "80", 2),
+    ("1d 8 1 -", "98", 2),
+    ("2d 8 1 -", "CC", 2),
+    ("2d 8 1 -", "40", 2),
 ]
 
 
 def allocations_of_the_program():
-    """A run on white data allocates the lookup tables, its input and what it writes: a sink without rows allocates nothing."""
+    """A run on white data allocates its input and what it writes: a sink without rows allocates nothing."""
     runs = 0
     with tempfile.TemporaryDirectory() as folder:
         counted = {**os.environ, "LD_PRELOAD": shim(folder, "refuse"), "COUNT": "1"}
@@ -248,6 +273,11 @@ def allocations_of_the_program():
             for words, data, more in ALLOCATIONS:
                 assert allocations(bitmap + words, data) == words_alone + more, (bitmap, words, data)
                 runs += 1
+        # row by row: the look-ups, one buffer for the input, and one for the text with its last line
+        words_alone = allocations("-i g4 8 0 x", "")
+        for words, data, more in ALLOCATIONS[1:]:
+            assert allocations("-i " + words, data) == words_alone + LOOK_UPS + bool(data) + 1, (words, data)
+            runs += 1
     print(f"  {runs} runs with exact numbers of allocations")
 
 

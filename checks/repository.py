@@ -20,11 +20,23 @@ def handles_are_none():
         assert file.read() == "Handles allowed: none.\n", "HANDLES was changed"
 
 
-def two_proofs_by_hand():
-    """Privacy ties the count of work to the code: only these two functions may be proved by hand."""
-    by_hand = sorted(name for name in tracked() if name.endswith("/Proof.antt"))
-    folder = "crates/hayro_ccitt/proofs/codes/Ticks"
-    assert by_hand == [f"{folder}/after/Proof.antt", f"{folder}/new/Proof.antt"], by_hand
+# The functions that are proved by hand: privacy ties the count of work to the code, and a handle for C owns what its pointer points
+# to.
+BY_HAND = [
+    "crates/hayro_ccitt/proofs/codes/Ticks/after",
+    "crates/hayro_ccitt/proofs/codes/Ticks/new",
+    "crates/hayro_ccitt_c/proofs/handle/Handle/from_unboxed",
+    "crates/hayro_ccitt_c/proofs/handle/Handle/into_unboxed",
+    "crates/hayro_ccitt_c/proofs/handle/Handle/nowhere",
+    "crates/hayro_ccitt_c/proofs/handle/Unboxed/from_box",
+    "crates/hayro_ccitt_c/proofs/handle/Unboxed/into_box",
+]
+
+
+def seven_proofs_by_hand():
+    """No other function may be proved by hand."""
+    by_hand = sorted(name.removesuffix("/Proof.antt") for name in tracked() if name.endswith("/Proof.antt"))
+    assert by_hand == BY_HAND, by_hand
 
 
 # A requirement cited by a word and a number, or by a letter and a number. T.4 and T.6 are the standards.
@@ -98,6 +110,7 @@ COUNTS = {
     "crates/hayro_ccitt/src/codes.rt": {"new", "after", "tick"},
     "crates/hayro_ccitt/src/context.rt": {"new", "restart"},
     "crates/hayro_ccitt/src/row_reader.rt": {"new"},  # a reader's own context, which no call of `decode` has
+    "crates/hayro_ccitt/src/row_cursor.rt": {"new"},  # the same
 }
 MAKES_A_COUNT = re.compile(
     r"\bTicks>?\s*::|\bTicks\s*\{\s*\}|\bTicks\s+as\b|\btype\b.*\bTicks\b"
@@ -126,11 +139,12 @@ def no_work_is_thrown_away():
     assert not found, "\n".join(found)
 
 
-def nothing_is_unsafe():
-    """No code is unsafe. The names that C calls are declared by an attribute with that word."""
+def one_line_is_unsafe():
+    """Only the box of a handle is made of a pointer, in a function that is proved by hand. The names that C calls are declared by an
+    attribute with that word."""
     lines = ((place, line.replace("#[unsafe(no_mangle)]", "")) for place, line in lines_of_code(".rt", "//"))
-    found = [place for place, line in lines if re.search(r"\bunsafe\b", line)]
-    assert not found, found
+    found = [f"{place.rsplit(':', 1)[0]}: {line.strip()}" for place, line in lines if re.search(r"\bunsafe\b", line)]
+    assert found == ["crates/hayro_ccitt_c/src/handle.rt: unsafe { Box::from_raw(alloc, at) }"], found
 
 
 def rust_is_unsafe_in_one_file_only():
@@ -142,7 +156,7 @@ def rust_is_unsafe_in_one_file_only():
     with open(name, encoding="utf-8") as file:
         text = file.read()
     blocks = len(re.findall(r"\bunsafe\b", re.sub(r"//.*", "", text)))
-    assert blocks == text.count("// SAFETY: ") == 5, blocks
+    assert blocks == text.count("// SAFETY: ") == 10, blocks
 
 
 # Public functions with a contract that no edit of a body can break.
@@ -192,6 +206,12 @@ NOT_CITED = ("/Answers.antt", "/Invariants.antt", "/Proof.antt")
 DECLARED = re.compile(rf"^( *)((?:pub |abbrev |unfoldable )*)({NAME}) :(?=\s)", re.MULTILINE)
 
 
+def is_field(text, start, indent):
+    """Whether what is declared there is a record's field: the tactics use fields without naming them."""
+    above = [line for line in text[:start].split("\n") if line.strip() and len(line) - len(line.lstrip()) < len(indent)]
+    return bool(above) and re.match(r" *(pub )?record ", above[-1]) is not None
+
+
 def each_lemma_is_cited():
     """A lemma of the library that nothing cites is useless: each is named somewhere besides its declaration."""
     texts = {}
@@ -206,7 +226,10 @@ def each_lemma_is_cited():
     for name, text in texts.items():
         if not name.startswith("crates/hayro_ccitt/proofs/") or name.endswith(NOT_CITED):
             continue
-        for indent, modifiers, lemma in DECLARED.findall(text):
+        for found in DECLARED.finditer(text):
+            indent, modifiers, lemma = found.groups()
+            if is_field(text, found.start(), indent):
+                continue
             head = rf"^{indent}(?:(?:pub|abbrev|unfoldable) )*{re.escape(lemma)} (?::|[^\n]*=$|[^\n]* = |=)"
             given = len(re.findall(head, text, re.MULTILINE))
             cited_here = words[name][lemma] > given
@@ -218,14 +241,14 @@ def each_lemma_is_cited():
 
 CHECKS = [
     handles_are_none,
-    two_proofs_by_hand,
+    seven_proofs_by_hand,
     nothing_is_cited_by_number,
     links_lead_somewhere,
     readme_names_the_kit,
     no_proof_has_a_hole,
     no_work_is_thrown_away,
     each_lemma_is_cited,
-    nothing_is_unsafe,
+    one_line_is_unsafe,
     rust_is_unsafe_in_one_file_only,
     each_public_function_has_an_edit,
     each_edit_can_be_applied,

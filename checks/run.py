@@ -27,6 +27,7 @@ import packing  # noqa: E402
 import program  # noqa: E402
 import refusals  # noqa: E402
 import repository  # noqa: E402
+import row_by_row  # noqa: E402
 import users  # noqa: E402
 from left_out import LEFT_OUT  # noqa: E402
 
@@ -49,7 +50,7 @@ def build(name, path):
 def main():
     passed = failed = 0
     all_files = [
-        repository, program, built_tests, packing, c_library, encoder, refusals, devices, cuts, hostile, memory, large, installed, users, files, cost,
+        repository, program, built_tests, packing, c_library, row_by_row, encoder, refusals, devices, cuts, hostile, memory, large, installed, users, files, cost,
     ]
     words = sys.argv[1:]
     chosen = [it for it in all_files if not words or (it.__name__ in words) != (words[0] == "--without")]

@@ -1,12 +1,15 @@
 //! The calls of `c/hayro_ccitt.h` and `c/fax_encode.h`. All unsafe code is here.
 
 use crate::{DecodeSettings, EncodedAs, EncodingMode};
+use core::ffi::c_void;
 
 pub(crate) const OK: u32 = 0;
 pub(crate) const UNEXPECTED_EOF: u32 = 1;
 pub(crate) const INVALID_CODE: u32 = 2;
 pub(crate) const OVERFLOW: u32 = 3;
 pub(crate) const OUT_OF_MEMORY: u32 = 4;
+pub(crate) const REFUSED: u32 = 5;
+pub(crate) const NO_ROW: u32 = 7;
 
 const LOW_FIRST: u32 = 16;
 const ALIGNED_ROWS: u32 = 4;
@@ -61,6 +64,29 @@ pub(crate) struct Outcome {
     pub(crate) rows: u64,
     pub(crate) changes: u64,
     pub(crate) bytes_read: u64,
+    pub(crate) damaged_rows: u64,
+    reserved: [u64; 2],
+}
+
+/// `hayro_ccitt_row`.
+#[repr(C)]
+#[derive(Copy, Clone, Default)]
+pub(crate) struct Row {
+    pub(crate) rows: u64,
+    pub(crate) changes: u64,
+    pub(crate) line_start: u64,
+    pub(crate) bytes_read: u64,
+    pub(crate) damaged_rows: u64,
+    pub(crate) damage: u64,
+    reserved: [u64; 2],
+}
+
+/// `hayro_ccitt_reader`.
+#[repr(C)]
+struct Reader {
+    reading: *mut c_void,
+    nowhere: *mut c_void,
+    is_open: u8,
 }
 
 /// `fax_encode_settings`.
@@ -102,14 +128,6 @@ unsafe extern "C" {
         settings: *const Settings,
         outcome: *mut Outcome,
     ) -> u32;
-    fn hayro_ccitt_decode_changes(
-        data: *const u8,
-        data_length: usize,
-        settings: *const Settings,
-        lists: *mut u32,
-        lists_length: usize,
-        outcome: *mut Outcome,
-    ) -> u32;
     fn hayro_ccitt_decode_packed(
         data: *const u8,
         data_length: usize,
@@ -118,6 +136,29 @@ unsafe extern "C" {
         bitmap_length: usize,
         outcome: *mut Outcome,
     ) -> u32;
+    fn hayro_ccitt_open(
+        data: *const u8,
+        data_length: usize,
+        settings: *const Settings,
+        reader: *mut Reader,
+    ) -> u32;
+    fn hayro_ccitt_next_changes(
+        data: *const u8,
+        data_length: usize,
+        reader: *mut Reader,
+        changes: *mut u32,
+        changes_length: usize,
+        row: *mut Row,
+    ) -> u32;
+    fn hayro_ccitt_next_packed(
+        data: *const u8,
+        data_length: usize,
+        reader: *mut Reader,
+        packed: *mut u8,
+        packed_length: usize,
+        row: *mut Row,
+    ) -> u32;
+    fn hayro_ccitt_close(reader: *mut Reader) -> u32;
     fn fax_encode_bitmap(
         bitmap: *const u8,
         bitmap_length: usize,
@@ -133,27 +174,6 @@ pub(crate) fn measure(data: &[u8], settings: &Settings) -> (u32, Outcome) {
     let mut outcome = Outcome::default();
     // SAFETY: pointers of references and slices are not null and valid for their lengths, and `outcome` is this call's own.
     let status = unsafe { hayro_ccitt_measure(data.as_ptr(), data.len(), settings, &mut outcome) };
-    (status, outcome)
-}
-
-/// Lists the rows, and gives the status and what was taken.
-pub(crate) fn decode_changes(
-    data: &[u8],
-    settings: &Settings,
-    lists: &mut [u32],
-) -> (u32, Outcome) {
-    let mut outcome = Outcome::default();
-    // SAFETY: as above; and nothing else refers to `lists`, since it is borrowed mutably.
-    let status = unsafe {
-        hayro_ccitt_decode_changes(
-            data.as_ptr(),
-            data.len(),
-            settings,
-            lists.as_mut_ptr(),
-            lists.len(),
-            &mut outcome,
-        )
-    };
     (status, outcome)
 }
 
@@ -193,4 +213,74 @@ pub(crate) fn encode_bitmap(
         )
     };
     (status, outcome)
+}
+
+/// An open reader of the rows of some data. It is closed when it is dropped.
+pub(crate) struct Rows<'a> {
+    data: &'a [u8],
+    reader: Reader,
+    /// What the last call said of its row.
+    pub(crate) row: Row,
+}
+
+// SAFETY: the reading that the pointer owns is used through this value alone, and its memory may be freed by any thread.
+unsafe impl Send for Rows<'_> {}
+// SAFETY: through a shared reference only plain numbers are read.
+unsafe impl Sync for Rows<'_> {}
+
+impl<'a> Rows<'a> {
+    /// Opens a reader, or returns the status.
+    pub(crate) fn open(data: &'a [u8], settings: &Settings) -> Result<Self, u32> {
+        let mut rows = Self {
+            data,
+            reader: Reader {
+                reading: core::ptr::null_mut(),
+                nowhere: core::ptr::null_mut(),
+                is_open: 0,
+            },
+            row: Row::default(),
+        };
+        // SAFETY: pointers of references and slices are not null and valid for their lengths, and the reader is all zeros.
+        let status =
+            unsafe { hayro_ccitt_open(data.as_ptr(), data.len(), settings, &mut rows.reader) };
+        if status == OK { Ok(rows) } else { Err(status) }
+    }
+
+    /// Lists the changes of the next row, and returns the status.
+    #[inline]
+    pub(crate) fn next_changes(&mut self, changes: &mut [u32]) -> u32 {
+        // SAFETY: as above; the reader is as the last call left it, and the data is that of `open`.
+        unsafe {
+            hayro_ccitt_next_changes(
+                self.data.as_ptr(),
+                self.data.len(),
+                &mut self.reader,
+                changes.as_mut_ptr(),
+                changes.len(),
+                &mut self.row,
+            )
+        }
+    }
+
+    /// Packs the next row, and returns the status.
+    pub(crate) fn next_packed(&mut self, packed: &mut [u8]) -> u32 {
+        // SAFETY: as above.
+        unsafe {
+            hayro_ccitt_next_packed(
+                self.data.as_ptr(),
+                self.data.len(),
+                &mut self.reader,
+                packed.as_mut_ptr(),
+                packed.len(),
+                &mut self.row,
+            )
+        }
+    }
+}
+
+impl Drop for Rows<'_> {
+    fn drop(&mut self) {
+        // SAFETY: the reader is as the last call left it. A reader that isn't open stays as it is.
+        unsafe { hayro_ccitt_close(&mut self.reader) };
+    }
 }

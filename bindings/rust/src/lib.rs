@@ -41,10 +41,9 @@
 //!
 //! # Differences from that crate
 //!
-//! All rows are decoded before the first is passed on; they take four bytes a row and four a change, some sixty-four bytes for a
-//! byte of data at most. If an allocation fails, the program ends, as with a [`Vec`].
-//! `decode_low_first`, [`decode_packed`] and [`encode_bitmap`] are added. The package is `no_std`, and needs an allocator and a C
-//! compiler.
+//! If an allocation fails, the program ends, as with a [`Vec`].
+//! `decode_low_first`, [`decode_packed`], [`RowReader`], [`DecoderContext::damaged_rows`] and [`encode_bitmap`] are added. The package
+//! is `no_std`, and needs an allocator and a C compiler.
 
 #![no_std]
 #![warn(missing_docs)]
@@ -54,8 +53,10 @@ extern crate alloc;
 
 mod c;
 mod encoding;
+mod row_reader;
 
 pub use encoding::{EncodeError, EncodedAs, encode_bitmap};
+pub use row_reader::RowReader;
 
 use alloc::alloc::{Layout, handle_alloc_error};
 use alloc::vec::Vec;
@@ -70,7 +71,8 @@ use core::fmt;
 /// An error says that the data is damaged, or isn't what the settings say. The rows before it were passed to the decoder, and can be used:
 /// they are the image as far as it goes. `columns` 0 is `Ok(0)`.
 pub fn decode(data: &[u8], decoder: &mut impl Decoder, ctx: &mut DecoderContext) -> Result<usize> {
-    push_rows(data, decoder, &c::Settings::from(&ctx.settings))
+    let settings = c::Settings::from(&ctx.settings);
+    push_rows(data, decoder, ctx, settings)
 }
 
 /// Decodes as [`decode`] does, with the lowest bit of each byte first, as in TIFF files of FillOrder 2.
@@ -84,7 +86,7 @@ pub fn decode_low_first(
     ctx: &mut DecoderContext,
 ) -> Result<usize> {
     let settings = c::Settings::from(&ctx.settings).low_first();
-    push_rows(data, decoder, &settings)
+    push_rows(data, decoder, ctx, settings)
 }
 
 /// The rows of an image as a bitmap.
@@ -123,29 +125,26 @@ pub fn decode_packed_low_first(data: &[u8], ctx: &mut DecoderContext) -> PackedR
     pack_rows(data, ctx, c::Settings::from(&ctx.settings).low_first())
 }
 
-fn push_rows(data: &[u8], decoder: &mut impl Decoder, settings: &c::Settings) -> Result<usize> {
-    // The rows are counted first, which says how many numbers they take.
-    let (status, counted) = c::measure(data, settings);
-    let numbers = usize_of(counted.rows.saturating_add(counted.changes));
-    if status == c::OUT_OF_MEMORY {
-        out_of_memory::<u32>(0);
-    }
-    let mut lists = zeros(numbers);
-    let (status, outcome) = c::decode_changes(data, settings, &mut lists);
-
-    let mut rest = &lists[..];
-    for _ in 0..outcome.rows {
-        let Some((&changes, after)) = rest.split_first() else {
-            break;
-        };
-        let (row, after) = after.split_at(changes as usize);
-        decoder.push_row(row);
-        rest = after;
-    }
-    result_of(status, &outcome)
+fn push_rows(
+    data: &[u8],
+    decoder: &mut impl Decoder,
+    ctx: &mut DecoderContext,
+    settings: c::Settings,
+) -> Result<usize> {
+    ctx.damaged_rows = 0;
+    let mut rows = RowReader::with(data, &ctx.settings, settings);
+    let result = loop {
+        match rows.next_row() {
+            Ok(Some(changes)) => decoder.push_row(changes),
+            Ok(None) => break Ok(rows.bytes_read()),
+            Err(error) => break Err(error),
+        }
+    };
+    ctx.damaged_rows = rows.damaged_rows();
+    result
 }
 
-fn pack_rows(data: &[u8], ctx: &DecoderContext, settings: c::Settings) -> PackedRows {
+fn pack_rows(data: &[u8], ctx: &mut DecoderContext, settings: c::Settings) -> PackedRows {
     let (status, counted) = c::measure(data, &settings);
     if status == c::OUT_OF_MEMORY {
         out_of_memory::<u8>(0);
@@ -155,6 +154,7 @@ fn pack_rows(data: &[u8], ctx: &DecoderContext, settings: c::Settings) -> Packed
     let (status, outcome) = c::decode_packed(data, &settings, &mut bytes);
     let rows = usize_of(outcome.rows);
     bytes.truncate(rows * width);
+    ctx.damaged_rows = outcome.damaged_rows;
     PackedRows {
         rows,
         bytes,
@@ -168,9 +168,16 @@ fn result_of(status: u32, outcome: &c::Outcome) -> Result<usize> {
     match status {
         // It is at most the length of the data.
         c::OK => Ok(outcome.bytes_read as usize),
-        c::UNEXPECTED_EOF => Err(DecodeError::UnexpectedEof),
-        c::INVALID_CODE => Err(DecodeError::InvalidCode),
-        c::OVERFLOW => Err(DecodeError::Overflow),
+        _ => Err(error_of(status)),
+    }
+}
+
+/// Returns the error of a status. The last arm is for an allocation that failed.
+fn error_of(status: u32) -> DecodeError {
+    match status {
+        c::UNEXPECTED_EOF => DecodeError::UnexpectedEof,
+        c::INVALID_CODE => DecodeError::InvalidCode,
+        c::OVERFLOW => DecodeError::Overflow,
         _ => out_of_memory::<u32>(0),
     }
 }
@@ -208,12 +215,22 @@ pub trait Decoder {
 /// The settings of an image, for any number of calls of [`decode`].
 pub struct DecoderContext {
     settings: DecodeSettings,
+    damaged_rows: u64,
 }
 
 impl DecoderContext {
     /// A context with these settings.
     pub fn new(settings: DecodeSettings) -> Self {
-        Self { settings }
+        Self {
+            settings,
+            damaged_rows: 0,
+        }
+    }
+
+    /// Returns the number of rows of the last image whose line was damaged and repaired, as a lenient reading of Group 3 with EOLs
+    /// does.
+    pub fn damaged_rows(&self) -> u64 {
+        self.damaged_rows
     }
 }
 

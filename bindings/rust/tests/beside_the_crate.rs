@@ -3,7 +3,7 @@
 
 use hayro_ccitt::{
     DecodeError, DecodeSettings, Decoder, DecoderContext, EncodeError, EncodedAs, EncodingMode,
-    decode, decode_low_first, decode_packed, decode_packed_low_first, encode_bitmap,
+    RowReader, decode, decode_low_first, decode_packed, decode_packed_low_first, encode_bitmap,
 };
 use std::panic::{AssertUnwindSafe, catch_unwind};
 use std::thread;
@@ -174,4 +174,91 @@ fn what_is_encoded_decodes_to_it() {
         encode_bitmap(&[], 8, EncodedAs::Group3_1D),
         Err(EncodeError::NoRows)
     );
+}
+
+/// The memory of this process in kilobytes.
+fn resident() -> usize {
+    let status = std::fs::read_to_string("/proc/self/status").unwrap();
+    let line = status
+        .lines()
+        .find(|line| line.starts_with("VmRSS:"))
+        .unwrap();
+    line.split_whitespace().nth(1).unwrap().parse().unwrap()
+}
+
+#[test]
+fn nothing_leaks_where_a_sink_panics_or_a_reader_is_dropped() {
+    let quiet = |times: usize| {
+        for _ in 0..times {
+            let mut context = DecoderContext::new(settings(2));
+            let caught = catch_unwind(AssertUnwindSafe(|| {
+                decode(&TWO_ROWS, &mut Panicking(0), &mut context)
+            }));
+            assert!(caught.is_err());
+            let mut rows = RowReader::new(&TWO_ROWS, settings(2));
+            assert_eq!(rows.next_row(), Ok(Some(&[3, 5][..])));
+        }
+    };
+    let hook = std::panic::take_hook();
+    std::panic::set_hook(Box::new(|_| {}));
+    quiet(100);
+    let before = resident();
+    quiet(4000);
+    std::panic::set_hook(hook);
+    // A reader has some 20 KB: the leaks would be 160 MB.
+    assert!(resident() < before + 40_000, "{before} {}", resident());
+}
+
+#[test]
+fn rows_one_at_a_time() {
+    let mut rows = RowReader::new(&TWO_ROWS, settings(2));
+    let mut other = RowReader::new(&TWO_ROWS, settings(1));
+    assert_eq!(rows.next_row(), Ok(Some(&[3, 5][..])));
+    assert_eq!((rows.rows_read(), rows.line_start()), (1, 0));
+    assert_eq!(other.next_packed(), Ok(Some(&[0x18][..])));
+    assert_eq!(other.next_packed(), Ok(None));
+    assert_eq!(rows.next_packed(), Ok(Some(&[0x18][..])));
+    assert_eq!((rows.rows_read(), rows.line_start()), (2, 10));
+    assert_eq!(rows.next_row(), Ok(None));
+    assert_eq!(rows.next_packed(), Ok(None));
+    assert_eq!((rows.bytes_read(), rows.damaged_rows()), (2, 0));
+    let turned = TWO_ROWS.map(u8::reverse_bits);
+    let mut rows = RowReader::new_low_first(&turned, settings(2));
+    assert_eq!(rows.next_row(), Ok(Some(&[3, 5][..])));
+    let mut fault = RowReader::new(&[0x80], settings(0));
+    assert_eq!(fault.next_row(), Ok(Some(&[][..])));
+    assert_eq!(fault.next_row(), Err(DecodeError::InvalidCode));
+    assert_eq!(fault.next_row(), Err(DecodeError::InvalidCode));
+    assert_eq!(fault.rows_read(), 1);
+    fn is_thread_safe<T: Send + Sync>() {}
+    is_thread_safe::<RowReader<'_>>();
+}
+
+#[test]
+fn repaired_rows_are_counted() {
+    // 8 columns of one-dimensional Group 3: an EOL and a white row, an EOL and a damaged line, an EOL and a white row.
+    let line = "00000000000110011";
+    let bits = format!("{line}0000000000010000000011{line}");
+    let data: Vec<u8> = (0..bits.len().div_ceil(8))
+        .map(|byte| {
+            (0..8).fold(0, |sum, k| {
+                sum * 2 + u8::from(bits.as_bytes().get(8 * byte + k) == Some(&b'1'))
+            })
+        })
+        .collect();
+    let settings = DecodeSettings {
+        end_of_line: true,
+        encoding: EncodingMode::Group3_1D,
+        ..settings(3)
+    };
+    let mut context = DecoderContext::new(settings);
+    let image = decode_packed(&data, &mut context);
+    assert_eq!((image.rows, context.damaged_rows()), (3, 1));
+    let mut rows = RowReader::new(&data, settings);
+    let mut seen = Vec::new();
+    while let Some(_changes) = rows.next_row().unwrap() {
+        seen.push(rows.damage().is_some());
+    }
+    assert_eq!(seen, [false, true, false]);
+    assert_eq!(rows.damaged_rows(), 1);
 }

@@ -1,25 +1,26 @@
 -- What is chosen by settings is an encoding, and is read again.
 use Rattle.std.proofs.Common.{◌≡◌, ◌≢◌, ℕ, zero, suc, ◌+◌, ◌/◌, ◌^◌, ◌<◌, ◌≤◌, Bool, true, false, cond, leb, List, [], ◌∷◌, ◌++◌, length, refl, sym, ap, subst, ◌∙◌, arith, inl, inr, append_assoc}
-use Rattle.std.specs.Prelude.{IsOk, Result}
+use Rattle.std.specs.Prelude.{Ok}
 use Rattle.std.proofs.lemmas.Bool.{leb-true}
 use Rattle.std.proofs.lemmas.List.{append-nil, length-replicate}
 use Rattle.std.proofs.lemmas.List.Elements.{All-head, All-tail}
 use Rattle.hayro_ccitt.specs.declared.settings.DecodeSettings.{DecodeSettings}
 use Rattle.hayro_ccitt.specs.declared.settings.EncodingMode.{EncodingMode}
 use Rattle.hayro_ccitt.specs.declared.settings.EncodingMode.TheVariants.{Group4, Group3_1D, Group3_2D}
-use Rattle.hayro_ccitt.specs.declared.bit_reader.BitOrder.TheVariants.{HighestFirst}
-use Rattle.hayro_ccitt.specs.Bits.{Bits, AreWholeBytes, bits_of}
+use Rattle.hayro_ccitt.specs.declared.bit_reader.BitOrder.{BitOrder}
+use Rattle.hayro_ccitt.specs.Bits.{Bits, AreWholeBytes, bits_in}
 use Rattle.hayro_ccitt.specs.Rows.{Row, HaveWidth, white_row}
 use Rattle.hayro_ccitt.specs.Encodings.{IsPicture, EncodesLine, EncodesRows, EncodesRowsWithEols, ClosesWithEols, PictureT6, padding, eol, tag_of}
-use Rattle.hayro_ccitt.specs.Laws.{Gives}
-use Rattle.hayro_ccitt.specs.Pictures.{IsClosedPicture, IsLimitedPicture}
+use Rattle.hayro_ccitt.specs.Pictures.{IsClosedPicture}
 use Rattle.hayro_ccitt.proofs.BitReading.BitLists.{bits_are_whole}
-use Rattle.hayro_ccitt.proofs.EncodedPictures.PicturesOfEachKind.{closed_pictures, limited_pictures}
+use Rattle.hayro_ccitt.proofs.EncodedPictures.PicturesOfEachKind.{closed_pictures}
 use Rattle.fax_encode.specs.Chosen.{chosen_line_1d, chosen_line_2d, chosen_lines_1d, chosen_lines_2d, filled_up, return_to_control}
-use Rattle.fax_encode.specs.Laws.{ChosenBySettings, ChosenIsRead, ChosenLinesEncode, NeverLonger}
+use Rattle.fax_encode.specs.Laws.{ChosenBySettings, ChosenComesBack, ChosenIsRead, ChosenLinesEncode, GivesAll, NeverLonger}
 use Rattle.hayro_ccitt.specs.Settings.{AreSettings}
-use Rattle.hayro_ccitt.specs.declared.error.DecodeError.{DecodeError}
-use Rattle.fax_encode.specs.Settings.{is_closed, decode_settings_for, is_two_dimensional, chosen_line, left_after, chosen_lines, fill_of, chosen_lines_with_eols, chosen_eols, chosen_picture, chosen_with_eols, chosen_group4}
+use Rattle.fax_encode.specs.Settings.{chosen, needs_row, is_closed, decode_settings_for, is_two_dimensional, chosen_line, left_after, chosen_lines, fill_of, chosen_lines_with_eols, chosen_eols, chosen_picture, chosen_with_eols, chosen_group4}
+use Rattle.fax_encode.proofs.BytesOfBits.{same_bytes}
+use Rattle.hayro_ccitt.specs.PlainReading.{eols_here}
+use Rattle.fax_encode.proofs.ReadToTheEnd.{all_but, rounded_up, rtc_few, few_zeros, all_t6, all_t4, all_t4_with_eols}
 use Rattle.fax_encode.proofs.ChosenLines.{line_1d_encodes, line_2d_encodes}
 
 -- ---- lines
@@ -102,15 +103,17 @@ record Match (d : DecodeSettings) (encoding : EncodingMode) (eols aligned closed
   block_is : d.end_of_block ≡ closed
   limit_is : d.rows ≡ cond closed 0 count
 
-closed_gives : (d : DecodeSettings) (rows : List Row) (count : ℕ) (whole : Bits) → AreSettings d → AreWholeBytes whole → IsClosedPicture d rows count whole → Gives d whole rows
-closed_gives d rows count whole are all is =
+-- a picture that is closed at the end of whole bytes
+closed_gives : (d : DecodeSettings) (rows : List Row) (count bytes : ℕ) (whole : Bits) → AreSettings d → AreWholeBytes whole → count ≡ bytes
+    → IsClosedPicture d rows count whole → GivesAll d whole rows bytes
+closed_gives d rows count bytes whole are all same is =
     let p = closed_pictures d rows count whole are all is in
-    (p.0, subst (λ (o : Result ℕ DecodeError). IsOk o) (sym p.1) refl)
+    (p.0, p.1 ∙ ap (λ (n : ℕ). Ok n) same)
 
-module _ (d : DecodeSettings) (columns : ℕ) (rows : List Row) (bytes : List ℕ) (small : columns < 2 ^ 32) (few : length rows < 2 ^ 32) (some : 0 < length rows)
+module _ (order : BitOrder) (d : DecodeSettings) (columns : ℕ) (rows : List Row) (bytes : List ℕ) (small : columns < 2 ^ 32) (few : length rows < 2 ^ 32)
     (is : IsPicture columns rows) where
   abbrev whole : Bits
-  whole = bits_of bytes
+  whole = bits_in order bytes
 
   abbrev white : Row
   white = white_row columns
@@ -118,13 +121,14 @@ module _ (d : DecodeSettings) (columns : ℕ) (rows : List Row) (bytes : List �
   are_settings : (limit : ℕ) → d.columns ≡ columns → d.rows ≡ limit → limit < 2 ^ 32 → AreSettings d
   are_settings limit c r lt = record { columns = omega (arith, c, small); rows = omega (arith, r, lt) }
 
-  of_group4 : (k : ℕ) (eols aligned closed : Bool) → Match d Group4 eols aligned closed columns (length rows) → whole ≡ filled_up (chosen_group4 k aligned closed white rows)
-      → Gives d whole rows
-  of_group4 k eols aligned true m e =
+  of_group4 : (k : ℕ) (eols aligned closed : Bool) → (needs_row Group4 closed ≡ true → 0 < length rows) → Match d Group4 eols aligned closed columns (length rows) → whole ≡ filled_up (chosen_group4 k aligned closed white rows)
+      → GivesAll d whole rows (length bytes)
+  of_group4 k eols aligned true some m e =
       let body : Bits = chosen_lines Group4 k aligned 0 white rows in
       let bits : Bits = body ++ (eol 0 ++ eol 0) in
       let lines = lines_encode Group4 columns k aligned 0 white rows is.0 (white_is_wide columns) is.1 in
-      closed_gives d rows ((length bits + 7) / 8) whole (are_settings 0 m.columns_are m.limit_is (omega arith)) (bits_are_whole HighestFirst bytes)
+      closed_gives d rows ((length bits + 7) / 8) (length bytes) whole (are_settings 0 m.columns_are m.limit_is (omega arith)) (bits_are_whole order bytes)
+      (rounded_up order bits bytes e)
       (IsClosedPicture.by_eofb bits (record {
         encoding = m.encoding_is;
         end_of_block = m.block_is;
@@ -133,21 +137,20 @@ module _ (d : DecodeSettings) (columns : ℕ) (rows : List Row) (bytes : List �
             (subst (λ (a : Bool). PictureT6 columns a rows bits) (sym m.aligned_is) (body, is, lines, sym (append_assoc body (eol 0) (eol 0))));
         begins = (padding (length bits), e);
       }) refl)
-  of_group4 k eols aligned false m e =
+  of_group4 k eols aligned false some m e =
       let body : Bits = chosen_lines Group4 k aligned 0 white rows in
       let lines = lines_encode Group4 columns k aligned 0 white rows is.0 (white_is_wide columns) is.1 in
-      limited_pictures d rows whole (are_settings (length rows) m.columns_are m.limit_is few) (bits_are_whole HighestFirst bytes)
-      (IsLimitedPicture.of_t6 body (record {
+      all_t6 order d rows bytes (are_settings (length rows) m.columns_are m.limit_is few) body (record {
         encoding = m.encoding_is;
         limit = m.limit_is;
-        some = some;
+        some = some refl;
         picture = subst (λ (n : ℕ). IsPicture n rows) (sym m.columns_are) is;
         lines = subst (λ (n : ℕ). EncodesRows Group4 d.rows_are_byte_aligned (white_row n) rows body) (sym m.columns_are)
             (subst (λ (a : Bool). EncodesRows Group4 a white rows body) (sym m.aligned_is) lines);
         begins = (padding (length (body ++ [])), e ∙ ap (λ (b : Bits). b ++ padding (length (body ++ []))) (append-nil body));
-      }))
+      }) (few_zeros (length (body ++ [])))
 
-  module _ (encoding : EncodingMode) (k : ℕ) (fills : Bool) (not_t6 : encoding ≢ Group4) where
+  module _ (encoding : EncodingMode) (k : ℕ) (fills : Bool) (not_t6 : encoding ≢ Group4) (some : 0 < length rows) where
     abbrev lines_there : Bits
     lines_there = chosen_lines_with_eols encoding k fills 0 0 white rows
 
@@ -158,11 +161,12 @@ module _ (d : DecodeSettings) (columns : ℕ) (rows : List Row) (bytes : List �
         (lines_with_eols_encode encoding columns k fills 0 0 white rows is.0 (white_is_wide columns) is.1))
 
     of_eols : (aligned closed : Bool) → Match d encoding true aligned closed columns (length rows) → whole ≡ filled_up (chosen_with_eols encoding k fills closed white rows)
-        → Gives d whole rows
+        → GivesAll d whole rows (length bytes)
     of_eols aligned true m e =
         let closing : Bits = chosen_eols encoding fills (length lines_there) 6 in
         let pad : Bits = padding (length (lines_there ++ closing)) in
-        closed_gives d rows _ whole (are_settings 0 m.columns_are m.limit_is (omega arith)) (bits_are_whole HighestFirst bytes)
+        closed_gives d rows _ (length bytes) whole (are_settings 0 m.columns_are m.limit_is (omega arith)) (bits_are_whole order bytes)
+        (all_but order bytes (eols_here d (closing ++ pad)).1 (rtc_few d encoding fills (length lines_there) (length (lines_there ++ closing)) m.encoding_is not_t6))
         (IsClosedPicture.by_rtc lines_there (closing ++ pad) (record {
           encoding = λ x. not_t6 (sym m.encoding_is ∙ x);
           end_of_block = m.block_is;
@@ -179,22 +183,20 @@ module _ (d : DecodeSettings) (columns : ℕ) (rows : List Row) (bytes : List �
         }) refl)
     of_eols aligned false m e =
         let pad : Bits = padding (length (lines_there ++ [])) in
-        limited_pictures d rows whole (are_settings (length rows) m.columns_are m.limit_is few) (bits_are_whole HighestFirst bytes)
-        (IsLimitedPicture.of_t4_with_eols lines_there (record {
+        all_t4_with_eols order d rows bytes (are_settings (length rows) m.columns_are m.limit_is few) lines_there (record {
           encoding = λ x. not_t6 (sym m.encoding_is ∙ x);
           limit = m.limit_is;
           some = some;
           picture = subst (λ (n : ℕ). IsPicture n rows) (sym m.columns_are) is;
           lines = encoded_with_eols m.columns_are m.encoding_is;
           begins = (pad, e ∙ ap (λ (b : Bits). b ++ pad) (append-nil lines_there));
-        }))
+        }) (few_zeros (length (lines_there ++ [])))
 
-    of_lines : (aligned : Bool) → Match d encoding false aligned false columns (length rows) → whole ≡ filled_up (chosen_lines encoding k aligned 0 white rows) → Gives d whole rows
+    of_lines : (aligned : Bool) → Match d encoding false aligned false columns (length rows) → whole ≡ filled_up (chosen_lines encoding k aligned 0 white rows) → GivesAll d whole rows (length bytes)
     of_lines aligned m e =
         let body : Bits = chosen_lines encoding k aligned 0 white rows in
         let lines = lines_encode encoding columns k aligned 0 white rows is.0 (white_is_wide columns) is.1 in
-        limited_pictures d rows whole (are_settings (length rows) m.columns_are m.limit_is few) (bits_are_whole HighestFirst bytes)
-        (IsLimitedPicture.of_t4 body (record {
+        all_t4 order d rows bytes (are_settings (length rows) m.columns_are m.limit_is few) body (record {
           encoding = λ x. not_t6 (sym m.encoding_is ∙ x);
           end_of_line = m.eols_are;
           limit = m.limit_is;
@@ -204,21 +206,21 @@ module _ (d : DecodeSettings) (columns : ℕ) (rows : List Row) (bytes : List �
               (subst (λ (a : Bool). EncodesRows d.encoding a white rows body) (sym m.aligned_is)
               (subst (λ (x : EncodingMode). EncodesRows x aligned white rows body) (sym m.encoding_is) lines));
           begins = (padding (length body), e);
-        }))
+        }) (few_zeros (length body))
 
-  by_kind : (encoding : EncodingMode) (eols : Bool) (k : ℕ) (fills aligned closed : Bool) → Match d encoding eols aligned (is_closed encoding eols closed) columns (length rows)
-      → whole ≡ filled_up (chosen_picture encoding eols k fills aligned closed white rows) → Gives d whole rows
-  by_kind Group4 eols k fills aligned closed m e = of_group4 k eols aligned closed m e
-  by_kind Group3_1D true k fills aligned closed m e = of_eols Group3_1D k fills (λ x. absurd cc) aligned closed m e
-  by_kind Group3_1D false k fills aligned closed m e = of_lines Group3_1D k fills (λ x. absurd cc) aligned m e
-  by_kind Group3_2D true k fills aligned closed m e = of_eols Group3_2D k fills (λ x. absurd cc) aligned closed m e
-  by_kind Group3_2D false k fills aligned closed m e = of_lines Group3_2D k fills (λ x. absurd cc) aligned m e
+  by_kind : (encoding : EncodingMode) (eols : Bool) (k : ℕ) (fills aligned closed : Bool) → (needs_row encoding closed ≡ true → 0 < length rows) → Match d encoding eols aligned (is_closed encoding eols closed) columns (length rows)
+      → whole ≡ filled_up (chosen_picture encoding eols k fills aligned closed white rows) → GivesAll d whole rows (length bytes)
+  by_kind Group4 eols k fills aligned closed some m e = of_group4 k eols aligned closed some m e
+  by_kind Group3_1D true k fills aligned closed some m e = of_eols Group3_1D k fills (λ x. absurd cc) (some refl) aligned closed m e
+  by_kind Group3_1D false k fills aligned closed some m e = of_lines Group3_1D k fills (λ x. absurd cc) (some refl) aligned m e
+  by_kind Group3_2D true k fills aligned closed some m e = of_eols Group3_2D k fills (λ x. absurd cc) (some refl) aligned closed m e
+  by_kind Group3_2D false k fills aligned closed some m e = of_lines Group3_2D k fills (λ x. absurd cc) (some refl) aligned m e
 
 -- the law
 pub chosen_is_read : ChosenIsRead
 chosen_is_read settings columns rows bytes small few some is e =
-    by_kind (decode_settings_for settings columns (length rows)) columns rows bytes small few some is settings.encoding settings.end_of_line settings.k settings.eols_end_at_bytes
-    settings.rows_are_byte_aligned settings.end_of_block
+    by_kind settings.order (decode_settings_for settings columns (length rows)) columns rows bytes small few is settings.encoding settings.end_of_line settings.k
+    settings.eols_end_at_bytes settings.rows_are_byte_aligned settings.end_of_block some
     (record { columns_are = refl; encoding_is = refl; eols_are = refl; aligned_is = refl; block_is = refl; limit_is = refl }) e
 
 -- ---- the existing encoders
@@ -244,3 +246,9 @@ chosen_by_settings columns k rows = (
   ap (λ (b : Bits). b ++ chosen_eols Group3_1D false (length b) 6) (same_lines_1d k 0 0 (white_row columns) rows)
       ∙ ap (λ (b : Bits). chosen_lines_1d rows ++ b) (same_eols (length (chosen_lines_1d rows))),
 )
+
+-- the law
+pub chosen_comes_back : ChosenComesBack
+chosen_comes_back settings columns rows bytes again small few some is fit fit_again e same =
+    let read = chosen_is_read settings columns rows bytes small few some is e in
+    same_bytes settings.order again bytes fit_again fit (same ∙ ap (λ (l : List Row). filled_up (chosen settings columns l)) read.0 ∙ sym e)

@@ -1,4 +1,5 @@
 pub mod BitmapRoundTrip
+pub mod BytesOfBits
 pub mod ChosenBySettings
 pub mod ChosenLines
 pub mod ChosenWords
@@ -11,6 +12,7 @@ pub mod ModesWritten
 pub mod PackedRows
 pub mod PaintedRows
 pub mod PaintedWords
+pub mod ReadToTheEnd
 pub mod RoundTrip
 pub mod RowLists
 pub mod RunLengths

@@ -7,6 +7,8 @@ use Rattle.hayro_ccitt.specs.Bits.{Bits}
 use Rattle.hayro_ccitt.specs.Rows.{Row, white_row}
 use Rattle.hayro_ccitt.specs.Encodings.{eol, padding}
 use Rattle.fax_encode.specs.declared.settings.EncodeSettings.{EncodeSettings}
+use Rattle.fax_encode.specs.Laws.{RowsAreChosen}
+use Rattle.fax_encode.specs.RowByRow.{RowsEncoded, no_rows, with_row, with_rows}
 use Rattle.fax_encode.specs.Settings.{chosen, chosen_picture, chosen_line, chosen_lines, chosen_lines_with_eols, chosen_part, chosen_end, fill_of, has_eols, left_after, with_end}
 use Rattle.fax_encode.proofs.FilledEols.{length-eol}
 
@@ -115,3 +117,14 @@ pub all_written : (settings : EncodeSettings) (columns at left : ℕ) (reference
     → now ++ lines_left settings at left reference [] ≡ lines_left settings 0 0 (white_row columns) rows → with_end settings now ≡ chosen settings columns rows
 all_written settings columns at left reference rows now e =
     whole_picture settings columns rows now (sym (append-nil now) ∙ ap (λ (b : Bits). now ++ b) (sym (lines_none settings at left reference)) ∙ e)
+
+-- ---- row by row
+-- the lines of rows that are pushed are those that are left
+lines_pushed : (rows : RowsEncoded) (more : List Row) → (with_rows rows more).lines ≡ rows.lines ++ lines_left rows.settings (length rows.lines) rows.left rows.last more
+lines_pushed rows [] = sym (append-nil rows.lines) ∙ ap (λ (b : Bits). rows.lines ++ b) (sym (lines_none rows.settings (length rows.lines) rows.left rows.last))
+lines_pushed rows (row ∷ more) =
+    lines_pushed (with_row rows row) more ∙ line_written rows.settings rows.left rows.last row more rows.lines (with_row rows row).lines refl
+
+-- the law
+pub rows_are_chosen : RowsAreChosen
+rows_are_chosen settings columns rows = whole_picture settings columns rows (with_rows (no_rows settings columns) rows).lines (lines_pushed (no_rows settings columns) rows)

@@ -65,11 +65,11 @@ round_trip_t6 settings columns lists bytes wide small are to_end group4 e =
 
 -- ---- T.4
 -- a few zeros contain no EOL
-no_eol : (seen n : ℕ) → after_eol seen (replicate n false) ≡ None
+pub no_eol : (seen n : ℕ) → after_eol seen (replicate n false) ≡ None
 no_eol seen zero = refl
 no_eol seen (suc n) = no_eol (suc seen) n
 
-eols_end : (most n : ℕ) → eols most (replicate n false) ≡ (0, replicate n false)
+pub eols_end : (most n : ℕ) → eols most (replicate n false) ≡ (0, replicate n false)
 eols_end most n = eols-none most (replicate n false) (no_eol 0 n)
 
 -- the EOLs of RTC, and the zeros after them

@@ -1,7 +1,6 @@
 -- How many bits runs take.
-use Rattle.std.proofs.Common.{◌≡◌, ℕ, zero, suc, ◌+◌, ◌-◌, ◌*◌, ◌/◌, ◌%◌, ◌<◌, ◌≤◌, Bool, true, false, leb, List, length, drop, get_or, replicate, refl, sym, ap, ◌∙◌, arith}
+use Rattle.std.proofs.Common.{◌≡◌, ℕ, zero, suc, ◌+◌, ◌-◌, ◌*◌, ◌/◌, ◌%◌, ◌<◌, ◌≤◌, List, length, drop, get_or, replicate, refl, sym, ap, ◌∙◌, arith}
 use Rattle.std.specs.Prelude.{flat_map}
-use Rattle.std.proofs.lemmas.Bool.{leb-true, leb-false}
 use Rattle.std.proofs.lemmas.List.{length-append}
 use Rattle.hayro_ccitt.specs.declared.codes.Color.{Color}
 use Rattle.hayro_ccitt.specs.declared.codes.Color.TheVariants.{White, Black}
@@ -49,17 +48,7 @@ long_rest color n first last more one two =
     omega (arith, run_parts color n, ap length (rest_more color rest more), length-append front behind, word_length front first one, word_length behind last two)
 
 -- ---- budgets
--- what is left of a number of bits, where so many were taken from both sides
-pub le_moved : (bits left rest whole : ℕ) → bits + rest ≡ left + whole → leb left rest ≡ leb bits whole
-le_moved bits left rest whole e = by (leb left rest) (leb bits whole) refl refl
-  where
-    by : (p q : Bool) → leb left rest ≡ p → leb bits whole ≡ q → p ≡ q
-    by true true a b = refl
-    by false false a b = refl
-    by true false a b = absurd (omega (arith, e, leb-true left rest a, leb-false bits whole b))
-    by false true a b = absurd (omega (arith, e, leb-false left rest a, leb-true bits whole b))
-
--- the next run is taken from both
+-- the next run is taken from both sides
 pub run_taken : (columns place i : ℕ) (color : Color) (changes : List ℕ) (bits left run whole : ℕ) → i < length changes → AscendFrom place columns (drop i changes)
     → run ≡ length (chosen_run color (get_or changes i 0 - place)) → bits + length (chosen_runs columns color place (drop i changes)) ≡ left + whole → run ≤ left
     → bits + length (chosen_runs columns (opposite color) (get_or changes i 0) (drop (i + 1) changes)) ≡ (left - run) + whole

@@ -1,20 +1,20 @@
 -- The laws of the chosen encoding.
-use Rattle.std.specs.Prelude.{◌≡◌, ℕ, suc, ◌^◌, ◌<◌, ◌≤◌, Bool, true, false, List, [], ◌∷◌, ◌++◌, length, Ok}
+use Rattle.std.specs.Prelude.{◌≡◌, ℕ, suc, ◌^◌, ◌<◌, ◌≤◌, Bool, true, false, List, [], ◌∷◌, ◌++◌, length, Ok, All}
 use Rattle.hayro_ccitt.specs.declared.settings.EncodingMode.{EncodingMode}
 use Rattle.hayro_ccitt.specs.declared.settings.EncodingMode.TheVariants.{Group4, Group3_1D, Group3_2D}
 use Rattle.hayro_ccitt.specs.declared.settings.DecodeSettings.{DecodeSettings}
 use Rattle.hayro_ccitt.specs.Answers.{meaning_after}
-use Rattle.hayro_ccitt.specs.Bits.{Bits, bits_of}
+use Rattle.hayro_ccitt.specs.Bits.{Bits, bits_in, bits_of}
 use Rattle.hayro_ccitt.specs.Rows.{Row, HaveWidth, white_row, pixels}
 use Rattle.hayro_ccitt.specs.Encodings.{IsPicture, PictureT6, PictureT4, EncodesRows, EncodesRowsWithEols, ClosesWithEols}
 use Rattle.hayro_ccitt.specs.declared.bit_reader.BitOrder.TheVariants.{HighestFirst}
-use Rattle.hayro_ccitt.specs.Laws.{Gives}
 use Rattle.hayro_ccitt.specs.PlainReading.{plain}
 use Rattle.fax_encode.specs.Chosen.{chosen_line_1d, chosen_t6, chosen_t4, filled_up, rows_of}
 use Rattle.fax_encode.specs.Packed.{packed, shown, with_packed_row}
 use Rattle.fax_encode.specs.Refusals.{AreRows}
+use Rattle.fax_encode.specs.RowByRow.{no_rows, with_rows}
 use Rattle.fax_encode.specs.declared.settings.EncodeSettings.{EncodeSettings}
-use Rattle.fax_encode.specs.Settings.{chosen, chosen_line, chosen_lines, chosen_lines_with_eols, chosen_eols, decode_settings_for}
+use Rattle.fax_encode.specs.Settings.{chosen, chosen_line, chosen_lines, chosen_lines_with_eols, chosen_eols, needs_row, with_end, decode_settings_for}
 
 -- what is chosen for a picture is an encoding of it
 abbrev pub ChosenIsAnEncoding : Type 0
@@ -78,12 +78,30 @@ ChosenLinesEncode = (encoding : EncodingMode) (columns k : ℕ) (rows : List Row
 abbrev pub NeverLonger : Type 0
 NeverLonger = (left : ℕ) (reference row : Row) → length (chosen_line Group3_2D left reference row) ≤ suc (length (chosen_line_1d row))
 
+-- glue: the reading of some data gives these rows, without a fault, and takes so many bytes
+abbrev pub GivesAll : DecodeSettings → Bits → List Row → ℕ → Type 0
+GivesAll settings whole rows count = ((plain settings whole).rows ≡ rows) × ((plain settings whole).outcome ≡ Ok count)
+
 -- What is chosen for a picture, by any settings, is read as its rows by the matching settings.
 abbrev pub ChosenIsRead : Type 0
 ChosenIsRead = (settings : EncodeSettings) (columns : ℕ) (rows : List Row) (bytes : List ℕ)
-    → columns < 2 ^ 32 → length rows < 2 ^ 32 → 0 < length rows → IsPicture columns rows
-    → bits_of bytes ≡ filled_up (chosen settings columns rows)
-    → Gives (decode_settings_for settings columns (length rows)) (bits_of bytes) rows
+    → columns < 2 ^ 32 → length rows < 2 ^ 32 → (needs_row settings.encoding settings.end_of_block ≡ true → 0 < length rows) → IsPicture columns rows
+    → bits_in settings.order bytes ≡ filled_up (chosen settings columns rows)
+    → GivesAll (decode_settings_for settings columns (length rows)) (bits_in settings.order bytes) rows (length bytes)
+
+-- Bytes of what is chosen for a picture, for all settings, are those of what is chosen for the rows that they are read as.
+abbrev pub ChosenComesBack : Type 0
+ChosenComesBack = (settings : EncodeSettings) (columns : ℕ) (rows : List Row) (bytes again : List ℕ)
+    → columns < 2 ^ 32 → length rows < 2 ^ 32 → (needs_row settings.encoding settings.end_of_block ≡ true → 0 < length rows) → IsPicture columns rows
+    → All (λ byte. byte < 256) bytes → All (λ byte. byte < 256) again
+    → bits_in settings.order bytes ≡ filled_up (chosen settings columns rows)
+    → bits_in settings.order again ≡ filled_up (chosen settings columns (plain (decode_settings_for settings columns (length rows)) (bits_in settings.order bytes)).rows)
+    → again ≡ bytes
+
+-- What is encoded row by row, with what stands behind the lines, is what is chosen for all rows.
+abbrev pub RowsAreChosen : Type 0
+RowsAreChosen = (settings : EncodeSettings) (columns : ℕ) (rows : List Row)
+    → with_end settings (with_rows (no_rows settings columns) rows).lines ≡ chosen settings columns rows
 
 -- what is chosen for T.6 and for one-dimensional T.4 is also what is chosen by settings
 abbrev pub ChosenBySettings : Type 0

@@ -4,6 +4,7 @@ pub mod Laws
 pub mod Packed
 pub mod Painting
 pub mod Refusals
+pub mod RowByRow
 pub mod Scanning
 pub mod Settings
 pub mod Writing

@@ -19,7 +19,7 @@ use std::alloc::{AllocError, Global};
 use std::mem;
 
 /// Whether a picture of these settings has at least one row.
-fn needs_row(settings: EncodeSettings) -> bool
+pub fn needs_row(settings: EncodeSettings) -> bool
     ensures { result ≡ needs_row settings.encoding settings.end_of_block }
 {
     match settings.encoding {

@@ -241,7 +241,7 @@ fn picture(
 /// # Errors
 ///
 /// `NoColumns` if `columns` is 0, else `NotARow` with the index of the first list that is not strictly ascending and
-/// below `columns`, else `OutOfMemory` if an allocation fails; never `NoRows` or `NoEncoding`.
+/// below `columns`, else `OutOfMemory` if an allocation fails; never `NoRows`.
 pub fn encode_g4(
     alloc: Global,
     columns: u32,

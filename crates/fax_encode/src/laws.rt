@@ -1,7 +1,7 @@
 //! Laws of the chosen encoding: each is the contract of a function that does nothing.
 
-ghost use Rattle.fax_encode.specs.Laws.{ChosenBySettings, ChosenIsRead, ChosenLinesEncode, NeverLonger, WorkedSettings};
-ghost use Rattle.fax_encode.specs.Laws.{BitmapRoundTripT4, BitmapRoundTripT6, ChosenIsAnEncoding, PackedIsShown, RoundTripT6, RoundTripT4, RowsArePacked};
+ghost use Rattle.fax_encode.specs.Laws.{ChosenBySettings, ChosenComesBack, ChosenIsRead, ChosenLinesEncode, NeverLonger, WorkedSettings};
+ghost use Rattle.fax_encode.specs.Laws.{RowsAreChosen, BitmapRoundTripT4, BitmapRoundTripT6, ChosenIsAnEncoding, PackedIsShown, RoundTripT6, RoundTripT4, RowsArePacked};
 
 /// What is chosen for a picture encodes it: as T.6, closed by EOFB, and as one-dimensional T.4 with an EOL before each
 /// line, closed by RTC.
@@ -46,5 +46,11 @@ pub fn chosen_by_settings()
 /// What is chosen for a picture by any settings of an encoder, in bytes, is read as its rows, without a fault, by the settings
 /// of the decoder that match: up to the end of the block if one is written, and else with the number of rows as row limit.
 pub fn chosen_is_read()
-    ensures { ChosenIsRead }
+    ensures read { ChosenIsRead }
+    ensures again { ChosenComesBack }
+{}
+
+/// The rows that an [`Encoder`](crate::Encoder) takes one after another are encoded as all of them at once.
+pub fn rows_are_chosen()
+    ensures { RowsAreChosen }
 {}

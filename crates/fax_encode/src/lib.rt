@@ -7,6 +7,7 @@ mod bitmap_encoding;
 mod bitmap_rows;
 mod bitmap_sink;
 mod by_settings;
+mod encoder;
 mod encoding;
 mod error;
 mod group3;
@@ -23,6 +24,7 @@ pub use bitmap_encoding::{encode_bitmap_1d, encode_bitmap_g4};
 pub use bitmap_rows::rows_of_bitmap;
 pub use bitmap_sink::BitmapSink;
 pub use by_settings::{encode, encode_bitmap};
+pub use encoder::Encoder;
 pub use encoding::names_encoding;
 pub use error::EncodeError;
 pub use group3::encode_1d;
@@ -35,5 +37,7 @@ pub use settings::EncodeSettings;
 mod bitmap_tests;
 #[cfg(test)]
 mod large_tests;
+#[cfg(test)]
+mod settings_tests;
 #[cfg(test)]
 mod tests;

@@ -5,7 +5,7 @@ ghost use Rattle.hayro_ccitt.specs.Rows.{AreChanges};
 ghost use Rattle.fax_encode.specs.Refusals.{AreRows, IsFirstUnlawful};
 
 /// Returns whether a list is strictly ascending and below the width.
-fn is_row(columns: u32, changes: &[u32]) -> bool
+pub fn is_row(columns: u32, changes: &[u32]) -> bool
     ensures { IsTrue result ↔ AreChanges columns changes.now }
 {
     let mut least: u64 = 0;

@@ -1,3 +1,4 @@
+pub mod DamageTexts
 pub mod Examples
 pub mod Outputs
 pub mod PackedRuns

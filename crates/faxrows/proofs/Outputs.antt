@@ -8,8 +8,10 @@ use Rattle.faxrows.specs.Output.{AppendsFront, PassesOn}
 use Rattle.faxrows.specs.Text.{line_of_row, text_of_change}
 
 -- a text behind what was taken and what waits
-regrouped : (waited text front waits more : List ℕ) → waited ++ text ≡ front ++ waits → waited ++ (text ++ more) ≡ front ++ (waits ++ more)
-regrouped waited text front waits more e = sym (append_assoc waited text more) ∙ ap (λ l. l ++ more) e ∙ append_assoc front waits more
+regrouped : (waited text front waits more : List ℕ) → waited ++ text ≡ front ++ waits → waited ++ (text ++ more) ≡ front
+    ++ (waits ++ more)
+regrouped waited text front waits more e = sym (append_assoc waited text more) ∙ ap (λ l. l ++ more) e
+    ∙ append_assoc front waits more
 
 -- nothing came, and nothing was taken
 pub passes_none : (a : Option (List ℕ)) (waits : List ℕ) → PassesOn a a waits [] waits
@@ -39,12 +41,15 @@ pub front_of_more : (a b : Option (List ℕ)) (text more : List ℕ) → Appends
 front_of_more a b text more p = (p.0, p.1 ++ more, p.2, ap (λ l. l ++ more) p.3 ∙ append_assoc p.0 p.1 more)
 
 -- what was taken is a front of all that came
-pub front_of_passed : (a b : Option (List ℕ)) (waited text waits : List ℕ) → PassesOn a b waited text waits → AppendsFront a b (waited ++ text)
+pub front_of_passed : (a b : Option (List ℕ)) (waited text waits : List ℕ) → PassesOn a b waited text waits
+    → AppendsFront a b (waited ++ text)
 front_of_passed a b waited text waits p = (p.0, waits, p.1, p.2)
 
 -- and of a text to which more is added
-pub front_of_longer : (a b : Option (List ℕ)) (waited text more : List ℕ) → AppendsFront a b (waited ++ text) → AppendsFront a b (waited ++ (text ++ more))
-front_of_longer a b waited text more p = subst (AppendsFront a b) (append_assoc waited text more) (front_of_more a b (waited ++ text) more p)
+pub front_of_longer : (a b : Option (List ℕ)) (waited text more : List ℕ) → AppendsFront a b (waited ++ text)
+    → AppendsFront a b (waited ++ (text ++ more))
+front_of_longer a b waited text more p = subst (AppendsFront a b) (append_assoc waited text more) (front_of_more a b
+    (waited ++ text) more p)
 
 -- the pieces up to an index, and the one at it
 pub pieces_more : {A : Type 0} (piece : A → List ℕ) (xs : List A) (i : ℕ) (d : A) → i < length xs
@@ -55,11 +60,13 @@ pieces_more piece xs i d inside =
     ∙ ap (flat_map piece) (sym (take_more xs i d inside))
 
 -- the pieces up to an index, and those behind it
-pub pieces_rest : {A : Type 0} (piece : A → List ℕ) (xs : List A) (n : ℕ) → flat_map piece (take n xs) ++ flat_map piece (drop n xs) ≡ flat_map piece xs
+pub pieces_rest : {A : Type 0} (piece : A → List ℕ) (xs : List A) (n : ℕ) → flat_map piece (take n xs) ++ flat_map piece
+    (drop n xs) ≡ flat_map piece xs
 pieces_rest piece xs n = sym (flat_map-append piece (take n xs) (drop n xs)) ∙ ap (flat_map piece) (take-append-drop n xs)
 
 -- a row's line is its front up to some changes, and the rest
-line_rest : (changes : List ℕ) (n : ℕ) → (114 ∷ flat_map text_of_change (take n changes)) ++ (flat_map text_of_change (drop n changes) ++ 10 ∷ []) ≡ line_of_row changes
+line_rest : (changes : List ℕ) (n : ℕ) → (114 ∷ flat_map text_of_change (take n changes)) ++ (flat_map text_of_change
+    (drop n changes) ++ 10 ∷ []) ≡ line_of_row changes
 line_rest changes n =
     ap (λ l. 114 ∷ l)
     (sym (append_assoc (flat_map text_of_change (take n changes)) (flat_map text_of_change (drop n changes)) (10 ∷ []))
@@ -67,12 +74,15 @@ line_rest changes n =
 
 -- a front of a line up to some changes is a front of the line
 pub front_of_line : (a b : Option (List ℕ)) (waited changes : List ℕ) (n : ℕ)
-    → AppendsFront a b (waited ++ (114 ∷ flat_map text_of_change (take n changes))) → AppendsFront a b (waited ++ line_of_row changes)
+    → AppendsFront a b (waited ++ (114 ∷ flat_map text_of_change (take n changes))) → AppendsFront a b
+    (waited ++ line_of_row changes)
 front_of_line a b waited changes n p =
-    subst (λ l. AppendsFront a b (waited ++ l)) (line_rest changes n) (front_of_longer a b waited _ (flat_map text_of_change (drop n changes) ++ 10 ∷ []) p)
+    subst (λ l. AppendsFront a b (waited ++ l)) (line_rest changes n) (front_of_longer a b waited _
+    (flat_map text_of_change (drop n changes) ++ 10 ∷ []) p)
 
 -- after a text a front of what waits was taken
-pub front_of_waiting : (a b c : Option (List ℕ)) (waited text waits : List ℕ) → PassesOn a b waited text waits → AppendsFront b c waits → AppendsFront a c (waited ++ text)
+pub front_of_waiting : (a b c : Option (List ℕ)) (waited text waits : List ℕ) → PassesOn a b waited text waits
+    → AppendsFront b c waits → AppendsFront a c (waited ++ text)
 front_of_waiting a b c waited text waits p q = (
   p.0 ++ q.0,
   q.1,

@@ -9,17 +9,22 @@ use Rattle.faxrows.specs.RunsByRow.{EndsByRow, IsTextByRow, IsTextWithoutMemory}
 use Rattle.faxrows.proofs.Texts.{text_of_good, text_of_faulty}
 
 -- the text is the whole one, or that of a want of memory
-pub text_by_row : (settings : DecodeSettings) (bits : Bits) (read : ℕ) (outcome : Outcome) → EndsByRow settings bits read outcome
+pub text_by_row : (settings : DecodeSettings) (bits : Bits) (read : ℕ) (outcome : Outcome)
+    → EndsByRow settings bits read outcome
     → IsTextByRow settings bits (text_after settings bits read outcome)
 text_by_row settings bits read (Ok n) ends = inl (text_of_good settings bits read (Ok n) (ends.0.0, ends.0.1) refl).0
-text_by_row settings bits read (Err UnexpectedEof) ends = inl (text_of_faulty settings bits read (Err UnexpectedEof) (ends.0.0, ends.0.1) refl).0
-text_by_row settings bits read (Err InvalidCode) ends = inl (text_of_faulty settings bits read (Err InvalidCode) (ends.0.0, ends.0.1) refl).0
-text_by_row settings bits read (Err Overflow) ends = inl (text_of_faulty settings bits read (Err Overflow) (ends.0.0, ends.0.1) refl).0
+text_by_row settings bits read (Err UnexpectedEof) ends = inl (text_of_faulty settings bits read (Err UnexpectedEof)
+    (ends.0.0, ends.0.1) refl).0
+text_by_row settings bits read (Err InvalidCode) ends = inl (text_of_faulty settings bits read (Err InvalidCode)
+    (ends.0.0, ends.0.1) refl).0
+text_by_row settings bits read (Err Overflow) ends = inl (text_of_faulty settings bits read (Err Overflow)
+    (ends.0.0, ends.0.1) refl).0
 text_by_row settings bits read (Err OutOfMemory) ends = inr (read, ends.0, refl)
 text_by_row settings bits read (Err Refused) ends = absurd (ends.1 refl)
 
 -- a run that ended for want of memory wrote the text of one
-pub text_without_memory : (settings : DecodeSettings) (bits : Bits) (read : ℕ) (outcome : Outcome) → EndsByRow settings bits read outcome
+pub text_without_memory : (settings : DecodeSettings) (bits : Bits) (read : ℕ) (outcome : Outcome)
+    → EndsByRow settings bits read outcome
     → done_of outcome ≡ Memory → IsTextWithoutMemory settings bits (text_after settings bits read outcome)
 text_without_memory settings bits read (Ok n) ends e = cc
 text_without_memory settings bits read (Err UnexpectedEof) ends e = cc

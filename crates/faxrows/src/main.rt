@@ -1,9 +1,9 @@
 //! `faxrows`: decodes a fax image from standard input, and writes its rows as text to standard output.
 //!
 //! It is called as `faxrows MODE COLUMNS ROWS FLAGS`, with `-o` before these words to write the rows as a bitmap of one bit
-//! a pixel, or with `-i` to write each row as it is read. The mode is `g4`, `1d` or `2d`, columns and rows are decimal
-//! numbers, and the flags are `-` or letters: `b` if EOFB or RTC may end the data, `l` if EOLs precede its lines, `a` for
-//! aligned rows, `s` for a strict reading, `r` for the lowest bit of each byte first.
+//! a pixel, with `-i` to write each row as it is read, or with `-d` to write the damage. The mode is `g4`, `1d` or `2d`,
+//! columns and rows are decimal numbers, and the flags are `-` or letters: `b` if EOFB or RTC may end the data, `l` if EOLs
+//! precede its lines, `a` for aligned rows, `s` for a strict reading, `r` for the lowest bit of each byte first.
 #![tactic(auto)]
 
 ghost use Rattle.std.specs.Prelude.{◌≡◌, ◌<◌, IfOk, IsTrue, length, map, string_bytes};
@@ -13,6 +13,8 @@ ghost use Rattle.faxrows.specs.Statuses.{IsStatusOfRun, status_of_answer, status
 
 mod arguments;
 pub mod by_row;
+pub mod damage;
+mod damage_lines;
 pub mod device;
 mod digits;
 mod last_line;
@@ -22,6 +24,7 @@ pub mod program;
 pub mod text_sink;
 
 pub use by_row::run_by_row;
+pub use damage::run_damage;
 pub use device::{Device, Failed};
 use hayro_ccitt::DecodeError;
 pub use packed::run_packed;
@@ -74,13 +77,17 @@ fn run_words(rt: &HostRuntime) -> Result<u8, RunFault>
         let done = run_by_row(rt.alloc(), &words[1..], &mut reader, &mut writer)?;
         return Ok(status_of_done(done));
     }
+    if is_first_word(words, "-d") {
+        let done = run_damage(rt.alloc(), &words[1..], &mut reader, &mut writer)?;
+        return Ok(status_of_done(done));
+    }
     let done = run(rt.alloc(), words, &mut reader, &mut writer)?;
     Ok(status_of_done(done))
 }
 
 /// What `--help` prints.
 const USAGE: &str =
-    "faxrows MODE COLUMNS ROWS FLAGS\nfaxrows -o MODE COLUMNS ROWS FLAGS\nfaxrows -i MODE COLUMNS ROWS FLAGS\nfaxrows --help\nfaxrows --version";
+    "faxrows MODE COLUMNS ROWS FLAGS\nfaxrows -o MODE COLUMNS ROWS FLAGS\nfaxrows -i MODE COLUMNS ROWS FLAGS\nfaxrows -d MODE COLUMNS ROWS FLAGS\nfaxrows --help\nfaxrows --version";
 
 /// What `--version` prints.
 const VERSION: &str = "faxrows 0.6.0";

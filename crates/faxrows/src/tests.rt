@@ -155,6 +155,89 @@ fn ran_by_row(
     Ok((answer, writer.into_inner()))
 }
 
+/// Runs over bytes for their damage, and answers how the run ended and what was written.
+fn ran_for_damage(
+    alloc: Global,
+    line: &str,
+    input: &[u8],
+) -> Result<(Result<Done, RunFault>, Vec<u8>), AllocError> {
+    let words = words_of(alloc, line)?;
+    let mut reader = Device::new(input);
+    let mut writer = Device::new(Vec::new(alloc));
+    let answer = run_damage(alloc, words.as_slice(), &mut reader, &mut writer);
+    Ok((answer, writer.into_inner()))
+}
+
+/// Data of three rows, the second of which is damaged, and what is written of it.
+const DAMAGED_ROWS: [u8; 7] = [0x00, 0x19, 0x80, 0x0C, 0x40, 0x00, 0x33];
+
+const DAMAGE: &str = "damaged 1 29 invalid CCITT code sequence\nok 3 1 7\n";
+
+#[test]
+fn writes_damage(rt: HostRuntime) -> Result<(), Fail> {
+    for (line, input, want, text) in [
+        ("1d 8 0 l", DAMAGED_ROWS.as_slice(), Done::Good, DAMAGE),
+        (
+            "1d 8 0 ls",
+            DAMAGED_ROWS.as_slice(),
+            Done::Faulty,
+            "error 1 invalid CCITT code sequence\n",
+        ),
+        (
+            "1d 8 1 l",
+            DAMAGED_ROWS.as_slice(),
+            Done::Good,
+            "ok 1 0 4\n",
+        ),
+        (
+            "g4 8 2 -",
+            [0x31, 0xF8].as_slice(),
+            Done::Good,
+            "ok 2 0 2\n",
+        ),
+        (
+            "2d 8 0 l",
+            [].as_slice(),
+            Done::Good,
+            "damaged 0 0 unexpected end of input\nok 1 1 0\n",
+        ),
+        (
+            "2d 8 0 -",
+            [].as_slice(),
+            Done::Faulty,
+            "error 0 unexpected end of input\n",
+        ),
+    ] {
+        let (answer, written) = ran_for_damage(rt.alloc(), line, input)?;
+        assert_eq!(rt; answer, Ok(want), "at {line}");
+        assert_eq!(rt; written.as_slice(), text.as_bytes(), "at {line}");
+    }
+    Ok(())
+}
+
+#[test]
+fn fails_at_each_write_of_damage(rt: HostRuntime) -> Result<(), Fail> {
+    let text = DAMAGE.as_bytes();
+    for writes in 0..60usize {
+        let words = words_of(rt.alloc(), "1d 8 0 l")?;
+        let mut reader = Device::new(DAMAGED_ROWS.as_slice());
+        let mut writer = Device::new(Choking {
+            bytes: Vec::new(rt.alloc()),
+            calls: Calls::new(writes, false),
+        });
+        let answer = run_damage(rt.alloc(), words.as_slice(), &mut reader, &mut writer);
+        let written = writer.into_inner().bytes;
+        if writes < text.len() {
+            assert_eq!(rt; answer, Err(RunFault::Write), "at {writes}");
+            assert_eq!(rt; written.as_slice(), &text[..writes], "at {writes}");
+        } else {
+            assert_eq!(rt; answer, Ok(Done::Good), "at {writes}");
+            assert_eq!(rt; written.as_slice(), text, "at {writes}");
+        }
+    }
+    Ok(())
+}
+
 #[test]
 fn writes_rows_and_the_outcome(rt: HostRuntime) -> Result<(), Fail> {
     for (line, input, want, text) in [
@@ -489,6 +572,36 @@ fn refused_memory_by_row(rt: HostRuntime) -> Result<(), Fail> {
             let is_wanted = match answer {
                 Ok(Done::Good) => is_whole && text.len() == 17,
                 Ok(Done::Memory) => is_whole && text.len() != 17,
+                Err(fault) => fault == RunFault::Memory,
+                Ok(Done::Faulty) => false,
+            };
+            is_known = is_known || is_wanted;
+        }
+        assert!(rt; is_known, "at {number}");
+    }
+    Ok(())
+}
+
+/// The damage with each request refused in turn: a run without the memory to begin writes nothing, one without that for the
+/// second row says so, and one without that for a piece of text writes all of it.
+#[test]
+fn refused_memory_of_damage(rt: HostRuntime) -> Result<(), Fail> {
+    let words = words_of(rt.alloc(), "1d 8 0 l")?;
+    for number in 1..20usize {
+        let mut is_known = false;
+        for text in [DAMAGE, "error 1 out of memory\n"] {
+            let mut reader = Device::new(DAMAGED_ROWS.as_slice());
+            let mut writer = Device::new(Comparing {
+                wanted: text.as_bytes(),
+                same: 0,
+            });
+            refuse_request(rt.alloc(), number);
+            let answer = run_damage(rt.alloc(), words.as_slice(), &mut reader, &mut writer);
+            let _ = was_refused(rt.alloc());
+            let is_whole = writer.into_inner().same == text.len();
+            let is_wanted = match answer {
+                Ok(Done::Good) => is_whole && text.len() == DAMAGE.len(),
+                Ok(Done::Memory) => is_whole && text.len() != DAMAGE.len(),
                 Err(fault) => fault == RunFault::Memory,
                 Ok(Done::Faulty) => false,
             };

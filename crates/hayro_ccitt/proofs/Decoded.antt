@@ -19,6 +19,7 @@ use Rattle.hayro_ccitt.proofs.DamagedLines.Damage.{damage_stays}
 use Rattle.hayro_ccitt.proofs.EncodedPictures.PicturesOfEachKind.{closed_pictures, limited_pictures}
 use Rattle.hayro_ccitt.proofs.Readings.PlainAnswers.{LeavesRows}
 use Rattle.hayro_ccitt.proofs.Readings.RowWidths.{plain_width}
+use Rattle.hayro_ccitt.proofs.Readings.Undamaged.{no_repairs, closed_strict, limited_strict}
 
 -- what follows is true of the same results
 on_answer : {P Q : Type 0} (answer : Result ℕ DecodeError) → (P → Q) → OnAnswer answer P → OnAnswer answer Q
@@ -53,6 +54,8 @@ decodes settings bits step before after held ticks answer are whole (takes, shor
       limited_picture = λ rows picture. on_answer answer (λ e. means rows (e.0 ∙ (limited_pictures settings rows bits are whole picture).0)) end;
       damaged_taken = repaired.taken;
       damaged = on_answer answer (λ e. e ∙ sym (length-flat_map (λ (row : List Damaged). row) (repairs_by_line settings bits))) repaired.all;
+      closed_whole = λ rows count picture. repaired.taken ∙ no_repairs settings bits held.taken (closed_strict settings rows count bits are whole picture);
+      limited_whole = λ rows picture. repaired.taken ∙ no_repairs settings bits held.taken (limited_strict settings rows bits are whole picture);
       damage = on_answer answer (λ e. damage_stays settings bits (take held.taken (plain settings bits).rows) answer are whole e.0 e.1) end;
     }
   where

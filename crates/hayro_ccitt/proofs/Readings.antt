@@ -13,3 +13,4 @@ pub mod Strictness
 pub mod WholeRuns
 pub mod TurnsAddRows
 pub mod TurnsMoveOn
+pub mod Undamaged

@@ -46,5 +46,8 @@ pub record Decodes {M : Type 0} (settings : DecodeSettings) (bits : Bits) (step 
   -- The context counts the rows that were repaired, of those taken (T.4, 4.1.2).
   pub damaged_taken : held.repairs.rows ≡ sum_by length (take held.taken (repairs_by_line settings bits))
   pub damaged : OnAnswer answer (held.repairs.rows ≡ length (repairs_of settings bits))
+  -- In a picture no row is repaired (T.4, 4.1.2).
+  pub closed_whole : (rows : List Row) (count : ℕ) → IsClosedPicture settings rows count bits → held.repairs.rows ≡ 0
+  pub limited_whole : (rows : List Row) → IsLimitedPicture settings rows bits → held.repairs.rows ≡ 0
   -- In lenient one-dimensional data with EOLs a change inside one line's body changes that row alone (T.4, 4.1.2).
   pub damage : OnAnswer answer (DamageStaysInRow settings bits (take held.taken (plain settings bits).rows) answer)

@@ -1,14 +1,14 @@
 -- Damage that a lenient reading of Group 3 data with EOLs gets over: rows that it repairs, and EOLs that it misses (T.4, 4.1.2).
-use Rattle.std.specs.Prelude.{ℕ, ◌+◌, ◌-◌, Bool, not, ◌&&◌, ◌||◌, List, [], ◌∷◌, ◌++◌, length, flat_map, ◌==◌, Option, Some, None, Result, Ok, Err, if◌then◌else◌}
+use Rattle.std.specs.Prelude.{ℕ, ◌+◌, ◌-◌, Bool, not, ◌&&◌, ◌||◌, List, [], ◌∷◌, ◌++◌, length, flat_map, ◌==◌, Option, Some, None, if◌then◌else◌}
 use Rattle.hayro_ccitt.specs.declared.error.DecodeError.{DecodeError}
 use Rattle.hayro_ccitt.specs.declared.error.DecodeError.TheVariants.{InvalidCode}
 use Rattle.hayro_ccitt.specs.declared.settings.DecodeSettings.{DecodeSettings}
 use Rattle.hayro_ccitt.specs.Bits.{Bits}
 use Rattle.hayro_ccitt.specs.Lines.{Line}
-use Rattle.hayro_ccitt.specs.PlainReading.{Progress, gathered_of, line_of_turn, misses_eol, row_of_line}
-use Rattle.hayro_ccitt.specs.Rows.{Row}
+use Rattle.hayro_ccitt.specs.PlainReading.{Progress, gathered_of, line_of_turn, misses_eol, behind_row}
 
--- damage: the index of the row, the offset in bits where its line begins, or the EOL is missing behind it, and the fault
+-- damage: the index of the row, the offset in bits from which on bits are passed over, and the fault; a line that is repaired is
+-- passed over from its first bit on, and an EOL is missed behind a whole one
 pub record Damaged : Type 0 where
   pub row : ℕ
   pub start : ℕ
@@ -42,23 +42,22 @@ repairs_of settings bits = flat_map (λ repaired. repaired) (repairs_by_line set
 
 -- ---- EOLs that are missed
 
--- what is missed behind a row: its EOL, in lenient data with EOLs where other bits stand (T.4, 4.1.2)
-abbrev pub missed_behind : DecodeSettings → Bits → Progress → Result (Row × Bits) DecodeError → List Damaged
-missed_behind settings bits so_far (Ok (row, rest)) =
-    if misses_eol settings (length so_far.rows + 1) so_far.has_eols rest && not settings.strict
-    then record { row = length so_far.rows; start = length bits - length rest; fault = InvalidCode } ∷ [] else []
-missed_behind settings bits so_far (Err fault) = []
-
--- glue: behind the row of a turn
-abbrev pub missed_by_turn : DecodeSettings → Bits → Progress → List Damaged
-missed_by_turn settings bits so_far =
-    missed_behind settings bits so_far (row_of_line settings so_far.has_eols so_far.rest (line_of_turn settings so_far))
+-- what is missed behind a line: its EOL, where it is whole and other bits stand, in lenient data with EOLs (T.4, 4.1.2)
+abbrev pub missed_behind : DecodeSettings → Bits → Progress → Line → List Damaged
+missed_behind settings bits so_far (Line.whole row rest) =
+    if misses_eol settings (length so_far.rows + 1) so_far.has_eols (behind_row settings so_far.has_eols rest) && not settings.strict
+    then record { row = length so_far.rows; start = length bits - length (behind_row settings so_far.has_eols rest); fault = InvalidCode } ∷ []
+    else []
+missed_behind settings bits so_far (Line.broken front fault) = []
 
 -- ---- All damage
 
--- Rows that are repaired and EOLs that are missed, in order. Where there is neither, a strict reading of T.4 data differs at
--- most by runs that are cut off at a row's end (T.4, 4.1.2).
+-- glue: of a turn
+abbrev pub damaged_by_turn : DecodeSettings → Bits → Progress → List Damaged
+damaged_by_turn settings bits so_far = repaired_by_turn settings bits so_far ++ missed_behind settings bits so_far (line_of_turn settings so_far)
+
+-- All damage that the plain reading gets over, in order: each row that it repairs, and each row behind which it misses the EOL
+-- (T.4, 4.1.2).
 abbrev pub damage_of : DecodeSettings → Bits → List Damaged
 damage_of settings bits =
-    if settings.columns == 0 then []
-    else flat_map (λ damaged. damaged) (gathered_of settings (λ so_far. repaired_by_turn settings bits so_far ++ missed_by_turn settings bits so_far) bits)
+    if settings.columns == 0 then [] else flat_map (λ damaged. damaged) (gathered_of settings (damaged_by_turn settings bits) bits)

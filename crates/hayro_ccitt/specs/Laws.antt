@@ -17,6 +17,7 @@ use Rattle.hayro_ccitt.specs.CodeReading.{Has, leading_zeros, PrefixFree}
 use Rattle.hayro_ccitt.specs.Runs.{codes_of}
 use Rattle.hayro_ccitt.specs.Rows.{Row, HaveWidth, AreChanges, pixels, changes, white_row}
 use Rattle.hayro_ccitt.specs.EndOfLine.{eols}
+use Rattle.hayro_ccitt.specs.Damage.{damage_of}
 use Rattle.hayro_ccitt.specs.Encodings.{EncodesRows, IsPicture, PictureT6, PictureT4}
 use Rattle.hayro_ccitt.specs.Pictures.{Allows, BeginsWithPictureT6, BeginsWithPictureT4, IsClosedPicture}
 use Rattle.hayro_ccitt.specs.Pictures.{BeginsWithRowsT6, BeginsWithRowsT4, BeginsWithRowsAndEolsT4, IsLimitedPicture}
@@ -109,6 +110,10 @@ StrictThenLenient = (settings : DecodeSettings) (whole : Bits) → AreSettings s
     → IsPrefix (plain (strictly settings) whole).rows (plain (leniently settings) whole).rows
     × (IsOk (plain (strictly settings) whole).outcome → plain (strictly settings) whole ≡ plain (leniently settings) whole)
 
+-- Where the strict reading ends without a fault, the lenient one gets over no damage.
+abbrev pub StrictIsUndamaged : Type 0
+StrictIsUndamaged = (settings : DecodeSettings) (whole : Bits) → IsOk (plain (strictly settings) whole).outcome → damage_of (leniently settings) whole ≡ []
+
 -- With a row limit the rows are the first ones, as many as it allows; with that many rows the reading ends without a
 -- fault.
 abbrev pub RowLimit : Type 0
@@ -165,6 +170,12 @@ ReadsLimitedPictureT4 = (settings : DecodeSettings) (rows : List Row) (bits whol
 abbrev pub ReadsLimitedPictures : Type 0
 ReadsLimitedPictures = (settings : DecodeSettings) (rows : List Row) (whole : Bits) → AreSettings settings → AreWholeBytes whole
     → IsLimitedPicture settings rows whole → Gives settings whole rows
+
+-- There is no damage in pictures, closed or with a limit of as many rows (T.4, 4.1.2).
+abbrev pub PicturesAreUndamaged : Type 0
+PicturesAreUndamaged = (settings : DecodeSettings) (rows : List Row) (whole : Bits) → AreSettings settings → AreWholeBytes whole
+    → ((count : ℕ) → IsClosedPicture settings rows count whole → damage_of settings whole ≡ [])
+    × (IsLimitedPicture settings rows whole → damage_of settings whole ≡ [])
 
 -- Every picture has encodings: as T.6, as T.4 with an EOL before each line, and as lines alone (T.4, 4.1.1, 4.1.4, 4.2.1
 -- and 4.2.4; T.6, 2.2 and 2.4.1.1).

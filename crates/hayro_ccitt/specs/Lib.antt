@@ -17,6 +17,7 @@ pub mod LookUps
 pub mod Pictures
 pub mod PlainReading
 pub mod Repetition
+pub mod RowCursors
 pub mod Rows
 pub mod RowsRead
 pub mod Runs

@@ -1,9 +1,10 @@
 -- Rows one at a time: what a reader of rows has read, and what a call leaves that reads the next row.
-use Rattle.std.specs.Prelude.{sum_by, take, ◌==◌, if◌then◌else◌, ◌≡◌, ◌≢◌, ◌≤◌, ◌<◌, ◌+◌, ◌-◌, ◌/◌, ℕ, Bool, true, false, not, drop, List, [], length, get_or, Option, None, Some, Result, Ok, Err, IfErr}
+use Rattle.std.specs.Prelude.{sum_by, take, ◌==◌, if◌then◌else◌, ◌≡◌, ◌≢◌, ◌≤◌, ◌<◌, ◌+◌, ◌-◌, ◌/◌, ℕ, Bool, true, false, not, drop, List, [], length, get_or, Option, None, Some, Result, Ok, Err, OnErr, IfErr}
 use Rattle.hayro_ccitt.specs.declared.codes.Color.TheVariants.{White}
 use Rattle.hayro_ccitt.specs.declared.error.DecodeError.{DecodeError}
 use Rattle.hayro_ccitt.specs.declared.error.DecodeError.TheVariants.{OutOfMemory, Refused}
 use Rattle.hayro_ccitt.specs.declared.row_reader.RowReader.TheInside.{Inside}
+use Rattle.hayro_ccitt.specs.declared.row_reader.RowState.{RowState}
 use Rattle.hayro_ccitt.specs.declared.row_reader.Stand.{Stand}
 use Rattle.hayro_ccitt.specs.declared.row_reader.Stand.TheVariants.{AtLine, BehindRow, AtEnd, AtFault}
 use Rattle.hayro_ccitt.specs.declared.settings.DecodeSettings.{DecodeSettings}
@@ -61,8 +62,12 @@ read_so_far held reader line_start damage stand = record {
   place = reader.place;
 }
 
+-- what a reading keeps between two rows, over the bits at which it stands
+abbrev pub seen : RowState → BitsAt → RowsRead
+seen rows reader = read_so_far rows.ctx.held reader rows.started_at rows.damage rows.stand
+
 abbrev pub rows_read_of : Inside → RowsRead
-rows_read_of r = read_so_far r.ctx.held r.reader r.started_at r.damage r.stand
+rows_read_of r = seen r.rows r.reader
 
 -- whether a line follows a gap that was passed, given whether the reading is over
 abbrev pub line_after : Result Bool DecodeError → Result Bool DecodeError
@@ -78,6 +83,11 @@ stand_after (Err error) = AtFault error
 -- the fault of the last row, where it is one that was repaired since so many were
 abbrev pub damage_since : Repairs → ℕ → Option DecodeError
 damage_since repairs before = if repairs.rows == before then None else Some repairs.fault
+
+-- where the line of the last row begins, or after a gap that is at fault, the place of that gap
+abbrev pub start_after : Result Bool DecodeError → ℕ → ℕ → ℕ
+start_after (Ok over) place before = before
+start_after (Err error) place before = place
 
 -- ---- The contract
 
@@ -107,6 +117,8 @@ pub record ReadsNext (old new : RowsRead) (result : Result Bool DecodeError) : T
   -- there was none
   pub end : result ≡ Ok false → (new.end ≡ Some (Ok tt)) × (new.taken ≡ old.taken) × HasEnded old.settings old.bits new.taken new.place
   pub error : IfErr result (λ e. (new.end ≡ Some (Err e)) × (new.taken ≡ old.taken) × HasFailed old.settings old.bits new.taken e)
+  -- the place of the fault: the first bit of the line that couldn't be read, or the place where its EOL is missing (T.4, 4.1.2)
+  pub fault_start : old.end ≡ None → OnErr result (new.line_start ≡ get_or (line_starts old.settings old.bits) old.taken new.place)
 
 -- What a call that passes the gap before the next line leaves: it reaches a line, or the end.
 pub record ComesToLine (old new : RowsRead) (result : Result Bool DecodeError) : Type 0 where
@@ -114,8 +126,10 @@ pub record ComesToLine (old new : RowsRead) (result : Result Bool DecodeError) :
   pub bits : new.bits ≡ old.bits
   pub taken : new.taken ≡ old.taken
   pub line : result ≡ Ok true → new.at_line ≡ true
+  pub unended : result ≡ Ok true → new.end ≡ None
   pub end : result ≡ Ok false → (new.end ≡ Some (Ok tt)) × HasEnded old.settings old.bits new.taken new.place
   pub error : IfErr result (λ e. (new.end ≡ Some (Err e)) × HasFailed old.settings old.bits new.taken e)
+  pub fault_start : OnErr result (new.line_start ≡ get_or (line_starts old.settings old.bits) old.taken new.place)
 
 -- what a call returns after the end
 abbrev pub at_end_of_rows : Result (Unit {0}) DecodeError → Result Bool DecodeError
@@ -171,6 +185,15 @@ pub record RepairsAreCounted (settings : DecodeSettings) (bits : Bits) (held : H
   pub few : held.repairs.rows ≤ held.taken
   pub counted : held.repairs.rows ≡ sum_by length (take held.taken (repairs_by_line settings bits))
 
+-- it stands there by the plain reading of these bits
+abbrev pub IsStanding : RowState → BitsAt → Type 0
+IsStanding rows reader =
+    Stands rows.stand rows.ctx.held.settings reader.bits rows.ctx.held reader.place
+    × RepairsAreCounted rows.ctx.held.settings reader.bits rows.ctx.held
+
+-- at the first bit of a line
+abbrev pub IsStandingAtLine : RowState → BitsAt → Type 0
+IsStandingAtLine rows reader = (is_at_line rows.stand ≡ true) × (IsStanding rows reader)
+
 abbrev pub IsReading : Inside → Type 0
-IsReading r =
-    Stands r.stand r.ctx.held.settings r.reader.bits r.ctx.held r.reader.place × RepairsAreCounted r.ctx.held.settings r.reader.bits r.ctx.held
+IsReading r = IsStanding r.rows r.reader

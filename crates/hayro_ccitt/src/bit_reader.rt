@@ -161,7 +161,7 @@ impl<'a> BitReader<'a> {
 
     /// Creates a reader at a bit offset.
     #[inline(never)]
-    fn at_place(data: &'a [u8], order: BitOrder, place: usize) -> BitReader<'a>
+    pub(crate) fn at_place(data: &'a [u8], order: BitOrder, place: usize) -> BitReader<'a>
         requires fit { BitsFit «data».now }
         requires within { place ≤ 8 * length «data».now }
         ensures { result ≡ record { bits = bits_in order «data».now; place = place } }
@@ -293,8 +293,39 @@ impl<'a> BitReader<'a> {
     pub fn bit_pos(&self) -> usize
         ensures place { result ≡ self.now.place }
         ensures within { result ≤ length self.now.bits }
+        ensures fit { length self.now.bits + 64 < 2 ^ 64 }
     {
         self.place
+    }
+
+    /// Returns the number of bits, those before the offset too.
+    pub(crate) fn bit_len(&self) -> usize
+        ensures length { result ≡ length self.now.bits }
+        ensures fit { length self.now.bits + 64 < 2 ^ 64 }
+    {
+        self.data.len() * 8
+    }
+
+    /// Moves to another offset.
+    #[inline(always)]
+    pub(crate) fn go_to(&mut self, place: usize)
+        requires { place ≤ length self.old.bits }
+        ensures { self.new ≡ record self.old { place = place } }
+    {
+        if place >= self.place && place - self.place <= 32 {
+            // The offset is within the data.
+            let _ = self.consume(place - self.place);
+            return;
+        }
+        *self = BitReader::at_place(self.data, self.order, place);
+    }
+
+    /// Returns a reader of the same bits at another offset.
+    pub(crate) fn at_bit(&self, place: usize) -> BitReader<'a>
+        requires { place ≤ length self.now.bits }
+        ensures { result ≡ record self.now { place = place } }
+    {
+        BitReader::at_place(self.data, self.order, place)
     }
 
     /// Returns a reader of the same bits at the same offset.
@@ -341,6 +372,20 @@ impl<'a> Model for BitsAtHand<'a> {
 }
 
 impl<'a> BitReader<'a> {
+    /// The same bits at the same place, none of them at hand yet.
+    #[inline(always)]
+    pub(crate) fn none_at_hand(&self) -> BitsAtHand<'a>
+        ensures { result ≡ record { at = self.now; left = 0 } }
+    {
+        BitsAtHand {
+            data: self.data,
+            window: 0,
+            left: 0,
+            limit: self.place,
+            order: self.order,
+        }
+    }
+
     /// Returns the same bits at the same offset, with an empty window, or `None` if the bits are in another order.
     #[inline(always)]
     pub(crate) fn at_hand(&self, order: BitOrder) -> Option<BitsAtHand<'a>>
@@ -434,6 +479,15 @@ impl<'a> BitsAtHand<'a> {
         ensures { result ≡ self.now.left }
     {
         self.left
+    }
+
+    /// The number of bits before the place.
+    #[inline(always)]
+    pub(crate) fn bit_pos(&self) -> usize
+        ensures place { result ≡ self.now.at.place }
+        ensures within { result ≤ length self.now.at.bits }
+    {
+        self.limit - self.left
     }
 
     /// Returns a reader at the same offset.

@@ -162,10 +162,7 @@ impl<'a> BitReader<'a> {
         ensures { result ≡ entry_of (codes_of color) (padded 13 (here self.now)) }
     {
         let index = self.peek_u32() >> (32 - LOOKUP_BITS);
-        let Some(entry) = tables.lookup(color).entry(index as usize) else {
-            unreachable!()
-        };
-        entry
+        tables.lookup(color)[index as usize]
     }
 
     /// Reads a word of a colour's list, which is one tick.

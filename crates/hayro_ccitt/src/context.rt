@@ -1,7 +1,7 @@
 //! What a decoder keeps from line to line, and the lines themselves.
 
 ghost use Rattle.std.specs.Prelude.{◌≡◌, ◌+◌, ◌*◌, ◌^◌, ◌<◌, ◌≤◌, ◌⊎◌, ◌↔◌, Ok, Err, OnOk, OnErr, IfOk, IfErr, true, false, IsOkUnless, IsTrue, length, get_or, []};
-ghost use Rattle.hayro_ccitt.specs.Rows.{right_of, b1, b2, changes, opposite};
+ghost use Rattle.hayro_ccitt.specs.Rows.{AreChanges, right_of, b1, b2, changes, opposite};
 ghost use Rattle.hayro_ccitt.specs.Bits.{here};
 ghost use Rattle.hayro_ccitt.specs.Context.{redrawn, painted_front, taken_row, after_repair, passed_changes};
 ghost use Rattle.hayro_ccitt.specs.UsualModes.{GoesOn2d};
@@ -19,6 +19,20 @@ use crate::{DecodeError, Decoder, Result};
 use std::alloc::Global;
 use std::marker::Model;
 use std::mem;
+
+/// Exchanges two lists of changes: two empty ones stay as they are.
+#[inline(always)]
+fn exchange(reference: &mut Vec<u32>, coding: &mut Vec<u32>)
+    ensures reference { reference.new.items ≡ coding.old.items }
+    ensures coding { coding.new.items ≡ reference.old.items }
+{
+    if is_white_row(reference) {
+        if is_white_row(coding) {
+            return;
+        }
+    }
+    mem::swap(reference, coding);
+}
 
 /// The state of decoding: the settings, the reference row and the coding row (T.4 section 4.2.1.1), the number of rows
 /// decoded, and the lookup tables of the code words. One context may decode any number of images with the same
@@ -148,7 +162,9 @@ impl DecoderContext {
 
     /// Returns the changes of the reference row: those of the last accepted row, none before the first.
     pub(crate) fn reference_row(&self) -> &[u32]
-        ensures { result.now ≡ changes self.now.held.reference }
+        ensures changes { result.now ≡ changes self.now.held.reference }
+        ensures lawful { AreChanges self.now.held.settings.columns result.now }
+        ensures width { length self.now.held.reference ≡ self.now.held.settings.columns }
     {
         self.ref_changes.as_slice()
     }
@@ -191,7 +207,7 @@ impl DecoderContext {
 
     /// Empties the front and sets the colour to white, as each line begins.
     #[inline(always)]
-    fn begin_line(&mut self)
+    pub(crate) fn begin_line(&mut self)
         ensures frame { self.new ≡ record self.old { held = redrawn self.old.held [] Color.White; passed = 0 } }
     {
         self.coding_changes.clear();
@@ -396,7 +412,7 @@ impl DecoderContext {
         self.pixels_decoded = self.settings.columns;
         // No change of the new reference row was passed.
         self.passed = 0;
-        mem::swap(&mut self.ref_changes, &mut self.coding_changes);
+        exchange(&mut self.ref_changes, &mut self.coding_changes);
         self.begin_line();
         self.decoded_rows += 1;
         Ok(())
@@ -447,8 +463,8 @@ impl DecoderContext {
             self.pixels_decoded,
             self.settings.columns,
             self.settings.strict,
-            self.tables.lookup(Color::White).as_slice(),
-            self.tables.lookup(Color::Black).as_slice(),
+            self.tables.lookup(Color::White),
+            self.tables.lookup(Color::Black),
             ticks,
         );
         lay_down(&mut self.coding_changes, place);
@@ -458,7 +474,7 @@ impl DecoderContext {
 
     /// The same for a reader, in whichever order its bits are.
     #[inline(never)]
-    fn draw_usual_runs(&mut self, reader: &mut BitReader<'_>)
+    fn draw_runs_of(&mut self, reader: &mut BitReader<'_>)
         ensures drawn { GoesOn self.old.held.settings.strict self.old.held.settings.columns
             (pen_of self.old.held (here reader.old)) (pen_of self.new.held (here reader.new)) self.old.ticks self.new.ticks }
         ensures held { self.new.held ≡ redrawn self.old.held self.new.held.front self.new.held.color }
@@ -480,6 +496,22 @@ impl DecoderContext {
             self.draw_by_twos(&mut hand);
             *reader = hand.reader();
         }
+    }
+
+    /// The same, without a call where the row is full.
+    #[inline(always)]
+    fn draw_usual_runs(&mut self, reader: &mut BitReader<'_>)
+        ensures drawn { GoesOn self.old.held.settings.strict self.old.held.settings.columns
+            (pen_of self.old.held (here reader.old)) (pen_of self.new.held (here reader.new)) self.old.ticks self.new.ticks }
+        ensures held { self.new.held ≡ redrawn self.old.held self.new.held.front self.new.held.color }
+        ensures same_bits { reader.new.bits ≡ reader.old.bits }
+        ensures onward { reader.old.place ≤ reader.new.place }
+    {
+        // Most often a full row is a white one.
+        if self.pixels_decoded == self.settings.columns {
+            return;
+        }
+        self.draw_runs_of(reader);
     }
 
     /// Draws modes from the start of a line as long as they are usual.
@@ -505,8 +537,8 @@ impl DecoderContext {
             self.settings.columns,
             self.settings.strict,
             self.ref_changes.as_slice(),
-            self.tables.lookup(Color::White).as_slice(),
-            self.tables.lookup(Color::Black).as_slice(),
+            self.tables.lookup(Color::White),
+            self.tables.lookup(Color::Black),
             ticks,
         );
         lay_down_row(&mut self.coding_changes, place, self.settings.columns);
@@ -529,15 +561,9 @@ impl DecoderContext {
         ensures within { self.new.passed ≤ length (changes self.old.held.reference) }
         ensures same_bits { reader.new.bits ≡ reader.old.bits }
     {
-        if let Some(mut hand) = reader.at_hand(BitOrder::HighestFirst) {
-            self.draw_modes_at_hand(&mut hand);
-            *reader = hand.reader();
-            return;
-        }
-        if let Some(mut hand) = reader.at_hand(BitOrder::LowestFirst) {
-            self.draw_modes_at_hand(&mut hand);
-            *reader = hand.reader();
-        }
+        let mut hand = reader.none_at_hand();
+        self.draw_modes_at_hand(&mut hand);
+        reader.go_to(hand.bit_pos());
     }
 
     /// Draws a white line under a white row, which is V0 alone, and returns whether there is one here; otherwise nothing
@@ -558,7 +584,8 @@ impl DecoderContext {
         if !is_white_row(&self.ref_changes) {
             return false;
         }
-        if self.settings.columns == 0 {
+        let columns = self.settings.columns;
+        if columns == 0 {
             return false;
         }
         if !reader.pass_v0() {
@@ -567,7 +594,7 @@ impl DecoderContext {
         // One tick for the mode, and one for b1.
         self.ticks.tick();
         self.ticks.tick();
-        self.pixels_decoded = self.settings.columns;
+        self.pixels_decoded = columns;
         self.color = Color::Black;
         true
     }
@@ -592,7 +619,7 @@ impl DecoderContext {
     }
 
     /// Draws a mode (T.4 section 4.2.1.3).
-    #[inline(always)]
+    #[inline(never)]
     fn draw_mode(&mut self, mode: Mode, reader: &mut BitReader<'_>) -> Result<()>
         ensures step { DrawsStep (step_of_mode self.old.held (here reader.old) mode)
             result (pen_of self.new.held (here reader.new)) }

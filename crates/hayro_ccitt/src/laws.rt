@@ -6,7 +6,7 @@ ghost use Rattle.hayro_ccitt.specs.CodeReading.{is_prefix_free, ReadsCodes};
 ghost use Rattle.hayro_ccitt.specs.Runs.{codes_of};
 ghost use Rattle.hayro_ccitt.specs.declared.codes.Color.{Color};
 ghost use Rattle.hayro_ccitt.specs.Laws.{each_word, has_few_zeros, Synchronised, StrictThenLenient, RowLimit};
-ghost use Rattle.hayro_ccitt.specs.Laws.{ReadsClosedPictures, ReadsLimitedPictures};
+ghost use Rattle.hayro_ccitt.specs.Laws.{ReadsClosedPictures, ReadsLimitedPictures, StrictIsUndamaged, PicturesAreUndamaged};
 ghost use Rattle.hayro_ccitt.specs.Laws.{ReadsPictureT6, ReadsLimitedRowsT6, ReadsPictureT4, ReadsLimitedPictureT4, ReadsLimitedRowsT4};
 ghost use Rattle.hayro_ccitt.specs.Laws.{AfterEofb, PicturesComeToEofb, OnePictureT6, OnePictureT4};
 ghost use Rattle.hayro_ccitt.specs.Laws.{EveryPictureHasAnEncoding, BytesBeginWithAnyBits, BitsOfBytesAreWhole, OrdersMirror, RowsOfChanges, ChangesOfRows, StepsOnRows};
@@ -71,6 +71,13 @@ pub fn t4_pictures()
 pub fn pictures()
     ensures closed { ReadsClosedPictures }
     ensures limited { ReadsLimitedPictures }
+{}
+
+/// Where strict data are read without a fault, the lenient reading repairs no row and misses no EOL; so of a picture of any
+/// kind no damage is told.
+pub fn no_damage()
+    ensures strict { StrictIsUndamaged }
+    ensures pictures { PicturesAreUndamaged }
 {}
 
 /// If one stream is a prefix of another, both closed, of one width, and of one alignment in T.6 or one kind in T.4,

@@ -30,6 +30,7 @@ pub mod group4;
 pub mod laws;
 mod locality;
 mod modes;
+mod row_cursor;
 mod row_reader;
 mod rows;
 mod settings;
@@ -40,6 +41,7 @@ use bit_reader::{BitOrder, BitReader};
 pub use context::DecoderContext;
 pub use error::{DecodeError, Result};
 pub use locality::body_is_local;
+pub use row_cursor::RowCursor;
 pub use row_reader::RowReader;
 pub use settings::{DecodeSettings, EncodingMode};
 

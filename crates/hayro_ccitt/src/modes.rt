@@ -93,8 +93,46 @@ fn draw_v0(
     Some((place, index + 1, color.opposite()))
 }
 
-/// Draws VR: a change so many pixels right of b1. None where it isn't inside the row, or where there is no room for it; then
-/// nothing is drawn.
+/// Draws VR up to the row's end. None where it doesn't end there; then nothing is drawn.
+#[inline(always)]
+fn draw_to_end(
+    hand: &mut BitsAtHand<'_>,
+    row: &mut Vec<u32>,
+    painted: u32,
+    columns: u32,
+    _strict: bool,
+    color: Color,
+    places: &[u32],
+    index: usize,
+    more: u32,
+    width: usize,
+    ticks: &mut Ticks,
+) -> Option<(u32, usize, Color)>
+    requires mode { read_code mode_codes (here hand.old.at) ≡ Ok (Mode.Vertical (pos more), here (moved width hand.old.at)) }
+    requires some { 0 < more }
+    requires bits { (0 < width) × (width < 64) }
+    requires enough { width ≤ hand.old.left }
+    requires open { painted < columns }
+    requires lawful { AreChanges columns places.now }
+    requires stroke { IsStroke columns places.now painted index color row.old.items }
+    ensures drawn { IfSome result (λ on. GoesOn2d _strict columns (pixels columns places.now) (pen_at painted row.old.items color hand.old.at)
+        (pen_at on.0 row.new.items on.2 hand.new.at) ticks.old ticks.new (index - 1) (on.1 - 1)) }
+    ensures stroke { IfSome result (λ on. IsStroke columns places.now on.0 on.1 on.2 row.new.items) }
+    ensures same_bits { hand.new.at.bits ≡ hand.old.at.bits }
+    ensures onward { IfSome result (λ on. hand.old.at.place < hand.new.at.place) }
+    ensures left { IfNone result ((hand.new.at ≡ hand.old.at) × (row.new.items ≡ row.old.items) × (ticks.new ≡ ticks.old)) }
+{
+    let b1 = change_or_end(places, index, columns);
+    if columns - b1 != more {
+        return None;
+    }
+    hand.pass(width);
+    ticks.tick_times(2);
+    Some((columns, index, color.opposite()))
+}
+
+/// Draws VR: a change so many pixels right of b1, or the rest of the row. None where that is behind the row's end, or where
+/// there is no room for a change; then nothing is drawn.
 #[inline(always)]
 fn draw_right(
     hand: &mut BitsAtHand<'_>,
@@ -125,7 +163,9 @@ fn draw_right(
 {
     let b1 = change_or_end(places, index, columns);
     if columns - b1 <= more {
-        return None;
+        return draw_to_end(
+            hand, row, painted, columns, _strict, color, places, index, more, width, ticks,
+        );
     }
     if !has_place(row) {
         return None;
@@ -138,8 +178,57 @@ fn draw_right(
     Some((place, next, color.opposite()))
 }
 
-/// Draws VL: a change so many pixels left of b1. None where it isn't right of a0, or where there is no room for it; then
-/// nothing is drawn.
+/// Draws VL up to the row's left edge, where nothing is painted: the row begins in black. None elsewhere, or where there is no
+/// room for a change; then nothing is drawn.
+#[inline(always)]
+fn draw_to_edge(
+    hand: &mut BitsAtHand<'_>,
+    row: &mut Vec<u32>,
+    painted: u32,
+    columns: u32,
+    _strict: bool,
+    color: Color,
+    places: &[u32],
+    index: usize,
+    less: u32,
+    width: usize,
+    ticks: &mut Ticks,
+) -> Option<(u32, usize, Color)>
+    requires mode { read_code mode_codes (here hand.old.at) ≡ Ok (Mode.Vertical (negsuc (less - 1)), here (moved width hand.old.at)) }
+    requires some { 0 < less }
+    requires bits { (0 < width) × (width < 64) }
+    requires enough { width ≤ hand.old.left }
+    requires open { painted < columns }
+    requires lawful { AreChanges columns places.now }
+    requires stroke { IsStroke columns places.now painted index color row.old.items }
+    ensures drawn { IfSome result (λ on. GoesOn2d _strict columns (pixels columns places.now) (pen_at painted row.old.items color hand.old.at)
+        (pen_at on.0 row.new.items on.2 hand.new.at) ticks.old ticks.new (index - 1) (on.1 - 1)) }
+    ensures stroke { IfSome result (λ on. IsStroke columns places.now on.0 on.1 on.2 row.new.items) }
+    ensures same_bits { hand.new.at.bits ≡ hand.old.at.bits }
+    ensures onward { IfSome result (λ on. hand.old.at.place < hand.new.at.place) }
+    ensures left { IfNone result ((hand.new.at ≡ hand.old.at) × (row.new.items ≡ row.old.items) × (ticks.new ≡ ticks.old)) }
+{
+    if painted > 0 {
+        return None;
+    }
+    if !color.is_white() {
+        return None;
+    }
+    let b1 = change_or_end(places, index, columns);
+    if b1 != less {
+        return None;
+    }
+    if !has_place(row) {
+        return None;
+    }
+    hand.pass(width);
+    ticks.tick_times(2);
+    turn_at(row, painted);
+    Some((painted, index + 1, color.opposite()))
+}
+
+/// Draws VL: a change so many pixels left of b1. None where it is neither right of a0 nor at the row's left edge, or where
+/// there is no room for it; then nothing is drawn.
 #[inline(always)]
 fn draw_left(
     hand: &mut BitsAtHand<'_>,
@@ -170,7 +259,9 @@ fn draw_left(
 {
     let b1 = change_or_end(places, index, columns);
     if b1 - painted <= less {
-        return None;
+        return draw_to_edge(
+            hand, row, painted, columns, _strict, color, places, index, less, width, ticks,
+        );
     }
     if !has_place(row) {
         return None;
@@ -437,11 +528,11 @@ fn draw_in_color(
         ) {
             None => return (place, at, color, true),
             Some((next, later, turned)) => {
+                if is_turned(color, turned) {
+                    return (next, later, turned, next == columns);
+                }
                 if next == columns {
                     return (next, later, turned, true);
-                }
-                if is_turned(color, turned) {
-                    return (next, later, turned, false);
                 }
                 place = next;
                 at = later;

@@ -1,11 +1,11 @@
 //! Rows one at a time.
 
-ghost use Rattle.std.specs.Prelude.{sum_by, take, length, ◌≡◌, ◌+◌, ◌/◌, true, None, Some, IfOk, IsOkUnless, Result};
+ghost use Rattle.std.specs.Prelude.{sum_by, take, length, ◌≡◌, ◌≤◌, ◌+◌, ◌/◌, true, None, Some, IfOk, IsOkUnless, Result};
 ghost use Rattle.hayro_ccitt.specs.Bits.{BitsFit, bits_in};
 ghost use Rattle.hayro_ccitt.specs.Context.{fresh};
 ghost use Rattle.hayro_ccitt.specs.Rows.{changes};
 ghost use Rattle.hayro_ccitt.specs.Damage.{repairs_by_line};
-ghost use Rattle.hayro_ccitt.specs.RowsRead.{damage_since, Stands, ComesToLine, ReadsNext, stand_after, line_after, is_at_line, at_end_of_rows};
+ghost use Rattle.hayro_ccitt.specs.RowsRead.{damage_since, start_after, Stands, ComesToLine, ReadsNext, stand_after, line_after, is_at_line, at_end_of_rows, ended, seen, IsStanding, IsStandingAtLine};
 
 use crate::bit_reader::{BitOrder, BitReader};
 use crate::context::DecoderContext;
@@ -44,7 +44,7 @@ impl Decoder for NoRows {
 
 /// Where a reader of rows is.
 #[derive(Copy, Clone)]
-enum Stand {
+pub(crate) enum Stand {
     /// At the first bit of a line.
     AtLine,
     /// After a row, at the gap before the next line.
@@ -63,6 +63,16 @@ fn stand_after_gap(over: Result<bool>) -> Stand
         Ok(true) => Stand::AtEnd,
         Ok(false) => Stand::AtLine,
         Err(error) => Stand::AtFault(error),
+    }
+}
+
+/// Where the line of the last row begins, or after a gap that is at fault, the place of that gap.
+fn start_after_gap(over: Result<bool>, place: usize, before: usize) -> usize
+    ensures { result ≡ start_after over place before }
+{
+    match over {
+        Ok(_) => before,
+        Err(_) => place,
     }
 }
 
@@ -94,7 +104,7 @@ fn is_at_line(stand: Stand) -> bool
 }
 
 /// Passes what stands before the first line: in Group 4 EOFB may, and in Group 3 EOLs (T.6 section 2.4.1.1, T.4 section 4.1.2).
-fn first_stand(ctx: &mut DecoderContext, reader: &mut BitReader<'_>) -> Stand
+pub(crate) fn first_stand(ctx: &mut DecoderContext, reader: &mut BitReader<'_>) -> Stand
     requires fresh { ctx.old.held ≡ fresh ctx.old.held.settings }
     requires start { reader.old.place ≡ 0 }
     ensures none_taken { ctx.new.held.taken ≡ 0 }
@@ -120,6 +130,93 @@ fn first_stand(ctx: &mut DecoderContext, reader: &mut BitReader<'_>) -> Stand
     }
 }
 
+/// What a reading keeps between two rows, beside the bits.
+#[derive(Drop)]
+pub(crate) struct RowState {
+    pub(crate) ctx: DecoderContext,
+    pub(crate) started_at: usize,
+    pub(crate) damage: Option<DecodeError>,
+    pub(crate) stand: Stand,
+}
+
+impl RowState {
+    /// Passes the gap before the next line, and returns whether a line stands there.
+    fn come_to_line(&mut self, reader: &mut BitReader<'_>) -> Result<bool>
+        requires { ended self.old.stand ≡ None }
+        ensures comes { IsStanding self.old reader.old → ComesToLine (seen self.old reader.old) (seen self.new reader.new) result }
+        ensures stands { IsStanding self.old reader.old → IsStanding self.new reader.new }
+        ensures settings { self.new.ctx.held.settings ≡ self.old.ctx.held.settings }
+        ensures same_bits { reader.new.bits ≡ reader.old.bits }
+    {
+        if is_at_line(self.stand) {
+            return Ok(true);
+        }
+        let over = pass_gap(&mut self.ctx, reader);
+        // That an offset is within the data is known once it is read.
+        let place = reader.bit_pos();
+        self.started_at = start_after_gap(over, place, self.started_at);
+        self.stand = stand_after_gap(over);
+        line_after_gap(over)
+    }
+
+    /// Whether no more rows were read than these bits have room for. Where it is false, they were read of other data.
+    fn has_room(&self, reader: &BitReader<'_>) -> bool
+        ensures rows { result ≡ true → self.now.ctx.held.taken ≤ length reader.now.bits + 1 }
+        ensures damaged { result ≡ true → self.now.ctx.held.repairs.rows ≤ self.now.ctx.held.taken }
+        ensures room { self.now.ctx.held.taken ≤ length reader.now.bits + 1
+            → self.now.ctx.held.repairs.rows ≤ self.now.ctx.held.taken → result ≡ true }
+    {
+        let rows = self.ctx.decoded_rows();
+        rows <= reader.bit_len() as u64 + 1 && self.ctx.damaged_rows() <= rows
+    }
+
+    /// Reads the line that stands here.
+    fn read_line(&mut self, reader: &mut BitReader<'_>) -> Result<bool>
+        requires rows { self.old.ctx.held.taken ≤ length reader.old.bits + 1 }
+        requires damaged { self.old.ctx.held.repairs.rows ≤ self.old.ctx.held.taken }
+        ensures reads { IsStandingAtLine self.old reader.old → ReadsNext (seen self.old reader.old) (seen self.new reader.new) result }
+        ensures stands { IsStandingAtLine self.old reader.old → IsStanding self.new reader.new }
+        ensures settings { self.new.ctx.held.settings ≡ self.old.ctx.held.settings }
+        ensures same_bits { reader.new.bits ≡ reader.old.bits }
+    {
+        self.ctx.begin_line();
+        let mut sink = NoRows {
+            columns: self.ctx.settings().columns,
+        };
+        self.started_at = reader.bit_pos();
+        let damaged_rows = self.ctx.damaged_rows();
+        match read_row(&mut self.ctx, reader, &mut sink) {
+            Ok(()) => {
+                self.damage = damage_since(&self.ctx, damaged_rows);
+                self.stand = Stand::BehindRow;
+                Ok(true)
+            }
+            Err(error) => {
+                self.stand = Stand::AtFault(error);
+                Err(error)
+            }
+        }
+    }
+
+    /// Reads the next row, and returns whether there was one. Where more rows were read than these bits have room for, it is
+    /// `UnexpectedEof`.
+    pub(crate) fn next_row(&mut self, reader: &mut BitReader<'_>) -> Result<bool>
+        requires { ended self.old.stand ≡ None }
+        ensures reads { IsStanding self.old reader.old → ReadsNext (seen self.old reader.old) (seen self.new reader.new) result }
+        ensures stands { IsStanding self.old reader.old → IsStanding self.new reader.new }
+        ensures settings { self.new.ctx.held.settings ≡ self.old.ctx.held.settings }
+        ensures same_bits { reader.new.bits ≡ reader.old.bits }
+    {
+        if !self.come_to_line(reader)? {
+            return Ok(false);
+        }
+        if !self.has_room(reader) {
+            return Err(DecodeError::UnexpectedEof);
+        }
+        self.read_line(reader)
+    }
+}
+
 /// Reads the rows of an image one at a time. It holds two rows in memory and the tables of the code words, however long the
 /// image is.
 ///
@@ -138,11 +235,8 @@ fn first_stand(ctx: &mut DecoderContext, reader: &mut BitReader<'_>) -> Stand
 /// ```
 #[derive(Drop)]
 pub struct RowReader<'a> {
-    ctx: DecoderContext,
+    rows: RowState,
     reader: BitReader<'a>,
-    started_at: usize,
-    damage: Option<DecodeError>,
-    stand: Stand,
 }
 
 impl<'a> Model for RowReader<'a> {
@@ -182,52 +276,14 @@ impl<'a> RowReader<'a> {
         };
         let stand = first_stand(&mut ctx, &mut reader);
         Ok(RowReader {
-            ctx,
+            rows: RowState {
+                ctx,
+                started_at: 0,
+                damage: None,
+                stand,
+            },
             reader,
-            started_at: 0,
-            damage: None,
-            stand,
         })
-    }
-
-    /// Passes the gap before the next line, and returns whether a line stands there.
-    fn come_to_line(&mut self) -> Result<bool>
-        requires { self.old.end ≡ None }
-        ensures { ComesToLine self.old self.new result }
-    {
-        if is_at_line(self.stand) {
-            return Ok(true);
-        }
-        let over = pass_gap(&mut self.ctx, &mut self.reader);
-        // That an offset is within the data is known once it is read.
-        let _place = self.reader.bit_pos();
-        self.stand = stand_after_gap(over);
-        line_after_gap(over)
-    }
-
-    /// Reads the line that stands here.
-    fn read_line(&mut self) -> Result<bool>
-        requires { self.old.at_line ≡ true }
-        ensures reads { ReadsNext self.old self.new result }
-        ensures more { IfOk result (λ more. more ≡ true) }
-    {
-        let mut sink = NoRows {
-            columns: self.ctx.settings().columns,
-        };
-        let line_start = self.reader.bit_pos();
-        let damaged_rows = self.ctx.damaged_rows();
-        match read_row(&mut self.ctx, &mut self.reader, &mut sink) {
-            Ok(()) => {
-                self.started_at = line_start;
-                self.damage = damage_since(&self.ctx, damaged_rows);
-                self.stand = Stand::BehindRow;
-                Ok(true)
-            }
-            Err(error) => {
-                self.stand = Stand::AtFault(error);
-                Err(error)
-            }
-        }
     }
 
     /// Reads the next row, and returns whether there was one; its changes are those of [`row`](RowReader::row). At the end of
@@ -241,15 +297,10 @@ impl<'a> RowReader<'a> {
         ensures ended { (end : Result (Unit {0}) DecodeError) → self.old.end ≡ Some end
             → (self.new ≡ self.old) × (result ≡ at_end_of_rows end) }
     {
-        match self.stand {
+        match self.rows.stand {
             Stand::AtEnd => Ok(false),
             Stand::AtFault(error) => Err(error),
-            Stand::AtLine | Stand::BehindRow => {
-                if !self.come_to_line()? {
-                    return Ok(false);
-                }
-                self.read_line()
-            }
+            Stand::AtLine | Stand::BehindRow => self.rows.next_row(&mut self.reader),
         }
     }
 
@@ -258,22 +309,23 @@ impl<'a> RowReader<'a> {
     pub fn row(&self) -> &[u32]
         ensures { result.now ≡ changes self.now.row }
     {
-        self.ctx.reference_row()
+        self.rows.ctx.reference_row()
     }
 
     /// The number of rows that were read.
     pub fn rows_read(&self) -> u64
         ensures { result ≡ self.now.taken }
     {
-        self.ctx.decoded_rows()
+        self.rows.ctx.decoded_rows()
     }
 
     /// The offset in bits at which the line of the last row begins, after its EOL; in two-dimensional data of Group 3 that of
-    /// its tag bit (T.4 section 4.2.2).
+    /// its tag bit (T.4 section 4.2.2). After an error, that of the line that couldn't be read, or the offset at which strict data
+    /// misses an EOL.
     pub fn line_start(&self) -> usize
         ensures { result ≡ self.now.line_start }
     {
-        self.started_at
+        self.rows.started_at
     }
 
     /// The fault of the last row where its line was damaged and repaired, as a lenient reading of Group 3 with EOLs does (T.4
@@ -281,14 +333,14 @@ impl<'a> RowReader<'a> {
     pub fn damage(&self) -> Option<DecodeError>
         ensures { result ≡ self.now.damage }
     {
-        self.damage
+        self.rows.damage
     }
 
     /// The number of rows read whose line was damaged and repaired.
     pub fn damaged_rows(&self) -> u64
         ensures { result ≡ sum_by length (take self.now.taken (repairs_by_line self.now.settings self.now.bits)) }
     {
-        self.ctx.damaged_rows()
+        self.rows.ctx.damaged_rows()
     }
 
     /// The number of bytes consumed so far, the last one whole.

@@ -1,9 +1,9 @@
 //! The loop over rows that all encodings share: a row, and the gap behind it (T.4 section 4.1, T.6 section 2).
 
 ghost use Rattle.std.specs.Prelude.{false, ◌≡◌, ◌≢◌, ◌<◌, ◌≤◌, ◌+◌, ◌*◌, Err, OnOk, OnErr, IfOk, IsOkUnless, true, ◌||◌, [], length, ◌^◌};
-ghost use Rattle.hayro_ccitt.specs.Answers.{DrawsLine, OnAnswer};
+ghost use Rattle.hayro_ccitt.specs.Answers.{DrawsLine, OnAnswer, IsRepairable, RepairStoresChange};
 ghost use Rattle.hayro_ccitt.specs.Bits.{here};
-ghost use Rattle.hayro_ccitt.specs.Context.{fresh, redrawn};
+ghost use Rattle.hayro_ccitt.specs.Context.{fresh, redrawn, after_repair};
 ghost use Rattle.hayro_ccitt.specs.Decoding.{DecodesFrom, TakesOneRow, behind_line, leaving, gap_said, with_row_taken};
 ghost use Rattle.hayro_ccitt.specs.PlainReading.{eols_by, eols_here, is_over, gap_behind_row, row_of_line, line_by, line_here, behind_row, limit_met};
 ghost use Rattle.hayro_ccitt.specs.Lines.{line_found};
@@ -225,7 +225,7 @@ fn decode_tagged_line(ctx: &mut DecoderContext, reader: &mut BitReader<'_>) -> R
 }
 
 /// Decodes the line that stands here.
-#[inline(never)]
+#[inline(always)]
 fn decode_line(ctx: &mut DecoderContext, reader: &mut BitReader<'_>) -> Result<()>
     requires begun { ctx.old.held.front ≡ [] }
     ensures line { DrawsLine (line_here ctx.old.held.settings ctx.old.held.reference (here reader.old))
@@ -244,6 +244,29 @@ fn decode_line(ctx: &mut DecoderContext, reader: &mut BitReader<'_>) -> Result<(
         EncodingMode::Group3_2D => decode_tagged_line(ctx, reader),
         EncodingMode::Group4 => decode_2d_line(ctx, reader),
     }
+}
+
+/// Repairs a line that began at this offset and failed with this error, as [`recover`] does.
+#[cold]
+#[inline(never)]
+fn recover_from(
+    ctx: &mut DecoderContext,
+    reader: &mut BitReader<'_>,
+    line_start: usize,
+    error: DecodeError,
+) -> Result<()>
+    requires within { line_start ≤ length reader.old.bits }
+    ensures only_damage { OnOk result (IsRepairable ctx.old.held error) }
+    ensures frame { OnOk result (ctx.new ≡ record ctx.old { held = after_repair ctx.old.held }) }
+    ensures put_back { OnOk result (reader.new ≡ record reader.old { place = line_start }) }
+    ensures only_memory { IsRepairable ctx.old.held error → IsOkUnless result DecodeError.OutOfMemory }
+    ensures memory { IsRepairable ctx.old.held error → result ≡ Err DecodeError.OutOfMemory
+        → RepairStoresChange ctx.old.held }
+    ensures otherwise { (IsRepairable ctx.old.held error → ⊥) → result ≡ Err error }
+    ensures unchanged { OnErr result ((ctx.new ≡ ctx.old) × (reader.new ≡ reader.old)) }
+{
+    let start = reader.at_bit(line_start);
+    recover(ctx, reader, start, error)
 }
 
 /// Reads a line, repairs it where it is damaged and may be, and hands its row over. The errors are those of the line
@@ -278,9 +301,9 @@ pub(crate) fn read_row<D: Decoder>(
     ensures stored { OnOk result (length (changes ctx.new.held.reference)
         ≤ length (found_here ctx.old.held.settings ctx.old.held.reference (here reader.old)) + 1) }
 {
-    let line_start = reader.copy();
+    let line_start = reader.bit_pos();
     if let Err(error) = decode_line(ctx, reader) {
-        recover(ctx, reader, line_start, error)?;
+        recover_from(ctx, reader, line_start, error)?;
         return take_damaged_row(ctx, reader, decoder, error);
     }
     take_row(ctx, reader, decoder)

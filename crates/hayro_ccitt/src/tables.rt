@@ -306,14 +306,6 @@ impl Lookup {
             None
         }
     }
-
-    /// Returns all entries.
-    #[inline(always)]
-    pub(crate) fn as_slice(&self) -> &[u16]
-        ensures { result.now ≡ self.now }
-    {
-        self.entries.as_slice()
-    }
 }
 
 /// Allocates a number of entries, all of one value.
@@ -382,27 +374,11 @@ pub fn build_lookup(
     Ok(Lookup { entries })
 }
 
-/// Creates a lookup table with a copy of these entries. The only error is `OutOfMemory`.
-fn lookup_of(alloc: Global, entries: &[u16]) -> Result<Lookup>
-    requires count { length entries.now ≡ 8192 }
-    ensures entries { IfOk result (λ lookup. lookup ≡ entries.now) }
-    ensures only_memory { IsOkUnless result DecodeError.OutOfMemory }
-{
-    let mut copied = Vec::with_capacity(alloc, LOOKUP_ENTRIES)?;
-    // 1 KiB at a time: memcpy copies larger parts byte by byte on some processors.
-    let mut done = 0;
-    'parts: while done < LOOKUP_ENTRIES {
-        copied.extend_from_slice(&entries[done..done + 512])?;
-        done += 512;
-    }
-    Ok(Lookup { entries: copied })
-}
-
-/// The lookup tables of both colours, by which run codes are read.
+/// The lookup tables of both colours, by which run codes are read, in the form that [`Lookup`] describes. They are constants.
 #[derive(Drop)]
 pub struct Tables {
-    white: Lookup,
-    black: Lookup,
+    white: &'static [u16],
+    black: &'static [u16],
 }
 
 impl Model for Tables {
@@ -412,36 +388,33 @@ impl Model for Tables {
 
     ghost use Rattle.hayro_ccitt.specs.LookUps.{AreOfColors};
 
-    ghost view = { λ t. record { white = t.white; black = t.black } };
+    ghost view = { λ t. record { white = t.white.now; black = t.black.now } };
 
-    ghost invariant = { λ t. AreOfColors (record { white = t.white; black = t.black }) };
+    ghost invariant = { λ t. AreOfColors (record { white = t.white.now; black = t.black.now }) };
 }
 
 impl Tables {
-    /// Creates the tables of both colours.
-    ///
-    /// # Errors
-    ///
-    /// `OutOfMemory` if an allocation fails. Nothing is created then.
-    pub fn new(alloc: Global) -> Result<Tables>
+    /// Creates the tables of both colours. They are constants, so nothing is allocated, and `OutOfMemory` isn't returned.
+    #[inline(always)]
+    pub fn new(_alloc: Global) -> Result<Tables>
         ensures entries { IfOk result (λ tables. AreOfColors tables) }
         ensures only_memory { IsOkUnless result DecodeError.OutOfMemory }
     {
         Ok(Tables {
-            white: lookup_of(alloc, white_entries())?,
-            black: lookup_of(alloc, black_entries())?,
+            white: white_entries(),
+            black: black_entries(),
         })
     }
 
     /// Returns the lookup table of a colour.
     #[inline(always)]
-    pub fn lookup(&self, color: Color) -> &Lookup
+    pub fn lookup(&self, color: Color) -> &[u16]
         ensures value { result.now ≡ entries_of color self.now }
         ensures entries { AreEntries (codes_of color) result.now }
     {
         match color {
-            Color::White => &self.white,
-            Color::Black => &self.black,
+            Color::White => self.white,
+            Color::Black => self.black,
         }
     }
 }

@@ -1,4 +1,5 @@
 pub mod Encoded
 pub mod ListedMemory
 pub mod PackedMemory
+pub mod PointersHeld
 pub mod Reporting

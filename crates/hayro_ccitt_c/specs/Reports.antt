@@ -1,16 +1,18 @@
 -- What C is told of a decoding.
-use Rattle.std.specs.Prelude.{◌≡◌, ◌≤◌, ◌<◌, ◌⊎◌, ℕ, ◌*◌, List, length, map, take, drop, sum, min, IfSome, Result, Ok, Err}
+use Rattle.std.specs.Prelude.{sum_by, ◌≡◌, ◌≤◌, ◌<◌, ◌⊎◌, ℕ, ◌*◌, List, length, map, take, drop, sum, min, IfSome, Result, Ok, Err}
 use Rattle.hayro_ccitt.specs.declared.error.DecodeError.{DecodeError}
 use Rattle.hayro_ccitt.specs.declared.error.DecodeError.TheVariants.{UnexpectedEof, InvalidCode, Overflow, OutOfMemory, Refused}
 use Rattle.hayro_ccitt.specs.declared.settings.DecodeSettings.{DecodeSettings}
 use Rattle.hayro_ccitt.specs.Answers.{PaintsBlack}
 use Rattle.hayro_ccitt.specs.Bits.{Bits, BitsFit, bits_of, bits_in}
+use Rattle.hayro_ccitt.specs.Damage.{repairs_by_line}
 use Rattle.hayro_ccitt.specs.PlainReading.{plain, lines_of}
 use Rattle.hayro_ccitt.specs.Rows.{changes}
 use Rattle.fax_encode.specs.Packed.{packed}
 use Rattle.hayro_ccitt_c.specs.Packing.{bytes_of_row}
 use Rattle.hayro_ccitt_c.specs.Listing.{listed}
 use Rattle.hayro_ccitt_c.specs.Settings.{settings_of, order_of}
+use Rattle.hayro_ccitt_c.specs.declared.report.Outcome.{Outcome}
 use Rattle.hayro_ccitt_c.specs.declared.settings.Settings.{Settings}
 
 -- the status of a result
@@ -47,6 +49,15 @@ pub record IsReport (settings : DecodeSettings) (bits : Bits) (status rows bytes
 -- the number of changes of the first `taken` rows, saturated at the greatest value of 64 bits
 abbrev pub changes_taken : DecodeSettings → Bits → ℕ → ℕ
 changes_taken settings bits taken = min (sum (map (λ row. length (changes row)) (take taken (plain settings bits).rows))) 18446744073709551615
+
+-- how many of the first so many rows are repaired (T.4, 4.1.2)
+abbrev pub damaged_taken : DecodeSettings → Bits → ℕ → ℕ
+damaged_taken settings bits taken = sum_by length (take taken (repairs_by_line settings bits))
+
+-- what C is told, with its fields that mean nothing yet
+abbrev pub outcome_of : ℕ → ℕ → ℕ → ℕ → Outcome
+outcome_of rows changes bytes_read damaged_rows =
+    record { rows = rows; changes = changes; bytes_read = bytes_read; damaged_rows = damaged_rows; reserved_1 = 0; reserved_2 = 0 }
 
 -- a statement about the settings that C passes, if they are valid, and about the bits of the data in the order that C
 -- passes, if the data isn't too long

@@ -5,30 +5,40 @@
 //! allocated before it returns.
 #![tactic(auto)]
 
-ghost use Rattle.std.specs.Prelude.{◌≡◌, ◌≢◌, ◌<◌, ◌≤◌, ◌+◌, ◌*◌, ◌⊎◌, ◌↔◌, None, IfSome, length, get_or, []};
+ghost use Rattle.std.specs.Prelude.{◌≡◌, ◌≢◌, ◌<◌, ◌≤◌, ◌+◌, ◌*◌, ◌⊎◌, ◌↔◌, None, IfSome, length, get_or, [], false, true};
 ghost use Rattle.hayro_ccitt.specs.PlainReading.{plain};
 ghost use Rattle.hayro_ccitt.specs.Rows.{changes};
 ghost use Rattle.hayro_ccitt.specs.Bits.{BitsFit};
 ghost use Rattle.fax_encode.specs.Packed.{shown};
 ghost use Rattle.hayro_ccitt_c.specs.Encoding.{asked, AreEncoded, HaveNoRoom};
 ghost use Rattle.hayro_ccitt_c.specs.Packing.{bytes_of_row};
-ghost use Rattle.hayro_ccitt_c.specs.Reports.{OnSettings, IsReport, changes_taken, ArePacked, AreListed, numbers_taken};
-ghost use Rattle.hayro_ccitt_c.specs.Settings.{settings_of};
+ghost use Rattle.hayro_ccitt_c.specs.Reports.{OnSettings, IsReport, changes_taken, damaged_taken, outcome_of, ArePacked, AreListed, numbers_taken};
+ghost use Rattle.hayro_ccitt_c.specs.RowsGiven.{GivesRow, IsListed, IsOpened, IsPacked, OnReadings, TellsOf, told_nothing};
+ghost use Rattle.hayro_ccitt_c.specs.Settings.{order_of, settings_of};
 
 mod change_count;
 mod encoding;
+mod handle;
 mod listed_rows;
 mod packed_rows;
+mod reading;
 mod report;
+mod row_handle;
+mod row_outcome;
 mod settings;
 
 use change_count::ChangeCount;
 use encoding::{Unencoded, encoded};
 pub use encoding::{EncodeOutcome, EncodeSettings};
+use hayro_ccitt::bits_fit;
 use listed_rows::ListedRows;
 use packed_rows::PackedRows;
+use reading::Reading;
 pub use report::Outcome;
 use report::{decoded, told, untaken};
+pub use row_handle::Reader;
+pub use row_outcome::RowOutcome;
+use row_outcome::{nothing_told, told_of};
 pub use settings::Settings;
 use settings::{order_of, settings_for};
 use std::alloc::Global;
@@ -48,9 +58,11 @@ pub extern "C" fn hayro_ccitt_measure(
         IsReport s bits result outcome.new.rows outcome.new.bytes_read) }
     ensures changes { OnSettings settings.now «data».now (λ s bits.
         outcome.new.changes ≡ changes_taken s bits outcome.new.rows) }
+    ensures damaged { OnSettings settings.now «data».now (λ s bits.
+        outcome.new.damaged_rows ≡ damaged_taken s bits outcome.new.rows) }
     ensures never_refused { result ≢ 5 }
     ensures untaken { (settings_of settings.now ≡ None) ⊎ (¬ (BitsFit «data».now))
-        → (result ≡ 6) × (outcome.new ≡ record { rows = 0; changes = 0; bytes_read = 0 }) }
+        → (result ≡ 6) × (outcome.new ≡ outcome_of 0 0 0 0) }
 {
     let Some(meant) = settings_for(data, settings) else {
         return untaken(outcome);
@@ -78,12 +90,14 @@ pub extern "C" fn hayro_ccitt_decode_packed(
         IsReport s bits result outcome.new.rows outcome.new.bytes_read) }
     ensures changes { OnSettings settings.now «data».now (λ s bits.
         outcome.new.changes ≡ changes_taken s bits outcome.new.rows) }
+    ensures damaged { OnSettings settings.now «data».now (λ s bits.
+        outcome.new.damaged_rows ≡ damaged_taken s bits outcome.new.rows) }
     ensures packed { OnSettings settings.now «data».now (λ s bits.
         ArePacked s bits outcome.new.rows bitmap.old bitmap.new) }
     ensures refused { result ≡ 5 → OnSettings settings.now «data».now (λ s bits.
         length bitmap.new < (outcome.new.rows + 1) * bytes_of_row s.columns) }
     ensures untaken { (settings_of settings.now ≡ None) ⊎ (¬ (BitsFit «data».now))
-        → (result ≡ 6) × (outcome.new ≡ record { rows = 0; changes = 0; bytes_read = 0 })
+        → (result ≡ 6) × (outcome.new ≡ outcome_of 0 0 0 0)
         × (bitmap.new ≡ bitmap.old) }
 {
     let Some(meant) = settings_for(data, settings) else {
@@ -111,13 +125,15 @@ pub extern "C" fn hayro_ccitt_decode_changes(
         IsReport s bits result outcome.new.rows outcome.new.bytes_read) }
     ensures changes { OnSettings settings.now «data».now (λ s bits.
         outcome.new.changes ≡ changes_taken s bits outcome.new.rows) }
+    ensures damaged { OnSettings settings.now «data».now (λ s bits.
+        outcome.new.damaged_rows ≡ damaged_taken s bits outcome.new.rows) }
     ensures listed { OnSettings settings.now «data».now (λ s bits.
         AreListed s bits outcome.new.rows lists.old lists.new) }
     ensures refused { result ≡ 5 → OnSettings settings.now «data».now (λ s bits.
         length lists.new < numbers_taken s bits outcome.new.rows + 1
         + length (changes (get_or (plain s bits).rows outcome.new.rows []))) }
     ensures untaken { (settings_of settings.now ≡ None) ⊎ (¬ (BitsFit «data».now))
-        → (result ≡ 6) × (outcome.new ≡ record { rows = 0; changes = 0; bytes_read = 0 })
+        → (result ≡ 6) × (outcome.new ≡ outcome_of 0 0 0 0)
         × (lists.new ≡ lists.old) }
 {
     let Some(meant) = settings_for(data, settings) else {
@@ -126,6 +142,129 @@ pub extern "C" fn hayro_ccitt_decode_changes(
     let mut rows = ListedRows::new(lists, meant.columns);
     let report = decoded(alloc, data, order_of(settings), meant, &mut rows);
     told(&report, rows.changes(), outcome)
+}
+
+/// Opens a reader of the rows of the data, which must be closed: all zeros, or as [`hayro_ccitt_close`] left it. It stands before
+/// the first row. The rows are read by [`hayro_ccitt_next_changes`] and [`hayro_ccitt_next_packed`].
+///
+/// A status of 4 says that an allocation failed; 6, that the data is too long, the settings are invalid or the reader is open.
+/// With all but 0 the reader stays as it is.
+#[unsafe(no_mangle)]
+pub extern "C" fn hayro_ccitt_open(
+    alloc: Global,
+    data: &[u8],
+    settings: &Settings,
+    reader: &mut Reader,
+) -> u32
+    ensures statuses { (result ≡ 0) ⊎ (result ≡ 4) ⊎ (result ≡ 6) }
+    ensures opened { result ≡ 0 → OnSettings settings.now «data».now (λ s bits.
+        IfSome reader.new.handle.value (IsOpened s bits (order_of settings.now))) }
+    ensures is_open { result ≡ 0 → reader.new.is_open ≡ true }
+    ensures unchanged { result ≢ 0 → reader.new ≡ reader.old }
+    ensures untaken { (settings_of settings.now ≡ None) ⊎ ((¬ (BitsFit «data».now)) ⊎ (reader.old.is_open ≡ true)) → result ≡ 6 }
+{
+    if reader.is_open {
+        return 6;
+    }
+    let Some(meant) = settings_for(data, settings) else {
+        return 6;
+    };
+    let Ok(reading) = Reading::new(alloc, data, order_of(settings), meant) else {
+        return 4;
+    };
+    reader.hold(reading);
+    0
+}
+
+/// Reads the next row of the data, and lists its changes in `list`. The data is handed in again at each call. The numbers
+/// after the last change keep their values.
+///
+/// A status of 7 says that no row is left; 5, that there is no room for the row, which the next call gives; 6, that the
+/// reader isn't open or the data is too long. `outcome` holds what there is to tell of the last row that was read; with a
+/// status of 6, zeros.
+#[unsafe(no_mangle)]
+pub extern "C" fn hayro_ccitt_next_changes(
+    alloc: Global,
+    data: &[u8],
+    reader: &mut Reader,
+    list: &mut [u32],
+    outcome: &mut RowOutcome,
+) -> u32
+    ensures gives { reader.old.is_open ≡ true → BitsFit «data».now → OnReadings reader.old.handle.value reader.new.handle.value
+        (λ old new. GivesRow «data».now old new result) }
+    ensures listed { result ≡ 0 → IfSome reader.new.handle.value (λ reading.
+        IsListed reading.rows.held.reference list.old list.new) }
+    ensures refused { result ≡ 5 → IfSome reader.new.handle.value (λ reading.
+        length list.new < length (changes reading.rows.held.reference)) }
+    ensures unwritten { result ≢ 0 → list.new ≡ list.old }
+    ensures told { reader.old.is_open ≡ true → BitsFit «data».now → IfSome reader.new.handle.value (λ reading.
+        TellsOf reading.rows outcome.new) }
+    ensures is_open { reader.new.is_open ≡ reader.old.is_open }
+    ensures untaken { (reader.old.is_open ≡ false) ⊎ (¬ (BitsFit «data».now))
+        → (result ≡ 6) × (reader.new ≡ reader.old) × (outcome.new ≡ told_nothing) }
+{
+    if !reader.is_open || !bits_fit(data) {
+        *outcome = nothing_told();
+        return 6;
+    }
+    let mut reading = reader.take(alloc);
+    let status = reading.list_next(data, list);
+    *outcome = told_of(&reading);
+    reader.hold(reading);
+    status
+}
+
+/// Reads the next row of the data, and packs it into `bytes`: (columns + 7) / 8 bytes, the leftmost pixel in a byte's highest
+/// bit, 1 for black, and zeros after the last pixel. The data is handed in again at each call. The bytes after the row keep
+/// their values.
+///
+/// A status of 7 says that no row is left; 5, that there is no room for the row, which the next call gives; 6, that the
+/// reader isn't open or the data is too long. `outcome` holds what there is to tell of the last row that was read; with a
+/// status of 6, zeros.
+#[unsafe(no_mangle)]
+pub extern "C" fn hayro_ccitt_next_packed(
+    alloc: Global,
+    data: &[u8],
+    reader: &mut Reader,
+    bytes: &mut [u8],
+    outcome: &mut RowOutcome,
+) -> u32
+    ensures gives { reader.old.is_open ≡ true → BitsFit «data».now → OnReadings reader.old.handle.value reader.new.handle.value
+        (λ old new. GivesRow «data».now old new result) }
+    ensures packed { result ≡ 0 → IfSome reader.new.handle.value (λ reading.
+        IsPacked reading.rows.held.settings.columns reading.rows.held.reference bytes.old bytes.new) }
+    ensures refused { result ≡ 5 → IfSome reader.new.handle.value (λ reading.
+        length bytes.new < bytes_of_row reading.rows.held.settings.columns) }
+    ensures unwritten { result ≢ 0 → bytes.new ≡ bytes.old }
+    ensures told { reader.old.is_open ≡ true → BitsFit «data».now → IfSome reader.new.handle.value (λ reading.
+        TellsOf reading.rows outcome.new) }
+    ensures is_open { reader.new.is_open ≡ reader.old.is_open }
+    ensures untaken { (reader.old.is_open ≡ false) ⊎ (¬ (BitsFit «data».now))
+        → (result ≡ 6) × (reader.new ≡ reader.old) × (outcome.new ≡ told_nothing) }
+{
+    if !reader.is_open || !bits_fit(data) {
+        *outcome = nothing_told();
+        return 6;
+    }
+    let mut reading = reader.take(alloc);
+    let status = reading.pack_next(data, bytes);
+    *outcome = told_of(&reading);
+    reader.hold(reading);
+    status
+}
+
+/// Closes a reader, and frees what it holds. A status of 6 says that it isn't open; then nothing is done.
+#[unsafe(no_mangle)]
+pub extern "C" fn hayro_ccitt_close(alloc: Global, reader: &mut Reader) -> u32
+    ensures closed { reader.new.is_open ≡ false }
+    ensures was_open { reader.old.is_open ≡ true → result ≡ 0 }
+    ensures was_closed { reader.old.is_open ≡ false → (result ≡ 6) × (reader.new ≡ reader.old) }
+{
+    if !reader.is_open {
+        return 6;
+    }
+    drop(reader.take(alloc));
+    0
 }
 
 /// Encodes a bitmap into `data`: a row occupies (columns + 7) / 8 bytes, the leftmost pixel in a byte's highest bit, 1

@@ -5,7 +5,7 @@ ghost use Rattle.hayro_ccitt.specs.Rows.{changes};
 ghost use Rattle.hayro_ccitt.specs.Answers.{meaning_after};
 ghost use Rattle.hayro_ccitt.specs.Bits.{BitsFit, bits_in};
 ghost use Rattle.hayro_ccitt.specs.PlainReading.{plain};
-ghost use Rattle.hayro_ccitt_c.specs.Reports.{IsReport, status_of, bytes_read_of};
+ghost use Rattle.hayro_ccitt_c.specs.Reports.{IsReport, damaged_taken, outcome_of, status_of, bytes_read_of};
 
 use hayro_ccitt::bit_reader::BitOrder;
 use hayro_ccitt::{DecodeError, DecodeSettings, Decoder, DecoderContext, Result, decode_in};
@@ -21,6 +21,12 @@ pub struct Outcome {
     pub changes: u64,
     /// The number of bytes consumed if the status is 0, else 0.
     pub bytes_read: u64,
+    /// The number of rows that were damaged and repaired.
+    pub damaged_rows: u64,
+    /// Zero.
+    pub reserved_1: u64,
+    /// Zero.
+    pub reserved_2: u64,
 }
 
 /// How a decoding ended.
@@ -32,17 +38,22 @@ pub(crate) struct Report {
     pub rows: u64,
     /// The number of bytes consumed if the status is 0, else 0.
     pub bytes_read: u64,
+    /// The number of rows that were damaged and repaired.
+    pub damaged_rows: u64,
 }
 
 /// Returns the status of data that is too long or settings that are invalid, and sets all of `outcome` to zeros.
 pub(crate) fn untaken(outcome: &mut Outcome) -> u32
     ensures status { result ≡ 6 }
-    ensures outcome { outcome.new ≡ record { rows = 0; changes = 0; bytes_read = 0 } }
+    ensures outcome { outcome.new ≡ outcome_of 0 0 0 0 }
 {
     *outcome = Outcome {
         rows: 0,
         changes: 0,
         bytes_read: 0,
+        damaged_rows: 0,
+        reserved_1: 0,
+        reserved_2: 0,
     };
     6
 }
@@ -51,12 +62,15 @@ pub(crate) fn untaken(outcome: &mut Outcome) -> u32
 pub(crate) fn told(report: &Report, changes: u64, outcome: &mut Outcome) -> u32
     ensures status { result ≡ report.now.status }
     ensures outcome { outcome.new
-        ≡ record { rows = report.now.rows; changes = changes; bytes_read = report.now.bytes_read } }
+        ≡ outcome_of report.now.rows changes report.now.bytes_read report.now.damaged_rows }
 {
     *outcome = Outcome {
         rows: report.rows,
         changes,
         bytes_read: report.bytes_read,
+        damaged_rows: report.damaged_rows,
+        reserved_1: 0,
+        reserved_2: 0,
     };
     report.status
 }
@@ -96,6 +110,7 @@ pub(crate) fn decoded<D: Decoder>(
     requires fit { BitsFit «data».now }
     requires width { settings.columns ≤ D.width sink.old }
     ensures report { IsReport settings (bits_in order «data».now) result.status result.rows result.bytes_read }
+    ensures damaged { result.damaged_rows ≡ damaged_taken settings (bits_in order «data».now) result.rows }
     ensures meaning { D.meaning sink.new ≡ meaning_after (D.step (D.width sink.old)) (D.meaning sink.old)
         (take result.rows (plain settings (bits_in order «data».now)).rows) }
     ensures width { D.width sink.new ≡ D.width sink.old }
@@ -108,6 +123,7 @@ pub(crate) fn decoded<D: Decoder>(
             status: 4,
             rows: 0,
             bytes_read: 0,
+            damaged_rows: 0,
         };
     };
     let answer = decode_in(order, data, sink, &mut ctx);
@@ -115,5 +131,6 @@ pub(crate) fn decoded<D: Decoder>(
         status: status_of(&answer),
         rows: ctx.decoded_rows(),
         bytes_read: bytes_read_of(&answer),
+        damaged_rows: ctx.damaged_rows(),
     }
 }

@@ -7,6 +7,7 @@ use Rattle.hayro_ccitt.specs.declared.settings.EncodingMode.{EncodingMode}
 use Rattle.hayro_ccitt.specs.declared.settings.EncodingMode.TheVariants.{Group4, Group3_1D, Group3_2D}
 use Rattle.hayro_ccitt.specs.declared.settings.DecodeSettings.{DecodeSettings}
 use Rattle.hayro_ccitt.specs.Bits.{bits_of, low_first_bits_of}
+use Rattle.hayro_ccitt.specs.Damage.{Damaged, damage_of, repairs_of}
 use Rattle.hayro_ccitt.specs.Rows.{Row, changes, pixels, white_row}
 use Rattle.hayro_ccitt.specs.Encodings.{EncodesRows, PictureT4}
 use Rattle.hayro_ccitt.specs.Locality.{IsLocal, EndAlike}
@@ -63,6 +64,14 @@ reading_of settings text = (map changes (plain settings (bits_of (hex text))).ro
 abbrev pub low_first_reading_of : DecodeSettings → String → List (List ℕ) × Result ℕ DecodeError
 low_first_reading_of settings text =
     (map changes (plain settings (low_first_bits_of (hex text))).rows, (plain settings (low_first_bits_of (hex text))).outcome)
+
+-- the damage that the plain reading of a text of bytes gets over
+abbrev pub damage_in : DecodeSettings → String → List Damaged
+damage_in settings text = damage_of settings (bits_of (hex text))
+
+-- the rows among it that are repaired
+abbrev pub repairs_in : DecodeSettings → String → List Damaged
+repairs_in settings text = repairs_of settings (bits_of (hex text))
 
 -- ---- Encodings
 

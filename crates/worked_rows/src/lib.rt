@@ -5,7 +5,7 @@
 #![tactic(auto)]
 
 ghost use Rattle.std.specs.Prelude.{◌≡◌, [], ◌∷◌, Ok, Err};
-ghost use Rattle.worked_rows.specs.Examples.{reading_of, low_first_reading_of, group4, group3_1d, group3_2d};
+ghost use Rattle.worked_rows.specs.Examples.{damage_in, repairs_in, reading_of, low_first_reading_of, group4, group3_1d, group3_2d};
 ghost use Rattle.worked_rows.specs.Examples.{EncodesTwoLines, EncodesTaggedRows, HaveLocalBodies, ReadsDamage, LimitBehindTheBody};
 
 use hayro_ccitt::DecodeError;
@@ -117,6 +117,20 @@ pub fn group3_2d_examples()
     ensures a_repaired_line_read_again_completes { reading_of (group3_2d 1 0 "l") "280005" ≡ (((0 ∷ []) ∷ [] ∷ [] ∷ []), Ok 3) }
     ensures a_repaired_line_read_again_completes_then_a_fault { reading_of (group3_2d 1 0 "l") "2800A0" ≡ (((0 ∷ []) ∷ [] ∷ [] ∷ []), Err DecodeError.UnexpectedEof) }
     ensures after_six_line_ends_a_one_is_passed_without_end_of_block { reading_of (group3_2d 8 0 "") "CC006003001800C0060034" ≡ (([] ∷ [] ∷ []), Err DecodeError.UnexpectedEof) }
+{}
+
+/// Damage: a line that is repaired, bits that stand before an EOL, and what strict data and data without EOLs have.
+pub fn damage_examples()
+    ensures no_damage { damage_in (group3_1d 8 0 "l") "0019800C700033" ≡ [] }
+    ensures middle_line { damage_in (group3_1d 8 0 "l") "0019800C400033" ≡ record { row = 1; start = 29; fault = DecodeError.InvalidCode } ∷ [] }
+    ensures last_line { damage_in (group3_1d 8 2 "l") "0019800C400033" ≡ record { row = 1; start = 29; fault = DecodeError.InvalidCode } ∷ [] }
+    ensures bits_before_an_eol { damage_in (group3_1d 8 2 "l") "0019F800CC" ≡ record { row = 0; start = 17; fault = DecodeError.InvalidCode } ∷ [] }
+    ensures none_of_these_is_repaired { repairs_in (group3_1d 8 2 "l") "0019F800CC" ≡ [] }
+    ensures a_missing_line { damage_in (group3_1d 8 0 "l") "" ≡ record { row = 0; start = 0; fault = DecodeError.UnexpectedEof } ∷ [] }
+    ensures a_tagged_line { damage_in (group3_2d 8 0 "l") "18C0" ≡ record { row = 0; start = 0; fault = DecodeError.InvalidCode } ∷ [] }
+    ensures given_up { damage_in (group3_1d 2 0 "l") "7770" ≡ record { row = 0; start = 4; fault = DecodeError.InvalidCode } ∷ [] }
+    ensures strict { damage_in (group3_1d 8 0 "ls") "0019800C400033" ≡ [] }
+    ensures without_eols { damage_in (group3_1d 8 1 "") "01" ≡ [] }
 {}
 
 /// Encodings: two lines of T.6, and two of T.4 closed by RTC.

@@ -17,8 +17,8 @@ use hayro_ccitt::codes::{Color, Mode, Ticks};
 use hayro_ccitt::context::{decode_1d_line, decode_2d_line};
 use hayro_ccitt::tables::Tables;
 use hayro_ccitt::{
-    DecodeError, DecodeSettings, Decoder, DecoderContext, EncodingMode, Result, RowReader,
-    bits_fit, decode, decode_low_first, group4,
+    DecodeError, DecodeSettings, Decoder, DecoderContext, EncodingMode, Result, RowCursor,
+    RowReader, bits_fit, decode, decode_low_first, group4,
 };
 use std::alloc::{AllocError, AllocGlobal, Global};
 use std::process::Abort;
@@ -633,16 +633,37 @@ fn reads_rows(
     let mut reader = RowReader::new(rt.alloc(), data, BitOrder::HighestFirst, settings).expect(
         rt, "memory",
     );
+    let mut cursor = RowCursor::new(rt.alloc(), data, BitOrder::HighestFirst, settings).expect(
+        rt, "memory",
+    );
     for (row, start) in rows {
-        assert_eq!(rt; reader.next_row(), Ok(true));
+        assert_eq!(rt;
+            (reader.next_row(), cursor.next_row(data)),
+            (Ok(true), Ok(true))
+        );
         assert_eq!(rt; (reader.row(), reader.line_start()), (*row, *start));
+        assert_eq!(rt; (cursor.row(), cursor.line_start()), (*row, *start));
+        assert_eq!(rt; cursor.damage(), reader.damage());
     }
-    assert_eq!(rt; reader.next_row(), end);
-    assert_eq!(rt; reader.next_row(), end, "it stays at the end");
+    assert_eq!(rt; (reader.next_row(), cursor.next_row(data)), (end, end));
+    assert_eq!(rt;
+        (reader.next_row(), cursor.next_row(data)),
+        (end, end),
+        "it stays at the end"
+    );
     assert_eq!(rt;
         (reader.rows_read(), reader.bytes_read()),
         (rows.len() as u64, bytes)
     );
+    assert_eq!(rt;
+        (
+            cursor.rows_read(),
+            cursor.bytes_read(),
+            cursor.damaged_rows()
+        ),
+        (rows.len() as u64, bytes, reader.damaged_rows())
+    );
+    assert_eq!(rt; cursor.settings().columns, settings.columns);
 }
 
 #[test]
@@ -673,6 +694,93 @@ fn rows_one_at_a_time(rt: HostRuntime) {
         2,
     );
     reads_rows(&rt, &padded, group_4(0, 0, ""), &[], Ok(false), 0);
+}
+
+/// What a reader of rows says of the damage of each row, and a context of their number.
+fn tells_damage(
+    rt: &(impl Abort + AllocGlobal),
+    data: &[u8],
+    settings: DecodeSettings,
+    faults: &[Option<DecodeError>],
+) {
+    assert!(rt; bits_fit(data));
+    let mut reader = RowReader::new(rt.alloc(), data, BitOrder::HighestFirst, settings).expect(
+        rt, "memory",
+    );
+    assert_eq!(rt; (reader.damage(), reader.damaged_rows()), (None, 0));
+    let mut damaged_rows = 0;
+    for fault in faults {
+        if fault.is_some() {
+            damaged_rows += 1;
+        }
+        assert_eq!(rt; reader.next_row(), Ok(true));
+        assert_eq!(rt;
+            (reader.damage(), reader.damaged_rows()),
+            (*fault, damaged_rows)
+        );
+    }
+    assert!(rt; reader.next_row() != Ok(true), "no row more");
+    let Ok(mut ctx) = DecoderContext::new(rt.alloc(), settings) else {
+        panic!(rt; "no memory");
+    };
+    for _ in 0..2 {
+        let mut sink = sink_of(rt.alloc(), settings.columns, usize::MAX);
+        let _ = decode(data, &mut sink, &mut ctx);
+        assert_eq!(rt; ctx.damaged_rows(), damaged_rows, "of each image alone");
+    }
+    ctx.reset();
+    assert_eq!(rt; ctx.damaged_rows(), 0);
+}
+
+#[test]
+fn damage_is_told(rt: HostRuntime) {
+    // The black run of the middle line has no word.
+    let cut = [0x00, 0x19, 0x80, 0x0C, 0x40, 0x00, 0x33];
+    let middle = [None, Some(InvalidCode), None];
+    tells_damage(&rt, &cut, group_3_1d(8, 0, "l"), &middle);
+    tells_damage(&rt, &cut, group_3_1d(8, 2, "l"), &middle[..2]);
+    // A line's end is damaged: the row is whole, and a strict reading fails at the bits behind it.
+    let whole = [0x00, 0x19, 0xF8, 0x00, 0xCC];
+    tells_damage(&rt, &whole, group_3_1d(8, 2, "l"), &[None, None]);
+    tells_damage(&rt, &[], group_3_1d(8, 0, "l"), &[Some(UnexpectedEof)]);
+    tells_damage(
+        &rt,
+        &[0x18, 0xC0],
+        group_3_2d(8, 0, "l"),
+        &[Some(InvalidCode)],
+    );
+    tells_damage(&rt, &[0x31, 0xC0], group_4(8, 0, ""), &[None]);
+}
+
+/// Where a reader of rows stands after an error.
+fn fails_at(
+    rt: &(impl Abort + AllocGlobal),
+    data: &[u8],
+    settings: DecodeSettings,
+    rows: u64,
+    place: usize,
+) {
+    assert!(rt; bits_fit(data));
+    let mut reader = RowReader::new(rt.alloc(), data, BitOrder::HighestFirst, settings).expect(
+        rt, "memory",
+    );
+    for _ in 0..rows {
+        assert_eq!(rt; reader.next_row(), Ok(true));
+    }
+    assert_eq!(rt; reader.next_row(), Err(InvalidCode));
+    assert_eq!(rt; (reader.rows_read(), reader.line_start()), (rows, place));
+}
+
+#[test]
+fn faults_have_a_place(rt: HostRuntime) {
+    // The second line's black run has no word.
+    let cut = [0x00, 0x19, 0x80, 0x0C, 0x40, 0x00, 0x33];
+    fails_at(&rt, &cut, group_3_1d(8, 0, "ls"), 1, 29);
+    // Bits stand before the second EOL, from the end of the first line on.
+    let whole = [0x00, 0x19, 0xF8, 0x00, 0xCC];
+    fails_at(&rt, &whole, group_3_1d(8, 2, "ls"), 1, 17);
+    // One row, and then padding that is no mode.
+    fails_at(&rt, &[0x31, 0xC0], group_4(8, 0, ""), 1, 10);
 }
 
 #[test]

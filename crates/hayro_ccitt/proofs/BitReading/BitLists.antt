@@ -8,6 +8,7 @@ use Rattle.std.proofs.lemmas.Option.{slice_get-get_or}
 use Rattle.hayro_ccitt.specs.declared.bit_reader.BitOrder.{BitOrder}
 use Rattle.hayro_ccitt.specs.declared.bit_reader.BitOrder.TheVariants.{HighestFirst, LowestFirst}
 use Rattle.hayro_ccitt.specs.Bits.{Bits, AreWholeBytes, bit_of, bits_of_byte, bits_in, bits_of, low_bits}
+use Rattle.std.proofs.lemmas.Grind.{common_steps}
 
 pub length-bits_in : (order : BitOrder) (bytes : List ℕ) → length (bits_in order bytes) ≡ 8 * length bytes
 length-bits_in order [] = refl
@@ -43,15 +44,12 @@ bit_of_first order b rest r lt =
 -- the bits after the first byte
 bits_behind : (order : BitOrder) (b : ℕ) (bytes : List ℕ) (i : ℕ)
     → slice_get (bits_in order (b ∷ bytes)) (suc (suc (suc (suc (suc (suc (suc (suc i)))))))) ≡ slice_get (bits_in order bytes) i
-bits_behind HighestFirst b bytes i = refl
-bits_behind LowestFirst b bytes i = refl
+bits_behind order b bytes i = grind (arith, common_steps)
 
 pub slice_get-bits_in : (order : BitOrder) (bytes : List ℕ) (q r : ℕ) → q < length bytes → r < 8
     → slice_get (bits_in order bytes) (8 * q + r) ≡ Some (bit_of (get_or bytes q 0) (place_in_byte order r))
 slice_get-bits_in order [] q r h k = absurd (omega arith)
-slice_get-bits_in order (b ∷ bytes) zero r h k =
-    let i : 8 * zero + r ≡ r = omega arith in
-    rw i (bit_of_first order b (bits_in order bytes) r k)
+slice_get-bits_in order (b ∷ bytes) zero r h k = grind (arith, common_steps, bit_of_first)
 slice_get-bits_in order (b ∷ bytes) (suc q) r h k =
     let i : 8 * suc q + r ≡ suc (suc (suc (suc (suc (suc (suc (suc (8 * q + r)))))))) = omega arith in
     rw i (bits_behind order b bytes (8 * q + r) ∙ slice_get-bits_in order bytes q r (omega arith) k)

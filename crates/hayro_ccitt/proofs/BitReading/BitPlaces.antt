@@ -1,5 +1,5 @@
 -- Positions among the bits of bytes.
-use Rattle.std.proofs.Common.{◌≡◌, ℕ, zero, suc, ◌+◌, ◌-◌, ◌*◌, ◌/◌, ◌%◌, ◌<◌, ◌≤◌, inl, inr, true, false, leb, List, [], ◌∷◌, length, drop, min, refl, sym, ◌∙◌, arith}
+use Rattle.std.proofs.Common.{◌≡◌, ℕ, zero, suc, ◌+◌, ◌-◌, ◌*◌, ◌/◌, ◌%◌, ◌<◌, ◌≤◌, true, false, leb, List, [], ◌∷◌, length, drop, min, refl, arith}
 use Rattle.std.proofs.lemmas.Bool.{cases_lt, le-leb, lt-leb}
 use Rattle.std.proofs.lemmas.List.{length-drop, drop-drop}
 use Rattle.hayro_ccitt.specs.declared.bit_reader.BitOrder.{BitOrder}
@@ -31,17 +31,12 @@ at_end_before (x ∷ xs) (suc i) h = at_end_before xs i (omega arith)
 
 -- no bit is left if all bytes are passed
 pub at_end-drop : (order : BitOrder) (bytes : List ℕ) (place : ℕ) → leb (length bytes) (place / 8) ≡ at_end (drop place (bits_in order bytes))
-at_end-drop order bytes place = elim (cases_lt place (8 * length bytes)) [
-  | inl lt ↦ lt-leb _ _ (omega arith) ∙ sym (at_end_before (bits_in order bytes) place (omega (arith, length-bits_in order bytes)))
-  | inr ge ↦ le-leb _ _ (omega arith) ∙ sym (at_end_past (bits_in order bytes) place (omega (arith, length-bits_in order bytes)))
-]
+at_end-drop order bytes place = grind (arith, common_steps, at_end_before, at_end_past, cases_lt, le-leb, length-bits_in, lt-leb)
 
 -- the next whole byte leaves whole bytes
 pub aligned-drop : (order : BitOrder) (bytes : List ℕ) (place next : ℕ) → place ≤ 8 * length bytes → next ≡ place + (8 * length bytes - place) % 8
     → drop next (bits_in order bytes) ≡ aligned (drop place (bits_in order bytes))
-aligned-drop order bytes place next h e =
-    let left : length (drop place (bits_in order bytes)) ≡ 8 * length bytes - place = omega (arith, length-bits_in order bytes, length-drop place (bits_in order bytes)) in
-    rw (left, drop-drop ((8 * length bytes - place) % 8) place (bits_in order bytes), e) refl
+aligned-drop order bytes place next h e = grind (arith, common_steps, drop-drop, length-bits_in, length-drop)
 
 -- ---- The bits n further on, whether there are as many or not.
 pub bits_missing : (at : BitsAt) (n k : ℕ) → n ≡ k → 0 < k → length at.bits < at.place + n → length (here at) < k

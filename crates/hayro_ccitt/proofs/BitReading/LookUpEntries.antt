@@ -9,7 +9,7 @@ use Rattle.hayro_ccitt.specs.declared.codes.Color.TheVariants.{White, Black}
 use Rattle.hayro_ccitt.specs.Bits.{Bits, low_bits}
 use Rattle.hayro_ccitt.specs.CodeLists.{Code, numbered}
 use Rattle.hayro_ccitt.specs.CodeReading.{after, agreement, word_at, Has, apart, is_prefix, is_prefix_free}
-use Rattle.hayro_ccitt.specs.LookUps.{thirteen_bits, longest_agreement, telling_bits, entry_of, with_row, with_rows, run_or_none}
+use Rattle.hayro_ccitt.specs.LookUps.{thirteen_bits, longest_agreement, entry_of, with_row, with_rows}
 use Rattle.hayro_ccitt.specs.Runs.{codes_of}
 use Rattle.hayro_ccitt.proofs.CodeWords.ReadCodes.{after_is, apart_misses, word_at_again}
 use Rattle.hayro_ccitt.proofs.BitReading.BitLists.{length-low_bits}
@@ -28,10 +28,6 @@ with_rows-append (row ∷ a) b here entry = with_rows-append a b here (with_row 
 row_stands : (row : ℕ × ℕ × ℕ) (here rest : Bits) (entry : ℕ) → after (low_bits row.1 row.2) here ≡ Some rest → with_row row here entry ≡ row.1 * 4096 + row.0
 row_stands row here rest entry e = rw (e, is_prefix) refl
 
--- another writes none
-row_misses : (row : ℕ × ℕ × ℕ) (here : Bits) (entry : ℕ) → after (low_bits row.1 row.2) here ≡ None → with_row row here entry ≡ entry
-row_misses row here entry e = rw (e, is_prefix) refl
-
 -- a table none of whose words is here writes none
 with_rows_none : (table : Table) (here : Bits) (entry : ℕ) → word_at (numbered table) here ≡ None → with_rows table here entry ≡ entry
 with_rows_none [] here entry e = refl
@@ -39,10 +35,7 @@ with_rows_none (row ∷ table) here entry e = by (with_rows_none table here) (af
   where
     by : ((other : ℕ) → word_at (numbered table) here ≡ None → with_rows table here other ≡ other) → (o : Option Bits) → after (low_bits row.1 row.2) here ≡ o
         → with_rows table here (with_row row here entry) ≡ entry
-    by on (Some rest) a = absurd (let g : Option.Some (row.0, rest) ≡ None = rw (a, word_at) at e in cc)
-    by on None a =
-        let g : word_at (numbered table) here ≡ None = rw (a, word_at) at e in
-        on (with_row row here entry) g ∙ row_misses row here entry a
+    by on o a = grind (arith, common_steps)
 
 -- if there is a word that is apart from all of a table, none of these is here
 all_miss : {V : Type 0} (u : Bits) (list : List (Code V)) (rest : Bits) → list_all (λ d. apart u d.word) list ≡ true → word_at list (u ++ rest) ≡ None
@@ -69,12 +62,8 @@ with_rows_found (row ∷ table) here entry found free e =
         let p : (row.0, rest) ≡ found = cc in
         let stands = after_is (low_bits row.1 row.2) here rest a in
         let none : word_at (numbered table) here ≡ None = rw stands (all_miss (low_bits row.1 row.2) (numbered table) rest both.0) in
-        let width : length here - length rest ≡ row.1 = omega (arith, ap length stands, length-append (low_bits row.1 row.2) rest, length-low_bits row.1 row.2) in
-        with_rows_none table here (with_row row here entry) none ∙ row_stands row here rest entry a
-        ∙ ap (λ (w : ℕ). w * 4096 + row.0) (sym width) ∙ ap (λ (f : ℕ × Bits). (length here - length f.1) * 4096 + f.0) p
-    by on None a =
-        let g : word_at (numbered table) here ≡ Some found = rw (a, word_at) at e in
-        on both.1 g
+        grind (arith, common_steps, length-append, length-low_bits, row_stands, with_rows_none)
+    by on None a = grind (arith, common_steps)
 
 -- ---- Words that begin all bits.
 abbrev pub In : Bits → List Bits → Type 0
@@ -155,10 +144,7 @@ eight_zeros_there color here h e = by (covers_all 13 (eight_zeros ∷ words_of (
   where
     by : Begins (eight_zeros ∷ words_of (codes_of color)) here → (rest : Bits) × (here ≡ eight_zeros ++ rest)
     by (w, inl same, rest, at) = (rest, at ∙ ap (λ (x : Bits). x ++ rest) (sym same))
-    by (w, inr i, rest, at) =
-        let (v, has) = in_words (codes_of color) w i in
-        let there : word_at (codes_of color) here ≡ Some (v, rest) = rw at (word_at_again (codes_of color) v w rest (codes_free color) has) in
-        absurd cc
+    by (w, inr i, rest, at) = grind (arith, common_steps, codes_free, common_steps, in_words (codes_of color) w i, word_at_again)
 
 -- an agreement that ends goes no further
 agreement_ended : (word here rest : Bits) → agreement word here < length here → agreement word (here ++ rest) ≡ agreement word here
@@ -177,21 +163,16 @@ longest_ended (c ∷ list) here rest e =
     rw (agreement_ended c.word here rest (ltb-true _ _ both.0), longest_ended list here rest both.1) refl
 
 zeros_end : (color : Color) → list_all (λ c. ltb (agreement c.word eight_zeros) (length eight_zeros)) (codes_of color) ≡ true
-zeros_end White = refl
-zeros_end Black = refl
+zeros_end color = grind (arith, common_steps)
 
 seven_zeros : (color : Color) → longest_agreement (codes_of color) eight_zeros ≡ 7
-seven_zeros White = refl
-seven_zeros Black = refl
+seven_zeros color = grind (arith, common_steps)
 
 -- the entry if there is no word of a run
 entry_of_none : (color : Color) (here : Bits) → length here ≡ 13 → word_at (codes_of color) here ≡ None → entry_of (codes_of color) here ≡ 36863
 entry_of_none color here h e =
-    let (rest, at) = eight_zeros_there color here h e in
-    let seven : longest_agreement (codes_of color) here ≡ 7 = rw at (longest_ended (codes_of color) eight_zeros rest (zeros_end color)) ∙ seven_zeros color in
-    let bits : telling_bits (codes_of color) here ≡ suc (longest_agreement (codes_of color) here) = rw (e, telling_bits) refl in
-    let run : run_or_none (codes_of color) here ≡ 4095 = rw (e, run_or_none) refl in
-    omega (arith, bits, run, seven)
+    let step = longest_ended (codes_of color) eight_zeros in
+    grind (arith, common_steps, eight_zeros_there color here h e, step, seven_zeros color, zeros_end color)
 
 entry_of_found : (list : List (Code ℕ)) (here : Bits) (found : ℕ × Bits) → word_at list here ≡ Some found → entry_of list here ≡ (length here - length found.1) * 4096 + found.0
 entry_of_found list here found e = grind (arith, common_steps)
@@ -206,9 +187,7 @@ entry_written color table here e h = by (word_at (numbered table) here) refl
 
     by : (o : Option (ℕ × Bits)) → word_at (numbered table) here ≡ o → with_rows table here 36863 ≡ entry_of (numbered table) here
     by (Some found) a = with_rows_found table here 36863 found free a ∙ sym (entry_of_found (numbered table) here found a)
-    by None a =
-        let none : word_at (codes_of color) here ≡ None = rw e at a in
-        with_rows_none table here 36863 a ∙ sym (rw e (entry_of_none color here h none))
+    by None a = grind (arith, common_steps, entry_of_none color here h, with_rows_none table here 36863 a)
 
 pub length-thirteen_bits : (k : ℕ) → length (thirteen_bits k) ≡ 13
 unfolding thirteen_bits

@@ -1,9 +1,10 @@
 -- The highest bits of a word that contains the bits from here on.
-use Rattle.std.proofs.Common.{◌≡◌, ℕ, zero, suc, ◌+◌, ◌-◌, ◌/◌, ◌%◌, ◌^◌, ◌<◌, ◌≤◌, false, eqb, [], ◌∷◌, get_or, refl, sym, ap, ◌∙◌, arith}
+use Rattle.std.proofs.Common.{◌≡◌, ℕ, zero, suc, ◌+◌, ◌-◌, ◌/◌, ◌^◌, ◌<◌, ◌≤◌, false, [], ◌∷◌, get_or, refl, sym, ap, ◌∙◌, arith}
 use Rattle.std.proofs.lemmas.List.{get_or-drop}
 use Rattle.std.proofs.lemmas.Nat.{shr-shr}
 use Rattle.hayro_ccitt.specs.Bits.{Bits, BitsAt, bit_of, low_bits, here}
 use Rattle.hayro_ccitt.specs.LookUps.{padded, seven_bits, thirteen_bits}
+use Rattle.std.proofs.lemmas.Grind.{common_steps}
 
 -- the low bits of a number, if they are the first ones here
 low_bits-padded : (n x : ℕ) (here : Bits) → ((k : ℕ) → k < n → bit_of x (n - 1 - k) ≡ get_or here k false) → low_bits n x ≡ padded n here
@@ -25,9 +26,7 @@ pub peeked : (at : BitsAt) (word n : ℕ) → n ≤ 32 → ((k : ℕ) → k < 32
 peeked at word n le h = low_bits-padded n (word / 2 ^ (32 - n)) (here at) each
   where
     each : (k : ℕ) → k < n → bit_of (word / 2 ^ (32 - n)) (n - 1 - k) ≡ get_or (here at) k false
-    each k lt =
-        let e : (32 - n) + (n - 1 - k) ≡ 31 - k = omega arith in
-        ap (λ (m : ℕ). eqb (m % 2) 1) (shr-shr word (32 - n) (n - 1 - k)) ∙ ap (bit_of word) e ∙ h k (omega arith) ∙ sym (get_or-drop at.place at.bits k false)
+    each k lt = grind (arith, common_steps, get_or-drop at.place at.bits k false, shr-shr word (32 - n) (n - 1 - k))
 
 pub peeked_thirteen : (at : BitsAt) (word : ℕ) → ((k : ℕ) → k < 32 → bit_of word (31 - k) ≡ get_or at.bits (at.place + k) false)
     → thirteen_bits (word / 524288) ≡ padded 13 (here at)
@@ -45,9 +44,7 @@ pub first_bits : (at : BitsAt) (word n : ℕ) → n ≤ 64 → ((k : ℕ) → k 
 first_bits at word n le h = low_bits-padded n (word / 2 ^ (64 - n)) (here at) each
   where
     each : (k : ℕ) → k < n → bit_of (word / 2 ^ (64 - n)) (n - 1 - k) ≡ get_or (here at) k false
-    each k lt =
-        let e : (64 - n) + (n - 1 - k) ≡ 63 - k = omega arith in
-        ap (λ (m : ℕ). eqb (m % 2) 1) (shr-shr word (64 - n) (n - 1 - k)) ∙ ap (bit_of word) e ∙ h k lt ∙ sym (get_or-drop at.place at.bits k false)
+    each k lt = grind (arith, common_steps, get_or-drop at.place at.bits k false, shr-shr word (64 - n) (n - 1 - k))
 
 pub first_thirteen : (at : BitsAt) (word : ℕ) → ((k : ℕ) → k < 13 → bit_of word (63 - k) ≡ get_or at.bits (at.place + k) false)
     → thirteen_bits (word / 2251799813685248) ≡ padded 13 (here at)

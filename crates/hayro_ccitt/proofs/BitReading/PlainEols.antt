@@ -1,5 +1,5 @@
 -- EOLs without fill.
-use Rattle.std.proofs.Common.{◌≡◌, ℕ, suc, ◌+◌, ◌-◌, ◌*◌, ◌/◌, ◌%◌, ◌^◌, ◌<◌, ◌≤◌, true, false, eqb, [], ◌∷◌, ◌++◌, length, get_or, drop, replicate, min, Some, None, refl, sym, ap, ◌∙◌, arith, inl, inr}
+use Rattle.std.proofs.Common.{◌≡◌, ℕ, ◌+◌, ◌-◌, ◌*◌, ◌/◌, ◌%◌, ◌^◌, ◌<◌, ◌≤◌, true, false, eqb, ◌∷◌, ◌++◌, length, get_or, drop, replicate, min, Some, None, sym, ap, ◌∙◌, arith, inl, inr}
 use lib.Count.{count_leading_zeros, count_trailing_zeros}
 use Rattle.std.specs.Int.{bit_at, w32}
 use Rattle.std.proofs.lemmas.Bool.{cases_lt}
@@ -8,23 +8,19 @@ use Rattle.std.proofs.lemmas.Nat.{leading_top, shr-shr}
 use Rattle.std.proofs.Math.Nat.{pow-le-pow_right}
 use Rattle.std.proofs.lemmas.Nat.Bits.{bit_at_above, bit_at_cat_low, bit_at-trailing_zeros}
 use Rattle.hayro_ccitt.specs.Bits.{Bits, BitsAt, here, bit_of}
-use Rattle.hayro_ccitt.specs.EndOfLine.{after_eol, one_more, all_eols, eols, past_tag, eols_with_tags, pass_last_tag, tagged_eols}
+use Rattle.hayro_ccitt.specs.EndOfLine.{after_eol, all_eols, past_tag, pass_last_tag, tagged_eols}
 use Rattle.hayro_ccitt.proofs.BitReading.SoughtEols.{one_near}
 use Rattle.hayro_ccitt.proofs.BitReading.ZeroRuns.{after_eol_run, eols_one, eols_enough}
 use Rattle.hayro_ccitt.proofs.BitReading.ZerosPassed.{Holds, run_ahead}
 use Rattle.hayro_ccitt.proofs.Readings.TurnsMoveOn.{after_eol_shorter, eols_with_tags-some, eols_with_tags-none}
+use Rattle.std.proofs.lemmas.Grind.{common_steps}
 
 -- ---- The word.
 -- eleven zeros and a one
 eleven_zeros : (w : ℕ) → w < 2 ^ 32 → w / 1048576 ≡ 1 → count_leading_zeros 32 w ≡ 11
 eleven_zeros w small one =
     let top = leading_top 32 w (omega (arith, one)) small in
-    let above : 20 ≤ top.0 = elim (cases_lt top.0 20) [
-      | inl lt ↦
-          let most : 2 ^ suc top.0 ≤ 2 ^ 20 = pow-le-pow_right {n = 2} (omega arith) {i = suc top.0} {j = 20} (omega (arith, lt)) in
-          absurd (omega (arith, one, top.3, most))
-      | inr ge ↦ ge
-    ] in
+    let above : 20 ≤ top.0 = grind (arith, common_steps, cases_lt, pow-le-pow_right) in
     let below : top.0 ≤ 20 = elim (cases_lt 20 top.0) [
       | inl lt ↦
           let least : 2 ^ 21 ≤ 2 ^ top.0 = pow-le-pow_right {n = 2} (omega arith) {i = 21} {j = top.0} (omega (arith, lt)) in
@@ -48,8 +44,7 @@ module _ (at : BitsAt) (w : ℕ) (small : w < 2 ^ 32) (held : Holds w at) where
     twelve_more = omega (arith, ap length plain_eol)
 
     pub plain_eol_within : next.place ≡ at.place + 12
-    plain_eol_within =
-        omega (arith, ap (λ (x : BitsAt). x.place) e, twelve_more, length-drop at.place at.bits)
+    plain_eol_within = grind (arith, common_steps, length-drop, twelve_more)
 
   -- a one among the ten bits after a tag
   module _ (some : (w / 512) % 1024 ≡ 0 → ⊥) where
@@ -60,10 +55,7 @@ module _ (at : BitsAt) (w : ℕ) (small : w < 2 ^ 32) (held : Holds w at) where
     zeros_behind = count_trailing_zeros 32 ten
 
     lowest : (zeros_behind < 32) × (bit_at ten zeros_behind ≡ 1)
-    lowest =
-        let there : 0 < ten = elim (cases_lt 0 ten) [ inl lt ↦ lt | inr none ↦ absurd (some (omega arith)) ] in
-        let all = bit_at-trailing_zeros w32 ten there (omega arith) in
-        (all.0, all.1)
+    lowest = grind (arith, common_steps, bit_at-trailing_zeros w32 ten, cases_lt 0 ten)
 
     within_ten : zeros_behind < 10
     within_ten = elim (cases_lt zeros_behind 10) [
@@ -83,13 +75,10 @@ module _ (at : BitsAt) (w : ℕ) (small : w < 2 ^ 32) (held : Holds w at) where
     -- no EOL begins after the twelve bits before it, nor a bit later
     pub none_behind : (next : BitsAt) → next.bits ≡ at.bits → next.place ≡ at.place + 12 → (after_eol 0 (here next) ≡ None) × (after_eol 0 (drop 1 (here next)) ≡ None)
     none_behind next same place =
-        let index : next.place + (10 - zeros_behind) ≡ at.place + (22 - zeros_behind) = omega (arith, place, within_ten) in
-        let later : 1 + (9 - zeros_behind) ≡ 10 - zeros_behind = omega (arith, within_ten) in
-        let one : get_or (here next) (10 - zeros_behind) false ≡ true = get_or-drop next.place next.bits (10 - zeros_behind) false
-        ∙ ap (λ (i : ℕ). get_or next.bits i false) index ∙ ap (λ (x : Bits). get_or x (at.place + (22 - zeros_behind)) false) same ∙ one_there in
-        let one' : get_or (drop 1 (here next)) (9 - zeros_behind) false ≡ true
-        = get_or-drop 1 (here next) (9 - zeros_behind) false ∙ ap (λ (i : ℕ). get_or (here next) i false) later ∙ one in
-        (one_near 0 (10 - zeros_behind) (here next) (omega arith) one, one_near 0 (9 - zeros_behind) (drop 1 (here next)) (omega arith) one')
+        let step = one_near 0 (9 - zeros_behind) (drop 1 (here next)) (omega arith) in
+        let step2 = get_or-drop next.place next.bits (10 - zeros_behind) false in
+        let step3 = one_near 0 (10 - zeros_behind) (here next) (omega arith) in
+        grind (arith, common_steps, step2, get_or-drop 1 (here next) (9 - zeros_behind) false, step3, step, one_there, within_ten)
 
 -- ---- The EOLs.
 -- eleven zeros and a one are an EOL
@@ -98,28 +87,16 @@ eleven_are_eol here rest e = ap (after_eol 0) e ∙ after_eol_run 11 rest
 
 -- the first, and the others
 pub eol_and_others : (here rest : Bits) → after_eol 0 here ≡ Some rest → all_eols here ≡ (1 + (all_eols rest).0, (all_eols rest).1)
-eol_and_others here rest e =
-    let shorter = after_eol_shorter 0 here rest e in
-    let others : eols (length here - 1) rest ≡ all_eols rest = eols_enough (length here - 1) rest (omega (arith, shorter)) in
-    eols_one (length here) here rest e (omega (arith, shorter)) ∙ ap (λ (found : ℕ × Bits). (suc found.0, found.1)) others ∙ by (all_eols rest)
-  where
-    by : (found : ℕ × Bits) → ◌≡◌ {A = ℕ × Bits} (suc found.0, found.1) (1 + found.0, found.1)
-    by found = let e : suc found.0 ≡ 1 + found.0 = omega arith in ap (λ (n : ℕ). (n, found.1)) e
+eol_and_others here rest e = grind (arith, common_steps, after_eol_shorter, eols_enough, eols_one)
 
 -- a tag that no EOL follows stays
 tag_stays : (here : Bits) → after_eol 0 (drop 1 here) ≡ None → past_tag here ≡ here
-tag_stays [] e = refl
-tag_stays (false ∷ here) e = refl
-tag_stays (true ∷ here) e = rw (e, past_tag) refl
+tag_stays here e = grind (arith, common_steps)
 
 few_keep_the_tag : (here : Bits) → pass_last_tag (1, here) ≡ (1, here)
-few_keep_the_tag [] = refl
-few_keep_the_tag (false ∷ here) = refl
-few_keep_the_tag (true ∷ here) = refl
+few_keep_the_tag here = grind (arith, common_steps)
 
 -- one alone
 pub single_tagged_eol : (here rest : Bits) → after_eol 0 here ≡ Some rest → after_eol 0 rest ≡ None → after_eol 0 (drop 1 rest) ≡ None → tagged_eols here ≡ (1, rest)
-single_tagged_eol [] rest e none later = absurd cc
-single_tagged_eol (b ∷ here) rest e none later =
-    ap pass_last_tag (eols_with_tags-some (length here) (b ∷ here) rest e ∙ ap (λ (x : Bits). one_more (eols_with_tags (length here) x)) (tag_stays rest later)
-    ∙ ap one_more (eols_with_tags-none (length here) rest none)) ∙ few_keep_the_tag rest
+single_tagged_eol here rest e none later =
+    grind (arith, common_steps, common_steps, eols_with_tags-none, eols_with_tags-some, few_keep_the_tag, tag_stays)

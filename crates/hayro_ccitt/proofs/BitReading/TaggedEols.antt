@@ -1,10 +1,10 @@
 -- EOLs with tags between them, read one after another, and what is examined.
-use Rattle.std.proofs.Common.{◌≡◌, ℕ, suc, ◌+◌, ◌-◌, ◌*◌, ◌<◌, ◌≤◌, true, false, [], ◌∷◌, length, Option}
-use Rattle.std.proofs.Common.{Some, None, refl, sym, ap, ◌∙◌, arith}
+use Rattle.std.proofs.Common.{◌≡◌, ℕ, suc, ◌+◌, ◌-◌, ◌*◌, ◌<◌, ◌≤◌, true, false, ◌∷◌, length}
+use Rattle.std.proofs.Common.{Some, None, refl, arith}
 use Rattle.std.specs.Prelude.{is_some}
-use Rattle.std.proofs.lemmas.Bool.{false≢true, le-leb}
+use Rattle.std.proofs.lemmas.Bool.{le-leb}
 use Rattle.hayro_ccitt.specs.Bits.{Bits}
-use Rattle.hayro_ccitt.specs.EndOfLine.{after_eol, one_more, eols, past_tag, eols_with_tags, pass_last_tag}
+use Rattle.hayro_ccitt.specs.EndOfLine.{after_eol, eols, past_tag, eols_with_tags, pass_last_tag}
 use Rattle.hayro_ccitt.specs.Ticks.{looked, looked_at_tag}
 use Rattle.hayro_ccitt.proofs.Readings.TurnsMoveOn.{eols_with_tags-some}
 use Rattle.hayro_ccitt.proofs.BitReading.ZeroRuns.{looked_eol}
@@ -23,13 +23,7 @@ pub tagged_stepped : (max count : ℕ) (start now after rest : Bits)
 tagged_stepped max count start now after rest e h is lt =
     let more : ℕ × Bits = eols_with_tags (max - (count + 1)) rest in
     let n : max - count ≡ suc (max - (count + 1)) = omega arith in
-    let one : eols_with_tags (max - count) now ≡ (suc more.0, more.1) = ap (λ (k : ℕ). eols_with_tags k now) n
-    ∙ eols_with_tags-some (max - (count + 1)) now after h ∙ ap (λ (x : Bits). one_more (eols_with_tags (max - (count + 1)) x)) (sym is) ∙ by more in
-    let m : count + suc more.0 ≡ count + 1 + more.0 = omega arith in
-    e ∙ rw one (ap (λ (k : ℕ). (k, more.1)) m)
-  where
-    by : (found : ℕ × Bits) → one_more found ≡ (suc found.0, found.1)
-    by (count, rest) = refl
+    grind (arith, common_steps, eols_with_tags-some)
 
 -- the bits from here on that may have been examined before: those of an EOL after its tag, or those of a tag
 abbrev pub looked_before : Bits → ℕ
@@ -38,31 +32,14 @@ looked_before here = elim (after_eol 0 here) [ None ↦ looked_at_tag here | Som
 -- a tag is examined, and perhaps the EOL after it
 tag_looks : (here : Bits) → (length here ≤ looked_at_tag here + length (past_tag here)) × (length (past_tag here) ≤ length here)
     × (looked_at_tag here + 2 * length (past_tag here) ≤ 2 * length here + looked_before (past_tag here))
-tag_looks [] = (omega arith, omega arith, omega arith)
-tag_looks (false ∷ here) = grind (arith, common_steps)
-tag_looks (true ∷ here) = grind (arith, common_steps)
+tag_looks here = grind (arith, common_steps)
 
 -- what an EOL and its tag count: each bit that is consumed, and at most twice
 pub tagged_looks : (here after rest : Bits) (ticks ticks1 ticks2 most : ℕ) → after_eol 0 here ≡ Some after → rest ≡ past_tag after
     → ticks1 + length after ≡ ticks + length here → ticks2 ≡ ticks1 + looked_at_tag after
     → (ticks + length here ≤ ticks2 + length rest) × (length rest < length here)
     × (ticks + 2 * length here ≤ most + looked_before here → ticks2 + 2 * length rest ≤ most + looked_before rest)
-tagged_looks here after rest ticks ticks1 ticks2 most eol is first second =
-    let eol_looks = looked_eol 0 here after eol in
-    let looks = tag_looks after in
-    let left : length rest ≡ length (past_tag after) = ap length is in
-    let behind : looked_before rest ≡ looked_before (past_tag after) = ap looked_before is in
-    let before : looked_before here ≡ looked here = rw (eol, looked_before) refl in
-    let some : 0 < looked here = looked_some here after eol in (
-      omega (arith, first, second, looks.0, left),
-      omega (arith, eol_looks, looks.1, some, left),
-      λ le. omega (arith, first, second, eol_looks, looks.2, before, behind, left, le),
-    )
-  where
-    looked_some : (here after : Bits) → after_eol 0 here ≡ Some after → 0 < looked here
-    looked_some [] after e = absurd cc
-    looked_some (false ∷ here) after e = omega arith
-    looked_some (true ∷ here) after e = omega arith
+tagged_looks here after rest ticks ticks1 ticks2 most eol is first second = grind (arith, common_steps, looked_eol, tag_looks)
 
 -- a one before an EOL is consumed as a tag, and no other
 pub past_tag-eol : (here : Bits) → is_some (after_eol 0 here) ≡ true → past_tag (true ∷ here) ≡ here

@@ -1,5 +1,5 @@
 -- The bytes of a word with their bits in the other order.
-use Rattle.std.proofs.Common.{◌≡◌, ℕ, zero, suc, ◌+◌, ◌-◌, ◌*◌, ◌/◌, ◌%◌, ◌^◌, ◌<◌, eqb, ltb, leb, cond, true, map, get_or, inl, inr, refl, sym, ap, ◌∙◌, arith}
+use Rattle.std.proofs.Common.{◌≡◌, ℕ, zero, suc, ◌+◌, ◌-◌, ◌*◌, ◌/◌, ◌%◌, ◌^◌, ◌<◌, eqb, ltb, leb, cond, true, map, get_or, inl, inr, refl, ap, ◌∙◌, arith}
 use Rattle.std.specs.Int.{bit_at}
 use Rattle.std.specs.Int.RustNames.{bit_or}
 use lib.Bits.{bit_and}
@@ -9,6 +9,7 @@ use Rattle.std.proofs.lemmas.Nat.Bits.{bit_at_cat_low, bit_at_cat_high}
 use Rattle.hayro_ccitt.specs.Bits.{bit_of}
 use Rattle.hayro_ccitt.specs.declared.bit_reader.TheConstants.{TURNED_UP, TURNED_DOWN}
 use Rattle.hayro_ccitt.proofs.BitReading.WindowWords.{bit_at-mod, bit_at-shr}
+use Rattle.std.proofs.lemmas.Grind.{common_steps}
 
 -- ---- One byte
 
@@ -38,9 +39,7 @@ one : {m n : ℕ} → m ≡ n → eqb m 1 ≡ eqb n 1
 one e = ap (λ (v : ℕ). eqb v 1) e
 
 low_byte : (word j : ℕ) → j < 8 → bit_at (word % 256) j ≡ bit_at word j
-low_byte word j h =
-    let whole : word ≡ word / 256 * 2 ^ 8 + word % 256 = omega arith in
-    sym (ap (λ (v : ℕ). bit_at v j) whole ∙ bit_at_cat_low (word / 256) 8 (word % 256) j h)
+low_byte word j h = grind (arith, common_steps, bit_at_cat_low (word / 256) 8 (word % 256) j h)
 
 each_byte : (n word k : ℕ) → k < 8 * n → bit_of (number_l 256 (map turned (digits_l 256 n word))) k ≡ bit_of word (8 * (k / 8) + (7 - k % 8))
 each_byte zero word k h = absurd (omega arith)

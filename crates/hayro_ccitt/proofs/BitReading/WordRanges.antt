@@ -1,9 +1,8 @@
 -- The numbers whose bits begin with a word, and the entries that are written at them.
-use Rattle.std.proofs.Common.{◌≡◌, ℕ, zero, suc, ◌+◌, ◌-◌, ◌*◌, ◌/◌, ◌%◌, ◌^◌, ◌<◌, ◌≤◌, ◌⊎◌, inl, inr, true, false, eqb, [], ◌∷◌, ◌++◌, length, Option, Some, None, bit_or, refl, sym, ap, subst, ◌∙◌, arith}
+use Rattle.std.proofs.Common.{◌≡◌, ℕ, zero, suc, ◌+◌, ◌-◌, ◌*◌, ◌/◌, ◌%◌, ◌^◌, ◌<◌, ◌≤◌, ◌⊎◌, true, false, eqb, [], ◌∷◌, ◌++◌, length, Option, Some, None, bit_or, refl, sym, ◌∙◌, arith}
 use Rattle.std.specs.Int.{bit_at}
-use Rattle.std.proofs.lemmas.Bool.{cases_eq, eq-eqb, ne_eqb, false≢true}
-use Rattle.std.proofs.lemmas.Nat.{shr-shr, mod-pow-add, div_below, le-div, div-add-mod', mod_below, pow_pos, pow-add, mul-le, or_shifted, shl_whole, one_shl}
-use Rattle.std.proofs.lemmas.Bool.{and_parts, leb-true, ltb-true}
+use Rattle.std.proofs.lemmas.Bool.{cases_eq, eq-eqb, ne_eqb}
+use Rattle.std.proofs.lemmas.Nat.{shr-shr, mod-pow-add, div_below, pow_pos, pow-add, mul-le, shl_whole, one_shl}
 use Rattle.std.proofs.lemmas.Nat.Bits.{bit_at-lt}
 use Rattle.std.proofs.Math.Nat.{mod-eq_of_lt}
 use Rattle.hayro_ccitt.specs.Bits.{Bits, bit_of, low_bits}
@@ -19,39 +18,26 @@ low_bits-append zero rest n = let e : 0 + rest ≡ rest = omega arith in rw e re
 low_bits-append (suc width) rest n =
     let e : suc width + rest ≡ suc (width + rest) = omega arith in
     let f : rest + width ≡ width + rest = omega arith in
-    let high : bit_of n (width + rest) ≡ bit_of (n / 2 ^ rest) width =
-    sym (ap (λ (m : ℕ). eqb (m % 2) 1) (shr-shr n rest width ∙ ap (λ (k : ℕ). n / 2 ^ k) f)) in
+    let high : bit_of n (width + rest) ≡ bit_of (n / 2 ^ rest) width = grind (arith, common_steps, shr-shr) in
     rw (e, high, low_bits-append width rest n) refl
 
 -- a bit determines its number
 bit_number : (a b : ℕ) → a < 2 → b < 2 → eqb a 1 ≡ eqb b 1 → a ≡ b
-bit_number zero zero h k e = refl
-bit_number zero (suc zero) h k e = absurd (false≢true e)
-bit_number (suc zero) zero h k e = absurd (false≢true (sym e))
-bit_number (suc zero) (suc zero) h k e = refl
-bit_number a (suc (suc b)) h k e = absurd (omega arith)
-bit_number (suc (suc a)) b h k e = absurd (omega arith)
+bit_number a b h k e = grind (arith, common_steps)
 
 -- equal bits are those of equal numbers
 pub low_bits-same : (width a b : ℕ) → low_bits width a ≡ low_bits width b → a % 2 ^ width ≡ b % 2 ^ width
 low_bits-same zero a b e = omega arith
 low_bits-same (suc width) a b e =
-    let first : bit_of a width ≡ bit_of b width = cc in
-    let others : low_bits width a ≡ low_bits width b = cc in
-    let bit : bit_at a width ≡ bit_at b width = bit_number (bit_at a width) (bit_at b width) (bit_at-lt a width) (bit_at-lt b width) first in
-    let on = low_bits-same width a b others in
-    let f : suc width ≡ 1 + width = omega arith in
-    rw (f, mod-pow-add a 1 width, mod-pow-add b 1 width, on) (ap (λ (m : ℕ). m * 2 ^ width + b % 2 ^ width) bit)
+    let step = bit_number (bit_at a width) (bit_at b width) (bit_at-lt a width) (bit_at-lt b width) in
+    let step2 = low_bits-same width a b in
+    grind (arith, common_steps, bit_at-lt a width, bit_at-lt b width, step, mod-pow-add a 1 width, mod-pow-add b 1 width, step2)
 
 same_front : (a b x y : Bits) → length a ≡ length b → a ++ x ≡ b ++ y → a ≡ b
 same_front [] [] x y h e = refl
 same_front [] (c ∷ b) x y h e = absurd (omega arith)
 same_front (d ∷ a) [] x y h e = absurd (omega arith)
-same_front (d ∷ a) (c ∷ b) x y h e =
-    let first : d ≡ c = cc in
-    let others : a ++ x ≡ b ++ y = cc in
-    let on = same_front a b x y (omega arith) others in
-    cc
+same_front (d ∷ a) (c ∷ b) x y h e = grind (arith, common_steps, same_front a b x y (omega arith))
 
 -- a word begins the bits of the numbers that its own bits, with more bits after them, spell
 pub word_begins : (width rest word n : ℕ) → word < 2 ^ width → n < 2 ^ width * 2 ^ rest → 0 < 2 ^ rest
@@ -65,25 +51,18 @@ word_begins width rest word n fits below some = rw (low_bits-append width rest n
         → is_prefix (low_bits width word) (low_bits width (n / 2 ^ rest) ++ low_bits rest n) ≡ false
     differ None e other = rw (e, is_prefix) refl
     differ (Some more) e other =
-        let whole = after_is (low_bits width word) (low_bits width (n / 2 ^ rest) ++ low_bits rest n) more e in
-        let fronts = same_front (low_bits width (n / 2 ^ rest)) (low_bits width word) (low_bits rest n) more
-        (length-low_bits width (n / 2 ^ rest) ∙ sym (length-low_bits width word)) whole in
-        let same = low_bits-same width (n / 2 ^ rest) word fronts in
-        absurd (other (sym (mod-eq_of_lt small) ∙ same ∙ mod-eq_of_lt fits))
+        grind (arith, common_steps, after_is (low_bits width word) (low_bits width (n / 2 ^ rest) ++ low_bits rest n) more e, length-low_bits width (n / 2 ^ rest), length-low_bits width word, low_bits-same width (n / 2 ^ rest) word, mod-eq_of_lt small, mod-eq_of_lt fits, same_front (low_bits width (n / 2 ^ rest)) (low_bits width word) (low_bits rest n) more (length-low_bits width (n / 2 ^ rest) ∙ sym (length-low_bits width word)), small)
 
     by : (n / 2 ^ rest ≡ word) ⊎ (n / 2 ^ rest ≡ word → ⊥)
         → is_prefix (low_bits width word) (low_bits width (n / 2 ^ rest) ++ low_bits rest n) ≡ eqb (n / 2 ^ rest) word
-    by (inl same) = rw (same, eq-eqb word word refl, after_at (low_bits width word) (low_bits rest n), is_prefix) refl
-    by (inr other) = differ (after (low_bits width word) (low_bits width (n / 2 ^ rest) ++ low_bits rest n)) refl other ∙ sym (ne_eqb (n / 2 ^ rest) word other)
+    by given = grind (arith, common_steps, after_at, differ, eq-eqb, ne_eqb)
 
 -- of n bits
 pub word_begins_of : (whole width word n : ℕ) → width ≤ whole → word < 2 ^ width → n < 2 ^ whole
     → is_prefix (low_bits width word) (low_bits whole n) ≡ eqb (n / 2 ^ (whole - width)) word
 word_begins_of whole width word n le fits below =
     let e : width + (whole - width) ≡ whole = omega arith in
-    let product : 2 ^ whole ≡ 2 ^ width * 2 ^ (whole - width) = ap (λ (k : ℕ). 2 ^ k) (sym e) ∙ pow-add 2 width (whole - width) in
-    subst (λ (k : ℕ). is_prefix (low_bits width word) (low_bits k n) ≡ eqb (n / 2 ^ (whole - width)) word) e
-    (word_begins width (whole - width) word n fits (rw product at below) (pow_pos (whole - width)))
+    grind (arith, common_steps, pow-add, pow_pos, word_begins)
 
 -- ---- The numbers from a multiple on.
 inside : (m word n : ℕ) → word * m ≤ n → n < word * m + m → n / m ≡ word
@@ -104,10 +83,8 @@ is_row_is run width word e = grind (arith, common_steps)
 -- the numbers whose bits begin with a word are below 8192
 pub range_fits : (run width word : ℕ) → IsRow run width word → word * 2 ^ (13 - width) + 2 ^ (13 - width) ≤ 8192
 range_fits run width word is =
-    let e : width + (13 - width) ≡ 13 = omega (arith, is.short) in
-    let product : 8192 ≡ 2 ^ width * 2 ^ (13 - width) = ap (λ (k : ℕ). 2 ^ k) (sym e) ∙ pow-add 2 width (13 - width) in
-    let le : (word + 1) * 2 ^ (13 - width) ≤ 2 ^ width * 2 ^ (13 - width) = mul-le (word + 1) (2 ^ (13 - width)) (2 ^ width) (2 ^ (13 - width)) (omega (arith, is.fits)) (omega arith) in
-    omega (arith, product, le)
+    let step = mul-le (word + 1) (2 ^ (13 - width)) (2 ^ width) (2 ^ (13 - width)) (omega (arith, is.fits)) (omega arith) in
+    grind (arith, common_steps, step, pow-add 2 width (13 - width))
 
 -- what the shifts compute
 pub shifted_entry : (run width word : ℕ) → IsRow run width word → bit_or (width * 4096 % 65536) run ≡ width * 4096 + run

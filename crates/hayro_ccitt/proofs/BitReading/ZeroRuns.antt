@@ -1,14 +1,13 @@
 -- Zeros and EOLs that are counted a bit and an EOL at a time.
 use Rattle.std.proofs.Common.{◌≡◌, ℕ, zero, suc, ◌+◌, ◌-◌, ◌<◌, ◌≤◌, Bool, true, false, cond, leb, eqb, [], ◌∷◌, ◌++◌, length, replicate, Option}
-use Rattle.std.proofs.Common.{Some, None, refl, sym, ap, ◌∙◌, subst, arith, inl, inr}
+use Rattle.std.proofs.Common.{Some, None, refl, sym, ap, ◌∙◌, arith}
 use Rattle.std.specs.Prelude.{slice_get}
 use Rattle.std.proofs.lemmas.Bool.{eqb-true}
 use Rattle.hayro_ccitt.specs.Bits.{Bits, BitsAt, here}
 use Rattle.hayro_ccitt.specs.CodeReading.{leading_zeros}
-use Rattle.hayro_ccitt.specs.EndOfLine.{after_eol, one_more, eols, all_eols}
+use Rattle.hayro_ccitt.specs.EndOfLine.{after_eol, eols, all_eols}
 use Rattle.hayro_ccitt.specs.Ticks.{looked}
 use Rattle.hayro_ccitt.proofs.BitReading.BitLists.{drop_some}
-use Rattle.hayro_ccitt.proofs.CodeWords.ReadRuns.{chosen}
 use Rattle.hayro_ccitt.proofs.Readings.TurnsMoveOn.{after_eol_shorter, length-one_more, one_more-count}
 use Rattle.std.proofs.lemmas.Grind.{common_steps}
 
@@ -42,19 +41,14 @@ looked_eol seen (true ∷ here) after e = grind (arith, common_steps)
 -- the first of some EOLs
 pub eols_one : (most : ℕ) (here after : Bits) → after_eol 0 here ≡ Some after → 0 < most
     → eols most here ≡ (suc (eols (most - 1) after).0, (eols (most - 1) after).1)
-eols_one zero here after e lt = absurd (omega arith)
-eols_one (suc most) here after e lt = grind (arith, common_steps)
+eols_one most here after e lt = grind (arith, common_steps)
 
 -- an EOL more, and those after it
 pub eols_stepped : (max count : ℕ) (start now after : Bits) → eols max start ≡ (count + (eols (max - count) now).0, (eols (max - count) now).1)
     → after_eol 0 now ≡ Some after → count < max
     → eols max start ≡ (count + 1 + (eols (max - (count + 1)) after).0, (eols (max - (count + 1)) after).1)
 eols_stepped max count start now after e h lt =
-    let one = eols_one (max - count) now after h (omega arith) in
-    let n : max - count - 1 ≡ max - (count + 1) = omega arith in
-    let f : eols (max - count) now ≡ (suc (eols (max - (count + 1)) after).0, (eols (max - (count + 1)) after).1) = rw n at one in
-    let m : count + suc (eols (max - (count + 1)) after).0 ≡ count + 1 + (eols (max - (count + 1)) after).0 = omega arith in
-    e ∙ rw f (ap (λ (k : ℕ). (k, (eols (max - (count + 1)) after).1)) m)
+    grind (arith, common_steps, common_steps, eols_one (max - count) now after h (omega arith))
 
 -- an EOL has at least one bit
 pub eols_fewer : (most : ℕ) (here : Bits) → (eols most here).0 + length (eols most here).1 ≤ length here
@@ -63,16 +57,14 @@ eols_fewer (suc most) here = by (λ rest. eols_fewer most rest) (after_eol 0 her
   where
     by : ((rest : Bits) → (eols most rest).0 + length (eols most rest).1 ≤ length rest) → (o : Option Bits) → after_eol 0 here ≡ o
         → (eols (suc most) here).0 + length (eols (suc most) here).1 ≤ length here
-    by on None e = rw (e, eols) (omega arith)
-    by on (Some rest) e = rw (e, eols) (omega (arith, length-one_more (eols most rest), one_more-count (eols most rest), on rest, after_eol_shorter 0 here rest e))
+    by on o e = grind (arith, common_steps, after_eol_shorter, length-one_more, one_more-count)
 
 -- if at least as many EOLs as bits are looked for, all are
 pub eols_enough : (most : ℕ) (here : Bits) → length here ≤ most → eols most here ≡ all_eols here
 eols_enough most here le = alike most (length here) here le (omega arith)
   where
     none : (most : ℕ) → eols most [] ≡ (0, [])
-    none zero = refl
-    none (suc most) = refl
+    none most = grind (arith, common_steps)
 
     alike : (most others : ℕ) (here : Bits) → length here ≤ most → length here ≤ others → eols most here ≡ eols others here
     alike most others [] le le1 = none most ∙ sym (none others)
@@ -82,21 +74,12 @@ eols_enough most here le = alike most (length here) here le (omega arith)
       where
         by : ((rest : Bits) → length rest ≤ most → length rest ≤ others → eols most rest ≡ eols others rest) → (o : Option Bits)
             → after_eol 0 (bit ∷ here) ≡ o → eols (suc most) (bit ∷ here) ≡ eols (suc others) (bit ∷ here)
-        by on None e = rw (e, eols) refl
-        by on (Some rest) e =
-            let shorter = after_eol_shorter 0 (bit ∷ here) rest e in
-            rw (e, eols) (ap one_more (on rest (omega (arith, le, shorter)) (omega (arith, le1, shorter))))
+        by on o e = grind (arith, common_steps, after_eol_shorter)
 
 -- if more EOLs than bits are looked for, the bits after the last are examined
 pub eols_look_on : (most : ℕ) (here rest : Bits) (count : ℕ) → length here < most → eols most here ≡ (count, rest)
     → cond (eqb count most) 0 (looked rest) ≡ looked rest
-eols_look_on most here rest count lt e = by (eqb count most) refl
-  where
-    by : (b : Bool) → eqb count most ≡ b → cond b 0 (looked rest) ≡ looked rest
-    by false h = refl
-    by true h =
-        let counts : count + length rest ≤ length here = subst (λ (found : ℕ × Bits). found.0 + length found.1 ≤ length here) e (eols_fewer most here) in
-        absurd (omega (arith, counts, lt, eqb-true count most h))
+eols_look_on most here rest count lt e = grind (arith, common_steps, eols_fewer, eqb-true)
 
 -- ---- A bit read.
 -- a bit at the position is the first here

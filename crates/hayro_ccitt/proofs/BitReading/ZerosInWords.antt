@@ -1,16 +1,16 @@
 -- No sequence of code words contains the zeros of an EOL.
 use Rattle.std.proofs.Common.{◌≡◌, ℕ, zero, suc, ◌+◌, ◌<◌, ◌≤◌, Bool, true, false, cond, ltb, leb, List, [], ◌∷◌, ◌++◌, length, replicate, Option}
 use Rattle.std.proofs.Common.{Some, None, refl, ap, ◌∙◌, append_assoc, arith, inl, inr}
-use Rattle.std.proofs.lemmas.Bool.{and_parts, leb-true, lt-ltb, le-ltb, false≢true, cases_lt}
+use Rattle.std.proofs.lemmas.Bool.{and_parts, lt-ltb, le-ltb, cases_lt}
 use Rattle.std.proofs.lemmas.List.{append-nil}
 use Rattle.hayro_ccitt.specs.declared.codes.Color.{Color}
-use Rattle.hayro_ccitt.specs.declared.codes.Color.TheVariants.{White, Black}
 use Rattle.hayro_ccitt.specs.Bits.{Bits}
 use Rattle.hayro_ccitt.specs.CodeLists.{Code, mode_codes}
-use Rattle.hayro_ccitt.specs.CodeReading.{Has, word_at, is_prefix_free, PrefixFree}
+use Rattle.hayro_ccitt.specs.CodeReading.{Has, is_prefix_free, PrefixFree}
 use Rattle.hayro_ccitt.specs.Runs.{codes_of}
 use Rattle.hayro_ccitt.specs.Laws.{each_word, IsWord, AreWords, joined, HoldsZeros}
 use Rattle.hayro_ccitt.proofs.CodeWords.ReadCodes.{word_at_again}
+use Rattle.std.proofs.lemmas.Grind.{common_steps}
 
 -- ---- A test of each word of a list.
 pub each_word_at : {V : Type 0} (test : Bits → Bool) (list : List (Code V)) (v : V) (w : Bits) → each_word test list ≡ true → Has list v w → test w ≡ true
@@ -20,8 +20,7 @@ each_word_at test (c ∷ list) v w e (inr i) = each_word_at test list v w (and_p
 
 -- no word of a run is a prefix of another
 pub codes_free : (color : Color) → is_prefix_free (codes_of color) ≡ true
-codes_free White = refl
-codes_free Black = refl
+codes_free color = grind (arith, common_steps)
 
 pub modes_free : is_prefix_free mode_codes ≡ true
 modes_free = refl
@@ -29,12 +28,7 @@ modes_free = refl
 -- the test says what `PrefixFree` says
 pub free_by : {V : Type 0} (list : List (Code V)) → is_prefix_free list ≡ true → PrefixFree list
 free_by {V} list free v w a b rest i j e =
-    let one = word_at_again list v a rest free i in
-    let two = word_at_again list w b [] free j in
-    let same : b ++ [] ≡ a ++ rest = append-nil b ∙ e in
-    let three : word_at list (a ++ rest) ≡ Some (w, []) = rw same at two in
-    let pairs : ◌≡◌ {A = V × Bits} (v, rest) (w, []) = cc in
-    (ap (λ (x : V × Bits). x.1) pairs, ap (λ (x : V × Bits). x.0) pairs)
+    grind (arith, common_steps, append-nil b, word_at_again list v a rest free i, word_at_again list w b)
 
 -- ---- The zeros at the end of what was read so far, up to ten of them.
 abbrev pub scan : ℕ → Bits → Option ℕ
@@ -53,8 +47,7 @@ is_quiet word = at_most_three (scan 3 word)
 
 -- every word of a run is like this
 pub codes_quiet : (color : Color) → each_word is_quiet (codes_of color) ≡ true
-codes_quiet White = refl
-codes_quiet Black = refl
+codes_quiet color = grind (arith, common_steps)
 
 modes_quiet : each_word is_quiet mode_codes ≡ true
 modes_quiet = refl
@@ -68,27 +61,18 @@ word_quiet word (inr w) = each_word_at is_quiet mode_codes w.0 word modes_quiet 
 pub scan_below : (m n k : ℕ) (bits : Bits) → m ≤ n → scan n bits ≡ Some k → (j : ℕ) × (scan m bits ≡ Some j) × (j ≤ k)
 scan_below m n k [] le e = let same : n ≡ k = cc in (m, refl, omega arith)
 scan_below m n k (true ∷ bits) le e = (k, e, omega arith)
-scan_below m n k (false ∷ bits) le e = elim (cases_lt n 10) [
-  | inl lt ↦ let f : scan (suc n) bits ≡ Some k = rw (lt-ltb n 10 lt) at e in
-      let g = scan_below (suc m) (suc n) k bits (omega arith) f in
-      let lt' : m < 10 = omega arith in
-      (g.0, rw (lt-ltb m 10 lt') g.1, g.2)
-  | inr ge ↦ absurd (let f : None ≡ Some k = rw (le-ltb n 10 ge) at e in cc)
-]
+scan_below m n k (false ∷ bits) le e =
+    grind (arith, common_steps, cases_lt, le-ltb, lt-ltb, scan_below (suc m) (suc n) k bits (omega arith))
 
 -- what was read, and then more
 pub scan-append : (n k : ℕ) (a b : Bits) → scan n a ≡ Some k → scan n (a ++ b) ≡ scan k b
 scan-append n k [] b e = let same : n ≡ k = cc in rw same refl
 scan-append n k (true ∷ a) b e = scan-append 0 k a b e
-scan-append n k (false ∷ a) b e = elim (cases_lt n 10) [
-  | inl lt ↦ let f : scan (suc n) a ≡ Some k = rw (lt-ltb n 10 lt) at e in rw (lt-ltb n 10 lt) (scan-append (suc n) k a b f)
-  | inr ge ↦ absurd (let f : None ≡ Some k = rw (le-ltb n 10 ge) at e in cc)
-]
+scan-append n k (false ∷ a) b e = grind (arith, common_steps, cases_lt, le-ltb, lt-ltb, scan-append (suc n) k a b)
 
 -- the test says how many zeros there are
 pub quiet_is : (o : Option ℕ) → at_most_three o ≡ true → (k : ℕ) × (o ≡ Some k) × (k ≤ 3)
-quiet_is None e = absurd (false≢true e)
-quiet_is (Some k) e = (k, refl, leb-true k 3 e)
+quiet_is o e = grind (arith, common_steps)
 
 words_quiet : (n : ℕ) (words : List Bits) → n ≤ 3 → AreWords words → (k : ℕ) × (scan n (joined words) ≡ Some k) × (k ≤ 3)
 words_quiet n [] le are = (n, refl, le)
@@ -138,8 +122,7 @@ no_one zero = refl
 no_one (suc n) = no_one n
 
 codes_one : (color : Color) → each_word holds_a_one (codes_of color) ≡ true
-codes_one White = refl
-codes_one Black = refl
+codes_one color = grind (arith, common_steps)
 
 -- every word contains a one
 pub word_one : (word : Bits) → IsWord word → holds_a_one word ≡ true
@@ -150,8 +133,4 @@ word_one word (inr w) = each_word_at holds_a_one mode_codes w.0 word refl w.1
 pub prefix_of_prefix : (us vs xs ys : Bits) → xs ++ ys ≡ us ++ vs → length us ≤ length xs → (more : Bits) × (xs ≡ us ++ more)
 prefix_of_prefix [] vs xs ys e le = (xs, refl)
 prefix_of_prefix (u ∷ us) vs [] ys e le = absurd (omega arith)
-prefix_of_prefix (u ∷ us) vs (x ∷ xs) ys e le =
-    let heads : x ≡ u = cc in
-    let tails : xs ++ ys ≡ us ++ vs = cc in
-    let f = prefix_of_prefix us vs xs ys tails (omega arith) in
-    (f.0, cc)
+prefix_of_prefix (u ∷ us) vs (x ∷ xs) ys e le = grind (arith, common_steps, prefix_of_prefix us vs xs ys)

@@ -4,7 +4,7 @@ use lib.Count.{count_leading_zeros, count_trailing_zeros}
 use Rattle.std.specs.Int.{bit_at, w32}
 use Rattle.std.proofs.lemmas.Bool.{cases_lt, false≢true}
 use Rattle.std.proofs.lemmas.List.{get_or_past, get_or-drop, length-drop, drop-drop, replicate-append-replicate}
-use Rattle.std.proofs.lemmas.Nat.{leading_top, leading_length, leading_le, div-mul-add, pow_pos, shr-shr}
+use Rattle.std.proofs.lemmas.Nat.{leading_top, leading_length, leading_le, pow_pos, shr-shr}
 use Rattle.std.proofs.Math.Nat.{pow-suc, pow-le-pow_right}
 use Rattle.std.proofs.lemmas.Nat.Bits.{bit_at_above, bit_at-trailing_zeros}
 use Rattle.std.proofs.lemmas.Option.{slice_get-get_or, slice_get_within}
@@ -32,16 +32,13 @@ one_times w j le lt = grind (arith, common_steps)
 
 -- the bits before the first one are zeros
 word_zeros : (w k : ℕ) → w < 2 ^ 32 → k < count_leading_zeros 32 w → bit_of w (31 - k) ≡ false
-word_zeros w k small h =
-    let top = leading_length 32 w small in
-    ap (λ (b : ℕ). eqb b 1) (bit_at_above w top.0 (31 - k) top.2 (omega (arith, top.1)))
+word_zeros w k small h = grind (arith, common_steps, bit_at_above w, leading_length 32 w small)
 
 -- a number that isn't zero has a one after them
 word_one : (w : ℕ) → w < 2 ^ 32 → count_leading_zeros 32 w < 32 → bit_of w (31 - count_leading_zeros 32 w) ≡ true
 word_one w small few =
     let top = leading_top 32 w (some_number 32 w small few) small in
-    let at : 31 - count_leading_zeros 32 w ≡ top.0 = omega (arith, top.1) in
-    rw at (ap (λ (b : ℕ). eqb (b % 2) 1) (one_times w top.0 top.2 top.3))
+    grind (arith, common_steps, one_times)
 
 -- ---- Zeros from a position on.
 zeros_here : (bits : Bits) (place n : ℕ) → ((k : ℕ) → k < n → get_or bits (place + k) false ≡ false) → place + n ≤ length bits
@@ -58,8 +55,7 @@ zeros_here bits place (suc n) none h =
 -- zeros, and then more
 zeros_on : (first then rest : Bits) (a b : ℕ) → first ≡ replicate a false ++ then → then ≡ replicate b false ++ rest → first ≡ replicate (a + b) false ++ rest
 zeros_on first then rest a b e h =
-    e ∙ ap (λ (x : Bits). replicate a false ++ x) h ∙ sym (append_assoc (replicate a false) (replicate b false) rest)
-    ∙ ap (λ (x : Bits). x ++ rest) (replicate-append-replicate a b false)
+    grind (arith, common_steps, append_assoc (replicate a false) (replicate b false) rest, replicate-append-replicate a b false)
 
 -- a word contains the next 32 bits
 abbrev pub Holds : ℕ → BitsAt → Type 0
@@ -85,22 +81,13 @@ word_passed start now next w small held forward e on before =
 -- if they are fewer than 32 a one follows
 one_ahead : (now : BitsAt) (w : ℕ) → w < 2 ^ 32 → Holds w now → count_leading_zeros 32 w < 32 → slice_get now.bits (now.place + count_leading_zeros 32 w) ≡ Some true
 one_ahead now w small held few =
-    let at = now.place + count_leading_zeros 32 w in
-    let one : get_or now.bits at false ≡ true = sym (held (count_leading_zeros 32 w) few) ∙ word_one w small few in
-    let within : at < length now.bits = elim (cases_lt at (length now.bits)) [
-      | inl lt ↦ lt
-      | inr past ↦ absurd (false≢true (sym (get_or_past now.bits at false past) ∙ one))
-    ] in
-    slice_get-get_or now.bits at false within ∙ ap Some one
+    grind (arith, common_steps, cases_lt, false≢true, get_or_past now.bits, slice_get-get_or now.bits, word_one w small few)
 
 -- and the reader is at it
 pub one_follows : (now next : BitsAt) (w : ℕ) → w < 2 ^ 32 → Holds w now → next ≡ record now { place = min (now.place + count_leading_zeros 32 w) (length now.bits) }
     → count_leading_zeros 32 w < 32 → slice_get next.bits next.place ≡ Some true
 one_follows now next w small held e few =
-    let one = one_ahead now w small held few in
-    let within = slice_get_within now.bits (now.place + count_leading_zeros 32 w) true one in
-    let place : min (now.place + count_leading_zeros 32 w) (length now.bits) ≡ now.place + count_leading_zeros 32 w = omega (arith, within) in
-    ap (λ (x : BitsAt). slice_get x.bits x.place) e ∙ ap (λ (i : ℕ). slice_get now.bits i) place ∙ one
+    grind (arith, common_steps, common_steps, min, one_ahead now w small held few, slice_get, slice_get_within)
 
 -- ---- A copy of a reader that consumed zeros, and a one after them.
 pub run_passed : (old copy new : BitsAt) (to from : ℕ) → copy ≡ old → here copy ≡ replicate (new.place - copy.place) false ++ here new → to ≡ new.place → from ≡ old.place
@@ -108,10 +95,7 @@ pub run_passed : (old copy new : BitsAt) (to from : ℕ) → copy ≡ old → he
 run_passed old copy new to from same passed e h = grind (arith, common_steps)
 
 pub one_passed : (at next : BitsAt) → slice_get at.bits at.place ≡ Some true → next ≡ record at { place = min (at.place + 1) (length at.bits) } → here at ≡ true ∷ here next
-one_passed at next one e =
-    let within = slice_get_within at.bits at.place true one in
-    let place : at.place + 1 ≡ min (at.place + 1) (length at.bits) = omega (arith, within) in
-    drop_some at.bits at.place true one ∙ ap (λ (i : ℕ). true ∷ drop i at.bits) place ∙ ap (λ (x : BitsAt). true ∷ here x) (sym e)
+one_passed at next one e = grind (arith, common_steps, drop_some, min, slice_get_within)
 
 -- ---- A one that is near.
 -- the zeros of the word, and the one after them
@@ -142,10 +126,7 @@ module _ (at : BitsAt) (w : ℕ) (small : w < 2 ^ 32) (held : Holds w at) (some 
   zeros_behind = count_trailing_zeros 32 (w / 2097152)
 
   lowest : (zeros_behind < 32) × (bit_at (w / 2097152) zeros_behind ≡ 1)
-  lowest =
-      let there : 0 < w / 2097152 = elim (cases_lt 0 (w / 2097152)) [ inl lt ↦ lt | inr none ↦ absurd (some (omega arith)) ] in
-      let all = bit_at-trailing_zeros w32 (w / 2097152) there (omega arith) in
-      (all.0, all.1)
+  lowest = grind (arith, common_steps, bit_at-trailing_zeros w32 (w / 2097152), cases_lt 0 (w / 2097152))
 
   pub within_eleven : zeros_behind < 11
   within_eleven = elim (cases_lt zeros_behind 11) [
@@ -160,18 +141,10 @@ module _ (at : BitsAt) (w : ℕ) (small : w < 2 ^ 32) (held : Holds w at) (some 
       get_or-drop at.place at.bits (10 - zeros_behind) false ∙ sym (held (10 - zeros_behind) (omega arith)) ∙ ap (bit_of w) (sym e) ∙ bit
 
   one_within : at.place + (11 - zeros_behind) ≤ length at.bits
-  one_within = elim (cases_lt (10 - zeros_behind) (length (here at))) [
-    | inl lt ↦ omega (arith, lt, within_eleven, length-drop at.place at.bits)
-    | inr past ↦ absurd (false≢true (sym (get_or_past (here at) (10 - zeros_behind) false past) ∙ one_there))
-  ]
+  one_within = grind (arith, common_steps, cases_lt, false≢true, get_or_past, length-drop, one_there, within_eleven)
 
   -- what is after it
   pub behind_last_one : (next : BitsAt) → next ≡ record at { place = min (at.place + (11 - zeros_behind)) (length at.bits) }
       → (next_eol (here at) ≡ next_eol (here next)) × (length (here next) + (11 - zeros_behind) ≡ length (here at))
   behind_last_one next e =
-      let place : min (at.place + (11 - zeros_behind)) (length at.bits) ≡ at.place + (10 - zeros_behind + 1) = omega (arith, one_within, within_eleven) in
-      let rest : here next ≡ drop (10 - zeros_behind + 1) (here at)
-      = ap here e ∙ ap (λ (n : ℕ). drop n at.bits) place ∙ sym (drop-drop (10 - zeros_behind + 1) at.place at.bits) in (
-        next_eol-behind_near (10 - zeros_behind) (here at) (omega arith) one_there ∙ sym (ap next_eol rest),
-        omega (arith, ap length rest, length-drop (10 - zeros_behind + 1) (here at), length-drop at.place at.bits, one_within, within_eleven),
-      )
+      grind (arith, common_steps, drop-drop, length-drop, min, next_eol-behind_near, one_there, one_within, within_eleven)

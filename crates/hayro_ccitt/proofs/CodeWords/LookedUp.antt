@@ -1,20 +1,18 @@
 -- What the entry of a lookup table says of the run code here.
-use Rattle.std.proofs.Common.{◌≡◌, ◌≢◌, ℕ, ◌-◌, ◌/◌, ◌%◌, ◌<◌, ◌≤◌, inl, inr, true, false, leb, ltb, List, [], ◌∷◌, length, drop, Option, Some, None, Ok, Err, refl, sym, ap, ◌∙◌, arith}
+use Rattle.std.proofs.Common.{◌≡◌, ◌≢◌, ℕ, ◌/◌, ◌%◌, ◌<◌, ◌≤◌, inl, inr, true, ltb, List, [], ◌∷◌, length, drop, Option, Some, None, Ok, Err, refl, sym, ◌∙◌, arith}
 use Rattle.std.specs.List.{list_all}
 use Rattle.std.proofs.lemmas.Bool.{ltb-true, and_parts}
 use Rattle.hayro_ccitt.specs.declared.error.DecodeError.TheVariants.{UnexpectedEof, InvalidCode}
 use Rattle.hayro_ccitt.specs.declared.codes.Color.{Color}
-use Rattle.hayro_ccitt.specs.declared.codes.Color.TheVariants.{White, Black}
 use Rattle.hayro_ccitt.specs.Bits.{Bits}
 use Rattle.hayro_ccitt.specs.CodeLists.{Code, mode_codes}
 use Rattle.hayro_ccitt.specs.CodeReading.{word_at, read_code, Has}
-use Rattle.hayro_ccitt.specs.Laws.{each_word}
 use Rattle.hayro_ccitt.specs.LookUps.{padded, telling_bits, run_or_none, entry_of}
 use Rattle.hayro_ccitt.specs.Runs.{codes_of}
 use Rattle.hayro_ccitt.proofs.CodeWords.ReadCodes.{word_at_found}
-use Rattle.hayro_ccitt.proofs.CodeWords.LooksAhead.{length-padded, TellsWords, has_none, telling_is, telling_none, tells_cut, tells_found, tells_wrong}
+use Rattle.hayro_ccitt.proofs.CodeWords.LooksAhead.{length-padded, TellsWords, telling_is, telling_none, tells_cut, tells_found, tells_wrong}
 use Rattle.hayro_ccitt.proofs.CodeWords.ReadRuns.{words_not_empty, word_length}
-use Rattle.hayro_ccitt.proofs.BitReading.ZerosInWords.{codes_free, modes_free}
+use Rattle.hayro_ccitt.proofs.BitReading.ZerosInWords.{modes_free}
 use Rattle.std.proofs.lemmas.Grind.{common_steps}
 
 -- ---- Thirteen bits decide a run code, seven a mode.
@@ -29,8 +27,7 @@ abbrev runs_below : List (Code ℕ) → Type 0
 runs_below list = list_all (λ c. ltb c.value 4095) list ≡ true
 
 codes_below : (color : Color) → runs_below (codes_of color)
-codes_below White = refl
-codes_below Black = refl
+codes_below color = grind (arith, common_steps)
 
 run_below : (list : List (Code ℕ)) (v : ℕ) (w : Bits) → runs_below list → Has list v w → v < 4095
 run_below [] v w e i = elim i [ ]
@@ -82,9 +79,8 @@ looked_up_found color here e h = by (word_at (codes_of color) (padded 13 here)) 
     by : (o : Option (ℕ × Bits)) → word_at (codes_of color) (padded 13 here) ≡ o
         → read_code (codes_of color) here ≡ Ok (run_or_none (codes_of color) (padded 13 here), drop (telling_bits (codes_of color) (padded 13 here)) here)
     by (Some found) a =
-        let run = run_of_found (codes_of color) (padded 13 here) found a in
-        tells_found 13 (codes_of color) (codes_tell color) here found a h
-        ∙ ap (λ (n : ℕ). Ok (n, drop (telling_bits (codes_of color) (padded 13 here)) here)) (sym run)
+        let step = tells_found 13 (codes_of color) (codes_tell color) here found a h in
+        grind (arith, common_steps, codes_tell color, run_of_found (codes_of color) (padded 13 here) found a, step)
     by None a = absurd (e (run_of_none (codes_of color) (padded 13 here) a))
 
 -- at least one bit is needed
@@ -103,9 +99,7 @@ pub word_within : (color : Color) (here : Bits) → run_or_none (codes_of color)
 word_within color here e = by (word_at (codes_of color) (padded 13 here)) refl
   where
     by : (o : Option (ℕ × Bits)) → word_at (codes_of color) (padded 13 here) ≡ o → telling_bits (codes_of color) (padded 13 here) ≤ 13
-    by (Some found) a =
-        let is : telling_bits (codes_of color) (padded 13 here) ≡ length (padded 13 here) - length found.1 = rw (a, telling_bits) refl in
-        omega (arith, is, length-padded 13 here)
+    by (Some found) a = grind (arith, common_steps, length-padded 13 here)
     by None a = absurd (e (run_of_none (codes_of color) (padded 13 here) a))
 
 -- what the entry of thirteen bits that are there says: the word there, and its width

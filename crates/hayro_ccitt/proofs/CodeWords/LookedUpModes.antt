@@ -1,15 +1,14 @@
 -- What seven bits say of the mode here.
-use Rattle.std.proofs.Common.{◌≡◌, ℕ, zero, suc, ◌-◌, ◌/◌, ◌^◌, ◌<◌, ◌≤◌, true, [], ◌∷◌, length, drop, Option, Some, None, option_map, Ok, Err, refl, sym, ap, ◌∙◌, arith}
+use Rattle.std.proofs.Common.{◌≡◌, ℕ, ◌-◌, ◌/◌, ◌^◌, ◌<◌, ◌≤◌, true, length, drop, Option, Some, None, option_map, Ok, Err, refl, ◌∙◌, arith}
 use Rattle.std.proofs.lemmas.Bool.{eq-eqb, false≢true}
 use Rattle.hayro_ccitt.specs.declared.error.DecodeError.TheVariants.{UnexpectedEof, InvalidCode}
 use Rattle.hayro_ccitt.specs.declared.codes.Mode.{Mode}
 use Rattle.hayro_ccitt.specs.Bits.{Bits, BitsAt, low_bits, here}
 use Rattle.hayro_ccitt.specs.CodeLists.{mode_codes}
-use Rattle.hayro_ccitt.specs.CodeReading.{after, is_prefix, word_at, read_code, Has}
+use Rattle.hayro_ccitt.specs.CodeReading.{after, is_prefix, read_code, Has}
 use Rattle.hayro_ccitt.specs.LookUps.{padded, seven_bits, telling_bits, mode_told}
-use Rattle.hayro_ccitt.proofs.CodeWords.ReadCodes.{after_is, word_at_again, word_at_found}
-use Rattle.hayro_ccitt.proofs.CodeWords.ReadRuns.{word_length}
-use Rattle.hayro_ccitt.proofs.CodeWords.LooksAhead.{telling_is, telling_none, tells_cut, tells_found, tells_wrong}
+use Rattle.hayro_ccitt.proofs.CodeWords.ReadCodes.{after_is, word_at_again}
+use Rattle.hayro_ccitt.proofs.CodeWords.LooksAhead.{tells_cut}
 use Rattle.hayro_ccitt.proofs.CodeWords.LookedUp.{modes_tell}
 use Rattle.hayro_ccitt.proofs.BitReading.BitLists.{length-low_bits}
 use Rattle.hayro_ccitt.proofs.BitReading.WordRanges.{word_begins_of}
@@ -33,18 +32,12 @@ mode_begins mode width word n has le fits below e = by (after (low_bits width wo
     by None a = absurd (false≢true (rw (a, is_prefix) at (begins width word n le fits below e)))
     by (Some rest) a =
         let stands = after_is (low_bits width word) (seven_bits n) rest a in
-        let found : word_at mode_codes (seven_bits n) ≡ Some (mode, rest) = rw stands (word_at_again mode_codes mode (low_bits width word) rest modes_free has) in
-        let bits : telling_bits mode_codes (seven_bits n) ≡ length (seven_bits n) - length rest = rw (found, telling_bits) refl in
-        let first : Some mode ≡ option_map (λ f. f.0) (word_at mode_codes (seven_bits n)) = sym (ap (λ (o : Option (Mode × Bits)). option_map (λ f. f.0) o) found) in
-        let second : width ≡ telling_bits mode_codes (seven_bits n) = omega (arith, bits, ap length stands, length-append (low_bits width word) rest, length-low_bits width word) in
-        cc
+        grind (arith, common_steps, length-append, length-low_bits, modes_free, option_map, word_at_again)
 
 -- no word begins with six zeros
 pub mode_none : (n : ℕ) → n < 2 → ◌≡◌ {A = Option Mode × ℕ} (None, 6) (mode_told (seven_bits n))
 unfolding seven_bits
-mode_none zero h = refl
-mode_none (suc zero) h = refl
-mode_none (suc (suc n)) h = absurd (omega arith)
+mode_none n h = grind (arith, common_steps)
 
 -- ---- What they say of the bits here.
 pub mode_cut : (here : Bits) → length here < telling_bits mode_codes (padded 7 here) → read_code mode_codes here ≡ Err UnexpectedEof
@@ -66,13 +59,8 @@ pub mode_stands : (at : BitsAt) (told : Option Mode × ℕ) → told ≡ mode_to
     → IfSome told.0 (λ mode. read_code mode_codes (here at) ≡ Ok (mode, here (moved told.1 at)))
 mode_stands at (None, width) e enough = tt
 mode_stands at (Some mode, width) e enough =
-    let first : ◌≡◌ {A = Option Mode} (Some mode) (mode_told (padded 7 (here at))).0 = ap (λ (t : Option Mode × ℕ). t.0) e in
-    let second : width ≡ telling_bits mode_codes (padded 7 (here at)) = ap (λ (t : Option Mode × ℕ). t.1) e in
-    mode_found (here at) mode first (omega (arith, enough, second))
-    ∙ ap (λ (n : ℕ). Ok (mode, drop n (here at))) (sym second)
-    ∙ ap (λ (bits : Bits). Ok (mode, bits)) (drop-drop width at.place at.bits)
+    grind (arith, common_steps, drop-drop width at.place at.bits, mode_found (here at) mode)
 
 -- there is no V0 where there is no bit
 pub v0_there : (here : Bits) → ◌≡◌ {A = Option Mode} (Some (Vertical (pos 0))) (mode_told (padded 7 here)).0 → 0 < length here
-v0_there [] e = absurd (let f : ◌≡◌ {A = Option Mode} (Some (Vertical (pos 0))) None = e in cc)
-v0_there (b ∷ here) e = omega arith
+v0_there here e = grind (arith, common_steps)

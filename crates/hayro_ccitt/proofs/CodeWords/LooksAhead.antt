@@ -1,5 +1,5 @@
 -- What a fixed number of bits, padded with zeros, says of the word here.
-use Rattle.std.proofs.Common.{◌≡◌, ℕ, zero, suc, ◌+◌, ◌-◌, ◌<◌, ◌≤◌, inl, inr, Bool, true, false, leb, List, [], ◌∷◌, ◌++◌, length, drop, Option, Some, None, Ok, Err, refl, sym, ap, ◌∙◌, append_assoc, arith}
+use Rattle.std.proofs.Common.{◌≡◌, ℕ, zero, suc, ◌-◌, ◌<◌, ◌≤◌, inl, inr, Bool, true, false, leb, List, [], ◌∷◌, ◌++◌, length, drop, Some, None, Ok, Err, refl, sym, append_assoc, arith}
 use Rattle.std.proofs.lemmas.Bool.{leb-true, cases_lt, false≢true}
 use Rattle.std.proofs.lemmas.List.{length-append}
 use Rattle.hayro_ccitt.specs.declared.error.DecodeError.TheVariants.{UnexpectedEof, InvalidCode}
@@ -27,41 +27,29 @@ length-padded (suc n) (b ∷ here) = omega (arith, length-padded n here)
 pub padded-append : (n : ℕ) (word rest : Bits) → length word ≤ n → padded n (word ++ rest) ≡ word ++ padded (n - length word) rest
 padded-append n [] rest h = let e : n - 0 ≡ n = omega arith in rw e refl
 padded-append zero (b ∷ word) rest h = absurd (omega arith)
-padded-append (suc n) (b ∷ word) rest h =
-    let e : suc n - length (b ∷ word) ≡ n - length word = omega arith in
-    rw e (ap (λ (x : Bits). b ∷ x) (padded-append n word rest (omega arith)))
+padded-append (suc n) (b ∷ word) rest h = grind (arith, common_steps, padded-append n word rest (omega arith))
 
 -- a word in the padded bits is here, if there are enough bits
 pub stands_in_padded : (n : ℕ) (here word rest : Bits) → padded n here ≡ word ++ rest → length word ≤ length here → here ≡ word ++ drop (length word) here
 stands_in_padded n here [] rest e h = refl
 stands_in_padded n [] (b ∷ word) rest e h = absurd (omega arith)
 stands_in_padded zero (c ∷ here) (b ∷ word) rest e h = absurd cc
-stands_in_padded (suc n) (c ∷ here) (b ∷ word) rest e h =
-    let first : c ≡ b = cc in
-    let others : padded n here ≡ word ++ rest = cc in
-    let on = stands_in_padded n here word rest others (omega arith) in
-    alike c b here (word ++ drop (length word) here) first on
+stands_in_padded (suc n) (c ∷ here) (b ∷ word) rest e h = grind (arith, common_steps, alike, stands_in_padded n here word rest)
 
 -- if there are fewer, they are a prefix of the word
 pub cut_in_padded : (n : ℕ) (here word rest : Bits) → padded n here ≡ word ++ rest → length here ≤ length word → (more : Bits) × (word ≡ here ++ more)
 cut_in_padded n [] word rest e h = (word, refl)
 cut_in_padded n (c ∷ here) [] rest e h = absurd (omega arith)
 cut_in_padded zero (c ∷ here) (b ∷ word) rest e h = absurd cc
-cut_in_padded (suc n) (c ∷ here) (b ∷ word) rest e h =
-    let first : b ≡ c = cc in
-    let others : padded n here ≡ word ++ rest = cc in
-    let on = cut_in_padded n here word rest others (omega arith) in
-    (on.0, alike b c word (here ++ on.0) first on.1)
+cut_in_padded (suc n) (c ∷ here) (b ∷ word) rest e h = grind (arith, common_steps, alike, cut_in_padded n here word rest)
 
 -- bits that all agree with a word are a prefix of it
 pub agrees_with_all : (n : ℕ) (here word : Bits) → length here ≤ agreement word (padded n here) → (more : Bits) × (word ≡ here ++ more)
 agrees_with_all n [] word h = (word, refl)
 agrees_with_all n (c ∷ here) [] h = absurd (omega arith)
 agrees_with_all zero (c ∷ here) (b ∷ word) h = absurd (omega arith)
-agrees_with_all (suc n) (true ∷ here) (true ∷ word) h =
-    let on = agrees_with_all n here word (omega arith) in (on.0, ap (λ (x : Bits). true ∷ x) on.1)
-agrees_with_all (suc n) (false ∷ here) (false ∷ word) h =
-    let on = agrees_with_all n here word (omega arith) in (on.0, ap (λ (x : Bits). false ∷ x) on.1)
+agrees_with_all (suc n) (true ∷ here) (true ∷ word) h = grind (arith, common_steps, agrees_with_all n here word (omega arith))
+agrees_with_all (suc n) (false ∷ here) (false ∷ word) h = grind (arith, common_steps, agrees_with_all n here word (omega arith))
 agrees_with_all (suc n) (true ∷ here) (false ∷ word) h = absurd (omega arith)
 agrees_with_all (suc n) (false ∷ here) (true ∷ word) h = absurd (omega arith)
 
@@ -111,11 +99,7 @@ module _ {V : Type 0} (n : ℕ) (list : List (Code V)) (tells : TellsWords n lis
 
   -- there is no word here if there is none in the padded bits
   none_here : word_at list (padded n here) ≡ None → NoneStands list here
-  none_here e v rest (w, has, at) =
-      let short = width_of v w has in
-      let there : word_at list (padded n here) ≡ Some (v, padded (n - length w) rest)
-      = rw (at, padded-append n w rest short) (word_at_again list v w (padded (n - length w) rest) tells.free has) in
-      absurd cc
+  none_here e v rest (w, has, at) = grind (arith, common_steps, padded-append, width_of, word_at_again)
 
   -- the number of bits of the word in the padded bits
   pub telling_is : (found : V × Bits) (w : Bits) → word_at list (padded n here) ≡ Some found → padded n here ≡ w ++ found.1 → telling_bits list (padded n here) ≡ length w
@@ -139,17 +123,13 @@ module _ {V : Type 0} (n : ℕ) (list : List (Code V)) (tells : TellsWords n lis
     where
       uncut : IsCut list here → ⊥
       uncut (v, w, has, begins) =
-          let width : length w ≡ length here + length begins.0 = ap length begins.1 ∙ length-append here begins.0 in
-          let agrees : length here ≤ agreement w (padded n here)
-          = rw begins.1 (prefix_agrees n here begins.0 (omega (arith, width_of v w has, width))) in
-          absurd (omega (arith, h, telling_none e, agrees, longest_bounds list (padded n here) v w has))
+          let step = longest_bounds list (padded n here) v w has in
+          let step2 = prefix_agrees n here begins.0 in
+          grind (arith, common_steps, length-append here begins.0, step, step2, telling_none e, width_of v w has)
 
   -- of a prefix that is shorter than its word no word is a prefix
   none_of : (v : V) (w more : Bits) → Has list v w → w ≡ here ++ more → length here < length w → NoneStands list here
-  none_of v w more has begins h x rest (u, have, stands) =
-      let longer : w ≡ u ++ (rest ++ more) = begins ∙ ap (λ (y : Bits). y ++ more) stands ∙ append_assoc u rest more in
-      let over = free_by list tells.free x v u w (rest ++ more) have has longer in
-      absurd (omega (arith, h, ap length over.0, length-append rest more, ap length begins, length-append here more))
+  none_of v w more has begins h x rest (u, have, stands) = grind (arith, common_steps, append_assoc, free_by, length-append)
 
   by_found : (found : V × Bits) → word_at list (padded n here) ≡ Some found → length here < telling_bits list (padded n here) → read_code list here ≡ Err UnexpectedEof
   by_found found e h =
@@ -160,14 +140,9 @@ module _ {V : Type 0} (n : ℕ) (list : List (Code V)) (tells : TellsWords n lis
 
   by_none : word_at list (padded n here) ≡ None → length here < telling_bits list (padded n here) → read_code list here ≡ Err UnexpectedEof
   by_none e h =
-      let (v, w, has, most) = reached_of list (padded n here) tells.some in
-      let begins = agrees_with_all n here w (omega (arith, h, telling_none e, most)) in
-      ((reads_codes list tells.free).cut here).1 (none_here e, (v, w, has, begins))
+      let step = reached_of list (padded n here) tells.some in
+      grind (arith, common_steps, agrees_with_all n here, none_here e, step, reads_codes list tells.free, telling_none e)
 
   -- if fewer bits are left than decide what is here, the end is missing
   pub tells_cut : length here < telling_bits list (padded n here) → read_code list here ≡ Err UnexpectedEof
-  tells_cut h = by (word_at list (padded n here)) refl
-    where
-      by : (o : Option (V × Bits)) → word_at list (padded n here) ≡ o → read_code list here ≡ Err UnexpectedEof
-      by (Some found) e = by_found found e h
-      by None e = by_none e h
+  tells_cut h = grind (arith, common_steps, by_found, by_none)

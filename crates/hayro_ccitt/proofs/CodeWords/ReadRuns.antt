@@ -1,12 +1,11 @@
 -- Runs, a word at a time.
-use Rattle.std.proofs.Common.{sym, suc, ◌≡◌, ℕ, ◌+◌, ◌<◌, ◌≤◌, Bool, true, false, cond, not, List, [], ◌∷◌, length, Result, Ok, Err, ltb, refl, ap, subst, ◌∙◌, arith, ◌⊎◌, inl, inr}
+use Rattle.std.proofs.Common.{suc, ◌≡◌, ℕ, ◌+◌, ◌<◌, ◌≤◌, Bool, true, false, cond, not, List, [], ◌∷◌, length, Result, Ok, Err, refl, subst, ◌∙◌, arith, ◌⊎◌, inl, inr}
 use Rattle.std.specs.List.{list_all}
-use Rattle.std.proofs.lemmas.Bool.{and_parts, lt-ltb, le-ltb, false≢true}
+use Rattle.std.proofs.lemmas.Bool.{and_parts, lt-ltb, le-ltb}
 use Rattle.std.proofs.lemmas.List.{length-append}
 use Rattle.hayro_ccitt.specs.declared.error.DecodeError.{DecodeError}
 use Rattle.hayro_ccitt.specs.declared.error.DecodeError.TheVariants.{UnexpectedEof, Overflow}
 use Rattle.hayro_ccitt.specs.declared.codes.Color.{Color}
-use Rattle.hayro_ccitt.specs.declared.codes.Color.TheVariants.{White, Black}
 use Rattle.hayro_ccitt.specs.Bits.{Bits}
 use Rattle.hayro_ccitt.specs.CodeLists.{Code}
 use Rattle.hayro_ccitt.specs.CodeReading.{read_code, Has}
@@ -25,12 +24,10 @@ abbrev pub has_no_empty_word : {V : Type 0} → List (Code V) → Bool
 has_no_empty_word list = list_all (λ c. not (is_empty c.word)) list
 
 pub words_not_empty : (color : Color) → has_no_empty_word (codes_of color) ≡ true
-words_not_empty White = refl
-words_not_empty Black = refl
+words_not_empty color = grind (arith, common_steps)
 
 not_empty : (w : Bits) → not (is_empty w) ≡ true → 0 < length w
-not_empty [] e = absurd (false≢true e)
-not_empty (b ∷ w) e = omega arith
+not_empty w e = grind (arith, common_steps)
 
 pub word_length : {V : Type 0} (list : List (Code V)) (v : V) (w : Bits) → has_no_empty_word list ≡ true → Has list v w → 0 < length w
 word_length [] v w e i = elim i [ ]
@@ -39,10 +36,7 @@ word_length (c ∷ list) v w e (inr i) = word_length list v w (and_parts (not (i
 
 -- what is left after a word is shorter
 pub read_code_shorter : {V : Type 0} (list : List (Code V)) (here : Bits) (v : V) (rest : Bits) → has_no_empty_word list ≡ true → read_code list here ≡ Ok (v, rest) → length rest < length here
-read_code_shorter list here v rest e h =
-    let a = read_code_found list here v rest h in
-    let l : length here ≡ length a.0 + length rest = ap length a.2 ∙ length-append a.0 rest in
-    omega (arith, word_length list v a.0 e a.1)
+read_code_shorter list here v rest e h = grind (arith, common_steps, length-append, read_code_found, word_length)
 
 -- the size of a state of a run
 abbrev pub size : ℕ × Bits → ℕ
@@ -53,11 +47,7 @@ RunTurn = Turn (ℕ × Bits) (Result (ℕ × Bits) DecodeError)
 
 -- which way a test went
 pub chosen : {A : Type 0} (b : Bool) (x y z : A) → cond b x y ≡ z → ((b ≡ true) × (x ≡ z)) ⊎ ((b ≡ false) × (y ≡ z))
-chosen true x y z e = inl (refl, e)
-chosen false x y z e = inr (refl, e)
-
-goes_to : (s t : ℕ × Bits) → ◌≡◌ {A = RunTurn} (Turn.next s) (Turn.next t) → s ≡ t
-goes_to s t e = cc
+chosen b x y z e = grind (arith, common_steps)
 
 pub not_done : (r : Result (ℕ × Bits) DecodeError) (t : ℕ × Bits) → ◌≡◌ {A = RunTurn} (Turn.done r) (Turn.next t) → ⊥
 not_done r t e = cc

@@ -1,6 +1,6 @@
 -- The words that the turns of a run find.
-use Rattle.std.proofs.Common.{◌≡◌, ℕ, suc, ◌+◌, ◌<◌, ◌≤◌, List, [], ◌++◌, length, Ok, Err, refl, ap, ◌∙◌, arith}
-use Rattle.std.proofs.lemmas.Bool.{le-ltb, lt-ltb}
+use Rattle.std.proofs.Common.{◌≡◌, ℕ, suc, ◌+◌, ◌<◌, ◌≤◌, List, ◌++◌, length, Ok, Err, refl, ap, ◌∙◌, arith}
+use Rattle.std.proofs.lemmas.Bool.{le-ltb}
 use Rattle.std.proofs.lemmas.List.{length-append}
 use Rattle.hayro_ccitt.specs.declared.codes.Color.{Color}
 use Rattle.hayro_ccitt.specs.declared.error.DecodeError.{DecodeError}
@@ -29,10 +29,7 @@ one_word list here found e = rw (e, word_found) refl
 -- a make-up word is one, and the run continues
 pub run_found_on : (color : Color) (total n : ℕ) (here rest : Bits) → read_code (codes_of color) here ≡ Ok (n, rest) → total + n ≤ 4294967295
     → 64 ≤ n → length (run_found color (total, here)) ≡ suc (length (run_found color (total + n, rest)))
-run_found_on color total n here rest h k l =
-    let turn : run_found color (total, here) ≡ word_found (codes_of color) here ++ run_found color (total + n, rest) =
-    run_found_turn color total here ∙ rw (h, run_turn, le-ltb 4294967295 (total + n) k, le-ltb n 64 l) refl in
-    omega (arith, ap length turn, length-append (word_found (codes_of color) here) (run_found color (total + n, rest)), one_word (codes_of color) here (n, rest) h)
+run_found_on color total n here rest h k l = grind (arith, common_steps, le-ltb, length-append, one_word, run_found_turn)
 
 -- a word that is missed is none
 pub run_found_missed : (color : Color) (total : ℕ) (here : Bits) (e : DecodeError) → read_code (codes_of color) here ≡ Err e → length (run_found color (total, here)) ≡ 0

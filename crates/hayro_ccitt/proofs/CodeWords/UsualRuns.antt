@@ -1,8 +1,7 @@
 -- A run of one word or of two, which are known one by one.
-use Rattle.std.proofs.Common.{◌≡◌, ℕ, suc, ◌+◌, ◌<◌, ◌≤◌, length, drop, Ok, subst, ap, ◌∙◌, arith}
+use Rattle.std.proofs.Common.{◌≡◌, ℕ, ◌+◌, ◌<◌, ◌≤◌, subst, arith}
 use Rattle.hayro_ccitt.specs.declared.codes.Color.{Color}
-use Rattle.hayro_ccitt.specs.Bits.{Bits, BitsAt, here}
-use Rattle.hayro_ccitt.specs.Ticks.{run_found}
+use Rattle.hayro_ccitt.specs.Bits.{BitsAt, here}
 use Rattle.hayro_ccitt.specs.UsualRuns.{IsWordHere, IsRunHere}
 use Rattle.hayro_ccitt.specs.Window.{moved}
 use Rattle.hayro_ccitt.proofs.CodeWords.ReadRuns.{run_ends, run_goes_on}
@@ -17,17 +16,8 @@ run_of_word color at run width word short = grind (arith, common_steps)
 pub run_of_two : (color : Color) (at : BitsAt) (run width rest more : ℕ) → IsWordHere color at run width → IsWordHere color (moved width at) rest more
     → 64 ≤ run → rest < 64 → run ≤ 4095 → IsRunHere color at (run + rest) (width + more) 2
 run_of_two color at run width rest more first second long short below =
-    let on : Bits = here (moved width at) in
-    let next : Bits = here (moved more (moved width at)) in
-    let none : 0 + run ≡ run = omega arith in
-    let sum : at.place + width + more ≡ at.place + (width + more) = omega arith in
-    let ends = run_ends color run rest on next second.read (omega (arith, below, short)) short in
-    let found = run_found_ends color run rest on next second.read (omega (arith, below, short)) short in
-    record {
-      read = rw none at (run_goes_on color 0 run (here at) on first.read (omega (arith, below)) long) ∙ ends ∙ ap (λ (n : ℕ). Ok (run + rest, drop n at.bits)) sum;
-      found = run_found_on color 0 run (here at) on first.read (omega (arith, below)) long ∙ ap (λ (n : ℕ). suc (length (run_found color (n, on)))) none ∙ omega (arith, found);
-      few = omega (arith, first.few, second.few);
-    }
+    let step = run_found_on color 0 run (here at) in
+    grind (arith, common_steps, run_ends color run rest, run_found_ends color run rest, step, run_goes_on color 0 run (here at))
 
 -- a run after no bits is here
 pub run_here_too : (color : Color) (at : BitsAt) (run width words : ℕ) → IsRunHere color (moved 0 at) run width words → IsRunHere color at run width words

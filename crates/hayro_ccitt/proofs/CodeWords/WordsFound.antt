@@ -1,5 +1,5 @@
 -- The words that a line finds are consecutive from where it begins, and end before each EOL's one.
-use Rattle.std.proofs.Common.{ltb, leb, cond, ◌≡◌, take, ◌-◌, Result, Ok, Err, subst, append_assoc, ℕ, zero, suc, ◌+◌, ◌<◌, Bool, true, false}
+use Rattle.std.proofs.Common.{◌≡◌, take, Result, Ok, Err, subst, append_assoc, ℕ, zero, suc, ◌+◌, ◌<◌, Bool, true, false}
 use Rattle.std.proofs.Common.{List, [], ◌∷◌, ◌++◌, length, replicate, refl, sym, ap, ◌∙◌, arith, inl, inr}
 use Rattle.std.proofs.lemmas.Bool.{false≢true, cases_lt}
 use Rattle.std.proofs.lemmas.List.{length-append, length-replicate, append-nil}
@@ -16,7 +16,7 @@ use Rattle.hayro_ccitt.specs.CodeReading.{read_code, Has}
 use Rattle.hayro_ccitt.specs.Repetition.{Turn, repeated, gathered}
 use Rattle.hayro_ccitt.specs.Rows.{Row, opposite, b2, right_of}
 use Rattle.hayro_ccitt.specs.Runs.{codes_of, run_of_word, run_turn, run_from}
-use Rattle.hayro_ccitt.specs.Lines.{Line, Pen, Drawing, ◌>>=◌, turn_behind, words_behind, go_on, unless_fault, finds, run_here, mode_here, painted, painted_to, place_by, unless_full, draw_run, draw_mode, draw_1d, draw_2d, start, line_1d, line_2d, found_1d, found_2d, tag_at, line_found}
+use Rattle.hayro_ccitt.specs.Lines.{Line, Pen, Drawing, ◌>>=◌, go_on, unless_fault, finds, run_here, mode_here, painted, painted_to, place_by, unless_full, draw_run, draw_mode, draw_1d, draw_2d, start, line_1d, line_2d, found_1d, found_2d, tag_at, line_found}
 use Rattle.hayro_ccitt.specs.Ticks.{word_found, run_gives, run_found}
 use Rattle.hayro_ccitt.specs.PlainReading.{line_by}
 use Rattle.hayro_ccitt.specs.Laws.{IsWord, AreWords, joined, HoldsZeros, EndBeforeEol, Synchronised}
@@ -48,11 +48,7 @@ joined_append (w ∷ a) b = ap (λ (x : Bits). w ++ x) (joined_append a b) ∙ s
 
 -- words after words
 pub stands_append : (here middle rest : Bits) (a b : List Bits) → Stands here a middle → Stands middle b rest → Stands here (a ++ b) rest
-stands_append here middle rest a b p q = record {
-  words = are_words_append a b p.words q.words;
-  place = p.place ∙ ap (λ (x : Bits). joined a ++ x) q.place ∙ sym (append_assoc (joined a) (joined b) rest)
-      ∙ ap (λ (x : Bits). x ++ rest) (sym (joined_append a b));
-}
+stands_append here middle rest a b p q = grind (arith, common_steps, append_assoc, are_words_append, joined_append)
 
 -- no words are anywhere
 pub stands_none : (here : Bits) → Stands here [] here
@@ -85,12 +81,7 @@ take_append (x ∷ a) b = ap (λ (y : Bits). x ∷ y) (take_append a b)
 pub word_stands : {V : Type 0} (list : List (Code V)) (here : Bits) (v : V) (rest : Bits) → ((w : Bits) → Has list v w → IsWord w)
     → read_code list here ≡ Ok (v, rest) → Stands here (word_found list here) rest
 word_stands {V} list here v rest is e =
-    let f = read_code_found list here v rest e in
-    let n : length here - length rest ≡ length f.0 = omega (arith, ap length f.2, length-append f.0 rest) in
-    let w : take (length here - length rest) here ≡ f.0 = ap (λ (k : ℕ). take k here) n ∙ ap (λ (x : Bits). take (length f.0) x) f.2 ∙ take_append f.0 rest in
-    let found : word_found list here ≡ f.0 ∷ [] = rw (e, word_found) (ap (λ (x : Bits). x ∷ []) w) in
-    subst (λ (x : List Bits). Stands here x rest) (sym found)
-    (record { words = (is f.0 f.1, tt); place = f.2 ∙ ap (λ (x : Bits). x ++ rest) (sym (append-nil f.0)) })
+    grind (arith, common_steps, append-nil, common_steps, length-append, read_code_found list here v rest e, take_append)
 
 -- a reading that found no word
 pub no_word_stands : {V : Type 0} (list : List (Code V)) (here : Bits) (fault : DecodeError) → read_code list here ≡ Err fault
@@ -102,10 +93,6 @@ abbrev pub RunEnds : Result (ℕ × Bits) DecodeError → Bits → Type 0
 RunEnds (Ok found) rest = found.1 ≡ rest
 RunEnds (Err fault) rest = Unit {0}
 
--- a turn of a run
-abbrev RunTurn : Type 0
-RunTurn = Turn (ℕ × Bits) (Result (ℕ × Bits) DecodeError)
-
 run_word : (color : Color) (v : ℕ) (w : Bits) → Has (codes_of color) v w → IsWord w
 run_word color v w i = inl (color, v, i)
 
@@ -113,26 +100,17 @@ run_goes : (color : Color) (total : ℕ) (here : Bits) (t : ℕ × Bits) (r : Re
     → run_turn color (total, here) ≡ Turn.next t → Stands here (word_found (codes_of color) here) t.1
 run_goes color total here t (Err e) h k = grind (arith, common_steps)
 run_goes color total here t (Ok found) h k =
-    let g : run_of_word total found ≡ Turn.next t = rw (h, run_turn) at k in
-    subst (λ (x : ℕ × Bits). Stands here (word_found (codes_of color) here) x.1) (word_next total found t g)
-    (word_stands (codes_of color) here found.0 found.1 (run_word color found.0) h)
+    let step = word_stands (codes_of color) here found.0 found.1 (run_word color found.0) h in
+    grind (arith, common_steps, run_word color found.0, word_next total found t, step)
 
 run_ends : (color : Color) (total : ℕ) (here : Bits) (r : Result (ℕ × Bits) DecodeError) (q : Result (ℕ × Bits) DecodeError)
     → read_code (codes_of color) here ≡ q → run_turn color (total, here) ≡ Turn.done r
     → (rest : Bits) × Stands here (word_found (codes_of color) here) rest × RunEnds r rest
-run_ends color total here r (Err e) h k =
-    let g : ◌≡◌ {A = RunTurn} (Turn.done (Err e)) (Turn.done r) = rw (h, run_turn) at k in
-    (here, no_word_stands (codes_of color) here e h, subst (λ (x : Result (ℕ × Bits) DecodeError). RunEnds x here) (done_is _ r g) tt)
+run_ends color total here r (Err e) h k = grind (arith, common_steps, done_is, no_word_stands (codes_of color) here e h)
 run_ends color total here r (Ok found) h k =
     let g : run_of_word total found ≡ Turn.done r = rw (h, run_turn) at k in
     let stands = word_stands (codes_of color) here found.0 found.1 (run_word color found.0) h in
-    elim (chosen (ltb 4294967295 (total + found.0)) _ _ _ g) [
-      | inl a ↦ (found.1, stands, subst (λ (x : Result (ℕ × Bits) DecodeError). RunEnds x found.1) (done_is _ r a.1) tt)
-      | inr a ↦ elim (chosen (ltb found.0 64) _ _ _ a.1) [
-        | inl b ↦ (found.1, stands, subst (λ (x : Result (ℕ × Bits) DecodeError). RunEnds x found.1) (done_is _ r b.1) refl)
-        | inr b ↦ absurd (not_done r _ (sym b.1))
-      ]
-    ]
+    grind (arith, common_steps, chosen, done_is, not_done)
 
 -- the words of a run are consecutive
 pub run_stands : (color : Color) (total : ℕ) (here : Bits) → (rest : Bits) × Stands here (run_found color (total, here)) rest
@@ -170,17 +148,12 @@ turn_after here middle rest_of a b (Turn.done line) p q = (q.0, stands_append he
 -- drawing, and what is drawn after it
 pub behind_stands : {A B : Type 0} (here : Bits) (rest_of : A → Bits) (last_of : B → Bits) (drawing : Drawing A) (behind : A → Drawing B)
     → DrawingStands here rest_of drawing → ((x : A) → DrawingStands (rest_of x) last_of (behind x)) → DrawingStands here last_of (drawing >>= behind)
-behind_stands {A} {B} here rest_of last_of drawing behind stands each = by drawing.turn drawing.words stands
-  where
-    by : (turn : Turn A Line) (words : List Bits) → TurnStands here rest_of turn words
-        → TurnStands here last_of (turn_behind turn (λ x. (behind x).turn)) (words ++ words_behind turn (λ x. (behind x).words))
-    by (Turn.next x) words p = turn_after here (rest_of x) last_of words (behind x).words (behind x).turn p (each x)
-    by (Turn.done line) words p = (p.0, stands_append here p.0 p.0 words [] p.1 (stands_none p.0), p.2)
+behind_stands {A} {B} here rest_of last_of drawing behind stands each =
+    grind (arith, common_steps, stands_append, stands_none, turn_after)
 
 -- what finds no words
 wordless_stands : {A : Type 0} (here : Bits) (pen : Pen) (result : Result A DecodeError) → DrawingStands here (λ (x : A). here) (finds pen [] result)
-wordless_stands here pen (Ok x) = stands_none here
-wordless_stands here pen (Err fault) = (here, stands_none here, tt)
+wordless_stands here pen result = grind (arith, common_steps)
 
 -- a run that is read
 run_read_stands : (pen : Pen)
@@ -192,8 +165,7 @@ run_read_stands pen = by (run_from pen.color (0, pen.rest)) stands.2
 
     by : (r : Result (ℕ × Bits) DecodeError) → RunEnds r stands.0
         → TurnStands pen.rest (λ (run : ℕ × Bits). run.1) (unless_fault pen.front r) (run_found pen.color (0, pen.rest))
-    by (Ok run) ends = subst (λ (x : Bits). Stands pen.rest (run_found pen.color (0, pen.rest)) x) (sym ends) stands.1
-    by (Err fault) ends = (stands.0, stands.1, tt)
+    by r ends = grind (arith, common_steps, stands)
 
 mode_word : (v : Mode) (w : Bits) → Has mode_codes v w → IsWord w
 mode_word v w i = inr (v, i)
@@ -322,20 +294,13 @@ found_to_the_end : (encoding : EncodingMode) (strict : Bool) (columns : ℕ) (re
     → here ≡ (tag_at encoding here ++ joined (line_found encoding strict columns reference here)) ++ rest
 found_to_the_end Group3_2D strict columns reference row [] rest whole = absurd cc
 found_to_the_end Group3_2D strict columns reference row (true ∷ here) rest whole =
-    let found = line_1d_stands strict columns here in
-    ap (λ (b : Bits). true ∷ b) (whole_rest (line_1d strict columns here) row found.0 rest here
-    (joined (found_1d strict columns here)) whole found.2 found.1.place)
+    grind (arith, common_steps, common_steps, line_1d_stands strict columns here, whole_rest)
 found_to_the_end Group3_2D strict columns reference row (false ∷ here) rest whole =
-    let found = line_2d_stands strict columns reference here in
-    ap (λ (b : Bits). false ∷ b) (whole_rest (line_2d strict columns reference here) row found.0 rest here
-    (joined (found_2d strict columns reference here)) whole found.2 found.1.place)
+    grind (arith, common_steps, common_steps, line_2d_stands strict columns reference here, whole_rest)
 found_to_the_end Group3_1D strict columns reference row here rest whole =
-    let found = line_1d_stands strict columns here in
-    whole_rest (line_1d strict columns here) row found.0 rest here (joined (found_1d strict columns here)) whole found.2 found.1.place
+    grind (arith, common_steps, line_1d_stands strict columns here, whole_rest (line_1d strict columns here) row)
 found_to_the_end Group4 strict columns reference row here rest whole =
-    let found = line_2d_stands strict columns reference here in
-    whole_rest (line_2d strict columns reference here) row found.0 rest here
-    (joined (found_2d strict columns reference here)) whole found.2 found.1.place
+    grind (arith, common_steps, common_steps, line_2d_stands strict columns reference here, whole_rest)
 
 -- the law
 pub words_synchronised : Synchronised

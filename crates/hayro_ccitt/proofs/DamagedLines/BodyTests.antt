@@ -2,11 +2,11 @@
 use Rattle.std.proofs.Common.{◌≡◌, ◌≢◌, ℕ, zero, suc, ◌+◌, ◌-◌, ◌<◌, ◌≤◌, ◌⊎◌, Bool, true, false, cond, eqb, ltb, leb, [], ◌∷◌, ◌++◌, length, take, drop}
 use Rattle.std.proofs.Common.{replicate, Option, Some, None, Err, IsTrue, refl, sym, ap, subst, ◌∙◌, arith, inl, inr}
 use Rattle.std.specs.Prelude.{◌↔◌, is_some}
-use Rattle.std.proofs.lemmas.Bool.{cases_lt, lt-ltb, le-leb, lt-leb, ltb-true, leb-true, eqb-true, eq-eqb, false≢true}
+use Rattle.std.proofs.lemmas.Bool.{cases_lt, lt-ltb, le-leb, lt-leb, ltb-true, leb-true, eqb-true, eq-eqb}
 use Rattle.std.proofs.lemmas.Option.{none-some}
 use Rattle.std.proofs.lemmas.List.{length-append, length-replicate, length-drop, take-append-drop, drop-drop}
 use Rattle.hayro_ccitt.specs.declared.error.DecodeError.{DecodeError}
-use Rattle.hayro_ccitt.specs.declared.error.DecodeError.TheVariants.{UnexpectedEof, InvalidCode, Overflow, OutOfMemory, Refused}
+use Rattle.hayro_ccitt.specs.declared.error.DecodeError.TheVariants.{OutOfMemory}
 use Rattle.hayro_ccitt.specs.declared.settings.DecodeSettings.{DecodeSettings}
 use Rattle.hayro_ccitt.specs.declared.settings.EncodingMode.TheVariants.{Group3_1D}
 use Rattle.hayro_ccitt.specs.Answers.{DrawsLine, line_from_1d}
@@ -21,6 +21,7 @@ use Rattle.hayro_ccitt.proofs.Readings.TurnsMoveOn.{next_eol_found}
 use Rattle.hayro_ccitt.proofs.DamagedLines.LinesByEols.{past_shorter}
 use Rattle.hayro_ccitt.proofs.DamagedLines.LocalByTests.{local_by_tests}
 use Rattle.hayro_ccitt.proofs.DamagedLines.PastEol.{past, past_is, then_after}
+use Rattle.std.proofs.lemmas.Grind.{common_steps}
 
 -- ---- An EOL before a position.
 -- the EOL of the twelve bits before a position ends there
@@ -36,10 +37,7 @@ behind_eol bits rest place zeros far within is eol = (
 )
   where
     rest_is : zeros ≡ 11 → rest ≡ drop place bits
-    rest_is e =
-        let same : replicate 11 false ++ true ∷ rest ≡ drop (place - 12) bits = ap (λ (n : ℕ). replicate n false ++ true ∷ rest) (sym e) ∙ sym is in
-        let sum : place - 12 + 12 ≡ place = omega (arith, far) in
-        ap (λ (b : Bits). drop 12 b) same ∙ drop-drop 12 (place - 12) bits ∙ ap (λ (n : ℕ). drop n bits) sum
+    rest_is e = grind (arith, common_steps, drop-drop 12 (place - 12) bits)
 
     there : zeros ≡ 11 → after_eol 0 (drop (place - 12) bits) ≡ Some (drop place bits)
     there e = eol ∙ rw (le-leb 11 zeros (omega (arith, e))) (ap (λ (b : Bits). Some b) (rest_is e))
@@ -50,18 +48,8 @@ behind_eol bits rest place zeros far within is eol = (
         by : (b : Bool) → cond b (Some rest) None ≡ Some (drop place bits) → zeros ≡ 11
         by false e = absurd (let f : ◌≡◌ {A = Option Bits} None (Some (drop place bits)) = e in cc)
         by true e =
-            let f : ◌≡◌ {A = Option Bits} (Some rest) (Some (drop place bits)) = e in
-            let same : rest ≡ drop place bits = cc in omega (
-              arith,
-              ap length is,
-              length-append (replicate zeros false) (true ∷ rest),
-              length-replicate zeros false,
-              ap length same,
-              length-drop place bits,
-              length-drop (place - 12) bits,
-              far,
-              within,
-            )
+            let step = length-append (replicate zeros false) (true ∷ rest) in
+            grind (arith, common_steps, step, length-drop place bits, length-drop (place - 12) bits, length-replicate zeros false)
 
 -- ---- A one in a body.
 zeros_only : (m : ℕ) (here : Bits) → m ≤ leading_zeros here → take m here ≡ replicate m false
@@ -80,13 +68,7 @@ one_in_front (suc m) (false ∷ here) fits lt e =
 -- some bits contain a one if fewer zeros are here
 pub one_by_zeros : (m zeros : ℕ) (here : Bits) → m ≤ length here → zeros ≡ leading_zeros here
     → IsTrue (ltb zeros m) ↔ (take m here ≢ replicate m false)
-one_by_zeros m zeros here fits is = (
-  λ test. one_in_front m here fits (omega (arith, ltb-true zeros m test, is)),
-  λ other. elim (cases_lt zeros m) [
-    | inl lt ↦ lt-ltb zeros m lt
-    | inr ge ↦ absurd (other (zeros_only m here (omega (arith, ge, is))))
-  ],
-)
+one_by_zeros m zeros here fits is = grind (arith, common_steps, cases_lt, lt-ltb, ltb-true, one_in_front, zeros_only)
 
 -- ---- An EOL in a body.
 past-front : (seen : ℕ) (front after more : Bits) → past seen front ≡ Some after → past seen (front ++ more) ≡ Some (after ++ more)
@@ -96,8 +78,7 @@ past-front seen (true ∷ front) after more e = by (leb 11 seen) (λ f. past-fro
   where
     by : (b : Bool) → (past 0 front ≡ Some after → past 0 (front ++ more) ≡ Some (after ++ more)) → cond b (Some front) (past 0 front) ≡ Some after
         → cond b (Some (front ++ more)) (past 0 (front ++ more)) ≡ Some (after ++ more)
-    by true on f = let same : front ≡ after = cc in ap (λ (b : Bits). Some (b ++ more)) same
-    by false on f = on f
+    by b on f = grind (arith, common_steps)
 
 past-behind : (seen : ℕ) (front after more : Bits) → past seen front ≡ None → past seen (front ++ more) ≡ Some after → length after < length more
 past-behind seen [] after more none e = past_shorter seen more after e
@@ -106,8 +87,7 @@ past-behind seen (true ∷ front) after more none e = by (leb 11 seen) (λ f g. 
   where
     by : (b : Bool) → (past 0 front ≡ None → past 0 (front ++ more) ≡ Some after → length after < length more)
         → cond b (Some front) (past 0 front) ≡ None → cond b (Some (front ++ more)) (past 0 (front ++ more)) ≡ Some after → length after < length more
-    by true on f g = absurd (let h : ◌≡◌ {A = Option Bits} (Some front) None = f in cc)
-    by false on f g = on f g
+    by b on f g = grind (arith, common_steps)
 
 -- an EOL is found where one ends
 found_ends : (here : Bits) → is_some (next_eol here) ≡ is_some (past 0 here)
@@ -141,25 +121,19 @@ eol_in_front m here found after next eol = found_ends (take m here) ∙ by (past
     by None e = rw (e, lt-leb (length (drop m here)) (length after) (past-behind 0 (take m here) after (drop m here) e whole)) refl
     by (Some front) e =
         let both : ◌≡◌ {A = Option Bits} (Some (front ++ drop m here)) (Some after) = sym (past-front 0 (take m here) front (drop m here) e) ∙ whole in
-        let same : front ++ drop m here ≡ after = cc in
-        let fits : length (drop m here) ≤ length after = omega (arith, ap length same, length-append front (drop m here)) in
-        rw (e, le-leb (length (drop m here)) (length after) fits) refl
+        grind (arith, common_steps, le-leb, length-append)
 
 -- an EOL is between two positions if the next one ends there
 pub eol_by_ends : (bits : Bits) (from to end : ℕ) (found : Bits) → from ≤ to → to ≤ length bits → end ≤ length bits → next_eol (drop from bits) ≡ Some found
     → after_eol 0 found ≡ Some (drop end bits) → is_some (next_eol (take (to - from) (drop from bits))) ≡ leb end to
 eol_by_ends bits from to end found order within le next eol =
-    let sum : from + (to - from) ≡ to = omega (arith, order) in
-    let behind : drop (to - from) (drop from bits) ≡ drop to bits = drop-drop (to - from) from bits ∙ ap (λ (n : ℕ). drop n bits) sum in
-    eol_in_front (to - from) (drop from bits) found (drop end bits) next eol ∙ ap (λ (b : Bits). leb (length b) (length (drop end bits))) behind
-    ∙ elim (cases_lt to end) [
-      | inl lt ↦
-          let further : length (drop end bits) < length (drop to bits) = omega (arith, length-drop end bits, length-drop to bits, le, lt) in
-          rw (lt-leb (length (drop to bits)) (length (drop end bits)) further, lt-leb end to lt) refl
-      | inr ge ↦
-          let nearer : length (drop to bits) ≤ length (drop end bits) = omega (arith, length-drop end bits, length-drop to bits, ge) in
-          rw (le-leb (length (drop to bits)) (length (drop end bits)) nearer, le-leb end to ge) refl
-    ]
+    let step = eol_in_front (to - from) (drop from bits) found (drop end bits) next eol in
+    let step2 = le-leb (length (drop to bits)) (length (drop end bits)) in
+    let step3 = lt-leb (length (drop to bits)) (length (drop end bits)) in
+    let step4 = drop-drop (to - from) from bits in
+    let step5 = length-drop end bits in
+    let step6 = length-drop to bits in
+    grind (arith, common_steps, cases_lt to end, step4, step, step2, le-leb end to, step5, step6, step3, lt-leb end to)
 
 -- the next EOL, if one is found, is there
 pub eol_found_stands : (here found : Bits) → next_eol here ≡ Some found → after_eol 0 found ≡ None → ⊥
@@ -184,22 +158,14 @@ whole_ends columns place end bits here rest row is at within le = (
   λ ends. le-leb (place + 12) end (omega (arith, ends row rest is, ap length at, length-drop place bits, length-drop end bits, within, le)),
 )
 
-not_both : (front row : Row) (rest : Bits) (fault : DecodeError) → Line.broken front fault ≡ Line.whole row rest → ⊥
-not_both front row rest fault e = cc
-
 -- a broken line has no end
 pub broken_ends : (columns : ℕ) (after here rest : Bits) (front : Row) (fault : DecodeError) → fault ≢ OutOfMemory
     → DrawsLine (line_1d false columns here) (Err fault) front rest → EndsBefore columns after here
-broken_ends columns after here rest front UnexpectedEof other is row rest2 is2 = absurd (not_both front row rest2 UnexpectedEof (sym is ∙ is2))
-broken_ends columns after here rest front InvalidCode other is row rest2 is2 = absurd (not_both front row rest2 InvalidCode (sym is ∙ is2))
-broken_ends columns after here rest front Overflow other is row rest2 is2 = absurd (not_both front row rest2 Overflow (sym is ∙ is2))
-broken_ends columns after here rest front OutOfMemory other is row rest2 is2 = absurd (other refl)
-broken_ends columns after here rest front Refused other is row rest2 is2 = absurd is
+broken_ends columns after here rest front fault other is row rest2 is2 = grind (arith, common_steps)
 
 -- ---- All tests together.
 none_stands : (o : Option Bits) → is_some o ≡ false → o ≡ None
-none_stands None e = refl
-none_stands (Some x) e = absurd (false≢true (sym e))
+none_stands o e = grind (arith, common_steps)
 
 -- if the other tests succeed, a body is local if its line ends before the EOL after it
 pub local_by_end : (settings : DecodeSettings) (bits : Bits) (from to end : ℕ) (before : Bool) → (settings.encoding ≡ Group3_1D) × (settings.strict ≡ false)

@@ -1,5 +1,5 @@
--- What the tests of a body examine.
-use Rattle.std.proofs.Common.{◌≡◌, ℕ, zero, suc, ◌+◌, ◌-◌, ◌*◌, ◌≤◌, true, false, List, [], ◌∷◌, cond, eqb, length, drop, Option, Some, None, refl, sym, ap, subst, ◌∙◌, arith}
+-- What the tests of a body look at.
+use Rattle.std.proofs.Common.{◌≡◌, ℕ, zero, suc, ◌+◌, ◌-◌, ◌*◌, ◌≤◌, true, false, List, [], ◌∷◌, cond, eqb, length, drop, Option, Some, None, refl, sym, ap, ◌∙◌, arith}
 use Rattle.std.proofs.lemmas.Option.{none-some}
 use Rattle.std.proofs.lemmas.List.{length-drop, drop-drop}
 use Rattle.hayro_ccitt.specs.Bits.{Bits}
@@ -8,22 +8,21 @@ use Rattle.hayro_ccitt.specs.Ticks.{looked}
 use Rattle.hayro_ccitt.proofs.BitReading.SoughtEols.{next_eol-here}
 use Rattle.hayro_ccitt.proofs.BitReading.ZeroRuns.{looked_eol}
 use Rattle.hayro_ccitt.proofs.Readings.TurnsMoveOn.{next_eol_found}
+use Rattle.std.proofs.lemmas.Grind.{common_steps}
 
--- further on no fewer bits are examined except those in between
+-- further on no fewer bits are looked at but for those between
 looked_further : (k : ℕ) (here : Bits) → looked here ≤ k + looked (drop k here)
 looked_further zero here = omega arith
 looked_further (suc k) [] = omega arith
 looked_further (suc k) (false ∷ here) = omega (arith, looked_further k here)
 looked_further (suc k) (true ∷ here) = omega arith
 
--- what a count of zeros examines before a position, by what one examines there
+-- what a count of zeros looks at before a place, by what one looks at there
 pub looked_between : (bits : Bits) (from to : ℕ) → from ≤ to → looked (drop from bits) ≤ (to - from) + looked (drop to bits)
 looked_between bits from to order =
-    let sum : from + (to - from) ≡ to = omega (arith, order) in
-    let behind : drop (to - from) (drop from bits) ≡ drop to bits = drop-drop (to - from) from bits ∙ ap (λ (n : ℕ). drop n bits) sum in
-    omega (arith, looked_further (to - from) (drop from bits), ap looked behind)
+    grind (arith, common_steps, drop-drop (to - from) from bits, looked_further (to - from) (drop from bits))
 
--- if there is an EOL at a position, the next one is there or before it
+-- where an EOL stands at a place, the next one stands there or before it
 eol_ahead : (k : ℕ) (here after : Bits) → after_eol 0 (drop k here) ≡ Some after → (found : Bits) × (next_eol here ≡ Some found) × (length (drop k here) ≤ length found)
 eol_ahead zero here after eol = (here, next_eol-here here after eol, omega arith)
 eol_ahead (suc k) [] after eol = absurd (none-some after eol)
@@ -36,11 +35,7 @@ eol_ahead (suc k) (bit ∷ here) after eol = by (eol_ahead k here after eol) (af
 
 module _ (bits after : Bits) (from to : ℕ) (order : from ≤ to) (within : to ≤ length bits) (eol : after_eol 0 (drop to bits) ≡ Some after) where
   ahead : (found : Bits) × (next_eol (drop from bits) ≡ Some found) × (length (drop to bits) ≤ length found)
-  ahead =
-      let sum : from + (to - from) ≡ to = omega (arith, order) in
-      let behind : drop (to - from) (drop from bits) ≡ drop to bits = drop-drop (to - from) from bits ∙ ap (λ (n : ℕ). drop n bits) sum in
-      subst (λ (b : Bits). (found : Bits) × (next_eol (drop from bits) ≡ Some found) × (length b ≤ length found)) behind
-      (eol_ahead (to - from) (drop from bits) after (ap (after_eol 0) behind ∙ eol))
+  ahead = grind (arith, common_steps, drop-drop (to - from) from bits, eol_ahead (to - from) (drop from bits) after)
 
   -- one is found
   pub eol_stands : next_eol (drop from bits) ≡ None → ⊥
@@ -58,39 +53,15 @@ module _ (bits after : Bits) (from to : ℕ) (order : from ≤ to) (within : to 
       let zeros = looked_between bits place to near in
       (omega (arith, passed, again, onward.0), omega (arith, passed, again, zeros, near, order, length-drop place bits, length-drop from bits, inside, within))
 
--- one EOL that is read, or none, is what a count of zeros examines
+-- one EOL that is read, or none, is what a count of zeros looks at
 pub one_eol_looked : (here rest : Bits) (count before now : ℕ) → eols 1 here ≡ (count, rest) → now + length rest ≡ before + length here + cond (eqb count 1) 0 (looked rest)
     → now ≡ before + looked here
-one_eol_looked here rest count before now is counted = by (after_eol 0 here) refl
-  where
-    by : (o : Option Bits) → after_eol 0 here ≡ o → now ≡ before + looked here
-    by None none =
-        let f : ◌≡◌ {A = ℕ × Bits} (0, here) (count, rest) = rw (eols, none) at is in
-        let zero_read : 0 ≡ count = ap (λ (x : ℕ × Bits). x.0) f in
-        let stays : here ≡ rest = ap (λ (x : ℕ × Bits). x.1) f in
-        let all = rw (← zero_read, ← stays) at counted in
-        omega (arith, all)
-    by (Some after) eol =
-        let f : ◌≡◌ {A = ℕ × Bits} (1, after) (count, rest) = rw (eols, eol) at is in
-        let one_read : 1 ≡ count = ap (λ (x : ℕ × Bits). x.0) f in
-        let behind : after ≡ rest = ap (λ (x : ℕ × Bits). x.1) f in
-        let all = rw (← one_read, ← behind) at counted in
-        omega (arith, all, looked_eol 0 here after eol)
+one_eol_looked here rest count before now is counted = grind (arith, common_steps, looked_eol)
 
 -- the same bound, for the same words and the same count before
 pub same_bound : (now before same : ℕ) (words known : List Bits) → same ≡ before → known ≡ words → now ≤ same + length known + 1 → now ≤ before + length words + 1
 same_bound now before same words known from is most = omega (arith, from, ap length is, most)
 
-module _ (bits : Bits) (from to : ℕ) (order : from ≤ to) where
-  -- the tests before a body and in it
-  tests_counted : (before behind one : ℕ) → behind ≤ before + looked (drop (from - 12) bits) → one ≡ behind + looked (drop from bits)
-      → one ≤ before + (2 * (to - from) + 2 * looked (drop to bits) + 12)
-  tests_counted before behind one first second =
-      let twelve : from - 12 ≤ from = omega arith in
-      omega (arith, first, second, looked_between bits (from - 12) from twelve, looked_between bits from to order)
-
-  -- all tests, and the line with its words
-  pub body_counted : (words before behind one end eol line : ℕ) → behind ≤ before + looked (drop (from - 12) bits) → one ≡ behind + looked (drop from bits)
-      → end ≡ one + looked (drop to bits) → eol ≤ end + 2 * (to - from) + 2 * looked (drop to bits) → line ≤ eol + words + 1
-      → line ≤ before + (4 * (to - from) + 5 * looked (drop to bits) + words + 13)
-  body_counted words before behind one end eol line first second third fourth fifth = omega (arith, tests_counted before behind one first second, third, fourth, fifth)
+-- what is looked at before a body and in it
+pub tests_looked : (bits : Bits) (from to : ℕ) → from ≤ to → looked (drop (from - 12) bits) + looked (drop from bits) ≤ 2 * (to - from) + 2 * looked (drop to bits) + 12
+tests_looked bits from to order = omega (arith, looked_between bits (from - 12) from (omega arith), looked_between bits from to order)

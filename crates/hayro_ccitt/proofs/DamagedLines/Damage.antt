@@ -1,7 +1,7 @@
 -- Damage to one line changes its row alone.
 use Rattle.std.proofs.Common.{◌≡◌, ℕ, suc, ◌+◌, ◌-◌, ◌*◌, ◌/◌, ◌<◌, ◌≤◌, Bool, true, false, ◌||◌, eqb, ltb, List, [], ◌∷◌, ◌++◌, length, take, drop}
-use Rattle.std.proofs.Common.{replicate, set, Option, Some, None, Result, Ok, Err, refl, sym, ap, subst, ◌∙◌, append_assoc, arith, ◌⊎◌, inl, inr}
-use Rattle.std.proofs.lemmas.Bool.{cases_lt, cases_eq, eq-eqb, ne_eqb, or_right, cond-true, cond-false}
+use Rattle.std.proofs.Common.{replicate, set, None, Result, Ok, Err, refl, sym, ap, subst, ◌∙◌, append_assoc, arith, ◌⊎◌, inl, inr}
+use Rattle.std.proofs.lemmas.Bool.{cases_lt, cases_eq, ne_eqb, or_right, cond-false}
 use Rattle.std.proofs.lemmas.List.{length-append, length-take-le, length-drop, take-append-drop, append_cancel_right, replicate-append-replicate}
 use Rattle.std.proofs.lemmas.List.{set_at}
 use Rattle.hayro_ccitt.specs.declared.error.DecodeError.{DecodeError}
@@ -14,7 +14,7 @@ use Rattle.hayro_ccitt.specs.Settings.{AreSettings}
 use Rattle.hayro_ccitt.specs.Repetition.{repeated, Reaches}
 use Rattle.hayro_ccitt.specs.Rows.{Row}
 use Rattle.hayro_ccitt.specs.EndOfLine.{after_eol, all_eols}
-use Rattle.hayro_ccitt.specs.PlainReading.{Progress, Ending, first_line, move_on, first_gap, ending_behind, end_of, bytes_before, plain, Reading, nothing_read, whole_reading}
+use Rattle.hayro_ccitt.specs.PlainReading.{Progress, Ending, first_line, move_on, first_gap, ending_behind, end_of, bytes_before, plain, Reading, whole_reading}
 use Rattle.hayro_ccitt.specs.Locality.{IsEol, IsLocal, ComesToLine, OneRowDiffers, EndsAt, EndAlike, DamageStaysInRow, Locality}
 use Rattle.hayro_ccitt.proofs.Readings.Repeated.{reached_follows}
 use Rattle.hayro_ccitt.proofs.Readings.GapsAndRows.{ending_t4}
@@ -25,6 +25,7 @@ use Rattle.hayro_ccitt.proofs.DamagedLines.LinesByEols.{past_shorter, seeks}
 use Rattle.hayro_ccitt.proofs.DamagedLines.EolsAlike.{Closes, RestAlike, all_eols_alike}
 use Rattle.hayro_ccitt.proofs.DamagedLines.RunsAlike.{RowsAlike, EndsAlike, RunsAlike, IsTail, moves_alike}
 use Rattle.hayro_ccitt.proofs.DamagedLines.LineTails.{after_eol_is, is_tail}
+use Rattle.std.proofs.lemmas.Grind.{common_steps}
 
 -- ---- From the ends of two runs to their results
 
@@ -73,13 +74,8 @@ module _ (settings : DecodeSettings) (wide : 0 < settings.columns) (one two : Bi
       → OneRowDiffers settings one two from (plain settings one).rows (plain settings two).rows
   rows_differ (inl e) = inl (rows_of two ∙ sym e ∙ sym (rows_of one))
   rows_differ (inr (before, a, b, more, e, f, begins)) =
-      inr (
-        length before,
-        b,
-        comes_one before begins,
-        comes_two before begins,
-        rows_of two ∙ f ∙ sym (ap (λ (l : List Row). set l (length before) b) (rows_of one ∙ e) ∙ set_at before a more b (length before) refl),
-      )
+      let step = set_at before a more b (length before) refl in
+      grind (arith, common_steps, comes_one before begins, comes_two before begins, rows_of two, rows_of one, set, step)
 
   ends_at : (bits : Bits) (rest : Bits) (place : ℕ) → (end_of settings bits).outcome ≡ Ok rest
       → place + length rest ≡ length bits → EndsAt settings bits (plain settings bits).outcome place ((place + 7) / 8)
@@ -166,10 +162,7 @@ module _ (settings : DecodeSettings) (one two : Bits) (from : ℕ) (after : Bits
   begin_there zero_from eol = RunsAlike.there [] (at one tail_one.none) (at two tail_two.none)
     where
       at : (bits : Bits) → after_eol 0 (drop from bits) ≡ None → first bits ≡ sought [] (drop from bits)
-      at bits none =
-          let all : drop from bits ≡ bits = ap (λ (n : ℕ). drop n bits) zero_from in
-          let counted : all_eols bits ≡ (0, bits) = all_eols-none bits (ap (after_eol 0) (sym all) ∙ none) in
-          first_is bits (drop from bits) (or_right (ltb 0 (all_eols bits).0) settings.end_of_line eol) (ap (λ (f : ℕ × Bits). f.1) counted ∙ sym all)
+      at bits none = grind (arith, common_steps, all_eols-none, first_is, or_right)
 
   begin_ahead : (front : Bits) → Closes front → one ≡ front ++ true ∷ drop from one → (ltb 0 (all_eols one).0 || settings.end_of_line) ≡ true
       → RunsAlike Begun from (drop from one) (drop from two) after (first one) (first two)
@@ -243,14 +236,8 @@ locality settings one are whole_one two from to to2 whole_two differ = by (cases
     local_two : IsLocal settings two from to2
     local_two = differ.other
 
-    no_columns : settings.columns ≡ 0 → (bits : Bits) → plain settings bits ≡ nothing_read
-    no_columns e bits = cond-true (eqb settings.columns 0) _ _ (eq-eqb settings.columns 0 e)
-
     same_after : local_two.closes.0 ≡ local_one.closes.0
-    same_after =
-        let e : ◌≡◌ {A = Option Bits} (Some local_two.closes.0) (Some local_one.closes.0) = sym local_two.closes.1 ∙ ap (after_eol 0) (sym differ.behind)
-        ∙ local_one.closes.1 in
-        cc
+    same_after = grind (arith, common_steps)
 
     tail_one : IsTail settings.columns local_one.closes.0 (drop from one)
     tail_one = is_tail settings one from to local_one
@@ -261,10 +248,7 @@ locality settings one are whole_one two from to to2 whole_two differ = by (cases
     by : (settings.columns ≡ 0) ⊎ (settings.columns ≡ 0 → ⊥)
         → OneRowDiffers settings one two from (plain settings one).rows (plain settings two).rows
         × EndAlike settings one two from (plain settings one).rows (plain settings one).outcome (plain settings two).outcome
-    by (inl e) = (
-      inl (ap (λ (a : Reading). a.rows) (no_columns e two ∙ sym (no_columns e one))),
-      EndAlike.no_columns e (ap (λ (a : Reading). a.outcome) (no_columns e one)) (ap (λ (a : Reading). a.outcome) (no_columns e two)),
-    )
+    by (inl e) = grind (arith, common_steps)
     by (inr e) =
         let wide : 0 < settings.columns = elim (cases_lt 0 settings.columns) [ inl lt ↦ lt | inr ge ↦ absurd (e (omega arith)) ] in
         let fits_one : from ≤ length one = omega (arith, local_one.order, local_one.within) in

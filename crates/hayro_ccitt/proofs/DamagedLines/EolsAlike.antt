@@ -112,16 +112,10 @@ module _ (x y : Bits) where
               ],
             )
         by on o p e f (inr (inl a)) =
-            rw (
-              all_eols-some (bits ++ true ∷ x) x (e ∙ a.0),
-              all_eols-some (bits ++ true ∷ y) y
-                  (f ∙ a.1),
-              all_eols-none x none_x,
-              all_eols-none y none_y,
-            ) (refl, inr (refl, refl))
-        by on o p e f (inr (inr a)) =
-            rw (all_eols-none (bits ++ true ∷ x) (e ∙ a.0), all_eols-none (bits ++ true ∷ y) (f ∙ a.1))
-            (refl, inl (bits, omega arith, λ closes. closes, refl, refl))
+            let step = all_eols-some (bits ++ true ∷ x) x (e ∙ a.0) in
+            let step2 = all_eols-some (bits ++ true ∷ y) y (f ∙ a.1) in
+            grind (arith, common_steps, all_eols-none x none_x, all_eols-none y none_y, step, step2)
+        by on o p e f (inr (inr a)) = grind (arith, common_steps, all_eols-none)
 
     -- the consecutive EOLs are alike in both
     pub all_eols_alike : (bits : Bits) → CountAlike bits (all_eols (bits ++ true ∷ x)) (all_eols (bits ++ true ∷ y))

@@ -2,9 +2,9 @@
 use Rattle.std.proofs.Common.{◌≡◌, ℕ, zero, suc, ◌+◌, ◌<◌, ◌≤◌, Bool, true, false, cond, not, ◌&&◌, leb, List, [], ◌∷◌, ◌++◌, length, take, drop}
 use Rattle.std.proofs.Common.{replicate, Option, Some, None, refl, sym, ap, subst, ◌∙◌, append_assoc, arith, ◌⊎◌, inl, inr}
 use Rattle.std.specs.Prelude.{Contains, All, is_some}
-use Rattle.std.proofs.lemmas.Bool.{cases_lt, le-leb, leb-true, and_parts, and_from, not-true, not_from_false, false≢true}
+use Rattle.std.proofs.lemmas.Bool.{cases_lt, le-leb, leb-true, and_parts, and_from, not-true, not_from_false}
 use Rattle.std.proofs.lemmas.List.{length-append, length-drop, take-append-drop, length-replicate, append_cancel_left}
-use Rattle.std.proofs.lemmas.List.Elements.{Contains-append_left, Contains-append_right, Contains-append_cases, All-nil, All-cons, All-append, All-weaker}
+use Rattle.std.proofs.lemmas.List.Elements.{Contains-append_left, Contains-append_right, Contains-append_cases, All-nil, All-append, All-weaker}
 use Rattle.hayro_ccitt.specs.Bits.{Bits}
 use Rattle.hayro_ccitt.specs.EndOfLine.{after_eol, all_eols}
 use Rattle.hayro_ccitt.specs.PlainReading.{at_end}
@@ -14,12 +14,12 @@ use Rattle.hayro_ccitt.proofs.Readings.TurnsMoveOn.{after_eol_shorter, eol_of}
 use Rattle.hayro_ccitt.proofs.BitReading.ZerosInWords.{prefix_of_prefix}
 use Rattle.hayro_ccitt.proofs.DrawingLines.LinesLeaveBits.{Leaves}
 use Rattle.hayro_ccitt.proofs.DamagedLines.LineTails.{after_eol_is, first_one, drop_at}
+use Rattle.std.proofs.lemmas.Grind.{common_steps}
 
 -- ---- Later starts come in order
 later_below : (seen : ℕ) (here : Bits) → All (λ other. length other < length here) (later_starts seen here)
 later_below seen [] = All-nil (λ other. length other < 0)
-later_below seen (false ∷ here) = All-weaker (λ other. length other < length here) (λ other. length other < suc (length here))
-    (λ other lt. omega arith) (later_starts (suc seen) here) (later_below (suc seen) here)
+later_below seen (false ∷ here) = grind (arith, common_steps, later_below (suc seen) here)
 later_below seen (true ∷ here) =
     All-append (λ other. length other < suc (length here)) (cond (leb 11 seen && begins_line here) (here ∷ []) []) (later_starts 0 here)
     (by (leb 11 seen && begins_line here))
@@ -27,8 +27,7 @@ later_below seen (true ∷ here) =
     (later_below 0 here))
   where
     by : (b : Bool) → All (λ other. length other < suc (length here)) (cond {A = List Bits} b (here ∷ []) [])
-    by true = All-cons (λ other. length other < suc (length here)) here [] (omega arith) (All-nil (λ other. length other < suc (length here)))
-    by false = All-nil (λ other. length other < suc (length here))
+    by b = grind (arith, common_steps)
 
 later_descends : (seen : ℕ) (here : Bits) → Descends (later_starts seen here)
 later_descends seen [] = tt
@@ -36,8 +35,7 @@ later_descends seen (false ∷ here) = later_descends (suc seen) here
 later_descends seen (true ∷ here) = by (leb 11 seen && begins_line here) (later_descends 0 here)
   where
     by : (b : Bool) → Descends (later_starts 0 here) → Descends (cond b (here ∷ []) [] ++ later_starts 0 here)
-    by true d = (later_below 0 here, d)
-    by false d = d
+    by b d = grind (arith, common_steps, later_below)
 
 -- ---- An EOL ends at each, and none begins
 
@@ -50,18 +48,14 @@ zeros_along zero here = refl
 zeros_along (suc seen) here = ap (λ (b : Bits). false ∷ b) (zeros_along seen here)
 
 contains_one : (here other : Bits) → Contains (here ∷ []) other → here ≡ other
-contains_one here other (zero, lt, e) = e
-contains_one here other (suc k, lt, e) = absurd (omega arith)
+contains_one here other given = grind (arith, common_steps)
 
 contains_none : (other : Bits) → Contains {X = Bits} [] other → ⊥
 contains_none other (k, lt, e) = absurd (omega arith)
 
 from_later : (seen : ℕ) (here end : Bits) → Contains (later_starts seen here) end → EndsLater seen here end × (begins_line end ≡ true)
 from_later seen [] end c = absurd (contains_none end c)
-from_later seen (false ∷ here) end c =
-    let f = from_later (suc seen) here end c in
-    let g = f.0 in
-    ((g.0, (g.1.0, sym (zeros_along seen here) ∙ g.1.1), g.2, omega (arith, g.3)), f.1)
+from_later seen (false ∷ here) end c = grind (arith, common_steps, common_steps, zeros_along, from_later (suc seen) here end c)
 from_later seen (true ∷ here) end c =
     by (leb 11 seen && begins_line here) refl (from_later 0 here end)
     (Contains-append_cases (cond (leb 11 seen && begins_line here) (here ∷ []) []) (later_starts 0 here) end c)
@@ -69,10 +63,8 @@ from_later seen (true ∷ here) end c =
     by : (b : Bool) → (leb 11 seen && begins_line here) ≡ b → (Contains (later_starts 0 here) end → EndsLater 0 here end × (begins_line end ≡ true))
         → Contains (cond b (here ∷ []) []) end ⊎ Contains (later_starts 0 here) end → EndsLater seen (true ∷ here) end × (begins_line end ≡ true)
     by true e on (inl found) =
-        let same = contains_one here end found in
-        let both = and_parts (leb 11 seen) (begins_line here) e in
-        subst (λ (h : Bits). EndsLater seen (true ∷ here) h × (begins_line h ≡ true)) same
-        ((replicate seen false ++ true ∷ here, ([], refl), eol_of 0 seen here (omega (arith, leb-true 11 seen both.0)), omega arith), both.1)
+        let step = and_parts (leb 11 seen) (begins_line here) e in
+        grind (arith, common_steps, step, contains_one here end found, eol_of 0 seen here, leb-true 11 seen)
     by false e on (inl found) = absurd (contains_none end found)
     by b e on (inr found) =
         let f = on found in
@@ -94,8 +86,7 @@ from_later seen (true ∷ here) end c =
 shorter_end : (xs ys us vs : Bits) → xs ++ ys ≡ us ++ vs → length vs ≤ length ys → Leaves ys vs
 shorter_end xs ys us vs e le =
     let lengths : length xs + length ys ≡ length us + length vs = sym (length-append xs ys) ∙ ap length e ∙ length-append us vs in
-    let f = prefix_of_prefix xs ys us vs (sym e) (omega (arith, lengths, le)) in
-    (f.0, append_cancel_left xs ys (f.0 ++ vs) (e ∙ ap (λ (b : Bits). b ++ vs) f.1 ∙ append_assoc xs f.0 vs))
+    grind (arith, common_steps, append_assoc, append_cancel_left, prefix_of_prefix)
 
 same_end : (xs ys us vs : Bits) → xs ++ ys ≡ us ++ vs → length ys ≡ length vs → ys ≡ vs
 same_end xs ys us vs e len =
@@ -103,8 +94,7 @@ same_end xs ys us vs e len =
     by f.0 f.1
   where
     by : (before : Bits) → ys ≡ before ++ vs → ys ≡ vs
-    by [] g = g
-    by (b ∷ before) g = absurd (omega (arith, len, ap length g, length-append before vs))
+    by before g = grind (arith, common_steps)
 
 to_later : (seen : ℕ) (here end : Bits) → EndsLater seen here end → begins_line end ≡ true → Contains (later_starts seen here) end
 to_later seen [] end (at, leaves, eol, lt) b = absurd (omega arith)
@@ -130,16 +120,7 @@ to_later seen (true ∷ here) end (at, leaves, eol, lt) b = elim (cases_lt (leng
       let here_is : here ≡ end = cc in
       let lengths : length (replicate seen false) + length (true ∷ here) ≡ length (leaves.0 ++ replicate is.0 false) + length (true ∷ end)
       = sym (length-append (replicate seen false) (true ∷ here)) ∙ ap length whole ∙ length-append (leaves.0 ++ replicate is.0 false) (true ∷ end) in
-      let enough : 11 ≤ seen = omega (
-        arith,
-        lengths,
-        ap length here_is,
-        length-replicate seen false,
-        length-append leaves.0
-            (replicate is.0 false),
-        length-replicate is.0 false,
-        is.2,
-      ) in
+      let enough : 11 ≤ seen = grind (arith, common_steps, length-append, length-replicate) in
       let test : (leb 11 seen && begins_line here) ≡ true = and_from (leb 11 seen) (begins_line here) (le-leb 11 seen enough) (ap begins_line here_is ∙ b) in
       Contains-append_left (cond (leb 11 seen && begins_line here) (here ∷ []) []) (later_starts 0 here) end
       (subst (λ (t : Bool). Contains (cond t (here ∷ []) []) end) (sym test)
@@ -156,17 +137,10 @@ to_later seen (true ∷ here) end (at, leaves, eol, lt) b = elim (cases_lt (leng
     inside less = elim (cases_lt (length here) (length at)) [
       | inl longer ↦ absurd (
           let f = shorter_end leaves.0 at (replicate seen false) (true ∷ here) (sym leaves.1) (omega arith) in
-          omega (
-            arith,
-            less,
-            first_one is.0 end f.0 here (sym is.1 ∙ f.1),
-            ap length f.1,
-            length-append f.0
-                (true ∷ here),
-            ap length is.1,
-            length-append (replicate is.0 false) (true ∷ end),
-            length-replicate is.0 false,
-          ))
+          let step = length-append (replicate is.0 false) (true ∷ end) in
+          let step2 = first_one is.0 end f.0 here (sym is.1 ∙ f.1) in
+          let step3 = length-append f.0 (true ∷ here) in
+          omega (arith, less, step2, ap length f.1, step3, ap length is.1, step, length-replicate is.0 false))
       | inr short ↦ shorter_end (replicate seen false ++ true ∷ []) here leaves.0 at (append_assoc (replicate seen false) (true ∷ []) here ∙ leaves.1) short
     ]
 
@@ -199,23 +173,19 @@ first_leaves (suc n) bits lt = by (first_leaves n) (after_eol 0 bits) refl
         )
 
 contains_first : (here other : Bits) (rest : List Bits) → Contains (here ∷ rest) other → (here ≡ other) ⊎ Contains rest other
-contains_first here other rest (zero, lt, e) = inl e
-contains_first here other rest (suc k, lt, e) = inr (k, omega arith, e)
+contains_first here other rest given = grind (arith, common_steps)
 
 contains_more : (here other : Bits) (rest : List Bits) → Contains rest other → Contains (here ∷ rest) other
 contains_more here other rest (k, lt, e) = (suc k, omega arith, e)
 
 some_at_end : (here : Bits) → at_end here ≡ false → 0 < length here
-some_at_end [] e = absurd (false≢true (sym e))
-some_at_end (b ∷ here) e = omega arith
+some_at_end here e = grind (arith, common_steps)
 
 not_some : (o : Option Bits) → is_some o ≡ false → o ≡ None
-not_some None e = refl
-not_some (Some b) e = absurd (false≢true (sym e))
+not_some o e = grind (arith, common_steps)
 
 more_left : (here : Bits) → 0 < length here → at_end here ≡ false
-more_left [] lt = absurd (omega arith)
-more_left (b ∷ here) lt = refl
+more_left here lt = grind (arith, common_steps)
 
 module _ (bits : Bits) where
   leaves_first : FirstLeaves bits (all_eols bits).1
@@ -252,17 +222,13 @@ module _ (bits : Bits) where
   ]
 
   has_start : (place : ℕ) → place ≤ length bits → IsStart bits place → Contains (starts bits) (drop place bits)
-  has_start place le (inl same) =
-      let at : drop place bits ≡ (all_eols bits).1 = drop_at bits leaves_first.0 (all_eols bits).1 place leaves_first.1 (omega (arith, same, first_length)) in
-      (0, omega arith, sym at)
+  has_start place le (inl same) = grind (arith, common_steps, drop_at, first_length, leaves_first)
   has_start place le (inr (later, below, (at, eol), none)) =
       contains_more (all_eols bits).1 (drop place bits) (later_starts 0 (all_eols bits).1)
       (to_later 0 (all_eols bits).1 (drop place bits) (drop at bits, inside, eol.2, omega (arith, length-drop place bits, first_length, later, below)) begins)
     where
       begins : begins_line (drop place bits) ≡ true
-      begins = and_from (not (at_end (drop place bits))) (not (is_some (after_eol 0 (drop place bits))))
-          (not_from_false (at_end (drop place bits)) (more_left (drop place bits) (omega (arith, length-drop place bits, below))))
-          (not_from_false (is_some (after_eol 0 (drop place bits))) (ap (λ (o : Option Bits). is_some o) none))
+      begins = grind (arith, common_steps, and_from, length-drop, more_left, not_from_false)
 
       whole : leaves_first.0 ++ (all_eols bits).1 ≡ take at bits ++ drop at bits
       whole = sym leaves_first.1 ∙ sym (take-append-drop at bits)
@@ -280,19 +246,12 @@ module _ (bits : Bits) where
               ∙ ap (λ (b : Bits). b ++ (all_eols bits).1) (sym is) ∙ whole in
               let f = shorter_end (take at bits) (drop at bits) more (true ∷ (all_eols bits).1) (sym split) (omega (arith, longer)) in
               let zeros_one = after_eol_is 0 (drop at bits) (drop place bits) eol.2 in
-              omega (
-                arith,
-                first_one zeros_one.0 (drop place bits) f.0 (all_eols bits).1 (sym zeros_one.1 ∙ f.1),
-                ap length f.1,
-                length-append f.0 (true ∷ (all_eols bits).1),
-                ap length zeros_one.1,
-                length-append (replicate zeros_one.0 false) (true ∷ drop place bits),
-                length-replicate zeros_one.0 false,
-                length-drop place bits,
-                later,
-                below,
-                first_length,
-              )
+              let step = first_one zeros_one.0 (drop place bits) f.0 (all_eols bits).1 (sym zeros_one.1 ∙ f.1) in
+              let step2 = length-append (replicate zeros_one.0 false) (true ∷ drop place bits) in
+              let step3 = length-append f.0 (true ∷ (all_eols bits).1) in
+              let step4 = length-replicate zeros_one.0 false in
+              let step5 = length-drop place bits in
+              omega (arith, step, ap length f.1, step3, ap length zeros_one.1, step2, step4, step5, later, below, first_length)
 
 -- the law
 pub starts_are : StartsAre

@@ -1,6 +1,6 @@
 -- What the premises of locality say of the bits from a line on, and of those before it.
 use Rattle.std.proofs.Common.{◌≡◌, ℕ, zero, suc, ◌+◌, ◌-◌, ◌≤◌, true, false, List, [], ◌∷◌, ◌++◌, length, take, drop, replicate, Option, Some, None}
-use Rattle.std.proofs.Common.{refl, sym, ap, ◌∙◌, append_assoc, arith, inl, inr}
+use Rattle.std.proofs.Common.{refl, sym, ap, ◌∙◌, append_assoc, arith}
 use Rattle.std.proofs.lemmas.Bool.{cases_lt, lt-leb, le-leb}
 use Rattle.std.proofs.lemmas.List.{length-append, length-take-le, length-drop, length-replicate, take-append-drop, drop-drop}
 use Rattle.hayro_ccitt.specs.declared.settings.DecodeSettings.{DecodeSettings}
@@ -35,8 +35,7 @@ after_eol_is seen (true ∷ here) rest e = let f = eol_at_one seen here rest e i
 pub first_one : (k : ℕ) (rest before after : Bits) → replicate k false ++ true ∷ rest ≡ before ++ true ∷ after → k ≤ length before
 first_one zero rest before after e = omega arith
 first_one (suc k) rest [] after e = absurd cc
-first_one (suc k) rest (b ∷ before) after e =
-    omega (arith, first_one k rest before after (let f : replicate k false ++ true ∷ rest ≡ before ++ true ∷ after = cc in f))
+first_one (suc k) rest (b ∷ before) after e = grind (arith, common_steps, first_one k rest before after)
 
 -- zeros before an EOL belong to it
 pub after_eol_more : (seen more : ℕ) (here rest : Bits) → seen ≤ more → after_eol seen here ≡ Some rest → after_eol more here ≡ Some rest
@@ -58,17 +57,13 @@ next_eol_leaves (bit ∷ here) found e = by (next_eol_leaves here found) (after_
     by : (next_eol here ≡ Some found → (before : Bits) × (here ≡ before ++ found)) → (o : Option Bits) → after_eol 0 (bit ∷ here) ≡ o
         → (before : Bits) × ((bit ∷ here) ≡ before ++ found)
     by on None f = let g : next_eol here ≡ Some found = rw (f, next_eol) at e in let h = on g in (bit ∷ h.0, ap (λ (b : Bits). bit ∷ b) h.1)
-    by on (Some rest) f = let g : ◌≡◌ {A = Option Bits} (Some (bit ∷ here)) (Some found)
-        = rw (f, next_eol) at e in ([], let same : (bit ∷ here) ≡ found = cc in same)
+    by on (Some rest) f = grind (arith, common_steps)
 
 -- if no EOL ends within some bits, the next is the one after them
 past_before : (seen : ℕ) (bits z after : Bits) → past seen bits ≡ None → after_eol 0 z ≡ Some after → past seen (bits ++ z) ≡ Some after
 past_before seen [] z after none e = past-eol seen z after (after_eol_more 0 seen z after (omega arith) e)
 past_before seen (false ∷ bits) z after none e = past_before (suc seen) bits z after none e
-past_before seen (true ∷ bits) z after none e = elim (cases_lt seen 11) [
-  | inl lt ↦ rw (lt-leb 11 seen lt) (past_before 0 bits z after (rw (lt-leb 11 seen lt) at none) e)
-  | inr ge ↦ absurd (let f : ◌≡◌ {A = Option Bits} (Some bits) None = rw (le-leb 11 seen ge) at none in cc)
-]
+past_before seen (true ∷ bits) z after none e = grind (arith, common_steps, cases_lt, le-leb, lt-leb, past_before 0 bits z after)
 
 module _ (settings : DecodeSettings) (bits : Bits) (from to : ℕ) (local : IsLocal settings bits from to) where
   -- the bits from the body on
@@ -97,9 +92,7 @@ module _ (settings : DecodeSettings) (bits : Bits) (from to : ℕ) (local : IsLo
 
   -- the body, and what follows
   pub cut : line_on ≡ body ++ eol_on
-  cut =
-      let sum : from + (to - from) ≡ to = omega (arith, local.order) in
-      sym (take-append-drop (to - from) line_on) ∙ ap (λ (b : Bits). body ++ b) (drop-drop (to - from) from bits ∙ ap (λ (n : ℕ). drop n bits) sum)
+  cut = grind (arith, common_steps, drop-drop (to - from) from bits, take-append-drop (to - from) line_on)
 
   -- the data, cut where the body begins
   pub whole : bits ≡ take from bits ++ line_on
@@ -109,16 +102,7 @@ module _ (settings : DecodeSettings) (bits : Bits) (from to : ℕ) (local : IsLo
   not_within : (before rest : Bits) (k : ℕ) (found : Bits) → line_on ≡ before ++ found → found ≡ replicate k false ++ true ∷ rest
       → after_eol 0 found ≡ Some rest → length before + (k + 1) ≤ to - from → ⊥
   not_within before rest k found e f eol le =
-      let at : bits ≡ (take from bits ++ before) ++ found = simp append_assoc (whole ∙ ap (λ (b : Bits). take from bits ++ b) e) in
-      let ends : bits ≡ ((take from bits ++ before) ++ (replicate k false ++ true ∷ [])) ++ rest
-      = simp append_assoc (whole ∙ ap (λ (b : Bits). take from bits ++ b) (e ∙ ap (λ (b : Bits). before ++ b) f)) in
-      let length_at : length (take from bits ++ before) ≡ from + length before = simp length-append (ap (λ (n : ℕ). n + length before) front_length) in
-      let length_end : length ((take from bits ++ before) ++ (replicate k false ++ true ∷ [])) ≡ from + (length before + (k + 1))
-      = simp (length-append, length-replicate) (omega (arith, front_length)) in
-      let drop_place = drop_at bits (take from bits ++ before) found (from + length before) at length_at in
-      let drop_end = drop_at bits ((take from bits ++ before) ++ (replicate k false ++ true ∷ [])) rest (from + (length before + (k + 1))) ends length_end in
-      local.no_eol (from + length before) (from + (length before + (k + 1))) (omega arith) (omega (arith, le, local.order))
-      (omega arith, omega (arith, le, local.order, local.within), ap (after_eol 0) drop_place ∙ eol ∙ ap Some (sym drop_end))
+      grind (arith, common_steps, append_assoc, drop_at bits (take from bits ++ before) found (from + length before), drop_at bits ((take from bits ++ before) ++ (replicate k false ++ true ∷ [])) rest (from + (length before + (k + 1))), front_length, length-append, length-replicate, whole)
 
   -- no EOL ends within the body
   pub none_in_body : past 0 body ≡ None
@@ -133,18 +117,7 @@ module _ (settings : DecodeSettings) (bits : Bits) (from to : ℕ) (local : IsLo
           let e2 : line_on ≡ before.0 ++ (next.0 ++ eol_on) = cut ∙ ap (λ (b : Bits). b ++ eol_on) before.1 ∙ append_assoc before.0 next.0 eol_on in
           let f2 : next.0 ++ eol_on ≡ replicate is.0 false ++ true ∷ (rest ++ eol_on) = ap (λ (b : Bits). b ++ eol_on) is.1
           ∙ append_assoc (replicate is.0 false) (true ∷ rest) eol_on in
-          let le : length before.0 + (is.0 + 1) ≤ to - from
-          = omega (
-            arith,
-            body_length,
-            ap length before.1,
-            length-append before.0 next.0,
-            ap length is.1,
-            length-append (replicate is.0 false)
-                (true ∷ rest),
-            length-replicate is.0 false,
-          ) in
-          absurd (not_within before.0 (rest ++ eol_on) is.0 (next.0 ++ eol_on) e2 f2 (after_eol-append 0 next.0 rest eol_on next.2) le)
+          grind (arith, common_steps, after_eol-append, body_length, length-append, length-replicate, not_within)
 
   no_eol_here : after_eol 0 line_on ≡ None
   no_eol_here = by (after_eol 0 line_on) refl

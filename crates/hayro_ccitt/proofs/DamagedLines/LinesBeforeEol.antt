@@ -1,16 +1,16 @@
 -- A line that begins before the zeros of an EOL ends before their end, whatever comes after them.
-use Rattle.std.proofs.Common.{◌≡◌, ℕ, suc, ◌+◌, ◌-◌, ◌≤◌, Bool, true, false, cond, ltb, leb, [], ◌∷◌, ◌++◌, length, replicate, min, Option, Some}
-use Rattle.std.proofs.Common.{None, Result, Ok, Err, refl, sym, ap, subst, ◌∙◌, append_assoc, arith, inl, inr}
+use Rattle.std.proofs.Common.{◌≡◌, ℕ, suc, ◌≤◌, Bool, true, false, cond, leb, [], ◌∷◌, ◌++◌, length, replicate, Option, Some}
+use Rattle.std.proofs.Common.{None, Result, Ok, Err, refl, sym, ap, ◌∙◌, append_assoc, arith, inl, inr}
 use Rattle.std.proofs.lemmas.Bool.{cases_lt, lt-ltb, le-ltb}
 use Rattle.std.proofs.lemmas.List.{append_cancel_left}
 use Rattle.hayro_ccitt.specs.declared.codes.Color.{Color}
 use Rattle.hayro_ccitt.specs.declared.error.DecodeError.{DecodeError}
-use Rattle.hayro_ccitt.specs.declared.error.DecodeError.TheVariants.{UnexpectedEof, Overflow}
+use Rattle.hayro_ccitt.specs.declared.error.DecodeError.TheVariants.{UnexpectedEof}
 use Rattle.hayro_ccitt.specs.Bits.{Bits}
 use Rattle.hayro_ccitt.specs.CodeReading.{read_code}
 use Rattle.hayro_ccitt.specs.Repetition.{Turn}
-use Rattle.hayro_ccitt.specs.Rows.{Row, is_black, opposite, paint}
-use Rattle.hayro_ccitt.specs.Runs.{codes_of, run_of_word, run_turn, run_from}
+use Rattle.hayro_ccitt.specs.Rows.{Row, opposite, paint}
+use Rattle.hayro_ccitt.specs.Runs.{codes_of, run_turn, run_from}
 use Rattle.hayro_ccitt.specs.Lines.{Line, Pen, start, line_1d}
 use Rattle.hayro_ccitt.proofs.DrawingLines.Drawings.{try, step_1d, step_1d_is}
 use Rattle.hayro_ccitt.specs.Answers.{Step}
@@ -24,10 +24,7 @@ use Rattle.std.proofs.lemmas.Grind.{common_steps}
 scan_stays : (n : ℕ) (a b : Bits) → scan n a ≡ None → scan n (a ++ b) ≡ None
 scan_stays n [] b e = absurd cc
 scan_stays n (true ∷ a) b e = scan_stays 0 a b e
-scan_stays n (false ∷ a) b e = elim (cases_lt n 10) [
-  | inl lt ↦ rw (lt-ltb n 10 lt) (scan_stays (suc n) a b (rw (lt-ltb n 10 lt) at e))
-  | inr ge ↦ rw (le-ltb n 10 ge) refl
-]
+scan_stays n (false ∷ a) b e = grind (arith, common_steps, cases_lt, le-ltb, lt-ltb, scan_stays (suc n) a b)
 
 -- with more zeros before them the bits contain eleven zeros too
 scan_above : (m n : ℕ) (bits : Bits) → m ≤ n → scan m bits ≡ None → scan n bits ≡ None
@@ -100,10 +97,8 @@ read_code_alike color bits x y inside = by (read_code (codes_of color) (bits ++ 
         let same : ◌≡◌ {A = Result (ℕ × Bits) DecodeError} (Ok (n, g.0 ++ y)) (Ok (m, other)) = sym g.3 ∙ f in
         let pairs : (n, g.0 ++ y) ≡ (m, other) = cc in
         (ap (λ (p : ℕ × Bits). p.0) pairs, (g.0, g.1, g.2, sym (ap (λ (p : ℕ × Bits). p.1) pairs)))
-    by (Ok (n, rest)) (Err fault) e f = let g = reads_too color bits x y n rest inside e in let h
-        = g.3 in let k : ◌≡◌ {A = Result (ℕ × Bits) DecodeError} (Ok (n, g.0 ++ y)) (Err fault) = sym h ∙ f in absurd cc
-    by (Err fault) (Ok (m, other)) e f = let g
-        = reads_too color bits y x m other inside f in let k : ◌≡◌ {A = Result (ℕ × Bits) DecodeError} (Ok (m, g.0 ++ x)) (Err fault) = sym g.3 ∙ e in absurd cc
+    by (Ok (n, rest)) (Err fault) e f = grind (arith, common_steps, reads_too color bits x y n rest inside e)
+    by (Err fault) (Ok (m, other)) e f = grind (arith, common_steps, reads_too color bits y x m other inside f)
     by (Err fault) (Err other) e f = tt
 
 module _ (x y : Bits) where
@@ -112,10 +107,6 @@ module _ (x y : Bits) where
   Runs s t = (s.0 ≡ t.0) × InFront x y s.1 t.1
 
   module _ (color : Color) (rest : ℕ × Bits → Result (ℕ × Bits) DecodeError) where
-    word_alike : (total n : ℕ) (here there : Bits) → InFront x y here there
-        → Follows Runs (FoundAlike x y) rest (run_of_word total (n, here)) (run_of_word total (n, there))
-    word_alike total n here there front = grind (arith, common_steps)
-
     turn_alike : (total : ℕ) (bits : Bits) → Inside bits
         → Follows Runs (FoundAlike x y) rest (run_turn color (total, bits ++ x)) (run_turn color (total, bits ++ y))
     turn_alike total bits inside = by (read_code (codes_of color) (bits ++ x)) (read_code (codes_of color) (bits ++ y)) refl refl
@@ -123,19 +114,10 @@ module _ (x y : Bits) where
       where
         by : (r q : Result (ℕ × Bits) DecodeError) → read_code (codes_of color) (bits ++ x) ≡ r → read_code (codes_of color) (bits ++ y) ≡ q
             → FoundAlike x y r q → Follows Runs (FoundAlike x y) rest (run_turn color (total, bits ++ x)) (run_turn color (total, bits ++ y))
-        by (Ok (n, here)) (Ok (m, there)) e f g = rw (e, f, run_turn)
-            (subst (λ (k : ℕ). Follows Runs (FoundAlike x y) rest (run_of_word total (n, here)) (run_of_word total (k, there))) g.0
-            (word_alike total n here there g.1))
-        by (Ok found) (Err fault) e f g = absurd g
-        by (Err fault) (Ok found) e f g = absurd g
-        by (Err fault) (Err other) e f g = rw (e, f, run_turn) tt
+        by r q e f g = grind (arith, common_steps)
 
     states_alike : (s t : ℕ × Bits) → Runs s t → Follows Runs (FoundAlike x y) rest (run_turn color s) (run_turn color t)
-    states_alike (total, here) (other, there) p =
-        subst (λ (k : ℕ × Bits). Follows Runs (FoundAlike x y) rest (run_turn color k) (run_turn color (other, there)))
-        (sym (ap (λ (h : Bits). (total, h)) p.1.2))
-        (subst (λ (k : ℕ × Bits). Follows Runs (FoundAlike x y) rest (run_turn color (total, p.1.0 ++ x)) (run_turn color k))
-        (ap (λ (n : ℕ). (n, p.1.0 ++ y)) p.0 ∙ sym (ap (λ (h : Bits). (other, h)) p.1.3)) (turn_alike total p.1.0 p.1.1))
+    states_alike (total, here) (other, there) p = grind (arith, common_steps, turn_alike)
 
   run_alike : (color : Color) (total : ℕ) (here there : Bits) → InFront x y here there
       → FoundAlike x y (run_from color (total, here)) (run_from color (total, there))
@@ -164,32 +146,16 @@ module _ (x y : Bits) where
         rw (step_1d_is false columns (record { front = front; color = color; rest = here }), step_1d_is false columns (record { front = front; color = color; rest = there }))
         (full (leb columns (length front)))
       where
-        painted : ℕ → Row
-        painted n = front ++ replicate (min n (columns - length front)) (is_black color)
-
         drawn_by : Result (ℕ × Bits) DecodeError → Step
         drawn_by r = try front r (λ run. try front (paint false columns front color run.0)
             (λ more. Turn.next (record { front = more; color = opposite color; rest = run.1 })))
 
         drew : (r q : Result (ℕ × Bits) DecodeError) → FoundAlike x y r q → Follows Pens LineAlike rest (drawn_by r) (drawn_by q)
-        drew (Ok (n, a)) (Ok (m, b)) g = (
-          painted n,
-          opposite color,
-          a,
-          b,
-          refl,
-          ap
-              (λ (k : ℕ). record { front = painted k; color = opposite color; rest = b }) (sym g.0),
-          g.1,
-        )
-        drew (Ok found) (Err fault) g = absurd g
-        drew (Err fault) (Ok found) g = absurd g
-        drew (Err fault) (Err other) g = refl
+        drew r q g = grind (arith, common_steps)
 
         full : (b : Bool) → Follows Pens LineAlike rest (cond b (Turn.done (Line.whole front here)) (drawn_by (run_from color (0, here))))
             (cond b (Turn.done (Line.whole front there)) (drawn_by (run_from color (0, there))))
-        full true = (refl, infront)
-        full false = drew (run_from color (0, here)) (run_from color (0, there)) (run_alike color 0 here there infront)
+        full b = grind (arith, common_steps, drew, run_alike)
 
     pens_alike : (s t : Pen) → Pens s t → Follows Pens LineAlike rest (step_1d false columns s) (step_1d false columns t)
     pens_alike s t (front, color, here, there, a, b, infront) = rw (a, b) (drew_alike front color here there infront)

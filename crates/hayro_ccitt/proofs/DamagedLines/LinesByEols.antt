@@ -1,39 +1,35 @@
 -- Lines by EOLs.
-use Rattle.std.proofs.Common.{◌≡◌, ℕ, zero, suc, ◌<◌, Bool, true, false, cond, not, ◌||◌, eqb, ltb, List, [], ◌∷◌, ◌++◌, length, map, Option, Some}
-use Rattle.std.proofs.Common.{None, Ok, Err, refl, sym, ap, subst, ◌∙◌, append_assoc, arith, ◌⊎◌, inl, inr}
-use Rattle.std.specs.Prelude.{All, is_some}
+use Rattle.std.proofs.Common.{◌≡◌, ℕ, zero, suc, ◌<◌, Bool, true, false, cond, ◌||◌, eqb, ltb, List, [], ◌∷◌, ◌++◌, length, map, Option, Some}
+use Rattle.std.proofs.Common.{None, Ok, Err, refl, sym, ap, subst, ◌∙◌, append_assoc, arith, ◌⊎◌}
+use Rattle.std.specs.Prelude.{All}
 use Rattle.std.proofs.lemmas.List.Elements.{All-head, All-tail, All-same}
 use Rattle.std.proofs.lemmas.List.{append-nil}
-use Rattle.std.proofs.lemmas.Bool.{cases_lt, lt-leb, le-leb, lt-ltb, ne_eqb, and_right, or_left, or_right, cond-true, cond-false}
+use Rattle.std.proofs.lemmas.Bool.{cases_lt, lt-leb, le-leb, ne_eqb, and_right, cond-false}
 use Rattle.hayro_ccitt.specs.declared.error.DecodeError.TheVariants.{UnexpectedEof}
-use Rattle.hayro_ccitt.specs.declared.settings.EncodingMode.{EncodingMode}
 use Rattle.hayro_ccitt.specs.declared.settings.EncodingMode.TheVariants.{Group3_1D}
 use Rattle.hayro_ccitt.specs.declared.settings.DecodeSettings.{DecodeSettings}
 use Rattle.hayro_ccitt.specs.Bits.{Bits, IsPrefix}
 use Rattle.hayro_ccitt.specs.Repetition.{Turn, repeated}
 use Rattle.hayro_ccitt.specs.Rows.{Row}
 use Rattle.hayro_ccitt.specs.Lines.{Line, line_1d}
-use Rattle.hayro_ccitt.specs.EndOfLine.{after_eol, one_more, all_eols}
-use Rattle.hayro_ccitt.specs.PlainReading.{Progress, Ending, Move, limit_met, at_end, ends_with, move_on, first_gap, ending_behind, end_of}
+use Rattle.hayro_ccitt.specs.EndOfLine.{after_eol, all_eols}
+use Rattle.hayro_ccitt.specs.PlainReading.{Progress, Ending, Move, limit_met, at_end, ends_with, move_on}
 use Rattle.hayro_ccitt.specs.Locality.{begins_line, later_starts, starts, row_at, StaysBefore, IsEolAt, LinesByEols}
 use Rattle.hayro_ccitt.proofs.Readings.Repeated.{after_turn, repeated_turn, repeated_same}
 use Rattle.hayro_ccitt.proofs.Readings.GapsAndRows.{ending_t4}
-use Rattle.hayro_ccitt.proofs.Readings.TurnsMoveOn.{after_eol_shorter, eols_shorter, eols_some_counts, left_to_read, left_below, move_shrinks}
+use Rattle.hayro_ccitt.proofs.Readings.TurnsMoveOn.{after_eol_shorter, eols_shorter, left_to_read, left_below, move_shrinks}
 use Rattle.hayro_ccitt.proofs.Readings.TurnsAddRows.{Keeps, after_row_keeps, move_adds, repeated_adds}
-use Rattle.hayro_ccitt.proofs.DamagedLines.PastEol.{past, past-eol, past_later, all_eols-some, all_eols-none}
+use Rattle.hayro_ccitt.proofs.DamagedLines.PastEol.{past, past-eol, past_later, all_eols-some}
 use Rattle.hayro_ccitt.proofs.DamagedLines.SoughtTurns.{sought, rest_of, found_next, after_row_past, move_line}
 use Rattle.hayro_ccitt.proofs.DrawingLines.LinesLeaveBits.{line_1d_leaves, LineLeaves}
 use Rattle.hayro_ccitt.proofs.Readings.RowsAndGaps.{unless_over, after_row}
+use Rattle.std.proofs.lemmas.Grind.{common_steps}
 
 -- what follows the next EOL is shorter
 pub past_shorter : (seen : ℕ) (here after : Bits) → past seen here ≡ Some after → length after < length here
 past_shorter seen [] after e = absurd cc
 past_shorter seen (false ∷ here) after e = omega (arith, past_shorter (suc seen) here after e)
-past_shorter seen (true ∷ here) after e = elim (cases_lt seen 11) [
-  | inl lt ↦ omega (arith, past_shorter 0 here after (rw (lt-leb 11 seen lt) at e))
-  | inr ge ↦ let f : ◌≡◌ {A = Option Bits} (Some here) (Some after) = rw (le-leb 11 seen ge) at e in let same : here ≡ after
-      = cc in omega (arith, ap length same)
-]
+past_shorter seen (true ∷ here) after e = grind (arith, common_steps, cases_lt, le-leb, lt-leb, past_shorter 0 here after)
 
 -- ---- Where lines begin
 
@@ -44,21 +40,12 @@ own here = cond (begins_line here) (here ∷ []) []
 starts-past : (seen : ℕ) (here after : Bits) → past seen here ≡ Some after → later_starts seen here ≡ own after ++ later_starts 0 after
 starts-past seen [] after e = absurd cc
 starts-past seen (false ∷ here) after e = starts-past (suc seen) here after e
-starts-past seen (true ∷ here) after e = elim (cases_lt seen 11) [
-  | inl lt ↦ rw (lt-leb 11 seen lt) (starts-past 0 here after (rw (lt-leb 11 seen lt) at e))
-  | inr ge ↦
-      let f : ◌≡◌ {A = Option Bits} (Some here) (Some after) = rw (le-leb 11 seen ge) at e in
-      let same : here ≡ after = cc in
-      rw (le-leb 11 seen ge) (ap (λ (x : Bits). own x ++ later_starts 0 x) same)
-]
+starts-past seen (true ∷ here) after e = grind (arith, common_steps, cases_lt, le-leb, lt-leb, starts-past 0 here after)
 
 starts-none : (seen : ℕ) (here : Bits) → past seen here ≡ None → later_starts seen here ≡ []
 starts-none seen [] e = refl
 starts-none seen (false ∷ here) e = starts-none (suc seen) here e
-starts-none seen (true ∷ here) e = elim (cases_lt seen 11) [
-  | inl lt ↦ rw (lt-leb 11 seen lt) (starts-none 0 here (rw (lt-leb 11 seen lt) at e))
-  | inr ge ↦ absurd (let f : ◌≡◌ {A = Option Bits} (Some here) None = rw (le-leb 11 seen ge) at e in cc)
-]
+starts-none seen (true ∷ here) e = grind (arith, common_steps, cases_lt, le-leb, lt-leb, starts-none 0 here)
 
 -- the starts from a position on
 abbrev from_here : Bits → List Bits
@@ -72,21 +59,8 @@ starts_after (suc n) here lt = by (λ next small. starts_after n next small) (af
     by : ((next : Bits) → length next < n → own next ++ later_starts 0 next ≡ from_here (all_eols next).1) → (o : Option Bits) → after_eol 0 here ≡ o
         → own here ++ later_starts 0 here ≡ from_here (all_eols here).1
     by on (Some next) e =
-        let no : own here ≡ [] = cond-false (begins_line here) (here ∷ []) [] (and_right (not (at_end here)) (not (is_some (after_eol 0 here))) (rw e refl)) in
-        let skip : (one_more (all_eols next)).1 ≡ (all_eols next).1 = refl in
-        ap (λ (x : List Bits). x ++ later_starts 0 here) no ∙ starts-past 0 here next (past-eol 0 here next e)
-        ∙ on next (omega (arith, after_eol_shorter 0 here next e))
-        ∙ ap from_here (sym skip ∙ ap (λ (x : ℕ × Bits). x.1) (sym (all_eols-some here next e)))
-    by on None e = ap (λ (x : List Bits). x ++ later_starts 0 here) (at here e) ∙ itself here
-        ∙ ap from_here (ap (λ (x : ℕ × Bits). x.1) (sym (all_eols-none here e)))
-      where
-        at : (here : Bits) → after_eol 0 here ≡ None → own here ≡ cond (at_end here) [] (here ∷ [])
-        at [] e = refl
-        at (b ∷ here) e = cond-true (begins_line (b ∷ here)) ((b ∷ here) ∷ []) [] (rw e refl)
-
-        itself : (here : Bits) → cond (at_end here) [] (here ∷ []) ++ later_starts 0 here ≡ from_here here
-        itself [] = refl
-        itself (b ∷ here) = refl
+        grind (arith, common_steps, after_eol_shorter, all_eols-some, and_right, cond-false, past-eol, starts-past)
+    by on None e = grind (arith, common_steps)
 
 -- the later starts are those from the end of the next EOLs on
 pub starts-next : (here after : Bits) → past 0 here ≡ Some after → later_starts 0 here ≡ from_here (all_eols after).1
@@ -175,9 +149,7 @@ module _ (settings : DecodeSettings) (encoding : settings.encoding ≡ Group3_1D
               (All-tail (StaysBefore settings.columns) here (later_starts 0 here) stay) in
               let further = on others (b ∷ there) smaller tail in
               let all : rows ++ map (row_at settings.columns) (here ∷ later_starts 0 here) ≡ others ++ map (row_at settings.columns)
-              ((b ∷ there) ∷ later_starts 0 (b ∷ there))
-              = ap (λ (x : List Bits). rows ++ map (row_at settings.columns) (here ∷ x)) some
-              ∙ sym (append_assoc rows (first ∷ []) (map (row_at settings.columns) ((b ∷ there) ∷ later_starts 0 (b ∷ there)))) in
+              ((b ∷ there) ∷ later_starts 0 (b ∷ there)) = grind (arith, common_steps, append_assoc, map) in
               subst (λ (m : Move). IsPrefix (rows ++ map (row_at settings.columns) (here ∷ later_starts 0 here)) (after_turn rest_end m).rows)
               (sym (turn (b ∷ there) is))
               (subst (λ (x : List Row). IsPrefix x (rest_end (sought others (b ∷ there))).rows) (sym all) further)
@@ -194,8 +166,7 @@ module _ (settings : DecodeSettings) (encoding : settings.encoding ≡ Group3_1D
 
 -- EOLs are sought from the start
 pub seeks : (bits : Bits) (end_of_line : Bool) → (end_of_line ≡ true) ⊎ IsEolAt bits → (ltb 0 (all_eols bits).0 || end_of_line) ≡ true
-seeks bits end_of_line (inl e) = or_right (ltb 0 (all_eols bits).0) end_of_line e
-seeks bits end_of_line (inr e) = or_left (ltb 0 (all_eols bits).0) end_of_line (lt-ltb 0 (all_eols bits).0 (eols_some_counts bits e.0 e.1))
+seeks bits end_of_line given = grind (arith, common_steps)
 
 -- the law
 pub lines_by_eols : LinesByEols
@@ -207,5 +178,4 @@ lines_by_eols settings bits are encoding lenient no_block unlimited wide sought_
     let ends : IsPrefix (map (row_at settings.columns) (starts bits)) (ending_t4 settings bits).rows
     = by_run settings encoding lenient no_block unlimited wide
     (record { rows = []; has_eols = ltb 0 (all_eols bits).0 || settings.end_of_line; outcome = Err UnexpectedEof }) first (all_eols bits).1 first_is stay in
-    let whole : end_of settings bits ≡ ending_t4 settings bits = ap (λ (e : EncodingMode). ending_behind settings (first_gap e settings bits)) encoding in
-    rw columns (subst (λ (e : Ending). IsPrefix (map (row_at settings.columns) (starts bits)) e.rows) (sym whole) ends)
+    grind (arith, common_steps, ending_t4, map)

@@ -25,41 +25,29 @@ none_further [] here e = by here e
   where
     by : (here : Bits) → next_eol here ≡ None → after_eol 0 here ≡ None
     by [] e = refl
-    by (bit ∷ here) e = case (after_eol 0 (bit ∷ here)) refl
-      where
-        case : (o : Option Bits) → after_eol 0 (bit ∷ here) ≡ o → after_eol 0 (bit ∷ here) ≡ None
-        case None f = f
-        case (Some rest) f = absurd (let g : ◌≡◌ {A = Option Bits} (Some (bit ∷ here)) None = rw (f, next_eol) at e in cc)
+    by (bit ∷ here) e = grind (arith, common_steps)
 none_further (bit ∷ before) here e = none_further before here (rest (after_eol 0 (bit ∷ (before ++ here))) refl)
   where
     rest : (o : Option Bits) → after_eol 0 (bit ∷ (before ++ here)) ≡ o → next_eol (before ++ here) ≡ None
-    rest None f = rw (f, next_eol) at e
-    rest (Some after) f = absurd (let g : ◌≡◌ {A = Option Bits} (Some (bit ∷ (before ++ here))) None = rw (f, next_eol) at e in cc)
+    rest o f = grind (arith, common_steps)
 
 take_zeros : (k m : ℕ) (rest : Bits) → k < m → take m (replicate k false ++ true ∷ rest) ≡ replicate k false ++ true ∷ take (m - (k + 1)) rest
 take_zeros k zero rest lt = absurd (omega arith)
 take_zeros zero (suc m) rest lt = let e : suc m - (0 + 1) ≡ m = omega arith in ap (λ (n : ℕ). true ∷ take n rest) (sym e)
-take_zeros (suc k) (suc m) rest lt = let e : suc m - (suc k + 1) ≡ m - (k + 1)
-    = omega arith in ap (λ (b : Bits). false ∷ b) (take_zeros k m rest (omega arith) ∙ ap (λ (n : ℕ). replicate k false ++ true ∷ take n rest) (sym e))
+take_zeros (suc k) (suc m) rest lt = grind (arith, common_steps, rest, take_zeros k m rest (omega arith))
 
 take-split : {A : Type 0} (j m : ℕ) (xs : List A) → j ≤ m → take m xs ≡ take j xs ++ take (m - j) (drop j xs)
 take-split zero m xs le = let e : m - 0 ≡ m = omega arith in ap (λ (n : ℕ). take n xs) (sym e)
 take-split (suc j) zero xs le = absurd (omega arith)
 take-split (suc j) (suc m) [] le = grind (arith, common_steps)
-take-split {A} (suc j) (suc m) (x ∷ xs) le = let e : suc m - suc j ≡ m - j
-    = omega arith in ap (λ (l : List A). x ∷ l) (take-split j m xs (omega arith) ∙ ap (λ (n : ℕ). take j xs ++ take n (drop j xs)) (sym e))
+take-split {A} (suc j) (suc m) (x ∷ xs) le = grind (arith, common_steps, take-split j m xs (omega arith))
 
 -- how far an EOL reaches
 eol_lengths : (bits : Bits) (place end zeros : ℕ) → drop place bits ≡ replicate zeros false ++ true ∷ drop end bits
     → length bits - place ≡ zeros + (1 + (length bits - end))
-eol_lengths bits place end zeros is = omega (
-  arith,
-  length-drop place bits,
-  ap length is,
-  length-append (replicate zeros false) (true ∷ drop end bits),
-  length-replicate zeros false,
-  length-drop end bits,
-)
+eol_lengths bits place end zeros is =
+    let step = length-append (replicate zeros false) (true ∷ drop end bits) in
+    grind (arith, common_steps, step, length-drop place bits, length-drop end bits, length-replicate zeros false)
 
 module _ (settings : DecodeSettings) (bits : Bits) (from to : ℕ) where
   from_tests : IsLocalByTests settings bits from to → IsLocal settings bits from to
@@ -110,8 +98,7 @@ module _ (settings : DecodeSettings) (bits : Bits) (from to : ℕ) where
           let none = none_further (take j (drop from bits)) (replicate is.0 false ++ true ∷ take (((to - from) - j) - (is.0 + 1)) (drop end bits))
           (ap next_eol (sym split) ∙ tests.no_eol) in
           let some = eol_of 0 is.0 (take (((to - from) - j) - (is.0 + 1)) (drop end bits)) is.2 in
-          let both : ◌≡◌ {A = Option Bits} (Some (take (((to - from) - j) - (is.0 + 1)) (drop end bits))) None = sym some ∙ none in
-          absurd cc
+          grind (arith, common_steps)
 
   to_tests : IsLocal settings bits from to → IsLocalByTests settings bits from to
   to_tests local = record {

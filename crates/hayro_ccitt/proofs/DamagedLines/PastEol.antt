@@ -1,6 +1,6 @@
 -- What follows the next EOL.
-use Rattle.std.proofs.Common.{◌≡◌, ℕ, zero, suc, ◌+◌, ◌<◌, ◌≤◌, true, false, cond, leb, [], ◌∷◌, ◌++◌, length, Option, Some, None, refl, sym, ap, ◌∙◌}
-use Rattle.std.proofs.Common.{arith, inl, inr}
+use Rattle.std.proofs.Common.{◌≡◌, ℕ, zero, suc, ◌+◌, ◌≤◌, true, false, cond, leb, [], ◌∷◌, ◌++◌, length, Option, Some, None, refl}
+use Rattle.std.proofs.Common.{arith}
 use Rattle.std.proofs.lemmas.Bool.{cases_lt, lt-leb, le-leb}
 use Rattle.std.proofs.lemmas.List.{length-append}
 use Rattle.hayro_ccitt.specs.Bits.{Bits}
@@ -39,8 +39,7 @@ past_is (false ∷ here) = by (past_is here) (after_eol 0 (false ∷ here)) refl
   where
     by : past 0 here ≡ then_after (next_eol here) → (o : Option Bits) → after_eol 0 (false ∷ here) ≡ o
         → past 0 (false ∷ here) ≡ then_after (next_eol (false ∷ here))
-    by same None e = rw (e, next_eol) (past-none 0 here e ∙ same)
-    by same (Some after) e = rw (e, next_eol) (past-eol 0 (false ∷ here) after e ∙ sym e)
+    by same given e = grind (arith, common_steps, past-eol, past-none)
 
 -- the number of EOLs asked for doesn't matter, if there are no more bits
 pub eols_same : (n m : ℕ) (here : Bits) → length here ≤ n → length here ≤ m → eols n here ≡ eols m here
@@ -53,17 +52,11 @@ eols_same (suc n) (suc m) here h k = by (λ rest. eols_same n m rest) (after_eol
   where
     by : ((rest : Bits) → length rest ≤ n → length rest ≤ m → eols n rest ≡ eols m rest) → (o : Option Bits) → after_eol 0 here ≡ o
         → eols (suc n) here ≡ eols (suc m) here
-    by on None e = eols-none (suc n) here e ∙ sym (eols-none (suc m) here e)
-    by on (Some rest) e =
-        let shorter = after_eol_shorter 0 here rest e in
-        eols-some n here rest e ∙ ap one_more (on rest (omega arith) (omega arith)) ∙ sym (eols-some m here rest e)
+    by on o e = grind (arith, common_steps, after_eol_shorter, eols-none, eols-some)
 
 -- if there is an EOL, it is counted, and those after it
 pub all_eols-some : (here rest : Bits) → after_eol 0 here ≡ Some rest → all_eols here ≡ one_more (all_eols rest)
-all_eols-some [] rest e = absurd cc
-all_eols-some (b ∷ here) rest e =
-    let shorter = after_eol_shorter 0 (b ∷ here) rest e in
-    eols-some (length here) (b ∷ here) rest e ∙ ap one_more (eols_same (length here) (length rest) rest (omega arith) (omega arith))
+all_eols-some here rest e = grind (arith, common_steps, after_eol_shorter, common_steps, eols-some, eols_same)
 
 -- if there is none, none is counted
 pub all_eols-none : (here : Bits) → after_eol 0 here ≡ None → all_eols here ≡ (0, here)
@@ -80,10 +73,5 @@ past_here seen fewer (true ∷ here) after le e far = grind (arith, common_steps
 pub past_later : (seen : ℕ) (before here after : Bits) → past seen (before ++ here) ≡ Some after → length after + 12 ≤ length here → past 0 here ≡ Some after
 past_later seen [] here after e far = past_here seen 0 here after (omega arith) e (omega (arith, far))
 past_later seen (false ∷ before) here after e far = past_later (suc seen) before here after e far
-past_later seen (true ∷ before) here after e far = elim (cases_lt seen 11) [
-  | inl lt ↦ past_later 0 before here after (rw (lt-leb 11 seen lt) at e) far
-  | inr ge ↦ absurd (
-      let f : ◌≡◌ {A = Option Bits} (Some (before ++ here)) (Some after) = rw (le-leb 11 seen ge) at e in
-      let same : before ++ here ≡ after = cc in
-      omega (arith, far, ap length same, length-append before here))
-]
+past_later seen (true ∷ before) here after e far =
+    grind (arith, common_steps, cases_lt, le-leb, length-append, lt-leb, past_later 0 before here after)

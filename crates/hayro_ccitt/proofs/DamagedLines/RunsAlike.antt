@@ -1,7 +1,7 @@
 -- Two runs over data that differ in one line.
 use Rattle.std.proofs.Common.{◌≡◌, ℕ, suc, ◌-◌, ◌%◌, ◌<◌, ◌≤◌, Bool, true, false, cond, not, ◌&&◌, ◌||◌, eqb, leb, List, [], ◌∷◌, ◌++◌, length}
-use Rattle.std.proofs.Common.{replicate, Option, Some, None, Ok, Err, refl, sym, ap, subst, ◌∙◌, append_assoc, arith, ◌⊎◌, inl, inr}
-use Rattle.std.proofs.lemmas.Bool.{cases_Bool, and_parts, eqb-true}
+use Rattle.std.proofs.Common.{replicate, Option, Some, None, Ok, Err, refl, sym, ap, subst, ◌∙◌, arith, ◌⊎◌, inl, inr}
+use Rattle.std.proofs.lemmas.Bool.{cases_Bool}
 use Rattle.std.proofs.lemmas.List.{length-append, length-drop}
 use Rattle.hayro_ccitt.specs.declared.error.DecodeError.{DecodeError}
 use Rattle.hayro_ccitt.specs.declared.error.DecodeError.TheVariants.{InvalidCode}
@@ -12,7 +12,7 @@ use Rattle.hayro_ccitt.specs.Repetition.{Turn}
 use Rattle.hayro_ccitt.specs.Rows.{Row}
 use Rattle.hayro_ccitt.specs.Lines.{Line, line_1d}
 use Rattle.hayro_ccitt.specs.EndOfLine.{after_eol, one_more, all_eols, next_eol}
-use Rattle.hayro_ccitt.specs.PlainReading.{eols_of_end, Progress, Ending, Move, row_before, aligned, limit_met, at_end, ends_with, eols_here}
+use Rattle.hayro_ccitt.specs.PlainReading.{eols_of_end, Progress, Ending, Move, aligned, limit_met, at_end, ends_with, eols_here}
 use Rattle.hayro_ccitt.specs.PlainReading.{after_line, move_on}
 use Rattle.hayro_ccitt.specs.Locality.{row_of, row_at, StaysBefore}
 use Rattle.hayro_ccitt.proofs.Readings.Repeated.{Follows}
@@ -34,8 +34,7 @@ RowsAlike Begins xs ys = (xs ≡ ys)
     ⊎ ((before : List Row) × (a b : Row) × (more : List Row) × (xs ≡ before ++ a ∷ more) × (ys ≡ before ++ b ∷ more) × Begins before)
 
 rows_length : {Begins : List Row → Type 0} (xs ys : List Row) → RowsAlike Begins xs ys → length xs ≡ length ys
-rows_length xs ys (inl e) = ap length e
-rows_length xs ys (inr (before, a, b, more, e, f, begins)) = ap length e ∙ length-append before (a ∷ more) ∙ sym (length-append before (b ∷ more)) ∙ sym (ap length f)
+rows_length xs ys given = grind (arith, common_steps)
 
 rows_more : {Begins : List Row → Type 0} (xs ys : List Row) (row : Row) → RowsAlike Begins xs ys → RowsAlike Begins (xs ++ row ∷ []) (ys ++ row ∷ [])
 rows_more xs ys row (inl e) = inl (ap (λ (x : List Row). x ++ row ∷ []) e)
@@ -149,13 +148,7 @@ module _ (settings : DecodeSettings) (encoding : settings.encoding ≡ Group3_1D
 
   move_beyond : (xs ys : List Row) (has_eols : Bool) (here : Bits) → RowsAlike Begins xs ys → length here ≤ length after
       → Both (move_on settings (run_at xs has_eols here)) (move_on settings (run_at ys has_eols here))
-  move_beyond xs ys has_eols here alike short =
-      rw (
-        line_is settings encoding lenient (row_before settings.columns xs) here,
-        line_is settings encoding lenient
-            (row_before settings.columns ys) here,
-      ) (line_beyond xs ys has_eols here (line_1d false settings.columns here) alike short
-      (line_1d_leaves false settings.columns here))
+  move_beyond xs ys has_eols here alike short = grind (arith, common_steps, line_1d_leaves, line_beyond, line_is)
 
   -- ---- At or before the line
   not_end : (bits z : Bits) → at_end (bits ++ true ∷ z) ≡ false
@@ -214,21 +207,12 @@ module _ (settings : DecodeSettings) (encoding : settings.encoding ≡ Group3_1D
           (unless_ahead rows (bits ++ true ∷ x) (bits ++ true ∷ y) (suc (all_eols (a ++ true ∷ x)).0) a (all_eols (a ++ true ∷ x)).1
           (all_eols (a ++ true ∷ y)).1 closes (omega arith) both.1))
       by_past open_limit o p e f (inr (inl (g, h))) =
-          rw (
-            after_row_past settings encoding lenient rows (bits ++ true ∷ x) x open_limit (e ∙ g),
-            after_row_past settings encoding lenient rows
-                (bits ++ true ∷ y) y open_limit (f ∙ h),
-            all_eols-none x tail_x.none,
-            all_eols-none y tail_y.none,
-          )
-          (unless_there rows (bits ++ true ∷ x) (bits ++ true ∷ y) 1)
+          let step = after_row_past settings encoding lenient rows (bits ++ true ∷ x) x open_limit (e ∙ g) in
+          let step2 = after_row_past settings encoding lenient rows (bits ++ true ∷ y) y open_limit (f ∙ h) in
+          let step3 = unless_there rows (bits ++ true ∷ x) (bits ++ true ∷ y) 1 in
+          grind (arith, common_steps, step, step2, all_eols-none x tail_x.none, all_eols-none y tail_y.none, step3)
       by_past open_limit o p e f (inr (inr (g, h))) =
-          rw (
-            after_row_past settings encoding lenient rows (bits ++ true ∷ x) after open_limit
-                (e ∙ g ∙ tail_x.next),
-            after_row_past settings encoding lenient rows (bits ++ true ∷ y) after open_limit (f ∙ h ∙ tail_y.next),
-          )
-          (unless_beyond rows rows true (bits ++ true ∷ x) (bits ++ true ∷ y) (one_more (all_eols after)) (inl refl) (eols_shorter (length after) after))
+          grind (arith, common_steps, after_row_past settings encoding lenient rows (bits ++ true ∷ x) after open_limit (e ∙ g ∙ tail_x.next), after_row_past settings encoding lenient rows (bits ++ true ∷ y) after open_limit (f ∙ h ∙ tail_y.next), eols_shorter (length after) after, unless_beyond rows rows true (bits ++ true ∷ x) (bits ++ true ∷ y) (one_more (all_eols after)) (inl refl) (eols_shorter (length after) after))
 
       by_limit : (limit_met settings (length rows) ≡ true) ⊎ (limit_met settings (length rows) ≡ false)
           → Both (after_row settings (sought rows (bits ++ true ∷ x))) (after_row settings (sought rows (bits ++ true ∷ y)))
@@ -256,8 +240,7 @@ module _ (settings : DecodeSettings) (encoding : settings.encoding ≡ Group3_1D
           rw (← is, e, f) (row_ahead (rows ++ row ∷ []) a inside (omega arith))
       by (Line.whole row here) (Line.broken front fault) alike leaves = absurd alike
       by (Line.broken front fault) (Line.whole row here) alike leaves = absurd alike
-      by (Line.broken front fault) (Line.broken same other) is leaves =
-          rw (← is) (row_ahead (rows ++ (front ++ replicate (settings.columns - length front) false) ∷ []) bits (closes_inside bits closes) short)
+      by (Line.broken front fault) (Line.broken same other) is leaves = grind (arith, common_steps, closes_inside, row_ahead)
 
   -- ---- At the line
   limit_is : (rows : List Row) (row : Row) → limit_met settings (length (rows ++ row ∷ [])) ≡ true → settings.rows ≡ suc (length rows)
@@ -288,8 +271,7 @@ module _ (settings : DecodeSettings) (encoding : settings.encoding ≡ Group3_1D
           (unless_beyond (rows ++ a ∷ []) (rows ++ b ∷ []) true u v (one_more (all_eols after)) alike (eols_shorter (length after) after))
 
   rest_shorter : (line : Line) (here : Bits) → LineLeaves here line → length (rest_of line here) ≤ length here
-  rest_shorter (Line.whole row left) here leaves = omega (arith, ap length leaves.1, length-append leaves.0 left)
-  rest_shorter (Line.broken front fault) here leaves = omega arith
+  rest_shorter line here leaves = grind (arith, common_steps)
 
   line_there : (rows : List Row) → Begins rows → Both (move_on settings (sought rows x)) (move_on settings (sought rows y))
   line_there rows begins =

@@ -52,8 +52,3 @@ line_by_full Group3_2D strict columns reference [] = tt
 line_by_full Group3_2D strict columns reference (true ∷ here) = line_1d_full strict columns here
 line_by_full Group3_2D strict columns reference (false ∷ here) = line_2d_full strict columns reference here
 line_by_full Group4 strict columns reference here = line_2d_full strict columns reference here
-
--- and a repaired row
-pub repaired_full : (columns : ℕ) (front : Row) → columns ≤ length (repaired columns front)
-repaired_full columns front =
-    omega (arith, length-append front (replicate (columns - length front) false), length-replicate (columns - length front) false)

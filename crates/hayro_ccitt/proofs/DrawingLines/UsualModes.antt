@@ -210,6 +210,29 @@ module _ (columns : ℕ) (places : List ℕ) (painted index : ℕ) (color : Colo
       let there : AreChanges place row = AreChanges-wider (painted + 1) place row (omega (arith, right)) stroke.lawful in
       rw turns (turned_stroke place next new inside there is at)
 
+  -- that of VL at the row's left edge
+  no_index : painted ≡ 0 → color ≡ White → index ≡ 0
+  no_index none white =
+      let at = stroke.at open_row in
+      let even : index % 2 ≡ 0 = subst (TurnsFrom index) white at.turns in
+      elim (cases_lt index 2) [
+        | inl lt ↦ omega (arith, even)
+        | inr ge ↦ absurd (omega (arith, (at.near.left 0 (omega arith)).0, none))
+      ]
+
+  pub edge_stroke : (new : List ℕ) (new_color : Color) → painted ≡ 0 → color ≡ White → new ≡ row ++ painted ∷ [] → new_color ≡ opposite color → IsStroke columns places painted (index + 1) new_color new
+  edge_stroke new new_color none white is turns =
+      let first : index ≡ 0 = no_index none white in
+      let empty : row ≡ [] = none_yet row (rw none at stroke.lawful) (subst (TurnsFrom (length row)) white (stroke.colored open_row)) in
+      let there : AreChanges painted row = rw empty tt in
+      rw turns
+      (turned_stroke painted (index + 1) new open_row there is
+      (record {
+        turns = turns_next index color (stroke.at open_row).turns;
+        near = record { left = λ k l. absurd (omega (arith, l, first)) };
+        right = λ some. absurd (omega (arith, some, none));
+      }))
+
   -- that of pass mode
   pub b2_onward : painted ≤ get_or places (index + 1) columns
   b2_onward = omega (arith, b1_onward, rising columns places ascend index (index + 1) (omega arith))

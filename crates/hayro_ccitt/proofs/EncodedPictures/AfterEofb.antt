@@ -1,9 +1,8 @@
 -- What follows EOFB changes nothing.
-use Rattle.std.proofs.Common.{◌≡◌, ℕ, zero, suc, ◌+◌, ◌-◌, ◌*◌, ◌/◌, ◌%◌, ◌<◌, Bool, true, false, cond, not, ◌&&◌, eqb, leb, [], ◌∷◌}
-use Rattle.std.proofs.Common.{◌++◌, length, take, drop, Option, Some, None, Result, Ok, refl, sym, ap, subst, ◌∙◌, append_assoc, arith, ◌⊎◌, inl, inr}
-use Rattle.std.proofs.lemmas.Bool.{or_parts, or_from, cond-true, cond-false, cases_lt, eq-eqb}
+use Rattle.std.proofs.Common.{◌≡◌, ℕ, zero, suc, ◌+◌, ◌*◌, ◌/◌, ◌%◌, ◌<◌, Bool, true, false, cond, not, ◌&&◌, leb, [], ◌∷◌}
+use Rattle.std.proofs.Common.{◌++◌, length, take, drop, Option, Some, None, Ok, refl, sym, ap, subst, ◌∙◌, append_assoc, arith, ◌⊎◌, inl, inr}
+use Rattle.std.proofs.lemmas.Bool.{or_parts, or_from, cond-false, cases_lt}
 use Rattle.std.proofs.lemmas.List.{length-append, length-take-le, take-append-drop, drop_at}
-use Rattle.hayro_ccitt.specs.declared.error.DecodeError.{DecodeError}
 use Rattle.hayro_ccitt.specs.declared.settings.EncodingMode.{EncodingMode}
 use Rattle.hayro_ccitt.specs.declared.settings.EncodingMode.TheVariants.{Group4}
 use Rattle.hayro_ccitt.specs.declared.settings.DecodeSettings.{DecodeSettings}
@@ -11,7 +10,7 @@ use Rattle.hayro_ccitt.specs.Bits.{Bits, AreWholeBytes}
 use Rattle.hayro_ccitt.specs.Repetition.{Turn, Reaches}
 use Rattle.hayro_ccitt.specs.Lines.{Line, line_2d}
 use Rattle.hayro_ccitt.specs.EndOfLine.{after_eol, one_more, eols}
-use Rattle.hayro_ccitt.specs.PlainReading.{eols_by, eols_here, is_over, Progress, Ending, row_before, aligned, line_by, line_of_turn, row_of_line, ends_with, pass_gap, at_front, Reading, nothing_read, whole_reading, end_of, plain}
+use Rattle.hayro_ccitt.specs.PlainReading.{eols_by, eols_here, is_over, Progress, Ending, row_before, aligned, line_by, line_of_turn, row_of_line, ends_with, pass_gap, at_front, nothing_read, end_of, plain}
 use Rattle.hayro_ccitt.specs.Laws.{AfterEofb, add_row_alone, row_behind, gap_and_row, for_t6}
 use Rattle.hayro_ccitt.proofs.Readings.TurnsMoveOn.{eols-none, next_is, not_next}
 use Rattle.hayro_ccitt.proofs.CodeWords.ReadRuns.{chosen}
@@ -78,8 +77,7 @@ aligned_split true j =
     let pad : Bits = take n j in
     let whole : j ≡ pad ++ drop n j = sym (take-append-drop n j) in
     let len : length pad ≡ n = length-take-le n j (omega arith) in
-    let sum : length j ≡ length pad + length (drop n j) = ap length whole ∙ length-append pad (drop n j) in
-    (pad, whole, λ more e. drop_at pad more (length (pad ++ more) % 8) (omega (arith, len, sum, e, length-append pad more)))
+    grind (arith, common_steps, drop_at, length-append)
 
 -- ---- A row of a run, and the gap before it.
 record MoveFound (settings : DecodeSettings) (run after : Progress) : Type 0 where
@@ -190,22 +188,17 @@ closed_plain settings last w rest four wide ends stream more is whole =
     let end : Ending = record { rows = last.rows; has_eols = last.has_eols; outcome = Ok more } in
     let (state, leads, over) = ends more whole in
     let here : end_of settings stream ≡ end = ap (end_of settings) is ∙ t6_end settings wide (w ++ more) state end four leads over in
-    let n : (length stream - length more + 7) / 8 ≡ (length w + 7) / 8 = omega (arith, ap length is, length-append w more) in
-    plain_ends settings stream end more wide here refl ∙ ap {B = Reading} (λ (k : ℕ). record { rows = last.rows; outcome = Ok k; has_eols = last.has_eols }) n
+    grind (arith, common_steps, length-append, plain_ends)
 
 -- data with the same first bytes begin with the same bits, and continue with whole bytes
 same_front : (one two : Bits) (count : ℕ) (w rest : Bits) → AreWholeBytes one → AreWholeBytes two → one ≡ w ++ rest → (length w + 7) / 8 ≡ count
     → take (8 * count) two ≡ take (8 * count) one → (more : Bits) × (two ≡ w ++ more) × (length more % 8 ≡ length rest % 8)
 same_front one two count w rest whole_one whole_two is count_is same =
-    let len1 : length one ≡ length w + length rest = ap length is ∙ length-append w rest in
-    let head : Bits = take (8 * count) one in
-    let head_len : length head ≡ 8 * count = length-take-le (8 * count) one (omega (arith, count_is, len1, whole_one)) in
-    let front = prefix_of_prefix w rest head (drop (8 * count) one) (take-append-drop (8 * count) one ∙ is) (omega (arith, head_len, count_is)) in
-    let more : Bits = front.0 ++ drop (8 * count) two in
-    let two_is : two ≡ w ++ more
-    = sym (take-append-drop (8 * count) two) ∙ ap (λ (x : Bits). x ++ drop (8 * count) two) (same ∙ front.1) ∙ append_assoc w front.0 (drop (8 * count) two) in
-    let len2 : length two ≡ length w + length more = ap length two_is ∙ length-append w more in
-    (more, two_is, omega (arith, len1, len2, whole_one, whole_two))
+    let step = take-append-drop (8 * count) one in
+    let step2 = take-append-drop (8 * count) two in
+    let step3 = length-take-le (8 * count) one in
+    let step4 = prefix_of_prefix w rest in
+    grind (arith, common_steps, append_assoc w, length-append w rest, length-append w, step3, step4, step, step2)
 
 -- without columns nothing is read
 plain_no_columns : (settings : DecodeSettings) (stream : Bits) → settings.columns ≡ 0 → plain settings stream ≡ nothing_read
@@ -223,8 +216,7 @@ after_eofb settings one two count are whole_one whole_two four block comes count
       let found = closed_found settings four block wide (between [] one) comes.0 rest refl comes_so closes in
       let first : plain settings one ≡ record { rows = comes.0.rows; outcome = Ok ((length found.0 + 7) / 8); has_eols = comes.0.has_eols }
       = closed_plain settings comes.0 found.0 rest four wide found.2 one rest found.1 refl in
-      let count_is : (length found.0 + 7) / 8 ≡ count = let f : ◌≡◌ {A = Result ℕ DecodeError} (Ok ((length found.0 + 7) / 8)) (Ok count)
-      = sym (ap (λ (a : Reading). a.outcome) first) ∙ counted in cc in
+      let count_is : (length found.0 + 7) / 8 ≡ count = grind (arith, common_steps) in
       let front = same_front one two count found.0 rest whole_one whole_two found.1 count_is same in
       closed_plain settings comes.0 found.0 rest four wide found.2 two front.0 front.1 front.2 ∙ sym first
 ]

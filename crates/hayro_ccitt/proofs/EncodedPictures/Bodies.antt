@@ -1,8 +1,8 @@
 -- Lines without EOLs are read as their rows, in every encoding: bodies of T.6 data, and of T.4 data that the limit ends.
-use Rattle.std.proofs.Common.{◌≡◌, ◌≢◌, ℕ, ◌+◌, ◌%◌, ◌<◌, ◌≤◌, Bool, true, false, cond, not, ◌&&◌, ◌||◌, eqb, ltb, leb, List, [], ◌∷◌, ◌++◌, length}
-use Rattle.std.proofs.Common.{replicate, None, Ok, refl, sym, ap, subst, ◌∙◌, append_assoc, arith, inr}
+use Rattle.std.proofs.Common.{◌≡◌, ◌≢◌, ◌+◌, ◌%◌, ◌<◌, ◌≤◌, Bool, true, false, ◌&&◌, List, [], ◌∷◌, ◌++◌, length}
+use Rattle.std.proofs.Common.{replicate, Ok, sym, ap, subst, ◌∙◌, append_assoc, arith, inr}
 use Rattle.std.specs.Prelude.{All}
-use Rattle.std.proofs.lemmas.Bool.{and_right, and_from, not_from_false, or_from, or_left, or_right, cond-true, cond-false, eq-eqb, ne_eqb}
+use Rattle.std.proofs.lemmas.Bool.{and_from, not_from_false, eq-eqb, ne_eqb}
 use Rattle.std.proofs.lemmas.List.{length-append, length-replicate, append-nil}
 use Rattle.std.proofs.lemmas.List.Elements.{All-head, All-tail}
 use Rattle.hayro_ccitt.specs.declared.codes.Color.TheVariants.{White}
@@ -13,36 +13,22 @@ use Rattle.hayro_ccitt.specs.Bits.{Bits}
 use Rattle.hayro_ccitt.specs.Repetition.{Turn, Reaches}
 use Rattle.hayro_ccitt.specs.Rows.{Row}
 use Rattle.hayro_ccitt.specs.Lines.{Line}
-use Rattle.hayro_ccitt.specs.EndOfLine.{after_eol, eols, all_eols, pass_last_tag}
-use Rattle.hayro_ccitt.specs.PlainReading.{eols_of_end, eols_by, eols_here, is_over, Progress, row_before, aligned, limit_met, ends_with, line_by, line_here, row_of_line, pass_gap, ending_behind, first_line, end_of, Reading}
+use Rattle.hayro_ccitt.specs.EndOfLine.{eols}
+use Rattle.hayro_ccitt.specs.PlainReading.{eols_here, Progress, row_before, limit_met, ends_with, line_here, pass_gap, ending_behind, end_of}
 use Rattle.hayro_ccitt.specs.Encodings.{EncodesLine, IsPicture, EncodesRows}
 use Rattle.hayro_ccitt.specs.Pictures.{Allows}
-use Rattle.hayro_ccitt.specs.Laws.{gap_and_row, row_behind, add_row_alone, ReadsLimitedRowsT4}
-use Rattle.hayro_ccitt.proofs.Readings.GapsAndRows.{first_gap_t4, gap_unsought, reaches_end}
-use Rattle.hayro_ccitt.proofs.Readings.RowsAndGaps.{unless_over}
-use Rattle.hayro_ccitt.proofs.Readings.TurnsMoveOn.{few_eols, eols-none, eols_with_tags-none}
+use Rattle.hayro_ccitt.specs.Laws.{gap_and_row, ReadsLimitedRowsT4}
+use Rattle.hayro_ccitt.proofs.Readings.GapsAndRows.{first_gap_t4, reaches_end}
+use Rattle.hayro_ccitt.proofs.Readings.TurnsMoveOn.{eols-none}
 use Rattle.hayro_ccitt.proofs.EncodedPictures.EncodedLines.{line_2d_again}
-use Rattle.hayro_ccitt.proofs.EncodedPictures.PictureLines.{IsLineStart, line_2d_starts, allows_sum, not_met, same_pair, row_before_push, plain_ends, fill, aligned_again, aligned_on, between, ended}
+use Rattle.hayro_ccitt.proofs.EncodedPictures.PictureLines.{IsLineStart, line_2d_starts, allows_sum, not_met, row_before_push, plain_ends, fill, aligned_again, aligned_on, between, ended}
 use Rattle.hayro_ccitt.proofs.EncodedPictures.PicturesT4.{line_t4_again, line_t4_starts}
 use Rattle.std.proofs.lemmas.Grind.{common_steps}
 
 -- ---- No EOL is counted where there is none.
-pass_zero : (here : Bits) → pass_last_tag (0, here) ≡ (0, here)
-pass_zero [] = refl
-pass_zero (true ∷ here) = refl
-pass_zero (false ∷ here) = refl
-
-no_eols : (settings : DecodeSettings) (here : Bits) → after_eol 0 here ≡ None → eols_here settings here ≡ (0, here)
-no_eols settings here none = by settings.encoding
-  where
-    by : (encoding : EncodingMode) → eols_by encoding settings.end_of_block here ≡ (0, here)
-    by Group3_1D = eols-none (length here) here none
-    by Group3_2D = ap pass_last_tag (eols_with_tags-none (length here) here none) ∙ pass_zero here
-    by Group4 = same_pair settings.end_of_block _ _ _ (eols-none 2 here none) (eols-none (length here) here none)
 
 with_true : (b : Bool) → (b && true) ≡ b
-with_true true = refl
-with_true false = refl
+with_true b = grind (arith, common_steps)
 
 -- ---- Gaps
 
@@ -71,9 +57,7 @@ module _ (settings : DecodeSettings) (wide : 0 < settings.columns) (small : sett
 
   line_again : (encoding : EncodingMode) (reference row : Row) (line more : Bits) → settings.encoding ≡ encoding → EncodesLine encoding reference row line
       → length reference ≡ settings.columns → length row ≡ settings.columns → line_here settings reference (line ++ more) ≡ Line.whole row more
-  line_again Group4 reference row line more same is ref_len row_len =
-      ap (λ (e : EncodingMode). line_by e settings.strict settings.columns reference (line ++ more)) same
-      ∙ line_2d_again settings.strict settings.columns reference row line more is wide small ref_len row_len
+  line_again Group4 reference row line more same is ref_len row_len = grind (arith, common_steps, line_2d_again)
   line_again Group3_1D reference row line more same is ref_len row_len = line_t4_again settings wide small Group3_1D reference row line more same is ref_len row_len
   line_again Group3_2D reference row line more same is ref_len row_len = line_t4_again settings wide small Group3_2D reference row line more same is ref_len row_len
 
@@ -89,11 +73,7 @@ module _ (settings : DecodeSettings) (wide : 0 < settings.columns) (small : sett
       → line_here settings (row_before settings.columns rows) here ≡ Line.whole row (fill b line ++ tail)
       → gap_and_row settings (between rows here) ≡ Turn.next (between (rows ++ row ∷ []) tail)
   row_read rows here row line tail start open_limit whole read =
-      let j : Bits = fill b line ++ tail in
-      ap (row_behind settings) (gap_at_line settings rows here start open_limit)
-      ∙ ap (λ (l : Line). add_row_alone (between rows here) (row_of_line settings false here l)) read
-      ∙ ap (λ (t : Bool). Turn.next (between (rows ++ row ∷ []) (cond t (aligned j) j))) (with_true b)
-      ∙ ap (λ (x : Bits). Turn.next (between (rows ++ row ∷ []) x)) (aligned_again b line tail whole)
+      grind (arith, common_steps, aligned_again, between, fill, gap_at_line, with_true)
 
   module _ (encoding : EncodingMode) (same : settings.encoding ≡ encoding) where
     -- from a line's start, at a whole byte if lines are aligned, the lines are read and what follows is left
@@ -109,8 +89,7 @@ module _ (settings : DecodeSettings) (wide : 0 < settings.columns) (small : sett
         let tail : Bits = next ++ more in
         let rows1 : List Row = before ++ row ∷ [] in
         let row_len : length row ≡ settings.columns = All-head (λ row. length row ≡ settings.columns) row rows widths in
-        let here : body ++ more ≡ line ++ (fill b line ++ tail) = ap (λ (x : Bits). x ++ more) split
-        ∙ append_assoc (line ++ fill b line) next more ∙ append_assoc line (fill b line) tail in
+        let here : body ++ more ≡ line ++ (fill b line ++ tail) = grind (arith, common_steps, append_assoc, fill) in
         let here2 : (line ++ fill b line) ++ tail ≡ body ++ more = append_assoc line (fill b line) tail ∙ sym here in
         let whole2 : b ≡ true → length ((line ++ fill b line) ++ tail) % 8 ≡ 0 = λ e. ap (λ (x : Bits). length x % 8) here2 ∙ whole e in
         let moved = row_read before (body ++ more) row line tail
@@ -134,8 +113,7 @@ module _ (settings : DecodeSettings) (wide : 0 < settings.columns) (small : sett
       pub body_end : ending_behind settings (pass_gap settings (between [] (body ++ more))) ≡ ended rows (eols_here settings more).1
       body_end =
           let met : limit_met settings (length rows) ≡ true
-          = and_from (not (eqb settings.rows 0)) (eqb settings.rows (length rows))
-          (not_from_false (eqb settings.rows 0) (ne_eqb settings.rows 0 (λ e. absurd (omega arith)))) (eq-eqb settings.rows (length rows) limit) in
+          = grind (arith, common_steps, and_from, eq-eqb, ne_eqb, not_from_false) in
           reaches_end settings wide (between [] (body ++ more)) (between rows more) (ended rows (eols_here settings more).1)
           (body_again [] rows body more (allows_sum settings (length rows) allows) (length-replicate settings.columns false) is.1 whole lines)
           (gap_at_limit settings rows more met)
@@ -156,23 +134,8 @@ module _ (settings : DecodeSettings) (wide : 0 < settings.columns) (small : sett
       -- T.4 lines without EOLs are read as their rows, up to the limit
       pub rows_t4_end : settings.encoding ≢ Group4 → settings.end_of_line ≡ false → end_of settings (body ++ more) ≡ ended rows (eols_here settings more).1
       rows_t4_end other no_line =
-          let all : Bits = body ++ more in
-          let none : all_eols all ≡ (0, all) = eols-none (length all) all body_starts.no_eol in
-          let begins : first_line settings all ≡ between [] all
-          = ap (λ (f : ℕ × Bits). record { rows = []; has_eols = ltb 0 f.0 || settings.end_of_line; rest = f.1 }) none
-          ∙ ap (λ (h : Bool). record { rows = []; has_eols = h; rest = all }) no_line in
-          ap (ending_behind settings) (first_gap_t4 settings all other ∙ ap Turn.next begins
-          ∙ sym (gap_at_line settings [] all body_starts (not_met settings (length rows) 0 allows some)))
-          ∙ body_end
+          grind (arith, common_steps, allows, between, body_end, body_starts, eols-none, first_gap_t4, gap_at_line, not_met)
 
 -- the law
 pub limited_rows_t4 : ReadsLimitedRowsT4
-limited_rows_t4 settings rows bits stream are all begins =
-    let wide : 0 < settings.columns = begins.picture.0 in
-    let more : Bits = begins.begins.0 in
-    let found : Bits = (eols_here settings more).1 in
-    let whole : length (bits ++ more) % 8 ≡ 0 = omega (arith, all, ap length begins.begins.1) in
-    let ends = rows_t4_end settings wide (omega (arith, are.columns)) settings.encoding refl rows bits more begins.some begins.limit begins.picture
-    (λ e. whole) begins.lines begins.encoding begins.end_of_line in
-    let e = plain_ends settings stream (ended rows found) found wide (ap (end_of settings) begins.begins.1 ∙ ends) refl in
-    (ap (λ (a : Reading). a.rows) e, rw e refl)
+limited_rows_t4 settings rows bits stream are all begins = grind (arith, common_steps, ended, plain_ends, rows_t4_end)

@@ -1,16 +1,15 @@
 -- What was encoded is read again.
-use Rattle.std.proofs.Common.{◌≡◌, ℕ, ◌+◌, ◌-◌, ◌<◌, ◌≤◌, min, Bool, false, ◌++◌, length, replicate, Result, Ok, refl, ap, ◌∙◌, append_assoc, add_assoc, arith}
-use Rattle.std.proofs.lemmas.Bool.{le-ltb, lt-leb, le-leb, and_right}
-use Rattle.std.proofs.lemmas.List.{length-append, length-replicate, append-nil}
+use Rattle.std.proofs.Common.{◌≡◌, ℕ, ◌+◌, ◌<◌, ◌≤◌, Bool, ◌++◌, length, replicate, Result, Ok, ap, ◌∙◌, append_assoc, add_assoc, arith}
+use Rattle.std.proofs.lemmas.Bool.{lt-leb}
+use Rattle.std.proofs.lemmas.List.{length-append, length-replicate}
 use Rattle.hayro_ccitt.specs.declared.codes.Color.{Color}
 use Rattle.hayro_ccitt.specs.declared.error.DecodeError.{DecodeError}
 use Rattle.hayro_ccitt.specs.Bits.{Bits}
-use Rattle.hayro_ccitt.specs.CodeReading.{read_code}
 use Rattle.hayro_ccitt.specs.Repetition.{Turn}
 use Rattle.hayro_ccitt.specs.Rows.{Row, is_black, opposite, paint}
 use Rattle.hayro_ccitt.specs.Runs.{codes_of, run_from}
 use Rattle.hayro_ccitt.specs.Lines.{Line, Pen}
-use Rattle.hayro_ccitt.proofs.DrawingLines.Drawings.{try, run_then, drawn_by, step_1d}
+use Rattle.hayro_ccitt.proofs.DrawingLines.Drawings.{run_then, drawn_by, step_1d}
 use Rattle.hayro_ccitt.specs.Answers.{Step}
 use Rattle.hayro_ccitt.specs.Encodings.{Spells, EncodesLine1D}
 use Rattle.hayro_ccitt.proofs.Readings.Repeated.{after_turn}
@@ -26,11 +25,8 @@ pub run_spelled : (color : Color) (n : ℕ) (bits : Bits) (total : ℕ) (more : 
 run_spelled color n bits total more (Spells.terminating m word has small) le =
     run_ends color total n (bits ++ more) more (read_code_again (codes_of color) n bits more (codes_free color) has) le small
 run_spelled color n bits total more (Spells.makeup m word {n = k} {bits = next} has large rest) le =
-    let here : (word ++ next) ++ more ≡ word ++ (next ++ more) = append_assoc word next more in
-    let one : read_code (codes_of color) ((word ++ next) ++ more) ≡ Ok (m, next ++ more)
-    = rw here (read_code_again (codes_of color) m word (next ++ more) (codes_free color) has) in
-    run_goes_on color total m ((word ++ next) ++ more) (next ++ more) one (omega arith) large
-    ∙ run_spelled color k next (total + m) more rest (omega arith) ∙ rw (add_assoc total m k) refl
+    let step = run_spelled color k next (total + m) more rest (omega arith) in
+    grind (arith, common_steps, add_assoc, append_assoc, codes_free, read_code_again, run_goes_on, step)
 
 -- a run that was read
 abbrev pub read_as : Bits → ℕ → Result (ℕ × Bits) DecodeError
@@ -58,13 +54,11 @@ line_1d_again strict columns front row color bits more (EncodesLine1D.run n word
     let open_end : length front < columns = omega (arith, len) in
     let here : (word ++ next) ++ more ≡ word ++ (next ++ more) = append_assoc word next more in
     let sum : 0 + n ≡ n = omega arith in
-    let read : run_from color (0, (word ++ next) ++ more) ≡ Ok (n, next ++ more) = ap (λ (x : Bits). run_from color (0, x)) here
-    ∙ run_spelled color n word 0 (next ++ more) spells (omega (arith, len)) ∙ ap (read_as (next ++ more)) sum in
+    let read : run_from color (0, (word ++ next) ++ more) ≡ Ok (n, next ++ more) = grind (arith, common_steps, run_spelled) in
     let painted = paint_fits strict columns front color n (omega (arith, len)) in
     let stepped : step_1d strict columns (record { front = front; color = color; rest = (word ++ next) ++ more }) ≡ Turn.next
     (record { front = front ++ replicate n (is_black color); color = opposite color; rest = next ++ more })
-    = rw (lt-leb columns (length front) open_end)
-    (draws strict columns front color ((word ++ next) ++ more) n (next ++ more) (front ++ replicate n (is_black color)) Turn.next read painted) in
+    = grind (arith, common_steps, draws, lt-leb) in
     let on = line_1d_again strict columns (front ++ replicate n (is_black color)) others (opposite color) next more rest le
     (omega (arith, len, length-append front (replicate n (is_black color)), length-replicate n (is_black color))) in
     drawn1 strict columns _ ∙ ap (after_turn (drawn_by (step_1d strict columns))) stepped ∙ on

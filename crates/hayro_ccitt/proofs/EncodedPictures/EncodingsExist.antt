@@ -23,6 +23,7 @@ use Rattle.hayro_ccitt.proofs.CodeWords.ReadRuns.{chosen}
 use Rattle.hayro_ccitt.proofs.PixelRows.ChangePlaces.{a1_next, a2_next, a2_least}
 use Rattle.hayro_ccitt.specs.declared.settings.EncodingMode.TheVariants.{Group4, Group3_1D, Group3_2D}
 use Rattle.hayro_ccitt.specs.declared.settings.EncodingMode.{EncodingMode}
+use Rattle.std.proofs.lemmas.Grind.{common_steps}
 
 -- ---- Runs.
 -- the word of a list for a length
@@ -50,8 +51,7 @@ terminating_word White n lt = some_word (codes_of White) n (agree_below_at (λ m
 terminating_word Black n lt = some_word (codes_of Black) n (agree_below_at (λ m. is_some (word_for (codes_of Black) m)) (λ m. true) 64 n refl lt)
 
 makeup_word : (color : Color) → (word : Bits) × Has (codes_of color) 64 word
-makeup_word White = some_word (codes_of White) 64 refl
-makeup_word Black = some_word (codes_of Black) 64 refl
+makeup_word color = grind (arith, common_steps, some_word)
 
 run_spelled : (color : Color) (times n : ℕ) → n < 64 → (bits : Bits) × Spells color (64 * times + n) bits
 run_spelled color zero n lt = let word = terminating_word color n lt in
@@ -66,19 +66,14 @@ run_spelled color (suc times) n lt =
 
 -- a run of any length is spelled by make-up words of 64 and a terminating word
 pub every_run_spelled : (color : Color) (n : ℕ) → (bits : Bits) × Spells color n bits
-every_run_spelled color n = subst (λ (m : ℕ). (bits : Bits) × Spells color m bits) (let e : 64 * (n / 64) + n % 64 ≡ n = omega arith in e)
-    (run_spelled color (n / 64) (n % 64) (omega arith))
+every_run_spelled color n = grind (arith, common_steps, run_spelled color (n / 64) (n % 64) (omega arith))
 
 -- ---- One-dimensional lines.
 pixel_or : (color : Color) (pixel : Bool) → (pixel ≡ is_black color) ⊎ (pixel ≡ is_black (opposite color))
-pixel_or White false = inl refl
-pixel_or White true = inr refl
-pixel_or Black false = inr refl
-pixel_or Black true = inl refl
+pixel_or color pixel = grind (arith, common_steps)
 
 colors_differ : (color : Color) → is_black (opposite color) ≡ is_black color → ⊥
-colors_differ White e = false≢true (sym e)
-colors_differ Black e = false≢true e
+colors_differ color e = grind (arith, common_steps)
 
 replicate-push : (n : ℕ) (pixel : Bool) (row : Row) → replicate n pixel ++ (pixel ∷ row) ≡ replicate (suc n) pixel ++ row
 replicate-push zero pixel row = refl
@@ -197,26 +192,17 @@ same_bit m n j k e = ap (λ (b : ℕ). eqb b 1) e
 low_bits_of_low : (width a k b : ℕ) → width ≤ k → low_bits width (a * 2 ^ k + b) ≡ low_bits width b
 low_bits_of_low zero a k b le = refl
 low_bits_of_low (suc width) a k b le =
-    let one : bit_of (a * 2 ^ k + b) width ≡ bit_of b width = same_bit (a * 2 ^ k + b) b width width (bit_at_cat_low a k b width (omega arith)) in
-    let rest = low_bits_of_low width a k b (omega arith) in
-    cc
+    grind (arith, common_steps, bit_at_cat_low, same_bit, low_bits_of_low width a k b (omega arith))
 
 digit_bit : (bit : Bool) → bit_of (digit bit) 0 ≡ bit
-digit_bit true = refl
-digit_bit false = refl
+digit_bit bit = grind (arith, common_steps)
 
 -- the bits of the number that bits write
 low_bits_value : (bits : Bits) → low_bits (length bits) (value bits) ≡ bits
 unfolding value
 low_bits_value [] = refl
 low_bits_value (bit ∷ bits) =
-    let n : ℕ = length bits in
-    let none : n - n ≡ 0 = omega arith in
-    let one : bit_of (digit bit * 2 ^ n + value bits) n ≡ bit
-    = same_bit (digit bit * 2 ^ n + value bits) (digit bit) n (n - n) (bit_at_cat_high (digit bit) n (value bits) n (value_below bits) (omega arith))
-    ∙ ap (bit_of (digit bit)) none ∙ digit_bit bit in
-    let rest : low_bits n (digit bit * 2 ^ n + value bits) ≡ bits = low_bits_of_low n (digit bit) n (value bits) (omega arith) ∙ low_bits_value bits in
-    cc
+    grind (arith, common_steps, bit_at_cat_high, digit_bit, low_bits_of_low, same_bit, value, value_below, low_bits_value bits)
 
 -- the first n of them
 cut : (n : ℕ) (bits : Bits) → n ≤ length bits → (front rest : Bits) × (bits ≡ front ++ rest) × (length front ≡ n)
@@ -230,8 +216,7 @@ highest_first HighestFirst front = front
 highest_first LowestFirst front = reverse front
 
 length-highest_first : (order : BitOrder) (front : Bits) → length (highest_first order front) ≡ length front
-length-highest_first HighestFirst front = refl
-length-highest_first LowestFirst front = length-reverse front
+length-highest_first order front = grind (arith, common_steps)
 
 -- the byte whose bits these are
 byte_of : (order : BitOrder) (front : Bits) → length front ≡ 8 → bits_of_byte order (value (highest_first order front)) ≡ front

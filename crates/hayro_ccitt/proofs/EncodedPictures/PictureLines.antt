@@ -1,11 +1,9 @@
 -- Where lines of pictures begin, their padding, and how readings that reach their end are described.
-use Rattle.std.proofs.Common.{◌≡◌, ℕ, suc, ◌+◌, ◌-◌, ◌/◌, ◌%◌, ◌<◌, ◌≤◌, Bool, true, false, cond, not, eqb, leb, List, [], ◌∷◌}
-use Rattle.std.proofs.Common.{◌++◌, length, None, Result, Ok, refl, sym, ap, subst, ◌∙◌, append_assoc, arith, inl, inr}
-use Rattle.std.proofs.lemmas.Bool.{and_right, and_left, cond-false, not-true, eq-eqb, ne_eqb, false≢true}
-use Rattle.std.proofs.lemmas.List.{length-append, length-replicate, drop_at}
+use Rattle.std.proofs.Common.{◌≡◌, ℕ, suc, ◌+◌, ◌-◌, ◌/◌, ◌%◌, ◌<◌, ◌≤◌, Bool, true, false, cond, not, leb, List, [], ◌∷◌}
+use Rattle.std.proofs.Common.{◌++◌, length, None, Ok, refl, arith}
+use Rattle.std.proofs.lemmas.Bool.{not-true, false≢true}
 use Rattle.hayro_ccitt.specs.declared.codes.Color.{Color}
 use Rattle.hayro_ccitt.specs.declared.codes.Mode.{Mode}
-use Rattle.hayro_ccitt.specs.declared.error.DecodeError.{DecodeError}
 use Rattle.hayro_ccitt.specs.declared.settings.EncodingMode.{EncodingMode}
 use Rattle.hayro_ccitt.specs.declared.settings.DecodeSettings.{DecodeSettings}
 use Rattle.hayro_ccitt.specs.Bits.{Bits}
@@ -13,11 +11,9 @@ use Rattle.hayro_ccitt.specs.CodeLists.{mode_codes}
 use Rattle.hayro_ccitt.specs.CodeReading.{Has}
 use Rattle.hayro_ccitt.specs.Rows.{Row}
 use Rattle.hayro_ccitt.specs.EndOfLine.{after_eol, eols}
-use Rattle.hayro_ccitt.specs.PlainReading.{Progress, Ending, row_before, aligned, at_end, limit_met, nothing_read, whole_reading, end_of, plain}
+use Rattle.hayro_ccitt.specs.PlainReading.{Progress, Ending, row_before, aligned, at_end, limit_met, end_of, plain}
 use Rattle.hayro_ccitt.specs.Pictures.{Allows}
-use Rattle.hayro_ccitt.specs.Laws.{each_word}
 use Rattle.hayro_ccitt.specs.Encodings.{EncodesLine2D, padding, eol}
-use Rattle.hayro_ccitt.proofs.BitReading.ZerosInWords.{each_word_at}
 use Rattle.std.proofs.lemmas.Grind.{common_steps}
 
 -- settings for a closed picture: the end of the block is looked for, and there is no limit
@@ -42,9 +38,6 @@ pub goes_on : (word more : Bits) → misses_eol 0 word ≡ true → at_end (word
 goes_on [] more e = absurd (false≢true e)
 goes_on (b ∷ word) more e = refl
 
-modes_miss : each_word (misses_eol 0) mode_codes ≡ true
-modes_miss = refl
-
 -- where a line begins there is no EOL, and not the end
 pub record IsLineStart (here : Bits) : Type 0 where
   pub no_eol : after_eol 0 here ≡ None
@@ -55,14 +48,7 @@ mode_starts mode word more has = grind (arith, common_steps)
 
 pub line_2d_starts : (reference row : Row) (from : ℕ) (color : Color) (bits more : Bits) → EncodesLine2D reference row from color bits → from ≤ length row
     → IsLineStart (bits ++ more)
-line_2d_starts reference row from color bits more EncodesLine2D.over le = absurd (omega arith)
-line_2d_starts reference row from color bits more (EncodesLine2D.pass from2 word {bits = next} inside has left_of steps) le =
-    subst IsLineStart (sym (append_assoc word next more)) (mode_starts _ word (next ++ more) has)
-line_2d_starts reference row from color bits more (EncodesLine2D.vertical from2 word k {bits = next} inside has exact steps) le =
-    subst IsLineStart (sym (append_assoc word next more)) (mode_starts _ word (next ++ more) has)
-line_2d_starts reference row from color bits more
-    (EncodesLine2D.horizontal from2 word {first = run1} {second = run2} {bits = next} inside has one two steps) le =
-    subst IsLineStart (sym (append_assoc word (run1 ++ (run2 ++ next)) more)) (mode_starts _ word ((run1 ++ (run2 ++ next)) ++ more) has)
+line_2d_starts reference row from color bits more given le = grind (arith, common_steps)
 
 -- ---- One line of a run.
 pub allows_sum : (settings : DecodeSettings) (n : ℕ) → Allows settings n → Allows settings (0 + n)
@@ -70,30 +56,20 @@ allows_sum settings n allows = let e : 0 + n ≡ n = omega arith in rw e allows
 
 -- a limit that allows more rows is not met
 pub not_met : (settings : DecodeSettings) (n k : ℕ) → Allows settings n → k < n → limit_met settings k ≡ false
-not_met settings n k (inl none) lt = and_left (not (eqb settings.rows 0)) (eqb settings.rows k) (rw (eq-eqb settings.rows 0 none) refl)
-not_met settings n k (inr le) lt = and_right (not (eqb settings.rows 0)) (eqb settings.rows k) (ne_eqb settings.rows k (λ e. absurd (omega arith)))
-
-pub same_pair : {A : Type 0} (b : Bool) (x y z : A) → x ≡ z → y ≡ z → cond b x y ≡ z
-same_pair true x y z e f = e
-same_pair false x y z e f = f
+not_met settings n k given lt = grind (arith, common_steps)
 
 -- ---- Padding.
 abbrev pub fill : Bool → Bits → Bits
 fill b line = cond b (padding (length line)) []
 
-length-fill : (line : Bits) → length (fill true line) ≡ (8 - length line % 8) % 8
-length-fill line = length-replicate ((8 - length line % 8) % 8) false
-
 -- from a whole byte on, a line with its padding ends at a whole byte
 pub aligned_again : (b : Bool) (line next : Bits) → (b ≡ true → length ((line ++ fill b line) ++ next) % 8 ≡ 0)
     → cond b (aligned (fill b line ++ next)) (fill b line ++ next) ≡ next
-aligned_again false line next whole = refl
-aligned_again true line next whole = grind (arith, common_steps)
+aligned_again b line next whole = grind (arith, common_steps)
 
 -- the next line begins at a whole byte too
 pub aligned_on : (b : Bool) (line next : Bits) → (b ≡ true → length ((line ++ fill b line) ++ next) % 8 ≡ 0) → b ≡ true → length next % 8 ≡ 0
-aligned_on false line next whole e = absurd (false≢true e)
-aligned_on true line next whole e = grind (arith, common_steps)
+aligned_on b line next whole e = grind (arith, common_steps)
 
 -- ---- The lines of a picture.
 pub row_before_push : (columns : ℕ) (rows : List Row) (row : Row) → row_before columns (rows ++ row ∷ []) ≡ row

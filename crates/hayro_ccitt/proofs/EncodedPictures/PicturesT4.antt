@@ -1,30 +1,29 @@
 -- A T.4 picture is read again.
-use Rattle.std.proofs.Common.{◌≡◌, ◌≢◌, ℕ, zero, suc, ◌+◌, ◌<◌, ◌≤◌, Bool, true, false, cond, not, ◌&&◌, ◌||◌, eqb, ltb, leb, List, [], ◌∷◌, ◌++◌, length, replicate, Some, None, Ok, Err, refl, sym, ap, subst, ◌∙◌, append_assoc, arith, inl, inr}
+use Rattle.std.proofs.Common.{◌≡◌, ◌≢◌, ℕ, zero, suc, ◌+◌, ◌<◌, ◌≤◌, Bool, true, false, cond, ◌&&◌, ◌||◌, ltb, leb, List, [], ◌∷◌, ◌++◌, length, replicate, Some, None, Ok, Err, refl, sym, ap, subst, ◌∙◌, append_assoc, arith, inl, inr}
 use Rattle.std.specs.Prelude.{All}
-use Rattle.std.proofs.lemmas.Bool.{and_right, and_left, and_from, not_from_false, not_from_true, or_from, or_left, or_right, cond-true, cond-false}
+use Rattle.std.proofs.lemmas.Bool.{and_right, and_from, not_from_false, or_from, cond-false}
 use Rattle.std.proofs.lemmas.Bool.{eq-eqb, ne_eqb}
 use Rattle.std.proofs.lemmas.List.{length-append, length-replicate, append-nil}
 use Rattle.std.proofs.lemmas.List.Elements.{All-head, All-tail}
 use Rattle.hayro_ccitt.specs.declared.codes.Color.{Color}
-use Rattle.hayro_ccitt.specs.declared.codes.Color.TheVariants.{White, Black}
+use Rattle.hayro_ccitt.specs.declared.codes.Color.TheVariants.{White}
 use Rattle.hayro_ccitt.specs.declared.error.DecodeError.TheVariants.{UnexpectedEof}
 use Rattle.hayro_ccitt.specs.declared.settings.EncodingMode.{EncodingMode}
 use Rattle.hayro_ccitt.specs.declared.settings.EncodingMode.TheVariants.{Group3_1D, Group3_2D, Group4}
 use Rattle.hayro_ccitt.specs.declared.settings.DecodeSettings.{DecodeSettings}
 use Rattle.hayro_ccitt.specs.Bits.{Bits}
-use Rattle.hayro_ccitt.specs.CodeLists.{mode_codes}
 use Rattle.hayro_ccitt.specs.Repetition.{Turn, repeated}
 use Rattle.hayro_ccitt.specs.Rows.{Row}
 use Rattle.hayro_ccitt.specs.Runs.{codes_of}
 use Rattle.hayro_ccitt.specs.Lines.{Line, line_1d, line_2d}
 use Rattle.hayro_ccitt.specs.EndOfLine.{after_eol, one_more, eols, all_eols, past_tag, eols_with_tags, pass_last_tag, tagged_eols}
-use Rattle.hayro_ccitt.specs.PlainReading.{eols_of_end, ending_behind, Progress, Ending, row_before, aligned, at_end, limit_met, ends_with, line_here, eols_here, Reading}
+use Rattle.hayro_ccitt.specs.PlainReading.{eols_of_end, ending_behind, Progress, Ending, row_before, aligned, at_end, limit_met, line_here, eols_here}
 use Rattle.hayro_ccitt.specs.PlainReading.{after_line, move_on, ending_from}
 use Rattle.hayro_ccitt.specs.PlainReading.{end_of}
 use Rattle.hayro_ccitt.specs.Encodings.{Spells, EncodesLine1D, EncodesLine2D, EncodesLine, eol, tag_of, IsPicture, EncodesRowsWithEols}
 use Rattle.hayro_ccitt.specs.Encodings.{ClosesWithEols, PictureT4}
 use Rattle.hayro_ccitt.specs.Laws.{each_word, ReadsPictureT4, ReadsLimitedPictureT4, OnePictureT4}
-use Rattle.hayro_ccitt.proofs.Readings.TurnsMoveOn.{few_eols, many_eols, eols-none, one_more-count, eol_of, eols_with_tags-some, eols_with_tags-none, last_tag_count}
+use Rattle.hayro_ccitt.proofs.Readings.TurnsMoveOn.{few_eols, eols-none, one_more-count, eol_of, eols_with_tags-some, eols_with_tags-none, last_tag_count}
 use Rattle.hayro_ccitt.specs.Pictures.{Allows}
 use Rattle.hayro_ccitt.proofs.Readings.Repeated.{after_turn}
 use Rattle.hayro_ccitt.proofs.BitReading.ZerosInWords.{each_word_at}
@@ -32,41 +31,27 @@ use Rattle.hayro_ccitt.proofs.EncodedPictures.EncodedRuns.{line_1d_again}
 use Rattle.hayro_ccitt.proofs.EncodedPictures.EncodedLines.{line_2d_again}
 use Rattle.hayro_ccitt.proofs.EncodedPictures.PictureLines.{closed_settings, misses_eol, missed, goes_on, IsLineStart, not_met, row_before_push, plain_ends}
 use Rattle.hayro_ccitt.proofs.Readings.GapsAndRows.{first_gap_t4, ending_t4}
-use Rattle.hayro_ccitt.proofs.Readings.RowsAndGaps.{unless_over, after_row, seek_eol, after_whole-is}
+use Rattle.hayro_ccitt.proofs.Readings.RowsAndGaps.{unless_over, after_row, after_whole-is}
 use Rattle.std.proofs.lemmas.Grind.{common_steps}
 
 -- ---- What a line begins with.
 codes_miss : (color : Color) → each_word (misses_eol 0) (codes_of color) ≡ true
-codes_miss White = refl
-codes_miss Black = refl
+codes_miss color = grind (arith, common_steps)
 
 run_starts : (color : Color) (n : ℕ) (word more : Bits) → Spells color n word → IsLineStart (word ++ more)
 run_starts color n word more (Spells.terminating m w has small) =
-    let e = each_word_at (misses_eol 0) (codes_of color) n word (codes_miss color) has in
-    record { no_eol = missed 0 word more e; open_end = goes_on word more e }
+    grind (arith, common_steps, codes_miss, each_word_at, goes_on, missed, misses_eol)
 run_starts color n word more (Spells.makeup m w {n = k} {bits = next} has large rest) =
-    let e = each_word_at (misses_eol 0) (codes_of color) m w (codes_miss color) has in
-    subst IsLineStart (sym (append_assoc w next more)) (record { no_eol = missed 0 w (next ++ more) e; open_end = goes_on w (next ++ more) e })
+    grind (arith, common_steps, append_assoc, codes_miss, each_word_at, goes_on, missed, misses_eol)
 
 line_1d_starts : (color : Color) (row : Row) (bits more : Bits) → EncodesLine1D color row bits → 0 < length row → IsLineStart (bits ++ more)
 line_1d_starts color row bits more EncodesLine1D.over some = absurd (omega arith)
 line_1d_starts color row bits more (EncodesLine1D.run n word {row = others} {bits = next} spells first maximal rest) some =
     subst IsLineStart (sym (append_assoc word next more)) (run_starts color n word (next ++ more) spells)
 
--- after a tag of zero there are few zeros too
-modes_miss_one : each_word (misses_eol 1) mode_codes ≡ true
-modes_miss_one = refl
-
 line_2d_after_tag : (reference row : Row) (from : ℕ) (color : Color) (bits more : Bits) → EncodesLine2D reference row from color bits
     → from ≤ length row → after_eol 1 (bits ++ more) ≡ None
-line_2d_after_tag reference row from color bits more EncodesLine2D.over le = absurd (omega arith)
-line_2d_after_tag reference row from color bits more (EncodesLine2D.pass from2 word {bits = next} inside has left_of steps) le =
-    ap (after_eol 1) (append_assoc word next more) ∙ missed 1 word (next ++ more) (each_word_at (misses_eol 1) mode_codes _ word modes_miss_one has)
-line_2d_after_tag reference row from color bits more (EncodesLine2D.vertical from2 word k {bits = next} inside has exact steps) le =
-    ap (after_eol 1) (append_assoc word next more) ∙ missed 1 word (next ++ more) (each_word_at (misses_eol 1) mode_codes _ word modes_miss_one has)
-line_2d_after_tag reference row from color bits more
-    (EncodesLine2D.horizontal from2 word {first = run1} {second = run2} {bits = next} inside has one two steps) le =
-    grind (arith, common_steps)
+line_2d_after_tag reference row from color bits more given le = grind (arith, common_steps)
 
 -- where a line of T.4 begins: there is no EOL there, nor after a tag
 record IsTagStart (here : Bits) : Type 0 where
@@ -74,7 +59,7 @@ record IsTagStart (here : Bits) : Type 0 where
   no_tag : past_tag here ≡ here
 
 -- ---- EOLs that are there.
-eol_stands : (fill : ℕ) (more : Bits) → after_eol 0 (eol fill ++ more) ≡ Some more
+pub eol_stands : (fill : ℕ) (more : Bits) → after_eol 0 (eol fill ++ more) ≡ Some more
 eol_stands fill more = ap (after_eol 0) (append_assoc (replicate (11 + fill) false) (true ∷ []) more) ∙ eol_of 0 (11 + fill) more (omega arith)
 
 length-eol : (fill : ℕ) (more : Bits) → length (eol fill ++ more) ≡ suc (11 + fill + length more)
@@ -91,20 +76,13 @@ one_eol : (fill : ℕ) (here : Bits) → after_eol 0 here ≡ None → all_eols 
 one_eol fill here none = all_eols_more fill here ∙ ap one_more (eols-none (11 + fill + length here) here none)
 
 pass_none : (here : Bits) → pass_last_tag (1, here) ≡ (1, here)
-pass_none [] = refl
-pass_none (true ∷ here) = refl
-pass_none (false ∷ here) = refl
+pass_none here = grind (arith, common_steps)
 
 tagged_eols_more : (most fill : ℕ) (more : Bits) → eols_with_tags (suc most) (eol fill ++ more) ≡ one_more (eols_with_tags most (past_tag more))
 tagged_eols_more most fill more = eols_with_tags-some most (eol fill ++ more) more (eol_stands fill more)
 
 one_tagged : (fill : ℕ) (here : Bits) → IsTagStart here → tagged_eols (eol fill ++ here) ≡ (1, here)
-one_tagged fill here at =
-    let most : ℕ = 11 + fill + length here in
-    let one : eols_with_tags (length (eol fill ++ here)) (eol fill ++ here) ≡ (1, here)
-    = ap (λ (n : ℕ). eols_with_tags n (eol fill ++ here)) (length-eol fill here) ∙ tagged_eols_more most fill here
-    ∙ ap (λ (rest : Bits). one_more (eols_with_tags most rest)) at.no_tag ∙ ap one_more (eols_with_tags-none most here at.start.no_eol) in
-    ap pass_last_tag one ∙ pass_none here
+one_tagged fill here at = grind (arith, common_steps, eols_with_tags-none, length-eol, pass_none, tagged_eols_more)
 
 -- ---- Kinds.
 pub eols_here_one : (settings : DecodeSettings) (here : Bits) → settings.encoding ≡ Group3_1D → eols_here settings here ≡ all_eols here
@@ -117,63 +95,39 @@ eols_here_two settings here e = rw (e, eols_here) refl
 tagged_line : (settings : DecodeSettings) (reference : Row) (tag : Bool) (here : Bits) → settings.encoding ≡ Group3_2D
     → line_here settings reference (tag ∷ here) ≡ cond tag (line_1d settings.strict settings.columns here)
     (line_2d settings.strict settings.columns reference here)
-tagged_line settings reference true here e = rw (e, line_here) refl
-tagged_line settings reference false here e = rw (e, line_here) refl
+tagged_line settings reference tag here e = grind (arith, common_steps)
 
 -- ---- The EOLs that close a picture.
 eols_closing : (n most : ℕ) (closing more : Bits) → ClosesWithEols Group3_1D n closing → n ≤ most → n ≤ (eols most (closing ++ more)).0
 eols_closing zero most closing more is le = omega arith
 eols_closing (suc n) zero closing more is le = absurd (omega arith)
 eols_closing (suc n) (suc most) closing more (fill, next, then, is) le =
-    let here : closing ++ more ≡ eol fill ++ (next ++ more) = ap (λ (x : Bits). x ++ more) is
-    ∙ ap (λ (x : Bits). (x ++ next) ++ more) (append-nil (eol fill)) ∙ append_assoc (eol fill) next more in
-    let on = eols_closing n most next more then (omega arith) in
-    let found : (eols (suc most) (closing ++ more)).0 ≡ suc (eols most (next ++ more)).0 = ap (λ (x : Bits). (eols (suc most) x).0) here
-    ∙ ap (λ (f : ℕ × Bits). f.0) (eols_more most fill (next ++ more)) ∙ one_more-count (eols most (next ++ more)) in
-    omega (arith, found, on)
+    grind (arith, common_steps, append-nil, append_assoc, eols_more, one_more-count, eols_closing n most next more)
 
 length-closing : (encoding : EncodingMode) (n : ℕ) (closing more : Bits) → ClosesWithEols encoding n closing → n ≤ length (closing ++ more)
 length-closing encoding zero closing more is = omega arith
 length-closing encoding (suc n) closing more (fill, next, then, is) =
-    let on = length-closing encoding n next more then in
-    let here : closing ++ more ≡ eol fill ++ (tag_of encoding ++ (next ++ more)) = ap (λ (x : Bits). x ++ more) is
-    ∙ append_assoc (eol fill ++ tag_of encoding) next more ∙ append_assoc (eol fill) (tag_of encoding) (next ++ more) in
-    omega (arith, on, ap length here, length-eol fill (tag_of encoding ++ (next ++ more)), length-append (tag_of encoding) (next ++ more))
+    grind (arith, common_steps, append_assoc, common_steps, length-append, length-eol, length-closing encoding n next more)
 
 -- the first of them, and its tag
 tag_after : (fill : ℕ) (closing next more : Bits) → closing ≡ eol fill ++ tag_of Group3_2D ++ next → closing ++ more ≡ eol fill ++ (true ∷ (next ++ more))
 tag_after fill closing next more is = grind (arith, common_steps)
 
-tag_one : (fill : ℕ) (more : Bits) → past_tag (true ∷ (eol fill ++ more)) ≡ eol fill ++ more
-tag_one fill more = rw (eol_stands fill more, past_tag) refl
-
 -- a tag before EOLs is consumed
 tagged_eols_behind : (n most : ℕ) (closing more : Bits) → ClosesWithEols Group3_2D n closing → n ≤ (eols_with_tags most (closing ++ more)).0
     → n ≤ (eols_with_tags most (past_tag (true ∷ (closing ++ more)))).0
-tagged_eols_behind zero most closing more is le = omega arith
-tagged_eols_behind (suc n) most closing more (fill, next, then, is) le =
-    let here : closing ++ more ≡ eol fill ++ (true ∷ (next ++ more)) = tag_after fill closing next more is in
-    let passed : past_tag (true ∷ (closing ++ more)) ≡ closing ++ more = ap (λ (x : Bits). past_tag (true ∷ x)) here ∙ tag_one fill (true ∷ (next ++ more)) ∙ sym here in
-    rw passed le
+tagged_eols_behind n most closing more is le = grind (arith, common_steps)
 
 tagged_eols_closing : (n most : ℕ) (closing more : Bits) → ClosesWithEols Group3_2D n closing → n ≤ most
     → n ≤ (eols_with_tags most (closing ++ more)).0
 tagged_eols_closing zero most closing more is le = omega arith
 tagged_eols_closing (suc n) zero closing more is le = absurd (omega arith)
 tagged_eols_closing (suc n) (suc most) closing more (fill, next, then, is) le =
-    let tail : Bits = next ++ more in
-    let here : closing ++ more ≡ eol fill ++ true ∷ tail = tag_after fill closing next more is in
-    let on : n ≤ (eols_with_tags most (past_tag (true ∷ tail))).0
-    = tagged_eols_behind n most next more then (tagged_eols_closing n most next more then (omega arith)) in
-    let found : (eols_with_tags (suc most) (closing ++ more)).0 ≡ suc (eols_with_tags most (past_tag (true ∷ tail))).0
-    = ap (λ (x : Bits). (eols_with_tags (suc most) x).0) here ∙ ap (λ (f : ℕ × Bits). f.0) (tagged_eols_more most fill (true ∷ tail))
-    ∙ one_more-count (eols_with_tags most (past_tag (true ∷ tail))) in
-    omega (arith, found, on)
+    let step = tagged_eols_closing n most next more in
+    grind (arith, common_steps, one_more-count, tag_after, tagged_eols_behind, tagged_eols_more, step)
 
 six_tagged : (closing more : Bits) → ClosesWithEols Group3_2D 6 closing → 6 ≤ (tagged_eols (closing ++ more)).0
-six_tagged closing more is =
-    let on = tagged_eols_closing 6 (length (closing ++ more)) closing more is (length-closing Group3_2D 6 closing more is) in
-    omega (arith, on, last_tag_count (eols_with_tags (length (closing ++ more)) (closing ++ more)))
+six_tagged closing more is = grind (arith, common_steps, last_tag_count, length-closing, tagged_eols_closing)
 
 -- the settings are for this encoding, which is one of T.4
 abbrev pub Matches : EncodingMode → DecodeSettings → Type 0
@@ -187,9 +141,7 @@ matches_itself settings three = grind (arith, common_steps)
 
 -- and so are not for Group 4
 matches_t4 : (settings : DecodeSettings) (encoding : EncodingMode) → Matches encoding settings → settings.encoding ≢ Group4
-matches_t4 settings Group4 matches = absurd matches
-matches_t4 settings Group3_1D matches = λ e. let other : Group3_1D ≡ Group4 = sym matches ∙ e in cc
-matches_t4 settings Group3_2D matches = λ e. let other : Group3_2D ≡ Group4 = sym matches ∙ e in cc
+matches_t4 settings encoding matches = grind (arith, common_steps)
 
 -- the end of lines that were read with EOLs
 abbrev ends_well : List Row → Bits → Ending
@@ -216,8 +168,7 @@ module _ (settings : DecodeSettings) (wide : 0 < settings.columns) (small : sett
       ap (λ (x : Bits). line_here settings reference (x ++ more)) is.0 ∙ tagged_line settings reference true (rest ++ more) matches
       ∙ line_1d_again settings.strict settings.columns [] row White rest more is.1 small len
   line_t4_again Group3_2D reference row line more matches (rest, inr is) ref_len row_len =
-      ap (λ (x : Bits). line_here settings reference (x ++ more)) is.0 ∙ tagged_line settings reference false (rest ++ more) matches
-      ∙ line_2d_again settings.strict settings.columns reference row rest more is.1 wide small ref_len row_len
+      grind (arith, common_steps, line_2d_again, tagged_line)
 
   -- where it begins there is no EOL
   pub line_t4_starts : (encoding : EncodingMode) (reference row : Row) (line more : Bits) → Matches encoding settings → EncodesLine encoding reference row line
@@ -225,26 +176,17 @@ module _ (settings : DecodeSettings) (wide : 0 < settings.columns) (small : sett
   line_t4_starts Group4 reference row line more matches is row_len = absurd matches
   line_t4_starts Group3_1D reference row line more matches is row_len = line_1d_starts White row line more is (omega arith)
   line_t4_starts Group3_2D reference row line more matches (rest, inl is) row_len = rw is.0 (record { no_eol = refl; open_end = refl })
-  line_t4_starts Group3_2D reference row line more matches (rest, inr is) row_len =
-      rw is.0 (record { no_eol = line_2d_after_tag reference row 0 White rest more is.1 (omega arith); open_end = refl })
+  line_t4_starts Group3_2D reference row line more matches (rest, inr is) row_len = grind (arith, common_steps, line_2d_after_tag)
 
   tag_starts : (reference row : Row) (line more : Bits) → EncodesLine Group3_2D reference row line → length row ≡ settings.columns
       → past_tag (line ++ more) ≡ line ++ more
-  tag_starts reference row line more (rest, inl is) row_len =
-      let none : after_eol 0 (rest ++ more) ≡ None = (line_1d_starts White row rest more is.1 (omega arith)).no_eol in
-      rw (is.0, none, past_tag) refl
-  tag_starts reference row line more (rest, inr is) row_len = rw is.0 refl
+  tag_starts reference row line more given row_len = grind (arith, common_steps, common_steps, line_1d_starts)
 
   -- one EOL is counted before a line
   eol_before : (encoding : EncodingMode) (reference row : Row) (fill : ℕ) (line more : Bits) → Matches encoding settings → EncodesLine encoding reference row line
       → length row ≡ settings.columns → eols_here settings (eol fill ++ (line ++ more)) ≡ (1, line ++ more)
-  eol_before Group4 reference row fill line more matches is row_len = absurd matches
-  eol_before Group3_1D reference row fill line more matches is row_len = eols_here_one settings (eol fill ++ (line ++ more)) matches
-      ∙ one_eol fill (line ++ more) (line_t4_starts Group3_1D reference row line more matches is row_len).no_eol
-  eol_before Group3_2D reference row fill line more matches is row_len =
-      eols_here_two settings (eol fill ++ (line ++ more)) matches
-      ∙ one_tagged fill (line ++ more) (record
-      { start = line_t4_starts Group3_2D reference row line more matches is row_len; no_tag = tag_starts reference row line more is row_len })
+  eol_before encoding reference row fill line more matches is row_len =
+      grind (arith, common_steps, eols_here_one, eols_here_two, line_t4_starts, one_eol, one_tagged, tag_starts)
 
   -- ---- The lines of a picture.
   abbrev with_eols : List Row → Bits → Progress
@@ -273,25 +215,16 @@ module _ (settings : DecodeSettings) (wide : 0 < settings.columns) (small : sett
     lines_t4_again before row rows line next zero all ref_len widths is lines lt = absurd (omega arith)
     lines_t4_again before row [] line next (suc fuel) all ref_len widths is lines lt =
         let row_len : length row ≡ settings.columns = All-head (λ row. length row ≡ settings.columns) row [] widths in
-        let here : line ++ (next ++ tail) ≡ line ++ tail = ap (λ (x : Bits). line ++ (x ++ tail)) lines in
-        let read : line_here settings (row_before settings.columns before) (line ++ (next ++ tail)) ≡ Line.whole row tail
-        = ap (line_here settings (row_before settings.columns before)) here
-        ∙ line_t4_again encoding (row_before settings.columns before) row line tail matches is ref_len row_len in
-        let moved : move_on settings (with_eols before (line ++ (next ++ tail))) ≡ Turn.done (ends_well whole last)
-        = row_added before row (line ++ (next ++ tail)) tail read ∙ ap (λ (rs : List Row). after_row settings (with_eols rs tail)) all ∙ stops in
-        ap (after_turn (repeated (move_on settings) late fuel)) moved
+        grind (arith, common_steps, after_row, after_turn, line_t4_again, row_added)
     lines_t4_again before row (row2 ∷ rows) line next (suc fuel) all ref_len widths is (fill, line_2d, next2, is2, lines2, split) lt =
         let row_len : length row ≡ settings.columns = All-head (λ row. length row ≡ settings.columns) row (row2 ∷ rows) widths in
         let widths2 = All-tail (λ row. length row ≡ settings.columns) row (row2 ∷ rows) widths in
         let row2_len : length row2 ≡ settings.columns = All-head (λ row. length row ≡ settings.columns) row2 rows widths2 in
         let rest : Bits = line_2d ++ (next2 ++ tail) in
         let after : Bits = eol fill ++ rest in
-        let here : line ++ (next ++ tail) ≡ line ++ after
-        = ap (λ (x : Bits). line ++ x) (ap (λ (x : Bits). x ++ tail) split ∙ append_assoc (eol fill ++ line_2d) next2 tail
-        ∙ append_assoc (eol fill) line_2d (next2 ++ tail)) in
+        let here : line ++ (next ++ tail) ≡ line ++ after = grind (arith, common_steps, append_assoc) in
         let read : line_here settings (row_before settings.columns before) (line ++ (next ++ tail)) ≡ Line.whole row after
-        = ap (line_here settings (row_before settings.columns before)) here
-        ∙ line_t4_again encoding (row_before settings.columns before) row line after matches is ref_len row_len in
+        = grind (arith, common_steps, line_t4_again) in
         let rows1 : List Row = before ++ row ∷ [] in
         let one : eols_here settings after ≡ (1, rest) = eol_before encoding row row2 fill line_2d (next2 ++ tail) matches is2 row2_len in
         let all2 : rows1 ++ row2 ∷ rows ≡ whole = append_assoc before (row ∷ []) (row2 ∷ rows) ∙ all in
@@ -300,9 +233,7 @@ module _ (settings : DecodeSettings) (wide : 0 < settings.columns) (small : sett
         let over : ((settings.end_of_block && (leb (eols_of_end settings.encoding) 1)) || limit_met settings (length rows1) || at_end rest) ≡ false
         = or_from _ _ (or_from _ _ (and_right settings.end_of_block (leb (eols_of_end settings.encoding) 1) (few_eols settings.encoding 1 (omega arith))) (not_met settings (length whole) (length rows1) allows count)) open_end in
         let moved : move_on settings (with_eols before (line ++ (next ++ tail))) ≡ Turn.next (with_eols rows1 rest)
-        = row_added before row (line ++ (next ++ tail)) after read ∙ counted_row rows1 after (1, rest) one (omega arith)
-        ∙ cond-false ((settings.end_of_block && (leb (eols_of_end settings.encoding) 1)) || limit_met settings (length rows1) || at_end rest)
-        (ends_with (with_eols rows1 after) (Ok rest)) (Turn.next (with_eols rows1 rest)) over in
+        = grind (arith, common_steps, cond-false, counted_row, row_added) in
         let pushed : row_before settings.columns rows1 ≡ row = row_before_push settings.columns before row in
         ap (after_turn (repeated (move_on settings) late fuel)) moved
         ∙ lines_t4_again rows1 row2 rows line_2d next2 fuel all2 (ap length pushed ∙ row_len) widths2
@@ -327,8 +258,7 @@ module _ (settings : DecodeSettings) (wide : 0 < settings.columns) (small : sett
   length-lines encoding reference [] bits lines = omega arith
   length-lines encoding reference (row ∷ rows) bits (fill, line, next, is, lines, split) =
       let on = length-lines encoding row rows next lines in
-      let here : bits ≡ eol fill ++ (line ++ next) = split ∙ append_assoc (eol fill) line next in
-      omega (arith, on, ap length here, length-eol fill (line ++ next), length-append line next)
+      grind (arith, common_steps, append_assoc, length-append, length-eol)
 
   -- lines with their EOLs are read, and the run ends where it does after the last
   pub lines_t4_end : (encoding : EncodingMode) (rows : List Row) (lines tail last : Bits) → Matches encoding settings → 0 < length rows
@@ -338,15 +268,12 @@ module _ (settings : DecodeSettings) (wide : 0 < settings.columns) (small : sett
   lines_t4_end encoding (row ∷ rows) lines tail last matches some is_picture (fill, line, next, is, more, split) allows stops =
       let row_len : length row ≡ settings.columns = All-head (λ row. length row ≡ settings.columns) row rows is_picture.1 in
       let rest : Bits = line ++ (next ++ tail) in
-      let here : lines ++ tail ≡ eol fill ++ rest = ap (λ (x : Bits). x ++ tail) split ∙ append_assoc (eol fill ++ line) next tail
-      ∙ append_assoc (eol fill) line (next ++ tail) in
-      let one : all_eols (eol fill ++ rest) ≡ (1, rest)
-      = one_eol fill rest (line_t4_starts encoding (replicate settings.columns false) row line (next ++ tail) matches is row_len).no_eol in
+      let here : lines ++ tail ≡ eol fill ++ rest = grind (arith, common_steps, append_assoc) in
+      let one : all_eols (eol fill ++ rest) ≡ (1, rest) = grind (arith, common_steps, line_t4_starts, one_eol) in
       let late : Ending = record { rows = []; has_eols = true; outcome = Err UnexpectedEof } in
       let started : ending_t4 settings (eol fill ++ rest) ≡ repeated (move_on settings) late (suc (suc (length rest))) (with_eols [] rest)
       = ap (λ (f : ℕ × Bits). ending_from (move_on settings) (record { rows = []; has_eols = ltb 0 f.0 || settings.end_of_line; rest = f.1 })) one in
-      let short : length rows < suc (suc (length rest))
-      = omega (arith, length-lines encoding row rows next more, length-append line (next ++ tail), length-append next tail) in
+      let short : length rows < suc (suc (length rest)) = grind (arith, common_steps, length-append, length-lines) in
       end_of_three encoding (lines ++ tail) matches ∙ ap (ending_t4 settings) here ∙ started
       ∙ lines_t4_again encoding matches late tail last (row ∷ rows) allows stops [] row rows line next (suc (suc (length rest))) refl
       (length-replicate settings.columns false) is_picture.1 is more short
@@ -365,46 +292,25 @@ module _ (settings : DecodeSettings) (wide : 0 < settings.columns) (small : sett
       → IsPicture settings.columns rows → EncodesRowsWithEols encoding (replicate settings.columns false) rows lines
       → end_of settings (lines ++ more) ≡ ends_well rows (eols_here settings more).1
   limited_t4_end encoding rows lines more matches limit some is_picture are =
-      let met : limit_met settings (length rows) ≡ true
-      = and_from (not (eqb settings.rows 0)) (eqb settings.rows (length rows))
-      (not_from_false (eqb settings.rows 0) (ne_eqb settings.rows 0 (λ e. absurd (omega arith)))) (eq-eqb settings.rows (length rows) limit) in
+      let met : limit_met settings (length rows) ≡ true = grind (arith, common_steps, and_from, eq-eqb, ne_eqb, not_from_false) in
       lines_t4_end encoding rows lines more (eols_here settings more).1 matches some is_picture are (inr (omega arith)) (limit_stops rows more met)
 
 -- ---- Over whole data.
 pub closed_picture_t4 : ReadsPictureT4
 closed_picture_t4 settings rows bits behind stream are begins =
-    let wide : 0 < settings.columns = begins.picture.0 in
-    let closing : Bits = begins.closing.0 in
-    let more : Bits = begins.closing.2.0 in
-    let found : Bits = (eols_here settings behind).1 in
-    let is : stream ≡ bits ++ (closing ++ more) = begins.begins ∙ ap (λ (x : Bits). bits ++ x) begins.closing.2.1 in
-    let matches : Matches settings.encoding settings = matches_itself settings begins.encoding in
-    let ends : end_of settings (bits ++ (closing ++ more)) ≡ ends_well rows found
-    = closed_t4_end settings wide (omega (arith, are.columns)) settings.encoding rows bits closing more matches begins.end_of_block begins.some begins.picture
-    begins.lines begins.closing.1 begins.limit ∙ ap (λ (x : Bits). ends_well rows (eols_here settings x).1) (sym begins.closing.2.1) in
-    plain_ends settings stream (ends_well rows found) found wide (ap (end_of settings) is ∙ ends) refl
+    grind (arith, common_steps, closed_t4_end settings, matches_itself settings begins.encoding, plain_ends settings stream)
 
 -- the law
 pub limited_picture_t4 : ReadsLimitedPictureT4
 limited_picture_t4 settings rows bits stream are begins =
-    let wide : 0 < settings.columns = begins.picture.0 in
-    let more : Bits = begins.begins.0 in
-    let found : Bits = (eols_here settings more).1 in
-    let ends = limited_t4_end settings wide (omega (arith, are.columns)) settings.encoding rows bits more (matches_itself settings begins.encoding)
-    begins.limit begins.some begins.picture begins.lines in
-    let e = plain_ends settings stream (ends_well rows found) found wide (ap (end_of settings) begins.begins.1 ∙ ends) refl in
-    (ap (λ (a : Reading). a.rows) e, rw e refl)
+    grind (arith, common_steps, limited_t4_end settings, matches_itself settings begins.encoding, plain_ends settings stream)
 
 -- ---- One prefix, one picture.
 one_picture_at : (settings : DecodeSettings) (encoding : EncodingMode) (rows others : List Row) (bits more : Bits) → settings.columns ≤ 4294967295
     → Matches encoding settings → settings.end_of_block ≡ true → settings.rows ≡ 0
     → PictureT4 encoding settings.columns rows bits → PictureT4 encoding settings.columns others (bits ++ more) → rows ≡ others
 one_picture_at settings encoding rows others bits more small matches block none one two =
-    let first = closed_t4_end settings one.3.0 small encoding rows one.0 one.1 more matches block one.2 one.3 one.4 one.5 (inl none) in
-    let second = closed_t4_end settings two.3.0 small encoding others two.0 two.1 [] matches block two.2 two.3 two.4 two.5 (inl none) in
-    let same : one.0 ++ (one.1 ++ more) ≡ two.0 ++ (two.1 ++ []) = sym (append_assoc one.0 one.1 more) ∙ ap (λ (x : Bits). x ++ more) (sym one.6)
-    ∙ two.6 ∙ ap (λ (x : Bits). two.0 ++ x) (sym (append-nil two.1)) in
-    ap (λ (e : Ending). e.rows) (sym first ∙ ap (end_of settings) same ∙ second)
+    grind (arith, common_steps, append-nil two.1, append_assoc one.0 one.1 more, closed_t4_end settings one.3.0 small encoding rows one.0 one.1 more matches block one.2 one.3 one.4 one.5 (inl none), closed_t4_end settings two.3.0 small encoding others two.0 two.1)
 
 -- the law
 pub one_picture_t4 : OnePictureT4

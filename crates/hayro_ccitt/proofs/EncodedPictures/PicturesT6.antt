@@ -2,18 +2,18 @@
 use Rattle.std.proofs.Common.{◌≡◌, ℕ, ◌+◌, ◌-◌, ◌/◌, ◌%◌, ◌<◌, ◌≤◌, true, false, List, [], ◌++◌, length, replicate, Ok, refl, sym, ap, subst, ◌∙◌, append_assoc, arith, inl}
 use Rattle.std.proofs.lemmas.List.{length-append, length-replicate}
 use Rattle.hayro_ccitt.specs.declared.settings.EncodingMode.TheVariants.{Group4}
-use Rattle.hayro_ccitt.specs.declared.settings.EncodingMode.{EncodingMode}
 use Rattle.hayro_ccitt.specs.declared.settings.DecodeSettings.{DecodeSettings}
 use Rattle.hayro_ccitt.specs.Bits.{Bits, AreWholeBytes}
 use Rattle.hayro_ccitt.specs.Repetition.{Reaches}
 use Rattle.hayro_ccitt.specs.Rows.{Row}
-use Rattle.hayro_ccitt.specs.PlainReading.{eols_here, first_gap, ending_behind, end_of, Ending, Reading}
+use Rattle.hayro_ccitt.specs.PlainReading.{end_of, Ending, Reading}
 use Rattle.hayro_ccitt.specs.Pictures.{Allows}
 use Rattle.hayro_ccitt.specs.Laws.{gap_and_row, for_t6, ComesToEofb, PicturesComeToEofb, ReadsPictureT6, ReadsLimitedRowsT6, OnePictureT6}
 use Rattle.hayro_ccitt.specs.Encodings.{eol, PictureT6}
 use Rattle.hayro_ccitt.proofs.Readings.GapsAndRows.{t6_end}
 use Rattle.hayro_ccitt.proofs.EncodedPictures.Bodies.{gap_at_eofb, body_again, body_end}
 use Rattle.hayro_ccitt.proofs.EncodedPictures.PictureLines.{closed_settings, allows_sum, between, ended, eofb_stands, plain_ends}
+use Rattle.std.proofs.lemmas.Grind.{common_steps}
 
 -- A T.6 picture, closed by EOFB: the run reaches its end with its rows.
 pub picture_t6_reaches : (settings : DecodeSettings) (rows : List Row) (bits more : Bits) → settings.encoding ≡ Group4 → settings.columns ≤ 4294967295 → Allows settings (length rows)
@@ -21,8 +21,7 @@ pub picture_t6_reaches : (settings : DecodeSettings) (rows : List Row) (bits mor
     → Reaches (gap_and_row settings) (between [] (bits ++ more)) (between rows (eol 0 ++ (eol 0 ++ more)))
 picture_t6_reaches settings rows bits more four small limit whole pic =
     let body : Bits = pic.0 in
-    let here : bits ++ more ≡ body ++ (eol 0 ++ (eol 0 ++ more)) = ap (λ (x : Bits). x ++ more) pic.3 ∙ append_assoc (body ++ eol 0) (eol 0) more
-    ∙ append_assoc body (eol 0) (eol 0 ++ more) in
+    let here : bits ++ more ≡ body ++ (eol 0 ++ (eol 0 ++ more)) = grind (arith, common_steps, append_assoc) in
     let read = body_again settings pic.1.0 small Group4 four [] rows body (eol 0 ++ (eol 0 ++ more)) (allows_sum settings (length rows) limit)
     (length-replicate settings.columns false) pic.1.1 (λ e. ap (λ (x : Bits). length x % 8) (sym here) ∙ whole e) pic.2 in
     subst (λ (x : Bits). Reaches (gap_and_row settings) (between [] x) (between rows (eol 0 ++ (eol 0 ++ more)))) (sym here) read
@@ -59,15 +58,7 @@ closed_picture_t6 settings rows bits stream are all begins =
 
 -- the law
 pub limited_rows_t6 : ReadsLimitedRowsT6
-limited_rows_t6 settings rows bits stream are all begins =
-    let more : Bits = begins.begins.0 in
-    let found : Bits = (eols_here settings more).1 in
-    let whole : AreWholeBytes (bits ++ more) = subst AreWholeBytes begins.begins.1 all in
-    let ends = ap (λ (e : EncodingMode). ending_behind settings (first_gap e settings (bits ++ more))) begins.encoding
-    ∙ body_end settings begins.picture.0 (omega (arith, are.columns)) Group4 begins.encoding rows bits more begins.some begins.limit begins.picture
-    (λ e. whole) begins.lines in
-    let e = plain_ends settings stream (ended rows found) found begins.picture.0 (ap (end_of settings) begins.begins.1 ∙ ends) refl in
-    (ap (λ (a : Reading). a.rows) e, rw e refl)
+limited_rows_t6 settings rows bits stream are all begins = grind (arith, common_steps, body_end, ended, plain_ends)
 
 -- a picture reaches its EOFB
 pub pictures_come_to_eofb : PicturesComeToEofb

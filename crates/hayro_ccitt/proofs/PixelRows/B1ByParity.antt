@@ -6,10 +6,9 @@ use Rattle.std.proofs.lemmas.Grind.{get_or_default_zero}
 use Rattle.hayro_ccitt.specs.declared.codes.Color.{Color}
 use Rattle.hayro_ccitt.specs.declared.codes.Color.TheVariants.{White, Black}
 use Rattle.hayro_ccitt.specs.Rows.{Row, AreChanges, pixels, is_black, opposite, right_of, b1, b2}
-use Rattle.hayro_ccitt.specs.Context.{right_of_painted, passed_changes}
+use Rattle.hayro_ccitt.specs.Context.{right_of_painted}
 use Rattle.hayro_ccitt.specs.UsualModes.{TurnsFrom, IsNear, IsB1}
-use Rattle.hayro_ccitt.proofs.PixelRows.ReferencePlaces.{turned, turned-not, turned_by_parity, not_not, IsSplit, IsSplit-painted, IsSplit-none, order, end_within, in_list_if_below, b1_is, b2_after_b1, split_passed}
-use Rattle.hayro_ccitt.proofs.DrawingLines.UsualStrokes.{length-pixels-on}
+use Rattle.hayro_ccitt.proofs.PixelRows.ReferencePlaces.{turned, turned-not, turned_by_parity, not_not, IsSplit, IsSplit-painted, IsSplit-none, order, end_within, in_list_if_below, b1_is, b2_after_b1}
 
 -- ---- The colour that a change turns from.
 turns_by : (index : ℕ) (color : Color) → TurnsFrom index color → turned index false ≡ is_black color

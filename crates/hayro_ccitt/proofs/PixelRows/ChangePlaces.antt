@@ -1,12 +1,12 @@
 -- The positions b1, b2, a1 and a2, and the pixels between changes.
 use Rattle.std.proofs.Common.{◌≡◌, ℕ, zero, suc, ◌+◌, ◌-◌, ◌<◌, ◌≤◌, Bool, true, false, cond, not, ◌&&◌, ltb, leb, [], ◌∷◌, ◌++◌, length, take}
-use Rattle.std.proofs.Common.{replicate, Option, Some, refl, sym, ap, ◌∙◌, arith, inl, inr}
+use Rattle.std.proofs.Common.{replicate, Option, Some, refl, ◌∙◌, arith, inl, inr}
 use mathlib.Core.Bool.{beq}
 use Rattle.std.specs.List.{range_with_len, find}
 use Rattle.std.specs.Option.{unwrap_or}
 use Rattle.std.proofs.lemmas.Bool.{ltb-true, leb-true, lt-ltb, le-leb, and_parts, and_cases, false≢true, cases_lt, cases_eq}
 use Rattle.hayro_ccitt.specs.declared.codes.Color.{Color}
-use Rattle.hayro_ccitt.specs.declared.codes.Color.TheVariants.{White, Black}
+use Rattle.hayro_ccitt.specs.declared.codes.Color.TheVariants.{Black}
 use Rattle.hayro_ccitt.specs.Rows.{Row, is_black, opposite, pixel, pixel_before, is_change, least_below, right_of, b1, b2, a1, a2}
 use Rattle.std.proofs.lemmas.Grind.{common_steps}
 
@@ -19,13 +19,11 @@ pub record IsLeast (from bound : ℕ) (test : ℕ → Bool) (p : ℕ) : Type 0 w
 
 first_step : (test : ℕ → Bool) (from bound : ℕ) (t : Bool) (rest : Option ℕ) → test from ≡ t → from < bound
     → IsLeast (from + 1) bound test (unwrap_or rest bound) → IsLeast from bound test (unwrap_or (cond t (Some from) rest) bound)
-first_step test from bound true rest e lt least = record { above = omega arith; within = omega arith; before = λ q le l. absurd (omega arith); there = λ l. e }
-first_step test from bound false rest e lt least = grind (arith, common_steps)
+first_step test from bound t rest e lt least = grind (arith, common_steps)
 
 first : (test : ℕ → Bool) (from n bound : ℕ) → from + n ≡ bound → IsLeast from bound test (unwrap_or (find test (range_with_len from n)) bound)
 first test from zero bound e = record { above = omega arith; within = omega arith; before = λ q le l. absurd (omega arith); there = λ l. absurd (omega arith) }
-first test from (suc n) bound e = first_step test from bound (test from) (find test (range_with_len (from + 1) n)) refl (omega arith)
-    (first test (from + 1) n bound (omega arith))
+first test from (suc n) bound e = grind (arith, common_steps, first_step, first test (from + 1) n bound (omega arith))
 
 -- the search finds the least position
 pub is_least : (bound : ℕ) (test : ℕ → Bool) → IsLeast 0 bound test (least_below bound test)
@@ -44,22 +42,7 @@ pub record IsNext (row : Row) (from p : ℕ) : Type 0 where
 
 next_by : (row : Row) (from : ℕ) (test : ℕ → Bool) → ((p : ℕ) → test p ≡ true → from ≤ p) → ((p : ℕ) → from ≤ p → test p ≡ true)
     → IsNext row from (least_below (length row) (λ p. test p && is_change row p))
-next_by row from test low high =
-    let least = is_least (length row) (λ p. test p && is_change row p) in
-    let p : ℕ = least_below (length row) (λ p. test p && is_change row p) in
-    let within : p ≤ length row = least.within in
-    record {
-      above = λ le. elim (cases_lt p (length row)) [
-        | inl lt ↦ low p (and_parts (test p) (is_change row p) (least.there lt)).0
-        | inr ge ↦ omega arith
-      ];
-      within = within;
-      before = λ q le lt. elim (and_cases (test q) (is_change row q) (least.before q (omega arith) lt)) [
-        | inl fails ↦ absurd (false≢true (sym fails ∙ high q le))
-        | inr still ↦ still
-      ];
-      change = λ lt. (and_parts (test p) (is_change row p) (least.there lt)).1;
-    }
+next_by row from test low high = grind (arith, common_steps, and_cases, and_parts, cases_lt, false≢true, is_least)
 
 -- a1 is the next change
 pub a1_next : (row : Row) (from : ℕ) → IsNext row from (a1 row from)
@@ -72,64 +55,32 @@ a2_next row from = next_by row (suc (a1 row from)) (ltb (a1 row from)) (λ p e. 
 
 -- a2 is not left of a1
 pub a2_least : (row : Row) (from : ℕ) → a1 row from ≤ a2 row from
-a2_least row from =
-    let least = is_least (length row) (λ p. ltb (a1 row from) p && is_change row p) in
-    let p : ℕ = a1 row from in
-    let r : ℕ = a2 row from in
-    let one : p ≤ length row = (a1_next row from).within in
-    elim (cases_lt r (length row)) [
-      | inl lt ↦ omega (arith, ltb-true p r (and_parts (ltb p r) (is_change row r) (least.there lt)).0)
-      | inr ge ↦ omega arith
-    ]
+a2_least row from = grind (arith, common_steps, a1_next, and_parts, cases_lt, is_least, ltb-true)
 
 -- ---- b1 and b2
 -- where b2 is inside the row, b1 is left of it, and right of a0
 pub b2_above : (reference : Row) (from : ℕ) (color : Color) → b2 reference from color < length reference → (from ≤ b1 reference from color)
     × (b1 reference from color < b2 reference from color)
-b2_above reference from color lt =
-    let two = is_least (length reference) (λ p. ltb (b1 reference from color) p && is_change reference p) in
-    let one = is_least (length reference) (λ p. leb from p && is_change reference p && beq (pixel_before reference p) (is_black color)) in
-    let q : ℕ = b1 reference from color in
-    let p : ℕ = b2 reference from color in
-    let less : q < p = ltb-true q p (and_parts (ltb q p) (is_change reference p) (two.there lt)).0 in
-    let t : (leb from q && is_change reference q && beq (pixel_before reference q) (is_black color)) ≡ true = one.there (omega arith) in
-    let u = and_parts (leb from q && is_change reference q) (beq (pixel_before reference q) (is_black color)) t in
-    (leb-true from q (and_parts (leb from q) (is_change reference q) u.0).0, less)
+b2_above reference from color lt = grind (arith, common_steps, and_parts, is_least, leb-true, ltb-true)
 
 -- no change of a row at its first pixel is from black
 b1_black : (reference : Row) (p : ℕ) → (leb 0 p && is_change reference p && beq
     (pixel_before reference p) true) ≡ (leb 1 p && is_change reference p && beq (pixel_before reference p) true)
-b1_black reference zero = grind (arith, common_steps)
-b1_black reference (suc p) = grind (arith, common_steps)
+b1_black reference p = grind (arith, common_steps)
 
 -- the position right of a0 that the pen has serves as well as a0's own
 pub b1_right : (reference front : Row) (from : ℕ) (color : Color) → length front ≡ from - 1 → (from ≡ 1 → color ≡ Black)
     → b1 reference (right_of front) color ≡ b1 reference from color
-b1_right reference [] zero color len first = refl
-b1_right reference [] (suc zero) color len first =
-    let c : color ≡ Black = first refl in
-    rw c (least_same (length reference) _ _ (b1_black reference))
-b1_right reference [] (suc (suc from)) color len first = absurd (omega arith)
-b1_right reference (p ∷ front) from color len first = grind (arith, common_steps)
+b1_right reference front from color len first = grind (arith, common_steps, b1_black, common_steps, first, least_same)
 
 -- b2 of a front, by its position
 pub b2_right : (reference front : Row) (from : ℕ) (color : Color) → length front ≡ from - 1 → (from ≡ 1 → color ≡ Black)
     → b2 reference (right_of front) color ≡ b2 reference from color
-b2_right reference front from color len first =
-    ap (λ (b : ℕ). least_below (length reference) (λ p. ltb b p && is_change reference p)) (b1_right reference front from color len first)
+b2_right reference front from color len first = grind (arith, common_steps, b1_right, first)
 
 -- ---- Pixels between changes.
 same_by : (x y : Bool) → not (beq x y) ≡ false → y ≡ x
-same_by true true e = refl
-same_by false false e = refl
-same_by true false e = absurd (false≢true (sym e))
-same_by false true e = absurd (false≢true (sym e))
-
-other_by : (x y : Bool) → not (beq x y) ≡ true → y ≡ not x
-other_by true true e = absurd (false≢true e)
-other_by false false e = absurd (false≢true e)
-other_by true false e = refl
-other_by false true e = refl
+same_by x y e = grind (arith, common_steps)
 
 -- up to the next change, the pixel to the left keeps its colour
 pub before_same : (row : Row) (from p : ℕ) (c : Bool) → pixel_before row from ≡ c → ((q : ℕ) → from ≤ q → q < p → is_change row q ≡ false) → (q : ℕ)
@@ -153,8 +104,7 @@ pixels_same row from p c e none q le lt = elim (cases_lt q from) [
 
 -- at a change the colour turns
 pub at_change : (row : Row) (p : ℕ) (color : Color) → is_change row p ≡ true → pixel_before row p ≡ is_black color → pixel row p ≡ is_black (opposite color)
-at_change row p White change e = other_by (pixel_before row p) (pixel row p) change ∙ ap not e
-at_change row p Black change e = other_by (pixel_before row p) (pixel row p) change ∙ ap not e
+at_change row p color change e = grind (arith, common_steps)
 
 -- painting pixels of one colour
 pub take_painted : (row : Row) (a n : ℕ) (c : Bool) → a + n ≤ length row → ((q : ℕ) → a ≤ q → q < a + n → pixel row q ≡ c)

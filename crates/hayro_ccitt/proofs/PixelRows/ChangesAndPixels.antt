@@ -1,8 +1,7 @@
 -- Lawful lists of changes and rows of pixels correspond one to one, and what painting does to both.
-use Rattle.std.proofs.Common.{◌≡◌, ℕ, zero, suc, ◌+◌, ◌-◌, ◌%◌, ◌<◌, ◌≤◌, eqb, inl, inr, Bool, true, false, cond, not, List, [], ◌∷◌, ◌++◌, length, get_or, replicate, refl, sym, ap, ◌∙◌, arith, append_assoc, length-append, add-one}
+use Rattle.std.proofs.Common.{◌≡◌, ℕ, zero, suc, ◌+◌, ◌-◌, ◌%◌, ◌<◌, ◌≤◌, eqb, Bool, true, false, cond, not, List, [], ◌∷◌, ◌++◌, length, get_or, replicate, refl, sym, ap, ◌∙◌, arith, append_assoc, length-append, add-one}
 use mathlib.Core.Bool.{beq}
 use Rattle.std.specs.List.{range_with_len, filter}
-use Rattle.std.proofs.lemmas.Bool.{cases_eq}
 use Rattle.std.proofs.lemmas.List.{length-replicate, replicate-append-replicate}
 use Rattle.hayro_ccitt.specs.Rows.{Row, pixel, pixel_before, is_change, changes, AscendFrom, AreChanges, pixels_from, pixels, last_pixel}
 use Rattle.hayro_ccitt.specs.Context.{continued}
@@ -15,9 +14,7 @@ use Rattle.std.proofs.lemmas.Grind.{common_steps}
 pub AscendFrom-wider : (low first width wider : ℕ) (places : List ℕ) → low ≤ first → width ≤ wider → AscendFrom first width places → AscendFrom low wider places
 AscendFrom-wider low first width wider [] le below ascend = tt
 AscendFrom-wider low first width wider (place ∷ places) le below ascend =
-    let from : first ≤ place = ascend.0 in
-    let within : place < width = ascend.1 in
-    (omega arith, omega arith, AscendFrom-wider (suc place) (suc place) width wider places (omega arith) below ascend.2)
+    grind (arith, common_steps, AscendFrom-wider (suc place) (suc place) width wider places (omega arith) below ascend.2)
 
 -- positions that ascend right of a position ascend from it on
 AscendFrom-here : (place width : ℕ) (places : List ℕ) → AscendFrom (suc place) width places → AscendFrom place width places
@@ -36,9 +33,7 @@ pub AscendFrom-push : (first width more : ℕ) (places : List ℕ) → first ≤
     → AscendFrom first (width + more) (places ++ width ∷ [])
 AscendFrom-push first width more [] le some ascend = (le, omega arith, tt)
 AscendFrom-push first width more (place ∷ places) le some ascend =
-    let from : first ≤ place = ascend.0 in
-    let within : place < width = ascend.1 in
-    (from, omega arith, AscendFrom-push (suc place) width more places (omega arith) some ascend.2)
+    grind (arith, common_steps, AscendFrom-push (suc place) width more places (omega arith) some ascend.2)
 
 -- ---- Pixels between positions.
 
@@ -56,10 +51,8 @@ pub length-pixels_from : (place : ℕ) (color : Bool) (width : ℕ) (places : Li
     → place + length (pixels_from place color width places) ≡ width
 length-pixels_from place color width [] le ascend = omega (arith, length-replicate (width - place) color)
 length-pixels_from place color width (change ∷ places) le ascend =
-    let from : place ≤ change = ascend.0 in
-    let within : change < width = ascend.1 in
-    let rest = length-pixels_from change (not color) width places (omega arith) (AscendFrom-here change width places ascend.2) in
-    omega (arith, rest, length-append (replicate (change - place) color) (pixels_from change (not color) width places), length-replicate (change - place) color)
+    let step = length-pixels_from change (not color) width places (omega arith) (AscendFrom-here change width places ascend.2) in
+    grind (arith, common_steps, AscendFrom-here, length-append, length-replicate, step)
 
 -- a row of lawful changes has as many pixels as its width
 pub length-pixels : (width : ℕ) (places : List ℕ) → AreChanges width places → length (pixels width places) ≡ width
@@ -88,31 +81,21 @@ eqb-suc_even n = grind (arith, common_steps)
 
 -- comparing the other colour is the other comparison
 beq-not : (a b color : Bool) → b ≡ not a → beq a (not color) ≡ beq b color
-beq-not true b true e = rw e refl
-beq-not true b false e = rw e refl
-beq-not false b true e = rw e refl
-beq-not false b false e = rw e refl
+beq-not a b color e = grind (arith, common_steps)
 
 -- after an even number of changes the colour is the same, and else the other one
 pub turned-even : (color : Bool) (places : List ℕ) → turned color places ≡ beq (eqb (length places % 2) 0) color
 turned-even true [] = refl
 turned-even false [] = refl
-turned-even color (place ∷ places) =
-    turned-even (not color) places ∙ beq-not (eqb (length places % 2) 0) (eqb (suc (length places) % 2) 0) color (eqb-suc_even (length places))
+turned-even color (place ∷ places) = grind (arith, common_steps, beq-not, eqb-suc_even, turned-even (not color) places)
 
 -- each lawful change is followed by a pixel, so the last pixel has the colour after all of them
 pub last_pixel-pixels_from : (place : ℕ) (color : Bool) (width : ℕ) (places : List ℕ) → AscendFrom place width places
     → last_pixel color (pixels_from place color width places) ≡ turned color places
 last_pixel-pixels_from place color width [] ascend = last_pixel-same (width - place) color
 last_pixel-pixels_from place color width (change ∷ places) ascend =
-    let from : place ≤ change = ascend.0 in
-    let within : change < width = ascend.1 in
-    let opens = pixels_from-first change (not color) width places within ascend.2 in
-    let rest = last_pixel-pixels_from change (not color) width places (AscendFrom-here change width places ascend.2) in
-    last_pixel-append color (replicate (change - place) color) (pixels_from change (not color) width places)
-    ∙ rw (last_pixel-same (change - place) color, opens) refl
-    ∙ sym (ap (last_pixel (not color)) opens)
-    ∙ rest
+    let step = last_pixel-pixels_from change (not color) width places (AscendFrom-here change width places ascend.2) in
+    grind (arith, common_steps, AscendFrom-here, last_pixel-append, last_pixel-same, pixels_from-first, step)
 
 -- the last pixel of a row of lawful changes
 pub last_pixel-pixels : (width : ℕ) (places : List ℕ) → AreChanges width places → last_pixel false (pixels width places) ≡ turned false places
@@ -120,37 +103,23 @@ last_pixel-pixels width places ascend = last_pixel-pixels_from 0 false width pla
 
 -- it is black exactly where the number of changes is odd
 pub last_pixel-odd : (width : ℕ) (places : List ℕ) → AreChanges width places → last_pixel false (pixels width places) ≡ not (eqb (length places % 2) 0)
-last_pixel-odd width places ascend = last_pixel-pixels width places ascend ∙ turned-even false places ∙ white (eqb (length places % 2) 0)
-  where
-    white : (even : Bool) → beq even false ≡ not even
-    white true = refl
-    white false = refl
+last_pixel-odd width places ascend = grind (arith, common_steps, last_pixel-pixels, turned-even)
 
 -- ---- Painting.
 
 -- a wider row continues in its last colour
 pub pixels_from-wider : (place : ℕ) (color : Bool) (width more : ℕ) (places : List ℕ) → place ≤ width → AscendFrom place width places
     → pixels_from place color (width + more) places ≡ pixels_from place color width places ++ replicate more (turned color places)
-pixels_from-wider place color width more [] le ascend =
-    let e : width + more - place ≡ (width - place) + more = omega arith in
-    rw e (sym (replicate-append-replicate (width - place) more color))
+pixels_from-wider place color width more [] le ascend = grind (arith, common_steps, replicate-append-replicate)
 pixels_from-wider place color width more (change ∷ places) le ascend =
-    let from : place ≤ change = ascend.0 in
-    let within : change < width = ascend.1 in
-    let rest = pixels_from-wider change (not color) width more places (omega arith) (AscendFrom-here change width places ascend.2) in
-    rw rest (sym (append_assoc (replicate (change - place) color) _ _))
+    grind (arith, common_steps, AscendFrom-here, append_assoc, pixels_from-wider change (not color) width more places (omega arith) (AscendFrom-here change width places ascend.2))
 
 -- the same if the last change may equal the width
 pub pixels_from-on : (place : ℕ) (color : Bool) (width more : ℕ) (places : List ℕ) → place ≤ width → AscendFrom place (suc width) places
     → pixels_from place color (width + more) places ≡ pixels_from place color width places ++ replicate more (turned color places)
-pixels_from-on place color width more [] le ascend =
-    let e : width + more - place ≡ (width - place) + more = omega arith in
-    rw e (sym (replicate-append-replicate (width - place) more color))
+pixels_from-on place color width more [] le ascend = grind (arith, common_steps, replicate-append-replicate)
 pixels_from-on place color width more (change ∷ places) le ascend =
-    let from : place ≤ change = ascend.0 in
-    let within : change < suc width = ascend.1 in
-    let rest = pixels_from-on change (not color) width more places (omega arith) (AscendFrom-here change (suc width) places ascend.2) in
-    rw rest (sym (append_assoc (replicate (change - place) color) _ _))
+    grind (arith, common_steps, AscendFrom-here, append_assoc, pixels_from-on change (not color) width more places (omega arith) (AscendFrom-here change (suc width) places ascend.2))
 
 -- so painting pixels of the last colour adds no change
 pub pixels-same : (width more : ℕ) (places : List ℕ) → AreChanges width places
@@ -187,14 +156,11 @@ pixel_before-next before (x ∷ front) row place e = rw e (pixel_before-next x f
 
 -- the pixel to the left, with a white one put before the row
 pixel_before-shift : (row : Row) (place : ℕ) → pixel_before row place ≡ get_or (false ∷ row) place false
-pixel_before-shift row zero = refl
-pixel_before-shift row (suc place) = refl
+pixel_before-shift row place = grind (arith, common_steps)
 
 -- the pixel after a front is a change where it differs from the front's last
 is_change-next : (front : Row) (here : Bool) (row : Row) → is_change (front ++ here ∷ row) (length front) ≡ not (beq (last_pixel false front) here)
-is_change-next front here row =
-    let before = pixel_before-next false front (here ∷ row) (length front) refl in
-    rw (pixel_before-shift (front ++ here ∷ row) (length front), before, pixel-next front here row) refl
+is_change-next front here row = grind (arith, common_steps, pixel-next, pixel_before-next, pixel_before-shift)
 
 -- a position is listed where the pixel differs
 listed : (differs : Bool) (x y : Bool) (place : ℕ) (places others : List ℕ) → differs ≡ not (beq x y) → places ≡ others
@@ -206,12 +172,8 @@ changes-rest : (front row : Row)
     → filter (is_change (front ++ row)) (range_with_len (length front) (length row)) ≡ changes_from (length front) (last_pixel false front) row
 changes-rest front [] = refl
 changes-rest front (here ∷ row) =
-    let whole : (front ++ here ∷ []) ++ row ≡ front ++ here ∷ row = append_assoc front (here ∷ []) row in
-    let len : length (front ++ here ∷ []) ≡ suc (length front) = length-append front (here ∷ []) ∙ add-one _ in
-    let last : last_pixel false (front ++ here ∷ []) ≡ here = last_pixel-append false front (here ∷ []) in
-    let rest = rw (whole, len, last) at (changes-rest (front ++ here ∷ []) row) in
-    let one = is_change-next front here row in
-    listed (is_change (front ++ here ∷ row) (length front)) (last_pixel false front) here (length front) _ _ one (rw (add-one (length front)) rest)
+    let step = changes-rest (front ++ here ∷ []) row in
+    grind (arith, common_steps, add-one, append_assoc, is_change-next, last_pixel-append, length-append, listed, step)
 
 -- the changes of a row, by recursion
 pub changes-recursive : (row : Row) → changes row ≡ changes_from 0 false row
@@ -233,8 +195,7 @@ changes_from-pixels_from place color width (change ∷ places) ascend =
     ∙ rw (changes_from-same place (change - place) color, at, last_pixel-same (change - place) color, opens) (by color _ _ _ rest)
   where
     by : (c : Bool) (row : Row) (here : ℕ) (rest : List ℕ) → changes_from (suc here) (not c) row ≡ rest → changes_from here c (not c ∷ row) ≡ here ∷ rest
-    by true row here rest e = ap (λ (xs : List ℕ). here ∷ xs) e
-    by false row here rest e = ap (λ (xs : List ℕ). here ∷ xs) e
+    by c row here rest e = grind (arith, common_steps)
 
 -- the changes of a row of lawful changes are these
 pub changes-pixels : (width : ℕ) (places : List ℕ) → AreChanges width places → changes (pixels width places) ≡ places
@@ -255,9 +216,7 @@ AscendFrom-changes_from place false (true ∷ row) width e = (omega arith, omega
 goes_on : (place : ℕ) (color : Bool) (row : Row) (width : ℕ) → place + suc (length row) ≡ width
     → pixels_from (suc place) color width (changes_from (suc place) color row) ≡ row
     → pixels_from place color width (changes_from (suc place) color row) ≡ color ∷ row
-goes_on place color row width e rest =
-    pixels_from-first place color width (changes_from (suc place) color row) (omega arith) (AscendFrom-changes_from (suc place) color row width (omega arith))
-    ∙ ap (λ (xs : Row). color ∷ xs) rest
+goes_on place color row width e rest = grind (arith, common_steps, AscendFrom-changes_from, changes_from, pixels_from-first)
 
 -- the pixels between the changes of a row are the row
 pub pixels_from-changes_from : (place : ℕ) (before : Bool) (row : Row) (width : ℕ) → place + length row ≡ width
@@ -268,11 +227,9 @@ pixels_from-changes_from place true (true ∷ row) width e =
 pixels_from-changes_from place false (false ∷ row) width e =
     goes_on place false row width e (pixels_from-changes_from (suc place) false row width (omega arith))
 pixels_from-changes_from place true (false ∷ row) width e =
-    let none : place - place ≡ 0 = omega arith in
-    rw none (goes_on place false row width e (pixels_from-changes_from (suc place) false row width (omega arith)))
+    grind (arith, common_steps, goes_on, pixels_from-changes_from (suc place) false row width (omega arith))
 pixels_from-changes_from place false (true ∷ row) width e =
-    let none : place - place ≡ 0 = omega arith in
-    rw none (goes_on place true row width e (pixels_from-changes_from (suc place) true row width (omega arith)))
+    grind (arith, common_steps, goes_on, pixels_from-changes_from (suc place) true row width (omega arith))
 
 -- the pixels of a row's changes are the row
 pub pixels-changes : (row : Row) → pixels (length row) (changes row) ≡ row
@@ -288,8 +245,7 @@ AreChanges-changes row = rw (changes-recursive row) (AscendFrom-changes_from 0 f
 pub continued-pixels : (columns width : ℕ) (places : List ℕ) → width ≤ columns → AreChanges width places
     → continued columns (pixels width places) ≡ pixels columns places
 continued-pixels columns width places within ascend =
-    let e : columns ≡ width + (columns - width) = omega arith in
-    rw (length-pixels width places ascend) (sym (pixels-same width (columns - width) places ascend) ∙ ap (λ (n : ℕ). pixels n places) (sym e))
+    grind (arith, common_steps, length-pixels width places ascend, pixels-same width (columns - width) places ascend)
 
 -- so a context passes on the changes that it stored
 pub changes-continued : (columns width : ℕ) (places : List ℕ) → width ≤ columns → AreChanges width places

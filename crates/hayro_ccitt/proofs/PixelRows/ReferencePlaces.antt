@@ -1,5 +1,5 @@
 -- b1 and b2 among the changes that a reference row is made of.
-use Rattle.std.proofs.Common.{◌≡◌, ℕ, zero, suc, ◌+◌, ◌-◌, ◌%◌, ◌<◌, ◌≤◌, ◌⊎◌, ◌↔◌, Bool, true, false, not, ◌&&◌, ltb, leb, List, [], ◌∷◌, length, get_or, replicate, refl, sym, ap, ◌∙◌, arith, inl, inr}
+use Rattle.std.proofs.Common.{◌≡◌, ℕ, zero, suc, ◌+◌, ◌-◌, ◌%◌, ◌<◌, ◌≤◌, ◌⊎◌, ◌↔◌, Bool, true, false, not, ◌&&◌, ltb, leb, List, [], ◌∷◌, length, get_or, replicate, refl, sym, ap, subst, ◌∙◌, arith, inl, inr}
 use mathlib.Core.Bool.{beq}
 use Rattle.std.proofs.Math.Bool.{and-false}
 use Rattle.std.specs.Bool.{IsTrue}
@@ -8,24 +8,16 @@ use Rattle.std.proofs.lemmas.Bool.{lt-ltb, le-leb, le-ltb, lt-leb, false≢true,
 use Rattle.std.proofs.lemmas.List.{length-replicate, get_or-replicate, get_or_append_left, get_or-append_right, get_or_past}
 use Rattle.std.proofs.lemmas.Grind.{get_or_default_zero}
 use Rattle.hayro_ccitt.specs.declared.codes.Color.{Color}
-use Rattle.hayro_ccitt.specs.declared.codes.Color.TheVariants.{White, Black}
+use Rattle.hayro_ccitt.specs.declared.codes.Color.TheVariants.{White}
 use Rattle.hayro_ccitt.specs.Rows.{Row, AscendFrom, AreChanges, pixels_from, pixels, pixel, pixel_before, is_change, is_black, right_of, least_below, b1, b2}
 use Rattle.hayro_ccitt.specs.Context.{right_of_painted, passed_changes}
 use Rattle.hayro_ccitt.proofs.PixelRows.ChangePlaces.{IsLeast, is_least, b2_above}
 use Rattle.hayro_ccitt.proofs.PixelRows.ChangesAndPixels.{length-pixels}
+use Rattle.std.proofs.lemmas.Grind.{common_steps}
 
 -- there is one least position
 least_unique : (bound : ℕ) (test : ℕ → Bool) (p q : ℕ) → IsLeast 0 bound test p → IsLeast 0 bound test q → p ≡ q
-least_unique bound test p q u v =
-    let up : p ≤ bound = u.within in
-    let vp : q ≤ bound = v.within in
-    elim (cases_lt p q) [
-      | inl lt ↦ absurd (false≢true (sym (v.before p (omega arith) lt) ∙ u.there (omega arith)))
-      | inr ge ↦ elim (cases_lt q p) [
-        | inl lt ↦ absurd (false≢true (sym (u.before q (omega arith) lt) ∙ v.there (omega arith)))
-        | inr le ↦ omega arith
-      ]
-    ]
+least_unique bound test p q u v = grind (arith, common_steps, cases_lt, false≢true)
 
 -- ---- The colour after this number of changes.
 -- a colour that is turned this often
@@ -61,13 +53,7 @@ split_of (place ∷ places) p = elim (cases_lt place p) [
 ]
   where
     split_later : (place : ℕ) (places : List ℕ) (p j : ℕ) → place < p → IsSplit places p j → IsSplit (place ∷ places) p (suc j)
-    split_later place places p j lt split =
-        let within : j ≤ length places = split.within in
-        record { within = omega arith; before = earlier; here = λ l. split.here (omega arith) }
-      where
-        earlier : (k : ℕ) → k < suc j → get_or (place ∷ places) k 0 < p
-        earlier zero l = lt
-        earlier (suc k) l = split.before k (omega arith)
+    split_later place places p j lt split = grind (arith, common_steps)
 
 -- ---- Ascending positions.
 -- ascending positions are from the first one on, and below the width
@@ -94,10 +80,7 @@ pixels_from-pixel : (place first : ℕ) (color : Bool) (width : ℕ) (places : L
 pixels_from-pixel place first color width [] p zero ascend le lep lt split = get_or-replicate (width - place) (p - place) color false (omega arith)
 pixels_from-pixel place first color width [] p (suc j) ascend le lep lt split = absurd (omega (arith, split.within))
 pixels_from-pixel place first color width (change ∷ places) p zero ascend le lep lt split =
-    let left : p < change = split.here (omega arith) in
-    let run : length (replicate (change - place) color) ≡ change - place = length-replicate (change - place) color in
-    get_or_append_left (replicate (change - place) color) (pixels_from change (not color) width places) false (p - place) (omega arith)
-    ∙ get_or-replicate (change - place) (p - place) color false (omega arith)
+    grind (arith, common_steps, get_or-replicate, get_or_append_left, length-replicate)
 pixels_from-pixel place first color width (change ∷ places) p (suc j) ascend le lep lt split =
     let here : change < suc p = split.before 0 (omega arith) in
     let left : place ≤ change = omega (arith, ascend.0) in
@@ -115,16 +98,13 @@ pixels_from-pixel place first color width (change ∷ places) p (suc j) ascend l
 
 -- ---- The changing elements of a row of pixels.
 same_beq : (b : Bool) → beq b b ≡ true
-same_beq true = refl
-same_beq false = refl
+same_beq b = grind (arith, common_steps)
 
 other_beq : (b : Bool) → beq b (not b) ≡ false
-other_beq true = refl
-other_beq false = refl
+other_beq b = grind (arith, common_steps)
 
 beq_other : (b : Bool) → beq (not b) b ≡ false
-beq_other true = refl
-beq_other false = refl
+beq_other b = grind (arith, common_steps)
 
 module _ (columns : ℕ) (places : List ℕ) (ascend : AreChanges columns places) where
   abbrev row : Row
@@ -194,26 +174,14 @@ module _ (columns : ℕ) (places : List ℕ) (ascend : AreChanges columns places
 
   -- a position of the row is no change, or it is one of the positions
   change_or_none : (p j : ℕ) → p < columns → IsSplit places p j → (is_change row p ≡ false) ⊎ ((j < length places) × (get_or places j 0 ≡ p))
-  change_or_none p j lt split = elim (cases_lt j (length places)) [
-    | inl in_list ↦ elim (cases_eq (get_or places j 0) p) [
-      | inl same ↦ inr (in_list, same)
-      | inr other ↦ inl (change_none p j lt split (λ l. omega (arith, split.here l)))
-    ]
-    | inr past ↦ inl (change_none p j lt split (λ l. absurd (omega arith)))
-  ]
+  change_or_none p j lt split = grind (arith, common_steps, cases_eq, cases_lt, change_none)
 
   -- the change of an index, or the row's end, is at most the row's end; left of it, it is in the list
   pub end_within : (j : ℕ) → change j ≤ columns
-  end_within j = elim (cases_lt j (length places)) [
-    | inl lt ↦ omega (arith, get_or_default_zero places j columns lt, below j lt)
-    | inr ge ↦ omega (arith, get_or_past places j columns ge)
-  ]
+  end_within j = grind (arith, common_steps, below, cases_lt, get_or_default_zero, get_or_past)
 
   pub in_list_if_below : (j : ℕ) → change j < columns → j < length places
-  in_list_if_below j lt = elim (cases_lt j (length places)) [
-    | inl l ↦ l
-    | inr ge ↦ absurd (omega (arith, get_or_past places j columns ge))
-  ]
+  in_list_if_below j lt = grind (arith, common_steps, cases_lt, get_or_past)
 
   -- a change left of the one at an index has a lesser index
   less_if_left : (j k : ℕ) → j < length places → get_or places j 0 < change k → j < k
@@ -225,151 +193,68 @@ module _ (columns : ℕ) (places : List ℕ) (ascend : AreChanges columns places
     ]
   ]
 
-  -- the next change after the one at an index is the one at the next index
-  pub next_change : (index : ℕ) → least_below (length row) (is_right_of (change index)) ≡ change (suc index)
-  next_change index = least_unique (length row) (is_right_of (change index)) _ _ (is_least _ _) (record {
+  -- the least place of a test that only changes pass is the change of an index, if that one passes and no lesser one does
+  least_is : (test : ℕ → Bool) (index : ℕ) → ((p : ℕ) → is_change row p ≡ false → test p ≡ false)
+      → (index < length places → test (get_or places index 0) ≡ true)
+      → ((j : ℕ) → j < index → j < length places → test (get_or places j 0) ≡ false) → least_below (length row) test ≡ change index
+  least_is test index none here earlier = least_unique (length row) test _ _ (is_least _ _) (record {
     above = omega arith;
-    within = omega (arith, row_length, end_within (suc index));
-    before = λ p _ lt. none_before p lt;
-    there = λ lt. there (in_list_if_below (suc index) (omega (arith, row_length)));
+    within = omega (arith, row_length, end_within index);
+    before = λ p _ lt. before p lt;
+    there = λ lt. let l = in_list_if_below index (omega (arith, row_length)) in rw (get_or_default_zero places index columns l) (here l);
   })
     where
-      there : suc index < length places → (is_right_of (change index) (change (suc index))) ≡ true
-      there lt =
-          let e : change index ≡ get_or places index 0 = get_or_default_zero places index columns (omega arith) in
-          let f : change (suc index) ≡ get_or places (suc index) 0 = get_or_default_zero places (suc index) columns lt in
-          let right : ltb (get_or places index 0) (get_or places (suc index) 0) ≡ true = lt-ltb _ _ (order index (suc index) (omega arith) lt) in
-          rw (e, f, right) (change_there (suc index) lt)
-
-      none_by : (p : ℕ) → p < change (suc index) → change index < p → is_change row p ≡ false
-      none_by p lt left =
+      before : (p : ℕ) → p < change index → test p ≡ false
+      before p lt =
           let split = split_of places p in
-          let end : change (suc index) ≤ columns = end_within (suc index) in
-          let in_list : index < length places = in_list_if_below index (omega arith) in
-          let e : change index ≡ get_or places index 0 = get_or_default_zero places index columns in_list in
-          elim (change_or_none p split.0 (omega arith) split.1) [
-            | inl none ↦ none
-            | inr at ↦ absurd (impossible split.0 at.0 at.1 in_list (omega arith))
+          elim (change_or_none p split.0 (omega (arith, end_within index)) split.1) [
+            | inl e ↦ none p e
+            | inr at ↦ subst (λ (n : ℕ). test n ≡ false) at.1 (earlier split.0 (less_if_left split.0 index at.0 (omega (arith, at.1))) at.0)
           ]
-        where
-          impossible : (j : ℕ) → j < length places → get_or places j 0 ≡ p → index < length places → get_or places index 0 < p → ⊥
-          impossible j jn same lt_index less =
-              let before : j < suc index = less_if_left j (suc index) jn (omega arith) in
-              let after : index < j = less_if_left index j lt_index (omega (arith, get_or_default_zero places j columns jn)) in
-              omega arith
 
-      none_before : (p : ℕ) → p < change (suc index) → is_right_of (change index) p ≡ false
-      none_before p lt = elim (cases_lt (change index) p) [
-        | inl left ↦ rw (none_by p lt left) (and-false _)
-        | inr ge ↦ rw (le-ltb _ _ ge) refl
-      ]
+  -- the next change after the one at an index is the one at the next index
+  pub next_change : (index : ℕ) → least_below (length row) (is_right_of (change index)) ≡ change (suc index)
+  next_change index = least_is (is_right_of (change index)) (suc index) (λ p e. rw e (and-false _))
+      (λ lt. grind (arith, common_steps, change_there, get_or_default_zero, lt-ltb, order))
+      (λ j lt l. grind (arith, common_steps, le-ltb, below j l, in_list_if_below index, get_or_default_zero, order j index, cases_eq j index))
 
   -- a1 is the change of the first index right of a0
   pub a1_is : (from first : ℕ) → IsSplit places from first → least_below (length row) (λ p. leb from p && is_change row p) ≡ change first
-  a1_is from first split = least_unique (length row) (λ p. leb from p && is_change row p) _ _ (is_least _ _) (record {
-    above = omega arith;
-    within = omega (arith, row_length, end_within first);
-    before = λ p _ lt. none_before p lt;
-    there = λ lt. there (in_list_if_below first (omega (arith, row_length)));
-  })
-    where
-      there : first < length places → (leb from (change first) && is_change row (change first)) ≡ true
-      there lt =
-          let e : change first ≡ get_or places first 0 = get_or_default_zero places first columns lt in
-          let right : leb from (get_or places first 0) ≡ true = le-leb _ _ (split.here lt) in
-          rw (e, right) (change_there first lt)
-
-      none_by : (p : ℕ) → p < change first → from ≤ p → is_change row p ≡ false
-      none_by p lt le =
-          let split_p = split_of places p in
-          let end : change first ≤ columns = end_within first in
-          elim (change_or_none p split_p.0 (omega arith) split_p.1) [
-            | inl none ↦ none
-            | inr at ↦ absurd (omega (arith, at.1, split.before split_p.0 (less_if_left split_p.0 first at.0 (omega (arith, at.1)))))
-          ]
-
-      none_before : (p : ℕ) → p < change first → (leb from p && is_change row p) ≡ false
-      none_before p lt = elim (cases_lt p from) [
-        | inl left ↦ rw (lt-leb _ _ left) refl
-        | inr ge ↦ rw (le-leb _ _ ge) (none_by p lt ge)
-      ]
+  a1_is from first split = least_is (λ p. leb from p && is_change row p) first (λ p e. rw e (and-false _))
+      (λ lt. rw (le-leb _ _ (split.here lt)) (change_there first lt)) (λ j lt l. rw (lt-leb _ _ (split.before j lt)) refl)
 
   -- b1 is the change of the first index right of a0, or of the one after it where the first turns the other way
   pub b1_is : (from first index : ℕ) (color : Color) → IsSplit places from first → turned index false ≡ is_black color
       → (index ≡ first) ⊎ ((index ≡ suc first) × (turned first false ≡ not (is_black color)))
       → b1 row from color ≡ change index
-  b1_is from first index color split colored reach = least_unique (length row) (is_b1 from color) _ _ (is_least _ _) (record {
-    above = omega arith;
-    within = omega (arith, row_length, end_within index);
-    before = λ p _ lt. none_before p lt;
-    there = λ lt. there (in_list_if_below index (omega (arith, row_length)));
-  })
+  b1_is from first index color split colored reach = least_is (is_b1 from color) index none there earlier
     where
-      first_le : first ≤ index
-      first_le = elim reach [ inl same ↦ omega arith | inr next ↦ omega (arith, next.0) ]
+      none : (p : ℕ) → is_change row p ≡ false → is_b1 from color p ≡ false
+      none p e = grind (arith, common_steps, and-false)
 
-      there : index < length places → is_b1 from color (change index) ≡ true
-      there lt =
-          let e : change index ≡ get_or places index 0 = get_or_default_zero places index columns lt in
-          let right : leb from (get_or places index 0) ≡ true = le-leb _ _ (right_of_first lt) in
-          let u = before_is (get_or places index 0) index (omega (arith, below index lt)) (split_at index lt) ∙ colored in
-          rw (e, right, change_there index lt, u) (same_beq (is_black color))
-        where
-          right_of_first : index < length places → from ≤ get_or places index 0
-          right_of_first lt = elim (cases_eq first index) [
-            | inl same ↦ rw same at (split.here (omega (arith, first_le)))
-            | inr other ↦ omega (arith, first_le, split.here (omega (arith, first_le)), order first index (omega (arith, first_le)) lt)
-          ]
+      color_at : (j : ℕ) → j < length places → pixel_before row (get_or places j 0) ≡ turned j false
+      color_at j lt = before_is (get_or places j 0) j (omega (arith, below j lt)) (split_at j lt)
+
+      there : index < length places → is_b1 from color (get_or places index 0) ≡ true
+      there lt = grind (arith, common_steps, reach, split.here, order first index, color_at index lt, le-leb, change_there index lt, same_beq)
 
       -- a change that is left of it, and not left of a0, turns the other way
-      wrong_color : (j : ℕ) → first ≤ j → j < index → turned j false ≡ not (is_black color)
-      wrong_color j le lt = elim reach [
-        | inl same ↦ absurd (omega arith)
-        | inr next ↦ let e : j ≡ first = omega (arith, next.0) in rw e next.1
-      ]
-
-      none_by : (p : ℕ) → p < change index → from ≤ p → (is_change row p && beq (pixel_before row p) (is_black color)) ≡ false
-      none_by p lt le =
-          let split_p = split_of places p in
-          let end : change index ≤ columns = end_within index in
-          elim (change_or_none p split_p.0 (omega arith) split_p.1) [
-            | inl none ↦ rw none refl
-            | inr at ↦ (
-                let u = before_is p split_p.0 (omega arith) split_p.1 ∙ wrong_color split_p.0 (first_before split_p.0 at.0 at.1) (less_if_left split_p.0 index at.0 (omega (arith, at.1))) in
-                rw (u, beq_other (is_black color)) (and-false _))
-          ]
-        where
-          first_before : (j : ℕ) → j < length places → get_or places j 0 ≡ p → first ≤ j
-          first_before j jn same = elim (cases_lt j first) [ inl l ↦ absurd (omega (arith, split.before j l)) | inr ge ↦ ge ]
-
-      none_before : (p : ℕ) → p < change index → is_b1 from color p ≡ false
-      none_before p lt = elim (cases_lt p from) [
-        | inl left ↦ rw (lt-leb _ _ left) refl
-        | inr ge ↦ rw (le-leb _ _ ge) (none_by p lt ge)
-      ]
+      earlier : (j : ℕ) → j < index → j < length places → is_b1 from color (get_or places j 0) ≡ false
+      earlier j lt l = grind (arith, common_steps, reach, split.before j, color_at j l, lt-leb, beq_other)
 
 -- ---- The index of b1 as code finds it.
 -- a0 is where the front ends
 pub right_of-pixels : (painted : ℕ) (places : List ℕ) → AreChanges painted places → right_of (pixels painted places) ≡ right_of_painted painted
-right_of-pixels painted places ascend = by_length (pixels painted places) painted (row_length painted places ascend)
-  where
-    by_length : (front : Row) (n : ℕ) → length front ≡ n → right_of front ≡ right_of_painted n
-    by_length [] zero e = refl
-    by_length [] (suc n) e = absurd (omega arith)
-    by_length (p ∷ front) zero e = absurd (omega arith)
-    by_length (p ∷ front) (suc n) e = let u : length front ≡ n = omega arith in rw u refl
+right_of-pixels painted places ascend = grind (arith, common_steps, row_length)
 
 -- the changes that are at most at a0, while some pixel is painted
 pub IsSplit-painted : (places : List ℕ) (painted j : ℕ) → 0 < painted → j ≤ length places
     → ((k : ℕ) → k < j → get_or places k 0 ≤ painted) → (j < length places → painted < get_or places j 0) → IsSplit places (right_of_painted painted) j
-IsSplit-painted places zero j some within left here = absurd (omega arith)
-IsSplit-painted places (suc painted) j some within left here =
-    record { within = within; before = λ k l. omega (arith, left k l); here = λ l. omega (arith, here l) }
+IsSplit-painted places painted j some within left here = grind (arith, common_steps)
 
 -- while none is, a0 is left of them all
 pub IsSplit-none : (places : List ℕ) (painted : ℕ) → painted ≤ 0 → IsSplit places (right_of_painted painted) 0
-IsSplit-none places zero none = record { within = omega arith; before = λ k l. absurd (omega arith); here = λ l. omega arith }
-IsSplit-none places (suc painted) none = absurd (omega arith)
+IsSplit-none places painted none = grind (arith, common_steps)
 
 -- b2 is the change after b1
 pub b2_after_b1 : (columns : ℕ) (places : List ℕ) (from index : ℕ) (color : Color) → AreChanges columns places
@@ -381,33 +266,19 @@ b2_after_b1 columns places from index color ascend e =
 
 -- what a colour and the parity of an index say
 black_from_white : (color : Color) (white : Bool) → IsTrue white ↔ (color ≡ White) → is_black color ≡ not white
-black_from_white White true h = refl
-black_from_white White false h = h.1 refl
-black_from_white Black true h = absurd (let e : Black ≡ White = h.0 refl in cc)
-black_from_white Black false h = refl
+black_from_white color white h = grind (arith, common_steps)
 
 turned_from_even : (n : ℕ) (even : Bool) → IsTrue even ↔ (n % 2 ≡ 0) → turned n false ≡ not even
-turned_from_even n true h = (turned_by_parity n).0 (h.0 refl)
-turned_from_even n false h = elim (cases_eq (n % 2) 0) [
-  | inl none ↦ absurd (false≢true (h.1 none))
-  | inr some ↦ (turned_by_parity n).1 (omega arith)
-]
+turned_from_even n even h = grind (arith, common_steps, cases_eq, common_steps, false≢true, turned_by_parity)
 
 same_from : (even white : Bool) → not (beq even white) ≡ false → not even ≡ not white
-same_from true true e = refl
-same_from false false e = refl
-same_from true false e = absurd (false≢true (sym e))
-same_from false true e = absurd (false≢true (sym e))
+same_from even white e = grind (arith, common_steps)
 
 other_from : (even white : Bool) → not (beq even white) ≡ true → not even ≡ not (not white)
-other_from true false e = refl
-other_from false true e = refl
-other_from true true e = absurd (false≢true e)
-other_from false false e = absurd (false≢true e)
+other_from even white e = grind (arith, common_steps)
 
 pub not_not : (b : Bool) → not (not b) ≡ b
-not_not true = refl
-not_not false = refl
+not_not b = grind (arith, common_steps)
 
 module _ (columns : ℕ) (places : List ℕ) (from first : ℕ) (color : Color) (even white : Bool) (ascend : AreChanges columns places) (split : IsSplit places from first)
     (parity : IsTrue even ↔ (first % 2 ≡ 0)) (whiteness : IsTrue white ↔ (color ≡ White)) where
@@ -427,14 +298,7 @@ module _ (columns : ℕ) (places : List ℕ) (from first : ℕ) (color : Color) 
 
 -- b2 is not left of where the front ends
 pub b2_from_front : (reference front : Row) (color : Color) → length front ≤ length reference → length front ≤ b2 reference (right_of front) color
-b2_from_front reference front color within = elim (cases_lt (b2 reference (right_of front) color) (length reference)) [
-  | inl lt ↦ (let sides = b2_above reference (right_of front) color lt in omega (arith, sides.0, sides.1, right_of_least front))
-  | inr ge ↦ omega arith
-]
-  where
-    right_of_least : (front : Row) → length front ≤ right_of front
-    right_of_least [] = omega arith
-    right_of_least (p ∷ front) = omega arith
+b2_from_front reference front color within = grind (arith, common_steps, b2_above, cases_lt)
 
 -- as many changes of ascending ones are at most at a position as precede the split after it
 split_count : (first width : ℕ) (places : List ℕ) (p j : ℕ) → AscendFrom first width places → IsSplit places (suc p) j

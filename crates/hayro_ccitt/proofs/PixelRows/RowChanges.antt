@@ -1,7 +1,8 @@
 -- What painting does to the changes.
-use Rattle.std.proofs.Common.{◌≡◌, ℕ, zero, suc, ◌+◌, Bool, true, false, cond, List, [], ◌∷◌, ◌++◌, length, replicate, refl, sym, arith}
+use Rattle.std.proofs.Common.{◌≡◌, ℕ, zero, suc, ◌+◌, Bool, true, cond, List, [], ◌∷◌, ◌++◌, length, replicate, refl, arith}
 use mathlib.Core.Bool.{beq}
 use Rattle.hayro_ccitt.specs.Rows.{Row, last_pixel}
+use Rattle.std.proofs.lemmas.Grind.{common_steps}
 
 -- The changes of a row by recursion: the positions, counted from one on, where a pixel differs from the one before it. It
 -- is the same list as `changes`, in a form for induction.
@@ -10,18 +11,15 @@ changes_from place before [] = []
 changes_from place before (pixel ∷ row) = cond (beq before pixel) (changes_from (suc place) pixel row) (place ∷ changes_from (suc place) pixel row)
 
 cond-append : (b : Bool) (x y zs : List ℕ) → cond b x y ++ zs ≡ cond b (x ++ zs) (y ++ zs)
-cond-append true x y zs = refl
-cond-append false x y zs = refl
+cond-append b x y zs = grind (arith, common_steps)
 
 pub changes_from-append : (place : ℕ) (before : Bool) (front row : Row) → changes_from place before (front ++ row) ≡ changes_from place before front ++ changes_from (place + length front) (last_pixel before front) row
 changes_from-append place before [] row = let e : place + 0 ≡ place = omega arith in rw e refl
 changes_from-append place before (pixel ∷ front) row =
-    let e : place + suc (length front) ≡ suc place + length front = omega arith in
-    rw (changes_from-append (suc place) pixel front row, e) (sym (cond-append (beq before pixel) _ _ _))
+    grind (arith, common_steps, cond-append, changes_from-append (suc place) pixel front row)
 
 same_beq : (b : Bool) → beq b b ≡ true
-same_beq true = refl
-same_beq false = refl
+same_beq b = grind (arith, common_steps)
 
 -- pixels of the colour before them change nothing
 pub changes_from-same : (place n : ℕ) (color : Bool) → changes_from place color (replicate n color) ≡ []

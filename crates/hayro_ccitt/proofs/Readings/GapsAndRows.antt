@@ -1,19 +1,17 @@
 -- The first gap, and what gaps and rows lead to.
-use Rattle.std.proofs.Common.{◌≡◌, ◌≢◌, ◌<◌, suc, Bool, true, false, cond, not, ◌&&◌, eqb, [], length, arith, Result, Ok, Err, refl, ap, subst, ◌∙◌, ℕ}
-use Rattle.std.proofs.lemmas.Bool.{and_left, and_right, cond-false}
+use Rattle.std.proofs.Common.{◌≡◌, ◌≢◌, ◌<◌, suc, false, cond, [], length, arith, Result, Ok, Err, refl, ap, subst, ◌∙◌, ℕ}
 use Rattle.hayro_ccitt.specs.declared.error.DecodeError.{DecodeError}
 use Rattle.hayro_ccitt.specs.declared.error.DecodeError.TheVariants.{UnexpectedEof}
 use Rattle.hayro_ccitt.specs.declared.settings.DecodeSettings.{DecodeSettings}
-use Rattle.hayro_ccitt.specs.declared.settings.EncodingMode.{EncodingMode}
-use Rattle.hayro_ccitt.specs.declared.settings.EncodingMode.TheVariants.{Group4, Group3_1D, Group3_2D}
-use Rattle.hayro_ccitt.specs.Bits.{Bits}
+use Rattle.hayro_ccitt.specs.declared.settings.EncodingMode.TheVariants.{Group4}
+use Rattle.hayro_ccitt.specs.Bits.{Bits, IsPrefix}
 use Rattle.hayro_ccitt.specs.Laws.{add_row_alone, row_behind, gap_and_row}
-use Rattle.hayro_ccitt.specs.PlainReading.{Progress, Ending, Move, at_end, limit_met, eols_here, is_over, ends_with, row_of_line, pass_gap, add_row, move_on, line_of_turn, at_front, first_line, first_gap, ending_from, ending_behind, end_of}
+use Rattle.hayro_ccitt.specs.PlainReading.{Progress, Ending, Move, eols_here, is_over, ends_with, row_of_line, pass_gap, add_row, move_on, line_of_turn, at_front, first_line, first_gap, ending_from, ending_behind, end_of}
 use Rattle.hayro_ccitt.specs.Repetition.{Turn, repeated, Reaches}
 use Rattle.hayro_ccitt.specs.Rows.{Row}
 use Rattle.hayro_ccitt.proofs.Readings.Repeated.{Follows, after_turn, repeated_follows, repeated_turn}
-use Rattle.hayro_ccitt.proofs.Readings.RowsAndGaps.{seek_eol, unless_over, pass_gap-is}
-use Rattle.hayro_ccitt.proofs.Readings.TurnsMoveOn.{left_to_read, left_below, move_shrinks, next_is, not_next}
+use Rattle.hayro_ccitt.proofs.Readings.TurnsMoveOn.{left_to_read, left_below, move_shrinks, not_next}
+use Rattle.hayro_ccitt.proofs.Readings.TurnsAddRows.{move_adds, repeated_adds}
 use Rattle.std.proofs.lemmas.Grind.{common_steps}
 
 -- ---- The first gap
@@ -28,10 +26,6 @@ abbrev pub ending_t4 : DecodeSettings → Bits → Ending
 ending_t4 settings bits = ending_from (move_on settings) (first_line settings bits)
 
 -- ---- A gap where no EOLs are sought
-
-pub gap_unsought : (settings : DecodeSettings) (run : Progress) → run.has_eols ≡ false
-    → pass_gap settings run ≡ unless_over settings run (eols_here settings run.rest)
-gap_unsought settings run unsought = grind (arith, common_steps)
 
 -- EOLs were counted, and the row of the line after them is read
 abbrev pub row_behind_eols : DecodeSettings → Progress → ℕ × Bits → Move
@@ -60,23 +54,20 @@ module _ (settings : DecodeSettings) (wide : 0 < settings.columns) where
       (λ s t. s ≡ t) (λ r q. r ≡ q) same (suc (suc (length run.rest))) (suc (left_to_read run)) run run (left_below run) (omega arith) refl
     where
       turn_same : (rest : Progress → Ending) (turn : Move) → Follows (λ s t. s ≡ t) (λ r q. r ≡ q) rest turn turn
-      turn_same rest (Turn.next t) = refl
-      turn_same rest (Turn.done r) = refl
+      turn_same rest turn = grind (arith, common_steps)
 
       same : (s t : Progress) → s ≡ t → Follows (λ s t. s ≡ t) (λ r q. r ≡ q) goes (move_on settings s) (move_on settings t)
       same s t e = subst (λ (r : Progress). Follows (λ s t. s ≡ t) (λ r q. r ≡ q) goes (move_on settings s) (move_on settings r)) e (turn_same goes (move_on settings s))
 
   ending_behind_goes : (gap : Move) → ending_behind settings gap ≡ after_turn goes gap
-  ending_behind_goes (Turn.next run) = ending_goes run
-  ending_behind_goes (Turn.done end) = refl
+  ending_behind_goes gap = grind (arith, common_steps, ending_goes)
 
   -- a row, and the gap after it, are a turn
   row_then_gap : (line next : Progress) → row_behind settings (Turn.next line) ≡ Turn.next next → move_on settings line ≡ pass_gap settings next
   row_then_gap line next e = by (row_of_line settings line.has_eols line.rest (line_of_turn settings line)) e
     where
       by : (row : Result (Row × Bits) DecodeError) → add_row_alone line row ≡ Turn.next next → add_row settings line row ≡ pass_gap settings next
-      by (Ok (row, rest)) e = ap (pass_gap settings) (next_is _ next e)
-      by (Err fault) e = absurd (not_next _ next e)
+      by row e = grind (arith, common_steps)
 
   reaches_goes : (from last : Progress) → Reaches (gap_and_row settings) from last
       → after_turn goes (pass_gap settings from) ≡ after_turn goes (pass_gap settings last)
@@ -91,11 +82,27 @@ module _ (settings : DecodeSettings) (wide : 0 < settings.columns) where
   -- if gaps and rows lead to a last gap, the reading from the first gap on ends with that
   pub reaches_end : (from last : Progress) (end : Ending) → Reaches (gap_and_row settings) from last → pass_gap settings last ≡ Turn.done end
       → ending_behind settings (pass_gap settings from) ≡ end
-  reaches_end from last end reaches over =
-      ending_behind_goes (pass_gap settings from) ∙ reaches_goes from last reaches ∙ ap (after_turn goes) over
+  reaches_end from last end reaches over = grind (arith, common_steps, after_turn, ending_behind_goes, reaches_goes)
 
   -- so does the reading of Group 4 data
   pub t6_end : (bits : Bits) (last : Progress) (end : Ending) → settings.encoding ≡ Group4 → Reaches (gap_and_row settings) (at_front bits) last
       → pass_gap settings last ≡ Turn.done end → end_of settings bits ≡ end
-  t6_end bits last end is reaches over =
-      ap (λ (e : EncodingMode). ending_behind settings (first_gap e settings bits)) is ∙ reaches_end (at_front bits) last end reaches over
+  t6_end bits last end is reaches over = grind (arith, common_steps, reaches_end (at_front bits) last end reaches over)
+
+-- ---- Two readings side by side, where the rows of a reading only grow
+
+module _ (one two : DecodeSettings) (wide : 0 < one.columns) (wide_two : 0 < two.columns) (P : Progress → Progress → Type 0) (Q : Ending → Ending → Type 0)
+    (follows : (rest : Progress → Ending) → ((t : Progress) → IsPrefix t.rows (rest t).rows) → (s t : Progress) → P s t
+    → Follows P Q rest (move_on one s) (move_on two t)) where
+  rows_grow : (late : Ending) (n : ℕ) (t : Progress) → left_to_read t < n → IsPrefix t.rows (repeated (move_on two) late n t).rows
+  rows_grow late = repeated_adds (move_on two) late left_to_read (move_shrinks two wide_two) (move_adds two)
+
+  -- what comes behind a gap in both
+  pub readings_follow : (gap other : Move) → Follows P Q (ending_from (move_on two)) gap other → Q (ending_behind one gap) (ending_behind two other)
+  readings_follow (Turn.next s) (Turn.next t) p =
+      repeated_follows (move_on one) _ left_to_read (move_shrinks one wide) (move_on two) _ left_to_read (move_shrinks two wide_two) P Q
+      (follows _ (λ r. rows_grow _ (suc (left_to_read r)) r (omega arith))) (suc (suc (length s.rest))) (suc (suc (length t.rest))) s t
+      (left_below s) (left_below t) p
+  readings_follow (Turn.next s) (Turn.done q) p = absurd p
+  readings_follow (Turn.done r) (Turn.next t) q = q
+  readings_follow (Turn.done r) (Turn.done e) q = q

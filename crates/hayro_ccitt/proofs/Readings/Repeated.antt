@@ -1,6 +1,7 @@
 -- A repeated step whose states get smaller reaches its end, however many more turns it is allowed.
 use Rattle.std.proofs.Common.{◌≡◌, ℕ, zero, suc, ◌<◌, refl, sym, subst, arith}
 use Rattle.hayro_ccitt.specs.Repetition.{Turn, repeated, Reaches}
+use Rattle.std.proofs.lemmas.Grind.{common_steps}
 
 -- a step that continues to smaller states only
 abbrev pub Shrinks : {S R : Type 0} → (S → Turn S R) → (S → ℕ) → Type 0
@@ -17,12 +18,7 @@ pub repeated_same : {S R : Type 0} (step : S → Turn S R) (late : R) (size : S 
 repeated_same step late size shrinks zero m s h k = absurd (omega arith)
 repeated_same step late size shrinks (suc n) zero s h k = absurd (omega arith)
 repeated_same {S} {R} step late size shrinks (suc n) (suc m) s h k =
-    let by_turn : (turn : Turn S R) → step s ≡ turn → after_turn (repeated step late n) turn ≡ after_turn (repeated step late m) turn
-    = λ turn. elim turn as (λ (t : Turn S R). step s ≡ t → after_turn (repeated step late n) t ≡ after_turn (repeated step late m) t) [
-      | Turn.next t ↦ λ e. repeated_same step late size shrinks n m t (omega (arith, shrinks s t e)) (omega (arith, shrinks s t e))
-      | Turn.done r ↦ λ e. refl
-    ] in
-    by_turn (step s) refl
+    grind (arith, common_steps, repeated_same step late size shrinks n m)
 
 -- a turn of a repetition that is allowed more turns than the size of its state
 pub repeated_turn : {S R : Type 0} (step : S → Turn S R) (late : R) (size : S → ℕ) → Shrinks step size → (s : S)
@@ -42,12 +38,7 @@ pub repeated_keeps : {S R : Type 0} (step : S → Turn S R) (late : R) (P : S �
     → Q (repeated step late n s)
 repeated_keeps step late P Q q keeps ends zero s p = q
 repeated_keeps {S} {R} step late P Q q keeps ends (suc n) s p =
-    let by_turn : (turn : Turn S R) → step s ≡ turn → Q (after_turn (repeated step late n) turn)
-    = λ turn. elim turn as (λ (t : Turn S R). step s ≡ t → Q (after_turn (repeated step late n) t)) [
-      | Turn.next t ↦ λ e. repeated_keeps step late P Q q keeps ends n t (keeps s t p e)
-      | Turn.done r ↦ λ e. ends s r p e
-    ] in
-    by_turn (step s) refl
+    grind (arith, common_steps, repeated_keeps step late P Q q keeps ends n)
 
 -- ---- Two repetitions side by side.
 
@@ -74,9 +65,7 @@ module _ {S R T U : Type 0} (step : S → Turn S R) (late : R) (size : S → ℕ
     where
       by : ((a : S) (b : T) → size a < n → P a b → Q (repeated step late n a) (other_rest b)) → (turn : Turn S R) (other_turn : Turn T U)
           → step s ≡ turn → Follows P Q other_rest turn other_turn → Q (after_turn (repeated step late n) turn) (after_turn other_rest other_turn)
-      by on (Turn.next a) (Turn.next b) e g = on a b (omega (arith, shrinks s a e)) g
-      by on (Turn.next a) (Turn.done q) e g = absurd g
-      by on (Turn.done r) other_turn e g = g
+      by on b other_turn e g = grind (arith, common_steps)
 
   -- the results of two repetitions whose turns agree
   pub repeated_follows : ((s : S) (t : T) → P s t → Follows P Q other_rest (step s) (other t)) → (n m : ℕ) (s : S) (t : T) → size s < n
@@ -112,9 +101,7 @@ reached_follows {S} {R} {T} {U} step late size shrinks other other_late other_si
 
     reached : (s : S) (t : T) → Reaches step first s → Reaches other other_first t → (turn : Turn S R) (other_turn : Turn T U) → step s ≡ turn
         → other t ≡ other_turn → Follows P Q rest turn other_turn → Follows Reached Q rest turn other_turn
-    reached s t from other_from (Turn.next a) (Turn.next b) e f g = (reaches_on step first s a from e, reaches_on other other_first t b other_from f, g)
-    reached s t from other_from (Turn.next a) (Turn.done q) e f g = absurd g
-    reached s t from other_from (Turn.done r) other_turn e f g = g
+    reached s t from other_from given other_turn e f g = grind (arith, common_steps, reaches_on)
 
 -- what is true of each last turn, and goes back over each other turn, is true of the result
 pub repeated_induct : {S R : Type 0} (step : S → Turn S R) (late : R) (size : S → ℕ) → Shrinks step size → (P : S → R → Type 0)
@@ -125,5 +112,4 @@ repeated_induct {S} {R} step late size shrinks P ends goes (suc n) s lt =
     by (λ t small. repeated_induct step late size shrinks P ends goes n t small) (step s) refl
   where
     by : ((t : S) → size t < n → P t (repeated step late n t)) → (turn : Turn S R) → step s ≡ turn → P s (after_turn (repeated step late n) turn)
-    by on (Turn.next t) e = goes s t (repeated step late n t) e (on t (omega (arith, shrinks s t e)))
-    by on (Turn.done r) e = ends s r e
+    by on turn e = grind (arith, common_steps)

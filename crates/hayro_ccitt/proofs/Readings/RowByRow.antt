@@ -3,7 +3,7 @@ use Rattle.std.proofs.Common.{◌≡◌, ◌+◌, ◌-◌, ◌<◌, ◌≤◌, �
 use Rattle.std.proofs.lemmas.Bool.{cond-true, cond-false, eq-eqb, ne_eqb, false≢true}
 use Rattle.std.proofs.lemmas.List.{length-append, length-drop}
 use Rattle.std.proofs.Common.{cond, take, not, ◌||◌, None, Option}
-use Rattle.std.specs.Prelude.{sum_by, slice_get, IsOkUnless, ◌≢◌}
+use Rattle.std.specs.Prelude.{OnErr, sum_by, slice_get, IsOkUnless, ◌≢◌}
 use Rattle.hayro_ccitt.specs.declared.error.DecodeError.{DecodeError}
 use Rattle.hayro_ccitt.specs.declared.error.DecodeError.TheVariants.{InvalidCode, OutOfMemory, Refused}
 use Rattle.hayro_ccitt.specs.declared.settings.DecodeSettings.{DecodeSettings}
@@ -21,15 +21,16 @@ use Rattle.hayro_ccitt.specs.declared.row_reader.Stand.TheVariants.{AtLine, Behi
 use Rattle.hayro_ccitt.specs.declared.row_reader.RowReader.TheInside.{Inside}
 use Rattle.hayro_ccitt.specs.declared.settings.EncodingMode.{EncodingMode}
 use Rattle.hayro_ccitt.specs.declared.settings.EncodingMode.TheVariants.{Group4}
+use Rattle.hayro_ccitt.proofs.Readings.Gathered.{gathered_after}
 use Rattle.hayro_ccitt.proofs.Readings.GapsAndRows.{first_gap_t4}
 use Rattle.hayro_ccitt.proofs.Readings.Repeated.{reaches_on}
-use Rattle.hayro_ccitt.specs.RowsRead.{RowsRead, damage_since, ComesToLine, read_so_far, line_after, IsReading, RepairsAreCounted, Stands, rows_read_of, ended, stand_after, is_at_line, StandsAtLine, StandsBehindRow, HasEnded, HasFailed, context_at, line_starts}
+use Rattle.hayro_ccitt.specs.RowsRead.{RowsRead, damage_since, start_after, ComesToLine, read_so_far, line_after, IsReading, RepairsAreCounted, Stands, rows_read_of, ended, stand_after, is_at_line, StandsAtLine, StandsBehindRow, HasEnded, HasFailed, context_at, line_starts}
 use Rattle.hayro_ccitt.proofs.Readings.PlainAnswers.{some_columns, bytes_before-place}
 use Rattle.hayro_ccitt.proofs.Readings.TurnsAddRows.{Keeps, first_gap_keeps}
 use Rattle.hayro_ccitt.proofs.Readings.TurnsMoveOn.{left_to_read, left_below, next_is, not_next}
 use Rattle.hayro_ccitt.proofs.Readings.RepairsCounted.{repaired_counts}
 use Rattle.hayro_ccitt.proofs.Work.RunsCount.{sum_more}
-use Rattle.hayro_ccitt.proofs.Readings.RunsOverRows.{lines_on, Comes, Between, Leaves, held_between-more, comes_first, comes_next, comes_done, comes_more, comes_line, get_or-behind, row_fails}
+use Rattle.hayro_ccitt.proofs.Readings.RunsOverRows.{lines, lines_on, drop-suc_cons, Comes, Between, Leaves, held_between-more, comes_first, comes_next, comes_done, comes_more, comes_line, get_or-behind, row_fails}
 use Rattle.hayro_ccitt.proofs.Readings.RowsTaken.{by_rows_left, row_of_turn, reads_row, turn_is}
 
 -- what a sink that keeps nothing, and refuses no row, means
@@ -44,6 +45,12 @@ get_or-there : {A : Type 0} (xs : List A) (k : ℕ) (x other : A) → slice_get 
 get_or-there [] k x other is = absurd cc
 get_or-there (y ∷ xs) zero x other is = cc
 get_or-there (y ∷ xs) (suc k) x other is = get_or-there xs k x other is
+
+-- and behind all elements there is none
+get_or-behind_all : {A : Type 0} (xs : List A) (k : ℕ) (other : A) → drop k xs ≡ [] → get_or xs k other ≡ other
+get_or-behind_all [] k other is = refl
+get_or-behind_all (x ∷ xs) zero other is = absurd cc
+get_or-behind_all (x ∷ xs) (suc k) other is = get_or-behind_all xs k other is
 
 -- a turn that continues adds one row
 turn_adds : (settings : DecodeSettings) (s after : Progress) → move_on settings s ≡ Turn.next after → length after.rows ≡ suc (length s.rows)
@@ -98,12 +105,23 @@ module _ (settings : DecodeSettings) (wide : 0 < settings.columns) (bits : Bits)
         plain_is ∙ ap (whole_reading bits) (comes_done (move_on settings) (one_each (line_of_turn settings)) left_to_read (by_rows_left settings wide) first none_first so_far (comes (line_of_turn settings)) end is)
 
     -- the offset of its line
-    pub line_start_is : get_or (line_starts settings bits) (length so_far.rows) 0 ≡ length bits - length so_far.rest
-    line_start_is =
+    pub line_start_is : (other : ℕ) → get_or (line_starts settings bits) (length so_far.rows) other ≡ length bits - length so_far.rest
+    line_start_is other =
         let gives : Progress → ℕ = λ s. length bits - length s.rest in
-        get_or-there (line_starts settings bits) (length so_far.rows) (gives so_far) 0
+        get_or-there (line_starts settings bits) (length so_far.rows) (gives so_far) other
         (ap (λ (xs : List ℕ). slice_get xs (length so_far.rows)) (gathered_is gives)
         ∙ comes_line (move_on settings) (one_each gives) left_to_read (by_rows_left settings wide) first none_first so_far (comes gives) (gives so_far) refl)
+
+    -- where its turn is the last, no line begins behind it
+    pub no_line_behind : (end : Ending) → move_on settings so_far ≡ Turn.done end → (other : ℕ) → get_or (line_starts settings bits) (length so_far.rows + 1) other ≡ other
+    no_line_behind end ends other =
+        let gives : Progress → ℕ = λ s. length bits - length s.rest in
+        let follow = ap (λ (xs : List ℕ). drop (length so_far.rows) xs) (gathered_is gives)
+        ∙ lines_on (move_on settings) (one_each gives) left_to_read (by_rows_left settings wide) first none_first so_far (comes gives) (gives so_far) refl in
+        let last = follow ∙ ap (λ (turn : Move). gives so_far ∷ gathered_after (lines (move_on settings) (one_each gives) left_to_read) turn) ends in
+        let next : length so_far.rows + 1 ≡ suc (length so_far.rows) = omega arith in
+        ap (λ (n : ℕ). get_or (line_starts settings bits) n other) next
+        ∙ get_or-behind_all (line_starts settings bits) (suc (length so_far.rows)) other (drop-suc_cons (line_starts settings bits) (length so_far.rows) (gives so_far) [] last)
 
     module _ (row : Row) (rest : Bits) (is : row_of_turn settings so_far ≡ Ok (row, rest)) where
       prefix : IsPrefix (so_far.rows ++ row ∷ []) (plain settings bits).rows
@@ -254,7 +272,7 @@ is_read settings bits held here stands new left_over takes =
       row = ap (λ (h : Held). h.reference) taken.held
           ∙ sym (ap (λ (n : ℕ). get_or (plain settings bits).rows n []) before ∙ row_is_next settings stands.wide bits stands.first stands.begins so_far stands.reaches taken.taken left_over taken.is);
       line_start = ap (λ (x : Bits). length bits - length x) stands.rest_is
-          ∙ sym (ap (λ (n : ℕ). get_or (line_starts settings bits) n 0) before ∙ line_start_is settings stands.wide bits stands.first stands.begins so_far stands.reaches);
+          ∙ sym (ap (λ (n : ℕ). get_or (line_starts settings bits) n 0) before ∙ line_start_is settings stands.wide bits stands.first stands.begins so_far stands.reaches 0);
       damage = ap (λ (r : Repairs). damage_since r held.repairs.rows) repaired
           ∙ repaired_told settings so_far.has_eols (length so_far.rows) offset so_far.rest line taken.taken left_over held.repairs taken.is
           ∙ sym (ap fault_in (repaired_is settings stands.wide bits stands.first stands.begins so_far stands.reaches held.taken before));
@@ -268,6 +286,13 @@ is_read settings bits held here stands new left_over takes =
         ap (λ (n : ℕ). sum_by length (take n (repairs_by_line settings bits))) (after ∙ ap (λ (n : ℕ). n + 1) (sym before)),
       );
     }
+
+-- its line begins there
+pub starts_there : (settings : DecodeSettings) (bits : Bits) (held : Held) (here : Bits) → StandsAtLine settings bits held here → (other : ℕ)
+    → length bits - length here ≡ get_or (line_starts settings bits) held.taken other
+starts_there settings bits held here stands other =
+    ap (λ (x : Bits). length bits - length x) stands.rest_is
+    ∙ sym (ap (λ (n : ℕ). get_or (line_starts settings bits) n other) (ap (λ (h : Held). h.taken) stands.held_is) ∙ line_start_is settings stands.wide bits stands.first stands.begins stands.so_far stands.reaches other)
 
 -- no row was read there
 pub isnt_read : (settings : DecodeSettings) (bits : Bits) (held : Held) (here : Bits) → StandsAtLine settings bits held here → (new : Held) (left_over : Bits) (e : DecodeError)
@@ -287,30 +312,20 @@ isnt_read settings bits held here stands new left_over e takes =
     }
 
 -- if a line is here, the invariant says so
-at_line_stands : (stand : Stand) (settings : DecodeSettings) (bits : Bits) (held : Held) (place : ℕ) → is_at_line stand ≡ true → Stands stand settings bits held place
+pub at_line_stands : (stand : Stand) (settings : DecodeSettings) (bits : Bits) (held : Held) (place : ℕ) → is_at_line stand ≡ true → Stands stand settings bits held place
     → StandsAtLine settings bits held (drop place bits)
 at_line_stands AtLine settings bits held place is stands = stands
 at_line_stands BehindRow settings bits held place is stands = absurd (false≢true is)
 at_line_stands AtEnd settings bits held place is stands = absurd (false≢true is)
 at_line_stands (AtFault error) settings bits held place is stands = absurd (false≢true is)
 
-pub reader_at_line : (inside : Inside) (now : RowsRead) → rows_read_of inside ≡ now → now.at_line ≡ true → IsReading inside
-    → StandsAtLine inside.ctx.held.settings inside.reader.bits inside.ctx.held (here inside.reader)
-reader_at_line inside now view is reading =
-    at_line_stands inside.stand inside.ctx.held.settings inside.reader.bits inside.ctx.held inside.reader.place (ap (λ (r : RowsRead). r.at_line) view ∙ is) reading.0
-
 -- so it does after a row
-behind_row_stands : (stand : Stand) (settings : DecodeSettings) (bits : Bits) (held : Held) (place : ℕ) → ended stand ≡ None → is_at_line stand ≡ false
+pub behind_row_stands : (stand : Stand) (settings : DecodeSettings) (bits : Bits) (held : Held) (place : ℕ) → ended stand ≡ None → is_at_line stand ≡ false
     → Stands stand settings bits held place → StandsBehindRow settings bits held (drop place bits)
 behind_row_stands AtLine settings bits held place unended no_line stands = absurd (false≢true (sym no_line))
 behind_row_stands BehindRow settings bits held place unended no_line stands = stands
 behind_row_stands AtEnd settings bits held place unended no_line stands = absurd cc
 behind_row_stands (AtFault error) settings bits held place unended no_line stands = absurd cc
-
-pub reader_behind_row : (inside : Inside) (now : RowsRead) → rows_read_of inside ≡ now → now.end ≡ None → is_at_line inside.stand ≡ false → IsReading inside
-    → StandsBehindRow inside.ctx.held.settings inside.reader.bits inside.ctx.held (here inside.reader)
-reader_behind_row inside now view unended no_line reading =
-    behind_row_stands inside.stand inside.ctx.held.settings inside.reader.bits inside.ctx.held inside.reader.place (ap (λ (r : RowsRead). r.end) view ∙ unended) no_line reading.0
 
 -- ---- A gap is passed
 
@@ -347,6 +362,20 @@ module _ (settings : DecodeSettings) (bits : Bits) (held : Held) (here_now : Bit
 
   last_taken : last.taken ≡ length next.rows
   last_taken = ap (λ (h : Held). h.taken) frame ∙ ap (λ (h : Held). h.taken) stands.held_is
+
+  -- no line begins behind a gap that is at fault
+  pub no_start_behind : (e : DecodeError) → gap_behind_row held.settings held.taken held.has_eols here_now ≡ gap_said (Err e) last.has_eols (drop place bits)
+      → (other : ℕ) → get_or (line_starts settings bits) held.taken other ≡ other
+  no_start_behind e said other =
+      let more : held.taken ≡ length stands.so_far.rows + 1
+      = ap (λ (h : Held). h.taken) stands.held_is ∙ length-append stands.so_far.rows (stands.row ∷ []) in
+      ap (λ (n : ℕ). get_or (line_starts settings bits) n other) more
+      ∙ no_line_behind settings stands.wide bits stands.first stands.begins stands.so_far stands.reaches _ (turn_said (Err e) said) other
+
+  pub starts_behind : (answer : Result Bool DecodeError) → gap_behind_row held.settings held.taken held.has_eols here_now ≡ gap_said answer last.has_eols (drop place bits)
+      → (offset before : ℕ) → offset ≡ place → OnErr answer (start_after answer offset before ≡ get_or (line_starts settings bits) held.taken place)
+  starts_behind (Ok over) said offset before is = tt
+  starts_behind (Err e) said offset before is = is ∙ sym (no_start_behind e said place)
 
   pub gap_stands : (answer : Result Bool DecodeError) → gap_behind_row held.settings held.taken held.has_eols here_now ≡ gap_said answer last.has_eols (drop place bits)
       → IsOkUnless answer InvalidCode → Stands (stand_after answer) settings bits last place
@@ -425,10 +454,11 @@ repairs_stay settings given bits read held last same are taken repairs counted =
 
 -- what a call says that passes a gap
 pub comes_to_line : (old : RowsRead) (last : Held) (at : BitsAt) (n : ℕ) (damage : Option DecodeError) (answer : Result Bool DecodeError) → last.settings ≡ old.settings → at.bits ≡ old.bits → last.taken ≡ old.taken
-    → Stands (stand_after answer) old.settings old.bits last at.place → ComesToLine old (read_so_far last at n damage (stand_after answer)) (line_after answer)
-comes_to_line old last at n damage (Ok true) settings bits taken stands =
-    record { settings = settings; bits = bits; taken = taken; line = λ e. cc; end = λ e. (refl, stands); error = tt }
-comes_to_line old last at n damage (Ok false) settings bits taken stands =
-    record { settings = settings; bits = bits; taken = taken; line = λ e. refl; end = λ e. cc; error = tt }
-comes_to_line old last at n damage (Err error) settings bits taken stands =
-    record { settings = settings; bits = bits; taken = taken; line = λ e. cc; end = λ e. cc; error = (refl, stands) }
+    → Stands (stand_after answer) old.settings old.bits last at.place → OnErr answer (n ≡ get_or (line_starts old.settings old.bits) old.taken at.place)
+    → ComesToLine old (read_so_far last at n damage (stand_after answer)) (line_after answer)
+comes_to_line old last at n damage (Ok true) settings bits taken stands start =
+    record { fault_start = tt; settings = settings; bits = bits; taken = taken; line = λ e. cc; unended = λ e. cc; end = λ e. (refl, stands); error = tt }
+comes_to_line old last at n damage (Ok false) settings bits taken stands start =
+    record { fault_start = tt; settings = settings; bits = bits; taken = taken; line = λ e. refl; unended = λ e. refl; end = λ e. cc; error = tt }
+comes_to_line old last at n damage (Err error) settings bits taken stands start =
+    record { fault_start = start; settings = settings; bits = bits; taken = taken; line = λ e. cc; unended = λ e. cc; end = λ e. cc; error = (refl, stands) }

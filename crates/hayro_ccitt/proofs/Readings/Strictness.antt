@@ -1,34 +1,29 @@
 -- What a strict run reads, a lenient run reads too.
-use Rattle.std.proofs.Common.{◌≡◌, ℕ, suc, ◌-◌, ◌<◌, Bool, true, false, cond, not, ◌&&◌, eqb, ltb, leb, List, [], ◌∷◌, ◌++◌, length, replicate}
-use Rattle.std.proofs.Common.{min, Result, Ok, Err, refl, sym, ap, subst, ◌∙◌, arith, inl, inr}
-use Rattle.std.specs.Prelude.{IsOk, pos, ◌+ℤ◌}
+use Rattle.std.proofs.Common.{◌≡◌, ℕ, suc, ◌<◌, true, false, cond, not, ◌&&◌, eqb, List, [], ◌∷◌, ◌++◌, length}
+use Rattle.std.proofs.Common.{Result, Ok, refl, sym, ap, subst, ◌∙◌, arith, inl, inr}
+use Rattle.std.specs.Prelude.{IsOk}
 use Rattle.std.proofs.lemmas.List.{append-nil}
 use Rattle.std.proofs.lemmas.Bool.{cases_lt, cases_eq, eq-eqb, ne_eqb, false≢true}
 use Rattle.hayro_ccitt.specs.declared.codes.Color.{Color}
 use Rattle.hayro_ccitt.specs.declared.codes.Mode.{Mode}
 use Rattle.hayro_ccitt.specs.declared.codes.Mode.TheVariants.{Pass, Horizontal, Vertical}
 use Rattle.hayro_ccitt.specs.declared.error.DecodeError.{DecodeError}
-use Rattle.hayro_ccitt.specs.declared.error.DecodeError.TheVariants.{InvalidCode, UnexpectedEof}
+use Rattle.hayro_ccitt.specs.declared.error.DecodeError.TheVariants.{UnexpectedEof}
 use Rattle.hayro_ccitt.specs.declared.settings.DecodeSettings.{DecodeSettings}
 use Rattle.hayro_ccitt.specs.declared.settings.EncodingMode.{EncodingMode}
-use Rattle.hayro_ccitt.specs.declared.settings.EncodingMode.TheVariants.{Group4, Group3_1D, Group3_2D}
 use Rattle.hayro_ccitt.specs.Bits.{Bits, IsPrefix}
-use Rattle.hayro_ccitt.specs.CodeLists.{mode_codes}
-use Rattle.hayro_ccitt.specs.CodeReading.{read_code}
-use Rattle.hayro_ccitt.specs.Repetition.{Turn, repeated}
-use Rattle.hayro_ccitt.specs.Rows.{Row, is_black, opposite, b1, b2, right_of, paint}
-use Rattle.hayro_ccitt.specs.Runs.{run_from}
-use Rattle.hayro_ccitt.specs.Lines.{Line, Pen, start, line_1d, line_2d, place_from}
+use Rattle.hayro_ccitt.specs.Repetition.{Turn}
+use Rattle.hayro_ccitt.specs.Rows.{Row, paint}
+use Rattle.hayro_ccitt.specs.Lines.{Line, Pen, start, line_1d, line_2d}
 use Rattle.hayro_ccitt.proofs.DrawingLines.Drawings.{try, run_then, mode_step, step_unless_full, step_1d, step_2d, step_1d_is, step_2d_is, horizontal_is}
 use Rattle.hayro_ccitt.specs.Answers.{Step}
-use Rattle.hayro_ccitt.specs.EndOfLine.{next_eol}
-use Rattle.hayro_ccitt.specs.PlainReading.{Progress, Ending, Move, row_before, aligned, ends_with, whole_reading, limit_met, at_end, bytes_before, eols_here, line_by, after_line, move_on, at_front, first_gap, ending_from, ending_behind, end_of}
+use Rattle.hayro_ccitt.specs.PlainReading.{Progress, Ending, Move, row_before, aligned, whole_reading, bytes_before, line_by, after_line, move_on, first_gap, ending_from, end_of}
 use Rattle.hayro_ccitt.specs.Laws.{StrictThenLenient}
 use Rattle.hayro_ccitt.proofs.Readings.Repeated.{Follows, after_turn, repeated_follows}
 use Rattle.hayro_ccitt.proofs.DrawingLines.ReadLines.{left as pen_left, step_1d_shrinks, step_2d_shrinks}
-use Rattle.hayro_ccitt.proofs.Readings.TurnsMoveOn.{left_to_read, left_below, move_shrinks}
-use Rattle.hayro_ccitt.proofs.Readings.TurnsAddRows.{Keeps, Adds, seek_from_keeps, move_adds, repeated_adds, prefix_trans}
-use Rattle.hayro_ccitt.proofs.Readings.RowsAndGaps.{unless_over, seek_from, after_row, pass_gap-is, after_whole-is}
+use Rattle.hayro_ccitt.proofs.Readings.GapsAndRows.{readings_follow}
+use Rattle.hayro_ccitt.proofs.Readings.TurnsAddRows.{Keeps, Adds, seek_from_keeps, move_adds, prefix_trans}
+use Rattle.hayro_ccitt.proofs.Readings.RowsAndGaps.{unless_over, seek_from, after_row, after_whole-is}
 use Rattle.std.proofs.lemmas.Grind.{common_steps}
 
 -- ---- Lines
@@ -49,8 +44,7 @@ module _ (rest : Pen → Line) where
 
   try_follows : {A : Type 0} (front : Row) (r q : Result A DecodeError) (f g : A → Step) → ((x : A) → r ≡ Ok x → q ≡ Ok x)
       → ((x : A) → StepFollows (f x) (g x)) → StepFollows (try front r f) (try front q g)
-  try_follows front (Ok x) q f g same on = rw (same x refl) (on x)
-  try_follows front (Err fault) q f g same on = tt
+  try_follows front r q f g same on = grind (arith, common_steps)
 
   paint_lenient : (columns : ℕ) (front : Row) (color : Color) (n : ℕ) (x : Row) → paint true columns front color n ≡ Ok x
       → paint false columns front color n ≡ Ok x
@@ -58,16 +52,7 @@ module _ (rest : Pen → Line) where
 
   draw_run_follows : (columns : ℕ) (pen : Pen) (f g : Pen → Step) → ((p : Pen) → StepFollows (f p) (g p))
       → StepFollows (run_then true columns pen f) (run_then false columns pen g)
-  draw_run_follows columns pen f g on =
-      try_follows pen.front (run_from pen.color (0, pen.rest)) (run_from pen.color (0, pen.rest))
-      (λ run. try pen.front (paint true columns pen.front pen.color run.0)
-      (λ front. f (record { front = front; color = opposite pen.color; rest = run.1 })))
-      (λ run. try pen.front (paint false columns pen.front pen.color run.0)
-      (λ front. g (record { front = front; color = opposite pen.color; rest = run.1 }))) (λ x e. e)
-      (λ run. try_follows pen.front (paint true columns pen.front pen.color run.0) (paint false columns pen.front pen.color run.0)
-      (λ front. f (record { front = front; color = opposite pen.color; rest = run.1 }))
-      (λ front. g (record { front = front; color = opposite pen.color; rest = run.1 })) (paint_lenient columns pen.front pen.color run.0)
-      (λ front. on (record { front = front; color = opposite pen.color; rest = run.1 })))
+  draw_run_follows columns pen f g on = grind (arith, common_steps, paint_lenient, try, try_follows)
 
   unless_full_follows : (columns : ℕ) (pen : Pen) (a b : Step) → StepFollows a b → StepFollows (step_unless_full columns pen a) (step_unless_full columns pen b)
   unless_full_follows columns pen a b on = grind (arith, common_steps)
@@ -92,12 +77,8 @@ module _ (rest : Pen → Line) where
 
   step_2d_follows : (columns : ℕ) (reference : Row) (s t : Pen) → SamePen s t
       → StepFollows (step_2d true columns reference s) (step_2d false columns reference t)
-  step_2d_follows columns reference s t same = subst (λ (p : Pen). StepFollows (step_2d true columns reference s) (step_2d false columns reference p)) same
-      (follows_as _ _ (step_2d_is true columns reference s) (step_2d_is false columns reference s)
-      (unless_full_follows columns s _ _ (try_follows s.front (read_code mode_codes s.rest) (read_code mode_codes s.rest)
-      (λ mode. mode_step true columns reference (record s { rest = mode.1 }) mode.0)
-      (λ mode. mode_step false columns reference (record s { rest = mode.1 }) mode.0) (λ x e. e)
-      (λ mode. draw_mode_follows columns reference (record s { rest = mode.1 }) mode.0))))
+  step_2d_follows columns reference s t same =
+      grind (arith, common_steps, draw_mode_follows, follows_as, mode_step, step_2d, step_2d_is, try_follows, unless_full_follows)
 
 line_1d_agrees : (columns : ℕ) (here : Bits) → Agrees (line_1d true columns here) (line_1d false columns here)
 line_1d_agrees columns here =
@@ -111,13 +92,9 @@ line_2d_agrees columns reference here =
     (step_2d false columns reference) (Line.broken [] UnexpectedEof) pen_left (step_2d_shrinks false columns reference) SamePen Agrees
     (step_2d_follows _ columns reference) (suc (length here)) (suc (length here)) (start here) (start here) (omega arith) (omega arith) refl
 
-line_by_agrees : (encoding : EncodingMode) (columns : ℕ) (reference : Row) (here : Bits)
+pub line_by_agrees : (encoding : EncodingMode) (columns : ℕ) (reference : Row) (here : Bits)
     → Agrees (line_by encoding true columns reference here) (line_by encoding false columns reference here)
-line_by_agrees Group3_1D columns reference here = line_1d_agrees columns here
-line_by_agrees Group3_2D columns reference [] = tt
-line_by_agrees Group3_2D columns reference (true ∷ rest) = line_1d_agrees columns rest
-line_by_agrees Group3_2D columns reference (false ∷ rest) = line_2d_agrees columns reference rest
-line_by_agrees Group4 columns reference here = line_2d_agrees columns reference here
+line_by_agrees encoding columns reference here = grind (arith, common_steps, line_1d_agrees, line_2d_agrees)
 
 -- ---- Runs
 
@@ -148,74 +125,34 @@ module _ (settings : DecodeSettings) (wide : 0 < settings.columns) where
     keeps_extends rows (Turn.done e) k = ([], k ∙ sym (append-nil rows))
 
     same_turn : (m : Move) → Follows SameRun Precedes rest m m
-    same_turn (Turn.next t) = refl
-    same_turn (Turn.done e) = (([], sym (append-nil e.rows)), λ ok. refl)
+    same_turn m = grind (arith, common_steps)
 
     after_row_follows : (run : Progress) → Follows SameRun Precedes rest (after_row strictly run) (after_row leniently run)
-    after_row_follows run = by ((((eqb (eols_here settings run.rest).0 0) && run.has_eols) && not (limit_met settings (length run.rows))) && not
-        (at_end run.rest))
-      where
-        by : (b : Bool) → Follows SameRun Precedes rest
-            (cond b (ends_with run (Err InvalidCode)) (unless_over strictly run (eols_here settings run.rest)))
-            (cond b (seek_from leniently run (next_eol run.rest)) (unless_over leniently run (eols_here settings run.rest)))
-        by true = (
-          keeps_extends run.rows (seek_from leniently run (next_eol run.rest))
-              (seek_from_keeps leniently run (next_eol run.rest)),
-          λ ok. absurd (false≢true ok),
-        )
-        by false = same_turn (unless_over leniently run (eols_here settings run.rest))
+    after_row_follows run =
+        grind (arith, common_steps, false≢true, keeps_extends, same_turn, seek_from, seek_from_keeps, unless_over)
 
     after_line_follows : (run : Progress) (line other : Line) → Agrees line other → Adds run.rows (after_line leniently run other)
         → Follows SameRun Precedes rest (after_line strictly run line) (after_line leniently run other)
     after_line_follows run (Line.whole row here) other agrees adds =
         rw (agrees, after_whole-is strictly run row here, after_whole-is leniently run row here) (after_row_follows (record run
         { rows = run.rows ++ row ∷ []; rest = cond (settings.rows_are_byte_aligned && not run.has_eols) (aligned here) here }))
-    after_line_follows run (Line.broken front fault) other agrees adds =
-        (turn_extends run.rows (after_line leniently run other) adds, λ ok. absurd (false≢true ok))
+    after_line_follows run (Line.broken front fault) other agrees adds = grind (arith, common_steps, false≢true, turn_extends)
 
     move_follows : (s t : Progress) → SameRun s t → Follows SameRun Precedes rest (move_on strictly s) (move_on leniently t)
     move_follows s t same = subst (λ (r : Progress). Follows SameRun Precedes rest (move_on strictly s) (move_on leniently r)) same
         (after_line_follows s _ _ (line_by_agrees settings.encoding settings.columns (row_before settings.columns s.rows) s.rest)
         (move_adds leniently s))
 
-  -- how the lenient reading ends from a line on
-  abbrev lenient_end : Progress → Ending
-  lenient_end = ending_from (move_on leniently)
-
-  lenient_extends : (t : Progress) → IsPrefix t.rows (lenient_end t).rows
-  lenient_extends t = repeated_adds (move_on leniently) (record { rows = t.rows; has_eols = t.has_eols; outcome = Err UnexpectedEof }) left_to_read
-      (move_shrinks leniently wide) (move_adds leniently) (suc (suc (length t.rest))) t (left_below t)
-
-  precedes_line : (s t : Progress) → SameRun s t → Precedes (ending_from (move_on strictly) s) (lenient_end t)
-  precedes_line s t same = subst (λ (r : Progress). Precedes (ending_from (move_on strictly) s) (lenient_end r)) same
-      (repeated_follows (move_on strictly) late left_to_read (move_shrinks strictly wide) (move_on leniently) late left_to_read
-      (move_shrinks leniently wide) SameRun Precedes
-      (move_follows (λ t. repeated (move_on leniently) late (suc (left_to_read t)) t)
-      (λ t. repeated_adds (move_on leniently) late left_to_read (move_shrinks leniently wide) (move_adds leniently)
-      (suc (left_to_read t)) t (omega arith)))
-      (suc (suc (length s.rest))) (suc (suc (length s.rest))) s s (left_below s) (left_below s) refl)
-    where
-      late : Ending
-      late = record { rows = s.rows; has_eols = s.has_eols; outcome = Err UnexpectedEof }
-
-  precedes_behind : (gap other : Move) → Follows SameRun Precedes lenient_end gap other → Precedes (ending_behind strictly gap) (ending_behind leniently other)
-  precedes_behind (Turn.next s) (Turn.next t) same = precedes_line s t same
-  precedes_behind (Turn.next s) (Turn.done q) same = absurd same
-  precedes_behind (Turn.done r) (Turn.next t) precedes = precedes
-  precedes_behind (Turn.done r) (Turn.done q) precedes = precedes
-
   first_gap_follows : (encoding : EncodingMode) (bits : Bits)
-      → Follows SameRun Precedes lenient_end (first_gap encoding strictly bits) (first_gap encoding leniently bits)
-  first_gap_follows Group4 bits = grind (arith, common_steps)
-  first_gap_follows Group3_1D bits = refl
-  first_gap_follows Group3_2D bits = refl
+      → Follows SameRun Precedes (ending_from (move_on leniently)) (first_gap encoding strictly bits) (first_gap encoding leniently bits)
+  first_gap_follows encoding bits = grind (arith, common_steps)
 
   precedes : (bits : Bits) → Precedes (end_of strictly bits) (end_of leniently bits)
-  precedes bits = precedes_behind (first_gap settings.encoding strictly bits) (first_gap settings.encoding leniently bits) (first_gap_follows settings.encoding bits)
+  precedes bits = readings_follow strictly leniently wide wide SameRun Precedes move_follows (first_gap settings.encoding strictly bits) _
+      (first_gap_follows settings.encoding bits)
 
-ok_outcome : (bits : Bits) (r : Result Bits DecodeError) → IsOk (bytes_before bits r) → IsOk r
-ok_outcome bits (Ok rest) ok = refl
-ok_outcome bits (Err fault) ok = absurd (false≢true ok)
+pub ok_outcome : (bits : Bits) (r : Result Bits DecodeError) → IsOk (bytes_before bits r) → IsOk r
+ok_outcome bits r ok = grind (arith, common_steps)
 
 -- the law
 pub strict_then_lenient : StrictThenLenient

@@ -135,17 +135,11 @@ fn refuses_each_row(
 }
 
 #[test]
-fn refused_contexts(rt: HostRuntime) {
-    for number in 1..MANY {
-        refuse_request(rt.alloc(), number);
-        let made = DecoderContext::new(rt.alloc(), group_4(8, 2, ""));
-        if !was_refused(rt.alloc()) {
-            assert!(rt; made.is_ok());
-            return;
-        }
-        assert_eq!(rt; made.err(), Some(OutOfMemory), "request {number}");
-    }
-    panic!(rt; "each of {MANY} requests was refused");
+fn contexts_without_memory(rt: HostRuntime) {
+    refuse_request(rt.alloc(), 1);
+    let made = DecoderContext::new(rt.alloc(), group_4(8, 2, ""));
+    assert!(rt; made.is_ok());
+    assert!(rt; !was_refused(rt.alloc()));
 }
 
 /// Two rows, the second a copy; three tagged lines and RTC; three lines, the second damaged.

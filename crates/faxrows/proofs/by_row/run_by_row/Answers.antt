@@ -63,16 +63,20 @@ module _ (g : Over) (c : goal.After-drop-input-2 g) where
       (known (λ s b. Grew (whole_text s b)) (subst Grew all grew), known P holds)
 
 pub returns-clause-good : goal.returns-clause-good
-returns-clause-good g c = λ e. (whole g c Good (λ s b. IsOk (outcome_of s b)) (text_of_good (settings g c) (bits g c) (read g c)) e).0
+returns-clause-good g c = λ e. (whole g c Good (λ s b. IsOk (outcome_of s b)) (text_of_good (settings g c) (bits g c)
+    (read g c)) e).0
 
 pub returns-clause-good_outcome : goal.returns-clause-good_outcome
-returns-clause-good_outcome g c = λ e. (whole g c Good (λ s b. IsOk (outcome_of s b)) (text_of_good (settings g c) (bits g c) (read g c)) e).1
+returns-clause-good_outcome g c = λ e. (whole g c Good (λ s b. IsOk (outcome_of s b)) (text_of_good (settings g c)
+    (bits g c) (read g c)) e).1
 
 pub returns-clause-faulty : goal.returns-clause-faulty
-returns-clause-faulty g c = λ e. (whole g c Faulty (λ s b. IsErr (outcome_of s b)) (text_of_faulty (settings g c) (bits g c) (read g c)) e).0
+returns-clause-faulty g c = λ e. (whole g c Faulty (λ s b. IsErr (outcome_of s b)) (text_of_faulty (settings g c)
+    (bits g c) (read g c)) e).0
 
 pub returns-clause-faulty_outcome : goal.returns-clause-faulty_outcome
-returns-clause-faulty_outcome g c = λ e. (whole g c Faulty (λ s b. IsErr (outcome_of s b)) (text_of_faulty (settings g c) (bits g c) (read g c)) e).1
+returns-clause-faulty_outcome g c = λ e. (whole g c Faulty (λ s b. IsErr (outcome_of s b)) (text_of_faulty (settings g c)
+    (bits g c) (read g c)) e).1
 
 pub returns-clause-memory : goal.returns-clause-memory
 returns-clause-memory g c = λ e.
@@ -83,6 +87,7 @@ returns-clause-memory g c = λ e.
 pub returns-clause-front : goal.returns-clause-front
 returns-clause-front g c = λ e.
     let front = IfErr-at_err (λ _. (text : List ℕ) × IsTextByRow (settings g c) (bits g c) text
-    × AppendsFront (g.W.Write.contents c.args.writer.now.0) (g.W.Write.contents c.write_by_row.new.writer.0) text) e c.write_by_row.ensures.front in
+    × AppendsFront (g.W.Write.contents c.args.writer.now.0)
+    (g.W.Write.contents c.write_by_row.new.writer.0) text) e c.write_by_row.ensures.front in
     known g c (λ s b. (text : List ℕ) × IsTextByRow s b text
     × AppendsFront (g.W.Write.contents c.args.writer.now.0) (g.W.Write.contents c.write_by_row.new.writer.0) text) front

@@ -13,7 +13,8 @@ kept g c = search rules
 
 pub returns-in_err-make_room-clause-front : goal.returns-in_err-make_room-clause-front
 returns-in_err-make_room-clause-front g c =
-    let front : AppendsFront (g.W.Write.contents c.args.writer.now.0) (g.W.Write.contents c.make_room.new.writer.0) (c.args.waiting.now.items ++ c.args.text.now)
+    let front : AppendsFront (g.W.Write.contents c.args.writer.now.0) (g.W.Write.contents c.make_room.new.writer.0)
+    (c.args.waiting.now.items ++ c.args.text.now)
     = front_of_more _ _ c.args.waiting.now.items c.args.text.now c.in_err-make_room.ensures.front in
     search rules
 
@@ -21,9 +22,12 @@ pub returns-in_err-flush-clause-front : goal.returns-in_err-flush-clause-front
 returns-in_err-flush-clause-front g c =
     let waits = c.make_room.new.waiting.items in
     let taken : AppendsFront (g.W.Write.contents c.make_room.new.writer.0) (g.W.Write.contents c.flush.new.writer.0) waits
-    = subst (AppendsFront (g.W.Write.contents c.make_room.new.writer.0) (g.W.Write.contents c.flush.new.writer.0)) (kept g (goal.at.returns-in_err-flush-clause-front g c).After-flush) c.in_err-flush.ensures.front in
-    let front : AppendsFront (g.W.Write.contents c.args.writer.now.0) (g.W.Write.contents c.flush.new.writer.0) (c.args.waiting.now.items ++ c.args.text.now)
-    = front_behind _ _ _ c.args.waiting.now.items [] waits c.args.text.now c.in_ok-make_room.ensures.ok (front_of_more _ _ waits c.args.text.now taken) in
+    = subst (AppendsFront (g.W.Write.contents c.make_room.new.writer.0) (g.W.Write.contents c.flush.new.writer.0))
+    (kept g (goal.at.returns-in_err-flush-clause-front g c).After-flush) c.in_err-flush.ensures.front in
+    let front : AppendsFront (g.W.Write.contents c.args.writer.now.0) (g.W.Write.contents c.flush.new.writer.0)
+    (c.args.waiting.now.items ++ c.args.text.now)
+    = front_behind _ _ _ c.args.waiting.now.items [] waits c.args.text.now c.in_ok-make_room.ensures.ok
+    (front_of_more _ _ waits c.args.text.now taken) in
     search rules
 
 pub returns-in_err-write_all-clause-front : goal.returns-in_err-write_all-clause-front
@@ -33,9 +37,11 @@ returns-in_err-write_all-clause-front g c =
     let flushed : Appends (g.W.Write.contents c.make_room.new.writer.0) (g.W.Write.contents c.flush.new.writer.0) waits
     = subst (Appends (g.W.Write.contents c.make_room.new.writer.0) (g.W.Write.contents c.flush.new.writer.0))
     (kept g (goal.at.returns-in_err-write_all-clause-front g c).After-flush) c.in_ok-flush.ensures.ok in
-    let taken : AppendsFront (g.W.Write.contents c.make_room.new.writer.0) (g.W.Write.contents c.write_all.new.writer.0) (waits ++ text)
+    let taken : AppendsFront (g.W.Write.contents c.make_room.new.writer.0) (g.W.Write.contents c.write_all.new.writer.0)
+    (waits ++ text)
     = front_behind _ _ _ [] waits [] text (waits, flushed, sym (append-nil waits)) c.in_err-write_all.ensures.front in
-    let front : AppendsFront (g.W.Write.contents c.args.writer.now.0) (g.W.Write.contents c.write_all.new.writer.0) (c.args.waiting.now.items ++ text)
+    let front : AppendsFront (g.W.Write.contents c.args.writer.now.0) (g.W.Write.contents c.write_all.new.writer.0)
+    (c.args.waiting.now.items ++ text)
     = front_behind _ _ _ c.args.waiting.now.items [] waits text c.in_ok-make_room.ensures.ok taken in
     search rules
 
@@ -44,8 +50,17 @@ returns-in_ok-write_all-clause-ok g c =
     let waits = c.make_room.new.waiting.items in
     let text = c.args.text.now in
     let flushed : Appends (g.W.Write.contents c.make_room.new.writer.0) (g.W.Write.contents c.flush.new.writer.0) waits
-    = subst (Appends (g.W.Write.contents c.make_room.new.writer.0) (g.W.Write.contents c.flush.new.writer.0)) (kept g (goal.at.returns-in_ok-write_all-clause-ok g c).After-flush) c.in_ok-flush.ensures.ok in
-    let both : PassesOn (g.W.Write.contents c.make_room.new.writer.0) (g.W.Write.contents c.write_all.new.writer.0) waits text []
-    = (waits ++ text, Appends-trans _ _ _ waits text flushed c.in_ok-write_all.ensures.ok, sym (append-nil (waits ++ text))) in
-    subst (PassesOn (g.W.Write.contents c.args.writer.now.0) (g.W.Write.contents c.write_all.new.writer.0) c.args.waiting.now.items text) (sym {A = List ℕ} c.in_ok-flush.ensures.empty)
+    = subst (Appends (g.W.Write.contents c.make_room.new.writer.0) (g.W.Write.contents c.flush.new.writer.0))
+    (kept g (goal.at.returns-in_ok-write_all-clause-ok g c).After-flush) c.in_ok-flush.ensures.ok in
+    let both : PassesOn (g.W.Write.contents c.make_room.new.writer.0)
+    (g.W.Write.contents c.write_all.new.writer.0) waits text []
+    = (
+      waits ++ text,
+      Appends-trans _ _ _ waits text flushed c.in_ok-write_all.ensures.ok,
+      sym
+          (append-nil (waits ++ text)),
+    ) in
+    subst (PassesOn (g.W.Write.contents c.args.writer.now.0)
+    (g.W.Write.contents c.write_all.new.writer.0) c.args.waiting.now.items text)
+    (sym {A = List ℕ} c.in_ok-flush.ensures.empty)
     (passes_both _ _ _ c.args.waiting.now.items [] waits text [] c.in_ok-make_room.ensures.ok both)

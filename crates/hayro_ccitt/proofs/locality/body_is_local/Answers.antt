@@ -1,5 +1,5 @@
-use Rattle.std.proofs.Common.{◌≡◌, ◌+◌, ◌-◌, ◌*◌, ◌≤◌, refl, Bool, length, drop, IsTrue, sym, ap, ◌∙◌, arith}
-use Rattle.std.specs.Prelude.{◌↔◌, is_some}
+use Rattle.std.proofs.Common.{◌≡◌, ◌+◌, ◌-◌, ◌*◌, ◌≤◌, Bool, length, drop, IsTrue, sym, ap, ◌∙◌, arith}
+use Rattle.std.specs.Prelude.{◌↔◌}
 use Rattle.std.proofs.lemmas.Bool.{false≢true}
 use Rattle.std.proofs.lemmas.Result.{IfOk-weaker}
 use Rattle.hayro_ccitt.specs.declared.settings.DecodeSettings.{DecodeSettings}
@@ -8,48 +8,27 @@ use Rattle.hayro_ccitt.specs.Locality.{IsLocal, EndsBefore}
 use Rattle.hayro_ccitt.specs.Ticks.{looked}
 use Rattle.hayro_ccitt.proofs.BitReading.BitLists.{length-bits_of}
 use Rattle.hayro_ccitt.proofs.DamagedLines.BodyTests.{local_by_end, tests_of}
-use Rattle.hayro_ccitt.proofs.DamagedLines.BodyWork.{body_counted}
+use Rattle.hayro_ccitt.proofs.DamagedLines.BodyWork.{tests_looked}
 use Rattle.hayro_ccitt.proofs.locality.body_is_local.Goals.{After-is_behind_eol, After-holds_one, After-end_of_eol, After-holds_eol}
 use Rattle.hayro_ccitt.proofs.locality.body_is_local.Goals as goal
 use Rattle.hayro_ccitt.proofs.locality.body_is_local.Goals.{then-not-is_lenient_1d-via-then-not-is_lenient_1d, then-not-is_lenient_1d-via-else-not-is_lenient_1d+then-from-to, then-not-is_lenient_1d-via-else-not-is_lenient_1d+else-from-to+then-to-data}
+use Rattle.std.proofs.lemmas.Grind.{common_steps}
 
 pub returns-then-not-is_lenient_1d-clause-local : goal.returns-then-not-is_lenient_1d-clause-local
-returns-then-not-is_lenient_1d-clause-local c = (
-  λ test. absurd (false≢true test),
-  λ local. absurd (elim c.then-not-is_lenient_1d.branch [
-    | then-not-is_lenient_1d-via-then-not-is_lenient_1d w ↦
-        let encoding = ap (λ (s : DecodeSettings). s.encoding) c.settings.ensures.value ∙ local.encoding in
-        let lenient = ap (λ (s : DecodeSettings). s.strict) c.settings.ensures.value ∙ local.lenient in
-        false≢true (sym w.if-not-is_lenient_1d.true ∙ c.is_lenient_1d.ensures.1 (encoding, lenient))
-    | then-not-is_lenient_1d-via-else-not-is_lenient_1d+then-from-to w ↦ absurd (omega (arith, w.if-from-to.true, local.order))
-    | then-not-is_lenient_1d-via-else-not-is_lenient_1d+else-from-to+then-to-data w ↦
-        absurd (omega (arith, w.if-to-data.true, local.within, length-bits_of c.args.data.now))
-  ]),
-)
+returns-then-not-is_lenient_1d-clause-local c =
+    grind (arith, common_steps, false≢true, length-bits_of, then-not-is_lenient_1d-via-then-not-is_lenient_1d)
 
 pub returns-then-not-is_behind_eol-clause-local : goal.returns-then-not-is_behind_eol-clause-local
-returns-then-not-is_behind_eol-clause-local c = (
-  λ test. absurd (false≢true test),
-  λ local.
-      let tests = tests_of c.args.ctx.now.held.settings (bits_of c.args.data.now) c.args.from c.args.to local in
-      absurd (false≢true (sym c.if-not-is_behind_eol.true ∙ c.is_behind_eol.ensures.behind.1 tests.starts)),
-)
+returns-then-not-is_behind_eol-clause-local c =
+    grind (arith, common_steps, false≢true, tests_of c.args.ctx.now.held.settings (bits_of c.args.data.now) c.args.from c.args.to)
 
 pub returns-then-not-holds_one-clause-local : goal.returns-then-not-holds_one-clause-local
-returns-then-not-holds_one-clause-local c = (
-  λ test. absurd (false≢true test),
-  λ local.
-      let tests = tests_of c.args.ctx.now.held.settings (bits_of c.args.data.now) c.args.from c.args.to local in
-      absurd (false≢true (sym c.if-not-holds_one.true ∙ c.holds_one.ensures.one.1 tests.one)),
-)
+returns-then-not-holds_one-clause-local c =
+    grind (arith, common_steps, false≢true, tests_of c.args.ctx.now.held.settings (bits_of c.args.data.now) c.args.from c.args.to)
 
 pub returns-then-holds_eol-clause-local : goal.returns-then-holds_eol-clause-local
-returns-then-holds_eol-clause-local c = (
-  λ test. absurd (false≢true test),
-  λ local.
-      let tests = tests_of c.args.ctx.now.held.settings (bits_of c.args.data.now) c.args.from c.args.to local in
-      absurd (false≢true (sym (ap is_some tests.no_eol) ∙ sym c.holds_eol.ensures.eol ∙ c.if-holds_eol.true)),
-)
+returns-then-holds_eol-clause-local c =
+    grind (arith, common_steps, false≢true, tests_of c.args.ctx.now.held.settings (bits_of c.args.data.now) c.args.from c.args.to)
 
 pub returns-clause-local : goal.returns-clause-local
 returns-clause-local c =
@@ -92,37 +71,29 @@ eol c = omega (arith, c.holds_eol.ensures.at_most, c.ticks-4.ensures.value)
 
 pub returns-then-not-is_behind_eol-clause-at_most : goal.returns-then-not-is_behind_eol-clause-at_most
 returns-then-not-is_behind_eol-clause-at_most c =
-    let bits = bits_of c.args.data.now in
     let at = goal.at.returns-then-not-is_behind_eol-clause-at_most c in
-    body_counted bits c.args.from c.args.to c.if-from-to.false _ c.args.ctx.now.ticks c.is_behind_eol.new.ticks
-    (c.is_behind_eol.new.ticks + looked (drop c.args.from bits)) (c.is_behind_eol.new.ticks + looked (drop c.args.from bits) + looked (drop c.args.to bits))
-    c.is_behind_eol.new.ticks c.is_behind_eol.new.ticks (behind at.After-is_behind_eol) refl refl (omega arith) (omega arith)
+    omega (arith, tests_looked (bits_of c.args.data.now) c.args.from c.args.to c.if-from-to.false, behind at.After-is_behind_eol)
 
 pub returns-then-not-holds_one-clause-at_most : goal.returns-then-not-holds_one-clause-at_most
 returns-then-not-holds_one-clause-at_most c =
-    let bits = bits_of c.args.data.now in
     let at = goal.at.returns-then-not-holds_one-clause-at_most c in
-    body_counted bits c.args.from c.args.to c.if-from-to.false _ c.args.ctx.now.ticks c.is_behind_eol.new.ticks c.holds_one.new.ticks
-    (c.holds_one.new.ticks + looked (drop c.args.to bits)) c.holds_one.new.ticks c.holds_one.new.ticks (behind at.After-is_behind_eol) (one at.After-holds_one) refl
-    (omega arith) (omega arith)
+    let looks = tests_looked (bits_of c.args.data.now) c.args.from c.args.to c.if-from-to.false in
+    omega (arith, looks, behind at.After-is_behind_eol, one at.After-holds_one)
 
 pub returns-in_default-clause-at_most : goal.returns-in_default-clause-at_most
 returns-in_default-clause-at_most c =
     let at = goal.at.returns-in_default-clause-at_most c in
-    body_counted (bits_of c.args.data.now) c.args.from c.args.to c.if-from-to.false _ c.args.ctx.now.ticks c.is_behind_eol.new.ticks c.holds_one.new.ticks
-    c.end_of_eol.new.ticks c.end_of_eol.new.ticks c.end_of_eol.new.ticks (behind at.After-is_behind_eol) (one at.After-holds_one) (end at.After-end_of_eol)
-    (omega arith) (omega arith)
+    let looks = tests_looked (bits_of c.args.data.now) c.args.from c.args.to c.if-from-to.false in
+    omega (arith, looks, behind at.After-is_behind_eol, one at.After-holds_one, end at.After-end_of_eol)
 
 pub returns-then-holds_eol-clause-at_most : goal.returns-then-holds_eol-clause-at_most
 returns-then-holds_eol-clause-at_most c =
     let at = goal.at.returns-then-holds_eol-clause-at_most c in
-    body_counted (bits_of c.args.data.now) c.args.from c.args.to c.if-from-to.false _ c.args.ctx.now.ticks c.is_behind_eol.new.ticks c.holds_one.new.ticks
-    c.end_of_eol.new.ticks c.holds_eol.new.ticks c.holds_eol.new.ticks (behind at.After-is_behind_eol) (one at.After-holds_one) (end at.After-end_of_eol)
-    (eol at.After-holds_eol) (omega arith)
+    let looks = tests_looked (bits_of c.args.data.now) c.args.from c.args.to c.if-from-to.false in
+    omega (arith, looks, behind at.After-is_behind_eol, one at.After-holds_one, end at.After-end_of_eol, eol at.After-holds_eol)
 
 pub returns-clause-at_most : goal.returns-clause-at_most
 returns-clause-at_most c =
     let at = goal.at.returns-clause-at_most c in
-    body_counted (bits_of c.args.data.now) c.args.from c.args.to c.if-from-to.false _ c.args.ctx.now.ticks c.is_behind_eol.new.ticks c.holds_one.new.ticks
-    c.end_of_eol.new.ticks c.holds_eol.new.ticks c.line_ends_before.new.ctx.ticks (behind at.After-is_behind_eol) (one at.After-holds_one) (end at.After-end_of_eol)
-    (eol at.After-holds_eol) c.line_ends_before.ensures.at_most
+    let looks = tests_looked (bits_of c.args.data.now) c.args.from c.args.to c.if-from-to.false in
+    omega (arith, looks, behind at.After-is_behind_eol, one at.After-holds_one, end at.After-end_of_eol, eol at.After-holds_eol, c.line_ends_before.ensures.at_most)

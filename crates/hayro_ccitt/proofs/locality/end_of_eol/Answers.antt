@@ -1,14 +1,13 @@
-use Rattle.std.proofs.Common.{◌≡◌, ◌+◌, drop, ap, ◌∙◌, length, arith}
+use Rattle.std.proofs.Common.{◌≡◌, ◌+◌, drop, ap, ◌∙◌, arith}
 use Rattle.hayro_ccitt.specs.Bits.{Bits, BitsAt, bits_of, here}
 use Rattle.hayro_ccitt.specs.Ticks.{looked}
 use Rattle.hayro_ccitt.proofs.BitReading.BitLists.{length-bits_of}
 use Rattle.hayro_ccitt.proofs.DamagedLines.BodyWork.{one_eol_looked}
 use Rattle.hayro_ccitt.proofs.locality.end_of_eol.Goals as goal
+use Rattle.std.proofs.lemmas.Grind.{common_steps}
 
 pub returns-clause-within : goal.returns-clause-within
-returns-clause-within c =
-    let same = c.read_eols.ensures.same_bits ∙ ap (λ (at : BitsAt). at.bits) c.starting_at-reader.ensures in
-    omega (arith, c.bit_pos.ensures.place, c.bit_pos.ensures.within, ap length same, length-bits_of c.args.data.now)
+returns-clause-within c = grind (arith, common_steps, length-bits_of)
 
 pub returns-clause-work : goal.returns-clause-work
 returns-clause-work c =

@@ -1,4 +1,4 @@
-use Rattle.std.proofs.Common.{◌≡◌, ℕ, ◌+◌, ◌-◌, ◌*◌, ◌≤◌, length, drop, Some, None, sym, ap, ◌∙◌, arith}
+use Rattle.std.proofs.Common.{◌≡◌, ◌+◌, ◌-◌, ◌*◌, ◌≤◌, length, drop, Some, sym, ap, ◌∙◌, arith}
 use Rattle.hayro_ccitt.specs.Bits.{Bits, BitsAt, bits_of, here}
 use Rattle.hayro_ccitt.specs.EndOfLine.{after_eol, next_eol}
 use Rattle.hayro_ccitt.specs.Ticks.{looked}
@@ -7,17 +7,13 @@ use Rattle.hayro_ccitt.proofs.DamagedLines.BodyWork.{eol_stands, sought_work}
 use Rattle.hayro_ccitt.proofs.DamagedLines.BodyTests.{no_eol_in_front, eol_by_ends, eol_found_stands}
 use Rattle.hayro_ccitt.proofs.locality.holds_eol.Goals.{After-end_of_eol}
 use Rattle.hayro_ccitt.proofs.locality.holds_eol.Goals as goal
+use Rattle.std.proofs.lemmas.Grind.{common_steps}
 
 pub returns-then-not-skip_to_eol-clause-eol : goal.returns-then-not-skip_to_eol-clause-eol
-returns-then-not-skip_to_eol-clause-eol c =
-    let at = ap (λ (at : BitsAt). next_eol (here at)) c.starting_at-reader.ensures in
-    let next = rw c.if-not-skip_to_eol.true at c.skip_to_eol.ensures.next in
-    sym (no_eol_in_front (c.args.to - c.args.from) (drop c.args.from (bits_of c.args.data.now)) (sym at ∙ next))
+returns-then-not-skip_to_eol-clause-eol c = grind (arith, common_steps, no_eol_in_front)
 
 pub end_of_eol-requires-clause-within : goal.end_of_eol-requires-clause-within
-end_of_eol-requires-clause-within c =
-    let same = c.skip_to_eol.ensures.same_bits ∙ ap (λ (at : BitsAt). at.bits) c.starting_at-reader.ensures in
-    omega (arith, c.bit_pos.ensures.place, c.bit_pos.ensures.within, ap length same, length-bits_of c.args.data.now)
+end_of_eol-requires-clause-within c = grind (arith, common_steps, length-bits_of)
 
 pub returns-in-Some-clause-eol : goal.returns-in-Some-clause-eol
 returns-in-Some-clause-eol c =
@@ -25,8 +21,7 @@ returns-in-Some-clause-eol c =
     let at = ap (λ (at : BitsAt). next_eol (here at)) c.starting_at-reader.ensures in
     let next = rw c.if-not-skip_to_eol.false at c.skip_to_eol.ensures.next in
     let same = c.skip_to_eol.ensures.same_bits ∙ ap (λ (at : BitsAt). at.bits) c.starting_at-reader.ensures in
-    let found : here c.skip_to_eol.new.self ≡ drop c.bit_pos.result bits = ap (λ (b : Bits). drop c.skip_to_eol.new.self.place b) same
-    ∙ ap (λ (n : ℕ). drop n bits) (sym c.bit_pos.ensures.place) in
+    let found : here c.skip_to_eol.new.self ≡ drop c.bit_pos.result bits = grind (arith, common_steps) in
     let eol = rw c.in-Some.is at c.end_of_eol.ensures.end in
     let within = rw c.in-Some.is at c.end_of_eol.ensures.within in
     sym (eol_by_ends bits c.args.from c.args.to c.in-Some.end (here c.skip_to_eol.new.self) c.requires.order
@@ -34,23 +29,10 @@ returns-in-Some-clause-eol c =
     (ap (after_eol 0) found ∙ eol))
 
 pub returns-in-None-clause-eol : goal.returns-in-None-clause-eol
-returns-in-None-clause-eol c =
-    let bits = bits_of c.args.data.now in
-    let next = rw c.if-not-skip_to_eol.false at c.skip_to_eol.ensures.next in
-    let same = c.skip_to_eol.ensures.same_bits ∙ ap (λ (at : BitsAt). at.bits) c.starting_at-reader.ensures in
-    let found : here c.skip_to_eol.new.self ≡ drop c.bit_pos.result bits = ap (λ (b : Bits). drop c.skip_to_eol.new.self.place b) same
-    ∙ ap (λ (n : ℕ). drop n bits) (sym c.bit_pos.ensures.place) in
-    let none = rw c.in-None.is at c.end_of_eol.ensures.end in
-    let nothing : after_eol 0 (here c.skip_to_eol.new.self) ≡ None = ap (after_eol 0) found ∙ none in
-    absurd (eol_found_stands (here c.starting_at-reader.result) (here c.skip_to_eol.new.self) next nothing)
+returns-in-None-clause-eol c = grind (arith, common_steps, eol_found_stands)
 
 pub returns-then-not-skip_to_eol-clause-at_most : goal.returns-then-not-skip_to_eol-clause-at_most
-returns-then-not-skip_to_eol-clause-at_most c =
-    let bits = bits_of c.args.data.now in
-    let at = ap (λ (at : BitsAt). next_eol (here at)) c.starting_at-reader.ensures in
-    let next = rw c.if-not-skip_to_eol.true at c.skip_to_eol.ensures.next in
-    absurd (eol_stands bits c.requires.eol.0 c.args.from c.args.to c.requires.order (omega (arith, c.requires.within, length-bits_of c.args.data.now))
-    c.requires.eol.1 (sym at ∙ next))
+returns-then-not-skip_to_eol-clause-at_most c = grind (arith, common_steps, eol_stands, length-bits_of)
 
 -- what is counted while the next EOL is sought and read
 counted : (c : After-end_of_eol) → (c.args.ticks.now ≤ c.end_of_eol.new.ticks)
@@ -61,8 +43,7 @@ counted c =
     let next = rw c.if-not-skip_to_eol.false at c.skip_to_eol.ensures.next in
     let passed = rw c.if-not-skip_to_eol.false at c.skip_to_eol.ensures.ticks in
     let same = c.skip_to_eol.ensures.same_bits ∙ ap (λ (at : BitsAt). at.bits) c.starting_at-reader.ensures in
-    let found : here c.skip_to_eol.new.self ≡ drop c.bit_pos.result bits = ap (λ (b : Bits). drop c.skip_to_eol.new.self.place b) same
-    ∙ ap (λ (n : ℕ). drop n bits) (sym c.bit_pos.ensures.place) in
+    let found : here c.skip_to_eol.new.self ≡ drop c.bit_pos.result bits = grind (arith, common_steps) in
     sought_work bits c.requires.eol.0 c.args.from c.args.to c.requires.order (omega (arith, c.requires.within, length-bits_of c.args.data.now)) c.requires.eol.1
     c.bit_pos.result c.args.ticks.now c.skip_to_eol.new.ticks c.end_of_eol.new.ticks (omega (arith, c.bit_pos.ensures.within, ap length same))
     (ap next_eol (sym start) ∙ next ∙ ap (λ (b : Bits). Some b) found) (omega (arith, passed, ap length start, ap length found, ap looked found)) c.end_of_eol.ensures.work

@@ -1,8 +1,8 @@
-use Rattle.std.proofs.Common.{◌≡◌, ◌≢◌, ℕ, ◌+◌, ◌≤◌, false, length, drop, Err, refl, sym, ap, subst, ◌∙◌, arith}
+use Rattle.std.proofs.Common.{◌≡◌, ◌≢◌, ◌+◌, ◌≤◌, false, length, drop, Err, refl, sym, ap, subst, ◌∙◌, arith}
 use Rattle.hayro_ccitt.specs.declared.error.DecodeError.TheVariants.{OutOfMemory}
 use Rattle.std.proofs.lemmas.Bool.{false≢true}
 use Rattle.hayro_ccitt.specs.Answers.{DrawsLine, words_from_1d}
-use Rattle.hayro_ccitt.specs.Bits.{Bits, BitsAt, bits_of, here}
+use Rattle.hayro_ccitt.specs.Bits.{BitsAt, bits_of, here}
 use Rattle.hayro_ccitt.specs.Context.{Context}
 use Rattle.hayro_ccitt.specs.Lines.{Line, line_1d, found_1d}
 use Rattle.hayro_ccitt.proofs.BitReading.BitLists.{length-bits_of}
@@ -11,11 +11,10 @@ use Rattle.hayro_ccitt.proofs.DrawingLines.DrawnLines.{memory_has_black}
 use Rattle.hayro_ccitt.proofs.DamagedLines.BodyWork.{same_bound}
 use Rattle.hayro_ccitt.proofs.locality.line_ends_before.Goals.{After-decode_1d_line}
 use Rattle.hayro_ccitt.proofs.locality.line_ends_before.Goals as goal
+use Rattle.std.proofs.lemmas.Grind.{common_steps}
 
 pub overflow_add-result : goal.overflow_add-result
-overflow_add-result c =
-    let same = c.decode_1d_line.ensures.same_bits ∙ ap (λ (at : BitsAt). at.bits) c.starting_at-reader.ensures in
-    omega (arith, c.bit_pos.ensures.place, c.bit_pos.ensures.within, ap length same, length-bits_of c.args.data.now, c.requires.fit)
+overflow_add-result c = grind (arith, common_steps, length-bits_of)
 
 pub returns-in-Ok-clause-before : goal.returns-in-Ok-clause-before
 returns-in-Ok-clause-before c =
@@ -24,8 +23,7 @@ returns-in-Ok-clause-before c =
     let line = lenient_line c.reset.new.self.held c.args.ctx.now.held.settings c.starting_at-reader.result (drop c.args.from bits)
     (ap (λ (ctx : Context). ctx.held) c.reset.ensures.frame) c.requires.lenient (ap (λ (at : BitsAt). here at) c.starting_at-reader.ensures) in
     let drawn = rw c.in-Ok.is at c.decode_1d_line.ensures.line in
-    let rest : here c.decode_1d_line.new.reader ≡ drop c.bit_pos.result bits = ap (λ (b : Bits). drop c.decode_1d_line.new.reader.place b) same
-    ∙ ap (λ (n : ℕ). drop n bits) (sym c.bit_pos.ensures.place) in
+    let rest : here c.decode_1d_line.new.reader ≡ drop c.bit_pos.result bits = grind (arith, common_steps) in
     let within : c.bit_pos.result ≤ length bits = omega (arith, c.bit_pos.ensures.within, ap length same) in
     whole_ends c.args.ctx.now.held.settings.columns c.bit_pos.result c.args.end bits (drop c.args.from bits) (here c.decode_1d_line.new.reader)
     c.decode_1d_line.new.ctx.held.front (sym line ∙ drawn) rest within (omega (arith, c.requires.within, length-bits_of c.args.data.now))

@@ -12,16 +12,16 @@ use Rattle.hayro_ccitt.proofs.DrawingLines.FullRows.{IsFull, line_by_full}
 use Rattle.hayro_ccitt.proofs.DrawingLines.UnreadRows.{isnt_repaired, line_breaks}
 use Rattle.hayro_ccitt.proofs.rows.read_row.Goals as goal
 
-pub returns-in_err-recover-clause-row : goal.returns-in_err-recover-clause-row
-returns-in_err-recover-clause-row g c =
+pub returns-in_err-recover_from-clause-row : goal.returns-in_err-recover_from-clause-row
+returns-in_err-recover_from-clause-row g c =
     let held = c.args.ctx.now.held in
     let start = here c.args.reader.now in
     let answer = err_from_is_err_and c.from_residual.result c.from_residual.ensures.1 in
     let ends = isnt_repaired (line_here held.settings held.reference start) start (g.D.Decoder.step (g.D.Decoder.width c.args.decoder.now))
     (record { meaning = g.D.Decoder.meaning c.args.decoder.now; refused = g.D.Decoder.has_refused c.args.decoder.now; refuses = g.D.Decoder.refuses c.args.decoder.now }) held c.decode_line.new.ctx.held
-    c.decode_line.ensures.held (here c.decode_line.new.reader) c.in-Err.error c.in_err-recover.field-0.0 c.in-Err.ensures.line
-    c.in_err-recover.ensures.only_memory c.in_err-recover.ensures.memory c.in_err-recover.ensures.otherwise in
-    rw (answer.1, answer.2, c.in_err-recover.ensures.unchanged.0, c.in_err-recover.ensures.unchanged.1) ends
+    c.decode_line.ensures.held (here c.decode_line.new.reader) c.in-Err.error c.in_err-recover_from.field-0.0 c.in-Err.ensures.line
+    c.in_err-recover_from.ensures.only_memory c.in_err-recover_from.ensures.memory c.in_err-recover_from.ensures.otherwise in
+    rw (answer.1, answer.2, c.in_err-recover_from.ensures.unchanged.0, c.in_err-recover_from.ensures.unchanged.1) ends
 
 pub take_row-requires-clause-full : goal.take_row-requires-clause-full
 take_row-requires-clause-full g c =
@@ -37,9 +37,9 @@ returns-in-Err-clause-stored g c =
     let words = found_here held.settings held.reference start in
     let few = changes_found held.settings.encoding held.settings.strict held.settings.columns held.reference start in
     let left = c.decode_line.new.ctx.held in
-    let breaks = line_breaks (line_here held.settings held.reference start) c.in-Err.error left.front (here c.decode_line.new.reader) c.in_ok-recover.ensures.only_damage.fault c.in-Err.ensures.line in
+    let breaks = line_breaks (line_here held.settings held.reference start) c.in-Err.error left.front (here c.decode_line.new.reader) c.in_ok-recover_from.ensures.only_damage.fault c.in-Err.ensures.line in
     let drawn = subst (λ (l : Line). length (changes (front_of l)) ≤ length words) breaks few in
-    let stands = ap (λ (x : Context). length (changes x.held.front)) c.in_ok-recover.ensures.frame in
+    let stands = ap (λ (x : Context). length (changes x.held.front)) c.in_ok-recover_from.ensures.frame in
     on_ok_weaker c.take_damaged_row.result (λ taken. omega (arith, drawn, stands, changes_repaired left.settings.columns left.front, ap (λ (h : Held). length (changes h.reference)) taken))
     c.take_damaged_row.ensures.taken
 

@@ -2,10 +2,10 @@ use Rattle.std.proofs.Common.{arith}
 use Rattle.hayro_ccitt.proofs.BitReading.BitLists.{length-bits_in}
 use Rattle.hayro_ccitt.proofs.BitReading.BitPlaces.{at_end-drop, within_bits}
 use Rattle.hayro_ccitt.proofs.bit_reader.BitReader.at_end.Goals as goal
+use Rattle.std.proofs.lemmas.Grind.{common_steps}
 
 pub returns-clause-end : goal.returns-clause-end
-returns-clause-end c =
-    rw (c.byte_pos.ensures, ← c.self.view_is) (at_end-drop c.self.inside.order c.self.inside.«data».now c.self.inside.place)
+returns-clause-end c = grind (arith, common_steps, at_end-drop)
 
 pub returns-clause-within : goal.returns-clause-within
 returns-clause-within c = rw (← c.self.view_is) (within_bits c.self.inside.order c.self.inside.«data».now c.self.inside.place (omega (arith, c.self.invariant.within, c.self.invariant.before_end)))

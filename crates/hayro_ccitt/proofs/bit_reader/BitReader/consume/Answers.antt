@@ -1,4 +1,4 @@
-use Rattle.std.proofs.Common.{◌≡◌, ◌+◌, ◌-◌, ◌*◌, ◌≤◌, ◌<◌, ◌^◌, ℕ, List, get_or, false, length, min, refl, ap, ◌∙◌, arith}
+use Rattle.std.proofs.Common.{◌≡◌, ◌+◌, ◌-◌, ◌*◌, ◌≤◌, ◌<◌, ◌^◌, ℕ, List, get_or, false, length, min, ap, ◌∙◌, arith}
 use Rattle.std.proofs.lemmas.List.{take_rest}
 use Rattle.hayro_ccitt.specs.Bits.{bit_of, bits_in}
 use Rattle.hayro_ccitt.proofs.BitReading.BitLists.{length-bits_in}
@@ -7,6 +7,7 @@ use Rattle.hayro_ccitt.proofs.BitReading.WindowWords.{bits_in-drop}
 use Rattle.hayro_ccitt.proofs.BitReading.FilledWindows.{filled_on, filled_ahead, filled_afresh}
 use Rattle.hayro_ccitt.proofs.bit_reader.BitReader.consume.Goals as goal
 use Rattle.hayro_ccitt.proofs.bit_reader.BitReader.consume.Goals.{then-next-self, then-next-edge, else-next-edge+then-byte-self, else-next-self}
+use Rattle.std.proofs.lemmas.Grind.{common_steps}
 
 pub invariant_of-self : goal.invariant_of-self
 invariant_of-self c =
@@ -29,27 +30,14 @@ invariant_of-self c =
 
 -- the data doesn't change, nor does the order of its bits
 same_data : (c : goal.After-self-3-1) → (c.if-next-self.self-inside.«data» ≡ c.self.inside.«data») × (c.if-next-self.self-inside.order ≡ c.self.inside.order)
-same_data c = elim c.if-next-self.branch [
-  | then-next-self w ↦ elim w.if-next-edge.branch [
-    | then-next-edge v ↦ rw (w.self-inside-is, v.self-inside-is) (refl, refl)
-    | else-next-edge+then-byte-self v ↦ rw (w.self-inside-is, v.self-inside-is) (refl, refl)
-  ]
-  | else-next-self w ↦ rw w.self-inside-is (refl, refl)
-]
+same_data c = grind (arith, common_steps, else-next-self, then-next-edge, then-next-self)
 
 -- so that the position is within them
 within : (c : goal.After-self-3-1) → c.self.inside.place + c.args.n ≤ length (bits_in c.self.inside.order c.self.inside.«data».now)
-within c =
-    let filled = invariant_of-self c in
-    let same : length c.if-next-self.self-inside.«data».now ≡ length c.self.inside.«data».now = ap (λ d. length d.now) (same_data c).0 in
-    omega (arith, filled.within, filled.before_end, same, length-bits_in c.self.inside.order c.self.inside.«data».now)
+within c = grind (arith, common_steps, invariant_of-self, length-bits_in, same_data)
 
 pub returns-clause-moved : goal.returns-clause-moved
-returns-clause-moved c =
-    let bits = bits_in c.self.inside.order c.self.inside.«data».now in
-    let next = c.self.inside.place + c.args.n in
-    let e : next ≡ min next (length bits) = omega (arith, within c) in
-    rw (← c.self.view_is, (same_data c).0, (same_data c).1) (ap (bits_at bits) e)
+returns-clause-moved c = grind (arith, common_steps, bits_at, min, same_data, within)
 
 pub returns-clause-end : goal.returns-clause-end
 returns-clause-end c = rw (← c.self.view_is) (λ e. absurd cc, λ h. absurd (omega (arith, h, within c)))

@@ -1,14 +1,14 @@
-use Rattle.std.proofs.Common.{length, ◌≡◌, ℕ, Option, Some, ◌+◌, ◌<◌, Err, refl, ap, ◌∙◌, arith}
+use Rattle.std.proofs.Common.{◌≡◌, ℕ, Option, Some, Err, refl, arith}
 use Rattle.std.specs.Option.{SomeIff}
 use Rattle.std.proofs.lemmas.Result.{err_from_is_err_and}
 use Rattle.hayro_ccitt.specs.declared.error.DecodeError.{DecodeError}
 use Rattle.hayro_ccitt.specs.Bits.{here}
-use Rattle.hayro_ccitt.specs.Runs.{codes_of, run_from}
-use Rattle.hayro_ccitt.specs.Ticks.{run_found}
+use Rattle.hayro_ccitt.specs.Runs.{codes_of}
 use Rattle.hayro_ccitt.proofs.CodeWords.RunWords.{run_found_on, run_found_missed}
 use Rattle.hayro_ccitt.proofs.CodeWords.ReadCodes.{read_code_missed}
 use Rattle.hayro_ccitt.proofs.CodeWords.ReadRuns.{read_code_shorter, words_not_empty, run_goes_on}
 use Rattle.hayro_ccitt.proofs.bit_reader.BitReader.decode_run.Goals as goal
+use Rattle.std.proofs.lemmas.Grind.{common_steps}
 
 -- a sum that was added with a test
 added : (r : Option ℕ) (P : Type 0) (v x : ℕ) → SomeIff r P v → r ≡ Some x → P × (x ≡ v)
@@ -19,20 +19,7 @@ words-smaller c =
     read_code_shorter (codes_of c.args.color) (here c.words.self) c.in_ok-run.run' (here c.decode_word.new.self) (words_not_empty c.args.color) c.in_ok-run.ensures.word
 
 pub words-preserved : goal.words-preserved
-words-preserved c =
-    let color = c.args.color in
-    let run = c.in_ok-run.run' in
-    let old = here c.words.self in
-    let new = here c.decode_word.new.self in
-    let next = c.words.total + c.from.result in
-    let sum = added c.checked_add.result (next < 4294967296) next c.in_ok-total.total c.checked_add.ensures c.in_ok-total.ensures.ok_part in
-    let total : c.words.total + run ≡ c.in_ok-total.total = omega (arith, sum.0, sum.1) in
-    let on = run_goes_on color c.words.total run old new c.in_ok-run.ensures.word (omega (arith, sum.0)) c.if-run-lt64.false in
-    let found_on = run_found_on color c.words.total run old new c.in_ok-run.ensures.word (omega (arith, sum.0)) c.if-run-lt64.false in (
-      c.words.invariant.0 ∙ on ∙ ap (λ (n : ℕ). run_from color (n, new)) total,
-      c.decode_word.ensures.same_bits ∙ c.words.invariant.1,
-      omega (arith, c.words.invariant.2, c.decode_word.ensures.ticks, found_on, ap (λ (n : ℕ). length (run_found color (n, new))) total),
-    )
+words-preserved c = grind (arith, common_steps, added, run_found_on, run_goes_on)
 
 pub returns-in_err-run-clause-ticks : goal.returns-in_err-run-clause-ticks
 returns-in_err-run-clause-ticks c =

@@ -1,13 +1,12 @@
-use Rattle.std.proofs.Common.{◌≡◌, ℕ, ◌+◌, ◌<◌, true, false, ◌∷◌, ◌++◌, drop, replicate, ap, ◌∙◌, arith}
+use Rattle.std.proofs.Common.{◌≡◌, ℕ, ◌+◌, ◌<◌, true, false, ◌∷◌, ◌++◌, drop, replicate, arith}
 use lib.Count.{count_leading_zeros}
 use Rattle.hayro_ccitt.specs.Bits.{Bits, here}
-use Rattle.hayro_ccitt.specs.EndOfLine.{after_eol}
-use Rattle.hayro_ccitt.specs.Ticks.{looked}
 use Rattle.hayro_ccitt.proofs.BitReading.SoughtEols.{few_zeros}
 use Rattle.hayro_ccitt.proofs.BitReading.ZeroRuns.{looked_run}
 use Rattle.hayro_ccitt.proofs.BitReading.ZerosPassed.{run_ahead, near_one}
 use Rattle.hayro_ccitt.proofs.bit_reader.BitReader.is_near_one.Goals.{Else-next-eq0}
 use Rattle.hayro_ccitt.proofs.bit_reader.BitReader.is_near_one.Goals as goal
+use Rattle.std.proofs.lemmas.Grind.{common_steps}
 
 module _ (c : Else-next-eq0) where
   -- the leading zeros, fewer than eleven
@@ -25,11 +24,7 @@ module _ (c : Else-next-eq0) where
   run = run_ahead c.args.self.now c.peek_u32-next.result c.peek_u32-next.type_inv c.peek_u32-next.ensures (omega (arith, near))
 
 pub returns-clause-near : goal.returns-clause-near
-returns-clause-near c = λ e.
-    let at = (goal.at.returns-clause-near c).Else-next-eq0 in
-    ap (after_eol 0) (run at) ∙ few_zeros 0 (zeros at) (rest at) (omega (arith, near at))
+returns-clause-near c = grind (arith, common_steps, few_zeros, near, run)
 
 pub returns-clause-looked : goal.returns-clause-looked
-returns-clause-looked c = λ e.
-    let at = (goal.at.returns-clause-looked c).Else-next-eq0 in
-    omega (arith, c.tick_times.ensures, near at, ap looked (run at), looked_run (zeros at) (rest at))
+returns-clause-looked c = grind (arith, common_steps, looked_run, near, run)

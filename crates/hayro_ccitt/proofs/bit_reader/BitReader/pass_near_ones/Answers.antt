@@ -1,6 +1,7 @@
 use Rattle.std.proofs.Common.{arith}
 use Rattle.hayro_ccitt.proofs.BitReading.ZerosPassed.{within_eleven, behind_last_one}
 use Rattle.hayro_ccitt.proofs.bit_reader.BitReader.pass_near_ones.Goals as goal
+use Rattle.std.proofs.lemmas.Grind.{common_steps}
 
 pub overflow_sub-passed : goal.overflow_sub-passed
 overflow_sub-passed c =
@@ -8,13 +9,10 @@ overflow_sub-passed c =
     omega (arith, few)
 
 pub returns-clause-next : goal.returns-clause-next
-returns-clause-next c =
-    (behind_last_one c.args.self.now c.peek_u32-next.result c.peek_u32-next.type_inv c.peek_u32-next.ensures c.if-next-eq0.false c.consume.new.self c.consume.ensures.moved).0
+returns-clause-next c = grind (arith, common_steps, behind_last_one)
 
 pub returns-clause-onward : goal.returns-clause-onward
-returns-clause-onward c =
-    let behind = behind_last_one c.args.self.now c.peek_u32-next.result c.peek_u32-next.type_inv c.peek_u32-next.ensures c.if-next-eq0.false c.consume.new.self c.consume.ensures.moved in
-    omega (arith, behind.1)
+returns-clause-onward c = grind (arith, common_steps, behind_last_one)
 
 pub returns-clause-fewer : goal.returns-clause-fewer
 returns-clause-fewer c = λ e.

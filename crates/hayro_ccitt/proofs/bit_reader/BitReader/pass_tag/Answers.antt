@@ -1,9 +1,9 @@
 use Rattle.std.proofs.Common.{◌≡◌, sym, ap, ◌∙◌, arith}
-use Rattle.hayro_ccitt.specs.Bits.{here}
 use Rattle.hayro_ccitt.specs.EndOfLine.{past_tag}
 use Rattle.hayro_ccitt.specs.Ticks.{looked_at_tag}
 use Rattle.hayro_ccitt.proofs.BitReading.TaggedEols.{past_tag-eol, past_tag-none}
 use Rattle.hayro_ccitt.proofs.bit_reader.BitReader.pass_tag.Goals as goal
+use Rattle.std.proofs.lemmas.Grind.{common_steps}
 
 pub returns-in-Ok-eq0-clause-rest : goal.returns-in-Ok-eq0-clause-rest
 returns-in-Ok-eq0-clause-rest c =
@@ -16,10 +16,7 @@ returns-in-Ok-eq0-clause-ticks c =
     omega (arith, c.tick.ensures, ap looked_at_tag next)
 
 pub returns-then-is_at_eol-clause-rest : goal.returns-then-is_at_eol-clause-rest
-returns-then-is_at_eol-clause-rest c =
-    let one : c.in-Ok.field-0 ≡ 1 = omega (arith, c.in-Ok.ensures.bit.0, c.in-Ok.field-0-test.1) in
-    let next = rw (c.copy-behind.ensures.value, one) at c.in-Ok.ensures.front in
-    sym (ap past_tag next ∙ past_tag-eol (here c.read_bit.new.self) (sym c.is_at_eol.ensures.eol ∙ c.if-is_at_eol.true))
+returns-then-is_at_eol-clause-rest c = grind (arith, common_steps, past_tag-eol)
 
 pub returns-then-is_at_eol-clause-ticks : goal.returns-then-is_at_eol-clause-ticks
 returns-then-is_at_eol-clause-ticks c =
@@ -28,10 +25,7 @@ returns-then-is_at_eol-clause-ticks c =
     omega (arith, c.tick-in-Ok.ensures, c.is_at_eol.ensures.ticks, ap looked_at_tag next)
 
 pub returns-else-is_at_eol-clause-rest : goal.returns-else-is_at_eol-clause-rest
-returns-else-is_at_eol-clause-rest c =
-    let one : c.in-Ok.field-0 ≡ 1 = omega (arith, c.in-Ok.ensures.bit.0, c.in-Ok.field-0-test.1) in
-    let next = rw (c.copy-behind.ensures.value, one) at c.in-Ok.ensures.front in
-    next ∙ sym (ap past_tag next ∙ past_tag-none (here c.read_bit.new.self) (sym c.is_at_eol.ensures.eol ∙ c.if-is_at_eol.false))
+returns-else-is_at_eol-clause-rest c = grind (arith, common_steps, past_tag-none)
 
 pub returns-else-is_at_eol-clause-ticks : goal.returns-else-is_at_eol-clause-ticks
 returns-else-is_at_eol-clause-ticks c =

@@ -1,7 +1,7 @@
-use Rattle.std.proofs.Common.{◌∙◌, arith}
+use Rattle.std.proofs.Common.{arith}
 use Rattle.hayro_ccitt.proofs.BitReading.WindowWords.{upper_bit}
 use Rattle.hayro_ccitt.proofs.bit_reader.BitReader.peek_u32.Goals as goal
+use Rattle.std.proofs.lemmas.Grind.{common_steps}
 
 pub returns : goal.returns
-returns c k h =
-    rw (← c.self.view_is) (upper_bit c.self.inside.window k h ∙ c.self.invariant.held k (omega (arith, h, c.self.invariant.within)))
+returns c k h = grind (arith, common_steps, upper_bit)

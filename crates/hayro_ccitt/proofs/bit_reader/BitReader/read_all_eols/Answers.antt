@@ -3,6 +3,7 @@ use Rattle.std.proofs.lemmas.List.{length-drop}
 use Rattle.hayro_ccitt.specs.Bits.{Bits, BitsAt, here}
 use Rattle.hayro_ccitt.proofs.BitReading.ZeroRuns.{eols_enough, eols_fewer, eols_look_on}
 use Rattle.hayro_ccitt.proofs.bit_reader.BitReader.read_all_eols.Goals as goal
+use Rattle.std.proofs.lemmas.Grind.{common_steps}
 
 -- as many EOLs as are asked for
 abbrev max : ℕ
@@ -17,13 +18,7 @@ returns-clause-eols c =
     sym (eols_enough max (here c.args.self.now) (omega (arith, few c.args.self.now c.at_end.ensures.fit))) ∙ c.read_eols.ensures.eols
 
 pub returns-clause-ticks : goal.returns-clause-ticks
-returns-clause-ticks c =
-    omega (
-      arith,
-      c.read_eols.ensures.ticks,
-      eols_look_on max (here c.args.self.now) (here c.read_eols.new.self) c.read_eols.result
-          (few c.args.self.now c.at_end.ensures.fit) c.read_eols.ensures.eols,
-    )
+returns-clause-ticks c = grind (arith, common_steps, eols_look_on, few)
 
 pub returns-clause-few : goal.returns-clause-few
 returns-clause-few c =

@@ -1,4 +1,4 @@
-use Rattle.std.proofs.Common.{rules, ◌≡◌, ℕ, ◌+◌, ◌<◌, ◌^◌, Some, get_or, length, min, false, refl, inl, inr, sym, ap, ◌∙◌, arith}
+use Rattle.std.proofs.Common.{rules, ◌≡◌, ℕ, ◌+◌, ◌<◌, ◌^◌, Some, get_or, length, min, false, inl, inr, sym, ap, ◌∙◌, arith}
 use Rattle.std.proofs.lemmas.Bool.{cases_lt, false≢true}
 use Rattle.std.proofs.lemmas.Option.{slice_get-get_or}
 use Rattle.std.proofs.lemmas.Result.{err_from_is_err_and}
@@ -8,15 +8,10 @@ use Rattle.hayro_ccitt.proofs.BitReading.BitPlaces.{bits_at}
 use Rattle.hayro_ccitt.proofs.BitReading.WindowWords.{top_bit}
 use Rattle.hayro_ccitt.proofs.BitReading.ZeroRuns.{here_next}
 use Rattle.hayro_ccitt.proofs.bit_reader.BitReader.read_bit.Goals as goal
+use Rattle.std.proofs.lemmas.Grind.{common_steps}
 
 pub returns-in_err-consume-clause-unchanged : goal.returns-in_err-consume-clause-unchanged
-returns-in_err-consume-clause-unchanged c =
-    let bits = bits_in c.self.inside.order c.self.inside.«data».now in
-    let place = c.self.inside.place in
-    let past : length bits < place + 1 = (rw (← c.self.view_is) at c.in_err-consume.ensures.end).0 refl in
-    let stays : min (place + 1) (length bits) ≡ place = omega (arith, past, c.self.invariant.within, c.self.invariant.before_end, length-bits_in c.self.inside.order c.self.inside.«data».now) in
-    let p = err_from_is_err_and c.from_residual.result c.from_residual.ensures.1 in
-    rw p.1 (c.in_err-consume.ensures.moved ∙ rw (← c.self.view_is) (ap (bits_at bits) stays))
+returns-in_err-consume-clause-unchanged c = grind (arith, common_steps, bits_at, err_from_is_err_and, length-bits_in, min)
 
 pub returns-clause-bit : goal.returns-clause-bit
 returns-clause-bit c =

@@ -1,8 +1,9 @@
-use Rattle.std.proofs.Common.{◌≡◌, ℕ, ◌+◌, ◌*◌, ◌<◌, length, ap, ◌∙◌, arith}
+use Rattle.std.proofs.Common.{◌≡◌, ℕ, ◌+◌, ◌*◌, ◌<◌, length, ◌∙◌, arith}
 use Rattle.hayro_ccitt.specs.Bits.{here}
 use Rattle.hayro_ccitt.proofs.BitReading.TaggedEols.{one_eol_read, tagged_stepped, tagged_looks}
 use Rattle.hayro_ccitt.proofs.Readings.TurnsMoveOn.{after_eol_shorter, past_tag_shorter}
 use Rattle.hayro_ccitt.proofs.bit_reader.BitReader.read_eols_with_tags.Goals as goal
+use Rattle.std.proofs.lemmas.Grind.{common_steps}
 
 pub eols-preserved : goal.eols-preserved
 eols-preserved c =
@@ -27,8 +28,4 @@ eols-preserved c =
     )
 
 pub eols-smaller : goal.eols-smaller
-eols-smaller c =
-    let now = here c.eols.self in
-    let after = here c.read_eols.new.self in
-    let one = (one_eol_read now after c.read_eols.result c.read_eols.ensures.eols).0 (omega (arith, c.if-read_eols-eq0.false)) in
-    omega (arith, after_eol_shorter 0 now after one.0, past_tag_shorter after, ap length c.pass_tag.ensures.rest)
+eols-smaller c = grind (arith, common_steps, after_eol_shorter, one_eol_read, past_tag_shorter)

@@ -6,6 +6,7 @@ use Rattle.hayro_ccitt.proofs.BitReading.BitPlaces.{bits_at}
 use Rattle.hayro_ccitt.proofs.BitReading.PeekedBits.{first_thirteen}
 use Rattle.hayro_ccitt.proofs.BitReading.WindowWords.{holds_on}
 use Rattle.hayro_ccitt.proofs.bit_reader.BitsAtHand.thirteen.Goals as goal
+use Rattle.std.proofs.lemmas.Grind.{common_steps}
 
 pub returns-clause-bits : goal.returns-clause-bits
 returns-clause-bits c =
@@ -18,6 +19,4 @@ returns-clause-bits c =
     (λ k h. holds_on bits (r.limit - r.left) n r.left r.window c.self.invariant.few c.self.invariant.held k (omega (arith, h, within))))
 
 pub returns-clause-there : goal.returns-clause-there
-returns-clause-there c =
-    let r = c.self.inside in
-    rw (← c.self.view_is) (omega (arith, c.self.invariant.some, c.self.invariant.before_end, length-bits_in r.order r.«data».now))
+returns-clause-there c = grind (arith, common_steps, length-bits_in)

@@ -26,4 +26,4 @@ returns-clause-drawn c =
     let passed : s.passed ≡ 0 = rw (← c.self.view_is) at c.requires.none in
     let row : s.ref_changes.items ≡ [] = c.if-not-is_white_row.ensures refl in
     λ e. rw (← c.self.view_is, none, white, passed, empty, row, c.if-not-pass_v0.ensures.passed refl)
-    (white_line s.settings.strict s.settings.columns c.args.reader.now s.ticks _ (omega (arith, c.if-self-eq0.false)) (omega (arith, c.self.ranges)) (c.if-not-pass_v0.ensures.mode refl) (omega arith))
+    (white_line s.settings.strict s.settings.columns c.args.reader.now s.ticks _ (omega (arith, c.if-columns-eq0.false)) (omega arith) (c.if-not-pass_v0.ensures.mode refl) (omega arith))

@@ -7,4 +7,4 @@ pub returns-clause-frame : goal.returns-clause-frame
 returns-clause-frame g c =
     let drawn = continued-pixels _ c.self.inside.pixels_decoded _ c.self.invariant.within c.self.invariant.front in
     ap (λ (x : Context). record x { held = record x.held { taken = x.held.taken + 1 } }) (c.self-2.view_is ∙ c.begin_line.ensures.frame)
-    ∙ rw (← c.self.view_is, c.swap.ensures.x_after, drawn) refl
+    ∙ rw (← c.self.view_is, c.exchange.ensures.reference, drawn) refl

@@ -1,0 +1,39 @@
+-- A picture that is encoded row by row (T.4, 4.1 and 4.2; T.6, 2.2).
+use Rattle.std.specs.Prelude.{ℕ, ◌+◌, ◌-◌, ◌^◌, min, Bool, false, List, [], ◌∷◌, ◌++◌, length}
+use Rattle.hayro_ccitt.specs.Bits.{Bits}
+use Rattle.hayro_ccitt.specs.Rows.{Row, white_row}
+use Rattle.fax_encode.specs.declared.settings.EncodeSettings.{EncodeSettings}
+use Rattle.fax_encode.specs.Settings.{chosen_part, left_after}
+
+-- the rows so far: their lines, and how many they are, as far as a `usize` counts; what the next line goes by, which is the last row and how
+-- many lines may still be two-dimensional; and whether memory was wanting
+pub record RowsEncoded : Type 0 where
+  pub settings : EncodeSettings
+  pub columns : ℕ
+  pub lines : Bits
+  pub count : ℕ
+  pub last : Row
+  pub left : ℕ
+  pub wants_memory : Bool
+
+-- none: above the first row is a white one (T.4, 4.2.1.1)
+abbrev pub no_rows : EncodeSettings → ℕ → RowsEncoded
+no_rows settings columns =
+    record { settings = settings; columns = columns; lines = []; count = 0; last = white_row columns; left = 0; wants_memory = false }
+
+-- one more
+abbrev pub with_row : RowsEncoded → Row → RowsEncoded
+with_row rows row = record {
+  settings = rows.settings;
+  columns = rows.columns;
+  lines = rows.lines ++ chosen_part rows.settings (length rows.lines) rows.left rows.last row;
+  count = min (rows.count + 1) (2 ^ 64 - 1);
+  last = row;
+  left = left_after rows.settings.encoding rows.settings.k rows.left rows.last row;
+  wants_memory = false;
+}
+
+-- more, one after another
+abbrev pub with_rows : RowsEncoded → List Row → RowsEncoded
+with_rows rows [] = rows
+with_rows rows (row ∷ more) = with_rows (with_row rows row) more

@@ -1,0 +1,247 @@
+//! Encoding row by row.
+
+ghost use Rattle.std.specs.Prelude.{◌≡◌, ◌≢◌, ◌<◌, ◌≤◌, ◌↔◌, ℕ, true, false, length, Err, IfOk, OnOk, OnErr, IsOk, take};
+ghost use Rattle.hayro_ccitt.specs.Bits.{bits_in, bits_of};
+ghost use Rattle.hayro_ccitt.specs.Rows.{AreChanges, pixels};
+ghost use Rattle.fax_encode.specs.Chosen.{filled_up};
+ghost use Rattle.fax_encode.specs.Packed.{bytes_of_row};
+ghost use Rattle.fax_encode.specs.RowByRow.{no_rows, with_row};
+ghost use Rattle.fax_encode.specs.Settings.{names_encoding, needs_row, with_end};
+
+use crate::bit_order::in_order;
+use crate::bit_writer::BitWriter;
+use crate::bitmap_rows::scan_row;
+use crate::by_settings::needs_row;
+use crate::encoding::{names_encoding, put_end, put_part};
+use crate::rows::is_row;
+use crate::{EncodeError, EncodeSettings};
+use std::alloc::{AllocError, Global};
+use std::marker::Model;
+use std::mem;
+
+/// An encoder that takes the rows of an image one at a time. It holds its output and the last row. What it makes is what
+/// [`encode`](crate::encode) makes of all rows.
+#[derive(Drop)]
+pub struct Encoder {
+    writer: BitWriter,
+    /// The last row, a white one before the first.
+    reference: Vec<u32>,
+    /// The row at hand.
+    row: Vec<u32>,
+    settings: EncodeSettings,
+    columns: u32,
+    /// How many lines may still be two-dimensional.
+    left: u32,
+    rows: usize,
+    wants_memory: bool,
+}
+
+impl Model for Encoder {
+    ghost use Rattle.std.specs.Prelude.{◌≡◌, ◌≢◌, ◌<◌, ◌%◌, true, false, length};
+    ghost use Rattle.hayro_ccitt.specs.Rows.{AreChanges, pixels};
+    ghost use Rattle.fax_encode.specs.RowByRow.{RowsEncoded};
+    ghost use Rattle.fax_encode.specs.Settings.{has_eols};
+    ghost use Rattle.fax_encode.specs.Writing.{all_bits};
+
+    ghost Value = { RowsEncoded };
+
+    ghost view = { λ e. record {
+      settings = e.settings;
+      columns = e.columns;
+      lines = all_bits e.writer;
+      count = e.rows;
+      last = pixels e.columns e.reference.items;
+      left = e.left;
+      wants_memory = e.wants_memory;
+    } };
+
+    ghost invariant = { λ e. (AreChanges e.columns e.reference.items) × (e.wants_memory ≡ false
+        → has_eols e.settings.encoding e.settings.end_of_line ≡ false → e.settings.rows_are_byte_aligned ≡ true
+        → length (all_bits e.writer) % 8 ≡ 0) };
+}
+
+impl Encoder {
+    /// Creates an encoder of rows of `columns` pixels. It allocates nothing.
+    ///
+    /// # Errors
+    ///
+    /// `NoEncoding` if the settings name no encoding, as for [`encode`](crate::encode); else `NoColumns` if `columns` is 0.
+    pub fn new(
+        alloc: Global,
+        columns: u32,
+        settings: EncodeSettings,
+    ) -> std::result::Result<Encoder, EncodeError>
+        ensures no_encoding { (result ≡ Err EncodeError.NoEncoding) ↔ (names_encoding settings ≡ false) }
+        ensures no_columns { (result ≡ Err EncodeError.NoColumns) ↔ ((names_encoding settings ≡ true) × (columns ≡ 0)) }
+        ensures made { IfOk result (λ encoder. encoder ≡ no_rows settings columns) }
+        ensures succeeds { IsOk result ↔ ((names_encoding settings ≡ true) × (0 < columns)) }
+    {
+        if !names_encoding(settings) {
+            return Err(EncodeError::NoEncoding);
+        }
+        if columns == 0 {
+            return Err(EncodeError::NoColumns);
+        }
+        Ok(Encoder {
+            writer: BitWriter::new(alloc),
+            reference: Vec::new(alloc),
+            row: Vec::new(alloc),
+            settings,
+            columns,
+            left: 0,
+            rows: 0,
+            wants_memory: false,
+        })
+    }
+
+    /// Adds a row. Memory is wanting until all of it is added.
+    fn add(&mut self, changes: &[u32]) -> Result<(), AllocError>
+        requires lawful { AreChanges self.old.columns changes.now }
+        requires memory { self.old.wants_memory ≡ false }
+        ensures taken { OnOk result (self.new ≡ with_row self.old (pixels self.old.columns changes.now)) }
+        ensures wanted { OnErr result (self.new.wants_memory ≡ true) }
+        ensures settings { self.new.settings ≡ self.old.settings }
+        ensures columns { self.new.columns ≡ self.old.columns }
+    {
+        self.wants_memory = true;
+        let left = put_part(
+            &mut self.writer,
+            self.columns,
+            self.settings,
+            self.left,
+            self.reference.as_slice(),
+            changes,
+        )?;
+        self.left = left;
+        self.reference.clear();
+        self.reference.extend_from_slice(changes)?;
+        self.rows = self.rows.saturating_add(1);
+        self.wants_memory = false;
+        Ok(())
+    }
+
+    /// Takes a row, given by its changes.
+    ///
+    /// # Errors
+    ///
+    /// - `OutOfMemory` if an allocation fails, and from then on of each call.
+    /// - `NotARow`, with the number of rows before it, if the changes are not strictly ascending and below the number of columns;
+    ///   nothing is changed then.
+    pub fn push_changes(&mut self, changes: &[u32]) -> std::result::Result<(), EncodeError>
+        ensures taken { OnOk result (self.new ≡ with_row self.old (pixels self.old.columns changes.now)) }
+        ensures lawful { OnOk result (AreChanges self.old.columns changes.now) }
+        ensures not_a_row { (k : ℕ) → (result ≡ Err (EncodeError.NotARow k))
+            ↔ ((self.old.wants_memory ≡ false) × (AreChanges self.old.columns changes.now → ⊥) × (k ≡ self.old.count)) }
+        ensures kept { (k : ℕ) → result ≡ Err (EncodeError.NotARow k) → self.new ≡ self.old }
+        ensures others { (result ≢ Err EncodeError.NoEncoding) × (result ≢ Err EncodeError.NoColumns) × (result ≢ Err EncodeError.NoRows) }
+        ensures wanted { self.old.wants_memory ≡ true → result ≡ Err EncodeError.OutOfMemory }
+        ensures wants { result ≡ Err EncodeError.OutOfMemory → self.new.wants_memory ≡ true }
+        ensures settings { self.new.settings ≡ self.old.settings }
+        ensures columns { self.new.columns ≡ self.old.columns }
+    {
+        if self.wants_memory {
+            return Err(EncodeError::OutOfMemory);
+        }
+        if !is_row(self.columns, changes) {
+            return Err(EncodeError::NotARow(self.rows));
+        }
+        match self.add(changes) {
+            Ok(()) => Ok(()),
+            Err(_) => Err(EncodeError::OutOfMemory),
+        }
+    }
+
+    /// Adds the first row of a bitmap. Memory is wanting until all of it is added.
+    fn add_packed(&mut self, bitmap: &[u8]) -> Result<(), AllocError>
+        requires whole { bytes_of_row self.old.columns ≤ length bitmap.now }
+        requires memory { self.old.wants_memory ≡ false }
+        ensures taken { OnOk result (self.new ≡ with_row self.old (take self.old.columns (bits_of bitmap.now))) }
+        ensures wanted { OnErr result (self.new.wants_memory ≡ true) }
+        ensures settings { self.new.settings ≡ self.old.settings }
+        ensures columns { self.new.columns ≡ self.old.columns }
+    {
+        self.wants_memory = true;
+        scan_row(&mut self.row, self.columns, bitmap)?;
+        let left = put_part(
+            &mut self.writer,
+            self.columns,
+            self.settings,
+            self.left,
+            self.reference.as_slice(),
+            self.row.as_slice(),
+        )?;
+        self.left = left;
+        mem::swap(&mut self.reference, &mut self.row);
+        self.rows = self.rows.saturating_add(1);
+        self.wants_memory = false;
+        Ok(())
+    }
+
+    /// Takes a row of packed pixels: one bit a pixel, 1 for black, the leftmost pixel in each byte's highest bit. Bits after the
+    /// last pixel are ignored.
+    ///
+    /// # Errors
+    ///
+    /// - `OutOfMemory` if an allocation fails, and from then on of each call.
+    /// - `NotARow`, with the number of rows before it, if there are fewer than (columns + 7) / 8 bytes; nothing is changed then.
+    pub fn push_packed_row(&mut self, row: &[u8]) -> std::result::Result<(), EncodeError>
+        ensures taken { OnOk result (self.new ≡ with_row self.old (take self.old.columns (bits_of row.now))) }
+        ensures whole { OnOk result (bytes_of_row self.old.columns ≤ length row.now) }
+        ensures not_a_row { (k : ℕ) → (result ≡ Err (EncodeError.NotARow k))
+            ↔ ((self.old.wants_memory ≡ false) × (length row.now < bytes_of_row self.old.columns) × (k ≡ self.old.count)) }
+        ensures kept { (k : ℕ) → result ≡ Err (EncodeError.NotARow k) → self.new ≡ self.old }
+        ensures others { (result ≢ Err EncodeError.NoEncoding) × (result ≢ Err EncodeError.NoColumns) × (result ≢ Err EncodeError.NoRows) }
+        ensures wanted { self.old.wants_memory ≡ true → result ≡ Err EncodeError.OutOfMemory }
+        ensures wants { result ≡ Err EncodeError.OutOfMemory → self.new.wants_memory ≡ true }
+        ensures settings { self.new.settings ≡ self.old.settings }
+        ensures columns { self.new.columns ≡ self.old.columns }
+    {
+        if self.wants_memory {
+            return Err(EncodeError::OutOfMemory);
+        }
+        if row.len() < (self.columns as usize).div_ceil(8) {
+            return Err(EncodeError::NotARow(self.rows));
+        }
+        match self.add_packed(row) {
+            Ok(()) => Ok(()),
+            Err(_) => Err(EncodeError::OutOfMemory),
+        }
+    }
+
+    /// The bytes of all rows, of EOFB or RTC behind them, and of zeros up to a whole byte.
+    fn bytes(self) -> Result<Vec<u8>, AllocError>
+        ensures { IfOk result (λ bytes. bits_in self.settings.order bytes.items ≡ filled_up (with_end self.settings self.lines)) }
+    {
+        let settings = self.settings;
+        let mut writer = self.writer;
+        put_end(&mut writer, settings)?;
+        Ok(in_order(writer.finish()?, settings.order))
+    }
+
+    /// Returns the bytes of the image: its lines, EOFB or RTC, and zeros up to a whole byte.
+    ///
+    /// # Errors
+    ///
+    /// `OutOfMemory` if an allocation failed before or fails now; else `NoRows` if there are no rows, other than in Group 4 with
+    /// EOFB.
+    pub fn finish(self) -> std::result::Result<Vec<u8>, EncodeError>
+        ensures wanted { self.wants_memory ≡ true → result ≡ Err EncodeError.OutOfMemory }
+        ensures no_rows { (result ≡ Err EncodeError.NoRows) ↔ ((self.wants_memory ≡ false) × (self.count ≡ 0)
+            × (needs_row self.settings.encoding self.settings.end_of_block ≡ true)) }
+        ensures others { (result ≢ Err EncodeError.NoEncoding) × (result ≢ Err EncodeError.NoColumns)
+            × ((k : ℕ) → result ≢ Err (EncodeError.NotARow k)) }
+        ensures encoded { IfOk result (λ bytes. bits_in self.settings.order bytes.items
+            ≡ filled_up (with_end self.settings self.lines)) }
+    {
+        if self.wants_memory {
+            return Err(EncodeError::OutOfMemory);
+        }
+        if self.rows == 0 && needs_row(self.settings) {
+            return Err(EncodeError::NoRows);
+        }
+        match self.bytes() {
+            Ok(bytes) => Ok(bytes),
+            Err(_) => Err(EncodeError::OutOfMemory),
+        }
+    }
+}

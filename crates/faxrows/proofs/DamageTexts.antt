@@ -1,0 +1,127 @@
+-- What a run writes of the damage, from how the reading ended.
+use Rattle.std.proofs.Common.{◌≡◌, ◌≤◌, ◌+◌, ◌-◌, ℕ, zero, suc, List, [], ◌++◌, refl, true, inl, inr, sym, ap, subst, ◌∙◌, Ok, Err, length, get_or, append_assoc, append-nil, arith, Option}
+use Rattle.std.specs.Prelude.{IsOk, IsErr}
+use Rattle.hayro_ccitt.specs.declared.error.DecodeError.{DecodeError}
+use Rattle.hayro_ccitt.specs.declared.error.DecodeError.TheVariants.{UnexpectedEof, InvalidCode, Overflow, OutOfMemory, Refused}
+use Rattle.hayro_ccitt.specs.declared.settings.DecodeSettings.{DecodeSettings}
+use Rattle.hayro_ccitt.specs.Bits.{Bits}
+use Rattle.hayro_ccitt.specs.RowsRead.{RowsRead, ReadsNext, line_starts}
+use Rattle.faxrows.specs.declared.program.Done.TheVariants.{Good, Faulty, Memory}
+use Rattle.faxrows.specs.DamageText.{IsDamageText, IsDamageWithoutMemory, damage_after, damage_lines, damage_of_row, line_of_damage, whole_damage}
+use Rattle.faxrows.specs.Output.{AppendsFront}
+use Rattle.faxrows.specs.Runs.{Outcome, EndsAfter, done_of, outcome_of, rows_of}
+use Rattle.faxrows.specs.RunsByRow.{EndsByRow}
+use Rattle.faxrows.proofs.Outputs.{front_of_longer}
+
+-- ---- The lines of the rows
+
+-- the lines of so many rows are the front of those of more
+damage_rest : (settings : DecodeSettings) (bits : Bits) (rows more : ℕ)
+    → (rest : List ℕ) × (damage_lines settings bits (more + rows) ≡ damage_lines settings bits rows ++ rest)
+damage_rest settings bits rows zero =
+    let none : zero + rows ≡ rows = omega arith in
+    ([], ap (damage_lines settings bits) none ∙ sym (append-nil (damage_lines settings bits rows)))
+damage_rest settings bits rows (suc more) =
+    let (rest, same) = damage_rest settings bits rows more in
+    let line = damage_of_row settings bits (more + rows) in
+    let next : suc more + rows ≡ suc (more + rows) = omega arith in (
+      rest ++ line,
+      ap (damage_lines settings bits) next
+          ∙ ap (λ l. l ++ line) same
+          ∙ append_assoc (damage_lines settings bits rows) rest line,
+    )
+
+-- so a front of them is one of the lines of all rows
+pub front_of_damage : (a b : Option (List ℕ)) (settings : DecodeSettings) (bits : Bits) (rows all : ℕ) → rows ≤ all
+    → AppendsFront a b (damage_lines settings bits rows) → AppendsFront a b (damage_lines settings bits all)
+front_of_damage a b settings bits rows all few front =
+    let (rest, same) = damage_rest settings bits rows (all - rows) in
+    let whole : (all - rows) + rows ≡ all = omega (arith, few) in
+    subst (λ (n : ℕ). AppendsFront a b (damage_lines settings bits n)) whole
+    (subst (AppendsFront a b) (sym same) (front_of_longer a b [] (damage_lines settings bits rows) rest front))
+
+-- the line of a row that was read is that of its index
+line_is : (old new : RowsRead) → ReadsNext old new (Ok true)
+    → line_of_damage (new.taken - 1) new.line_start new.damage ≡ damage_of_row old.settings old.bits old.taken
+line_is old new reads =
+    let index : new.taken - 1 ≡ old.taken = omega (arith, (reads.more refl).1) in
+    ap (λ (n : ℕ). line_of_damage n new.line_start new.damage) index
+    ∙ ap (λ (n : ℕ). line_of_damage old.taken n new.damage) (reads.line_start refl)
+    ∙ ap (λ (fault : Option DecodeError). line_of_damage old.taken
+    (get_or (line_starts old.settings old.bits) old.taken 0) fault) (reads.damage refl)
+
+-- with it there is one row more
+pub damage_more : (settings : DecodeSettings) (bits : Bits) (old new : RowsRead) → old.settings ≡ settings → old.bits
+    ≡ bits → ReadsNext old new (Ok true)
+    → damage_lines settings bits old.taken ++ line_of_damage (new.taken - 1) new.line_start new.damage
+    ≡ damage_lines settings bits new.taken
+damage_more settings bits old new of_settings of_bits reads =
+    let next : suc old.taken ≡ new.taken = omega (arith, (reads.more refl).1) in
+    let line = line_of_damage (new.taken - 1) new.line_start new.damage in
+    let here : damage_lines old.settings old.bits old.taken ++ line ≡ damage_lines old.settings old.bits new.taken
+    = ap (λ l. damage_lines old.settings old.bits old.taken ++ l) (line_is old new reads) ∙ ap
+    (damage_lines old.settings old.bits) next in
+    subst (λ (b : Bits). damage_lines settings b old.taken ++ line ≡ damage_lines settings b new.taken) of_bits
+    (subst (λ (s : DecodeSettings). damage_lines s old.bits old.taken ++ line
+    ≡ damage_lines s old.bits new.taken) of_settings here)
+
+-- ---- The whole text
+
+-- with all rows and the outcome of the plain reading, the whole damage is written
+all_damage : (settings : DecodeSettings) (bits : Bits) (read : ℕ) (outcome : Outcome)
+    → read ≡ length (rows_of settings bits) → outcome_of settings bits ≡ outcome
+    → damage_after settings bits read outcome ≡ whole_damage settings bits
+all_damage settings bits read outcome all same =
+    ap (λ (n : ℕ). damage_after settings bits n outcome) all
+    ∙ ap (damage_after settings bits (length (rows_of settings bits))) (sym same)
+
+-- a good run writes the whole damage
+pub damage_of_good : (settings : DecodeSettings) (bits : Bits) (read : ℕ) (outcome : Outcome)
+    → EndsAfter settings bits read outcome
+    → done_of outcome ≡ Good → (damage_after settings bits read outcome ≡ whole_damage settings bits) × IsOk
+    (outcome_of settings bits)
+damage_of_good settings bits read (Ok n) ends e = (all_damage settings bits read (Ok n) ends.0 ends.1, rw (ends.1) refl)
+damage_of_good settings bits read (Err UnexpectedEof) ends e = cc
+damage_of_good settings bits read (Err InvalidCode) ends e = cc
+damage_of_good settings bits read (Err Overflow) ends e = cc
+damage_of_good settings bits read (Err OutOfMemory) ends e = cc
+damage_of_good settings bits read (Err Refused) ends e = cc
+
+-- a faulty run writes the whole damage
+pub damage_of_faulty : (settings : DecodeSettings) (bits : Bits) (read : ℕ) (outcome : Outcome)
+    → EndsAfter settings bits read outcome
+    → done_of outcome ≡ Faulty → (damage_after settings bits read outcome ≡ whole_damage settings bits) × IsErr
+    (outcome_of settings bits)
+damage_of_faulty settings bits read (Ok n) ends e = cc
+damage_of_faulty settings bits read (Err UnexpectedEof) ends e =
+    (all_damage settings bits read (Err UnexpectedEof) ends.0 ends.1, rw (ends.1) refl)
+damage_of_faulty settings bits read (Err InvalidCode) ends e =
+    (all_damage settings bits read (Err InvalidCode) ends.0 ends.1, rw (ends.1) refl)
+damage_of_faulty settings bits read (Err Overflow) ends e =
+    (all_damage settings bits read (Err Overflow) ends.0 ends.1, rw (ends.1) refl)
+damage_of_faulty settings bits read (Err OutOfMemory) ends e = cc
+damage_of_faulty settings bits read (Err Refused) ends e = cc
+
+-- the text is the whole damage, or that up to a want of memory
+pub is_damage_text : (settings : DecodeSettings) (bits : Bits) (read : ℕ) (outcome : Outcome)
+    → EndsByRow settings bits read outcome
+    → IsDamageText settings bits (damage_after settings bits read outcome)
+is_damage_text settings bits read (Ok n) ends = inl (all_damage settings bits read (Ok n) ends.0.0 ends.0.1)
+is_damage_text settings bits read (Err UnexpectedEof) ends = inl (all_damage settings bits read
+    (Err UnexpectedEof) ends.0.0 ends.0.1)
+is_damage_text settings bits read (Err InvalidCode) ends = inl (all_damage settings bits read
+    (Err InvalidCode) ends.0.0 ends.0.1)
+is_damage_text settings bits read (Err Overflow) ends = inl (all_damage settings bits read (Err Overflow) ends.0.0 ends.0.1)
+is_damage_text settings bits read (Err OutOfMemory) ends = inr (read, ends.0, refl)
+is_damage_text settings bits read (Err Refused) ends = absurd (ends.1 refl)
+
+-- a run that ended for want of memory wrote the damage up to there
+pub damage_without_memory : (settings : DecodeSettings) (bits : Bits) (read : ℕ) (outcome : Outcome)
+    → EndsByRow settings bits read outcome
+    → done_of outcome ≡ Memory → IsDamageWithoutMemory settings bits (damage_after settings bits read outcome)
+damage_without_memory settings bits read (Ok n) ends e = cc
+damage_without_memory settings bits read (Err UnexpectedEof) ends e = cc
+damage_without_memory settings bits read (Err InvalidCode) ends e = cc
+damage_without_memory settings bits read (Err Overflow) ends e = cc
+damage_without_memory settings bits read (Err OutOfMemory) ends e = (read, ends.0, refl)
+damage_without_memory settings bits read (Err Refused) ends e = absurd (ends.1 refl)

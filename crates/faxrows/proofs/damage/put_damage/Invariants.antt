@@ -1,0 +1,20 @@
+use Rattle.std.proofs.Common.{◌≡◌, ◌≤◌, ◌-◌, [], length}
+use Rattle.faxrows.specs.DamageText.{damage_lines}
+use Rattle.faxrows.specs.Output.{PassesOn}
+use Rattle.faxrows.specs.Runs.{rows_of}
+use Rattle.faxrows.proofs.damage.put_damage.Given as goal
+
+-- the lines of the rows that were repaired came
+abbrev pub invariant-loop-rows : goal.invariant-loop-rows
+invariant-loop-rows g l = record {
+  settings : l.rows.settings ≡ l.fn.rows.settings;
+  bits : l.rows.bits ≡ l.fn.rows.bits;
+  within : l.rows.taken ≤ length (rows_of l.fn.rows.settings l.fn.rows.bits);
+  lines : PassesOn (g.W.Write.contents l.fn.writer.0) (g.W.Write.contents l.writer.0) []
+      (damage_lines l.fn.rows.settings l.fn.rows.bits l.rows.taken) l.waiting.items;
+  flag : l.writer.1 ≡ l.fn.writer.1;
+}
+
+-- the rows that are left
+abbrev pub decreases-loop-rows : goal.decreases-loop-rows
+decreases-loop-rows g l = length (rows_of l.fn.rows.settings l.fn.rows.bits) - l.rows.taken

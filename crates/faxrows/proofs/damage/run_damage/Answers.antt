@@ -1,0 +1,94 @@
+use Rattle.std.proofs.Common.{rules, ◌≡◌, List, ℕ, subst, sym, Ok}
+use Rattle.std.specs.Prelude.{IsOk, IsErr, map, string_bytes}
+use Rattle.std.specs.Io.KnownBytes.{Appends}
+use Rattle.std.proofs.lemmas.Result.{IfOk-at_ok, IfErr-at_err}
+use Rattle.hayro_ccitt.specs.declared.settings.DecodeSettings.{DecodeSettings}
+use Rattle.hayro_ccitt.specs.Bits.{Bits}
+use Rattle.faxrows.specs.declared.program.Done.{Done}
+use Rattle.faxrows.specs.declared.program.Done.TheVariants.{Good, Faulty, Memory}
+use Rattle.faxrows.specs.Arguments.{arguments_of_words}
+use Rattle.faxrows.specs.Output.{AppendsFront}
+use Rattle.faxrows.specs.Runs.{Outcome, EndsAfter, OnKnown, done_of, outcome_of}
+use Rattle.faxrows.specs.DamageText.{IsDamageText, IsDamageWithoutMemory, damage_after, whole_damage}
+use Rattle.faxrows.specs.RunsByRow.{EndsByRow}
+use Rattle.faxrows.proofs.DamageTexts.{damage_of_good, damage_of_faulty, damage_without_memory}
+use Rattle.faxrows.proofs.Texts.{on_known}
+use Rattle.faxrows.proofs.damage.run_damage.Given.{Over}
+use Rattle.faxrows.proofs.damage.run_damage.Goals as goal
+
+module _ (g : Over) (c : goal.After-drop-input-2 g) where
+  -- the settings that the words mean
+  abbrev settings : DecodeSettings
+  settings = c.in-Ok.rows.settings
+
+  -- the bits of what was read, in the order that the words mean
+  abbrev bits : Bits
+  bits = c.in-Ok.rows.bits
+
+  -- how many rows were read
+  abbrev read : ℕ
+  read = c.write_damage.new.rows.taken
+
+  -- what the writer holds grew by a text
+  abbrev Grew : List ℕ → Type 0
+  Grew text = Appends (g.W.Write.contents c.args.writer.now.0) (g.W.Write.contents c.write_damage.new.writer.0) text
+
+  -- what was written, where the run ended so
+  abbrev Written : Done → Type 0
+  Written done =
+      (outcome : Outcome)
+      × EndsByRow settings bits read outcome
+      × (done ≡ done_of outcome)
+      × Grew (damage_after settings bits read outcome)
+
+  written : (done : Done) → c.write_damage.result ≡ Ok done → Written done
+  written done e = IfOk-at_ok Written e c.write_damage.ensures.written
+
+  -- a fact of what was read is one of what is known
+  abbrev Known : (DecodeSettings → Bits → Type 0) → Type 0
+  Known = OnKnown (arguments_of_words (map string_bytes c.args.words.now)) (g.R.Read.remaining c.args.reader.now.0)
+
+  known : (P : DecodeSettings → Bits → Type 0) → P settings bits → Known P
+  known P holds =
+      on_known _ c.in-Some.arguments settings _ c.as_slice.result.now P (search rules) (search rules) (search rules)
+      (subst (P settings) (search rules) holds)
+
+  -- all the text was written, and what the run's end says of the outcome is so
+  whole : (done : Done) (P : DecodeSettings → Bits → Type 0)
+      → ((outcome : Outcome) → EndsAfter settings bits read outcome → done_of outcome ≡ done
+      → (damage_after settings bits read outcome ≡ whole_damage settings bits) × P settings bits)
+      → c.write_damage.result ≡ Ok done → Known (λ s b. Grew (whole_damage s b)) × Known P
+  whole done P said e =
+      let (outcome, ends, same, grew) = written done e in
+      let (all, holds) = said outcome ends.0 (sym same) in
+      (known (λ s b. Grew (whole_damage s b)) (subst Grew all grew), known P holds)
+
+pub returns-clause-good : goal.returns-clause-good
+returns-clause-good g c = λ e. (whole g c Good (λ s b. IsOk (outcome_of s b)) (damage_of_good (settings g c) (bits g c)
+    (read g c)) e).0
+
+pub returns-clause-good_outcome : goal.returns-clause-good_outcome
+returns-clause-good_outcome g c = λ e. (whole g c Good (λ s b. IsOk (outcome_of s b)) (damage_of_good (settings g c)
+    (bits g c) (read g c)) e).1
+
+pub returns-clause-faulty : goal.returns-clause-faulty
+returns-clause-faulty g c = λ e. (whole g c Faulty (λ s b. IsErr (outcome_of s b)) (damage_of_faulty (settings g c)
+    (bits g c) (read g c)) e).0
+
+pub returns-clause-faulty_outcome : goal.returns-clause-faulty_outcome
+returns-clause-faulty_outcome g c = λ e. (whole g c Faulty (λ s b. IsErr (outcome_of s b)) (damage_of_faulty
+    (settings g c) (bits g c) (read g c)) e).1
+
+pub returns-clause-memory : goal.returns-clause-memory
+returns-clause-memory g c = λ e.
+    let (outcome, ends, same, grew) = written g c Memory e in
+    known g c (λ s b. (text : List ℕ) × IsDamageWithoutMemory s b text × Grew g c text)
+    (_, damage_without_memory (settings g c) (bits g c) (read g c) outcome ends (sym same), grew)
+
+pub returns-clause-front : goal.returns-clause-front
+returns-clause-front g c = λ e.
+    let front = IfErr-at_err (λ _. (text : List ℕ) × IsDamageText (settings g c) (bits g c) text
+    × AppendsFront (g.W.Write.contents c.args.writer.now.0)
+    (g.W.Write.contents c.write_damage.new.writer.0) text) e c.write_damage.ensures.front in
+    known g c (λ s b. (text : List ℕ) × IsDamageText s b text
+    × AppendsFront (g.W.Write.contents c.args.writer.now.0) (g.W.Write.contents c.write_damage.new.writer.0) text) front

@@ -1,0 +1,183 @@
+//! A run of the program that writes the damage of the data in place of its rows.
+
+ghost use Rattle.std.specs.Prelude.{◌≡◌, ◌<◌, ◌-◌, ◌↔◌, ◌≢◌, ◌++◌, [], IfOk, IfErr, OnOk, OnErr, IfSome, IsOk, IsErr, true, false, map, string_bytes, length, None, Ok, Err, List, ℕ};
+ghost use Rattle.std.specs.Io.KnownBytes.{Appends, IsAtEnd};
+ghost use Rattle.hayro_ccitt.specs.Bits.{BitsFit};
+ghost use Rattle.faxrows.specs.Arguments.{arguments_of_words};
+ghost use Rattle.faxrows.specs.DamageText.{IsDamageText, IsDamageWithoutMemory, damage_after, damage_lines, last_line_of_damage, line_of_damage, whole_damage};
+ghost use Rattle.faxrows.specs.Output.{AppendsFront, PassesOn};
+ghost use Rattle.faxrows.specs.Runs.{Outcome, OnKnown, rows_of, outcome_of, done_of, WasRead};
+ghost use Rattle.faxrows.specs.RunsByRow.{EndsByRow};
+
+use crate::arguments::arguments_of;
+use crate::damage_lines::{put_bad_end, put_damaged_row, put_good_end};
+use crate::device::Device;
+use crate::output::flush;
+use crate::program::{Done, RunFault, done_of, read_all};
+use hayro_ccitt::RowReader;
+use std::alloc::Global;
+use std::io::{Read, Write};
+
+/// Reads all that the reader has, and then row by row as the arguments mean, and writes the damage in place of the rows: for
+/// each row that was repaired a line of `damaged`, the row's index, the offset in bits at which its line begins, and the
+/// fault; and then `ok`, the rows, how many of them were repaired, and the count of bytes, or `error`, the index of the row
+/// that can't be read, and the error.
+///
+/// # Errors
+///
+/// As those of [`run_by_row`](crate::run_by_row).
+pub fn run_damage<R: Read, W: Write>(
+    alloc: Global,
+    words: &[String],
+    reader: &mut Device<R>,
+    writer: &mut Device<W>,
+) -> std::result::Result<Done, RunFault>
+    ensures bad_arguments { (result ≡ Err RunFault.BadArguments)
+        ↔ (arguments_of_words (map string_bytes words.now) ≡ None) }
+    ensures unread { result ≡ Err RunFault.BadArguments → reader.new ≡ reader.old }
+    ensures unwritten { IfErr result (λ fault. fault ≢ RunFault.Write → writer.new ≡ writer.old) }
+    ensures good { result ≡ Ok Done.Good
+        → OnKnown (arguments_of_words (map string_bytes words.now)) (R.remaining reader.old.0) (λ settings bits.
+        Appends (W.contents writer.old.0) (W.contents writer.new.0) (whole_damage settings bits)) }
+    ensures good_outcome { result ≡ Ok Done.Good
+        → OnKnown (arguments_of_words (map string_bytes words.now)) (R.remaining reader.old.0) (λ settings bits.
+        IsOk (outcome_of settings bits)) }
+    ensures faulty { result ≡ Ok Done.Faulty
+        → OnKnown (arguments_of_words (map string_bytes words.now)) (R.remaining reader.old.0) (λ settings bits.
+        Appends (W.contents writer.old.0) (W.contents writer.new.0) (whole_damage settings bits)) }
+    ensures faulty_outcome { result ≡ Ok Done.Faulty
+        → OnKnown (arguments_of_words (map string_bytes words.now)) (R.remaining reader.old.0) (λ settings bits.
+        IsErr (outcome_of settings bits)) }
+    ensures memory { result ≡ Ok Done.Memory
+        → OnKnown (arguments_of_words (map string_bytes words.now)) (R.remaining reader.old.0) (λ settings bits.
+        (text : List ℕ) × IsDamageWithoutMemory settings bits text
+        × Appends (W.contents writer.old.0) (W.contents writer.new.0) text) }
+    ensures front { result ≡ Err RunFault.Write
+        → OnKnown (arguments_of_words (map string_bytes words.now)) (R.remaining reader.old.0) (λ settings bits.
+        (text : List ℕ) × IsDamageText settings bits text
+        × AppendsFront (W.contents writer.old.0) (W.contents writer.new.0) text) }
+    ensures drained { IfOk result (λ _. IsAtEnd (R.remaining reader.new.0)) }
+    ensures fit { IfOk result (λ _. IfSome (R.remaining reader.old.0) BitsFit) }
+    ensures fit_write { result ≡ Err RunFault.Write → IfSome (R.remaining reader.old.0) BitsFit }
+    ensures fit_so_far { result ≢ Err RunFault.TooLong
+        → WasRead (R.remaining reader.old.0) (R.remaining reader.new.0) BitsFit }
+    ensures too_long { result ≡ Err RunFault.TooLong
+        → IfSome (R.remaining reader.old.0) (λ input. ¬ (BitsFit input)) }
+    ensures read { reader.old.1 ≡ false → ((result ≡ Err RunFault.Read) ↔ (reader.new.1 ≡ true)) }
+    ensures write { writer.old.1 ≡ false → ((result ≡ Err RunFault.Write) ↔ (writer.new.1 ≡ true)) }
+{
+    let Some(arguments) = arguments_of(words) else {
+        return Err(RunFault::BadArguments);
+    };
+    let input = read_all(alloc, reader)?;
+    let Ok(mut rows) = RowReader::new(alloc, input.as_slice(), arguments.order, arguments.settings)
+    else {
+        return Err(RunFault::Memory);
+    };
+    write_damage(alloc, &mut rows, writer)
+}
+
+/// Reads row by row from the first one on, and writes a line for each row that was repaired, and then how the reading
+/// ended. It fails only where the writer does.
+fn write_damage<W: Write>(
+    alloc: Global,
+    rows: &mut RowReader<'_>,
+    writer: &mut Device<W>,
+) -> std::result::Result<Done, RunFault>
+    requires none_read { rows.old.taken ≡ 0 }
+    ensures written { IfOk result (λ done. (outcome : Outcome)
+        × EndsByRow rows.old.settings rows.old.bits rows.new.taken outcome
+        × (done ≡ done_of outcome)
+        × Appends (W.contents writer.old.0) (W.contents writer.new.0)
+        (damage_after rows.old.settings rows.old.bits rows.new.taken outcome)) }
+    ensures front { OnErr result ((text : List ℕ) × IsDamageText rows.old.settings rows.old.bits text
+        × AppendsFront (W.contents writer.old.0) (W.contents writer.new.0) text) }
+    ensures flag { OnOk result (writer.new.1 ≡ writer.old.1) }
+    ensures failed { OnErr result (writer.new.1 ≡ true) }
+    ensures only { IfErr result (λ fault. fault ≡ RunFault.Write) }
+{
+    let mut waiting = Vec::new(alloc);
+    let outcome = put_damage(rows, &mut waiting, writer)?;
+    put_end(rows, &outcome, &mut waiting, writer)?;
+    flush(&mut waiting, writer)?;
+    Ok(done_of(&outcome))
+}
+
+/// Reads row by row from the first one on, puts a line for each row that was repaired, and returns how the reading ended.
+fn put_damage<W: Write>(
+    rows: &mut RowReader<'_>,
+    waiting: &mut Vec<u8>,
+    writer: &mut Device<W>,
+) -> std::result::Result<hayro_ccitt::Result<usize>, RunFault>
+    requires none_read { rows.old.taken ≡ 0 }
+    requires none_waits { waiting.old.items ≡ [] }
+    ensures settings { OnOk result (rows.new.settings ≡ rows.old.settings) }
+    ensures bits { OnOk result (rows.new.bits ≡ rows.old.bits) }
+    ensures ends { IfOk result (λ outcome. EndsByRow rows.old.settings rows.old.bits rows.new.taken outcome) }
+    ensures lines { OnOk result (PassesOn (W.contents writer.old.0) (W.contents writer.new.0)
+        [] (damage_lines rows.old.settings rows.old.bits rows.new.taken) waiting.new.items) }
+    ensures front { OnErr result (AppendsFront (W.contents writer.old.0) (W.contents writer.new.0)
+        (damage_lines rows.old.settings rows.old.bits (length (rows_of rows.old.settings rows.old.bits)))) }
+    ensures flag { OnOk result (writer.new.1 ≡ writer.old.1) }
+    ensures failed { OnErr result (writer.new.1 ≡ true) }
+    ensures only { IfErr result (λ fault. fault ≡ RunFault.Write) }
+{
+    loop {
+        match rows.next_row() {
+            Ok(true) => put_last_row(rows, waiting, writer)?,
+            Ok(false) => return Ok(Ok(rows.bytes_read())),
+            Err(error) => return Ok(Err(error)),
+        }
+    }
+}
+
+/// Puts the line of the last row that was read, if it was repaired.
+fn put_last_row<W: Write>(
+    rows: &RowReader<'_>,
+    waiting: &mut Vec<u8>,
+    writer: &mut Device<W>,
+) -> std::result::Result<(), RunFault>
+    requires some { 0 < rows.now.taken }
+    ensures ok { OnOk result (PassesOn (W.contents writer.old.0) (W.contents writer.new.0)
+        waiting.old.items (line_of_damage (rows.now.taken - 1) rows.now.line_start rows.now.damage) waiting.new.items) }
+    ensures front { OnErr result (AppendsFront (W.contents writer.old.0) (W.contents writer.new.0)
+        (waiting.old.items ++ line_of_damage (rows.now.taken - 1) rows.now.line_start rows.now.damage)) }
+    ensures flag { OnOk result (writer.new.1 ≡ writer.old.1) }
+    ensures failed { OnErr result (writer.new.1 ≡ true) }
+    ensures only { IfErr result (λ fault. fault ≡ RunFault.Write) }
+{
+    match rows.damage() {
+        Some(fault) => {
+            let start = rows.line_start() as u64;
+            put_damaged_row(rows.rows_read() - 1, start, fault, waiting, writer)
+        }
+        None => Ok(()),
+    }
+}
+
+/// Puts the last line.
+fn put_end<W: Write>(
+    rows: &RowReader<'_>,
+    outcome: &hayro_ccitt::Result<usize>,
+    waiting: &mut Vec<u8>,
+    writer: &mut Device<W>,
+) -> std::result::Result<(), RunFault>
+    ensures ok { OnOk result (PassesOn (W.contents writer.old.0) (W.contents writer.new.0)
+        waiting.old.items (last_line_of_damage rows.now.settings rows.now.bits rows.now.taken outcome.now) waiting.new.items) }
+    ensures front { OnErr result (AppendsFront (W.contents writer.old.0) (W.contents writer.new.0)
+        (waiting.old.items ++ last_line_of_damage rows.now.settings rows.now.bits rows.now.taken outcome.now)) }
+    ensures flag { OnOk result (writer.new.1 ≡ writer.old.1) }
+    ensures failed { OnErr result (writer.new.1 ≡ true) }
+    ensures only { IfErr result (λ fault. fault ≡ RunFault.Write) }
+{
+    match outcome {
+        Ok(count) => put_good_end(
+            rows.rows_read(),
+            rows.damaged_rows(),
+            *count as u64,
+            waiting,
+            writer,
+        ),
+        Err(error) => put_bad_end(rows.rows_read(), *error, waiting, writer),
+    }
+}

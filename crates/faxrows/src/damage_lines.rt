@@ -1,0 +1,138 @@
+//! Lines that tell damage.
+
+ghost use Rattle.std.specs.Prelude.{◌≡◌, ◌≤◌, ◌++◌, ◌∷◌, [], OnOk, OnErr, IfErr, Some, Ok, Err, drop, codes, true, ℕ};
+ghost use Rattle.faxrows.specs.DamageText.{end_with_fault, line_of_damage, number_and, numbered};
+ghost use Rattle.faxrows.specs.Output.{AppendsFront, PassesOn};
+
+use crate::device::Device;
+use crate::digits::{MOST_DIGITS, put_decimal};
+use crate::output::put;
+use crate::program::RunFault;
+use hayro_ccitt::DecodeError;
+use std::io::Write;
+
+/// The room that a number and a sign take.
+const NUMBER_ROOM: usize = 21;
+
+/// Writes a number and a sign at the end of the room, and returns where they begin.
+fn put_number_text(number: u64, sign: u8, text: &mut [u8; NUMBER_ROOM]) -> usize
+    ensures within { result ≤ NUMBER_ROOM }
+    ensures text { drop result text.new ≡ number_and number sign }
+{
+    text[NUMBER_ROOM - 1] = sign;
+    put_decimal(number, text, NUMBER_ROOM - 1)
+}
+
+/// Puts a number and a sign.
+pub(crate) fn put_number<W: Write>(
+    number: u64,
+    sign: u8,
+    waiting: &mut Vec<u8>,
+    writer: &mut Device<W>,
+) -> std::result::Result<(), RunFault>
+    ensures ok { OnOk result (PassesOn (W.contents writer.old.0) (W.contents writer.new.0)
+        waiting.old.items (number_and number sign) waiting.new.items) }
+    ensures front { OnErr result (AppendsFront (W.contents writer.old.0) (W.contents writer.new.0)
+        (waiting.old.items ++ number_and number sign)) }
+    ensures flag { OnOk result (writer.new.1 ≡ writer.old.1) }
+    ensures failed { OnErr result (writer.new.1 ≡ true) }
+    ensures only { IfErr result (λ fault. fault ≡ RunFault.Write) }
+{
+    let mut text = [0u8; NUMBER_ROOM];
+    let start = put_number_text(number, sign, &mut text);
+    put(&text[start..], waiting, writer)
+}
+
+/// Puts a word and two numbers, with a space behind each number.
+pub(crate) fn put_numbers<W: Write>(
+    word: &[u8],
+    first: u64,
+    second: u64,
+    waiting: &mut Vec<u8>,
+    writer: &mut Device<W>,
+) -> std::result::Result<(), RunFault>
+    ensures ok { OnOk result (PassesOn (W.contents writer.old.0) (W.contents writer.new.0)
+        waiting.old.items (numbered word.now first second) waiting.new.items) }
+    ensures front { OnErr result (AppendsFront (W.contents writer.old.0) (W.contents writer.new.0)
+        (waiting.old.items ++ numbered word.now first second)) }
+    ensures flag { OnOk result (writer.new.1 ≡ writer.old.1) }
+    ensures failed { OnErr result (writer.new.1 ≡ true) }
+    ensures only { IfErr result (λ fault. fault ≡ RunFault.Write) }
+{
+    put(word, waiting, writer)?;
+    put_number(first, b' ', waiting, writer)?;
+    put_number(second, b' ', waiting, writer)
+}
+
+/// Returns a fault's text with the line's end.
+pub(crate) fn fault_and_end(fault: DecodeError) -> &'static [u8]
+    ensures { result.now ≡ end_with_fault fault }
+{
+    match fault {
+        DecodeError::UnexpectedEof => b"unexpected end of input\n",
+        DecodeError::InvalidCode => b"invalid CCITT code sequence\n",
+        DecodeError::Overflow => b"arithmetic overflow in position calculation\n",
+        DecodeError::OutOfMemory => b"out of memory\n",
+        DecodeError::Refused => b"row refused\n",
+    }
+}
+
+/// Puts the line of a damaged row: its index, the offset in bits at which its line begins, and the fault.
+pub(crate) fn put_damaged_row<W: Write>(
+    row: u64,
+    start: u64,
+    fault: DecodeError,
+    waiting: &mut Vec<u8>,
+    writer: &mut Device<W>,
+) -> std::result::Result<(), RunFault>
+    ensures ok { OnOk result (PassesOn (W.contents writer.old.0) (W.contents writer.new.0)
+        waiting.old.items (line_of_damage row start (Some fault)) waiting.new.items) }
+    ensures front { OnErr result (AppendsFront (W.contents writer.old.0) (W.contents writer.new.0)
+        (waiting.old.items ++ line_of_damage row start (Some fault))) }
+    ensures flag { OnOk result (writer.new.1 ≡ writer.old.1) }
+    ensures failed { OnErr result (writer.new.1 ≡ true) }
+    ensures only { IfErr result (λ fault. fault ≡ RunFault.Write) }
+{
+    put_numbers(b"damaged ", row, start, waiting, writer)?;
+    put(fault_and_end(fault), waiting, writer)
+}
+
+/// Puts the last line of a good reading: the rows, how many of them were repaired, and the count of bytes.
+pub(crate) fn put_good_end<W: Write>(
+    rows: u64,
+    damaged: u64,
+    count: u64,
+    waiting: &mut Vec<u8>,
+    writer: &mut Device<W>,
+) -> std::result::Result<(), RunFault>
+    ensures ok { OnOk result (PassesOn (W.contents writer.old.0) (W.contents writer.new.0)
+        waiting.old.items (numbered (codes "ok ") rows damaged ++ number_and count 10) waiting.new.items) }
+    ensures front { OnErr result (AppendsFront (W.contents writer.old.0) (W.contents writer.new.0)
+        (waiting.old.items ++ (numbered (codes "ok ") rows damaged ++ number_and count 10))) }
+    ensures flag { OnOk result (writer.new.1 ≡ writer.old.1) }
+    ensures failed { OnErr result (writer.new.1 ≡ true) }
+    ensures only { IfErr result (λ fault. fault ≡ RunFault.Write) }
+{
+    put_numbers(b"ok ", rows, damaged, waiting, writer)?;
+    put_number(count, b'\n', waiting, writer)
+}
+
+/// Puts the last line of a reading that failed: the index of the row that can't be read, and the error.
+pub(crate) fn put_bad_end<W: Write>(
+    row: u64,
+    error: DecodeError,
+    waiting: &mut Vec<u8>,
+    writer: &mut Device<W>,
+) -> std::result::Result<(), RunFault>
+    ensures ok { OnOk result (PassesOn (W.contents writer.old.0) (W.contents writer.new.0)
+        waiting.old.items (codes "error " ++ (number_and row 32 ++ end_with_fault error)) waiting.new.items) }
+    ensures front { OnErr result (AppendsFront (W.contents writer.old.0) (W.contents writer.new.0)
+        (waiting.old.items ++ (codes "error " ++ (number_and row 32 ++ end_with_fault error)))) }
+    ensures flag { OnOk result (writer.new.1 ≡ writer.old.1) }
+    ensures failed { OnErr result (writer.new.1 ≡ true) }
+    ensures only { IfErr result (λ fault. fault ≡ RunFault.Write) }
+{
+    put(b"error ", waiting, writer)?;
+    put_number(row, b' ', waiting, writer)?;
+    put(fault_and_end(error), waiting, writer)
+}

@@ -1,0 +1,85 @@
+use Rattle.std.specs.Prelude.{OnErr}
+use Rattle.std.proofs.Common.{ℕ, get_or, ◌≡◌, ◌∙◌, Bool, Result, length, drop, ap, sym, subst, arith}
+use Rattle.hayro_ccitt.specs.declared.error.DecodeError.{DecodeError}
+use Rattle.hayro_ccitt.specs.declared.row_reader.Stand.{Stand}
+use Rattle.hayro_ccitt.specs.declared.settings.DecodeSettings.{DecodeSettings}
+use Rattle.hayro_ccitt.specs.Bits.{Bits, here}
+use Rattle.hayro_ccitt.specs.Context.{Held}
+use Rattle.hayro_ccitt.specs.Decoding.{gap_said}
+use Rattle.hayro_ccitt.specs.PlainReading.{gap_behind_row}
+use Rattle.hayro_ccitt.specs.RowsRead.{ComesToLine, Stands, line_starts, read_so_far, stand_after}
+use Rattle.hayro_ccitt.specs.RowsRead.{IsStanding, seen}
+use Rattle.hayro_ccitt.proofs.Readings.RowByRow.{starts_behind, behind_row_stands, repairs_stay, gap_stands, comes_to_line}
+use Rattle.hayro_ccitt.proofs.row_reader.RowState.come_to_line.Goals as goal
+use Rattle.hayro_ccitt.proofs.row_reader.RowState.come_to_line.Goals.{After-line_after_gap}
+
+-- where the reading is behind the gap
+passed : (c : After-line_after_gap) → IsStanding c.args.self.now c.args.reader.now
+    → Stands (stand_after c.pass_gap-over.result) c.args.self.now.ctx.held.settings c.args.reader.now.bits c.pass_gap-over.new.ctx.held c.pass_gap-over.new.reader.place
+passed c stands =
+    let rows = c.args.self.now in
+    let held = rows.ctx.held in
+    let bits = c.args.reader.now.bits in
+    let last = c.pass_gap-over.new.ctx.held in
+    let at = c.pass_gap-over.new.reader in
+    let behind = behind_row_stands rows.stand held.settings bits held c.args.reader.now.place c.requires
+    (sym c.is_at_line.ensures ∙ c.if-is_at_line.false) stands.0 in
+    let said = subst (λ (b : Bits). gap_behind_row held.settings held.taken held.has_eols (here c.args.reader.now)
+    ≡ gap_said c.pass_gap-over.result last.has_eols (drop at.place b)) c.pass_gap-over.ensures.same_bits c.pass_gap-over.ensures.gap in
+    gap_stands held.settings bits held (here c.args.reader.now) behind last at.place
+    (omega (arith, c.bit_pos-place.ensures.place, c.bit_pos-place.ensures.within, ap length c.pass_gap-over.ensures.same_bits))
+    c.pass_gap-over.ensures.held c.pass_gap-over.result said c.pass_gap-over.ensures.only_code
+
+-- where its fault is, if it has one
+started : (c : After-line_after_gap) → IsStanding c.args.self.now c.args.reader.now
+    → OnErr c.pass_gap-over.result (c.start_after_gap-self.result
+    ≡ get_or (line_starts c.args.self.now.ctx.held.settings c.args.reader.now.bits) c.args.self.now.ctx.held.taken
+    c.pass_gap-over.new.reader.place)
+started c stands =
+    let rows = c.args.self.now in
+    let held = rows.ctx.held in
+    let bits = c.args.reader.now.bits in
+    let last = c.pass_gap-over.new.ctx.held in
+    let at = c.pass_gap-over.new.reader in
+    let behind = behind_row_stands rows.stand held.settings bits held c.args.reader.now.place c.requires
+    (sym c.is_at_line.ensures ∙ c.if-is_at_line.false) stands.0 in
+    let said = subst (λ (b : Bits). gap_behind_row held.settings held.taken held.has_eols (here c.args.reader.now)
+    ≡ gap_said c.pass_gap-over.result last.has_eols (drop at.place b)) c.pass_gap-over.ensures.same_bits
+    c.pass_gap-over.ensures.gap in
+    subst (λ (n : ℕ). OnErr c.pass_gap-over.result (n ≡ get_or (line_starts held.settings bits) held.taken at.place))
+    (sym c.start_after_gap-self.ensures)
+    (starts_behind held.settings bits held (here c.args.reader.now) behind last at.place
+    (omega (arith, c.bit_pos-place.ensures.place, c.bit_pos-place.ensures.within, ap length c.pass_gap-over.ensures.same_bits))
+    c.pass_gap-over.ensures.held c.pass_gap-over.result said
+    c.bit_pos-place.result rows.started_at c.bit_pos-place.ensures.place)
+
+pub returns-clause-stands : goal.returns-clause-stands
+returns-clause-stands c stands =
+    let settings = c.args.self.now.ctx.held.settings in
+    let last = c.pass_gap-over.new.ctx.held in
+    let at = c.pass_gap-over.new.reader in
+    let same : last.settings ≡ settings = ap (λ (h : Held). h.settings) c.pass_gap-over.ensures.held in
+    let held = c.args.self.now.ctx.held in
+    let counted = repairs_stay settings last.settings c.args.reader.now.bits at.bits held last same c.pass_gap-over.ensures.same_bits
+    (ap (λ (h : Held). h.taken) c.pass_gap-over.ensures.held) (ap (λ (h : Held). h.repairs) c.pass_gap-over.ensures.held) stands.1 in (
+      subst (λ (s : Stand). Stands s last.settings at.bits last at.place) (sym c.stand_after_gap-self.ensures)
+          (subst (λ (s : DecodeSettings). Stands (stand_after c.pass_gap-over.result) s at.bits last at.place) (sym same)
+          (subst (λ (b : Bits). Stands (stand_after c.pass_gap-over.result) settings b last at.place) (sym c.pass_gap-over.ensures.same_bits) (passed c stands))),
+      counted,
+    )
+
+pub returns-clause-comes : goal.returns-clause-comes
+returns-clause-comes c stands =
+    let rows = c.args.self.now in
+    let old = seen rows c.args.reader.now in
+    let last = c.pass_gap-over.new.ctx.held in
+    let at = c.pass_gap-over.new.reader in
+    let settings : last.settings ≡ rows.ctx.held.settings = ap (λ (h : Held). h.settings) c.pass_gap-over.ensures.held in
+    let taken : last.taken ≡ rows.ctx.held.taken = ap (λ (h : Held). h.taken) c.pass_gap-over.ensures.held in
+    let start = c.start_after_gap-self.result in
+    subst (λ (s : Stand). ComesToLine old (read_so_far last at start rows.damage s) c.line_after_gap.result)
+    (sym c.stand_after_gap-self.ensures)
+    (subst (λ (r : Result Bool DecodeError). ComesToLine old (read_so_far last at start rows.damage
+    (stand_after c.pass_gap-over.result)) r) (sym c.line_after_gap.ensures)
+    (comes_to_line old last at start rows.damage c.pass_gap-over.result settings c.pass_gap-over.ensures.same_bits
+    taken (passed c stands) (started c stands)))

@@ -1,0 +1,16 @@
+use Rattle.std.proofs.Common.{◌≡◌, ◌∙◌, Bool, Ok, true, sym, ap}
+use Rattle.std.proofs.lemmas.Bool.{false≢true}
+use Rattle.hayro_ccitt.specs.Bits.{here}
+use Rattle.hayro_ccitt.proofs.Readings.RowByRow.{at_line_stands, few}
+use Rattle.hayro_ccitt.proofs.row_reader.RowState.next_row.Goals as goal
+
+-- where a line stands there is room for its row
+pub returns-then-not-has_room-clause-reads : goal.returns-then-not-has_room-clause-reads
+returns-then-not-has_room-clause-reads c stands =
+    let rows = c.come_to_line.new.self in
+    let reader = c.come_to_line.new.reader in
+    let held = rows.ctx.held in
+    let line : c.come_to_line.result ≡ Ok true = c.in_ok-come_to_line.was ∙ ap (λ (b : Bool). Ok b) c.if-not-branch.false in
+    let still = c.come_to_line.ensures.stands stands in
+    let at_line = at_line_stands rows.stand held.settings reader.bits held reader.place ((c.come_to_line.ensures.comes stands).line line) still.0 in
+    absurd (false≢true (sym c.if-not-has_room.true ∙ c.has_room.ensures.room (few held.settings reader.bits held (here reader) at_line) still.1.few))

@@ -1,0 +1,124 @@
+use Rattle.std.proofs.Common.{◌≡◌, ◌∙◌, ◌-◌, ℕ, [], ◌≤◌, ap, sym, subst, refl, length, drop, arith}
+use Rattle.std.proofs.lemmas.List.{length-drop}
+use Rattle.hayro_ccitt.specs.declared.codes.Color.TheVariants.{White}
+use Rattle.hayro_ccitt.specs.declared.settings.DecodeSettings.{DecodeSettings}
+use Rattle.hayro_ccitt.specs.Bits.{Bits, here}
+use Rattle.hayro_ccitt.specs.Context.{Context, Held, redrawn}
+use Rattle.hayro_ccitt.specs.RowsRead.{StandsAtLine, StandsBehindRow, HasFailed, damage_since}
+use Rattle.hayro_ccitt.specs.RowsRead.{IsStandingAtLine}
+use Rattle.hayro_ccitt.proofs.Readings.RowByRow.{IsRead, at_line_stands, starts_there, repairs_stay, is_read, isnt_read}
+use Rattle.hayro_ccitt.proofs.row_reader.RowState.read_line.Goals as goal
+use Rattle.hayro_ccitt.proofs.row_reader.RowState.read_line.Goals.{After-self-in-Ok-2-1, After-self-in-Err-1}
+
+-- the offset of the bits after a position
+line_start_of : (place : ℕ) (bits : Bits) (result : ℕ) → result ≡ place → result ≤ length bits
+    → result ≡ length bits - length (drop place bits)
+line_start_of place bits result is within = omega (arith, is, within, length-drop place bits)
+
+-- where nothing is drawn, a line that is begun anew is the same
+begun_is : (settings : DecodeSettings) (bits : Bits) (held : Held) (rest : Bits) → StandsAtLine settings bits held rest
+    → (begun : Context) → begun.held ≡ redrawn held [] White → begun.held ≡ held
+begun_is settings bits held rest stands begun is =
+    is ∙ ap (λ (h : Held). redrawn h [] White) stands.held_is ∙ sym stands.held_is
+
+-- its row was read
+row_was_read : (c : After-self-in-Ok-2-1) → IsStandingAtLine c.args.self.now c.args.reader.now
+    → IsRead c.args.self.now.ctx.held.settings c.args.reader.now.bits c.args.self.now.ctx.held c.read_row.new.ctx.held
+    (here c.args.reader.now) (here c.read_row.new.reader)
+row_was_read c at =
+    let rows = c.args.self.now in
+    let held = rows.ctx.held in
+    let bits = c.args.reader.now.bits in
+    let rest = here c.args.reader.now in
+    let stands = at_line_stands rows.stand held.settings bits held c.args.reader.now.place at.0 at.1.0 in
+    let same = begun_is held.settings bits held rest stands c.begin_line.new.self (ap (λ (x : Context). x.held) c.begin_line.ensures.frame) in
+    subst (λ (h : Held). IsRead held.settings bits h c.read_row.new.ctx.held rest (here c.read_row.new.reader)) same
+    (is_read held.settings bits c.begin_line.new.self.held rest (subst (λ (h : Held). StandsAtLine held.settings bits h rest) (sym same) stands)
+    c.read_row.new.ctx.held (here c.read_row.new.reader) c.in-Ok.ensures.row)
+
+-- or it wasn't
+row_was_not_read : (c : After-self-in-Err-1) → IsStandingAtLine c.args.self.now c.args.reader.now
+    → HasFailed c.args.self.now.ctx.held.settings c.args.reader.now.bits c.read_row.new.ctx.held.taken c.in-Err.error
+row_was_not_read c at =
+    let rows = c.args.self.now in
+    let held = rows.ctx.held in
+    let bits = c.args.reader.now.bits in
+    let rest = here c.args.reader.now in
+    let stands = at_line_stands rows.stand held.settings bits held c.args.reader.now.place at.0 at.1.0 in
+    let same = begun_is held.settings bits held rest stands c.begin_line.new.self (ap (λ (x : Context). x.held) c.begin_line.ensures.frame) in
+    isnt_read held.settings bits c.begin_line.new.self.held rest (subst (λ (h : Held). StandsAtLine held.settings bits h rest) (sym same) stands)
+    c.read_row.new.ctx.held (here c.read_row.new.reader) c.in-Err.error c.in-Err.ensures.row
+
+-- what an error leaves of the context
+settings_left : (c : After-self-in-Err-1) → c.read_row.new.ctx.held.settings ≡ c.args.self.now.ctx.held.settings
+settings_left c = ap (λ (h : Held). h.settings) c.in-Err.ensures.row.held ∙ ap (λ (x : Context). x.held.settings) c.begin_line.ensures.frame
+
+taken_left : (c : After-self-in-Err-1) → c.read_row.new.ctx.held.taken ≡ c.args.self.now.ctx.held.taken
+taken_left c = ap (λ (h : Held). h.taken) c.in-Err.ensures.row.held ∙ ap (λ (x : Context). x.held.taken) c.begin_line.ensures.frame
+
+-- what it leaves of the count of repairs
+repairs_left : (c : After-self-in-Err-1) → c.read_row.new.ctx.held.repairs ≡ c.args.self.now.ctx.held.repairs
+repairs_left c = ap (λ (h : Held). h.repairs) c.in-Err.ensures.row.held ∙ ap (λ (x : Context). x.held.repairs) c.begin_line.ensures.frame
+
+pub returns-in-Ok-clause-stands : goal.returns-in-Ok-clause-stands
+returns-in-Ok-clause-stands c at =
+    let read = row_was_read c at in
+    let settings = c.args.self.now.ctx.held.settings in
+    let bits = c.args.reader.now.bits in
+    let new = c.read_row.new.ctx.held in
+    let read_bits = c.read_row.new.reader.bits in
+    let counted = at.1.1 in (
+      subst (λ (s : DecodeSettings). StandsBehindRow s read_bits new (here c.read_row.new.reader)) (sym read.settings_are)
+          (subst (λ (b : Bits). StandsBehindRow settings b new (here c.read_row.new.reader)) (sym c.read_row.ensures.same_bits) read.stands),
+      repairs_stay settings new.settings bits read_bits new new read.settings_are c.read_row.ensures.same_bits refl refl
+          (record { few = read.few counted.few; counted = read.counted counted.counted }),
+    )
+
+pub returns-in-Err-clause-stands : goal.returns-in-Err-clause-stands
+returns-in-Err-clause-stands c at =
+    let held = c.args.self.now.ctx.held in
+    let bits = c.args.reader.now.bits in
+    let new = c.read_row.new.ctx.held in
+    let read_bits = c.read_row.new.reader.bits in (
+      subst (λ (s : DecodeSettings). HasFailed s read_bits new.taken c.in-Err.error) (sym (settings_left c))
+          (subst (λ (b : Bits). HasFailed held.settings b new.taken c.in-Err.error) (sym c.read_row.ensures.same_bits) (row_was_not_read c at)),
+      repairs_stay held.settings new.settings bits read_bits held new (settings_left c) c.read_row.ensures.same_bits (taken_left c) (repairs_left c) at.1.1,
+    )
+
+pub returns-in-Ok-clause-reads : goal.returns-in-Ok-clause-reads
+returns-in-Ok-clause-reads c at =
+    let read = row_was_read c at in
+    let reader = c.args.reader.now in
+    record {
+      settings = read.settings_are;
+      bits = c.read_row.ensures.same_bits;
+      more = λ e. (refl, read.more, read.within);
+      row = λ e. read.row;
+      line_start = λ e. line_start_of reader.place reader.bits c.bit_pos-self.result c.bit_pos-self.ensures.place c.bit_pos-self.ensures.within ∙ read.line_start;
+      damage = λ e. c.damage_since-self.ensures
+          ∙ ap (λ (n : ℕ). damage_since c.read_row.new.ctx.held.repairs n)
+          (c.damaged_rows-damaged_rows.ensures ∙ ap (λ (x : Context). x.held.repairs.rows) c.begin_line.ensures.frame) ∙ read.damage;
+      end = λ e. cc;
+      error = tt;
+      fault_start = λ unended. tt;
+    }
+
+pub returns-in-Err-clause-reads : goal.returns-in-Err-clause-reads
+returns-in-Err-clause-reads c at =
+    let rows = c.args.self.now in
+    let held = rows.ctx.held in
+    let reader = c.args.reader.now in
+    let stands = at_line_stands rows.stand held.settings reader.bits held reader.place at.0 at.1.0 in
+    record {
+      settings = settings_left c;
+      bits = c.read_row.ensures.same_bits;
+      more = λ e. cc;
+      row = λ e. cc;
+      line_start = λ e. cc;
+      damage = λ e. cc;
+      end = λ e. cc;
+      error = (refl, taken_left c, row_was_not_read c at);
+      fault_start = λ unended. line_start_of reader.place reader.bits c.bit_pos-self.result c.bit_pos-self.ensures.place
+          c.bit_pos-self.ensures.within
+          ∙ starts_there held.settings reader.bits held (here reader) stands c.read_row.new.reader.place;
+    }

@@ -1,0 +1,39 @@
+-- A reading of rows between two calls, apart from its data: what is seen of it, and which data it is a reading of.
+use Rattle.std.specs.Prelude.{◌≤◌, ℕ, Option, length}
+use Rattle.hayro_ccitt.specs.declared.bit_reader.BitOrder.{BitOrder}
+use Rattle.hayro_ccitt.specs.declared.error.DecodeError.{DecodeError}
+use Rattle.hayro_ccitt.specs.declared.row_cursor.RowCursor.TheInside.{Inside}
+use Rattle.hayro_ccitt.specs.declared.row_reader.Stand.{Stand}
+use Rattle.hayro_ccitt.specs.Bits.{Bits}
+use Rattle.hayro_ccitt.specs.Context.{Held}
+use Rattle.hayro_ccitt.specs.RowsRead.{RowsRead, Stands, RepairsAreCounted, read_so_far}
+
+-- what is kept of a reading whose data is elsewhere: the context, the order of the bits, the offset of the next bit, that of the
+-- last row's line and its fault where it was repaired, and where the reading is
+pub record Paused : Type 0 where
+  pub held : Held
+  pub order : BitOrder
+  pub place : ℕ
+  pub line_start : ℕ
+  pub damage : Option DecodeError
+  pub stand : Stand
+
+abbrev pub paused_of : Inside → Paused
+paused_of r = record {
+  held = r.rows.ctx.held;
+  order = r.order;
+  place = r.place;
+  line_start = r.rows.started_at;
+  damage = r.rows.damage;
+  stand = r.rows.stand;
+}
+
+-- what was read of these bits
+abbrev pub rows_over : Bits → Paused → RowsRead
+rows_over bits paused = read_so_far paused.held (record { bits = bits; place = paused.place }) paused.line_start paused.damage paused.stand
+
+-- It is a reading of these bits: its rows so far are those of the plain reading.
+pub record IsReadingOf (bits : Bits) (paused : Paused) : Type 0 where
+  pub within : paused.place ≤ length bits
+  pub stands : Stands paused.stand paused.held.settings bits paused.held paused.place
+  pub repairs : RepairsAreCounted paused.held.settings bits paused.held

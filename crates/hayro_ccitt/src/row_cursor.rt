@@ -1,0 +1,167 @@
+//! Rows one at a time, of data that is handed in at each call.
+
+ghost use Rattle.std.specs.Prelude.{◌≡◌, ◌+◌, ◌/◌, None, Some, IfOk, IsOkUnless, Result, length};
+ghost use Rattle.hayro_ccitt.specs.Bits.{BitsFit, bits_in};
+ghost use Rattle.hayro_ccitt.specs.Rows.{AreChanges, changes};
+ghost use Rattle.hayro_ccitt.specs.RowsRead.{ReadsNext, at_end_of_rows, ended};
+ghost use Rattle.hayro_ccitt.specs.RowCursors.{IsReadingOf, rows_over};
+
+use crate::bit_reader::{BitOrder, BitReader};
+use crate::context::DecoderContext;
+use crate::row_reader::{RowState, Stand, first_stand};
+use crate::settings::DecodeSettings;
+use crate::{DecodeError, Result};
+use std::alloc::Global;
+use std::marker::Model;
+
+/// Reads the rows of an image one at a time, as [`RowReader`](crate::RowReader) does, but holds no reference to the data: each
+/// call is handed the data again. It holds two rows in memory and the tables of the code words.
+///
+/// The same data is to be handed in each time. With other data the rows and errors mean nothing, but each call returns, and
+/// reads nothing outside of the data.
+#[derive(Drop)]
+pub struct RowCursor {
+    rows: RowState,
+    order: BitOrder,
+    place: usize,
+}
+
+impl Model for RowCursor {
+    ghost use Rattle.hayro_ccitt.specs.RowCursors.{Paused, paused_of};
+
+    ghost Value = { Paused };
+
+    ghost view = { paused_of };
+}
+
+impl RowCursor {
+    /// A reader of the rows of an image, whose bytes hold their bits in this order. It stands before the first row.
+    ///
+    /// # Errors
+    ///
+    /// `OutOfMemory` where the tables of the code words can't be allocated.
+    pub fn new(
+        alloc: Global,
+        data: &[u8],
+        order: BitOrder,
+        settings: DecodeSettings,
+    ) -> Result<RowCursor>
+        requires fit { BitsFit «data».now }
+        ensures reading { IfOk result (λ rows. IsReadingOf (bits_in order «data».now) rows) }
+        ensures settings { IfOk result (λ rows. rows.held.settings ≡ settings) }
+        ensures order { IfOk result (λ rows. rows.order ≡ order) }
+        ensures none_read { IfOk result (λ rows. rows.held.taken ≡ 0) }
+        ensures only_memory { IsOkUnless result DecodeError.OutOfMemory }
+    {
+        let mut ctx = DecoderContext::new(alloc, settings)?;
+        let mut reader = BitReader::at_place(data, order, 0);
+        let stand = first_stand(&mut ctx, &mut reader);
+        Ok(RowCursor {
+            rows: RowState {
+                ctx,
+                started_at: 0,
+                damage: None,
+                stand,
+            },
+            order,
+            place: reader.bit_pos(),
+        })
+    }
+
+    /// Reads the next row from where the last call came to.
+    fn read_on(&mut self, data: &[u8]) -> Result<bool>
+        requires fit { BitsFit «data».now }
+        requires unended { ended self.old.stand ≡ None }
+        ensures reads { IsReadingOf (bits_in self.old.order «data».now) self.old → ReadsNext
+            (rows_over (bits_in self.old.order «data».now) self.old) (rows_over (bits_in self.old.order «data».now) self.new) result }
+        ensures reading { IsReadingOf (bits_in self.old.order «data».now) self.old → IsReadingOf (bits_in self.old.order «data».now) self.new }
+        ensures settings { self.new.held.settings ≡ self.old.held.settings }
+        ensures order { self.new.order ≡ self.old.order }
+    {
+        if self.place > data.len() * 8 {
+            return Err(DecodeError::UnexpectedEof);
+        }
+        let mut reader = BitReader::at_place(data, self.order, self.place);
+        let answer = self.rows.next_row(&mut reader);
+        self.place = reader.bit_pos();
+        answer
+    }
+
+    /// Reads the next row of the data, and returns whether there was one; its changes are those of [`row`](RowCursor::row). At the
+    /// end of the image it returns `Ok(false)`, and so does each further call.
+    ///
+    /// # Errors
+    ///
+    /// Those of [`decode`](crate::decode), but for `Refused`. After an error each further call returns the same error. Data that
+    /// ends before the place to which the last call came is `UnexpectedEof`.
+    pub fn next_row(&mut self, data: &[u8]) -> Result<bool>
+        requires fit { BitsFit «data».now }
+        ensures reads { IsReadingOf (bits_in self.old.order «data».now) self.old → ended self.old.stand ≡ None → ReadsNext
+            (rows_over (bits_in self.old.order «data».now) self.old) (rows_over (bits_in self.old.order «data».now) self.new) result }
+        ensures reading { IsReadingOf (bits_in self.old.order «data».now) self.old → IsReadingOf (bits_in self.old.order «data».now) self.new }
+        ensures ended { (end : Result (Unit {0}) DecodeError) → ended self.old.stand ≡ Some end
+            → (self.new ≡ self.old) × (result ≡ at_end_of_rows end) }
+        ensures settings { self.new.held.settings ≡ self.old.held.settings }
+        ensures order { self.new.order ≡ self.old.order }
+    {
+        match self.rows.stand {
+            Stand::AtEnd => Ok(false),
+            Stand::AtFault(error) => Err(error),
+            Stand::AtLine | Stand::BehindRow => self.read_on(data),
+        }
+    }
+
+    /// The changes of the last row that was read, in ascending order: the pixels at which its colour changes. There are none
+    /// before the first row.
+    pub fn row(&self) -> &[u32]
+        ensures changes { result.now ≡ changes self.now.held.reference }
+        ensures lawful { AreChanges self.now.held.settings.columns result.now }
+        ensures width { length self.now.held.reference ≡ self.now.held.settings.columns }
+    {
+        self.rows.ctx.reference_row()
+    }
+
+    /// The number of rows that were read.
+    pub fn rows_read(&self) -> u64
+        ensures { result ≡ self.now.held.taken }
+    {
+        self.rows.ctx.decoded_rows()
+    }
+
+    /// The settings that it was made with.
+    pub fn settings(&self) -> DecodeSettings
+        ensures { result ≡ self.now.held.settings }
+    {
+        self.rows.ctx.settings()
+    }
+
+    /// The offset in bits at which the line of the last row begins, after its EOL; in two-dimensional data of Group 3 that of
+    /// its tag bit (T.4 section 4.2.2).
+    pub fn line_start(&self) -> usize
+        ensures { result ≡ self.now.line_start }
+    {
+        self.rows.started_at
+    }
+
+    /// The fault of the last row where its line was damaged and repaired, as a lenient reading of Group 3 with EOLs does (T.4
+    /// section 4.1.2); `None` where the line was whole, and before the first row.
+    pub fn damage(&self) -> Option<DecodeError>
+        ensures { result ≡ self.now.damage }
+    {
+        self.rows.damage
+    }
+
+    /// The number of rows read whose line was damaged and repaired.
+    pub fn damaged_rows(&self) -> u64
+        ensures { result ≡ self.now.held.repairs.rows }
+    {
+        self.rows.ctx.damaged_rows()
+    }
+
+    /// The number of bytes consumed so far, the last one whole.
+    pub fn bytes_read(&self) -> usize
+        ensures { result ≡ (self.now.place + 7) / 8 }
+    {
+        self.place.div_ceil(8)
+    }
+}

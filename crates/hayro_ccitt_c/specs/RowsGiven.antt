@@ -1,0 +1,102 @@
+-- Rows that C is given one at a time.
+use Rattle.std.specs.Prelude.{◌≡◌, ◌≤◌, ◌⊎◌, ◌+◌, ◌/◌, ℕ, Bool, true, false, List, length, take, drop, Option, None, Some, IfSome, Result, Ok, Err}
+use Rattle.hayro_ccitt.specs.declared.bit_reader.BitOrder.{BitOrder}
+use Rattle.hayro_ccitt.specs.declared.error.DecodeError.{DecodeError}
+use Rattle.hayro_ccitt.specs.declared.error.DecodeError.TheVariants.{UnexpectedEof, InvalidCode, Overflow, OutOfMemory, Refused}
+use Rattle.hayro_ccitt.specs.declared.settings.DecodeSettings.{DecodeSettings}
+use Rattle.hayro_ccitt.specs.Bits.{Bits, bits_in, bits_of}
+use Rattle.hayro_ccitt.specs.RowCursors.{Paused, IsReadingOf, rows_over}
+use Rattle.hayro_ccitt.specs.Rows.{Row, changes}
+use Rattle.hayro_ccitt.specs.RowsRead.{ReadsNext, at_end_of_rows, ended}
+use Rattle.fax_encode.specs.Chosen.{filled_up}
+use Rattle.hayro_ccitt_c.specs.Packing.{bytes_of_row}
+use Rattle.hayro_ccitt_c.specs.declared.reading.Reading.{Reading}
+use Rattle.hayro_ccitt_c.specs.declared.row_outcome.RowOutcome.{RowOutcome}
+
+-- whether a row came
+abbrev pub is_row : Result Bool DecodeError → Bool
+is_row (Ok more) = more
+is_row (Err error) = false
+
+-- the status of an answer: 0 for a row, 7 at the end of the image; no reading of rows refuses one
+abbrev pub status_of_row : Result Bool DecodeError → ℕ
+status_of_row (Ok true) = 0
+status_of_row (Ok false) = 7
+status_of_row (Err UnexpectedEof) = 1
+status_of_row (Err InvalidCode) = 2
+status_of_row (Err Overflow) = 3
+status_of_row (Err OutOfMemory) = 4
+status_of_row (Err Refused) = 6
+
+-- What a call leaves of a reading of these bits that reads the next row: the row of the plain reading, or its end; and
+-- behind the end nothing changes. Of other bits nothing is said.
+pub record ReadsRow (bits : Bits) (old new : Paused) (answer : Result Bool DecodeError) : Type 0 where
+  pub reading : IsReadingOf bits old → IsReadingOf bits new
+  pub reads : IsReadingOf bits old → ended old.stand ≡ None → ReadsNext (rows_over bits old) (rows_over bits new) answer
+  pub over : (end : Result (Unit {0}) DecodeError) → ended old.stand ≡ Some end → (new ≡ old) × (answer ≡ at_end_of_rows end)
+  pub order : new.order ≡ old.order
+
+-- the same, but where the last row is still to be given nothing is read
+abbrev pub TurnsTo : Bool → Bits → Paused → Paused → Result Bool DecodeError → Type 0
+TurnsTo true bits old new answer = (new ≡ old) × (answer ≡ Ok true)
+TurnsTo false bits old new answer = ReadsRow bits old new answer
+
+-- What a call leaves that gives the next row: a row that there is no room for is kept, and given by the next call.
+pub record GivesRow (input : List ℕ) (old new : Reading) (status : ℕ) : Type 0 where
+  pub answer : Result Bool DecodeError
+  pub turns : TurnsTo old.is_kept (bits_in old.rows.order input) old.rows new.rows answer
+  pub status_is : (status ≡ status_of_row answer) ⊎ ((status ≡ 5) × (answer ≡ Ok true))
+  pub kept : (new.is_kept ≡ true) → status ≡ 5
+  pub refused : status ≡ 5 → new.is_kept ≡ true
+
+-- the changes of a row stand at the front of the caller's memory, and what lies behind them is as it was
+pub record IsListed (row : Row) (before after : List ℕ) : Type 0 where
+  pub room : length (changes row) ≤ length after
+  pub row_is : take (length (changes row)) after ≡ changes row
+  pub rest : drop (length (changes row)) after ≡ drop (length (changes row)) before
+
+-- a packed row stands at the front of the caller's memory, and what lies behind it is as it was
+pub record IsPacked (columns : ℕ) (row : Row) (before after : List ℕ) : Type 0 where
+  pub room : bytes_of_row columns ≤ length after
+  pub row_is : bits_of (take (bytes_of_row columns) after) ≡ filled_up row
+  pub rest : drop (bytes_of_row columns) after ≡ drop (bytes_of_row columns) before
+
+-- nothing is told
+abbrev pub told_nothing : RowOutcome
+told_nothing = record {
+  rows = 0;
+  changes = 0;
+  line_start = 0;
+  bytes_read = 0;
+  damaged_rows = 0;
+  damage = 0;
+  reserved_1 = 0;
+  reserved_2 = 0;
+}
+
+-- the status of the fault of a row that was repaired, 0 for one that was whole
+abbrev pub damage_told : Option DecodeError → ℕ
+damage_told None = 0
+damage_told (Some error) = status_of_row (Err error)
+
+-- What C is told of a reading: how many rows were read, how many changes the last one has, where its line begins, the bytes
+-- consumed so far, how many rows were repaired, and the fault of the last one.
+pub record TellsOf (paused : Paused) (told : RowOutcome) : Type 0 where
+  pub rows : told.rows ≡ paused.held.taken
+  pub changes : told.changes ≡ length (changes paused.held.reference)
+  pub line_start : told.line_start ≡ paused.line_start
+  pub bytes_read : told.bytes_read ≡ (paused.place + 7) / 8
+  pub damaged_rows : told.damaged_rows ≡ paused.held.repairs.rows
+  pub damage : told.damage ≡ damage_told paused.damage
+
+-- A reading of these bits by these settings that stands before the first row.
+pub record IsOpened (settings : DecodeSettings) (bits : Bits) (order : BitOrder) (opened : Reading) : Type 0 where
+  pub reading : IsReadingOf bits opened.rows
+  pub settings_are : opened.rows.held.settings ≡ settings
+  pub order_is : opened.rows.order ≡ order
+  pub none_read : opened.rows.held.taken ≡ 0
+  pub none_kept : opened.is_kept ≡ false
+
+-- a fact of what two handles stand for
+abbrev pub OnReadings : Option Reading → Option Reading → (Reading → Reading → Type 0) → Type 0
+OnReadings old new P = IfSome old (λ before. IfSome new (λ after. P before after))

@@ -1,0 +1,152 @@
+//! A reading that stands at a row, and gives it to C.
+
+ghost use Rattle.std.specs.Prelude.{◌≡◌, ◌≢◌, ◌<◌, length, not, false, true, IfOk};
+ghost use Rattle.hayro_ccitt.specs.Bits.{BitsFit, bits_in};
+ghost use Rattle.hayro_ccitt.specs.Rows.{changes};
+ghost use Rattle.hayro_ccitt_c.specs.Packing.{bytes_of_row};
+ghost use Rattle.hayro_ccitt_c.specs.RowsGiven.{GivesRow, IsListed, IsOpened, IsPacked, TurnsTo, is_row, status_of_row};
+
+use fax_encode::paint_row;
+use hayro_ccitt::bit_reader::BitOrder;
+use hayro_ccitt::{DecodeError, DecodeSettings, Result, RowCursor};
+use std::alloc::Global;
+
+/// What a handle stands for: a reading, and whether its last row is still to be given.
+#[derive(Drop)]
+pub struct Reading {
+    pub(crate) rows: RowCursor,
+    pub(crate) is_kept: bool,
+}
+
+/// Whether a row came.
+fn is_row(answer: Result<bool>) -> bool
+    ensures { result ≡ is_row answer }
+{
+    match answer {
+        Ok(more) => more,
+        Err(_) => false,
+    }
+}
+
+/// The status of an answer.
+pub(crate) fn status_of_row(answer: Result<bool>) -> u32
+    ensures status { result ≡ status_of_row answer }
+    ensures not_refused { result ≢ 5 }
+    ensures no_row { is_row answer ≡ false → result ≢ 0 }
+{
+    match answer {
+        Ok(true) => 0,
+        Ok(false) => 7,
+        Err(DecodeError::UnexpectedEof) => 1,
+        Err(DecodeError::InvalidCode) => 2,
+        Err(DecodeError::Overflow) => 3,
+        Err(DecodeError::OutOfMemory) => 4,
+        // No reading of rows refuses one.
+        Err(DecodeError::Refused) => 6,
+    }
+}
+
+impl Reading {
+    /// A reading of data that stands before the first row. Its only error is `OutOfMemory`.
+    pub(crate) fn new(
+        alloc: Global,
+        data: &[u8],
+        order: BitOrder,
+        settings: DecodeSettings,
+    ) -> Result<Box<Reading>>
+        requires fit { BitsFit «data».now }
+        ensures opened { IfOk result (λ reading. IsOpened settings (bits_in order «data».now) order reading.value) }
+    {
+        let rows = RowCursor::new(alloc, data, order, settings)?;
+        Box::new(
+            alloc,
+            Reading {
+                rows,
+                is_kept: false,
+            },
+        )
+        .map_err(|_| DecodeError::OutOfMemory)
+    }
+
+    /// Comes to the row that is to be given next.
+    fn come_to_row(&mut self, data: &[u8]) -> Result<bool>
+        requires fit { BitsFit «data».now }
+        ensures turns { TurnsTo self.old.is_kept (bits_in self.old.rows.order «data».now) self.old.rows self.new.rows result }
+        ensures none_kept { self.new.is_kept ≡ false }
+    {
+        if self.is_kept {
+            self.is_kept = false;
+            return Ok(true);
+        }
+        self.rows.next_row(data)
+    }
+
+    /// Gives the last row as a list of its changes, or keeps it where there is no room for it. Returns whether there was.
+    fn list_row(&mut self, list: &mut [u32]) -> bool
+        ensures listed { result ≡ true → IsListed self.old.rows.held.reference list.old list.new }
+        ensures refused { result ≡ false → length list.new < length (changes self.old.rows.held.reference) }
+        ensures unwritten { result ≡ false → list.new ≡ list.old }
+        ensures rows { self.new.rows ≡ self.old.rows }
+        ensures kept { self.new.is_kept ≡ not result }
+    {
+        let row = self.rows.row();
+        let count = row.len();
+        let has_room = count <= list.len();
+        if has_room {
+            list[..count].copy_from_slice(row);
+        }
+        self.is_kept = !has_room;
+        has_room
+    }
+
+    /// Gives the last row packed, or keeps it where there is no room for it. Returns whether there was.
+    fn pack_row(&mut self, bytes: &mut [u8]) -> bool
+        ensures packed { result ≡ true
+            → IsPacked self.old.rows.held.settings.columns self.old.rows.held.reference bytes.old bytes.new }
+        ensures refused { result ≡ false → length bytes.new < bytes_of_row self.old.rows.held.settings.columns }
+        ensures unwritten { result ≡ false → bytes.new ≡ bytes.old }
+        ensures rows { self.new.rows ≡ self.old.rows }
+        ensures kept { self.new.is_kept ≡ not result }
+    {
+        let columns = self.rows.settings().columns;
+        let count = (columns as usize).div_ceil(8);
+        if bytes.len() < count {
+            self.is_kept = true;
+            return false;
+        }
+        paint_row(&mut bytes[..count], columns, self.rows.row());
+        self.is_kept = false;
+        true
+    }
+
+    /// Gives the next row as a list of its changes, and returns the status.
+    pub(crate) fn list_next(&mut self, data: &[u8], list: &mut [u32]) -> u32
+        requires fit { BitsFit «data».now }
+        ensures gives { GivesRow «data».now self.old self.new result }
+        ensures listed { result ≡ 0 → IsListed self.new.rows.held.reference list.old list.new }
+        ensures refused { result ≡ 5 → length list.new < length (changes self.new.rows.held.reference) }
+        ensures unwritten { result ≢ 0 → list.new ≡ list.old }
+    {
+        let answer = self.come_to_row(data);
+        if !is_row(answer) {
+            return status_of_row(answer);
+        }
+        if self.list_row(list) { 0 } else { 5 }
+    }
+
+    /// Gives the next row packed, and returns the status.
+    pub(crate) fn pack_next(&mut self, data: &[u8], bytes: &mut [u8]) -> u32
+        requires fit { BitsFit «data».now }
+        ensures gives { GivesRow «data».now self.old self.new result }
+        ensures packed { result ≡ 0
+            → IsPacked self.new.rows.held.settings.columns self.new.rows.held.reference bytes.old bytes.new }
+        ensures refused { result ≡ 5 → length bytes.new < bytes_of_row self.new.rows.held.settings.columns }
+        ensures unwritten { result ≢ 0 → bytes.new ≡ bytes.old }
+    {
+        let answer = self.come_to_row(data);
+        if !is_row(answer) {
+            return status_of_row(answer);
+        }
+        if self.pack_row(bytes) { 0 } else { 5 }
+    }
+}
