@@ -206,8 +206,9 @@ def versions_agree(version):
     with open("CHANGELOG.md", encoding="utf-8") as file:
         newest = re.search(r"^## (\S+)", file.read(), re.MULTILINE).group(1)
     assert newest == version, f"CHANGELOG.md: {newest}, not {version}"
-    with open("crates/faxrows/src/main.rt", encoding="utf-8") as file:
-        assert f'const VERSION: &str = "faxrows {version}";\n' in file.read(), version
+    for program in ("faxrows", "faxpack"):
+        with open(f"crates/{program}/src/main.rt", encoding="utf-8") as file:
+            assert f'const VERSION: &str = "{program} {version}";\n' in file.read(), version
     for name in ("man/faxrows.1", "man/faxpack.1", "man/hayro_ccitt.3"):
         with open(name, encoding="utf-8") as file:
             assert f'"hayro_ccitt {version}"' in file.read(), name

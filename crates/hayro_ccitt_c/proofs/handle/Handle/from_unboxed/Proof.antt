@@ -10,7 +10,6 @@ use types.ByLocal.{alloc_all, pass_all, free_all, look_at, get, get_in, sets}
 use types.Part.{agg, sub, whole}
 use contract.Monad.{fact, fact_i}
 use contract.Running.{tables}
-use denote.Exit.{yes}
 use denote.RattleType.{RattleType, owns}
 use denote.Signature.{types_at, type_at, plain}
 use denote.RawPtr.{ptr_val}
@@ -34,7 +33,7 @@ abbrev taken : RattleType
 taken = unboxed.the_row reading.the_row heap.the_row ghosts
 
 abbrev stayed : Stays ended.signature.params ended.kept
-stayed = (stay_dropped (plain (λ _. taken)) yes, tt)
+stayed = (stay_dropped (plain (λ _. taken)) ended.kept.0, tt)
 
 pub from_unboxed_spec : {M : Type 1} → statement M
 from_unboxed_spec 𝓤 𝓛 𝓜 𝓡 wired =
@@ -42,7 +41,7 @@ from_unboxed_spec 𝓤 𝓛 𝓜 𝓡 wired =
     let L = heap_laws.the_row_laws in
     let c = clauses 𝓛 𝓜.mem 𝓡.returns in
     let 𝓣 = tables 𝓤 𝓛.H 𝓜 𝓡 𝓡.env in
-    proved_at 𝓛 ended stayed c 𝓜 𝓡 (Goes-dropped 𝓛 0 (plain (λ _. taken)) yes (λ κs x f. refl), tt)
+    proved_at 𝓛 ended stayed c 𝓜 𝓡 (Goes-dropped 𝓛 0 (plain (λ _. taken)) ended.kept.0 (λ κs x f. refl), tt)
     key code.function (code.unfolded 𝓤 𝓛.H 𝓜 𝓡 wired) (λ z are.
     let κs = z.0.0 in
     let given : taken.Denot = z.0.3.0 in
