@@ -168,7 +168,6 @@ NO_WRONG_BODY = {
         "Decoder::push_row",
     },
     # It returns the only value of a type parameter that it has.
-    "faxrows": {"device::Device::into_inner"},
     "fax_program": {"device::Device::into_inner"},
 }
 

@@ -6,9 +6,9 @@ use Rattle.hayro_ccitt.specs.declared.error.DecodeError.TheVariants.{UnexpectedE
 use Rattle.hayro_ccitt.specs.declared.settings.DecodeSettings.{DecodeSettings}
 use Rattle.hayro_ccitt.specs.Bits.{Bits}
 use Rattle.hayro_ccitt.specs.RowsRead.{RowsRead, ReadsNext, line_starts}
+use Rattle.fax_program.specs.Devices.{AppendsFront}
 use Rattle.faxrows.specs.declared.program.Done.TheVariants.{Good, Faulty, Memory}
 use Rattle.faxrows.specs.DamageText.{IsDamageText, IsDamageWithoutMemory, damage_after, damage_lines, damage_of_row, line_of_damage, whole_damage}
-use Rattle.faxrows.specs.Output.{AppendsFront}
 use Rattle.faxrows.specs.Runs.{Outcome, EndsAfter, done_of, outcome_of, rows_of}
 use Rattle.faxrows.specs.RunsByRow.{EndsByRow}
 use Rattle.faxrows.proofs.Outputs.{front_of_longer}

@@ -4,7 +4,8 @@ use Rattle.std.specs.Prelude.{flat_map}
 use Rattle.std.proofs.lemmas.List.{take_more}
 use Rattle.std.proofs.lemmas.Grind.{flat_map-append}
 use Rattle.std.proofs.KnownBytes.{Appends-nil, Appends-trans}
-use Rattle.faxrows.specs.Output.{AppendsFront, PassesOn}
+use Rattle.fax_program.specs.Devices.{AppendsFront}
+use Rattle.faxrows.specs.Output.{PassesOn}
 use Rattle.faxrows.specs.Text.{line_of_row, text_of_change}
 
 -- a text behind what was taken and what waits

@@ -1,6 +1,5 @@
 pub mod Arguments
 pub mod DamageText
-pub mod Faults
 pub mod Output
 pub mod PackedRuns
 pub mod Runs

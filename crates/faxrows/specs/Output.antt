@@ -2,10 +2,6 @@
 use Rattle.std.specs.Prelude.{◌≡◌, ℕ, List, ◌++◌, Option}
 use Rattle.std.specs.Io.KnownBytes.{Appends}
 
--- a writer took a front of a text, and perhaps all of it
-abbrev pub AppendsFront : Option (List ℕ) → Option (List ℕ) → List ℕ → Type 0
-AppendsFront before after text = (front : List ℕ) × (rest : List ℕ) × Appends before after front × (text ≡ front ++ rest)
-
 -- A text came behind bytes that waited to be written. A writer took a front of them and of the text, and what is left waits now.
 abbrev pub PassesOn : Option (List ℕ) → Option (List ℕ) → List ℕ → List ℕ → List ℕ → Type 0
 PassesOn before after waited text waits = (front : List ℕ) × Appends before after front × (waited ++ text ≡ front ++ waits)

@@ -1,6 +1,5 @@
 -- What a run writes.
 use Rattle.std.specs.Prelude.{◌≡◌, ◌<◌, ◌≤◌, ℕ, List, length, map, take, Option, IfSome, Result, Ok, Err}
-use Rattle.std.specs.Io.KnownBytes.{Consumes}
 use Rattle.hayro_ccitt.specs.declared.error.DecodeError.{DecodeError}
 use Rattle.hayro_ccitt.specs.declared.error.DecodeError.TheVariants.{UnexpectedEof, InvalidCode, Overflow, OutOfMemory, Refused}
 use Rattle.hayro_ccitt.specs.declared.settings.DecodeSettings.{DecodeSettings}
@@ -62,7 +61,3 @@ IsTextOfWant settings bits text =
 -- the bytes that a reader supplies
 abbrev pub OnKnown : Option Arguments → Option (List ℕ) → (DecodeSettings → Bits → Type 0) → Type 0
 OnKnown arguments known P = IfSome arguments (λ meant. IfSome known (λ input. P meant.settings (bits_in meant.order input)))
-
--- a statement about the bytes that were read, where the reader specifies what it had and what is left
-abbrev pub WasRead : Option (List ℕ) → Option (List ℕ) → (List ℕ → Type 0) → Type 0
-WasRead before after P = (input : List ℕ) × Consumes before after input × P input

@@ -1,12 +1,12 @@
 //! The arguments of a call, and what they mean.
 
 ghost use Rattle.std.specs.Prelude.{◌≡◌, map, string_bytes};
-ghost use Rattle.std.specs.Char.{is_ascii_digit};
 ghost use Rattle.std.specs.List.{list_all};
-ghost use Rattle.faxrows.specs.Arguments.{arguments_of_words, order_with, mode_of, number_of, are_digits, are_flags, times, has_flag, is_flag, are_apart};
+ghost use Rattle.faxrows.specs.Arguments.{arguments_of_words, are_flags, is_flag, are_apart};
 
+use fax_program::words::{has_flag, mode_of, number_of, order_with, times};
+use hayro_ccitt::DecodeSettings;
 use hayro_ccitt::bit_reader::BitOrder;
-use hayro_ccitt::{DecodeSettings, EncodingMode};
 
 /// What the arguments of a call mean.
 #[derive(Debug, Clone, Copy)]
@@ -46,60 +46,6 @@ pub fn arguments_of(words: &[String]) -> Option<Arguments>
     })
 }
 
-/// The order of bits that the flags ask for.
-fn order_with(flags: &[u8]) -> BitOrder
-    ensures { result ≡ order_with flags.now }
-{
-    if has_flag(flags, b'r') {
-        BitOrder::LowestFirst
-    } else {
-        BitOrder::HighestFirst
-    }
-}
-
-/// The encoding that a word names.
-fn mode_of(word: &str) -> Option<EncodingMode>
-    ensures { result ≡ mode_of word.now }
-{
-    match word {
-        "g4" => Some(EncodingMode::Group4),
-        "1d" => Some(EncodingMode::Group3_1D),
-        "2d" => Some(EncodingMode::Group3_2D),
-        _ => None,
-    }
-}
-
-/// The number that a word of one to ten digits writes, if it is one of 32 bits.
-fn number_of(word: &str) -> Option<u32>
-    ensures { result ≡ number_of word.now }
-{
-    if !are_digits(word) {
-        return None;
-    }
-    word.parse().ok()
-}
-
-/// Whether a word is one to ten digits.
-fn are_digits(word: &str) -> bool
-    ensures { result ≡ are_digits word.now }
-{
-    !word.is_empty() && word.len() <= 10 && are_all_digits(word.as_bytes())
-}
-
-/// Whether all bytes of a word are digits.
-fn are_all_digits(word: &[u8]) -> bool
-    ensures { result ≡ list_all is_ascii_digit word.now }
-{
-    word.iter().all(|byte| byte.is_ascii_digit())
-}
-
-/// Returns how often a byte occurs in a word.
-fn times(word: &[u8], letter: u8) -> usize
-    ensures { result ≡ times letter word.now }
-{
-    word.iter().filter(|byte| **byte == letter).count()
-}
-
 /// Whether a word is `-`, or one or more of the letters b, l, a, s and r, none of them twice.
 fn are_flags(word: &[u8]) -> bool
     ensures { result ≡ are_flags word.now }
@@ -125,11 +71,4 @@ fn are_apart(word: &[u8]) -> bool
         && times(word, b'a') <= 1
         && times(word, b's') <= 1
         && times(word, b'r') <= 1
-}
-
-/// Returns whether a letter occurs in a word.
-fn has_flag(word: &[u8], letter: u8) -> bool
-    ensures { result ≡ has_flag letter word.now }
-{
-    times(word, letter) > 0
 }

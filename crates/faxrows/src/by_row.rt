@@ -3,16 +3,17 @@
 ghost use Rattle.std.specs.Prelude.{◌≡◌, ◌≤◌, ◌↔◌, ◌≢◌, [], IfOk, IfErr, OnOk, OnErr, IfSome, IsOk, IsErr, true, false, map, take, string_bytes, None, Ok, Err, List, ℕ};
 ghost use Rattle.std.specs.Io.KnownBytes.{Appends, IsAtEnd};
 ghost use Rattle.hayro_ccitt.specs.Bits.{BitsFit};
+ghost use Rattle.fax_program.specs.Devices.{AppendsFront, WasRead};
 ghost use Rattle.faxrows.specs.Arguments.{arguments_of_words};
-ghost use Rattle.faxrows.specs.Output.{AppendsFront, PassesOn};
-ghost use Rattle.faxrows.specs.Runs.{Outcome, OnKnown, whole_text, rows_of, text_after, outcome_of, done_of, WasRead};
+ghost use Rattle.faxrows.specs.Output.{PassesOn};
+ghost use Rattle.faxrows.specs.Runs.{Outcome, OnKnown, whole_text, rows_of, text_after, outcome_of, done_of};
 ghost use Rattle.faxrows.specs.RunsByRow.{EndsByRow, IsTextByRow, IsTextWithoutMemory};
 ghost use Rattle.faxrows.specs.Text.{lines_of_rows};
 
 use crate::arguments::arguments_of;
-use crate::device::Device;
 use crate::output::{flush, put_last_line, put_row};
-use crate::program::{Done, RunFault, done_of, read_all};
+use crate::program::{Done, done_of};
+use fax_program::{Device, RunFault, read_all};
 use hayro_ccitt::RowReader;
 use std::alloc::Global;
 use std::io::{Read, Write};

@@ -3,17 +3,18 @@
 ghost use Rattle.std.specs.Prelude.{◌≡◌, ◌<◌, ◌-◌, ◌↔◌, ◌≢◌, ◌++◌, [], IfOk, IfErr, OnOk, OnErr, IfSome, IsOk, IsErr, true, false, map, string_bytes, length, None, Ok, Err, List, ℕ};
 ghost use Rattle.std.specs.Io.KnownBytes.{Appends, IsAtEnd};
 ghost use Rattle.hayro_ccitt.specs.Bits.{BitsFit};
+ghost use Rattle.fax_program.specs.Devices.{AppendsFront, WasRead};
 ghost use Rattle.faxrows.specs.Arguments.{arguments_of_words};
 ghost use Rattle.faxrows.specs.DamageText.{IsDamageText, IsDamageWithoutMemory, damage_after, damage_lines, last_line_of_damage, line_of_damage, whole_damage};
-ghost use Rattle.faxrows.specs.Output.{AppendsFront, PassesOn};
-ghost use Rattle.faxrows.specs.Runs.{Outcome, OnKnown, rows_of, outcome_of, done_of, WasRead};
+ghost use Rattle.faxrows.specs.Output.{PassesOn};
+ghost use Rattle.faxrows.specs.Runs.{Outcome, OnKnown, rows_of, outcome_of, done_of};
 ghost use Rattle.faxrows.specs.RunsByRow.{EndsByRow};
 
 use crate::arguments::arguments_of;
 use crate::damage_lines::{put_bad_end, put_damaged_row, put_good_end};
-use crate::device::Device;
 use crate::output::flush;
-use crate::program::{Done, RunFault, done_of, read_all};
+use crate::program::{Done, done_of};
+use fax_program::{Device, RunFault, read_all};
 use hayro_ccitt::RowReader;
 use std::alloc::Global;
 use std::io::{Read, Write};

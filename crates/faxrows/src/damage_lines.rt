@@ -1,13 +1,13 @@
 //! Lines that tell damage.
 
 ghost use Rattle.std.specs.Prelude.{◌≡◌, ◌≤◌, ◌++◌, ◌∷◌, [], OnOk, OnErr, IfErr, Some, Ok, Err, drop, codes, true, ℕ};
+ghost use Rattle.fax_program.specs.Devices.{AppendsFront};
 ghost use Rattle.faxrows.specs.DamageText.{end_with_fault, line_of_damage, number_and, numbered};
-ghost use Rattle.faxrows.specs.Output.{AppendsFront, PassesOn};
+ghost use Rattle.faxrows.specs.Output.{PassesOn};
 
-use crate::device::Device;
 use crate::digits::{MOST_DIGITS, put_decimal};
 use crate::output::put;
-use crate::program::RunFault;
+use fax_program::{Device, RunFault};
 use hayro_ccitt::DecodeError;
 use std::io::Write;
 

@@ -6,16 +6,13 @@
 //! precede its lines, `a` for aligned rows, `s` for a strict reading, `r` for the lowest bit of each byte first.
 #![tactic(auto)]
 
-ghost use Rattle.std.specs.Prelude.{◌≡◌, ◌<◌, IfOk, IsTrue, length, map, string_bytes};
-ghost use Rattle.faxrows.specs.Arguments.{is_first_word, is_word_alone};
-ghost use Rattle.faxrows.specs.Faults.{status_of_fault};
+ghost use Rattle.std.specs.Prelude.{◌≡◌, IfOk};
 ghost use Rattle.faxrows.specs.Statuses.{IsStatusOfRun, status_of_answer, status_of_done};
 
 mod arguments;
 pub mod by_row;
 pub mod damage;
 mod damage_lines;
-pub mod device;
 mod digits;
 mod last_line;
 mod output;
@@ -25,10 +22,12 @@ pub mod text_sink;
 
 pub use by_row::run_by_row;
 pub use damage::run_damage;
-pub use device::{Device, Failed};
+use fax_program::status_of_fault;
+use fax_program::words::{is_first_word, is_only_word};
+pub use fax_program::{Device, Failed, RunFault};
 use hayro_ccitt::DecodeError;
 pub use packed::run_packed;
-pub use program::{Done, RunFault, run};
+pub use program::{Done, run};
 use std::env;
 use std::process::ExitCode;
 pub use text_sink::TextSink;
@@ -91,31 +90,6 @@ const USAGE: &str =
 
 /// What `--version` prints.
 const VERSION: &str = "faxrows 0.6.0";
-
-/// Whether there is one word, and it is this.
-fn is_only_word(words: &[String], word: &str) -> bool
-    ensures only { result ≡ is_word_alone (map string_bytes words.now) word.now }
-{
-    words.len() == 1 && words[0].as_str() == word
-}
-
-/// Whether there are words, and this is the first of them.
-fn is_first_word(words: &[String], word: &str) -> bool
-    ensures first { result ≡ is_first_word (map string_bytes words.now) word.now }
-    ensures some { IsTrue result → 0 < length words.now }
-{
-    !words.is_empty() && words[0].as_str() == word
-}
-
-/// The status of a run that ended without its text.
-fn status_of_fault(fault: RunFault) -> u8
-    ensures status { result ≡ status_of_fault fault }
-{
-    match fault {
-        RunFault::BadArguments => 2,
-        RunFault::Read | RunFault::Memory | RunFault::TooLong | RunFault::Write => 3,
-    }
-}
 
 /// The status of a run that wrote its text.
 fn status_of_done(done: Done) -> u8

@@ -2,13 +2,13 @@
 
 ghost use Rattle.std.specs.Prelude.{◌≡◌, ◌++◌, ◌<◌, ◌≤◌, ◌^◌, [], drop, OnOk, OnErr, IfErr, true};
 ghost use Rattle.std.specs.Io.KnownBytes.{Appends};
-ghost use Rattle.faxrows.specs.Output.{AppendsFront, PassesOn};
+ghost use Rattle.fax_program.specs.Devices.{AppendsFront};
+ghost use Rattle.faxrows.specs.Output.{PassesOn};
 ghost use Rattle.faxrows.specs.Text.{line_of_outcome, line_of_row, text_of_change};
 
-use crate::device::Device;
 use crate::digits::{MOST_DIGITS, put_decimal};
 use crate::last_line::{ROOM, error_line, put_ok};
-use crate::program::{RunFault, write_all};
+use fax_program::{Device, RunFault, write_all};
 use std::io::Write;
 
 /// The most bytes that are written at once.

@@ -3,15 +3,15 @@
 ghost use Rattle.std.specs.Prelude.{◌≡◌, ◌≤◌, ◌↔◌, ◌≢◌, IfOk, IfErr, OnOk, OnErr, IfSome, true, false, map, string_bytes, None, Ok, Err, List, ℕ};
 ghost use Rattle.std.specs.Io.KnownBytes.{Appends, IsAtEnd};
 ghost use Rattle.hayro_ccitt.specs.Bits.{BitsFit, bits_in};
+ghost use Rattle.fax_program.specs.Devices.{WasRead};
 ghost use Rattle.faxrows.specs.Arguments.{arguments_of_words};
-ghost use Rattle.faxrows.specs.Runs.{OnKnown, WasRead};
+ghost use Rattle.faxrows.specs.Runs.{OnKnown};
 ghost use Rattle.faxrows.specs.PackedRuns.{IsPackedOf, answer_of};
 
 use crate::arguments::arguments_of;
-use crate::device::Device;
-use crate::program::{RunFault, read_all, write_all};
 use fax_encode::BitmapSink;
 use fax_encode::laws::rows_are_packed;
+use fax_program::{Device, RunFault, read_all, write_all};
 use hayro_ccitt::bit_reader::BitOrder;
 use hayro_ccitt::{DecodeError, DecoderContext, decode_in};
 use std::alloc::Global;

@@ -3,19 +3,18 @@
 ghost use Rattle.std.specs.Prelude.{◌≡◌, ◌≤◌, ◌↔◌, ◌≢◌, IfOk, IfErr, OnOk, OnErr, IfSome, IsOk, IsErr, true, false, map, string_bytes, None, Ok, Err, List, ℕ};
 ghost use Rattle.std.specs.Io.KnownBytes.{Appends, IsAtEnd};
 ghost use Rattle.hayro_ccitt.specs.Bits.{BitsFit, bits_in};
+ghost use Rattle.fax_program.specs.Devices.{WasRead};
 ghost use Rattle.faxrows.specs.Arguments.{arguments_of_words};
-ghost use Rattle.faxrows.specs.Output.{AppendsFront};
 ghost use Rattle.faxrows.specs.Text.{line_of_outcome};
-ghost use Rattle.faxrows.specs.Runs.{Outcome, OnKnown, EndsAfter, IsTextOfWant, whole_text, text_after, outcome_of, done_of, WasRead};
+ghost use Rattle.faxrows.specs.Runs.{Outcome, OnKnown, EndsAfter, IsTextOfWant, whole_text, text_after, outcome_of, done_of};
 
 use crate::arguments::arguments_of;
-use crate::device::Device;
 use crate::last_line::{ROOM, error_line, put_ok};
 use crate::text_sink::TextSink;
+use fax_program::{Device, RunFault, read_all, write_all};
 use hayro_ccitt::bit_reader::BitOrder;
 use hayro_ccitt::{DecodeError, DecoderContext, decode_in};
 use std::alloc::Global;
-use std::fmt;
 use std::io::{Read, Write};
 
 /// How a run ended that wrote its text.
@@ -27,40 +26,6 @@ pub enum Done {
     Faulty,
     /// An allocation failed while decoding. The rows that were taken were written.
     Memory,
-}
-
-/// Why a run ended without its text.
-#[derive(Debug, Clone, Copy, PartialEq, Eq)]
-pub enum RunFault {
-    /// The arguments are invalid. Nothing was read or written.
-    BadArguments,
-    /// The reader failed. Nothing was written.
-    Read,
-    /// An allocation failed before decoding. Nothing was written.
-    Memory,
-    /// There are more bytes than can be decoded. Nothing was written.
-    TooLong,
-    /// The writer failed.
-    Write,
-}
-
-impl fmt::Display for RunFault {
-    ghost use Rattle.std.specs.Prelude.{Some};
-    ghost use Rattle.faxrows.specs.Faults.{text_of_fault};
-
-    ghost output = { λ fault. Some (text_of_fault fault) };
-
-    ghost styled_output = { λ fault _. Some (text_of_fault fault) };
-
-    fn fmt<W: fmt::Write>(&self, f: &mut fmt::Formatter<W>) -> fmt::Result {
-        f.write_str(match self {
-            RunFault::BadArguments => "bad arguments",
-            RunFault::Read => "cannot read",
-            RunFault::Memory => "out of memory",
-            RunFault::TooLong => "input too long",
-            RunFault::Write => "cannot write",
-        })
-    }
 }
 
 /// Reads all that the reader has, decodes it with the settings and in the order of bits that the arguments mean, and
@@ -141,67 +106,6 @@ fn write_decoded<W: Write>(
     write_all(writer, lines)?;
     write_last_line(writer, &outcome)?;
     Ok(done_of(&outcome))
-}
-
-/// Reads until the reader has no more.
-pub(crate) fn read_all<R: Read>(
-    alloc: Global,
-    reader: &mut Device<R>,
-) -> std::result::Result<Vec<u8>, RunFault>
-    ensures all { IfOk result (λ input. IfSome (R.remaining reader.old.0) (λ known. input.items ≡ known)) }
-    ensures drained { IfOk result (λ _. IsAtEnd (R.remaining reader.new.0)) }
-    ensures fit { IfOk result (λ input. BitsFit input.items) }
-    ensures too_long { result ≡ Err RunFault.TooLong
-        → IfSome (R.remaining reader.old.0) (λ known. ¬ (BitsFit known)) }
-    ensures fit_so_far { result ≢ Err RunFault.TooLong
-        → WasRead (R.remaining reader.old.0) (R.remaining reader.new.0) BitsFit }
-    ensures read { reader.old.1 ≡ false → ((result ≡ Err RunFault.Read) ↔ (reader.new.1 ≡ true)) }
-    ensures not_write { result ≢ Err RunFault.Write }
-    ensures not_arguments { result ≢ Err RunFault.BadArguments }
-{
-    let mut input = Vec::new(alloc);
-    let mut buffer = [0u8; READ_AT_ONCE];
-    loop {
-        let Ok(count) = reader.read(&mut buffer) else {
-            return Err(RunFault::Read);
-        };
-        if count == 0 {
-            return Ok(input);
-        }
-        if input.len() > MOST_BYTES - count {
-            return Err(RunFault::TooLong);
-        }
-        if input.extend_from_slice(&buffer[..count]).is_err() {
-            return Err(RunFault::Memory);
-        }
-    }
-}
-
-/// How many bytes are read at once.
-const READ_AT_ONCE: usize = 65536;
-
-/// The most bytes that `hayro_ccitt::bits_fit` holds of.
-const MOST_BYTES: usize = (usize::MAX - 64) / 8;
-
-/// Writes bytes until the writer has taken all of them. Where it fails it took a front of them.
-pub(crate) fn write_all<W: Write>(
-    writer: &mut Device<W>,
-    bytes: &[u8],
-) -> std::result::Result<(), RunFault>
-    ensures ok { OnOk result (Appends (W.contents writer.old.0) (W.contents writer.new.0) bytes.now) }
-    ensures front { OnErr result (AppendsFront (W.contents writer.old.0) (W.contents writer.new.0) bytes.now) }
-    ensures flag { OnOk result (writer.new.1 ≡ writer.old.1) }
-    ensures failed { OnErr result (writer.new.1 ≡ true) }
-    ensures only { IfErr result (λ fault. fault ≡ RunFault.Write) }
-{
-    let mut rest = bytes;
-    while !rest.is_empty() {
-        let Ok(count) = writer.write(rest) else {
-            return Err(RunFault::Write);
-        };
-        rest = &rest[count..];
-    }
-    Ok(())
 }
 
 /// Writes the line that says how the decoding ended.

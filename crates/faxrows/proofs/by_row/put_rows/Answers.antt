@@ -1,7 +1,8 @@
 use Rattle.std.proofs.Common.{rules, ◌≡◌, ◌++◌, ◌∙◌, [], take, Ok, List, ℕ, Result, Bool, ap, subst}
 use Rattle.hayro_ccitt.specs.declared.error.DecodeError.{DecodeError}
 use Rattle.hayro_ccitt.specs.RowsRead.{ReadsNext}
-use Rattle.faxrows.specs.Output.{AppendsFront, PassesOn}
+use Rattle.fax_program.specs.Devices.{AppendsFront}
+use Rattle.faxrows.specs.Output.{PassesOn}
 use Rattle.faxrows.specs.Runs.{rows_of}
 use Rattle.faxrows.specs.Text.{line_of_row, lines_of_rows}
 use Rattle.faxrows.proofs.Outputs.{passes_both, front_behind, front_of_longer, pieces_rest}

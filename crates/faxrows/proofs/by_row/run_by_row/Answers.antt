@@ -4,10 +4,10 @@ use Rattle.std.specs.Io.KnownBytes.{Appends}
 use Rattle.std.proofs.lemmas.Result.{IfOk-at_ok, IfErr-at_err}
 use Rattle.hayro_ccitt.specs.declared.settings.DecodeSettings.{DecodeSettings}
 use Rattle.hayro_ccitt.specs.Bits.{Bits}
+use Rattle.fax_program.specs.Devices.{AppendsFront}
 use Rattle.faxrows.specs.declared.program.Done.{Done}
 use Rattle.faxrows.specs.declared.program.Done.TheVariants.{Good, Faulty, Memory}
 use Rattle.faxrows.specs.Arguments.{arguments_of_words}
-use Rattle.faxrows.specs.Output.{AppendsFront}
 use Rattle.faxrows.specs.Runs.{Outcome, EndsAfter, OnKnown, done_of, outcome_of, text_after, whole_text}
 use Rattle.faxrows.specs.RunsByRow.{EndsByRow, IsTextByRow, IsTextWithoutMemory}
 use Rattle.faxrows.proofs.RunsByRow.{text_without_memory}

@@ -1,5 +1,6 @@
 use Rattle.std.proofs.Common.{rules, [], List, ℕ, refl, inl, take}
-use Rattle.faxrows.specs.Output.{AppendsFront, PassesOn}
+use Rattle.fax_program.specs.Devices.{AppendsFront}
+use Rattle.faxrows.specs.Output.{PassesOn}
 use Rattle.faxrows.specs.Runs.{whole_text, rows_of, outcome_of, text_after}
 use Rattle.faxrows.specs.RunsByRow.{IsTextByRow}
 use Rattle.faxrows.specs.Text.{lines_of_rows, line_of_outcome}

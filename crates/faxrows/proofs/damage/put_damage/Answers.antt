@@ -1,8 +1,9 @@
 use Rattle.std.proofs.Common.{rules, ◌≡◌, ◌++◌, ◌-◌, ◌∙◌, [], true, length, Ok, Result, Bool, ap, subst}
 use Rattle.hayro_ccitt.specs.declared.error.DecodeError.{DecodeError}
 use Rattle.hayro_ccitt.specs.RowsRead.{ReadsNext}
+use Rattle.fax_program.specs.Devices.{AppendsFront}
 use Rattle.faxrows.specs.DamageText.{damage_lines, line_of_damage}
-use Rattle.faxrows.specs.Output.{AppendsFront, PassesOn}
+use Rattle.faxrows.specs.Output.{PassesOn}
 use Rattle.faxrows.specs.Runs.{rows_of}
 use Rattle.faxrows.proofs.DamageTexts.{damage_more, front_of_damage}
 use Rattle.faxrows.proofs.Outputs.{passes_both, front_behind}

@@ -1,8 +1,9 @@
 use Rattle.std.proofs.Common.{rules, ◌≡◌, ◌++◌, [], List, ℕ, refl, inl, length, subst}
 use Rattle.hayro_ccitt.specs.declared.settings.DecodeSettings.{DecodeSettings}
 use Rattle.hayro_ccitt.specs.Bits.{Bits}
+use Rattle.fax_program.specs.Devices.{AppendsFront}
 use Rattle.faxrows.specs.DamageText.{IsDamageText, damage_after, damage_lines, last_line_of_damage, whole_damage}
-use Rattle.faxrows.specs.Output.{AppendsFront, PassesOn}
+use Rattle.faxrows.specs.Output.{PassesOn}
 use Rattle.faxrows.specs.Runs.{Outcome, rows_of, outcome_of}
 use Rattle.faxrows.proofs.DamageTexts.{is_damage_text}
 use Rattle.faxrows.proofs.Outputs.{passes_both, front_behind, front_of_more, front_of_waiting}

@@ -1,8 +1,9 @@
 use Rattle.std.proofs.Common.{rules, ◌++◌, List, ℕ, subst}
 use Rattle.std.specs.Prelude.{OnErr, OnOk, codes}
 use Rattle.std.proofs.lemmas.Result.{on_err_weaker, on_ok_weaker}
+use Rattle.fax_program.specs.Devices.{AppendsFront}
 use Rattle.faxrows.specs.DamageText.{numbered, end_with_fault}
-use Rattle.faxrows.specs.Output.{AppendsFront, PassesOn}
+use Rattle.faxrows.specs.Output.{PassesOn}
 use Rattle.faxrows.proofs.Outputs.{passes_both, front_behind, front_of_longer}
 use Rattle.faxrows.proofs.damage_lines.put_damaged_row.Goals as goal
 

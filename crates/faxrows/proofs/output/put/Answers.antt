@@ -1,7 +1,8 @@
 use Rattle.std.proofs.Common.{rules, ◌≡◌, ◌++◌, [], List, ℕ, sym, subst, append-nil}
 use Rattle.std.specs.Io.KnownBytes.{Appends}
 use Rattle.std.proofs.KnownBytes.{Appends-trans}
-use Rattle.faxrows.specs.Output.{AppendsFront, PassesOn}
+use Rattle.fax_program.specs.Devices.{AppendsFront}
+use Rattle.faxrows.specs.Output.{PassesOn}
 use Rattle.faxrows.proofs.Outputs.{passes_both, front_behind, front_of_more}
 use Rattle.faxrows.proofs.output.put.Given.{Over}
 use Rattle.faxrows.proofs.output.put.Goals as goal

@@ -1,6 +1,6 @@
 use Rattle.std.proofs.Common.{◌++◌, ◌∙◌, ◌-◌, List, ℕ, subst, arith, drop, length-drop, take_all}
 use Rattle.std.specs.Prelude.{OnErr}
-use Rattle.faxrows.specs.Output.{AppendsFront}
+use Rattle.fax_program.specs.Devices.{AppendsFront}
 use Rattle.faxrows.proofs.output.put_change.Goals as goal
 
 pub returns-clause-front : goal.returns-clause-front

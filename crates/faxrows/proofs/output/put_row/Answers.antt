@@ -1,7 +1,8 @@
 use Rattle.std.proofs.Common.{rules, ◌≡◌, ◌+◌, ◌++◌, [], ◌∷◌, OnOk, OnErr, List, ℕ, take, get_or, take_all, ap, subst}
 use Rattle.std.specs.Prelude.{flat_map}
 use Rattle.std.proofs.lemmas.Result.{on_err_weaker, on_ok_weaker}
-use Rattle.faxrows.specs.Output.{AppendsFront, PassesOn}
+use Rattle.fax_program.specs.Devices.{AppendsFront}
+use Rattle.faxrows.specs.Output.{PassesOn}
 use Rattle.faxrows.specs.Text.{line_of_row, text_of_change}
 use Rattle.faxrows.proofs.Outputs.{passes_both, front_behind, front_of_line, pieces_more}
 use Rattle.faxrows.proofs.output.put_row.Given.{Over}
