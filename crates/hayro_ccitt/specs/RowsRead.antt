@@ -1,5 +1,5 @@
 -- Rows one at a time: what a reader of rows has read, and what a call leaves that reads the next row.
-use Rattle.std.specs.Prelude.{sum_by, take, ◌==◌, if◌then◌else◌, ◌≡◌, ◌≢◌, ◌≤◌, ◌<◌, ◌+◌, ◌-◌, ◌/◌, ℕ, Bool, true, false, not, drop, List, [], length, get_or, Option, None, Some, Result, Ok, Err, OnErr, IfErr}
+use Rattle.std.specs.Prelude.{sum_by, take, ◌==◌, if◌then◌else◌, ◌≡◌, ◌≢◌, ◌≤◌, ◌<◌, ◌+◌, ◌-◌, ◌/◌, ℕ, Bool, true, false, not, drop, List, [], length, get_or, Option, None, Some, Result, Ok, Err, OnErr, IfOk, IfErr}
 use Rattle.hayro_ccitt.specs.declared.codes.Color.TheVariants.{White}
 use Rattle.hayro_ccitt.specs.declared.error.DecodeError.{DecodeError}
 use Rattle.hayro_ccitt.specs.declared.error.DecodeError.TheVariants.{OutOfMemory, Refused}
@@ -119,6 +119,9 @@ pub record ReadsNext (old new : RowsRead) (result : Result Bool DecodeError) : T
   pub error : IfErr result (λ e. (new.end ≡ Some (Err e)) × (new.taken ≡ old.taken) × HasFailed old.settings old.bits new.taken e)
   -- the place of the fault: the first bit of the line that couldn't be read, or the place where its EOL is missing (T.4, 4.1.2)
   pub fault_start : old.end ≡ None → OnErr result (new.line_start ≡ get_or (line_starts old.settings old.bits) old.taken new.place)
+  -- no row was read: the last row and its fault stay as they were, and at the end the place of its line does
+  pub last : result ≢ Ok true → (new.row ≡ old.row) × (new.damage ≡ old.damage)
+  pub last_start : result ≡ Ok false → new.line_start ≡ old.line_start
 
 -- What a call that passes the gap before the next line leaves: it reaches a line, or the end.
 pub record ComesToLine (old new : RowsRead) (result : Result Bool DecodeError) : Type 0 where
@@ -130,6 +133,9 @@ pub record ComesToLine (old new : RowsRead) (result : Result Bool DecodeError) :
   pub end : result ≡ Ok false → (new.end ≡ Some (Ok tt)) × HasEnded old.settings old.bits new.taken new.place
   pub error : IfErr result (λ e. (new.end ≡ Some (Err e)) × HasFailed old.settings old.bits new.taken e)
   pub fault_start : OnErr result (new.line_start ≡ get_or (line_starts old.settings old.bits) old.taken new.place)
+  -- the last row and its fault stay as they were, and so does the place of its line where the gap is without fault
+  pub last : (new.row ≡ old.row) × (new.damage ≡ old.damage)
+  pub last_start : IfOk result (λ line. new.line_start ≡ old.line_start)
 
 -- what a call returns after the end
 abbrev pub at_end_of_rows : Result (Unit {0}) DecodeError → Result Bool DecodeError

@@ -1,5 +1,5 @@
-use Rattle.std.specs.Prelude.{OnErr}
-use Rattle.std.proofs.Common.{ℕ, get_or, ◌≡◌, ◌∙◌, Bool, Result, length, drop, ap, sym, subst, arith}
+use Rattle.std.specs.Prelude.{OnErr, IfOk, Ok, Err}
+use Rattle.std.proofs.Common.{ℕ, get_or, ◌≡◌, ◌∙◌, Bool, Result, length, drop, ap, sym, subst, arith, refl}
 use Rattle.hayro_ccitt.specs.declared.error.DecodeError.{DecodeError}
 use Rattle.hayro_ccitt.specs.declared.row_reader.Stand.{Stand}
 use Rattle.hayro_ccitt.specs.declared.settings.DecodeSettings.{DecodeSettings}
@@ -7,7 +7,7 @@ use Rattle.hayro_ccitt.specs.Bits.{Bits, here}
 use Rattle.hayro_ccitt.specs.Context.{Held}
 use Rattle.hayro_ccitt.specs.Decoding.{gap_said}
 use Rattle.hayro_ccitt.specs.PlainReading.{gap_behind_row}
-use Rattle.hayro_ccitt.specs.RowsRead.{ComesToLine, Stands, line_starts, read_so_far, stand_after}
+use Rattle.hayro_ccitt.specs.RowsRead.{ComesToLine, Stands, line_starts, read_so_far, start_after, stand_after}
 use Rattle.hayro_ccitt.specs.RowsRead.{IsStanding, seen}
 use Rattle.hayro_ccitt.proofs.Readings.RowByRow.{starts_behind, behind_row_stands, repairs_stay, gap_stands, comes_to_line}
 use Rattle.hayro_ccitt.proofs.row_reader.RowState.come_to_line.Goals as goal
@@ -53,6 +53,18 @@ started c stands =
     c.pass_gap-over.ensures.held c.pass_gap-over.result said
     c.bit_pos-place.result rows.started_at c.bit_pos-place.ensures.place)
 
+-- where it has none, the place of the last row's line stays
+kept : (over : Result Bool DecodeError) (place before : ℕ) → IfOk over (λ b. start_after over place before ≡ before)
+kept (Ok b) place before = refl
+kept (Err error) place before = tt
+
+start_stays : (c : After-line_after_gap)
+    → IfOk c.pass_gap-over.result (λ over. c.start_after_gap-self.result ≡ c.args.self.now.started_at)
+start_stays c =
+    let before = c.args.self.now.started_at in
+    subst (λ (n : ℕ). IfOk c.pass_gap-over.result (λ over. n ≡ before)) (sym c.start_after_gap-self.ensures)
+    (kept c.pass_gap-over.result c.bit_pos-place.result before)
+
 pub returns-clause-stands : goal.returns-clause-stands
 returns-clause-stands c stands =
     let settings = c.args.self.now.ctx.held.settings in
@@ -82,4 +94,4 @@ returns-clause-comes c stands =
     (subst (λ (r : Result Bool DecodeError). ComesToLine old (read_so_far last at start rows.damage
     (stand_after c.pass_gap-over.result)) r) (sym c.line_after_gap.ensures)
     (comes_to_line old last at start rows.damage c.pass_gap-over.result settings c.pass_gap-over.ensures.same_bits
-    taken (passed c stands) (started c stands)))
+    taken (ap (λ (h : Held). h.reference) c.pass_gap-over.ensures.held, refl) (start_stays c) (passed c stands) (started c stands)))

@@ -56,6 +56,9 @@ settings_left c = ap (λ (h : Held). h.settings) c.in-Err.ensures.row.held ∙ a
 taken_left : (c : After-self-in-Err-1) → c.read_row.new.ctx.held.taken ≡ c.args.self.now.ctx.held.taken
 taken_left c = ap (λ (h : Held). h.taken) c.in-Err.ensures.row.held ∙ ap (λ (x : Context). x.held.taken) c.begin_line.ensures.frame
 
+row_left : (c : After-self-in-Err-1) → c.read_row.new.ctx.held.reference ≡ c.args.self.now.ctx.held.reference
+row_left c = ap (λ (h : Held). h.reference) c.in-Err.ensures.row.held ∙ ap (λ (x : Context). x.held.reference) c.begin_line.ensures.frame
+
 -- what it leaves of the count of repairs
 repairs_left : (c : After-self-in-Err-1) → c.read_row.new.ctx.held.repairs ≡ c.args.self.now.ctx.held.repairs
 repairs_left c = ap (λ (h : Held). h.repairs) c.in-Err.ensures.row.held ∙ ap (λ (x : Context). x.held.repairs) c.begin_line.ensures.frame
@@ -101,6 +104,8 @@ returns-in-Ok-clause-reads c at =
       end = λ e. cc;
       error = tt;
       fault_start = λ unended. tt;
+      last = λ none. absurd (none refl);
+      last_start = λ e. cc;
     }
 
 pub returns-in-Err-clause-reads : goal.returns-in-Err-clause-reads
@@ -121,4 +126,6 @@ returns-in-Err-clause-reads c at =
       fault_start = λ unended. line_start_of reader.place reader.bits c.bit_pos-self.result c.bit_pos-self.ensures.place
           c.bit_pos-self.ensures.within
           ∙ starts_there held.settings reader.bits held (here reader) stands c.read_row.new.reader.place;
+      last = λ none. (row_left c, refl);
+      last_start = λ e. cc;
     }
