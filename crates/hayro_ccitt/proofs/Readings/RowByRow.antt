@@ -457,11 +457,44 @@ pub comes_to_line : (old : RowsRead) (last : Held) (at : BitsAt) (n : ℕ) (dama
     → Stands (stand_after answer) old.settings old.bits last at.place → OnErr answer (n ≡ get_or (line_starts old.settings old.bits) old.taken at.place)
     → ComesToLine old (read_so_far last at n damage (stand_after answer)) (line_after answer)
 comes_to_line old last at n damage (Ok true) settings bits taken row begun stands start =
-    record { last = row; last_start = begun; fault_start = tt; settings = settings; bits = bits; taken = taken; line = λ e. cc; unended = λ e. cc; end = λ e. (refl, stands); error = tt }
+    record {
+      last = row;
+      last_start = begun;
+      fault_start = tt;
+      settings = settings;
+      bits = bits;
+      taken = taken;
+      line = λ e. cc;
+      unended = λ e. cc;
+      end = λ e. (refl, stands);
+      error = tt;
+    }
 comes_to_line old last at n damage (Ok false) settings bits taken row begun stands start =
-    record { last = row; last_start = begun; fault_start = tt; settings = settings; bits = bits; taken = taken; line = λ e. refl; unended = λ e. refl; end = λ e. cc; error = tt }
+    record {
+      last = row;
+      last_start = begun;
+      fault_start = tt;
+      settings = settings;
+      bits = bits;
+      taken = taken;
+      line = λ e. refl;
+      unended = λ e. refl;
+      end = λ e. cc;
+      error = tt;
+    }
 comes_to_line old last at n damage (Err error) settings bits taken row begun stands start =
-    record { last = row; last_start = tt; fault_start = start; settings = settings; bits = bits; taken = taken; line = λ e. cc; unended = λ e. cc; end = λ e. cc; error = (refl, stands) }
+    record {
+      last = row;
+      last_start = tt;
+      fault_start = start;
+      settings = settings;
+      bits = bits;
+      taken = taken;
+      line = λ e. cc;
+      unended = λ e. cc;
+      end = λ e. cc;
+      error = (refl, stands);
+    }
 
 -- a fact of settings, bits and a number of rows, of others that are equal
 elsewhere : (P : DecodeSettings → Bits → ℕ → Type 0) (s t : DecodeSettings) (b c : Bits) (m n : ℕ) → s ≡ t → b ≡ c → m ≡ n
@@ -470,20 +503,23 @@ elsewhere P s t b c m n settings bits taken given =
     subst (λ (k : ℕ). P t c k) taken (subst (λ (x : Bits). P t x m) bits (subst (λ (x : DecodeSettings). P x b m) settings given))
 
 -- what a call says that passes a gap, and then reads the line that stands there
-pub reads_on : (old mid new : RowsRead) (result : Result Bool DecodeError) → ComesToLine old mid (Ok true) → ReadsNext mid new result
-    → ReadsNext old new result
+pub reads_on : (old mid new : RowsRead) (result : Result Bool DecodeError) → ComesToLine old mid (Ok true)
+    → ReadsNext mid new result → ReadsNext old new result
 reads_on old mid new result comes reads =
-    let at = λ (P : DecodeSettings → Bits → ℕ → Type 0). elsewhere P mid.settings old.settings mid.bits old.bits mid.taken old.taken
-    comes.settings comes.bits comes.taken in
+    let at = λ (P : DecodeSettings → Bits → ℕ → Type 0). elsewhere P mid.settings old.settings mid.bits old.bits
+    mid.taken old.taken comes.settings comes.bits comes.taken in
     record {
       settings = reads.settings ∙ comes.settings;
       bits = reads.bits ∙ comes.bits;
-      more = at (λ s b n. result ≡ Ok true → (new.end ≡ None) × (new.taken ≡ n + 1) × (new.taken ≤ length (plain s b).rows)) reads.more;
+      more = at (λ s b n. result ≡ Ok true
+          → (new.end ≡ None) × (new.taken ≡ n + 1) × (new.taken ≤ length (plain s b).rows)) reads.more;
       row = at (λ s b n. result ≡ Ok true → new.row ≡ get_or (plain s b).rows n []) reads.row;
       line_start = at (λ s b n. result ≡ Ok true → new.line_start ≡ get_or (line_starts s b) n 0) reads.line_start;
       damage = at (λ s b n. result ≡ Ok true → new.damage ≡ fault_in (get_or (repairs_by_line s b) n [])) reads.damage;
-      end = at (λ s b n. result ≡ Ok false → (new.end ≡ Some (Ok tt)) × (new.taken ≡ n) × HasEnded s b new.taken new.place) reads.end;
-      error = at (λ s b n. IfErr result (λ e. (new.end ≡ Some (Err e)) × (new.taken ≡ n) × HasFailed s b new.taken e)) reads.error;
+      end = at (λ s b n. result ≡ Ok false
+          → (new.end ≡ Some (Ok tt)) × (new.taken ≡ n) × HasEnded s b new.taken new.place) reads.end;
+      error = at (λ s b n. IfErr result (λ e.
+          (new.end ≡ Some (Err e)) × (new.taken ≡ n) × HasFailed s b new.taken e)) reads.error;
       fault_start = λ unended. at (λ s b n. OnErr result (new.line_start ≡ get_or (line_starts s b) n new.place))
           (reads.fault_start (comes.unended refl));
       last = λ none. ((reads.last none).0 ∙ comes.last.0, (reads.last none).1 ∙ comes.last.1);

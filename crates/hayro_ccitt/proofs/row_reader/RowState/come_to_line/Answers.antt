@@ -51,7 +51,7 @@ started c stands =
     (starts_behind held.settings bits held (here c.args.reader.now) behind last at.place
     (omega (arith, c.bit_pos-place.ensures.place, c.bit_pos-place.ensures.within, ap length c.pass_gap-over.ensures.same_bits))
     c.pass_gap-over.ensures.held c.pass_gap-over.result said
-    c.bit_pos-place.result rows.started_at c.bit_pos-place.ensures.place)
+    c.bit_pos-place.result _ c.bit_pos-place.ensures.place)
 
 -- where it has none, the place of the last row's line stays
 kept : (over : Result Bool DecodeError) (place before : ℕ) → IfOk over (λ b. start_after over place before ≡ before)
@@ -63,7 +63,7 @@ start_stays : (c : After-line_after_gap)
 start_stays c =
     let before = c.args.self.now.started_at in
     subst (λ (n : ℕ). IfOk c.pass_gap-over.result (λ over. n ≡ before)) (sym c.start_after_gap-self.ensures)
-    (kept c.pass_gap-over.result c.bit_pos-place.result before)
+    (kept c.pass_gap-over.result c.bit_pos-place.result _)
 
 pub returns-clause-stands : goal.returns-clause-stands
 returns-clause-stands c stands =
@@ -94,4 +94,5 @@ returns-clause-comes c stands =
     (subst (λ (r : Result Bool DecodeError). ComesToLine old (read_so_far last at start rows.damage
     (stand_after c.pass_gap-over.result)) r) (sym c.line_after_gap.ensures)
     (comes_to_line old last at start rows.damage c.pass_gap-over.result settings c.pass_gap-over.ensures.same_bits
-    taken (ap (λ (h : Held). h.reference) c.pass_gap-over.ensures.held, refl) (start_stays c) (passed c stands) (started c stands)))
+    taken (ap (λ (h : Held). h.reference) c.pass_gap-over.ensures.held, refl) (start_stays c)
+    (passed c stands) (started c stands)))

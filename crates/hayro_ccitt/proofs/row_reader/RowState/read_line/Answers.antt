@@ -57,7 +57,8 @@ taken_left : (c : After-self-in-Err-1) → c.read_row.new.ctx.held.taken ≡ c.a
 taken_left c = ap (λ (h : Held). h.taken) c.in-Err.ensures.row.held ∙ ap (λ (x : Context). x.held.taken) c.begin_line.ensures.frame
 
 row_left : (c : After-self-in-Err-1) → c.read_row.new.ctx.held.reference ≡ c.args.self.now.ctx.held.reference
-row_left c = ap (λ (h : Held). h.reference) c.in-Err.ensures.row.held ∙ ap (λ (x : Context). x.held.reference) c.begin_line.ensures.frame
+row_left c = ap (λ (h : Held). h.reference) c.in-Err.ensures.row.held
+    ∙ ap (λ (x : Context). x.held.reference) c.begin_line.ensures.frame
 
 -- what it leaves of the count of repairs
 repairs_left : (c : After-self-in-Err-1) → c.read_row.new.ctx.held.repairs ≡ c.args.self.now.ctx.held.repairs
