@@ -2,11 +2,11 @@
  *
  *   pbm_to_strip MODE FLAGS [K] < picture.pbm > strip
  *
- * MODE is g4, 1d or 2d. FLAGS is -, or letters, each once: b (EOFB or RTC follows the last line), l (an EOL precedes each line), f
- * (EOLs end at bytes), a (rows are aligned to bytes), r (each byte's lowest bit comes first), and s, which has no effect. K is
- * that of two-dimensional lines, 4 without it. The words are those of faxpack. The status is 0 if the picture was encoded, 1 if the
- * input is no such picture, or has no rows or columns to encode, and 2 for wrong arguments, an allocation failure, or an error in
- * reading or writing. */
+ * MODE is g4, 1d or 2d. FLAGS is -, or letters, each once: b (EOFB or RTC follows the last line), l (an EOL precedes each
+ * line), f (EOLs end at bytes), a (rows are aligned to bytes), r (each byte's lowest bit comes first), and s, which has no
+ * effect. K is that of two-dimensional lines, 4 without it. The words are those of faxpack. The status is 0 if the picture was
+ * encoded, 1 if the input is no such picture, or has no rows or columns to encode, and 2 for wrong arguments, an allocation
+ * failure, or an error in reading or writing. */
 #include <fax_encode.h>
 #include <ctype.h>
 #include <stdio.h>
