@@ -10,4 +10,5 @@ pub no_room : (asked : Option EncoderSettings) (columns : ℕ) (bitmap bytes : L
     → IfSome asked (λ s. bits_in s.order bytes ≡ bits_asked s columns bitmap) → count ≡ length bytes → room < count
     → IfSome asked (λ s. HaveNoRoom (bits_asked s columns bitmap) count room)
 no_room None columns bitmap bytes count room are is more = tt
-no_room (Some s) columns bitmap bytes count room are is more = record { size = omega (arith, ap length are, length-bits_in s.order bytes); more = more }
+no_room (Some s) columns bitmap bytes count room are is more =
+    record { size = omega (arith, ap length are, length-bits_in s.order bytes); more = more }

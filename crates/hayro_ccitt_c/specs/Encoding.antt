@@ -25,11 +25,13 @@ encoder_with s encoding = record {
 
 -- the settings of the encoder that C passes, or none: an encoding or a flag that isn't known. 8 is a flag of decoding alone.
 abbrev pub encoder_of : EncodeSettings → Option EncoderSettings
-encoder_of s = if nat_lt s.flags 64 && not (has_flag s.flags 8) then option_map (encoder_with s) (encoding_of s.encoding) else None
+encoder_of s =
+    if nat_lt s.flags 64 && not (has_flag s.flags 8) then option_map (encoder_with s) (encoding_of s.encoding) else None
 
 -- whether settings have an encoding of a bitmap's rows: they name an encoding, and there is a row where one is needed
 abbrev pub can_encode : ℕ → List ℕ → EncoderSettings → Bool
-can_encode columns bitmap s = names_encoding s && not (needs_row s.encoding s.end_of_block && nat_lt (length bitmap) (bytes_of_row columns))
+can_encode columns bitmap s =
+    names_encoding s && not (needs_row s.encoding s.end_of_block && nat_lt (length bitmap) (bytes_of_row columns))
 
 -- whether a bitmap is whole rows of at least one column
 abbrev pub are_whole : ℕ → List ℕ → Bool
