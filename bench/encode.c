@@ -47,7 +47,9 @@ int main(int count, char **words)
     if (count != 6)
         return 2;
     int by_tiff = !strcmp(words[1], "tiff");
-    settings = (fax_encode_settings){strtoul(words[3], NULL, 10), strtoul(words[2], NULL, 10), 0};
+    settings = (fax_encode_settings){strtoul(words[3], NULL, 10), strtoul(words[2], NULL, 10), FAX_ENCODE_END_OF_BLOCK, 0};
+    if (settings.encoding == FAX_ENCODE_GROUP_3_1D)
+        settings.flags += FAX_ENCODE_END_OF_LINE;
     FILE *file = fopen(words[4], "rb");
     if (!file || fseek(file, 0, SEEK_END))
         return 3;

@@ -10,21 +10,30 @@
 extern "C" {
 #endif
 
-/* How the data is encoded: as hayro_ccitt.h numbers it. */
+/* How the lines are encoded: as hayro_ccitt.h numbers it. */
 enum {
-    FAX_ENCODE_GROUP_4 = 0,   /* two-dimensional lines and EOFB (T.6, MMR) */
-    FAX_ENCODE_GROUP_3_1D = 1 /* one-dimensional lines, an EOL before each, and RTC (T.4, MH) */
+    FAX_ENCODE_GROUP_4 = 0,    /* every line is two-dimensional (T.6, MMR) */
+    FAX_ENCODE_GROUP_3_1D = 1, /* one-dimensional lines (T.4, MH) */
+    FAX_ENCODE_GROUP_3_2D = 2  /* a tag before each line says which kind it is (T.4, MR) */
 };
 
-/* The only flag, for Group 4 only. Settings with any other flag, or with another encoding, are invalid. */
+/* Flags, to be added up: as hayro_ccitt.h numbers them, and one more. The settings name no encoding with any other flag or
+ * encoding; with FAX_ENCODE_END_OF_LINE in Group 4; with FAX_ENCODE_EOLS_END_AT_BYTES, or FAX_ENCODE_END_OF_BLOCK of Group 3, but
+ * no FAX_ENCODE_END_OF_LINE; and with FAX_ENCODE_ALIGNED_ROWS and FAX_ENCODE_END_OF_LINE. */
 enum {
-    FAX_ENCODE_ALIGNED_ROWS = 4 /* each row is padded up to a whole byte */
+    FAX_ENCODE_END_OF_BLOCK = 1,      /* EOFB follows the last line of Group 4, or RTC that of Group 3 */
+    FAX_ENCODE_END_OF_LINE = 2,       /* an EOL precedes each line of Group 3 */
+    FAX_ENCODE_ALIGNED_ROWS = 4,      /* each row is padded up to a whole byte */
+    FAX_ENCODE_LOW_FIRST = 16,        /* each byte's lowest bit comes first (TIFF's FillOrder 2), rather than its highest */
+    FAX_ENCODE_EOLS_END_AT_BYTES = 32 /* fill precedes EOLs, so that they end at whole bytes (TIFF's T4Options bit 2) */
 };
 
 typedef struct {
     uint32_t columns;  /* the width in pixels, not 0 */
     uint32_t encoding; /* one of the encodings above */
-    uint32_t flags;    /* the flag above, or 0 */
+    uint32_t flags;    /* a sum of the flags above */
+    uint32_t k;        /* of FAX_ENCODE_GROUP_3_2D, not 0: at most k - 1 two-dimensional lines follow a one-dimensional one (T.4
+                        * section 4.2.1); the other encodings ignore it */
 } fax_encode_settings;
 
 /* What the call fills in, whatever it returns: zeros unless it returns FAX_ENCODE_OK or FAX_ENCODE_REFUSED. */
@@ -38,8 +47,8 @@ enum {
     FAX_ENCODE_OK = 0,
     FAX_ENCODE_OUT_OF_MEMORY = 4, /* an allocation failed */
     FAX_ENCODE_REFUSED = 5,       /* there is no room for the number of bytes in the outcome */
-    FAX_ENCODE_NOT_TAKEN = 6      /* the settings are invalid, the bitmap isn't whole rows, or it is empty and Group 3 is asked
-                                   * for, which has no picture without rows */
+    FAX_ENCODE_NOT_TAKEN = 6      /* the settings name no encoding, there are no columns, the bitmap isn't whole rows, or it is
+                                   * empty: only Group 4 with FAX_ENCODE_END_OF_BLOCK has a picture without rows */
 };
 
 /* Encodes a bitmap. A row of it has (columns + 7) / 8 bytes: one bit a pixel, 1 for black, the leftmost pixel in a byte's

@@ -16,15 +16,18 @@ static void *block(size_t size) {
 }
 
 static void each_encoding(const uint8_t *bitmap, size_t size, uint32_t columns) {
-    static const uint32_t ways[][2] = {
-        {FAX_ENCODE_GROUP_4, 0}, {FAX_ENCODE_GROUP_4, FAX_ENCODE_ALIGNED_ROWS}, {FAX_ENCODE_GROUP_3_1D, 0}};
-    for (size_t way = 0; way < 3; way++) {
-        fax_encode_settings settings = {columns, ways[way][0], ways[way][1]};
+    static const uint32_t closed = FAX_ENCODE_END_OF_BLOCK, lined = FAX_ENCODE_END_OF_LINE;
+    const uint32_t ways[][2] = {
+        {FAX_ENCODE_GROUP_4, closed}, {FAX_ENCODE_GROUP_4, closed + FAX_ENCODE_ALIGNED_ROWS}, {FAX_ENCODE_GROUP_3_1D, closed + lined},
+        {FAX_ENCODE_GROUP_3_1D, FAX_ENCODE_ALIGNED_ROWS}, {FAX_ENCODE_GROUP_3_2D, FAX_ENCODE_LOW_FIRST},
+        {FAX_ENCODE_GROUP_3_2D, closed + lined + FAX_ENCODE_EOLS_END_AT_BYTES}};
+    for (size_t way = 0; way < sizeof ways / sizeof ways[0]; way++) {
+        fax_encode_settings settings = {columns, ways[way][0], ways[way][1], 4};
         fax_encode_outcome wanted, encoded;
         uint8_t *none = block(0);
         uint32_t status = fax_encode_bitmap(bitmap, size, &settings, none, 0, &wanted);
         free(none);
-        if (columns == 0 || (size == 0 && way == 2)) {
+        if (columns == 0 || (size == 0 && way >= 2)) {
             if (status != FAX_ENCODE_NOT_TAKEN) exit(8);
             continue;
         }

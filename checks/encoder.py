@@ -9,27 +9,44 @@ import tempfile
 import c_library
 from left_out import leave_out
 
-# the arguments of the example, and then of its counterpart, with the number of rows
-WAYS = [("g4", "-", "b"), ("g4", "a", "ba"), ("1d", "-", "b")]
-# columns, a bitmap, an encoding, flags, and the bytes, worked out from T.4 and T.6
+# the arguments of the example, whose flags but f serve its counterpart too
+WAYS = [("g4", "b"), ("g4", "ba"), ("1d", "lb"), ("g4", "ar"), ("1d", "a"), ("1d", "lf"), ("2d", "-", "2"), ("2d", "lbf"), ("2d", "lr", "4294967295")]
+# those of them that Ghostscript reads up to their end
+CLOSED = [("g4", "b"), ("g4", "ba"), ("1d", "lb")]
+# columns, a bitmap, an encoding, flags, K, and the bytes, worked out from T.4 and T.6
 KNOWN = [
-    (8, "", 0, 0, "001001"),
-    (8, "18", 0, 0, "31c0040040"),
-    (8, "1818", 0, 0, "31f8008008"),
-    (8, "1818", 0, 4, "31c0e0001001"),
-    (8, "1800", 0, 0, "31c6002002"),
-    (8, "ff", 0, 0, "26a280080080"),
-    (8, "00", 1, 0, "001980080080080080080080"),
-    (8, "18", 1, 0, "0018e0004004004004004004"),
-    (2560, "00" * 320, 1, 0, "00101f35001001001001001001"),
+    (8, "", 0, 1, 0, "001001"),
+    (8, "18", 0, 1, 0, "31c0040040"),
+    (8, "1818", 0, 1, 0, "31f8008008"),
+    (8, "1818", 0, 5, 0, "31c0e0001001"),
+    (8, "1800", 0, 1, 0, "31c6002002"),
+    (8, "ff", 0, 1, 0, "26a280080080"),
+    (8, "00", 1, 3, 0, "001980080080080080080080"),
+    (8, "18", 1, 3, 0, "0018e0004004004004004004"),
+    (2560, "00" * 320, 1, 3, 0, "00101f35001001001001001001"),
+    (8, "18", 0, 16, 0, "8c03"),
+    (8, "18", 0, 0, 0, "31c0"),
+    (8, "0000", 1, 0, 0, "9cc0"),
+    (8, "0000", 1, 4, 0, "9898"),
+    (8, "00", 1, 34, 0, "000198"),
+    (8, "0000", 2, 0, 1, "cf30"),
+    (8, "000000", 2, 0, 2, "cdcc"),
+    (8, "000000", 2, 0, 3, "cd40"),
+    (8, "0000", 2, 2, 2, "001cc005"),
+    (8, "00", 2, 3, 1, "001cc006003001800c006003"),
+    (8, "00", 2, 35, 1, "0001cc00018001800180018001800180"),
 ]
-# columns, bytes of a bitmap, an encoding and flags that are invalid
-UNTAKEN = [(0, 0, 0, 0), (0, 4, 0, 0), (8, 0, 1, 0), (8, 1, 2, 0), (8, 1, 0, 1), (8, 1, 0, 8), (8, 1, 1, 4), (9, 3, 0, 0), (9, 1, 1, 0)]
+# columns, bytes of a bitmap, an encoding, flags and K that are invalid
+UNTAKEN = [
+    (0, 0, 0, 1, 0), (0, 4, 0, 0, 0), (8, 0, 1, 3, 0), (8, 0, 0, 0, 0), (8, 0, 2, 0, 1), (8, 1, 3, 0, 1), (8, 1, 0, 8, 0), (8, 1, 0, 64, 0),
+    (8, 1, 0, 1 << 31, 0), (8, 1, 0, 2, 0), (8, 1, 0, 32, 0), (8, 1, 1, 1, 0), (8, 1, 1, 6, 0), (8, 1, 1, 32, 0), (8, 1, 2, 0, 0), (9, 3, 0, 1, 0),
+    (9, 1, 1, 0, 0),
+]
 OK, REFUSED, NOT_TAKEN = 0, 5, 6
 
 
 class Settings(ctypes.Structure):
-    _fields_ = [(name, ctypes.c_uint32) for name in ("columns", "encoding", "flags")]
+    _fields_ = [(name, ctypes.c_uint32) for name in ("columns", "encoding", "flags", "k")]
 
 
 class Outcome(ctypes.Structure):
@@ -77,20 +94,20 @@ def pictures_come_back():
         encode, decode = examples(folder)
         for columns, bitmap in pictures():
             picture = pbm(columns, bitmap)
-            with open(f"{folder}/picture", "wb") as file:
-                file.write(picture)
-            for mode, flags, read in WAYS:
-                strip = run(picture, encode, mode, flags)
+            rows = len(bitmap) // ((columns + 7) // 8)
+            for mode, flags, *k in WAYS:
+                strip = run(picture, encode, mode, flags, *k)
                 assert (strip.returncode, strip.stderr) == (0, b""), (columns, mode, strip.stderr)
-                assert run(b"", encode, mode, flags, f"{folder}/picture").stdout == strip.stdout
-                again = run(strip.stdout, decode, mode, str(columns), "0", read)
+                again = run(strip.stdout, decode, mode, str(columns), "0" if "b" in flags else str(rows), flags.replace("f", ""))
                 assert (again.returncode, again.stdout, again.stderr) == (0, picture, b""), (columns, mode, flags)
                 seen += 1
                 size += len(strip.stdout)
         for words, picture, status in [
-            (("g4", "-"), b"P4\n# a comment\n 8\t2\n\x18\x18", 0), (("g4", "-"), b"P4\n8 2\n\x18", 1), (("g4", "-"), b"P5\n8 1\n\x18", 1),
-            (("g4", "-"), b"P4\n8 1", 1), (("g4", "-"), b"P4\n4294967296 1\n", 1), (("1d", "-"), b"P4\n8 0\n", 1), (("g4", "-"), b"P4\n0 8\n", 1),
-            (("g4", "-"), b"P4\n4294967295 4294967295\n\x18", 1), (("2d", "-"), b"P4\n8 1\n\x18", 2), (("1d", "a"), b"P4\n8 1\n\x18", 2), (("g4", "-", "/none"), b"", 2),
+            (("g4", "b"), b"P4\n# a comment\n 8\t2\n\x18\x18", 0), (("g4", "-"), b"P4\n8 2\n\x18", 1), (("g4", "-"), b"P5\n8 1\n\x18", 1),
+            (("g4", "-"), b"P4\n8 1", 1), (("g4", "-"), b"P4\n4294967296 1\n", 1), (("1d", "lb"), b"P4\n8 0\n", 1), (("g4", "-"), b"P4\n0 8\n", 1),
+            (("g4", "-"), b"P4\n4294967295 4294967295\n\x18", 1), (("g3", "-"), b"P4\n8 1\n\x18", 2), (("1d", "la"), b"P4\n8 1\n\x18", 2), (("g4", "-", "/none"), b"", 2),
+            (("2d", "-", "0"), b"P4\n8 1\n\x18", 2), (("2d", "ll"), b"P4\n8 1\n\x18", 2), (("2d", "s", "1"), b"P4\n8 1\n\x18", 0), (("g4", "l"), b"", 2),
+            (("2d", "-", "4294967296"), b"P4\n8 1\n\x18", 2), (("1d", "b"), b"P4\n8 1\n\x18", 2),
         ]:
             done = run(picture, encode, *words)
             assert done.returncode == status and (status == 0) == (done.stderr == b"") and (status == 0) == (done.stdout != b""), (words, picture, done)
@@ -98,9 +115,9 @@ def pictures_come_back():
     print(f"  {seen} strips, {size} bytes of them")
 
 
-def called(library, columns, bitmap, encoding, flags, room):
+def called(library, columns, bitmap, encoding, flags, k, room):
     """The status and outcome of the call, and its memory with a guard after it."""
-    settings, outcome, memory = Settings(columns, encoding, flags), Outcome(7, 7), c_library.bytes_lent(room)
+    settings, outcome, memory = Settings(columns, encoding, flags, k), Outcome(7, 7), c_library.bytes_lent(room)
     source = (ctypes.c_uint8 * (len(bitmap) + 1)).from_buffer_copy(bitmap + b"\0")
     answer = library.fax_encode_bitmap(
         source, ctypes.c_size_t(len(bitmap)), ctypes.byref(settings), memory, ctypes.c_size_t(room), ctypes.byref(outcome)
@@ -115,18 +132,18 @@ def calls_that_encode():
     refused = 0
     with tempfile.TemporaryDirectory() as folder:
         library = c_library.loaded(folder)
-        for columns, text, encoding, flags, expected in KNOWN:
+        for columns, text, encoding, flags, k, expected in KNOWN:
             bitmap, expected = bytes.fromhex(text), bytes.fromhex(expected)
             told = len(bitmap) // ((columns + 7) // 8), len(expected)
-            assert called(library, columns, bitmap, encoding, flags, len(expected)) == (OK, told, expected + guard), (columns, text)
-            assert called(library, columns, bitmap, encoding, flags, len(expected) + 9) == (OK, told, expected + b"\xa5" * 9 + guard), (columns, text)
+            assert called(library, columns, bitmap, encoding, flags, k, len(expected)) == (OK, told, expected + guard), (columns, text)
+            assert called(library, columns, bitmap, encoding, flags, k, len(expected) + 9) == (OK, told, expected + b"\xa5" * 9 + guard), (columns, text)
             for room in range(len(expected)):
-                assert called(library, columns, bitmap, encoding, flags, room) == (REFUSED, told, b"\xa5" * room + guard), (columns, text, room)
+                assert called(library, columns, bitmap, encoding, flags, k, room) == (REFUSED, told, b"\xa5" * room + guard), (columns, text, room)
                 refused += 1
         # the bits after a row are ignored
-        assert called(library, 3, b"\x5f\xa0", 0, 0, 16) == called(library, 3, b"\x40\xa0", 0, 0, 16)
-        for columns, size, encoding, flags in UNTAKEN:
-            assert called(library, columns, bytes(size), encoding, flags, 8) == (NOT_TAKEN, (0, 0), b"\xa5" * 8 + guard), (columns, size, encoding, flags)
+        assert called(library, 3, b"\x5f\xa0", 0, 1, 0, 16) == called(library, 3, b"\x40\xa0", 0, 1, 0, 16)
+        for columns, size, encoding, flags, k in UNTAKEN:
+            assert called(library, columns, bytes(size), encoding, flags, k, 8) == (NOT_TAKEN, (0, 0), b"\xa5" * 8 + guard), (columns, size, encoding, flags, k)
     print(f"  {len(KNOWN)} cases, {refused} with too little room, {len(UNTAKEN)} not taken")
 
 
@@ -139,7 +156,7 @@ def encoding_without_memory():
         encode, _ = examples(folder)
         shim = f"{folder}/refuse.so"
         subprocess.run(["gcc", "-shared", "-fPIC", "-o", shim, "checks/refuse.c", "-ldl"], check=True)
-        for mode in ("g4", "1d"):
+        for mode in ("g4", "1d", "2d"):
             whole = (0, run(picture, encode, mode, "-").stdout, b"")
             assert whole[1], mode
             for number in range(1, 100):
@@ -174,7 +191,7 @@ def beside_libtiff():
             picture = pbm(columns, bitmap)
             rows = len(bitmap) // ((columns + 7) // 8)
             words = (str(columns), str(rows), f"{folder}/tiff")
-            ours = {mode: run(picture, encode, mode, "-").stdout for mode in ("g4", "1d")}
+            ours = {mode: run(picture, encode, mode, flags).stdout for mode, flags in (("g4", "b"), ("1d", "lb"))}
             for mode, strip in ours.items():
                 done = run(strip, tool, "decode", mode, *words)
                 assert (done.returncode, done.stdout) == (0, bitmap), (columns, mode, done.stderr)
@@ -211,11 +228,11 @@ def beside_ghostscript():
         encode, _ = examples(folder)
         expected, text = [], DECODE
         for columns, bitmap in pictures():
-            for mode, flags, _ in WAYS:
+            for mode, flags in CLOSED:
                 name = f"{folder}/{len(expected)}"
                 with open(name, "wb") as file:
                     file.write(run(pbm(columns, bitmap), encode, mode, flags).stdout)
-                text += f"({name}) ({name}.bits) {-1 if mode == 'g4' else 0} {columns} {str(flags == 'a').lower()} decode\n"
+                text += f"({name}) ({name}.bits) {-1 if mode == 'g4' else 0} {columns} {str('a' in flags).lower()} decode\n"
                 expected.append(bitmap)
         with open(f"{folder}/decode.ps", "w", encoding="ascii") as file:
             file.write(text + "quit\n")

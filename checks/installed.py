@@ -57,6 +57,7 @@ int main(void)
                 settings.rows = 0;
                 settings.encoding = encoded.encoding = encoding;
                 settings.flags = encoded.flags = flags;
+                encoded.k = 2;
                 one = hayro_ccitt_measure(NULL, 0, &settings, &first);
                 two = hayro_ccitt_measure(&none, 0, &settings, &second);
                 all += !same(one, &first, two, &second);

@@ -132,8 +132,8 @@ def a_dense_row():
             for read, letters in in_both_orders(data, "b"):
                 writes(folder, f"{mode} {columns} 0 {letters}", read, [*picture.text, ok(data)])
                 writes(folder, f"-o {mode} {columns} 0 {letters}", read, [(picture.bitmap, 1)])
-        encodes(library, picture, 0, 0, encoded["g4"])
-        encodes(library, picture, 1, 0, encoded["1d"])
+        encodes(library, picture, 0, 1, encoded["g4"])
+        encodes(library, picture, 1, 3, encoded["1d"])
     print(f"  {columns} columns, {len(strict)} strips")
 
 
@@ -180,9 +180,9 @@ def many_rows():
     with tempfile.TemporaryDirectory() as folder:
         c_library.build()
         library = c_library.loaded(folder)
-        encodes(library, picture, 0, 0, group_4)
-        encodes(library, picture, 0, 4, aligned_4)
-        encodes(library, picture, 1, 0, one)
+        encodes(library, picture, 0, 1, group_4)
+        encodes(library, picture, 0, 5, aligned_4)
+        encodes(library, picture, 1, 3, one)
         decodes(library, picture, "g4", "b", group_4)
         decodes(library, picture, "g4", "bas", aligned_4)
         decodes(library, picture, "1d", "b", one)

@@ -2,7 +2,7 @@
  *
  *   measured_encoding ENCODING COLUMNS
  *
- * It prints the status, the rows and the bytes. Callgrind is given --toggle-collect=measured. */
+ * ENCODING is 0 for Group 4 with EOFB, 1 for one-dimensional Group 3 with EOLs and RTC. It prints the status, the rows and the bytes. Callgrind is given --toggle-collect=measured. */
 #include <stdio.h>
 #include <stdlib.h>
 #include <string.h>
@@ -23,7 +23,9 @@ int main(int count, char **words)
 {
     if (count != 3)
         return 2;
-    settings = (fax_encode_settings){strtoul(words[2], NULL, 10), strtoul(words[1], NULL, 10), 0};
+    settings = (fax_encode_settings){strtoul(words[2], NULL, 10), strtoul(words[1], NULL, 10), FAX_ENCODE_END_OF_BLOCK, 0};
+    if (settings.encoding == FAX_ENCODE_GROUP_3_1D)
+        settings.flags += FAX_ENCODE_END_OF_LINE;
     length = ((size_t)settings.columns + 7) / 8;
     room = 8 * length + 64;
     bitmap = malloc(length);

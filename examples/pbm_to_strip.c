@@ -1,10 +1,12 @@
-/* Encodes a PBM picture (P4) on standard input, or in a file, as a strip of fax data on standard output:
+/* Encodes a PBM picture (P4) on standard input as a strip of fax data on standard output:
  *
- *   pbm_to_strip MODE FLAGS [FILE] < picture.pbm > strip
+ *   pbm_to_strip MODE FLAGS [K] < picture.pbm > strip
  *
- * MODE is g4 or 1d. FLAGS is -, or a: rows of g4 are aligned to bytes. The status is 0 if the picture was encoded, 1 if the input
- * is no such picture, or has no rows or columns to encode, and 2 for wrong arguments, an allocation failure, or an error in reading
- * or writing. */
+ * MODE is g4, 1d or 2d. FLAGS is -, or letters, each once: b (EOFB or RTC follows the last line), l (an EOL precedes each
+ * line), f (EOLs end at bytes), a (rows are aligned to bytes), r (each byte's lowest bit comes first), and s, which has no
+ * effect. K is that of two-dimensional lines, 4 without it. The words are those of faxpack. The status is 0 if the picture was
+ * encoded, 1 if the input is no such picture, or has no rows or columns to encode, and 2 for wrong arguments, an allocation
+ * failure, or an error in reading or writing. */
 #include <fax_encode.h>
 #include <ctype.h>
 #include <stdio.h>
@@ -67,13 +69,47 @@ static int read_picture(FILE *file, uint32_t *columns, uint8_t **bitmap, size_t 
     return failed("out of memory", 2);
 }
 
-static int read_words(char **words, fax_encode_settings *settings)
+/* Reads all of a text as a number of 32 bits. */
+static int read_k(const char *text, uint32_t *k)
 {
-    *settings = (fax_encode_settings){0, strcmp(words[0], "g4") ? FAX_ENCODE_GROUP_3_1D : FAX_ENCODE_GROUP_4, 0};
-    if (!strcmp(words[1], "a"))
-        settings->flags = FAX_ENCODE_ALIGNED_ROWS;
-    return (!strcmp(words[0], "g4") || !strcmp(words[0], "1d")) && (settings->flags || !strcmp(words[1], "-"))
-        && !(settings->flags && settings->encoding == FAX_ENCODE_GROUP_3_1D);
+    uint64_t value = 0;
+    const char *digit = text;
+    for (; *digit >= '0' && *digit <= '9' && value <= UINT32_MAX; digit++)
+        value = 10 * value + (uint64_t)(*digit - '0');
+    *k = (uint32_t)value;
+    return digit != text && !*digit && value <= UINT32_MAX;
+}
+
+/* The sum of the flags that letters name, each at most once; `-` is none. */
+static int read_flags(const char *text, uint32_t *flags)
+{
+    static const char letters[] = "blasrf";
+    const uint32_t strict = 8;
+    *flags = 0;
+    if (!strcmp(text, "-"))
+        return 1;
+    for (const char *flag = text; *flag; flag++) {
+        const char *letter = strchr(letters, *flag);
+        if (!letter || (*flags & 1u << (letter - letters)))
+            return 0;
+        *flags |= 1u << (letter - letters);
+    }
+    *flags &= ~strict;
+    return *text != 0;
+}
+
+/* Reads the words, and has the library say whether they name an encoding: of one white pixel, then. */
+static int read_words(int count, char **words, fax_encode_settings *settings)
+{
+    static const char *const modes[] = {"g4", "1d", "2d"};
+    static const uint8_t white = 0;
+    fax_encode_outcome outcome;
+    uint8_t none;
+    *settings = (fax_encode_settings){1, 0, 0, 4};
+    while (settings->encoding < 3 && strcmp(words[0], modes[settings->encoding]))
+        settings->encoding++;
+    return read_flags(words[1], &settings->flags) && (count < 3 || read_k(words[2], &settings->k))
+        && fax_encode_bitmap(&white, 1, settings, &none, 0, &outcome) != FAX_ENCODE_NOT_TAKEN;
 }
 
 static int encode(const uint8_t *bitmap, size_t length, const fax_encode_settings *settings)
@@ -99,16 +135,11 @@ int main(int count, char **words)
     fax_encode_settings settings;
     uint8_t *bitmap;
     size_t length;
-    if (count < 3 || count > 4 || !read_words(words + 1, &settings)) {
-        fprintf(stderr, "usage: pbm_to_strip MODE FLAGS [FILE]\n");
+    if (count < 3 || count > 4 || !read_words(count - 1, words + 1, &settings)) {
+        fprintf(stderr, "usage: pbm_to_strip MODE FLAGS [K]\n");
         return 2;
     }
-    FILE *file = count == 4 ? fopen(words[3], "rb") : stdin;
-    if (!file)
-        return failed("cannot open the file", 2);
-    int status = read_picture(file, &settings.columns, &bitmap, &length);
-    if (count == 4)
-        fclose(file);
+    int status = read_picture(stdin, &settings.columns, &bitmap, &length);
     if (status == 0)
         status = encode(bitmap, length, &settings);
     free(bitmap);

@@ -1,6 +1,6 @@
 //! The calls of `c/hayro_ccitt.h` and `c/fax_encode.h`. All unsafe code is here.
 
-use crate::{DecodeSettings, EncodedAs, EncodingMode};
+use crate::{DecodeSettings, EncodingMode};
 use core::ffi::c_void;
 
 pub(crate) const OK: u32 = 0;
@@ -9,10 +9,10 @@ pub(crate) const INVALID_CODE: u32 = 2;
 pub(crate) const OVERFLOW: u32 = 3;
 pub(crate) const OUT_OF_MEMORY: u32 = 4;
 pub(crate) const REFUSED: u32 = 5;
+pub(crate) const NOT_TAKEN: u32 = 6;
 pub(crate) const NO_ROW: u32 = 7;
 
 const LOW_FIRST: u32 = 16;
-const ALIGNED_ROWS: u32 = 4;
 
 /// `hayro_ccitt_settings`.
 #[repr(C)]
@@ -34,17 +34,26 @@ impl From<&DecodeSettings> for Settings {
         Self {
             columns: settings.columns,
             rows: settings.rows,
-            encoding: match settings.encoding {
-                EncodingMode::Group4 => 0,
-                EncodingMode::Group3_1D => 1,
-                EncodingMode::Group3_2D => 2,
-            },
-            flags: flags
-                .iter()
-                .rev()
-                .fold(0, |sum, flag| sum * 2 + u32::from(*flag)),
+            encoding: number_of(settings.encoding),
+            flags: sum_of(&flags),
         }
     }
+}
+
+fn number_of(encoding: EncodingMode) -> u32 {
+    match encoding {
+        EncodingMode::Group4 => 0,
+        EncodingMode::Group3_1D => 1,
+        EncodingMode::Group3_2D => 2,
+    }
+}
+
+/// The sum of flags: 1, 2, 4 and so on.
+fn sum_of(flags: &[bool]) -> u32 {
+    flags
+        .iter()
+        .rev()
+        .fold(0, |sum, flag| sum * 2 + u32::from(*flag))
 }
 
 impl Settings {
@@ -95,19 +104,25 @@ pub(crate) struct EncodeSettings {
     columns: u32,
     encoding: u32,
     flags: u32,
+    k: u32,
 }
 
-impl EncodeSettings {
-    pub(crate) fn new(columns: u32, encoded_as: EncodedAs) -> Self {
-        let (encoding, flags) = match encoded_as {
-            EncodedAs::Group4 => (0, 0),
-            EncodedAs::AlignedGroup4 => (0, ALIGNED_ROWS),
-            EncodedAs::Group3_1D => (1, 0),
-        };
+impl From<&crate::EncodeSettings> for EncodeSettings {
+    fn from(settings: &crate::EncodeSettings) -> Self {
+        // The flag of a strict reading, between those of alignment and of the order of bits, isn't one of encoding.
+        let flags = [
+            settings.end_of_block,
+            settings.end_of_line,
+            settings.rows_are_byte_aligned,
+            false,
+            settings.low_first,
+            settings.eols_end_at_bytes,
+        ];
         Self {
-            columns,
-            encoding,
-            flags,
+            columns: settings.columns,
+            encoding: number_of(settings.encoding),
+            flags: sum_of(&flags),
+            k: settings.k,
         }
     }
 }

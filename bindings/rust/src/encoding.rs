@@ -1,18 +1,29 @@
 //! The encoder.
 
-use crate::{c, out_of_memory, zeros};
+use crate::{EncodingMode, c, out_of_memory, zeros};
 use alloc::vec::Vec;
 use core::fmt;
 
-/// What a bitmap is encoded as.
+/// How a bitmap is encoded.
 #[derive(Copy, Clone, Debug, PartialEq, Eq)]
-pub enum EncodedAs {
-    /// Group 4, closed by EOFB.
-    Group4,
-    /// Group 4, each row padded up to a whole byte, closed by EOFB.
-    AlignedGroup4,
-    /// Group 3 with one-dimensional lines, an EOL before each, closed by RTC.
-    Group3_1D,
+pub struct EncodeSettings {
+    /// The width of the image in pixels.
+    pub columns: u32,
+    /// How the lines are encoded.
+    pub encoding: EncodingMode,
+    /// K of two-dimensional Group 3, at least 1: at most K - 1 two-dimensional lines follow a one-dimensional one (T.4 section
+    /// 4.2.1). In the other encodings it has no effect.
+    pub k: u32,
+    /// Whether an EOL precedes each line of Group 3. Group 4 has none.
+    pub end_of_line: bool,
+    /// Whether fill precedes EOLs so that they end at whole bytes, as TIFF's T4Options bit 2 says.
+    pub eols_end_at_bytes: bool,
+    /// Whether each line without an EOL is padded up to a whole byte.
+    pub rows_are_byte_aligned: bool,
+    /// Whether EOFB follows the last line of Group 4, or RTC that of Group 3 with EOLs.
+    pub end_of_block: bool,
+    /// Whether each byte's lowest bit comes first, as in TIFF files of FillOrder 2.
+    pub low_first: bool,
 }
 
 /// Why a bitmap wasn't encoded.
@@ -20,10 +31,13 @@ pub enum EncodedAs {
 pub enum EncodeError {
     /// The width is 0.
     NoColumns,
-    /// The bitmap is empty, which Group 3 has no encoding for.
-    NoRows,
     /// The length of the bitmap isn't a multiple of the length of a row.
     NotWholeRows,
+    /// The bitmap is empty, which only Group 4 with EOFB has an encoding for.
+    NoRows,
+    /// The settings name no encoding: EOLs or fill in Group 4, fill or RTC without EOLs, aligned rows with EOLs, or
+    /// two-dimensional Group 3 with a `k` of 0.
+    NoEncoding,
 }
 
 impl fmt::Display for EncodeError {
@@ -31,6 +45,7 @@ impl fmt::Display for EncodeError {
         f.write_str(match self {
             Self::NoColumns => "no columns",
             Self::NoRows => "no rows",
+            Self::NoEncoding => "no encoding",
             Self::NotWholeRows => "the bitmap isn't whole rows",
         })
     }
@@ -41,41 +56,51 @@ impl core::error::Error for EncodeError {}
 /// Encodes a bitmap, whose rows take `columns.div_ceil(8)` bytes each: one bit a pixel, 1 for black, the leftmost pixel in a byte's
 /// highest bit. Bits after the last pixel of a row are ignored.
 ///
-/// Decoded with these settings, the data gives exactly these rows.
+/// Decoded with the settings that match, the data gives exactly these rows: with the same encoding, `end_of_line` and
+/// `rows_are_byte_aligned`, and either `end_of_block` or the number of rows as the limit.
 ///
 /// # Errors
 ///
-/// As the variants of [`EncodeError`] say.
+/// As the variants of [`EncodeError`] say. The first that applies is returned.
 ///
 /// # Example
 ///
 /// ```
-/// use hayro_ccitt::{encode_bitmap, EncodedAs};
+/// use hayro_ccitt::{encode_bitmap, EncodeSettings, EncodingMode};
 ///
-/// let data = encode_bitmap(&[0b00011000], 8, EncodedAs::Group4)?;
+/// let settings = EncodeSettings {
+///     columns: 8,
+///     encoding: EncodingMode::Group4,
+///     k: 0,
+///     end_of_line: false,
+///     eols_end_at_bytes: false,
+///     rows_are_byte_aligned: false,
+///     end_of_block: true,
+///     low_first: false,
+/// };
+/// let data = encode_bitmap(&[0b00011000], settings)?;
 /// assert_eq!(data, [0x31, 0xC0, 0x04, 0x00, 0x40]);
 /// # Ok::<(), hayro_ccitt::EncodeError>(())
 /// ```
 pub fn encode_bitmap(
     bitmap: &[u8],
-    columns: u32,
-    encoded_as: EncodedAs,
+    settings: EncodeSettings,
 ) -> core::result::Result<Vec<u8>, EncodeError> {
-    let width = columns.div_ceil(8) as usize;
+    let width = settings.columns.div_ceil(8) as usize;
     if width == 0 {
         return Err(EncodeError::NoColumns);
     }
     if bitmap.len() % width != 0 {
         return Err(EncodeError::NotWholeRows);
     }
-    if bitmap.is_empty() && encoded_as == EncodedAs::Group3_1D {
-        return Err(EncodeError::NoRows);
-    }
-    let settings = c::EncodeSettings::new(columns, encoded_as);
+    let settings = c::EncodeSettings::from(&settings);
     // A first call, without room, says how many bytes there are.
     let (status, outcome) = c::encode_bitmap(bitmap, &settings, &mut []);
-    if status == c::OUT_OF_MEMORY {
-        out_of_memory::<u8>(0);
+    match status {
+        c::NOT_TAKEN if bitmap.is_empty() => return Err(EncodeError::NoRows),
+        c::NOT_TAKEN => return Err(EncodeError::NoEncoding),
+        c::OUT_OF_MEMORY => out_of_memory::<u8>(0),
+        _ => {}
     }
     let mut data = zeros(outcome.bytes as usize);
     match c::encode_bitmap(bitmap, &settings, &mut data) {

@@ -55,7 +55,7 @@ mod c;
 mod encoding;
 mod row_reader;
 
-pub use encoding::{EncodeError, EncodedAs, encode_bitmap};
+pub use encoding::{EncodeError, EncodeSettings, encode_bitmap};
 pub use row_reader::RowReader;
 
 use alloc::alloc::{Layout, handle_alloc_error};

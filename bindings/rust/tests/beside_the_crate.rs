@@ -2,8 +2,9 @@
 //! and what its types can be used for; and the calls that the crate doesn't have.
 
 use hayro_ccitt::{
-    DecodeError, DecodeSettings, Decoder, DecoderContext, EncodeError, EncodedAs, EncodingMode,
-    RowReader, decode, decode_low_first, decode_packed, decode_packed_low_first, encode_bitmap,
+    DecodeError, DecodeSettings, Decoder, DecoderContext, EncodeError, EncodeSettings,
+    EncodingMode, RowReader, decode, decode_low_first, decode_packed, decode_packed_low_first,
+    encode_bitmap,
 };
 use std::panic::{AssertUnwindSafe, catch_unwind};
 use std::thread;
@@ -140,40 +141,88 @@ fn packed_rows_in_either_order() {
     assert_eq!(decode_low_first(&turned, &mut sink, &mut context), Ok(2));
 }
 
+/// Settings of an encoder of rows of eight pixels that match the others but for the number of rows.
+fn encode_settings(settings: DecodeSettings, eols_end_at_bytes: bool) -> EncodeSettings {
+    EncodeSettings {
+        columns: 8,
+        encoding: settings.encoding,
+        k: 2,
+        end_of_line: settings.end_of_line,
+        eols_end_at_bytes,
+        rows_are_byte_aligned: settings.rows_are_byte_aligned,
+        end_of_block: settings.end_of_block,
+        low_first: false,
+    }
+}
+
 #[test]
 fn what_is_encoded_decodes_to_it() {
-    let mut context = DecoderContext::new(settings(0));
-    for bitmap in [&[][..], &[0x18], &[0xFF, 0x00, 0xA5]] {
-        let data = encode_bitmap(bitmap, 8, EncodedAs::Group4).unwrap();
-        let image = decode_packed(&data, &mut context);
-        assert_eq!((&image.bytes[..], image.result), (bitmap, Ok(data.len())));
-    }
-    let other = |encoding, rows_are_byte_aligned| {
-        DecoderContext::new(DecodeSettings {
-            encoding,
-            rows_are_byte_aligned,
-            ..settings(0)
-        })
-    };
-    for (encoded_as, mut context) in [
-        (EncodedAs::AlignedGroup4, other(EncodingMode::Group4, true)),
-        (EncodedAs::Group3_1D, other(EncodingMode::Group3_1D, false)),
+    let bitmap = [0xFF, 0x00, 0xA5];
+    let (mut encoded, mut refused) = (0, 0);
+    for encoding in [
+        EncodingMode::Group4,
+        EncodingMode::Group3_1D,
+        EncodingMode::Group3_2D,
     ] {
-        let data = encode_bitmap(&[0xFF, 0x00, 0xA5], 8, encoded_as).unwrap();
-        assert_eq!(decode_packed(&data, &mut context).bytes, [0xFF, 0x00, 0xA5]);
+        for flags in 0..16 {
+            let matching = DecodeSettings {
+                rows: 3,
+                end_of_block: flags & 1 != 0,
+                end_of_line: flags & 2 != 0,
+                rows_are_byte_aligned: flags & 4 != 0,
+                encoding,
+                strict: true,
+                ..settings(0)
+            };
+            let settings = encode_settings(matching, flags & 8 != 0);
+            let low_first = EncodeSettings {
+                low_first: true,
+                ..settings
+            };
+            let Ok(data) = encode_bitmap(&bitmap, settings) else {
+                assert_eq!(
+                    encode_bitmap(&bitmap, settings),
+                    Err(EncodeError::NoEncoding)
+                );
+                refused += 1;
+                continue;
+            };
+            let turned: Vec<u8> = data.iter().map(|byte| byte.reverse_bits()).collect();
+            assert_eq!(encode_bitmap(&bitmap, low_first), Ok(turned));
+            let image = decode_packed(&data, &mut DecoderContext::new(matching));
+            assert_eq!(image.bytes, bitmap);
+            assert!(image.result.is_ok());
+            encoded += 1;
+        }
     }
+    // Group 4: aligned or not, closed or not; Group 3, twice: with EOLs filled or not, closed or not; without, aligned or not.
+    assert_eq!((encoded, refused), (4 + 2 * (4 + 2), 48 - 16));
+}
+
+#[test]
+fn what_has_no_encoding() {
+    let group_4 = encode_settings(settings(0), false);
+    let no_rows = EncodeSettings {
+        end_of_block: false,
+        ..group_4
+    };
+    let of_width = |columns| EncodeSettings { columns, ..group_4 };
+    let no_k = EncodeSettings {
+        encoding: EncodingMode::Group3_2D,
+        k: 0,
+        ..no_rows
+    };
+    assert_eq!(encode_bitmap(&[], group_4), Ok(vec![0x00, 0x10, 0x01]));
+    assert_eq!(encode_bitmap(&[], no_rows), Err(EncodeError::NoRows));
     assert_eq!(
-        encode_bitmap(&[0], 0, EncodedAs::Group4),
+        encode_bitmap(&[0], of_width(0)),
         Err(EncodeError::NoColumns)
     );
     assert_eq!(
-        encode_bitmap(&[0], 9, EncodedAs::Group4),
+        encode_bitmap(&[0], of_width(9)),
         Err(EncodeError::NotWholeRows)
     );
-    assert_eq!(
-        encode_bitmap(&[], 8, EncodedAs::Group3_1D),
-        Err(EncodeError::NoRows)
-    );
+    assert_eq!(encode_bitmap(&[0], no_k), Err(EncodeError::NoEncoding));
 }
 
 /// The memory of this process in kilobytes.

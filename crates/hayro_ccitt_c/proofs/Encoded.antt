@@ -1,12 +1,14 @@
 -- Encoded bits, and the room for them.
 use Rattle.std.proofs.Common.{◌≡◌, ◌<◌, ℕ, List, length, ap, arith, Option, Some, None, IfSome}
-use Rattle.hayro_ccitt.specs.Bits.{Bits, bits_of}
-use Rattle.hayro_ccitt.proofs.BitReading.BitLists.{length-bits_of}
-use Rattle.fax_encode.specs.Chosen.{filled_up}
-use Rattle.hayro_ccitt_c.specs.Encoding.{HaveNoRoom}
+use Rattle.hayro_ccitt.specs.Bits.{bits_in}
+use Rattle.hayro_ccitt.proofs.BitReading.BitLists.{length-bits_in}
+use Rattle.fax_encode.specs.declared.settings.EncodeSettings.{EncodeSettings as EncoderSettings}
+use Rattle.hayro_ccitt_c.specs.Encoding.{HaveNoRoom, bits_asked}
 
 -- bytes of the bits that are asked for, more than there is room for
-pub no_room : (asked : Option Bits) (bytes : List ℕ) (count room : ℕ) → IfSome asked (λ bits. bits_of bytes ≡ filled_up bits) → count ≡ length bytes → room < count
-    → IfSome asked (λ bits. HaveNoRoom bits count room)
-no_room None bytes count room are is more = tt
-no_room (Some bits) bytes count room are is more = record { size = omega (arith, ap length are, length-bits_of bytes); more = more }
+pub no_room : (asked : Option EncoderSettings) (columns : ℕ) (bitmap bytes : List ℕ) (count room : ℕ)
+    → IfSome asked (λ s. bits_in s.order bytes ≡ bits_asked s columns bitmap) → count ≡ length bytes → room < count
+    → IfSome asked (λ s. HaveNoRoom (bits_asked s columns bitmap) count room)
+no_room None columns bitmap bytes count room are is more = tt
+no_room (Some s) columns bitmap bytes count room are is more =
+    record { size = omega (arith, ap length are, length-bits_in s.order bytes); more = more }

@@ -1,46 +1,63 @@
 -- Encoding for callers in C.
-use Rattle.std.specs.Prelude.{◌≡◌, ◌≤◌, ◌<◌, ℕ, ◌%◌, ◌*◌, ◌==◌, ◌&&◌, nat_lt, true, false, List, length, take, drop, Option, Some, None, if◌then◌else◌}
-use Rattle.hayro_ccitt.specs.Bits.{Bits, bits_of}
-use Rattle.fax_encode.specs.Chosen.{chosen_t6, chosen_t4, filled_up}
+use Rattle.std.specs.Prelude.{◌≡◌, ◌≤◌, ◌<◌, ℕ, ◌%◌, ◌*◌, ◌==◌, ◌&&◌, not, Bool, nat_lt, List, length, take, drop, Option, Some, None, option_map, if◌then◌else◌}
+use Rattle.hayro_ccitt.specs.Bits.{Bits, bits_in}
+use Rattle.hayro_ccitt.specs.declared.bit_reader.BitOrder.{BitOrder}
+use Rattle.hayro_ccitt.specs.declared.bit_reader.BitOrder.TheVariants.{HighestFirst, LowestFirst}
+use Rattle.hayro_ccitt.specs.declared.settings.EncodingMode.{EncodingMode}
+use Rattle.fax_encode.specs.Chosen.{filled_up}
 use Rattle.fax_encode.specs.Packed.{bytes_of_row, shown}
-use Rattle.hayro_ccitt_c.specs.declared.encoding.Coding.{Coding}
-use Rattle.hayro_ccitt_c.specs.declared.encoding.Coding.TheVariants.{Group4, AlignedGroup4, Group3}
+use Rattle.fax_encode.specs.Settings.{chosen, names_encoding, needs_row}
+use Rattle.fax_encode.specs.declared.settings.EncodeSettings.{EncodeSettings as EncoderSettings}
+use Rattle.hayro_ccitt_c.specs.Settings.{encoding_of, has_flag}
 use Rattle.hayro_ccitt_c.specs.declared.encoding.EncodeSettings.{EncodeSettings}
 
--- the encoding that C asks for, or none: Group 4 is 0, with 4 in its flags if rows are aligned, and Group 3 in one
--- dimension is 1, which has no flags
-abbrev pub coding_of : EncodeSettings → Option Coding
-coding_of s =
-    if s.encoding == 0 && s.flags == 0 then Some Group4
-    else if s.encoding == 0 && s.flags == 4 then Some AlignedGroup4
-    else if s.encoding == 1 && s.flags == 0 then Some Group3
-    else None
+-- the settings of the encoder with this encoding: flags as for decoding, and 32 if EOLs end at whole bytes
+abbrev pub encoder_with : EncodeSettings → EncodingMode → EncoderSettings
+encoder_with s encoding = record {
+  encoding = encoding;
+  k = s.k;
+  end_of_line = has_flag s.flags 2;
+  eols_end_at_bytes = has_flag s.flags 32;
+  rows_are_byte_aligned = has_flag s.flags 4;
+  end_of_block = has_flag s.flags 1;
+  order = if has_flag s.flags 16 then LowestFirst else HighestFirst;
+}
 
--- the bits of a bitmap's rows in an encoding; none for Group 3 if there is no whole row
-abbrev pub coded : ℕ → List ℕ → Coding → Option Bits
-coded columns bitmap Group4 = Some (chosen_t6 columns false (shown columns bitmap))
-coded columns bitmap AlignedGroup4 = Some (chosen_t6 columns true (shown columns bitmap))
-coded columns bitmap Group3 = if nat_lt (length bitmap) (bytes_of_row columns) then None else Some (chosen_t4 (shown columns bitmap))
+-- the settings of the encoder that C passes, or none: an encoding or a flag that isn't known. 8 is a flag of decoding alone.
+abbrev pub encoder_of : EncodeSettings → Option EncoderSettings
+encoder_of s =
+    if nat_lt s.flags 64 && not (has_flag s.flags 8) then option_map (encoder_with s) (encoding_of s.encoding) else None
 
--- the bits of a bitmap's rows in an encoding that may be none; none either if there are no columns, or if the bitmap isn't
--- whole rows
-abbrev pub coded_whole : ℕ → List ℕ → Option Coding → Option Bits
-coded_whole columns bitmap None = None
-coded_whole columns bitmap (Some coding) =
-    if nat_lt 0 columns && length bitmap % bytes_of_row columns == 0 then coded columns bitmap coding else None
+-- whether settings have an encoding of a bitmap's rows: they name an encoding, and there is a row where one is needed
+abbrev pub can_encode : ℕ → List ℕ → EncoderSettings → Bool
+can_encode columns bitmap s =
+    names_encoding s && not (needs_row s.encoding s.end_of_block && nat_lt (length bitmap) (bytes_of_row columns))
 
--- the bits that C asks for, or none
-abbrev pub asked : EncodeSettings → List ℕ → Option Bits
-asked s bitmap = coded_whole s.columns bitmap (coding_of s)
+-- whether a bitmap is whole rows of at least one column
+abbrev pub are_whole : ℕ → List ℕ → Bool
+are_whole columns bitmap = nat_lt 0 columns && length bitmap % bytes_of_row columns == 0
 
--- The caller's memory begins with these bits, in this number of bytes, with zeros up to the end of the last one; and what
--- lies after them is as it was.
-pub record AreEncoded (bits : Bits) (count : ℕ) (before after : List ℕ) : Type 0 where
-  pub bits_are : bits_of (take count after) ≡ filled_up bits
+-- settings that may be none; none too if the bitmap isn't whole rows, or has no encoding by them
+abbrev pub of_bitmap : ℕ → List ℕ → Option EncoderSettings → Option EncoderSettings
+of_bitmap columns bitmap None = None
+of_bitmap columns bitmap (Some s) =
+    if are_whole columns bitmap then (if can_encode columns bitmap s then Some s else None) else None
+
+-- the settings of the encoder by which C asks for a bitmap's encoding, or none
+abbrev pub asked : EncodeSettings → List ℕ → Option EncoderSettings
+asked s bitmap = of_bitmap s.columns bitmap (encoder_of s)
+
+-- the bits of a bitmap's rows, filled up to a whole byte
+abbrev pub bits_asked : EncoderSettings → ℕ → List ℕ → Bits
+bits_asked s columns bitmap = filled_up (chosen s columns (shown columns bitmap))
+
+-- The caller's memory begins with these bits, in this order and this number of bytes; and what lies after them is as it was.
+pub record AreEncoded (order : BitOrder) (bits : Bits) (count : ℕ) (before after : List ℕ) : Type 0 where
+  pub bits_are : bits_in order (take count after) ≡ bits
   pub rest : drop count after ≡ drop count before
   pub room : count ≤ length after
 
--- Bits, filled up, need this number of bytes, which is more than there is room for.
+-- Bits need this number of bytes, which is more than there is room for.
 pub record HaveNoRoom (bits : Bits) (count : ℕ) (room : ℕ) : Type 0 where
-  pub size : 8 * count ≡ length (filled_up bits)
+  pub size : 8 * count ≡ length bits
   pub more : room < count

@@ -1,12 +1,13 @@
 //! Encoding for callers in C: what they ask for, and what is returned. `c/fax_encode.h` declares it.
 
-ghost use Rattle.std.specs.Prelude.{◌≡◌, ◌<◌, ◌↔◌, ◌%◌, ◌==◌, ◌&&◌, nat_lt, IfOk, IfSome};
-ghost use Rattle.hayro_ccitt.specs.Bits.{bits_of};
-ghost use Rattle.fax_encode.specs.Chosen.{filled_up};
+ghost use Rattle.std.specs.Prelude.{◌≡◌, ◌<◌, ◌↔◌, ◌%◌, ◌==◌, ◌&&◌, false, nat_lt, IfOk, IfSome};
+ghost use Rattle.hayro_ccitt.specs.Bits.{bits_in};
 ghost use Rattle.fax_encode.specs.Packed.{bytes_of_row};
-ghost use Rattle.hayro_ccitt_c.specs.Encoding.{asked, coded, coding_of};
+ghost use Rattle.hayro_ccitt_c.specs.Encoding.{asked, bits_asked, can_encode, encoder_of};
 
-use fax_encode::{EncodeError, encode_bitmap_1d, encode_bitmap_g4};
+use crate::settings::encoding_of;
+use fax_encode::{EncodeError, encode_bitmap};
+use hayro_ccitt::bit_reader::BitOrder;
 use std::alloc::Global;
 
 /// The settings of encoding as C writes them.
@@ -15,10 +16,14 @@ use std::alloc::Global;
 pub struct EncodeSettings {
     /// The width of the image in pixels.
     pub columns: u32,
-    /// 0 for Group 4, 1 for Group 3 in one dimension.
+    /// 0 for Group 4, 1 for Group 3 in one dimension, 2 for Group 3 in two.
     pub encoding: u32,
-    /// 4 if rows of Group 4 are aligned to whole bytes, else 0.
+    /// A sum: 1 if EOFB or RTC follows the last row, 2 if an EOL precedes each line, 4 if rows are aligned to whole bytes, 16 if
+    /// each byte's lowest bit comes first, 32 if EOLs end at whole bytes.
     pub flags: u32,
+    /// K of Group 3 in two dimensions, at least 1: at most K - 1 two-dimensional lines follow a one-dimensional one (T.4 section
+    /// 4.2.1). It has no effect in the other encodings.
+    pub k: u32,
 }
 
 /// The result of encoding, for C.
@@ -31,17 +36,6 @@ pub struct EncodeOutcome {
     pub bytes: u64,
 }
 
-/// The encodings that C can ask for.
-#[derive(Copy, Clone)]
-pub(crate) enum Coding {
-    /// Group 4.
-    Group4,
-    /// Group 4, with its rows aligned to whole bytes.
-    AlignedGroup4,
-    /// Group 3 in one dimension, with EOLs.
-    Group3,
-}
-
 /// Why nothing was encoded.
 #[derive(Copy, Clone)]
 pub(crate) enum Unencoded {
@@ -51,19 +45,27 @@ pub(crate) enum Unencoded {
     OutOfMemory,
 }
 
-/// Returns the encoding that C asks for, or `None` if it asks for none.
-fn coding_of(settings: &EncodeSettings) -> Option<Coding>
-    ensures { result ≡ coding_of settings.now }
+/// Returns the settings of the encoder that C means, or `None` if they are invalid: an encoding or a flag that isn't known.
+fn encoder_of(settings: &EncodeSettings) -> Option<fax_encode::EncodeSettings>
+    ensures meant { result ≡ encoder_of settings.now }
 {
-    if settings.encoding == 0 && settings.flags == 0 {
-        Some(Coding::Group4)
-    } else if settings.encoding == 0 && settings.flags == 4 {
-        Some(Coding::AlignedGroup4)
-    } else if settings.encoding == 1 && settings.flags == 0 {
-        Some(Coding::Group3)
-    } else {
-        None
+    if settings.flags >= 64 || settings.flags / 8 % 2 == 1 {
+        return None;
     }
+    let encoding = encoding_of(settings.encoding)?;
+    Some(fax_encode::EncodeSettings {
+        encoding,
+        k: settings.k,
+        end_of_line: settings.flags / 2 % 2 == 1,
+        eols_end_at_bytes: settings.flags / 32 % 2 == 1,
+        rows_are_byte_aligned: settings.flags / 4 % 2 == 1,
+        end_of_block: settings.flags % 2 == 1,
+        order: if settings.flags / 16 % 2 == 1 {
+            BitOrder::LowestFirst
+        } else {
+            BitOrder::HighestFirst
+        },
+    })
 }
 
 /// Encodes a bitmap's rows.
@@ -71,19 +73,13 @@ fn bytes_of(
     alloc: Global,
     columns: u32,
     bitmap: &[u8],
-    coding: Coding,
+    settings: fax_encode::EncodeSettings,
 ) -> Result<Vec<u8>, Unencoded>
     requires { 0 < columns }
-    ensures not_taken { (result ≡ Err Unencoded.NotTaken) ↔ (coded columns bitmap.now coding ≡ None) }
-    ensures encoded { IfOk result (λ bytes. IfSome (coded columns bitmap.now coding) (λ bits.
-        bits_of bytes.items ≡ filled_up bits)) }
+    ensures not_taken { (result ≡ Err Unencoded.NotTaken) ↔ (can_encode columns bitmap.now settings ≡ false) }
+    ensures encoded { IfOk result (λ bytes. bits_in settings.order bytes.items ≡ bits_asked settings columns bitmap.now) }
 {
-    let encoded = match coding {
-        Coding::Group4 => encode_bitmap_g4(alloc, columns, bitmap, false),
-        Coding::AlignedGroup4 => encode_bitmap_g4(alloc, columns, bitmap, true),
-        Coding::Group3 => encode_bitmap_1d(alloc, columns, bitmap),
-    };
-    match encoded {
+    match encode_bitmap(alloc, columns, bitmap, settings) {
         Ok(bytes) => Ok(bytes),
         Err(EncodeError::OutOfMemory) => Err(Unencoded::OutOfMemory),
         Err(_) => Err(Unencoded::NotTaken),
@@ -105,14 +101,14 @@ pub(crate) fn encoded(
     settings: &EncodeSettings,
 ) -> Result<Vec<u8>, Unencoded>
     ensures not_taken { (result ≡ Err Unencoded.NotTaken) ↔ (asked settings.now bitmap.now ≡ None) }
-    ensures encoded { IfOk result (λ bytes. IfSome (asked settings.now bitmap.now) (λ bits.
-        bits_of bytes.items ≡ filled_up bits)) }
+    ensures encoded { IfOk result (λ bytes. IfSome (asked settings.now bitmap.now) (λ meant.
+        bits_in meant.order bytes.items ≡ bits_asked meant settings.now.columns bitmap.now)) }
 {
-    let Some(coding) = coding_of(settings) else {
+    let Some(meant) = encoder_of(settings) else {
         return Err(Unencoded::NotTaken);
     };
     if !is_whole(settings.columns, bitmap.len()) {
         return Err(Unencoded::NotTaken);
     }
-    bytes_of(alloc, settings.columns, bitmap, coding)
+    bytes_of(alloc, settings.columns, bitmap, meant)
 }

@@ -10,7 +10,7 @@ ghost use Rattle.hayro_ccitt.specs.PlainReading.{plain};
 ghost use Rattle.hayro_ccitt.specs.Rows.{changes};
 ghost use Rattle.hayro_ccitt.specs.Bits.{BitsFit};
 ghost use Rattle.fax_encode.specs.Packed.{shown};
-ghost use Rattle.hayro_ccitt_c.specs.Encoding.{asked, AreEncoded, HaveNoRoom};
+ghost use Rattle.hayro_ccitt_c.specs.Encoding.{asked, bits_asked, AreEncoded, HaveNoRoom};
 ghost use Rattle.hayro_ccitt_c.specs.Packing.{bytes_of_row};
 ghost use Rattle.hayro_ccitt_c.specs.Reports.{OnSettings, IsReport, changes_taken, damaged_taken, outcome_of, ArePacked, AreListed, numbers_taken};
 ghost use Rattle.hayro_ccitt_c.specs.RowsGiven.{GivesRow, IsListed, IsOpened, IsPacked, OnReadings, TellsOf, told_nothing};
@@ -271,8 +271,8 @@ pub extern "C" fn hayro_ccitt_close(alloc: Global, reader: &mut Reader) -> u32
 /// for black, and bits after the last pixel are ignored. The bytes after the encoded ones keep their values.
 ///
 /// `outcome` has the number of rows and of the encoded bytes if the status is 0 or 5, else 0. A status of 4 says that an
-/// allocation failed; 5, that `data` has no room for that many bytes; 6, that the settings are invalid, or that the bitmap
-/// isn't whole rows, or has none and Group 3 is asked for. With all but 0 `data` keeps its values.
+/// allocation failed; 5, that `data` has no room for that many bytes; 6, that the settings name no encoding, or that the
+/// bitmap isn't whole rows, or has none and only Group 4 closed by EOFB has a picture without rows. With all but 0 `data` keeps its values.
 #[unsafe(no_mangle)]
 pub extern "C" fn fax_encode_bitmap(
     alloc: Global,
@@ -282,10 +282,10 @@ pub extern "C" fn fax_encode_bitmap(
     outcome: &mut EncodeOutcome,
 ) -> u32
     ensures statuses { (result ≡ 0) ⊎ (result ≡ 4) ⊎ (result ≡ 5) ⊎ (result ≡ 6) }
-    ensures encoded { result ≡ 0 → IfSome (asked settings.now bitmap.now) (λ bits.
-        AreEncoded bits outcome.new.bytes «data».old «data».new) }
-    ensures refused { result ≡ 5 → IfSome (asked settings.now bitmap.now) (λ bits.
-        HaveNoRoom bits outcome.new.bytes (length «data».new)) }
+    ensures encoded { result ≡ 0 → IfSome (asked settings.now bitmap.now) (λ meant.
+        AreEncoded meant.order (bits_asked meant settings.now.columns bitmap.now) outcome.new.bytes «data».old «data».new) }
+    ensures refused { result ≡ 5 → IfSome (asked settings.now bitmap.now) (λ meant.
+        HaveNoRoom (bits_asked meant settings.now.columns bitmap.now) outcome.new.bytes (length «data».new)) }
     ensures untaken { (result ≡ 6) ↔ (asked settings.now bitmap.now ≡ None) }
     ensures rows { (result ≡ 0) ⊎ (result ≡ 5) → outcome.new.rows ≡ length (shown settings.now.columns bitmap.now) }
     ensures kept { result ≢ 0 → «data».new ≡ «data».old }

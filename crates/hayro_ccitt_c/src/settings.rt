@@ -24,7 +24,7 @@ pub struct Settings {
 }
 
 /// Returns the encoding that a number stands for, or `None`.
-fn encoding_of(number: u32) -> Option<EncodingMode>
+pub(crate) fn encoding_of(number: u32) -> Option<EncodingMode>
     ensures { result ≡ encoding_of number }
 {
     match number {
