@@ -23,7 +23,8 @@ static const char help[] =
     "               bytes), s (strict), r (the lowest bit of each byte comes first), or - for none (b)\n"
     "\n"
     "The status is 0 if every fax page was decoded whole, 1 if one was not, or there is none, and 2 for a wrong call, an\n"
-    "allocation failure, or an error in reading or writing. Each such page has a line on standard error.\n";
+    "allocation failure, or an error in reading or writing. Each such page has a line on standard error, and so has a page\n"
+    "with rows that were damaged and repaired.\n";
 
 /* No picture has more bytes than this. */
 #define MOST_BYTES ((uint64_t)1 << 30)
@@ -33,6 +34,14 @@ enum { PAGE_WHOLE = 0, PAGE_DAMAGED = 1, CANNOT_GO_ON = 2 };
 static const char *const errors[] = {
     "", "unexpected end of the data", "invalid code", "overflow", "out of memory", "no room for a row", "invalid settings",
 };
+
+/* Tells how many rows were damaged and repaired. */
+static void tell_repairs(uint64_t rows, const char *name)
+{
+    if (rows)
+        fprintf(stderr, "fax2pbm: %s%s%lu %s repaired\n", name ? name : "", name ? ": " : "", (unsigned long)rows,
+                rows > 1 ? "damaged rows were" : "damaged row was");
+}
 
 static int complain(const char *what, const char *name, int status)
 {
@@ -300,29 +309,26 @@ static uint32_t most_rows(const tiff *from, const layout *page)
     return bytes < page->rows / 8 ? (uint32_t)(8 * bytes) : page->rows;
 }
 
-/* Decodes one strip or tile into the picture. Returns how many of its rows were decoded. */
-static uint64_t decode_part(file_bytes part, hayro_ccitt_settings settings, picture *into, uint64_t left, uint64_t top,
-                            uint32_t *status)
+/* Decodes one strip or tile into the picture. Returns the status, and in the outcome how many of its rows were decoded. */
+static uint32_t decode_part(file_bytes part, hayro_ccitt_settings settings, picture *into, uint64_t left, uint64_t top,
+                            hayro_ccitt_outcome *outcome)
 {
-    hayro_ccitt_outcome outcome = {0, 0, 0};
+    uint32_t status = HAYRO_CCITT_OUT_OF_MEMORY;
     size_t width = ((size_t)settings.columns + 7) / 8, wide = into->width - left < width ? into->width - left : width;
     if (top >= into->rows)
-        return 0;
+        return HAYRO_CCITT_OK;
     if (into->rows - top < settings.rows)
         settings.rows = (uint32_t)(into->rows - top);
-    if (width == into->width) { /* as wide as the page: its rows follow each other in the picture */
-        *status = hayro_ccitt_decode_packed(part.bytes, part.length, &settings, into->bytes + top * width,
-                                            settings.rows * width, &outcome);
-        return outcome.rows;
-    }
+    if (width == into->width) /* as wide as the page: its rows follow each other in the picture */
+        return hayro_ccitt_decode_packed(part.bytes, part.length, &settings, into->bytes + top * width, settings.rows * width,
+                                         outcome);
     uint8_t *tile = settings.rows <= MOST_BYTES / width ? malloc(settings.rows * width) : NULL;
-    *status = HAYRO_CCITT_OUT_OF_MEMORY;
     if (tile)
-        *status = hayro_ccitt_decode_packed(part.bytes, part.length, &settings, tile, settings.rows * width, &outcome);
-    for (uint32_t row = 0; row < outcome.rows; row++)
+        status = hayro_ccitt_decode_packed(part.bytes, part.length, &settings, tile, settings.rows * width, outcome);
+    for (uint32_t row = 0; row < outcome->rows; row++)
         memcpy(into->bytes + (top + row) * into->width + left, tile + row * width, wide);
     free(tile);
-    return outcome.rows;
+    return status;
 }
 
 static int decode_tiff_page(const tiff *from, uint64_t at, unsigned number, const options *wanted)
@@ -336,7 +342,7 @@ static int decode_tiff_page(const tiff *from, uint64_t at, unsigned number, cons
         return complain(why, name, PAGE_DAMAGED);
     /* The picture of a page with a false height has only the rows that were decoded. */
     uint32_t rows = most_rows(from, &page);
-    uint64_t end = 0;
+    uint64_t end = 0, repaired = 0;
     picture made = white_picture(page.columns, rows);
     if (!made.bytes)
         return complain("the picture is too large", name, PAGE_DAMAGED);
@@ -349,8 +355,10 @@ static int decode_tiff_page(const tiff *from, uint64_t at, unsigned number, cons
         hayro_ccitt_settings settings = page.settings;
         if (page.rows - top < settings.rows)
             settings.rows = (uint32_t)(page.rows - top);
-        uint32_t status = HAYRO_CCITT_OK;
-        uint64_t decoded = decode_part(part_of(from, &page, part), settings, &made, part % across * (settings.columns / 8), top, &status);
+        hayro_ccitt_outcome outcome = {0};
+        uint32_t status = decode_part(part_of(from, &page, part), settings, &made, part % across * (settings.columns / 8), top, &outcome);
+        uint64_t decoded = outcome.rows;
+        repaired += outcome.damaged_rows;
         if (status == HAYRO_CCITT_OUT_OF_MEMORY) {
             free(made.bytes);
             return complain("out of memory", name, CANNOT_GO_ON);
@@ -363,6 +371,7 @@ static int decode_tiff_page(const tiff *from, uint64_t at, unsigned number, cons
             result = PAGE_DAMAGED;
         }
     }
+    tell_repairs(repaired, name);
     if (rows < page.rows)
         made.rows = (uint32_t)end;
     if (page.is_inverted)
@@ -424,6 +433,7 @@ static int decode_raw(file_bytes file, const options *wanted)
         /* Without a row limit, data that isn't closed ends where the next line would begin. */
         result = status == HAYRO_CCITT_UNEXPECTED_EOF && !wanted->raw.rows && outcome.rows ? PAGE_WHOLE : PAGE_DAMAGED;
     }
+    tell_repairs(outcome.damaged_rows, NULL);
     picture made = {wanted->raw.columns, 0, 0, NULL};
     if (outcome.rows <= UINT32_MAX)
         made = white_picture(wanted->raw.columns, (uint32_t)outcome.rows);
