@@ -1,4 +1,4 @@
-//! Readers and writers of which one can tell whether they have failed.
+//! Readers and writers that record whether they have failed.
 
 ghost use Rattle.std.specs.Prelude.{◌≡◌, ◌<◌, [], Ok, OnOk, OnErr, IfOk, true, false, length};
 ghost use Rattle.std.specs.Io.KnownBytes.{ReadConsumes, WriteAppends};
@@ -49,7 +49,7 @@ impl<T> Device<T> {
         inner
     }
 
-    /// Says that the device has failed.
+    /// Records that the device has failed.
     fn fail(&mut self) -> Failed
         ensures inner { self.new.0 ≡ self.old.0 }
         ensures flag { self.new.1 ≡ true }
