@@ -94,7 +94,7 @@ impl Encoder {
         })
     }
 
-    /// Adds a row. Until all of it is added, the encoder counts as out of memory.
+    /// Adds a row. Until all of it is added, the encoder is marked as out of memory.
     fn add(&mut self, changes: &[u32]) -> Result<(), AllocError>
         requires lawful { AreChanges self.old.columns changes.now }
         requires memory { self.old.wants_memory ≡ false }
@@ -151,7 +151,7 @@ impl Encoder {
         }
     }
 
-    /// Adds the first row of a bitmap. Until all of it is added, the encoder counts as out of memory.
+    /// Adds the first row of a bitmap. Until all of it is added, the encoder is marked as out of memory.
     fn add_packed(&mut self, bitmap: &[u8]) -> Result<(), AllocError>
         requires whole { bytes_of_row self.old.columns ≤ length bitmap.now }
         requires memory { self.old.wants_memory ≡ false }

@@ -42,7 +42,7 @@ pub fn put_filled_eol(writer: &mut BitWriter, fills: bool) -> Result<(), AllocEr
     writer.put(1, 12 + fill)
 }
 
-/// Writes an EOL and the tag behind it (T.4, section 4.2.4).
+/// Writes an EOL and the tag after it (T.4, section 4.2.4).
 fn put_tagged_eol(
     writer: &mut BitWriter,
     encoding: EncodingMode,
