@@ -23,7 +23,7 @@ pub fn put_eol(writer: &mut BitWriter) -> Result<(), AllocError>
     writer.put(1, 12)
 }
 
-/// How many zeros of fill the next EOL takes.
+/// Returns the number of zeros of fill before the next EOL.
 #[inline(always)]
 fn fill_of(writer: &BitWriter, fills: bool) -> u32
     ensures fill { result ≡ fill_of fills (length (all_bits writer.now)) }

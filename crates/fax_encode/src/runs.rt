@@ -95,7 +95,7 @@ pub fn put_row(writer: &mut BitWriter, columns: u32, changes: &[u32]) -> Result<
     put_run(writer, Color::Black, columns - black)
 }
 
-/// The number of bits of the words of a run.
+/// Returns the number of bits of the code words of a run.
 #[inline(always)]
 fn run_bits(color: Color, pixels: u32) -> u32
     ensures { result ≡ length (chosen_run color pixels) }

@@ -76,8 +76,8 @@ impl<R: Read> Device<R> {
 }
 
 impl<W: Write> Device<W> {
-    /// Writes once, unless there are no bytes, and returns the number of bytes written from the start. A writer that takes
-    /// none, though there are some, has failed.
+    /// Writes once, unless there are no bytes, and returns the number of bytes written from the start. A writer that
+    /// accepts none, though there are some, has failed.
     pub fn write(&mut self, bytes: &[u8]) -> Result<usize, Failed>
         ensures bound { WritesAtMost result bytes.now }
         ensures bytes { WriteAppends (W.contents self.old.0) (W.contents self.new.0) result bytes.now }

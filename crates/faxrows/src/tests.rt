@@ -59,7 +59,7 @@ impl Read for Dripping {
     }
 }
 
-/// A writer that takes one byte a write, and fails at a write.
+/// A writer that accepts one byte a write, and fails at a write.
 #[derive(Drop)]
 struct Choking {
     bytes: Vec<u8>,
@@ -85,7 +85,7 @@ impl Write for Choking {
     }
 }
 
-/// A writer that takes one byte a write, and nothing at one of its writes. It counts them.
+/// A writer that accepts one byte a write, and nothing at one of its writes. It counts them.
 #[derive(Drop)]
 struct Stalling {
     bytes: Vec<u8>,

@@ -70,7 +70,7 @@ pub record ArePacked (settings : DecodeSettings) (bits : Bits) (taken : ℕ) (be
   pub rest : drop (taken * bytes_of_row settings.columns) after ≡ drop (taken * bytes_of_row settings.columns) before
   pub room : taken * bytes_of_row settings.columns ≤ length after
 
--- how many numbers the lists of the first `taken` rows occupy
+-- the number of numbers that the lists of the first `taken` rows occupy
 abbrev pub numbers_taken : DecodeSettings → Bits → ℕ → ℕ
 numbers_taken settings bits taken = length (listed (take taken (plain settings bits).rows))
 
