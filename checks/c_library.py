@@ -1,4 +1,4 @@
-"""Checks of the library for C: the example on real strips, and each call on cases with known answers."""
+"""Checks of the library for C: the example on real strips, and each call on cases with known results."""
 import ctypes
 import functools
 import os

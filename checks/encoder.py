@@ -1,4 +1,4 @@
-"""Checks of the encoder for callers in C: its example, its call on cases with known answers, and its strips beside libtiff's."""
+"""Checks of the encoder for callers in C: its example, its call on cases with known results, and its strips beside libtiff's."""
 import ctypes
 import os
 import random

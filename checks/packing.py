@@ -24,7 +24,7 @@ def rows_of(columns, bitmap):
 
 
 def names_encoding(mode, flags):
-    """Group 4 has no EOLs; fill and RTC stand with EOLs alone, and aligned rows without them."""
+    """Group 4 has no EOLs; fill and RTC need EOLs, and aligned rows exclude them."""
     if mode == "g4":
         return not set(flags) & set("lf")
     return "a" not in flags if "l" in flags else not set(flags) & set("fb")
@@ -35,7 +35,7 @@ def all_flags(letters):
 
 
 def settings():
-    """Every mode, flags and K that name an encoding, as words."""
+    """Every mode, flags and K that name an encoding, as arguments."""
     for mode, flags in itertools.product(LETTERS, all_flags("blafr")):
         if names_encoding(mode, flags):
             for k in ((), ("1",), ("2",), ("9",)) if mode == "2d" else ((),):
@@ -43,7 +43,7 @@ def settings():
 
 
 def to_read(columns, rows, words):
-    """The words by which `faxrows` reads what `faxpack` writes: strictly, to the end of the block or else as many rows."""
+    """The arguments with which `faxrows` reads what `faxpack` writes: strictly, to the end of the block or else as many rows."""
     flags = "".join(letter for letter in words[1] if letter in "blar")
     return [words[0], str(columns), "0" if "b" in flags else str(rows), flags + "s"]
 
@@ -55,7 +55,7 @@ def strip_of(columns, bitmap, words):
 
 
 def chosen_pictures():
-    """The pictures with the words of some settings: those of the corpus with all of them, each small one with four of them."""
+    """The pictures with the arguments of some settings: those of the corpus with all of them, each small one with four of them."""
     ways, pictures = list(settings()), list(encoder.pictures())
     real = len(pictures) - 70
     for number, (columns, bitmap) in enumerate(pictures):
@@ -63,8 +63,8 @@ def chosen_pictures():
 
 
 def packed_and_read():
-    """A picture, its strip in every encoding, and its rows again; its rows without a header give the same strip. Words that name no
-    encoding are refused."""
+    """A picture, its strip in every encoding, and its rows again; its rows without a header give the same strip. Arguments that
+    name no encoding are refused."""
     seen = size = 0
     for columns, bitmap, ways in chosen_pictures():
         rows = rows_of(columns, bitmap)
@@ -86,7 +86,7 @@ def packed_and_read():
     print(f"  {seen} strips in {len(list(settings()))} settings, {size} bytes of them; {refused} settings refused")
 
 
-PACK = [  # words, input, status, output, error
+PACK = [  # arguments, input, status, output, error
     (("g4", "b"), b"P4\n# a comment\n 8\t2\n\x18\x18", 0, "31f8008008", ""),
     (("g4", "bs"), b"P4 8 #\n#1\n1\n\x18more", 0, "31c0040040", ""),
     (("-o", "g4", "8", "0", "b"), b"\x18\x18", 0, "31f8008008", ""),
@@ -122,7 +122,7 @@ PACK = [  # words, input, status, output, error
 
 
 def packing_cases():
-    """Small inputs with bytes that were worked out from T.4 and T.6, inputs that are no pictures, and wrong words; `--help` and
+    """Small inputs with bytes that were worked out from T.4 and T.6, inputs that are no pictures, and wrong arguments; `--help` and
     `--version`; a reader and a writer that fail."""
     for words, data, status, output, error in PACK:
         done = run(data, PROGRAM, *words)
@@ -143,7 +143,7 @@ def packing_cases():
 
 
 def packing_without_memory():
-    """Each allocation refused in turn: the program says so, and writes nothing."""
+    """Each allocation refused in turn: the program reports it, and writes nothing."""
     seen = 0
     picture = pbm(8, b"\x18\x18")
     with tempfile.TemporaryDirectory() as folder:
@@ -158,7 +158,7 @@ def packing_without_memory():
                     assert answer == whole, answer
                     break
                 ended = (3, b"", b"faxpack: out of memory\n")
-                unread = (2, b"", b"faxpack: bad arguments\n")  # of the words themselves
+                unread = (2, b"", b"faxpack: bad arguments\n")  # of the arguments themselves
                 assert answer in (whole, ended, unread), (words, number, answer)
                 seen += answer == ended
             else:
@@ -175,13 +175,13 @@ def by_libtiff(folder):
     return tool if built.returncode == 0 else None
 
 
-# The words of faxpack, and libtiff's mode: those of which both make the same bytes, and those of which ours are no more
+# The arguments of faxpack, and libtiff's mode: those of which both make the same bytes, and those of which ours are no more
 SAME = [
     (("g4", "b"), "g4"), (("g4", "br"), "g4:r"), (("1d", "l"), "1d"), (("1d", "lr"), "1d:r"), (("1d", "lf"), "1d:f"), (("1d", "lfr"), "1d:fr"),
     (("1d", "a"), "rle"), (("1d", "ar"), "rle:r"),
 ]
 NO_LONGER = [(("2d", "l", "2"), "2d"), (("2d", "l", "4"), "2d:h"), (("2d", "lr"), "2d:hr")]
-# The words of strips that only are decoded: with EOFB or RTC, or without
+# The arguments of strips that are only decoded: with EOFB or RTC, or without
 # Those with fill aren't compared: it may make shorter lines as long.
 DECODED = [(("2d", "lf", "2"), "2d:f"), (("2d", "lf"), "2d:hf"), (("g4", "-"), "g4"), (("1d", "bl"), "1d"), (("1d", "blfr"), "1d:fr"), (("2d", "bl", "2"), "2d"), (("2d", "blf", "9"), "2d:f"), (("2d", "l", "1"), "2d")]
 
@@ -217,7 +217,7 @@ def packing_beside_libtiff():
 
 
 def pdf_settings(words, columns, rows, black_is_1):
-    """The parameters of PDF's filter CCITTFaxDecode for a strip of these words."""
+    """The parameters of PDF's filter CCITTFaxDecode for a strip of these arguments."""
     mode, flags = words[:2]
     k = {"g4": -1, "1d": 0, "2d": 4}[mode]
     said = {"EndOfLine": "l" in flags, "EncodedByteAlign": "a" in flags, "EndOfBlock": "b" in flags, "BlackIs1": black_is_1}

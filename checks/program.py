@@ -31,7 +31,7 @@ def row_text(picture, columns, row):
 
 
 def assert_same_by_row(words, data, done):
-    """With `-i` the program writes and answers what it did without."""
+    """With `-i` the program writes and returns what it did without."""
     by_row = run(["-i", *words], data)
     assert (by_row.returncode, by_row.stdout, by_row.stderr) == (done.returncode, done.stdout, done.stderr), ("-i", words, by_row)
 
@@ -184,9 +184,9 @@ def bitmaps():
 
 
 INVALID, CUT = "invalid CCITT code sequence", "unexpected end of input"
-# Words behind `-d` and data, the lines that the program writes, and its status: data without damage, an EOL that is missed, a
-# damaged second line, which begins behind its EOL at 17 to 29, the same in a strict reading, a tag that is missing, a fault where
-# nothing is repaired, and a thousand EOLs with a line of four ones behind each, the last of which is cut and read again.
+# Arguments after `-d` and data, the lines that the program writes, and its status: data without damage, an EOL that is missed,
+# a damaged second line, which begins after its EOL at 17 to 29, the same in a strict reading, a tag that is missing, a fault
+# where nothing is repaired, and a thousand EOLs with a line of four ones after each, the last of which is cut and read again.
 DAMAGE = [
     ("g4 8 1 -", "31C0", ["ok 1 0 2"], 0),
     ("g4 8 1 r", "8C03", ["ok 1 0 2"], 0),
@@ -247,7 +247,7 @@ def long_data():
 
 # The result of a run if one allocation is refused: before decoding, with status and standard error ..
 BEFORE_DECODING = [
-    (2, b"", b"faxrows: bad arguments\n"),  # words that can't be fetched
+    (2, b"", b"faxrows: bad arguments\n"),  # arguments that can't be fetched
     (3, b"", b"faxrows: out of memory\n"),  # no memory to begin
 ]
 # .. and while decoding: the whole text, and each text that ends in an allocation failure or a refusal. The second row of the

@@ -112,7 +112,7 @@ DAMAGED = {"1d 8 0 l": [(1, 29)]}
 
 
 def damage_of(words, count, last):
-    """The damage of the first rows, and the last line: of a good reading, or the error behind these rows."""
+    """The damage of the first rows, and the last line: of a good reading, or the error after these rows."""
     damaged = [place for place in DAMAGED.get(words, []) if place[0] < count]
     lines = [f"damaged {row} {start} invalid CCITT code sequence" for row, start in damaged]
     end, _, told = last.partition(" ")

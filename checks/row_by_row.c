@@ -51,7 +51,7 @@ static void *block(size_t size) {
 
 static unsigned long cases, rows_read, rows_refused, refusals;
 
-/* The next row of a reader, packed or listed, against a list of its changes. */
+/* Compares the next row of a reader, packed or listed, with a list of its changes. */
 static void next_is(hayro_ccitt_reader *reader, const uint8_t *data, size_t length, uint32_t columns, const uint32_t *list, uint64_t index,
                     int is_packed) {
     hayro_ccitt_row row;
@@ -116,7 +116,7 @@ static void each_case(const uint8_t *data, size_t length, const hayro_ccitt_sett
     }
     must(live > 0 && hayro_ccitt_close(&first) == HAYRO_CCITT_OK && hayro_ccitt_close(&second) == HAYRO_CCITT_OK, "close");
     must(hayro_ccitt_close(&second) == HAYRO_CCITT_NOT_TAKEN && live == 0, "all is freed");
-    /* Other data: the calls end, and touch nothing else. */
+    /* With other data the calls return, and write nothing else. */
     must(hayro_ccitt_open(data, length, settings, &first) == HAYRO_CCITT_OK, "open again");
     for (size_t k = 0; k < length + 2; k++) {
         uint8_t *other = block(length - length / 2);

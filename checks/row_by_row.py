@@ -19,7 +19,7 @@ def cases():
 
 
 def rows_one_at_a_time():
-    """The rows of readers are those of the whole call, and every refused allocation is answered; with a tool for memory."""
+    """The rows of readers are those of the whole call, and every refused allocation is reported; with a tool for memory."""
     c_library.build()
     with tempfile.TemporaryDirectory() as folder:
         lines = "".join(" ".join(map(str, case)) + "\n" for case in cases())

@@ -82,7 +82,7 @@ typedef struct {
     uint8_t *bytes;
 } picture;
 
-/* A white picture; without bytes if it would be too large. */
+/* Returns a white picture; without bytes if it would be too large. */
 static picture white_picture(uint32_t columns, uint32_t rows)
 {
     picture made = {columns, rows, ((size_t)columns + 7) / 8, NULL};
@@ -96,7 +96,7 @@ static int is_black(const picture *from, uint32_t column, uint32_t row)
     return from->bytes[row * from->width + column / 8] >> (7 - column % 8) & 1;
 }
 
-/* The picture as TIFF's Orientation (274) turns it: 2 to 4 mirror it, 5 to 8 exchange its rows and columns too. */
+/* Returns the picture as TIFF's Orientation (274) turns it: 2 to 4 mirror it, 5 to 8 exchange its rows and columns too. */
 static picture turned(picture from, unsigned orientation)
 {
     int across = orientation > 4, from_right, from_bottom;
@@ -161,7 +161,7 @@ typedef struct {
     int is_big_tiff;
 } tiff;
 
-/* A number of `bytes` bytes at an offset, or 0 if the file doesn't have them. */
+/* Returns a number of `bytes` bytes at an offset, or 0 if the file doesn't have them. */
 static uint64_t number_at(const tiff *from, uint64_t offset, unsigned bytes)
 {
     uint64_t number = 0;
@@ -287,7 +287,7 @@ static const char *lay_out(const tiff *from, uint64_t at, layout *page)
     return NULL;
 }
 
-/* The bytes of a strip or tile, as far as the file has them. One without a length extends up to the end. */
+/* Returns the bytes of a strip or tile, as far as the file has them. One without a length extends up to the end. */
 static file_bytes part_of(const tiff *from, const layout *page, uint64_t index)
 {
     file_bytes part = {from->file.bytes, 0};
@@ -300,7 +300,7 @@ static file_bytes part_of(const tiff *from, const layout *page, uint64_t index)
     return part;
 }
 
-/* The number of rows of a page, at most as many as its data can have: a row has at least one bit. */
+/* Returns the number of rows of a page, at most as many as its data can have: a row has at least one bit. */
 static uint32_t most_rows(const tiff *from, const layout *page)
 {
     uint64_t bytes = 0;
@@ -383,7 +383,7 @@ static int decode_tiff_page(const tiff *from, uint64_t at, unsigned number, cons
     return written > result ? written : result;
 }
 
-/* The offset of the directory after this one, or 0. */
+/* Returns the offset of the directory after this one, or 0. */
 static uint64_t next_directory(const tiff *from, uint64_t at)
 {
     unsigned word = from->is_big_tiff ? 8 : 4, entry_bytes = from->is_big_tiff ? 20 : 12;

@@ -4,7 +4,7 @@
  *
  * MODE is g4, 1d or 2d. FLAGS is -, or letters, each once: b (EOFB or RTC follows the last line), l (an EOL precedes each
  * line), f (EOLs end at bytes), a (rows are aligned to bytes), r (each byte's lowest bit comes first), and s, which has no
- * effect. K is that of two-dimensional lines, 4 without it. The words are those of faxpack. The status is 0 if the picture was
+ * effect. K is that of two-dimensional lines, 4 without it. The arguments are faxpack's. The status is 0 if the picture was
  * encoded, 1 if the input is no such picture, or has no rows or columns to encode, and 2 for wrong arguments, an allocation
  * failure, or an error in reading or writing. */
 #include <fax_encode.h>
@@ -80,7 +80,7 @@ static int read_k(const char *text, uint32_t *k)
     return digit != text && !*digit && value <= UINT32_MAX;
 }
 
-/* The sum of the flags that letters name, each at most once; `-` is none. */
+/* Returns the sum of the flags that letters name, each at most once; 0 for `-`. */
 static int read_flags(const char *text, uint32_t *flags)
 {
     static const char letters[] = "blasrf";
@@ -98,7 +98,7 @@ static int read_flags(const char *text, uint32_t *flags)
     return *text != 0;
 }
 
-/* Reads the words, and has the library say whether they name an encoding: of one white pixel, then. */
+/* Reads the arguments, and has the library check that they name an encoding, of one white pixel. */
 static int read_words(int count, char **words, fax_encode_settings *settings)
 {
     static const char *const modes[] = {"g4", "1d", "2d"};
@@ -116,7 +116,7 @@ static int encode(const uint8_t *bitmap, size_t length, const fax_encode_setting
 {
     fax_encode_outcome outcome;
     uint8_t *data = NULL, none;
-    /* A first call, without room, says how many bytes there are. */
+    /* A first call, without room, returns the number of bytes. */
     uint32_t returned = fax_encode_bitmap(bitmap, length, settings, &none, 0, &outcome);
     if (returned == FAX_ENCODE_REFUSED)
         data = malloc(outcome.bytes);

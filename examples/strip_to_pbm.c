@@ -11,7 +11,7 @@
 #include <stdlib.h>
 #include <string.h>
 
-/* All of standard input. */
+/* Reads all of standard input. */
 static uint8_t *read_all(size_t *length)
 {
     size_t room = 1 << 16;
@@ -40,7 +40,7 @@ static int read_number(const char *text, uint32_t *number)
     return digit != text && !*digit && value <= UINT32_MAX;
 }
 
-/* The sum of the flags that letters name, each at most once; `-` is none. */
+/* Returns the sum of the flags that letters name, each at most once; 0 for `-`. */
 static int read_flags(const char *text, uint32_t *flags)
 {
     static const char letters[] = "blasr";
@@ -87,7 +87,7 @@ static int cannot(const char *what)
 static int decode(const uint8_t *data, size_t length, const hayro_ccitt_settings *settings)
 {
     hayro_ccitt_outcome outcome;
-    /* Rows are counted first, which says how much memory the picture takes. */
+    /* The rows are counted first, so that the picture can be allocated. */
     uint32_t returned = hayro_ccitt_measure(data, length, settings, &outcome);
     if (returned >= HAYRO_CCITT_OUT_OF_MEMORY)
         return status_of(returned);

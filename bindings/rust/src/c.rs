@@ -48,7 +48,7 @@ fn number_of(encoding: EncodingMode) -> u32 {
     }
 }
 
-/// The sum of flags: 1, 2, 4 and so on.
+/// Returns the sum of flags: 1, 2, 4 and so on.
 fn sum_of(flags: &[bool]) -> u32 {
     flags
         .iter()
@@ -57,7 +57,7 @@ fn sum_of(flags: &[bool]) -> u32 {
 }
 
 impl Settings {
-    /// The same, with each byte's lowest bit first.
+    /// Returns the same settings, with each byte's lowest bit first.
     pub(crate) fn low_first(self) -> Self {
         Self {
             flags: self.flags | LOW_FIRST,
@@ -184,7 +184,7 @@ unsafe extern "C" {
     ) -> u32;
 }
 
-/// The status, and how many rows and changes there are.
+/// Returns the status, and the numbers of rows and changes.
 pub(crate) fn measure(data: &[u8], settings: &Settings) -> (u32, Outcome) {
     let mut outcome = Outcome::default();
     // SAFETY: pointers of references and slices are not null and valid for their lengths, and `outcome` is this call's own.
@@ -192,7 +192,7 @@ pub(crate) fn measure(data: &[u8], settings: &Settings) -> (u32, Outcome) {
     (status, outcome)
 }
 
-/// Packs the rows, and gives the status and what was taken.
+/// Packs the rows, and returns the status and the outcome.
 pub(crate) fn decode_packed(data: &[u8], settings: &Settings, bitmap: &mut [u8]) -> (u32, Outcome) {
     let mut outcome = Outcome::default();
     // SAFETY: as above; and nothing else refers to `bitmap`, since it is borrowed mutably.
@@ -209,7 +209,7 @@ pub(crate) fn decode_packed(data: &[u8], settings: &Settings, bitmap: &mut [u8])
     (status, outcome)
 }
 
-/// Encodes a bitmap, and gives the status and how many bytes there are.
+/// Encodes a bitmap, and returns the status and the number of bytes.
 pub(crate) fn encode_bitmap(
     bitmap: &[u8],
     settings: &EncodeSettings,
@@ -234,7 +234,7 @@ pub(crate) fn encode_bitmap(
 pub(crate) struct Rows<'a> {
     data: &'a [u8],
     reader: Reader,
-    /// What the last call said of its row.
+    /// The outcome of the last call.
     pub(crate) row: Row,
 }
 

@@ -53,7 +53,7 @@ impl fmt::Display for EncodeError {
 
 impl core::error::Error for EncodeError {}
 
-/// Encodes a bitmap, whose rows take `columns.div_ceil(8)` bytes each: one bit a pixel, 1 for black, the leftmost pixel in a byte's
+/// Encodes a bitmap, whose rows have `columns.div_ceil(8)` bytes each: one bit a pixel, 1 for black, the leftmost pixel in a byte's
 /// highest bit. Bits after the last pixel of a row are ignored.
 ///
 /// Decoded with the settings that match, the data gives exactly these rows: with the same encoding, `end_of_line` and
@@ -94,7 +94,7 @@ pub fn encode_bitmap(
         return Err(EncodeError::NotWholeRows);
     }
     let settings = c::EncodeSettings::from(&settings);
-    // A first call, without room, says how many bytes there are.
+    // A first call, without room, returns the number of bytes.
     let (status, outcome) = c::encode_bitmap(bitmap, &settings, &mut []);
     match status {
         c::NOT_TAKEN if bitmap.is_empty() => return Err(EncodeError::NoRows),

@@ -1,8 +1,8 @@
 //! A decoder for CCITT fax images: ITU-T T.4 (Group 3) and T.6 (Group 4), the bi-level compressions of fax machines, TIFF files
 //! and PDF documents.
 //!
-//! [`decode`] takes encoded data and a [`DecoderContext`], and passes each row to a [`Decoder`] as the places at which its colour
-//! changes. [`decode_packed`] gives a bitmap instead, and [`encode_bitmap`] encodes one.
+//! [`decode`] takes encoded data and a [`DecoderContext`], and passes each row to a [`Decoder`] as the positions at which its
+//! colour changes. [`decode_packed`] returns a bitmap instead, and [`encode_bitmap`] encodes one.
 //!
 //! The names are those of the crate `hayro-ccitt` 0.5.0, and a program that uses that crate needs no change. What runs is a C
 //! library that is proved: for every input its rows, results and byte counts are those that a formalization of T.4 and T.6
@@ -162,8 +162,8 @@ fn pack_rows(data: &[u8], ctx: &mut DecoderContext, settings: c::Settings) -> Pa
     }
 }
 
-/// What a call's status says. No room was missing, since the rows were counted, and no slice is as long as what isn't taken; so
-/// the last arm is for an allocation that failed.
+/// Returns the result of a status. There was room, since the rows were counted, and no slice is too long; so the last arm is
+/// for an allocation that failed.
 fn result_of(status: u32, outcome: &c::Outcome) -> Result<usize> {
     match status {
         // It is at most the length of the data.
@@ -186,7 +186,7 @@ fn usize_of(number: u64) -> usize {
     usize::try_from(number).unwrap_or(usize::MAX)
 }
 
-/// A vector of zeros. If there is no memory for it, the program ends.
+/// Returns a vector of zeros. If the allocation fails, the program ends.
 fn zeros<T: Copy + Default>(length: usize) -> Vec<T> {
     let mut made = Vec::new();
     if made.try_reserve_exact(length).is_err() {
@@ -206,9 +206,9 @@ fn out_of_memory<T>(length: usize) -> ! {
 
 /// A sink for the rows of an image.
 pub trait Decoder {
-    /// Takes the next row: the places at which its colour changes, strictly ascending and below `columns`. A row starts
-    /// white, so it is black from the first place up to the second, from the third up to the fourth, and so on; with an
-    /// odd number of places it ends black.
+    /// Accepts the next row: the positions at which its colour changes, strictly ascending and below `columns`. A row starts
+    /// white, so it is black from the first position up to the second, from the third up to the fourth, and so on; with an odd
+    /// number of positions it ends black.
     fn push_row(&mut self, changes: &[u32]);
 }
 
@@ -219,7 +219,7 @@ pub struct DecoderContext {
 }
 
 impl DecoderContext {
-    /// A context with these settings.
+    /// Creates a context with these settings.
     pub fn new(settings: DecodeSettings) -> Self {
         Self {
             settings,
@@ -271,7 +271,7 @@ pub enum DecodeError {
     UnexpectedEof,
     /// The bits are no code word, or strict data breaks a rule.
     InvalidCode,
-    /// A length or a place exceeds 32 bits, or a changing element lies left of a0.
+    /// A length or a position exceeds 32 bits, or a changing element lies left of a0.
     Overflow,
 }
 

@@ -41,7 +41,7 @@ impl<'a> RowReader<'a> {
     }
 
     pub(crate) fn with(data: &'a [u8], settings: &DecodeSettings, told: c::Settings) -> Self {
-        // The settings are valid, and no slice is as long as what isn't taken; so it is memory that is missing.
+        // The settings are valid, and no slice is too long; so an allocation failed.
         let Ok(rows) = c::Rows::open(data, &told) else {
             out_of_memory::<u8>(0)
         };
@@ -53,7 +53,7 @@ impl<'a> RowReader<'a> {
         }
     }
 
-    /// Reads the next row, and returns its changes of colour, as [`Decoder::push_row`](crate::Decoder::push_row) takes them;
+    /// Reads the next row, and returns its changes of colour, as [`Decoder::push_row`](crate::Decoder::push_row) gets them;
     /// `None` at the end of the image.
     ///
     /// # Errors
@@ -73,7 +73,7 @@ impl<'a> RowReader<'a> {
         }
     }
 
-    /// Makes room for the row that was refused, twice as much as before at least.
+    /// Makes room for the row that was refused, at least twice as much as before.
     #[cold]
     fn grow(&mut self) {
         let wanted = usize_of(self.rows.row.changes).max(self.changes.len().saturating_mul(2));

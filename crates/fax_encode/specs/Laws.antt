@@ -74,11 +74,11 @@ ChosenLinesEncode = (encoding : EncodingMode) (columns k : ℕ) (rows : List Row
     × ((fills : Bool) → EncodesRowsWithEols encoding (white_row columns) rows (chosen_lines_with_eols encoding k fills 0 0 (white_row columns) rows))
     × ((fills : Bool) (at : ℕ) → ClosesWithEols encoding 6 (chosen_eols encoding fills at 6))
 
--- a line of two-dimensional Group 3 takes no more bits than the one-dimensional line and its tag
+-- a line of two-dimensional Group 3 has no more bits than the one-dimensional line and its tag
 abbrev pub NeverLonger : Type 0
 NeverLonger = (left : ℕ) (reference row : Row) → length (chosen_line Group3_2D left reference row) ≤ suc (length (chosen_line_1d row))
 
--- glue: the reading of some data gives these rows, without a fault, and takes so many bytes
+-- auxiliary: the reading of some data yields these rows, without a fault, and this number of bytes is consumed
 abbrev pub GivesAll : DecodeSettings → Bits → List Row → ℕ → Type 0
 GivesAll settings whole rows count = ((plain settings whole).rows ≡ rows) × ((plain settings whole).outcome ≡ Ok count)
 
@@ -98,7 +98,7 @@ ChosenComesBack = (settings : EncodeSettings) (columns : ℕ) (rows : List Row) 
     → bits_in settings.order again ≡ filled_up (chosen settings columns (plain (decode_settings_for settings columns (length rows)) (bits_in settings.order bytes)).rows)
     → again ≡ bytes
 
--- What is encoded row by row, with what stands behind the lines, is what is chosen for all rows.
+-- What is encoded row by row, with what follows the lines, is what is chosen for all rows.
 abbrev pub RowsAreChosen : Type 0
 RowsAreChosen = (settings : EncodeSettings) (columns : ℕ) (rows : List Row)
     → with_end settings (with_rows (no_rows settings columns) rows).lines ≡ chosen settings columns rows
@@ -129,9 +129,9 @@ ChosenBySettings = (columns k : ℕ) (rows : List Row)
 abbrev pub IsWritten : EncodeSettings → List Row → List ℕ → Type 0
 IsWritten settings rows bytes = filled_up (chosen settings 8 rows) ≡ bits_of bytes
 
--- Two white rows as two-dimensional Group 3 with RTC, the second against the first: 00 1C C0 05 00 18 00 C0 06 00 30 01 80 0C. A row that is
--- black from 3 to 5, twice as one-dimensional Group 3 with aligned rows: 8E 00 8E 00. Two white rows of it with EOLs that end at whole bytes:
--- 00 01 98 00 01 98. The row as Group 4 without EOFB: 31 C0 (T.4, 4.1 and 4.2; T.6, 2.2).
+-- Two white rows as two-dimensional Group 3 with RTC, the second against the first: 00 1C C0 05 00 18 00 C0 06 00 30 01 80 0C.
+-- A row that is black from 3 to 5, twice as one-dimensional Group 3 with aligned rows: 8E 00 8E 00. Two white rows of it with
+-- EOLs that end at whole bytes: 00 01 98 00 01 98. The row as Group 4 without EOFB: 31 C0 (T.4, 4.1 and 4.2; T.6, 2.2).
 abbrev pub WorkedSettings : Type 0
 WorkedSettings = IsWritten (record {
   encoding = Group3_2D;

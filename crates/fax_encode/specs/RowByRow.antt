@@ -5,8 +5,8 @@ use Rattle.hayro_ccitt.specs.Rows.{Row, white_row}
 use Rattle.fax_encode.specs.declared.settings.EncodeSettings.{EncodeSettings}
 use Rattle.fax_encode.specs.Settings.{chosen_part, left_after}
 
--- the rows so far: their lines, and how many they are, as far as a `usize` counts; what the next line goes by, which is the last row and how
--- many lines may still be two-dimensional; and whether memory was wanting
+-- the rows so far: their lines, and their number, as far as a `usize` counts; what the next line depends on, which is the last
+-- row and how many lines may still be two-dimensional; and whether an allocation failed
 pub record RowsEncoded : Type 0 where
   pub settings : EncodeSettings
   pub columns : ℕ
@@ -33,7 +33,7 @@ with_row rows row = record {
   wants_memory = false;
 }
 
--- more, one after another
+-- more, in order
 abbrev pub with_rows : RowsEncoded → List Row → RowsEncoded
 with_rows rows [] = rows
 with_rows rows (row ∷ more) = with_rows (with_row rows row) more

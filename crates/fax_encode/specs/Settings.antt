@@ -11,14 +11,14 @@ use Rattle.fax_encode.specs.Chosen.{chosen_line_1d, chosen_line_2d}
 
 -- ---- settings that name an encoding
 
--- whether settings of Group 3 name an encoding, whatever K is: with EOLs no line is filled up to a whole byte; without them there is no fill
--- before them (T.4, 4.1.3), and no RTC, which is EOLs (T.4, 4.1.4)
+-- whether settings of Group 3 name an encoding, whatever K is: with EOLs no line is filled up to a whole byte; without them
+-- there is no fill before them (T.4, 4.1.3), and no RTC, which is EOLs (T.4, 4.1.4)
 abbrev pub names_group3 : Bool → Bool → Bool → Bool → Bool
 names_group3 true fills aligned closed = not aligned
 names_group3 false fills aligned closed = not fills && not closed
 
--- Whether settings of an encoding name one that there is: Group 4 has no EOLs before its lines, and so no fill (T.6, 2.2); and K of
--- two-dimensional Group 3 counts the one-dimensional line (T.4, 4.2.1).
+-- Whether the settings of an encoding name one that exists: Group 4 has no EOLs before its lines, and so no fill (T.6, 2.2);
+-- and K of two-dimensional Group 3 counts the one-dimensional line (T.4, 4.2.1).
 abbrev pub is_encoding : EncodingMode → Bool → ℕ → Bool → Bool → Bool → Bool
 is_encoding Group4 eols k fills aligned closed = not eols && not fills
 is_encoding Group3_1D eols k fills aligned closed = names_group3 eols fills aligned closed
@@ -29,7 +29,7 @@ abbrev pub names_encoding : EncodeSettings → Bool
 names_encoding settings =
     is_encoding settings.encoding settings.end_of_line settings.k settings.eols_end_at_bytes settings.rows_are_byte_aligned settings.end_of_block
 
--- whether a picture needs a row: EOFB alone stands for none (T.6, 2.4.1.1)
+-- whether a picture needs a row: only EOFB encodes a picture without rows (T.6, 2.4.1.1)
 abbrev pub needs_row : EncodingMode → Bool → Bool
 needs_row Group4 closed = not closed
 needs_row Group3_1D closed = true
@@ -37,21 +37,21 @@ needs_row Group3_2D closed = true
 
 -- ---- one line
 
--- Whether a line of Group 3 is two-dimensional, where so many more may be: where it is no longer than the one-dimensional line
--- (T.4, 4.2.1).
+-- Whether a line of Group 3 is two-dimensional, if `left` more may be: if it is no longer than the one-dimensional line (T.4,
+-- 4.2.1).
 abbrev pub is_two_dimensional : ℕ → Row → Row → Bool
 is_two_dimensional zero reference row = false
 is_two_dimensional (suc left) reference row = nat_le (length (chosen_line_2d reference row)) (length (chosen_line_1d row))
 
--- a line, where so many more may be two-dimensional; in two-dimensional Group 3 behind its tag (T.4, 4.2.2)
+-- a line, if `left` more may be two-dimensional; in two-dimensional Group 3 after its tag (T.4, 4.2.2)
 abbrev pub chosen_line : EncodingMode → ℕ → Row → Row → Bits
 chosen_line Group4 left reference row = chosen_line_2d reference row
 chosen_line Group3_1D left reference row = chosen_line_1d row
 chosen_line Group3_2D left reference row =
     if is_two_dimensional left reference row then false ∷ chosen_line_2d reference row else true ∷ chosen_line_1d row
 
--- how many lines behind a line may be two-dimensional: K - 1 behind a one-dimensional one (T.4, 4.2.1). They are counted in two-dimensional
--- Group 3 alone.
+-- how many lines after a line may be two-dimensional: K - 1 after a one-dimensional one (T.4, 4.2.1). They are counted only in
+-- two-dimensional Group 3.
 abbrev pub left_after : EncodingMode → ℕ → ℕ → Row → Row → ℕ
 left_after Group4 k left reference row = 0
 left_after Group3_1D k left reference row = 0
@@ -59,25 +59,25 @@ left_after Group3_2D k left reference row = if is_two_dimensional left reference
 
 -- ---- lines
 
--- lines without EOLs, each filled up to a whole byte where they are aligned (T.4, 4.1.1 and 4.2.1; T.6, 2.2)
+-- lines without EOLs, each filled up to a whole byte if they are aligned (T.4, 4.1.1 and 4.2.1; T.6, 2.2)
 abbrev pub chosen_lines : EncodingMode → ℕ → Bool → ℕ → Row → List Row → Bits
 chosen_lines encoding k aligned left reference [] = []
 chosen_lines encoding k aligned left reference (row ∷ rows) =
     chosen_line encoding left reference row ++ (if aligned then padding (length (chosen_line encoding left reference row)) else [])
     ++ chosen_lines encoding k aligned (left_after encoding k left reference row) row rows
 
--- how many zeros of fill an EOL takes that begins behind so many bits, where it ends at a whole byte (T.4, 4.1.3)
+-- the number of zeros of fill of an EOL that begins after this number of bits, if it ends at a whole byte (T.4, 4.1.3)
 abbrev pub fill_of : Bool → ℕ → ℕ
 fill_of fills at = if fills then (8 - (at + 12) % 8) % 8 else 0
 
--- lines behind so many bits, an EOL before each (T.4, 4.1.2)
+-- lines after this number of bits, an EOL before each (T.4, 4.1.2)
 abbrev pub chosen_lines_with_eols : EncodingMode → ℕ → Bool → ℕ → ℕ → Row → List Row → Bits
 chosen_lines_with_eols encoding k fills at left reference [] = []
 chosen_lines_with_eols encoding k fills at left reference (row ∷ rows) =
     eol (fill_of fills at) ++ chosen_line encoding left reference row
     ++ chosen_lines_with_eols encoding k fills (at + 12 + fill_of fills at + length (chosen_line encoding left reference row)) (left_after encoding k left reference row) row rows
 
--- so many EOLs behind so many bits, each with its tag: six are RTC (T.4, 4.1.4 and 4.2.4)
+-- this number of EOLs after this number of bits, each with its tag: six are RTC (T.4, 4.1.4 and 4.2.4)
 abbrev pub chosen_eols : EncodingMode → Bool → ℕ → ℕ → Bits
 chosen_eols encoding fills at zero = []
 chosen_eols encoding fills at (suc n) =
@@ -85,13 +85,14 @@ chosen_eols encoding fills at (suc n) =
 
 -- ---- lines one by one
 
--- whether EOLs stand before the lines
+-- whether EOLs precede the lines
 abbrev pub has_eols : EncodingMode → Bool → Bool
 has_eols Group4 eols = false
 has_eols Group3_1D eols = eols
 has_eols Group3_2D eols = eols
 
--- a line behind so many bits, with what belongs to it: the EOL before it, or zeros up to a whole byte where lines are aligned
+-- a line after this number of bits, with what belongs to it: the EOL before it, or zeros up to a whole byte if lines are
+-- aligned
 abbrev pub chosen_part : EncodeSettings → ℕ → ℕ → Row → Row → Bits
 chosen_part settings at left reference row =
     if has_eols settings.encoding settings.end_of_line
@@ -99,26 +100,26 @@ chosen_part settings at left reference row =
     else chosen_line settings.encoding left reference row
     ++ (if settings.rows_are_byte_aligned then padding (length (chosen_line settings.encoding left reference row)) else [])
 
--- what stands behind the lines, which take so many bits: EOFB or RTC where the picture is closed
+-- what follows the lines, after this number of bits: EOFB or RTC if the picture is closed
 abbrev pub chosen_end : EncodingMode → Bool → Bool → Bool → ℕ → Bits
 chosen_end Group4 eols fills closed at = if closed then eol 0 ++ eol 0 else []
 chosen_end Group3_1D eols fills closed at = if eols && closed then chosen_eols Group3_1D fills at 6 else []
 chosen_end Group3_2D eols fills closed at = if eols && closed then chosen_eols Group3_2D fills at 6 else []
 
--- lines, and what stands behind them
+-- lines, and what follows them
 abbrev pub with_end : EncodeSettings → Bits → Bits
 with_end settings lines =
     lines ++ chosen_end settings.encoding settings.end_of_line settings.eols_end_at_bytes settings.end_of_block (length lines)
 
 -- ---- pictures
 
--- a picture of Group 3 with EOLs: its lines, and RTC where it is closed (T.4, 4.1.2 and 4.1.4)
+-- a picture of Group 3 with EOLs: its lines, and RTC if it is closed (T.4, 4.1.2 and 4.1.4)
 abbrev pub chosen_with_eols : EncodingMode → ℕ → Bool → Bool → Row → List Row → Bits
 chosen_with_eols encoding k fills closed white rows =
     chosen_lines_with_eols encoding k fills 0 0 white rows
     ++ (if closed then chosen_eols encoding fills (length (chosen_lines_with_eols encoding k fills 0 0 white rows)) 6 else [])
 
--- a picture of Group 4: its lines, and EOFB where it is closed (T.6, 2.4.1.1)
+-- a picture of Group 4: its lines, and EOFB if it is closed (T.6, 2.4.1.1)
 abbrev pub chosen_group4 : ℕ → Bool → Bool → Row → List Row → Bits
 chosen_group4 k aligned closed white rows = chosen_lines Group4 k aligned 0 white rows ++ (if closed then eol 0 ++ eol 0 else [])
 
@@ -141,13 +142,14 @@ chosen settings columns rows =
 
 -- ---- settings that read it
 
--- whether an end of the block stands behind the lines
+-- whether an end of the block follows the lines
 abbrev pub is_closed : EncodingMode → Bool → Bool → Bool
 is_closed Group4 eols closed = closed
 is_closed Group3_1D eols closed = eols && closed
 is_closed Group3_2D eols closed = eols && closed
 
--- the strict settings that read what is chosen for so many rows: up to its end of the block, or else up to as many rows
+-- the strict settings that read what is chosen for this number of rows: up to its end of the block, or else up to that many
+-- rows
 abbrev pub decode_settings_for : EncodeSettings → ℕ → ℕ → DecodeSettings
 decode_settings_for settings columns rows = record {
   columns = columns;

@@ -12,7 +12,7 @@ pub record Written : Type 0 where
 abbrev pub all_bits : Written → Bits
 all_bits written = bits_of written.bytes ++ written.rest
 
--- what stood in a writer: how many bytes, and the bits after them
+-- what a writer had: the number of bytes, and the bits after them
 pub record Marked : Type 0 where
   pub count : ℕ
   pub rest : Bits

@@ -27,7 +27,7 @@ const TURNED: [u8; 256] = [
     0x0F, 0x8F, 0x4F, 0xCF, 0x2F, 0xAF, 0x6F, 0xEF, 0x1F, 0x9F, 0x5F, 0xDF, 0x3F, 0xBF, 0x7F, 0xFF,
 ];
 
-/// The byte at an index of a table.
+/// Returns the byte at an index of a table.
 #[inline(always)]
 fn byte_at(table: &[u8], index: usize) -> u8
     requires { index < length table.now }
@@ -36,7 +36,7 @@ fn byte_at(table: &[u8], index: usize) -> u8
     table[index]
 }
 
-/// A byte with its bits in the other order.
+/// Returns a byte with its bits in the other order.
 #[inline(always)]
 fn turned(byte: u8) -> u8
     ensures { bits_of_byte LowestFirst result ≡ bits_of_byte HighestFirst byte }
@@ -44,7 +44,7 @@ fn turned(byte: u8) -> u8
     byte_at(&TURNED, usize::from(byte))
 }
 
-/// Turns the bits of each byte.
+/// Reverses the bits of each byte.
 fn turn_bytes(bytes: &mut [u8])
     ensures { low_first_bits_of bytes.new ≡ bits_of bytes.old }
 {

@@ -29,7 +29,7 @@ impl Model for BitWriter {
     ghost invariant = { λ w. (length w.bytes.items % 8 ≡ 0) × (0 < w.room) × (w.room ≤ 64) };
 }
 
-/// What a writer had written: how many bytes, and the bits after them.
+/// What a writer had written: the number of bytes, and the bits after them.
 #[derive(Drop)]
 pub struct Mark {
     count: usize,
@@ -115,21 +115,21 @@ impl BitWriter {
         self.put(0, self.room % 8)
     }
 
-    /// How many zeros of fill an EOL of twelve bits takes that is to end at a whole byte.
+    /// Returns the number of zeros of fill before an EOL of twelve bits that is to end at a whole byte.
     pub fn eol_fill(&self) -> u32
         ensures { result ≡ (8 - (length (all_bits self.now) + 12) % 8) % 8 }
     {
         (self.room + 4) % 8
     }
 
-    /// The number of bits that were written.
+    /// Returns the number of bits that were written.
     pub fn bit_count(&self) -> u128
         ensures { result ≡ length (all_bits self.now) }
     {
         self.bytes.len() as u128 * 8 + u128::from(64 - self.room)
     }
 
-    /// What was written so far, for [`BitWriter::cut_back`].
+    /// Returns what was written so far, for [`BitWriter::cut_back`].
     pub fn mark(&self) -> Mark
         ensures { result ≡ record { count = length self.now.bytes; rest = self.now.rest } }
     {

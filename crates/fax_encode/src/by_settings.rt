@@ -18,7 +18,7 @@ use hayro_ccitt::EncodingMode;
 use std::alloc::{AllocError, Global};
 use std::mem;
 
-/// Whether a picture of these settings has at least one row.
+/// Returns whether a picture of these settings has at least one row.
 pub fn needs_row(settings: EncodeSettings) -> bool
     ensures { result ≡ needs_row settings.encoding settings.end_of_block }
 {
@@ -66,8 +66,8 @@ fn picture(
     Ok(in_order(writer.finish()?, settings.order))
 }
 
-/// Encodes rows, given as lists of changes, as the settings say: each line, the EOL before it or the zeros behind it, EOFB or
-/// RTC after the last, and zeros up to a whole byte. A line of two-dimensional Group 3 is two-dimensional where K allows it
+/// Encodes rows, given as lists of changes, as the settings say: each line, the EOL before it or the zeros after it, EOFB
+/// or RTC after the last, and zeros up to a whole byte. A line of two-dimensional Group 3 is two-dimensional if K allows it
 /// and it is no longer than the one-dimensional line (T.4 section 4.2.1).
 ///
 /// # Errors

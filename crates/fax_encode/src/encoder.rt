@@ -19,14 +19,14 @@ use std::alloc::{AllocError, Global};
 use std::marker::Model;
 use std::mem;
 
-/// An encoder that takes the rows of an image one at a time. It holds its output and the last row. What it makes is what
-/// [`encode`](crate::encode) makes of all rows.
+/// An encoder of an image one row at a time. It holds its output and the last row. Its output is that of
+/// [`encode`](crate::encode) for all rows.
 #[derive(Drop)]
 pub struct Encoder {
     writer: BitWriter,
     /// The last row, a white one before the first.
     reference: Vec<u32>,
-    /// The row at hand.
+    /// The current row.
     row: Vec<u32>,
     settings: EncodeSettings,
     columns: u32,
@@ -94,7 +94,7 @@ impl Encoder {
         })
     }
 
-    /// Adds a row. Memory is wanting until all of it is added.
+    /// Adds a row. Until all of it is added, the encoder is marked as out of memory.
     fn add(&mut self, changes: &[u32]) -> Result<(), AllocError>
         requires lawful { AreChanges self.old.columns changes.now }
         requires memory { self.old.wants_memory ≡ false }
@@ -120,7 +120,7 @@ impl Encoder {
         Ok(())
     }
 
-    /// Takes a row, given by its changes.
+    /// Encodes a row, given by its changes.
     ///
     /// # Errors
     ///
@@ -151,7 +151,7 @@ impl Encoder {
         }
     }
 
-    /// Adds the first row of a bitmap. Memory is wanting until all of it is added.
+    /// Adds the first row of a bitmap. Until all of it is added, the encoder is marked as out of memory.
     fn add_packed(&mut self, bitmap: &[u8]) -> Result<(), AllocError>
         requires whole { bytes_of_row self.old.columns ≤ length bitmap.now }
         requires memory { self.old.wants_memory ≡ false }
@@ -177,8 +177,8 @@ impl Encoder {
         Ok(())
     }
 
-    /// Takes a row of packed pixels: one bit a pixel, 1 for black, the leftmost pixel in each byte's highest bit. Bits after the
-    /// last pixel are ignored.
+    /// Encodes a row of packed pixels: one bit a pixel, 1 for black, the leftmost pixel in each byte's highest bit. Bits
+    /// after the last pixel are ignored.
     ///
     /// # Errors
     ///
@@ -208,7 +208,7 @@ impl Encoder {
         }
     }
 
-    /// The bytes of all rows, of EOFB or RTC behind them, and of zeros up to a whole byte.
+    /// Returns the bytes of all rows, of EOFB or RTC after them, and of zeros up to a whole byte.
     fn bytes(self) -> Result<Vec<u8>, AllocError>
         ensures { IfOk result (λ bytes. bits_in self.settings.order bytes.items ≡ filled_up (with_end self.settings self.lines)) }
     {

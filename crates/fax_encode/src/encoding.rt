@@ -14,7 +14,7 @@ use crate::runs::{put_row, takes_at_least};
 use hayro_ccitt::EncodingMode;
 use std::alloc::AllocError;
 
-/// Whether settings of either kind of Group 3 name an encoding, whatever K is.
+/// Returns whether settings of either kind of Group 3 name an encoding, whatever K is.
 fn names_group3(settings: EncodeSettings) -> bool
     ensures { result ≡ names_group3 settings.end_of_line settings.eols_end_at_bytes settings.rows_are_byte_aligned settings.end_of_block }
 {
@@ -24,7 +24,7 @@ fn names_group3(settings: EncodeSettings) -> bool
     !settings.eols_end_at_bytes && !settings.end_of_block
 }
 
-/// Whether settings name an encoding.
+/// Returns whether settings name an encoding.
 pub fn names_encoding(settings: EncodeSettings) -> bool
     ensures { result ≡ names_encoding settings }
 {
@@ -35,8 +35,8 @@ pub fn names_encoding(settings: EncodeSettings) -> bool
     }
 }
 
-/// Writes a two-dimensional line of Group 3 and the tag before it, unless the one-dimensional line is shorter: then nothing is
-/// written, and the result is false.
+/// Writes a two-dimensional line of Group 3 and the tag before it, and returns true. If the one-dimensional line is
+/// shorter, writes nothing and returns false.
 fn put_if_shorter(
     writer: &mut BitWriter,
     columns: u32,
@@ -75,8 +75,8 @@ fn put_one_dimensional(
     put_row(writer, columns, changes)
 }
 
-/// Writes a line of two-dimensional Group 3 and the tag before it (T.4, sections 4.2.1 and 4.2.2). So many lines may still be
-/// two-dimensional before it; the result is how many after it.
+/// Writes a line of two-dimensional Group 3 and the tag before it (T.4, sections 4.2.1 and 4.2.2). Takes the number of
+/// lines that may still be two-dimensional, and returns that after this line.
 fn put_line_by_k(
     writer: &mut BitWriter,
     columns: u32,
@@ -104,7 +104,8 @@ fn put_line_by_k(
     Ok(most)
 }
 
-/// Writes a line by its encoding. So many lines may still be two-dimensional before it; the result is how many after it.
+/// Writes a line by its encoding. Takes the number of lines that may still be two-dimensional, and returns that after this
+/// line.
 #[inline(always)]
 fn put_line_of(
     writer: &mut BitWriter,
@@ -136,7 +137,7 @@ fn put_line_of(
     }
 }
 
-/// Whether EOLs precede the lines.
+/// Returns whether EOLs precede the lines.
 fn has_eols(settings: EncodeSettings) -> bool
     ensures { result ≡ has_eols settings.encoding settings.end_of_line }
 {
@@ -146,8 +147,8 @@ fn has_eols(settings: EncodeSettings) -> bool
     }
 }
 
-/// Writes a line with what belongs to it: the EOL before it, or zeros up to a whole byte behind it. So many lines may still be
-/// two-dimensional before it; the result is how many after it.
+/// Writes a line with what belongs to it: the EOL before it, or zeros up to a whole byte after it. Takes the number of
+/// lines that may still be two-dimensional, and returns that after this line.
 #[inline(always)]
 pub fn put_part(
     writer: &mut BitWriter,
@@ -177,7 +178,7 @@ pub fn put_part(
     Ok(after)
 }
 
-/// Writes EOFB or RTC, where the picture is closed.
+/// Writes EOFB or RTC, if the picture is closed.
 pub fn put_end(writer: &mut BitWriter, settings: EncodeSettings) -> Result<(), AllocError>
     ensures { OnOk result (all_bits writer.new ≡ with_end settings (all_bits writer.old)) }
 {

@@ -23,7 +23,7 @@ pub fn put_eol(writer: &mut BitWriter) -> Result<(), AllocError>
     writer.put(1, 12)
 }
 
-/// How many zeros of fill the next EOL takes.
+/// Returns the number of zeros of fill before the next EOL.
 #[inline(always)]
 fn fill_of(writer: &BitWriter, fills: bool) -> u32
     ensures fill { result ≡ fill_of fills (length (all_bits writer.now)) }
@@ -42,7 +42,7 @@ pub fn put_filled_eol(writer: &mut BitWriter, fills: bool) -> Result<(), AllocEr
     writer.put(1, 12 + fill)
 }
 
-/// Writes an EOL and the tag behind it (T.4, section 4.2.4).
+/// Writes an EOL and the tag after it (T.4, section 4.2.4).
 fn put_tagged_eol(
     writer: &mut BitWriter,
     encoding: EncodingMode,

@@ -37,7 +37,7 @@ fn extend(bytes: &mut Vec<u8>, piece: &[u8], times: usize) -> Result<(), AllocEr
     Ok(())
 }
 
-/// The lists of changes of all rows.
+/// Returns the lists of changes of all rows.
 fn lists(alloc: Global) -> Result<Vec<Vec<u32>>, AllocError> {
     let mut rows = Vec::new(alloc);
     for _ in 0..ROWS {
@@ -46,7 +46,7 @@ fn lists(alloc: Global) -> Result<Vec<Vec<u32>>, AllocError> {
     Ok(rows)
 }
 
-/// The bitmap of all rows.
+/// Returns the bitmap of all rows.
 fn bitmap(alloc: Global) -> Result<Vec<u8>, AllocError> {
     let mut row = Vec::new(alloc);
     extend(&mut row, &[0x18, 0xFF, 0x7F], 1)?;

@@ -50,7 +50,7 @@ pub fn chosen_is_read()
     ensures again { ChosenComesBack }
 {}
 
-/// The rows that an [`Encoder`](crate::Encoder) takes one after another are encoded as all of them at once.
+/// Rows passed to an [`Encoder`](crate::Encoder) one by one are encoded as all of them at once.
 pub fn rows_are_chosen()
     ensures { RowsAreChosen }
 {}

@@ -95,7 +95,7 @@ pub fn put_row(writer: &mut BitWriter, columns: u32, changes: &[u32]) -> Result<
     put_run(writer, Color::Black, columns - black)
 }
 
-/// The number of bits of the words of a run.
+/// Returns the number of bits of the code words of a run.
 #[inline(always)]
 fn run_bits(color: Color, pixels: u32) -> u32
     ensures { result ≡ length (chosen_run color pixels) }
@@ -108,7 +108,7 @@ fn run_bits(color: Color, pixels: u32) -> u32
     long + u32::from(makeup_word(color, rest / 64).count)
 }
 
-/// Whether the runs of a row take at least so many bits. It looks at as many runs as it takes to know.
+/// Returns whether the runs of a row have at least this many bits. It looks at no more runs than it needs to.
 pub fn takes_at_least(columns: u32, changes: &[u32], bits: u128) -> bool
     requires { AreChanges columns changes.now }
     ensures { result ≡ nat_le bits (length (chosen_runs columns Color.White 0 changes.now)) }

@@ -1,9 +1,9 @@
-//! The settings of encoding: how the lines are encoded, and what stands between and behind them.
+//! The settings of encoding: how the lines are encoded, and what precedes and follows them.
 
 use hayro_ccitt::EncodingMode;
 use hayro_ccitt::bit_reader::BitOrder;
 
-/// How an image is encoded. `DecodeSettings` that match read it: with the same encoding, `end_of_line` and
+/// How an image is encoded. The matching `DecodeSettings` have the same encoding, `end_of_line` and
 /// `rows_are_byte_aligned`, and either `end_of_block` or the number of rows as the limit.
 #[derive(Copy, Clone, Debug)]
 pub struct EncodeSettings {

@@ -17,7 +17,7 @@ const BITMAP: [u8; 15] = [
     0x18, 0x00, 0x00, 0x18, 0x00, 0x00, 0x0E, 0x00, 0x00, 0x00, 0x00, 0x00, 0xFF, 0x80, 0x00,
 ];
 
-/// The rows in memory of their own.
+/// Returns the rows in memory of their own.
 fn picture(alloc: Global) -> Result<Vec<Vec<u32>>, AllocError> {
     let mut lists = Vec::new(alloc);
     for row in ROWS {
@@ -39,7 +39,7 @@ fn lines(encoding: EncodingMode) -> EncodeSettings {
     }
 }
 
-/// The same with EOLs.
+/// Returns the same settings with EOLs.
 fn with_eols(encoding: EncodingMode) -> EncodeSettings {
     EncodeSettings {
         end_of_line: true,
@@ -47,7 +47,7 @@ fn with_eols(encoding: EncodingMode) -> EncodeSettings {
     }
 }
 
-/// The same with EOLs that end at whole bytes.
+/// Returns the same settings with EOLs that end at whole bytes.
 fn with_fill(encoding: EncodingMode) -> EncodeSettings {
     EncodeSettings {
         eols_end_at_bytes: true,
@@ -329,7 +329,7 @@ fn wanting_memory_stays(rt: HostRuntime) -> Result<(), Fail> {
     Ok(())
 }
 
-/// The settings of the decoder that match.
+/// Returns the matching settings of the decoder.
 fn to_read(settings: EncodeSettings) -> DecodeSettings {
     let is_closed = settings.end_of_block;
     DecodeSettings {

@@ -18,7 +18,7 @@ pub struct Word {
     pub bits: u16,
 }
 
-/// A word of a table of (run length, number of bits, word).
+/// Returns a code word of a table of (run length, number of bits, code word).
 #[inline(always)]
 fn word_at(table: &[(u16, u8, u16)], index: usize) -> Word
     requires { index < length table.now }
@@ -56,7 +56,7 @@ pub fn makeup_word(color: Color, times: u32) -> Word
     }
 }
 
-/// The word of pass mode (T.4, table 4; T.6, table 1).
+/// Returns the code word of pass mode (T.4, table 4; T.6, table 1).
 pub fn pass_word() -> Word
     ensures { IsWord (word_of_mode Pass) result }
 {
@@ -66,7 +66,7 @@ pub fn pass_word() -> Word
     }
 }
 
-/// The word of horizontal mode.
+/// Returns the code word of horizontal mode.
 pub fn horizontal_word() -> Word
     ensures { IsWord (word_of_mode Horizontal) result }
 {

@@ -1,4 +1,4 @@
--- What the words of the arguments mean that the programs have in common.
+-- What the arguments mean that the programs have in common.
 use Rattle.std.specs.Prelude.{ℕ, Bool, false, ◌&&◌, List, [], ◌∷◌, length, count_by, nat_lt, nat_le, ◌==◌, Option, Some, None, if◌then◌else◌, codes, bytes_eq}
 use Rattle.std.specs.List.{list_all}
 use Rattle.std.specs.Char.{is_ascii_digit}
@@ -36,7 +36,7 @@ has_flag letter word = nat_lt 0 (times letter word)
 abbrev pub order_with : List ℕ → BitOrder
 order_with flags = if has_flag 114 flags then LowestFirst else HighestFirst
 
--- there are words, and this is the first of them
+-- there are arguments, and this is the first of them
 abbrev pub is_first_word : List (List ℕ) → List ℕ → Bool
 is_first_word [] word = false
 is_first_word (first ∷ words) word = bytes_eq first word

@@ -1,4 +1,4 @@
-//! Readers and writers of which one can tell whether they have failed.
+//! Readers and writers that record whether they have failed.
 
 ghost use Rattle.std.specs.Prelude.{◌≡◌, ◌<◌, [], Ok, OnOk, OnErr, IfOk, true, false, length};
 ghost use Rattle.std.specs.Io.KnownBytes.{ReadConsumes, WriteAppends};
@@ -49,7 +49,7 @@ impl<T> Device<T> {
         inner
     }
 
-    /// Says that the device has failed.
+    /// Records that the device has failed.
     fn fail(&mut self) -> Failed
         ensures inner { self.new.0 ≡ self.old.0 }
         ensures flag { self.new.1 ≡ true }
@@ -76,8 +76,8 @@ impl<R: Read> Device<R> {
 }
 
 impl<W: Write> Device<W> {
-    /// Writes once, unless there are no bytes, and returns the number of bytes written from the start. A writer that takes
-    /// none, though there are some, has failed.
+    /// Writes once, unless there are no bytes, and returns the number of bytes written from the start. A writer that
+    /// accepts none, though there are some, has failed.
     pub fn write(&mut self, bytes: &[u8]) -> Result<usize, Failed>
         ensures bound { WritesAtMost result bytes.now }
         ensures bytes { WriteAppends (W.contents self.old.0) (W.contents self.new.0) result bytes.now }

@@ -49,17 +49,17 @@ pub fn read_all<R: Read>(
     }
 }
 
-/// How many bytes are read at once.
+/// The most bytes that are read at once.
 const READ_AT_ONCE: usize = 65536;
 
 /// The most bytes that `hayro_ccitt::bits_fit` holds of.
 const MOST_BYTES: usize = (usize::MAX - 64) / 8;
 
-/// Writes bytes until the writer has taken all of them.
+/// Writes bytes until all of them are written.
 ///
 /// # Errors
 ///
-/// `Write` if the writer fails. It has taken a front of the bytes.
+/// `Write` if the writer fails. It has written a front of the bytes.
 pub fn write_all<W: Write>(
     writer: &mut Device<W>,
     bytes: &[u8],

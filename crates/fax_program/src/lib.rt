@@ -1,5 +1,4 @@
-//! What the programs have in common: devices that know whether they have failed, the faults of a run, and the words of its
-//! arguments.
+//! What the programs have in common: devices that record whether they have failed, the faults of a run, and arguments.
 #![tactic(auto)]
 
 pub mod device;

@@ -27,7 +27,7 @@ digits_end [] i within digit = absurd (omega (arith, within))
 digits_end (b ∷ bytes) zero within digit = rw digit refl
 digits_end (b ∷ bytes) (suc i) within digit = digits_end bytes i (omega (arith, within)) digit
 
--- no digits are behind the end
+-- no digits are after the end
 pub digits_past : (bytes : List ℕ) (i : ℕ) → length bytes ≤ i → digit_count (drop i bytes) ≡ 0
 unfolding digit_count
 digits_past [] zero past = refl
@@ -67,7 +67,7 @@ gap_end [] i within sign space = absurd (omega (arith, within))
 gap_end (b ∷ bytes) zero within sign space = rw (sign, space) refl
 gap_end (b ∷ bytes) (suc i) within sign space = gap_end bytes i (omega (arith, within)) sign space
 
--- no gap is behind the end
+-- no gap is after the end
 pub gap_past : (in_comment : Bool) (bytes : List ℕ) (i : ℕ) → length bytes ≤ i → gap_length in_comment (drop i bytes) ≡ 0
 unfolding gap_length
 gap_past true [] zero past = refl

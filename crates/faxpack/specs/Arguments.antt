@@ -1,4 +1,4 @@
--- What the arguments of the program mean: a mode and flags, with the columns and the rows where no picture says them, and K.
+-- What the arguments of the program mean: a mode and flags, with the columns and the rows if no picture has them, and K.
 use Rattle.std.specs.Prelude.{ℕ, Bool, ◌&&◌, ◌||◌, List, [], ◌∷◌, length, nat_lt, nat_le, ◌==◌, Option, Some, None, option_and_then, if◌then◌else◌, codes, bytes_eq}
 use Rattle.std.specs.List.{list_all}
 use Rattle.hayro_ccitt.specs.declared.settings.EncodingMode.{EncodingMode}
@@ -12,21 +12,21 @@ infixl 10 ◌>>=◌
 abbrev pub ◌>>=◌ : {A B : Type 0} → Option A → (A → Option B) → Option B
 o >>= next = option_and_then next o
 
--- the letters that stand for flags: b, l, a, s, r and f
+-- the letters of flags: b, l, a, s, r and f
 abbrev pub is_flag : ℕ → Bool
 is_flag letter = (letter == 98) || (letter == 108) || (letter == 97) || (letter == 115) || (letter == 114) || (letter == 102)
 
--- no letter that stands for a flag occurs twice
+-- no letter of a flag occurs twice
 abbrev pub are_apart : List ℕ → Bool
 are_apart word =
     nat_le (times 98 word) 1 && nat_le (times 108 word) 1 && nat_le (times 97 word) 1 && nat_le (times 115 word) 1
     && nat_le (times 114 word) 1 && nat_le (times 102 word) 1
 
--- the flags are `-`, or one or more letters that stand for flags, none of them twice
+-- the flags are `-`, or one or more letters of flags, none of them twice
 abbrev pub are_flags : List ℕ → Bool
 are_flags word = bytes_eq word (codes "-") || (nat_lt 0 (length word) && list_all is_flag word && are_apart word)
 
--- the K that the words behind the flags mean: one number, or 4 without one, the largest of T.4, 4.2.1
+-- the K that the arguments after the flags mean: one number, or 4 without one, the largest of T.4, 4.2.1
 abbrev pub k_of : List (List ℕ) → Option ℕ
 k_of [] = Some 4
 k_of (word ∷ []) = number_of word
@@ -44,21 +44,21 @@ settings_with encoding k flags = record {
   order = order_with flags;
 }
 
--- the settings that a mode, flags and the words behind them mean, if they name an encoding
+-- the settings that a mode, flags and the arguments after them mean, if they name an encoding
 abbrev pub settings_of_words : List ℕ → List ℕ → List (List ℕ) → Option EncodeSettings
 settings_of_words mode flags more = do
   encoding ← mode_of mode
   k ← k_of more
   if are_flags flags && names_encoding (settings_with encoding k flags) then Some (settings_with encoding k flags) else None
 
--- what the words of a picture that says its size mean
+-- what the arguments mean for a picture with a header
 abbrev pub picture_words : List (List ℕ) → Option Arguments
 picture_words (mode ∷ flags ∷ more) = do
   settings ← settings_of_words mode flags more
   Some (record { size = None; settings = settings })
 picture_words _ = None
 
--- what the words of rows without a header mean
+-- what the arguments mean for rows without a header
 abbrev pub rows_words : List (List ℕ) → Option Arguments
 rows_words (mode ∷ columns ∷ rows ∷ flags ∷ more) = do
   settings ← settings_of_words mode flags more
@@ -67,7 +67,7 @@ rows_words (mode ∷ columns ∷ rows ∷ flags ∷ more) = do
   Some (record { size = Some (record { columns = width; rows = limit }); settings = settings })
 rows_words _ = None
 
--- what the words mean, if they are valid: with -o first, rows without a header, as `faxrows -o` writes them
+-- what the arguments mean, if they are valid: with -o first, rows without a header, as `faxrows -o` writes them
 abbrev pub arguments_of_words : List (List ℕ) → Option Arguments
 arguments_of_words [] = None
 arguments_of_words (first ∷ words) = if bytes_eq first (codes "-o") then rows_words words else picture_words (first ∷ words)

@@ -13,24 +13,24 @@ use Rattle.faxpack.specs.declared.picture.Place.{Place}
 
 -- ---- the header of a picture
 
--- white space: blanks, TABs, CRs, LFs, and what stands between them in ASCII
+-- white space: blanks, TABs, CRs, LFs, and the characters between TAB and CR in ASCII
 abbrev pub is_space : ℕ → Bool
 is_space byte = (byte == 32) || (nat_le 9 byte && nat_le byte 13)
 
--- how many bytes of white space and of comments come first, within a comment or not: a comment is `#` and what is behind it up to the end of
--- the line
+-- the number of bytes of white space and of comments that come first, within a comment or not: a comment is `#` and what
+-- follows it up to the end of the line
 unfoldable pub gap_length : Bool → List ℕ → ℕ
 gap_length in_comment [] = 0
 gap_length true (byte ∷ bytes) = suc (gap_length (not (byte == 10)) bytes)
 gap_length false (byte ∷ bytes) =
     if byte == 35 then suc (gap_length true bytes) else if is_space byte then suc (gap_length false bytes) else 0
 
--- how many digits come first
+-- the number of digits that come first
 unfoldable pub digit_count : List ℕ → ℕ
 digit_count [] = 0
 digit_count (byte ∷ bytes) = if is_ascii_digit byte then suc (digit_count bytes) else 0
 
--- a number of one to ten digits behind white space and comments, and how many bytes all of it has
+-- a number of one to ten digits after white space and comments, and the number of bytes of all of it
 abbrev pub number_behind : ℕ → List ℕ → Option Number
 number_behind gap rest = do
   value ← number_of (take (digit_count rest) rest)
@@ -46,14 +46,14 @@ header_with input columns rows =
     then Some (record { columns = columns.value; rows = rows.value; length = 2 + columns.length + rows.length + 1 })
     else None
 
--- the width, the height, and a byte of white space, behind `P4`
+-- the width, the height, and a byte of white space, after `P4`
 abbrev pub header_behind : List ℕ → Option Header
 header_behind input = do
   columns ← number_at (drop 2 input)
   rows ← number_at (drop (2 + columns.length) input)
   header_with input columns rows
 
--- the header: `P4`, and what must be behind it
+-- the header: `P4`, and what must follow it
 abbrev pub header_of : List ℕ → Option Header
 header_of input = if (get_or input 0 0 == 80) && (get_or input 1 0 == 52) then header_behind input else None
 
@@ -66,7 +66,7 @@ place_behind header size =
     else if nat_lt (size - header.length) (header.rows * bytes_of_row header.columns) then Err Cut
     else Ok (record { columns = header.columns; start = header.length; length = header.rows * bytes_of_row header.columns })
 
--- the rows behind a header, if there is one
+-- the rows after a header, if there is one
 abbrev pub place_if : Option Header → ℕ → Result Place PictureFault
 place_if None size = Err NoPicture
 place_if (Some header) size = place_behind header size
@@ -75,7 +75,7 @@ place_if (Some header) size = place_behind header size
 abbrev pub pbm_place : List ℕ → Result Place PictureFault
 pbm_place input = place_if (header_of input) (length input)
 
--- the rows of an input of so many bytes: all of it, or as many as the limit
+-- the rows of an input of n bytes: all of it, or as many as the limit
 abbrev pub rows_place : Size → ℕ → Result Place PictureFault
 rows_place size bytes =
     if size.columns == 0 then Err NoColumns
@@ -92,6 +92,6 @@ abbrev pub place_of : Option Size → List ℕ → Result Place PictureFault
 place_of (Some size) input = rows_place size (length input)
 place_of None input = pbm_place input
 
--- the bytes of a place
+-- the bytes from an offset on, of this length
 abbrev pub bytes_at : Place → List ℕ → List ℕ
 bytes_at place input = take place.length (drop place.start input)

@@ -1,5 +1,5 @@
--- What is printed for an input that isn't encoded, and the status that the program exits with: 0 if the strip was written, 1 if the input is no
--- picture that can be encoded, 2 for invalid arguments, and 3 for a failed allocation or device.
+-- What is printed for an input that isn't encoded, and the status that the program exits with: 0 if the strip was written, 1 if
+-- the input is no picture that can be encoded, 2 for invalid arguments, and 3 for a failed allocation or device.
 use Rattle.std.specs.Prelude.{◌≡◌, ◌⊎◌, ℕ, List, codes, Result, Ok, Err}
 use Rattle.faxpack.specs.declared.picture.PictureFault.{PictureFault}
 use Rattle.faxpack.specs.declared.picture.PictureFault.TheVariants.{NoPicture, Cut, NoColumns, NoRows}

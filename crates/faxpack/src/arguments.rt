@@ -1,4 +1,4 @@
-//! The arguments of a call, and what they mean.
+//! The arguments of the program, and what they mean.
 
 ghost use Rattle.std.specs.Prelude.{◌≡◌, map, string_bytes};
 ghost use Rattle.std.specs.List.{list_all};
@@ -7,7 +7,7 @@ ghost use Rattle.faxpack.specs.Arguments.{arguments_of_words, picture_words, row
 use fax_encode::{EncodeSettings, names_encoding};
 use fax_program::words::{has_flag, is_first_word, mode_of, number_of, order_with, times};
 
-/// The size of rows that come without a header.
+/// The size of rows without a header.
 #[derive(Debug, Clone, Copy)]
 pub struct Size {
     /// The width in pixels.
@@ -16,16 +16,16 @@ pub struct Size {
     pub rows: u32,
 }
 
-/// What the arguments of a call mean.
+/// What the arguments mean.
 #[derive(Debug, Clone, Copy)]
 pub struct Arguments {
-    /// The size of the rows, or `None` if a PBM picture says it.
+    /// The size of the rows, or `None` for a PBM picture, which has it in its header.
     pub size: Option<Size>,
     /// The settings of encoding.
     pub settings: EncodeSettings,
 }
 
-/// Returns what the arguments of a call mean, or `None` if they are invalid or name no encoding.
+/// Returns what the arguments mean, or `None` if they are invalid or name no encoding.
 pub fn arguments_of(words: &[String]) -> Option<Arguments>
     ensures { result ≡ arguments_of_words (map string_bytes words.now) }
 {
@@ -35,7 +35,7 @@ pub fn arguments_of(words: &[String]) -> Option<Arguments>
     picture_words(words)
 }
 
-/// What a mode and flags mean, for a PBM picture.
+/// Returns what a mode and flags mean, for a PBM picture.
 fn picture_words(words: &[String]) -> Option<Arguments>
     ensures { result ≡ picture_words (map string_bytes words.now) }
 {
@@ -49,7 +49,7 @@ fn picture_words(words: &[String]) -> Option<Arguments>
     })
 }
 
-/// What a mode, the columns, the rows and flags mean, for rows without a header.
+/// Returns what a mode, the columns, the rows and flags mean, for rows without a header.
 fn rows_words(words: &[String]) -> Option<Arguments>
     ensures { result ≡ rows_words (map string_bytes words.now) }
 {
@@ -65,7 +65,7 @@ fn rows_words(words: &[String]) -> Option<Arguments>
     })
 }
 
-/// The settings that a mode, flags and the words behind them mean, if they name an encoding.
+/// Returns the settings that a mode, flags and the arguments after them mean, if they name an encoding.
 fn settings_of_words(mode: &str, flags: &str, more: &[String]) -> Option<EncodeSettings>
     ensures { result ≡ settings_of_words mode.now flags.now (map string_bytes more.now) }
 {
@@ -90,7 +90,7 @@ fn settings_of_words(mode: &str, flags: &str, more: &[String]) -> Option<EncodeS
     Some(settings)
 }
 
-/// The K that the words behind the flags mean: without one it is 4.
+/// Returns the K that the arguments after the flags mean: 4 without one.
 fn k_of(words: &[String]) -> Option<u32>
     ensures { result ≡ k_of (map string_bytes words.now) }
 {
@@ -101,7 +101,7 @@ fn k_of(words: &[String]) -> Option<u32>
     }
 }
 
-/// Whether a word is `-`, or one or more of the letters b, l, a, s, r and f, none of them twice.
+/// Returns whether an argument is `-`, or one or more of the letters b, l, a, s, r and f, none of them twice.
 fn are_flags(word: &[u8]) -> bool
     ensures { result ≡ are_flags word.now }
 {
@@ -109,14 +109,14 @@ fn are_flags(word: &[u8]) -> bool
     is_none || (!word.is_empty() && are_letters(word) && are_apart(word))
 }
 
-/// Returns whether a word has only letters of flags.
+/// Returns whether an argument has only letters of flags.
 fn are_letters(word: &[u8]) -> bool
     ensures { result ≡ list_all is_flag word.now }
 {
     word.iter().all(|byte| matches!(*byte, b'b' | b'l' | b'a' | b's' | b'r' | b'f'))
 }
 
-/// Returns whether no letter of a flag occurs twice in a word.
+/// Returns whether no letter of a flag occurs twice in an argument.
 fn are_apart(word: &[u8]) -> bool
     ensures { result ≡ are_apart word.now }
 {

@@ -1,11 +1,11 @@
 //! `faxpack`: encodes a bitmap from standard input as a fax image, and writes the strip to standard output.
 //!
-//! It is called as `faxpack MODE FLAGS`, with a PBM picture (P4) on standard input, or as `faxpack -o MODE COLUMNS ROWS FLAGS`,
-//! with the rows that `faxrows -o` writes for the same words. The mode is `g4`, `1d` or `2d`, columns and rows are decimal
-//! numbers, 0 rows for all, and the flags are `-` or letters: `b` for EOFB or RTC after the last line, `l` for an EOL before
-//! each, `f` for fill before EOLs so that they end at whole bytes, `a` for aligned rows, `r` for the lowest bit of each byte
-//! first; `s`, with which `faxrows` reads strictly, has no effect. A last word may be the K of two-dimensional lines, else
-//! it is 4.
+//! It is called as `faxpack MODE FLAGS`, with a PBM picture (P4) on standard input, or as `faxpack -o MODE COLUMNS ROWS
+//! FLAGS`, with the rows that `faxrows -o` writes for the same arguments. The mode is `g4`, `1d` or `2d`, columns and rows
+//! are decimal numbers, 0 rows for all, and the flags are `-` or letters: `b` for EOFB or RTC after the last line, `l` for
+//! an EOL before each, `f` for fill before EOLs so that they end at whole bytes, `a` for aligned rows, `r` for the lowest
+//! bit of each byte first; `s`, with which `faxrows` reads strictly, has no effect. A last argument may be the K of
+//! two-dimensional lines, which is 4 without it.
 #![tactic(auto)]
 
 ghost use Rattle.std.specs.Prelude.{◌≡◌, ◌⊎◌, IfOk};
@@ -32,8 +32,8 @@ fn main(rt: HostRuntime) -> ExitCode {
     }
 }
 
-/// Runs with the arguments of the environment, on standard input and output. Returns the exit status. What is wrong with the
-/// picture is printed.
+/// Runs with the arguments of the environment, on standard input and output, and returns the exit status. It prints what is
+/// wrong with the picture.
 fn run_words(rt: &HostRuntime) -> Result<u8, RunFault>
     ensures status { IfOk result IsStatusOfRun }
 {
@@ -69,7 +69,8 @@ const USAGE: &str =
 /// What `--version` prints.
 const VERSION: &str = "faxpack 0.6.0";
 
-/// The status of a run that read its input: 0 if the strip was written, 1 if the input is no picture that can be encoded.
+/// Returns the status of a run that read its input: 0 if the strip was written, 1 if the input is no picture that can be
+/// encoded.
 fn status_of_answer(answer: Result<(), PictureFault>) -> u8
     ensures status { result ≡ status_of_answer answer }
 {

@@ -46,7 +46,7 @@ pub struct Place {
     pub columns: u32,
     /// The offset of its first byte.
     pub start: usize,
-    /// How many bytes it has.
+    /// The number of its bytes.
     pub length: usize,
 }
 
@@ -55,7 +55,7 @@ pub struct Place {
 pub struct Number {
     /// The number.
     pub value: u32,
-    /// How many bytes it has, with the white space and comments before it.
+    /// The number of its bytes, with the white space and comments before it.
     pub length: usize,
 }
 
@@ -66,7 +66,7 @@ pub struct Header {
     pub columns: u32,
     /// The number of rows.
     pub rows: u32,
-    /// How many bytes the header has.
+    /// The number of the header's bytes.
     pub length: usize,
 }
 
@@ -82,14 +82,14 @@ pub fn place_of(size: Option<Size>, input: &[u8]) -> Result<Place, PictureFault>
     }
 }
 
-/// How many bytes a row of so many columns has.
+/// Returns the number of bytes of a row of this many columns.
 fn bytes_of_row(columns: u32) -> usize
     ensures { result ≡ (columns + 7) / 8 }
 {
     (columns as usize).div_ceil(8)
 }
 
-/// Where rows of this size are in an input of so many bytes.
+/// Returns where rows of this size are in an input of this length.
 fn rows_place(size: Size, length: usize) -> Result<Place, PictureFault>
     ensures place { result ≡ rows_place size length }
     ensures some { IfOk result (λ place. 0 < place.columns) }
@@ -114,7 +114,7 @@ fn rows_place(size: Size, length: usize) -> Result<Place, PictureFault>
     })
 }
 
-/// Where the bitmap of a PBM picture is.
+/// Returns where the bitmap of a PBM picture is.
 fn pbm_place(input: &[u8]) -> Result<Place, PictureFault>
     ensures place { result ≡ pbm_place input.now }
     ensures some { IfOk result (λ place. 0 < place.columns) }
@@ -137,7 +137,7 @@ fn pbm_place(input: &[u8]) -> Result<Place, PictureFault>
     })
 }
 
-/// The header that an input begins with: `P4`, the width, the height, and a byte of white space.
+/// Returns the header that an input begins with: `P4`, the width, the height, and a byte of white space.
 fn header_of(input: &[u8]) -> Option<Header>
     ensures header { result ≡ header_of input.now }
     ensures within { IfSome result (λ header. header.length ≤ length input.now) }
@@ -158,7 +158,7 @@ fn header_of(input: &[u8]) -> Option<Header>
     })
 }
 
-/// The number that some bytes begin with, after white space and comments.
+/// Returns the number that some bytes begin with, after white space and comments.
 fn number_at(bytes: &[u8]) -> Option<Number>
     ensures number { result ≡ number_at bytes.now }
     ensures within { IfSome result (λ number. number.length ≤ length bytes.now) }
@@ -173,8 +173,8 @@ fn number_at(bytes: &[u8]) -> Option<Number>
     })
 }
 
-/// How many bytes of white space and of comments some bytes begin with. A comment is a `#` and what is behind it up to the
-/// end of the line.
+/// Returns the number of bytes of white space and of comments that some bytes begin with. A comment is a `#` and what
+/// follows it up to the end of the line.
 fn gap_length(bytes: &[u8]) -> usize
     ensures gap { result ≡ gap_length false bytes.now }
     ensures within { result ≤ length bytes.now }
@@ -195,7 +195,7 @@ fn gap_length(bytes: &[u8]) -> usize
     count
 }
 
-/// How many digits some bytes begin with.
+/// Returns the number of digits that some bytes begin with.
 fn digit_count(bytes: &[u8]) -> usize
     ensures count { result ≡ digit_count bytes.now }
     ensures within { result ≤ length bytes.now }
@@ -207,7 +207,7 @@ fn digit_count(bytes: &[u8]) -> usize
     count
 }
 
-/// The number that some bytes write, one to ten digits.
+/// Returns the number that some bytes write, one to ten digits.
 fn digits_number(word: &[u8]) -> Option<u32>
     ensures { result ≡ number_of word.now }
 {
@@ -217,7 +217,7 @@ fn digits_number(word: &[u8]) -> Option<u32>
     }
 }
 
-/// Whether a byte is white space: a space, or one of those from tab to carriage return.
+/// Returns whether a byte is white space: a space, or one of those from tab to carriage return.
 fn is_space(byte: u8) -> bool
     ensures { result ≡ is_space byte }
 {

@@ -14,13 +14,13 @@ use fax_program::{Device, RunFault, read_all, write_all};
 use std::alloc::Global;
 use std::io::{Read, Write};
 
-/// Reads all that the reader has, encodes the picture in it as the arguments say, and writes the strip. The inner result says
-/// what is wrong with the picture.
+/// Reads all that the reader has, encodes the picture in it as the arguments say, and writes the strip. The inner result
+/// says what is wrong with the picture.
 ///
 /// # Errors
 ///
-/// The outer ones are as the variants of [`RunFault`] say, the inner ones as those of [`PictureFault`]. Nothing is written
-/// with any but `Write`.
+/// The outer ones are those of [`RunFault`], the inner ones those of [`PictureFault`]. Nothing is written with any but
+/// `Write`.
 pub fn run<R: Read, W: Write>(
     alloc: Global,
     words: &[String],
@@ -52,7 +52,7 @@ pub fn run<R: Read, W: Write>(
     write_encoded(alloc, input.as_slice(), arguments, writer)
 }
 
-/// Encodes the picture in an input, and writes the strip. It fails only where the writer does, or an allocation.
+/// Encodes the picture in an input, and writes the strip. It fails only if the writer or an allocation does.
 fn write_encoded<W: Write>(
     alloc: Global,
     input: &[u8],

@@ -15,7 +15,7 @@ use Rattle.faxrows.proofs.Outputs.{front_of_longer}
 
 -- ---- The lines of the rows
 
--- the lines of so many rows are the front of those of more
+-- the lines of the first n rows are the front of those of more
 damage_rest : (settings : DecodeSettings) (bits : Bits) (rows more : ℕ)
     → (rest : List ℕ) × (damage_lines settings bits (more + rows) ≡ damage_lines settings bits rows ++ rest)
 damage_rest settings bits rows zero =
@@ -50,7 +50,7 @@ line_is old new reads =
     ∙ ap (λ (fault : Option DecodeError). line_of_damage old.taken
     (get_or (line_starts old.settings old.bits) old.taken 0) fault) (reads.damage refl)
 
--- with it there is one row more
+-- with it there is one more row
 pub damage_more : (settings : DecodeSettings) (bits : Bits) (old new : RowsRead) → old.settings ≡ settings → old.bits
     ≡ bits → ReadsNext old new (Ok true)
     → damage_lines settings bits old.taken ++ line_of_damage (new.taken - 1) new.line_start new.damage
@@ -67,7 +67,7 @@ damage_more settings bits old new of_settings of_bits reads =
 
 -- ---- The whole text
 
--- with all rows and the outcome of the plain reading, the whole damage is written
+-- with all rows and the result of the plain reading, the whole damage is written
 all_damage : (settings : DecodeSettings) (bits : Bits) (read : ℕ) (outcome : Outcome)
     → read ≡ length (rows_of settings bits) → outcome_of settings bits ≡ outcome
     → damage_after settings bits read outcome ≡ whole_damage settings bits
@@ -102,7 +102,7 @@ damage_of_faulty settings bits read (Err Overflow) ends e =
 damage_of_faulty settings bits read (Err OutOfMemory) ends e = cc
 damage_of_faulty settings bits read (Err Refused) ends e = cc
 
--- the text is the whole damage, or that up to a want of memory
+-- the text is the whole damage, or that up to an allocation failure
 pub is_damage_text : (settings : DecodeSettings) (bits : Bits) (read : ℕ) (outcome : Outcome)
     → EndsByRow settings bits read outcome
     → IsDamageText settings bits (damage_after settings bits read outcome)
@@ -115,7 +115,7 @@ is_damage_text settings bits read (Err Overflow) ends = inl (all_damage settings
 is_damage_text settings bits read (Err OutOfMemory) ends = inr (read, ends.0, refl)
 is_damage_text settings bits read (Err Refused) ends = absurd (ends.1 refl)
 
--- a run that ended for want of memory wrote the damage up to there
+-- a run that ended with an allocation failure wrote the damage up to there
 pub damage_without_memory : (settings : DecodeSettings) (bits : Bits) (read : ℕ) (outcome : Outcome)
     → EndsByRow settings bits read outcome
     → done_of outcome ≡ Memory → IsDamageWithoutMemory settings bits (damage_after settings bits read outcome)

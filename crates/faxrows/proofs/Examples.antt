@@ -39,7 +39,7 @@ two_dimensions : arguments_of_words (codes "2d" ∷ codes "8" ∷ codes "1" ∷ 
     })
 two_dimensions = refl
 
--- r asks for the lowest bit of each byte first, and is no setting
+-- r selects the lowest bit of each byte first, and is no setting
 lowest_first : arguments_of_words (codes "g4" ∷ codes "8" ∷ codes "1" ∷ codes "br" ∷ [])
     ≡ Some (record {
       settings = record { columns = 8; rows = 1; end_of_block = true; end_of_line = false; rows_are_byte_aligned = false; encoding = Group4; strict = false };

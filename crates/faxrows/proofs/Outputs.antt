@@ -8,13 +8,13 @@ use Rattle.fax_program.specs.Devices.{AppendsFront}
 use Rattle.faxrows.specs.Output.{PassesOn}
 use Rattle.faxrows.specs.Text.{line_of_row, text_of_change}
 
--- a text behind what was taken and what waits
+-- a text after what was written and what waits
 regrouped : (waited text front waits more : List ℕ) → waited ++ text ≡ front ++ waits → waited ++ (text ++ more) ≡ front
     ++ (waits ++ more)
 regrouped waited text front waits more e = sym (append_assoc waited text more) ∙ ap (λ l. l ++ more) e
     ∙ append_assoc front waits more
 
--- nothing came, and nothing was taken
+-- nothing came, and nothing was written
 pub passes_none : (a : Option (List ℕ)) (waits : List ℕ) → PassesOn a a waits [] waits
 passes_none a waits = ([], Appends-nil a, append-nil waits)
 
@@ -27,7 +27,7 @@ passes_both a b c waited text waits more last p q = (
   regrouped waited text p.0 waits more p.2 ∙ ap (λ l. p.0 ++ l) q.2 ∙ sym (append_assoc p.0 q.0 last),
 )
 
--- after a text a front of what waits and of the next one was taken
+-- after a text a front of what waits and of the next one was written
 pub front_behind : (a b c : Option (List ℕ)) (waited text waits more : List ℕ)
     → PassesOn a b waited text waits → AppendsFront b c (waits ++ more) → AppendsFront a c (waited ++ (text ++ more))
 front_behind a b c waited text waits more p q = (
@@ -41,7 +41,7 @@ front_behind a b c waited text waits more p q = (
 pub front_of_more : (a b : Option (List ℕ)) (text more : List ℕ) → AppendsFront a b text → AppendsFront a b (text ++ more)
 front_of_more a b text more p = (p.0, p.1 ++ more, p.2, ap (λ l. l ++ more) p.3 ∙ append_assoc p.0 p.1 more)
 
--- what was taken is a front of all that came
+-- what was written is a front of all that came
 pub front_of_passed : (a b : Option (List ℕ)) (waited text waits : List ℕ) → PassesOn a b waited text waits
     → AppendsFront a b (waited ++ text)
 front_of_passed a b waited text waits p = (p.0, waits, p.1, p.2)
@@ -60,7 +60,7 @@ pieces_more piece xs i d inside =
     ∙ sym (flat_map-append piece (take i xs) (get_or xs i d ∷ []))
     ∙ ap (flat_map piece) (sym (take_more xs i d inside))
 
--- the pieces up to an index, and those behind it
+-- the pieces up to an index, and those after it
 pub pieces_rest : {A : Type 0} (piece : A → List ℕ) (xs : List A) (n : ℕ) → flat_map piece (take n xs) ++ flat_map piece
     (drop n xs) ≡ flat_map piece xs
 pieces_rest piece xs n = sym (flat_map-append piece (take n xs) (drop n xs)) ∙ ap (flat_map piece) (take-append-drop n xs)
@@ -81,7 +81,7 @@ front_of_line a b waited changes n p =
     subst (λ l. AppendsFront a b (waited ++ l)) (line_rest changes n) (front_of_longer a b waited _
     (flat_map text_of_change (drop n changes) ++ 10 ∷ []) p)
 
--- after a text a front of what waits was taken
+-- after a text a front of what waits was written
 pub front_of_waiting : (a b c : Option (List ℕ)) (waited text waits : List ℕ) → PassesOn a b waited text waits
     → AppendsFront b c waits → AppendsFront a c (waited ++ text)
 front_of_waiting a b c waited text waits p q = (

@@ -23,7 +23,7 @@ pub record Came (settings : DecodeSettings) (bits : Bits) (index : ℕ) (new : R
 same_rows : (s t : DecodeSettings) (b c : Bits) → s ≡ t → b ≡ c → rows_of s b ≡ rows_of t c
 same_rows s t b c p q = ap (λ (x : DecodeSettings). rows_of x b) p ∙ ap (rows_of t) q
 
--- the lines of so many rows, and of the next one
+-- the lines of the first n rows, and of the next one
 lines_more : (rows : List (List ℕ)) (row : List ℕ) (index taken : ℕ) → index < length rows → row ≡ get_or rows index []
     → taken ≡ index + 1
     → lines_of_rows (take index rows) ++ line_of_row row ≡ lines_of_rows (take taken rows)

@@ -8,7 +8,7 @@ use Rattle.faxrows.specs.Runs.{Outcome, done_of, text_after}
 use Rattle.faxrows.specs.RunsByRow.{EndsByRow, IsTextByRow, IsTextWithoutMemory}
 use Rattle.faxrows.proofs.Texts.{text_of_good, text_of_faulty}
 
--- the text is the whole one, or that of a want of memory
+-- the text is the whole one, or that of an allocation failure
 pub text_by_row : (settings : DecodeSettings) (bits : Bits) (read : ℕ) (outcome : Outcome)
     → EndsByRow settings bits read outcome
     → IsTextByRow settings bits (text_after settings bits read outcome)
@@ -22,7 +22,7 @@ text_by_row settings bits read (Err Overflow) ends = inl (text_of_faulty setting
 text_by_row settings bits read (Err OutOfMemory) ends = inr (read, ends.0, refl)
 text_by_row settings bits read (Err Refused) ends = absurd (ends.1 refl)
 
--- a run that ended for want of memory wrote the text of one
+-- a run that ended with an allocation failure wrote the text of one
 pub text_without_memory : (settings : DecodeSettings) (bits : Bits) (read : ℕ) (outcome : Outcome)
     → EndsByRow settings bits read outcome
     → done_of outcome ≡ Memory → IsTextWithoutMemory settings bits (text_after settings bits read outcome)

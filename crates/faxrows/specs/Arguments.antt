@@ -11,17 +11,17 @@ infixl 10 ◌>>=◌
 abbrev pub ◌>>=◌ : {A B : Type 0} → Option A → (A → Option B) → Option B
 o >>= next = option_and_then next o
 
--- the letters that stand for flags: b, l, a, s and r
+-- the letters of flags: b, l, a, s and r
 abbrev pub is_flag : ℕ → Bool
 is_flag letter = (letter == 98) || (letter == 108) || (letter == 97) || (letter == 115) || (letter == 114)
 
--- no letter that stands for a flag occurs twice
+-- no letter of a flag occurs twice
 abbrev pub are_apart : List ℕ → Bool
 are_apart word =
     nat_le (times 98 word) 1 && nat_le (times 108 word) 1 && nat_le (times 97 word) 1 && nat_le (times 115 word) 1
     && nat_le (times 114 word) 1
 
--- the flags are `-`, or one or more letters that stand for flags, none of them twice
+-- the flags are `-`, or one or more letters of flags, none of them twice
 abbrev pub are_flags : List ℕ → Bool
 are_flags word = bytes_eq word (codes "-") || (nat_lt 0 (length word) && list_all is_flag word && are_apart word)
 

@@ -9,11 +9,11 @@ use Rattle.hayro_ccitt.specs.RowsRead.{line_starts}
 use Rattle.hayro_ccitt.specs.Texts as library
 use Rattle.faxrows.specs.Runs.{Outcome, EndsAfter, rows_of, outcome_of}
 
--- a number, and a sign behind it
+-- a number, and a sign after it
 abbrev pub number_and : ℕ → ℕ → List ℕ
 number_and number sign = decimal number ++ sign ∷ []
 
--- a word, and two numbers with a space behind each
+-- a word, and two numbers with a space after each
 abbrev pub numbered : List ℕ → ℕ → ℕ → List ℕ
 numbered word first second = word ++ (number_and first 32 ++ number_and second 32)
 
@@ -32,23 +32,23 @@ abbrev pub damage_of_row : DecodeSettings → Bits → ℕ → List ℕ
 damage_of_row settings bits row =
     line_of_damage row (get_or (line_starts settings bits) row 0) (fault_in (get_or (repairs_by_line settings bits) row []))
 
--- the lines of the first so many rows
+-- the lines of the first n rows
 abbrev pub damage_lines : DecodeSettings → Bits → ℕ → List ℕ
 damage_lines settings bits zero = []
 damage_lines settings bits (suc row) = damage_lines settings bits row ++ damage_of_row settings bits row
 
--- how many of the first so many rows were repaired
+-- the number of repaired rows among the first n
 abbrev pub damaged_among : DecodeSettings → Bits → ℕ → ℕ
 damaged_among settings bits rows = sum_by length (take rows (repairs_by_line settings bits))
 
--- The last line: `ok`, the rows, how many of them were repaired, and the count of bytes; or `error`, the index of the row that
--- can't be read, and the error.
+-- The last line: `ok`, the rows, the number of them that were repaired, and the byte count; or `error`, the index of the row
+-- that can't be read, and the error.
 abbrev pub last_line_of_damage : DecodeSettings → Bits → ℕ → Outcome → List ℕ
 last_line_of_damage settings bits rows (Ok count) =
     numbered (codes "ok ") rows (damaged_among settings bits rows) ++ number_and count 10
 last_line_of_damage settings bits rows (Err error) = codes "error " ++ (number_and rows 32 ++ end_with_fault error)
 
--- what is written of the damage where so many rows were read, and how the reading ended
+-- what is written of the damage after this number of rows, and how the reading ended
 abbrev pub damage_after : DecodeSettings → Bits → ℕ → Outcome → List ℕ
 damage_after settings bits rows outcome = damage_lines settings bits rows ++ last_line_of_damage settings bits rows outcome
 
@@ -56,11 +56,11 @@ damage_after settings bits rows outcome = damage_lines settings bits rows ++ las
 abbrev pub whole_damage : DecodeSettings → Bits → List ℕ
 whole_damage settings bits = damage_after settings bits (length (rows_of settings bits)) (outcome_of settings bits)
 
--- the damage of the rows that were read, and the line of the want of memory that ended the reading there
+-- the damage of the rows that were read, and the line of the allocation failure that ended the reading there
 abbrev pub IsDamageWithoutMemory : DecodeSettings → Bits → List ℕ → Type 0
 IsDamageWithoutMemory settings bits text =
     (read : ℕ) × EndsAfter settings bits read (Err OutOfMemory) × (text ≡ damage_after settings bits read (Err OutOfMemory))
 
--- the whole damage, or that up to a want of memory
+-- the whole damage, or that up to an allocation failure
 abbrev pub IsDamageText : DecodeSettings → Bits → List ℕ → Type 0
 IsDamageText settings bits text = (text ≡ whole_damage settings bits) ⊎ IsDamageWithoutMemory settings bits text

@@ -12,8 +12,8 @@ abbrev pub answer_of : Outcome → Result (Unit {0}) DecodeError
 answer_of (Ok count) = Ok tt
 answer_of (Err error) = Err error
 
--- The packed bytes of some data, with this result: they hold the first rows of the plain reading, and decoding may end
--- so after that number of rows.
+-- The packed bytes of some data, with this result: they hold the first rows of the plain reading, and decoding may end like
+-- this after that number of rows.
 abbrev pub IsPackedOf : DecodeSettings → Bits → Result (Unit {0}) DecodeError → List ℕ → Type 0
 IsPackedOf settings bits answer bytes =
     (taken : ℕ) × (outcome : Outcome) × EndsAfter settings bits taken outcome × (answer ≡ answer_of outcome)

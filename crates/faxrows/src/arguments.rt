@@ -1,4 +1,4 @@
-//! The arguments of a call, and what they mean.
+//! The arguments of the program, and what they mean.
 
 ghost use Rattle.std.specs.Prelude.{◌≡◌, map, string_bytes};
 ghost use Rattle.std.specs.List.{list_all};
@@ -8,7 +8,7 @@ use fax_program::words::{has_flag, mode_of, number_of, order_with, times};
 use hayro_ccitt::DecodeSettings;
 use hayro_ccitt::bit_reader::BitOrder;
 
-/// What the arguments of a call mean.
+/// What the arguments mean.
 #[derive(Debug, Clone, Copy)]
 pub struct Arguments {
     /// The settings of decoding.
@@ -17,7 +17,7 @@ pub struct Arguments {
     pub order: BitOrder,
 }
 
-/// Returns what the arguments of a call mean, a mode, the columns, the rows and the flags, or `None` if they are invalid.
+/// Returns what the arguments mean, a mode, the columns, the rows and the flags, or `None` if they are invalid.
 pub fn arguments_of(words: &[String]) -> Option<Arguments>
     ensures { result ≡ arguments_of_words (map string_bytes words.now) }
 {
@@ -46,7 +46,7 @@ pub fn arguments_of(words: &[String]) -> Option<Arguments>
     })
 }
 
-/// Whether a word is `-`, or one or more of the letters b, l, a, s and r, none of them twice.
+/// Returns whether an argument is `-`, or one or more of the letters b, l, a, s and r, none of them twice.
 fn are_flags(word: &[u8]) -> bool
     ensures { result ≡ are_flags word.now }
 {
@@ -54,7 +54,7 @@ fn are_flags(word: &[u8]) -> bool
     is_none || (!word.is_empty() && are_letters(word) && are_apart(word))
 }
 
-/// Returns whether a word has only letters of flags.
+/// Returns whether an argument has only letters of flags.
 fn are_letters(word: &[u8]) -> bool
     ensures { result ≡ list_all is_flag word.now }
 {
@@ -62,7 +62,7 @@ fn are_letters(word: &[u8]) -> bool
         .all(|byte| matches!(*byte, b'b' | b'l' | b'a' | b's' | b'r'))
 }
 
-/// Returns whether no letter of a flag occurs twice in a word.
+/// Returns whether no letter of a flag occurs twice in an argument.
 fn are_apart(word: &[u8]) -> bool
     ensures { result ≡ are_apart word.now }
 {

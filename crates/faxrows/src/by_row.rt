@@ -19,13 +19,13 @@ use std::alloc::Global;
 use std::io::{Read, Write};
 
 /// Reads all that the reader has, and writes what [`run`](crate::run) writes, but each row as it is read: a line for each
-/// row, and then a line with the result. The lines are written in pieces of at most 64 KiB, and the memory beside the input
-/// doesn't grow with the rows.
+/// row, and then a line with the result. The lines are written in pieces of at most 64 KiB, and the memory besides the
+/// input doesn't grow with the rows.
 ///
 /// # Errors
 ///
-/// As the variants of [`RunFault`] say; where the writer failed it took a front of the text. A fault of the data is no error
-/// of the run: it is written, and `Done::Faulty` returned.
+/// Those of [`RunFault`]; if the writer failed, a front of the text was written. A fault of the data is no error of the
+/// run: it is written, and `Done::Faulty` returned.
 pub fn run_by_row<R: Read, W: Write>(
     alloc: Global,
     words: &[String],
@@ -77,8 +77,8 @@ pub fn run_by_row<R: Read, W: Write>(
     write_by_row(alloc, &mut rows, writer)
 }
 
-/// Reads row by row from the first one on, and writes a line for each row, and then how the reading ended. It fails only
-/// where the writer does.
+/// Reads row by row from the first one on, and writes a line for each row, and then how the reading ended. It fails only if
+/// the writer does.
 fn write_by_row<W: Write>(
     alloc: Global,
     rows: &mut RowReader<'_>,

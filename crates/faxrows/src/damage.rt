@@ -1,4 +1,4 @@
-//! A run of the program that writes the damage of the data in place of its rows.
+//! A run of the program that writes the damage of the data instead of its rows.
 
 ghost use Rattle.std.specs.Prelude.{◌≡◌, ◌<◌, ◌-◌, ◌↔◌, ◌≢◌, ◌++◌, [], IfOk, IfErr, OnOk, OnErr, IfSome, IsOk, IsErr, true, false, map, string_bytes, length, None, Ok, Err, List, ℕ};
 ghost use Rattle.std.specs.Io.KnownBytes.{Appends, IsAtEnd};
@@ -19,14 +19,14 @@ use hayro_ccitt::RowReader;
 use std::alloc::Global;
 use std::io::{Read, Write};
 
-/// Reads all that the reader has, and then row by row as the arguments mean, and writes the damage in place of the rows: for
-/// each row that was repaired a line of `damaged`, the row's index, the offset in bits at which its line begins, and the
-/// fault; and then `ok`, the rows, how many of them were repaired, and the count of bytes, or `error`, the index of the row
-/// that can't be read, and the error.
+/// Reads all that the reader has, decodes it row by row as the arguments mean, and writes the damage instead of the rows:
+/// for each row that was repaired a line of `damaged`, the row's index, the offset in bits at which its line begins, and
+/// the fault; and then `ok`, the rows, the number of them that were repaired, and the byte count, or `error`, the index of
+/// the row that can't be read, and the error.
 ///
 /// # Errors
 ///
-/// As those of [`run_by_row`](crate::run_by_row).
+/// Those of [`run_by_row`](crate::run_by_row).
 pub fn run_damage<R: Read, W: Write>(
     alloc: Global,
     words: &[String],
@@ -79,7 +79,7 @@ pub fn run_damage<R: Read, W: Write>(
 }
 
 /// Reads row by row from the first one on, and writes a line for each row that was repaired, and then how the reading
-/// ended. It fails only where the writer does.
+/// ended. It fails only if the writer does.
 fn write_damage<W: Write>(
     alloc: Global,
     rows: &mut RowReader<'_>,

@@ -1,4 +1,4 @@
-//! Lines that tell damage.
+//! Lines that report damage.
 
 ghost use Rattle.std.specs.Prelude.{◌≡◌, ◌≤◌, ◌++◌, ◌∷◌, [], OnOk, OnErr, IfErr, Some, Ok, Err, drop, codes, true, ℕ};
 ghost use Rattle.fax_program.specs.Devices.{AppendsFront};
@@ -11,10 +11,10 @@ use fax_program::{Device, RunFault};
 use hayro_ccitt::DecodeError;
 use std::io::Write;
 
-/// The room that a number and a sign take.
+/// The most bytes of a number and a sign.
 const NUMBER_ROOM: usize = 21;
 
-/// Writes a number and a sign at the end of the room, and returns where they begin.
+/// Writes a number and a sign at the end of the buffer, and returns where they begin.
 fn put_number_text(number: u64, sign: u8, text: &mut [u8; NUMBER_ROOM]) -> usize
     ensures within { result ≤ NUMBER_ROOM }
     ensures text { drop result text.new ≡ number_and number sign }
@@ -43,7 +43,7 @@ pub(crate) fn put_number<W: Write>(
     put(&text[start..], waiting, writer)
 }
 
-/// Puts a word and two numbers, with a space behind each number.
+/// Puts a word and two numbers, with a space after each number.
 pub(crate) fn put_numbers<W: Write>(
     word: &[u8],
     first: u64,
@@ -97,7 +97,7 @@ pub(crate) fn put_damaged_row<W: Write>(
     put(fault_and_end(fault), waiting, writer)
 }
 
-/// Puts the last line of a good reading: the rows, how many of them were repaired, and the count of bytes.
+/// Puts the last line of a good reading: the rows, the number of them that were repaired, and the byte count.
 pub(crate) fn put_good_end<W: Write>(
     rows: u64,
     damaged: u64,

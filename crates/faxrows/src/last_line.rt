@@ -6,10 +6,10 @@ ghost use Rattle.faxrows.specs.Text.{line_of_outcome};
 use crate::digits::put_decimal;
 use hayro_ccitt::DecodeError;
 
-/// The room that `ok` and a count take: `ok `, twenty digits and the line's end.
+/// The most bytes of `ok` and a count: `ok `, twenty digits and the line's end.
 pub const ROOM: usize = 24;
 
-/// Writes the line of a good result at the end of the room, and returns where it begins.
+/// Writes the line of a good result at the end of the buffer, and returns where it begins.
 pub fn put_ok(count: usize, line: &mut [u8; ROOM]) -> usize
     ensures within { result ≤ ROOM }
     ensures line { drop result line.new ≡ line_of_outcome (Ok count) }

@@ -1,9 +1,9 @@
 //! `faxrows`: decodes a fax image from standard input, and writes its rows as text to standard output.
 //!
-//! It is called as `faxrows MODE COLUMNS ROWS FLAGS`, with `-o` before these words to write the rows as a bitmap of one bit
-//! a pixel, with `-i` to write each row as it is read, or with `-d` to write the damage. The mode is `g4`, `1d` or `2d`,
-//! columns and rows are decimal numbers, and the flags are `-` or letters: `b` if EOFB or RTC may end the data, `l` if EOLs
-//! precede its lines, `a` for aligned rows, `s` for a strict reading, `r` for the lowest bit of each byte first.
+//! It is called as `faxrows MODE COLUMNS ROWS FLAGS`, with `-o` before these arguments to write the rows as a bitmap of one
+//! bit a pixel, with `-i` to write each row as it is read, or with `-d` to write the damage. The mode is `g4`, `1d` or
+//! `2d`, columns and rows are decimal numbers, and the flags are `-` or letters: `b` if EOFB or RTC may end the data, `l`
+//! if EOLs precede its lines, `a` for aligned rows, `s` for a strict reading, `r` for the lowest bit of each byte first.
 #![tactic(auto)]
 
 ghost use Rattle.std.specs.Prelude.{◌≡◌, IfOk};
@@ -42,8 +42,8 @@ fn main(rt: HostRuntime) -> ExitCode {
     }
 }
 
-/// Runs with the arguments of the environment, on standard input and output. Returns the exit status. The error of a
-/// bitmap's decoding is printed.
+/// Runs with the arguments of the environment, on standard input and output, and returns the exit status. It prints the
+/// error of a bitmap's decoding.
 fn run_words(rt: &HostRuntime) -> Result<u8, RunFault>
     ensures status { IfOk result IsStatusOfRun }
 {
@@ -91,7 +91,7 @@ const USAGE: &str =
 /// What `--version` prints.
 const VERSION: &str = "faxrows 0.6.0";
 
-/// The status of a run that wrote its text.
+/// Returns the status of a run that wrote its text.
 fn status_of_done(done: Done) -> u8
     ensures status { result ≡ status_of_done done }
 {
@@ -102,7 +102,7 @@ fn status_of_done(done: Done) -> u8
     }
 }
 
-/// The status of a run that wrote its bitmap.
+/// Returns the status of a run that wrote its bitmap.
 fn status_of_answer(answer: Result<(), DecodeError>) -> u8
     ensures status { result ≡ status_of_answer answer }
 {

@@ -31,7 +31,7 @@ pub(crate) fn flush<W: Write>(
     Ok(())
 }
 
-/// Writes the bytes that wait where they and as many more would be more than a piece.
+/// Writes the bytes that wait, if they and this many more are longer than a piece.
 fn make_room<W: Write>(
     count: usize,
     waiting: &mut Vec<u8>,
@@ -51,7 +51,7 @@ fn make_room<W: Write>(
     Ok(())
 }
 
-/// Puts a text behind the bytes that wait, which are written first where both are more than a piece. A text for which an
+/// Puts a text after the bytes that wait, which are written first if both are longer than a piece. A text for which an
 /// allocation fails is written at once.
 pub(crate) fn put<W: Write>(
     text: &[u8],
@@ -95,7 +95,7 @@ pub(crate) fn put_row<W: Write>(
     put(b"\n", waiting, writer)
 }
 
-/// The room that a space and a number take.
+/// The most bytes of a space and a number.
 const CHANGE_ROOM: usize = 21;
 
 /// Puts a change: a space and its number.
@@ -117,7 +117,7 @@ fn put_change<W: Write>(
     put(&text[start..], waiting, writer)
 }
 
-/// Writes a space and a number at the end of the room, and returns where it begins.
+/// Writes a space and a number at the end of the buffer, and returns where it begins.
 fn put_change_text(change: u32, text: &mut [u8; CHANGE_ROOM]) -> usize
     ensures within { result ≤ CHANGE_ROOM }
     ensures text { drop result text.new ≡ text_of_change change }

@@ -23,8 +23,8 @@ use std::io::{Read, Write};
 ///
 /// # Errors
 ///
-/// The outer ones are as the variants of [`RunFault`] say. With an inner one, the rows before the fault were written, or with
-/// `OutOfMemory` and `Refused` the rows that were taken.
+/// The outer ones are those of [`RunFault`]. With an inner one, the rows before the fault were written, or with
+/// `OutOfMemory` and `Refused` the rows that were accepted.
 pub fn run_packed<R: Read, W: Write>(
     alloc: Global,
     words: &[String],
@@ -59,8 +59,8 @@ pub fn run_packed<R: Read, W: Write>(
     write_packed(alloc, input.as_slice(), arguments.order, &mut ctx, writer)
 }
 
-/// Decodes bytes whose bits come in this order, writes the bitmap of the rows that were taken, and answers how the
-/// decoding ended. It fails only where the writer does.
+/// Decodes bytes whose bits come in this order, writes the bitmap of the rows that were accepted, and returns how the
+/// decoding ended. It fails only if the writer does.
 fn write_packed<W: Write>(
     alloc: Global,
     input: &[u8],
@@ -84,7 +84,7 @@ fn write_packed<W: Write>(
     Ok(answer_of(&outcome))
 }
 
-/// How the decoding ended, without the count of bytes.
+/// Returns how the decoding ended, without the byte count.
 fn answer_of(outcome: &hayro_ccitt::Result<usize>) -> std::result::Result<(), DecodeError>
     ensures { result ≡ answer_of outcome.now }
 {

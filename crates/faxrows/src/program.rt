@@ -24,7 +24,7 @@ pub enum Done {
     Good,
     /// The data is at fault. The rows before the fault were written.
     Faulty,
-    /// An allocation failed while decoding. The rows that were taken were written.
+    /// An allocation failed while decoding. The rows that were accepted were written.
     Memory,
 }
 
@@ -33,7 +33,7 @@ pub enum Done {
 ///
 /// # Errors
 ///
-/// As the variants of [`RunFault`] say. A fault of the data is no error of the run: it is written, and `Done::Faulty` returned.
+/// Those of [`RunFault`]. A fault of the data is no error of the run: it is written, and `Done::Faulty` returned.
 pub fn run<R: Read, W: Write>(
     alloc: Global,
     words: &[String],
@@ -80,8 +80,8 @@ pub fn run<R: Read, W: Write>(
     write_decoded(alloc, input.as_slice(), arguments.order, &mut ctx, writer)
 }
 
-/// Decodes bytes whose bits come in this order, and writes a line for each row that was taken, and then how the
-/// decoding ended. It fails only where the writer does.
+/// Decodes bytes whose bits come in this order, and writes a line for each row that was accepted, and then how the decoding
+/// ended. It fails only if the writer does.
 fn write_decoded<W: Write>(
     alloc: Global,
     input: &[u8],
@@ -129,7 +129,7 @@ fn write_last_line<W: Write>(
     }
 }
 
-/// How a run ends that wrote this outcome.
+/// Returns how a run ends that wrote this result.
 pub(crate) fn done_of(outcome: &hayro_ccitt::Result<usize>) -> Done
     ensures { result ≡ done_of outcome.now }
 {

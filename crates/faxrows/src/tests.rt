@@ -22,7 +22,7 @@ impl Calls {
         }
     }
 
-    /// Counts a call, and says whether it fails.
+    /// Counts a call, and returns whether it fails.
     fn fails(&mut self) -> bool {
         if self.before_failure > 0 {
             self.before_failure -= 1;
@@ -34,7 +34,7 @@ impl Calls {
     }
 }
 
-/// A reader that gives one byte a read, and fails at a read.
+/// A reader that supplies one byte a read, and fails at a read.
 #[derive(Drop)]
 struct Dripping {
     bytes: Vec<u8>,
@@ -59,7 +59,7 @@ impl Read for Dripping {
     }
 }
 
-/// A writer that takes one byte a write, and fails at a write.
+/// A writer that accepts one byte a write, and fails at a write.
 #[derive(Drop)]
 struct Choking {
     bytes: Vec<u8>,
@@ -85,7 +85,7 @@ impl Write for Choking {
     }
 }
 
-/// A writer that takes one byte a write, and nothing at one of its writes. It counts them.
+/// A writer that accepts one byte a write, and nothing at one of its writes. It counts them.
 #[derive(Drop)]
 struct Stalling {
     bytes: Vec<u8>,
@@ -114,7 +114,7 @@ impl Write for Stalling {
     }
 }
 
-/// The words of a line, parted by spaces.
+/// Splits a line at its spaces.
 fn words_of(alloc: Global, line: &str) -> Result<Vec<String>, AllocError> {
     let mut words = Vec::new(alloc);
     for word in line.split(' ') {
@@ -129,7 +129,7 @@ fn bytes_of(alloc: Global, bytes: &[u8]) -> Result<Vec<u8>, AllocError> {
     Ok(all)
 }
 
-/// Runs over bytes, and answers how the run ended and what was written.
+/// Runs over bytes, and returns how the run ended and what was written.
 fn ran(
     alloc: Global,
     line: &str,
@@ -142,7 +142,7 @@ fn ran(
     Ok((answer, writer.into_inner()))
 }
 
-/// Runs row by row over bytes, and answers how the run ended and what was written.
+/// Runs row by row over bytes, and returns how the run ended and what was written.
 fn ran_by_row(
     alloc: Global,
     line: &str,
@@ -155,7 +155,7 @@ fn ran_by_row(
     Ok((answer, writer.into_inner()))
 }
 
-/// Runs over bytes for their damage, and answers how the run ended and what was written.
+/// Runs over bytes for their damage, and returns how the run ended and what was written.
 fn ran_for_damage(
     alloc: Global,
     line: &str,
@@ -523,7 +523,7 @@ fn sink_without_memory(rt: HostRuntime) {
     assert_eq!(rt; sink.text(), [0u8; 0].as_slice());
 }
 
-/// A writer that takes no memory: it compares what it is given with what it wants, and counts how much was the same.
+/// A writer that allocates nothing: it compares what it is given with what is expected, and counts how much was equal.
 #[derive(Drop)]
 struct Comparing<'a> {
     wanted: &'a [u8],
@@ -547,8 +547,9 @@ impl Write for Comparing<'_> {
     }
 }
 
-/// The rows `r 3 5` and `r 3 5` by row with each request refused in turn: a run without the memory to begin writes nothing,
-/// one without that for a row writes the rows before it, and one without that for a piece of text writes all of it.
+/// The rows `r 3 5` and `r 3 5` by row with each allocation refused in turn: a run without the memory to begin writes
+/// nothing, one without that for a row writes the rows before it, and one without that for a piece of text writes all of
+/// it.
 #[test]
 fn refused_memory_by_row(rt: HostRuntime) -> Result<(), Fail> {
     let words = words_of(rt.alloc(), "g4 8 2 -")?;
@@ -582,8 +583,8 @@ fn refused_memory_by_row(rt: HostRuntime) -> Result<(), Fail> {
     Ok(())
 }
 
-/// The damage with each request refused in turn: a run without the memory to begin writes nothing, one without that for the
-/// second row says so, and one without that for a piece of text writes all of it.
+/// The damage with each allocation refused in turn: a run without the memory to begin writes nothing, one without that for
+/// the second row reports it, and one without that for a piece of text writes all of it.
 #[test]
 fn refused_memory_of_damage(rt: HostRuntime) -> Result<(), Fail> {
     let words = words_of(rt.alloc(), "1d 8 0 l")?;

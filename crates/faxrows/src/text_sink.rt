@@ -38,7 +38,7 @@ impl TextSink {
         }
     }
 
-    /// Returns the lines of the rows that were taken.
+    /// Returns the lines of the rows that were accepted.
     pub fn text(&self) -> &[u8]
         ensures { result.now ≡ self.now.0 }
     {

@@ -1,4 +1,4 @@
--- Damage that a lenient reading of Group 3 data with EOLs gets over: rows that it repairs, and EOLs that it misses (T.4, 4.1.2).
+-- Damage that a lenient reading of Group 3 data with EOLs passes: rows that it repairs, and EOLs that it misses (T.4, 4.1.2).
 use Rattle.std.specs.Prelude.{ℕ, ◌+◌, ◌-◌, Bool, not, ◌&&◌, ◌||◌, List, [], ◌∷◌, ◌++◌, length, flat_map, ◌==◌, Option, Some, None, if◌then◌else◌}
 use Rattle.hayro_ccitt.specs.declared.error.DecodeError.{DecodeError}
 use Rattle.hayro_ccitt.specs.declared.error.DecodeError.TheVariants.{InvalidCode}
@@ -7,8 +7,8 @@ use Rattle.hayro_ccitt.specs.Bits.{Bits}
 use Rattle.hayro_ccitt.specs.Lines.{Line}
 use Rattle.hayro_ccitt.specs.PlainReading.{Progress, gathered_of, line_of_turn, misses_eol, behind_row}
 
--- damage: the index of the row, the offset in bits from which on bits are passed over, and the fault; a line that is repaired is
--- passed over from its first bit on, and an EOL is missed behind a whole one
+-- damage: the index of the row, the offset in bits of the first bit that is skipped, and the fault; a repaired line is skipped
+-- from its first bit on, and an EOL is missed after a whole line
 pub record Damaged : Type 0 where
   pub row : ℕ
   pub start : ℕ
@@ -27,7 +27,7 @@ abbrev pub fault_in : List Damaged → Option DecodeError
 fault_in [] = None
 fault_in (damaged ∷ more) = Some damaged.fault
 
--- glue: of the line of a turn
+-- auxiliary: of the line of a turn
 abbrev pub repaired_by_turn : DecodeSettings → Bits → Progress → List Damaged
 repaired_by_turn settings bits so_far =
     repaired_in settings so_far.has_eols (length so_far.rows) (length bits - length so_far.rest) (line_of_turn settings so_far)
@@ -42,7 +42,7 @@ repairs_of settings bits = flat_map (λ repaired. repaired) (repairs_by_line set
 
 -- ---- EOLs that are missed
 
--- what is missed behind a line: its EOL, where it is whole and other bits stand, in lenient data with EOLs (T.4, 4.1.2)
+-- what is missed after a line: its EOL, if the line is whole and other bits follow, in lenient data with EOLs (T.4, 4.1.2)
 abbrev pub missed_behind : DecodeSettings → Bits → Progress → Line → List Damaged
 missed_behind settings bits so_far (Line.whole row rest) =
     if misses_eol settings (length so_far.rows + 1) so_far.has_eols (behind_row settings so_far.has_eols rest) && not settings.strict
@@ -52,11 +52,11 @@ missed_behind settings bits so_far (Line.broken front fault) = []
 
 -- ---- All damage
 
--- glue: of a turn
+-- auxiliary: of a turn
 abbrev pub damaged_by_turn : DecodeSettings → Bits → Progress → List Damaged
 damaged_by_turn settings bits so_far = repaired_by_turn settings bits so_far ++ missed_behind settings bits so_far (line_of_turn settings so_far)
 
--- All damage that the plain reading gets over, in order: each row that it repairs, and each row behind which it misses the EOL
+-- All damage that the plain reading passes, in order: each row that it repairs, and each row after which it misses the EOL
 -- (T.4, 4.1.2).
 abbrev pub damage_of : DecodeSettings → Bits → List Damaged
 damage_of settings bits =

@@ -39,16 +39,16 @@ pub record StopsShort {M A : Type 0} (rows : List Row) (lines : List Line) (befo
   pub flag : answer ≡ Err Refused → after.refused ≡ true
   pub no_flag : answer ≢ Err Refused → after.refused ≡ before.refused
 
--- How many rows are repaired, where the lines of a reading come to these repairs: those of the rows that were taken, and all
--- of them unless memory was wanted or a row was refused (T.4, 4.1.2).
+-- How many rows are repaired, if the lines of a reading yield these repairs: those of the accepted rows, and all of them unless
+-- an allocation failed or a row was refused (T.4, 4.1.2).
 pub record CountsRepairs {A : Type 0} (repairs : List (List Damaged)) (held : Held) (answer : Result A DecodeError) : Type 0 where
   pub taken : held.repairs.rows ≡ sum_by length (take held.taken repairs)
   pub all : OnAnswer answer (held.repairs.rows ≡ sum_by length repairs)
 
 -- ---- All rows of some bits: the contract of the drivers
 
--- What a run over rows leaves, from the end that its reading comes to, its lines, their words and repairs: the rows that were
--- taken, what comes with fewer, how many were repaired, and the work, at most so much.
+-- What a run over rows leaves, from the end of its reading, its lines, their words and repairs: the accepted rows, why there
+-- are fewer if there are, how many were repaired, and at most this much work.
 pub record TakesAll {M : Type 0} (end : Ending) (lines : List Line) (words : List (List Bits)) (repairs : List (List Damaged)) (most : ℕ) (step : M → List ℕ → M) (before after : SinkState M) (old new : Context) (answer : Result Bits DecodeError) : Type 0 where
   pub settings : new.held.settings ≡ old.held.settings
   pub reading : TakesRows end.rows end.outcome end.has_eols step before after new.held answer
@@ -81,12 +81,12 @@ abbrev pub with_row_taken : Held → Row → Held
 with_row_taken h row =
     record { reference = row; front = []; color = White; taken = h.taken + 1; repairs = h.repairs; has_eols = h.has_eols; settings = h.settings }
 
--- what is repaired of the rows taken, where the row of a line is one more: a broken one was repaired (T.4, 4.1.2)
+-- what is repaired of the accepted rows, with the row of one more line: a broken line was repaired (T.4, 4.1.2)
 abbrev pub repairs_with : Line → Repairs → Repairs
 repairs_with (Line.whole row rest) before = before
 repairs_with (Line.broken front fault) before = record { rows = before.rows + 1; fault = fault }
 
--- the row of a line was taken, and these bits stand behind it
+-- the row of a line was accepted, and these bits follow it
 pub record RowIsTaken {M : Type 0} (line : Line) (row : Result (Row × Bits) DecodeError) (step : M → List ℕ → M) (before after : SinkState M) (old new : Held) (rest : Bits) : Type 0 where
   pub taken : Row
   pub is : row ≡ Ok (taken, rest)
@@ -115,7 +115,7 @@ pub record TakesOneRow {M : Type 0} (line : Line) (row : Result (Row × Bits) De
   pub flag : answer ≡ Err Refused → after.refused ≡ true
   pub no_flag : answer ≢ Err Refused → after.refused ≡ before.refused
 
--- a run over rows that begins at a line among some bits, with at most so much work
+-- a run over rows that begins at a line among some bits, with at most this much work
 abbrev pub DecodesFrom : {M : Type 0} → Bits → Progress → ℕ → (M → List ℕ → M) → SinkState M → SinkState M → Context → Context → Result Bits DecodeError → Type 0
 DecodesFrom bits first most step before after old new answer =
     TakesAll (ending_from (move_on old.held.settings) first) (gathered_from (move_on old.held.settings) (one_each (line_of_turn old.held.settings)) first)

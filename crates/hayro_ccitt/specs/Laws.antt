@@ -110,7 +110,7 @@ StrictThenLenient = (settings : DecodeSettings) (whole : Bits) → AreSettings s
     → IsPrefix (plain (strictly settings) whole).rows (plain (leniently settings) whole).rows
     × (IsOk (plain (strictly settings) whole).outcome → plain (strictly settings) whole ≡ plain (leniently settings) whole)
 
--- Where the strict reading ends without a fault, the lenient one gets over no damage.
+-- Where the strict reading ends without a fault, the lenient one passes no damage.
 abbrev pub StrictIsUndamaged : Type 0
 StrictIsUndamaged = (settings : DecodeSettings) (whole : Bits) → IsOk (plain (strictly settings) whole).outcome → damage_of (leniently settings) whole ≡ []
 

@@ -86,13 +86,13 @@ abbrev pub missing_eol : DecodeSettings → ℕ → Bits → Gap
 missing_eol settings taken here =
     if settings.strict then Gap.over (Err InvalidCode) else from_next_eol settings taken here (next_eol here)
 
--- no EOL stands behind so many rows, although the data have them, the limit isn't met and bits are left (T.4, 4.1.2)
+-- there is no EOL after this number of rows, although the data have EOLs, the limit isn't met and bits are left (T.4, 4.1.2)
 abbrev pub misses_eol : DecodeSettings → ℕ → Bool → Bits → Bool
 misses_eol settings taken has_eols here =
     ((eols_here settings here).0 == 0) && has_eols && not (limit_met settings taken) && not (at_end here)
 
--- What stands behind so many rows: EOLs, which are counted, and sought where none came although the data have them, the
--- limit isn't met and bits are left (T.4, 4.1.2).
+-- What follows this number of rows: EOLs, which are counted, and searched for if there are none although the data have EOLs,
+-- the limit isn't met and bits are left (T.4, 4.1.2).
 abbrev pub gap_behind_row : DecodeSettings → ℕ → Bool → Bits → Gap
 gap_behind_row settings taken has_eols here =
     if misses_eol settings taken has_eols here

@@ -36,8 +36,8 @@ is_at_line BehindRow = false
 is_at_line AtEnd = false
 is_at_line (AtFault error) = false
 
--- what is read and by which settings, how many rows were read, the last one, where its line begins, and the fault where it was
--- repaired, how the reading has ended, whether a line stands here, and the offset of the next bit
+-- what is read and with which settings, the number of rows read, the last one, the offset of its line and its fault if it was
+-- repaired, how the reading has ended, whether there is a line here, and the offset of the next bit
 pub record RowsRead : Type 0 where
   pub settings : DecodeSettings
   pub bits : Bits
@@ -62,7 +62,7 @@ read_so_far held reader line_start damage stand = record {
   place = reader.place;
 }
 
--- what a reading keeps between two rows, over the bits at which it stands
+-- what a reading keeps between two rows, and the bits from here on
 abbrev pub seen : RowState → BitsAt → RowsRead
 seen rows reader = read_so_far rows.ctx.held reader rows.started_at rows.damage rows.stand
 
@@ -74,17 +74,17 @@ abbrev pub line_after : Result Bool DecodeError → Result Bool DecodeError
 line_after (Ok over) = Ok (not over)
 line_after (Err error) = Err error
 
--- the state of a reading that passed a gap, given what the gap says
+-- the state of a reading that passed a gap, given the result of the gap
 abbrev pub stand_after : Result Bool DecodeError → Stand
 stand_after (Ok true) = AtEnd
 stand_after (Ok false) = AtLine
 stand_after (Err error) = AtFault error
 
--- the fault of the last row, where it is one that was repaired since so many were
+-- the fault of the last row, if it was repaired: if more rows are repaired now than before it
 abbrev pub damage_since : Repairs → ℕ → Option DecodeError
 damage_since repairs before = if repairs.rows == before then None else Some repairs.fault
 
--- where the line of the last row begins, or after a gap that is at fault, the place of that gap
+-- where the line of the last row begins, or after a faulty gap, the offset of that gap
 abbrev pub start_after : Result Bool DecodeError → ℕ → ℕ → ℕ
 start_after (Ok over) place before = before
 start_after (Err error) place before = place
@@ -117,9 +117,9 @@ pub record ReadsNext (old new : RowsRead) (result : Result Bool DecodeError) : T
   -- there was none
   pub end : result ≡ Ok false → (new.end ≡ Some (Ok tt)) × (new.taken ≡ old.taken) × HasEnded old.settings old.bits new.taken new.place
   pub error : IfErr result (λ e. (new.end ≡ Some (Err e)) × (new.taken ≡ old.taken) × HasFailed old.settings old.bits new.taken e)
-  -- the place of the fault: the first bit of the line that couldn't be read, or the place where its EOL is missing (T.4, 4.1.2)
+  -- the offset of the fault: the first bit of the line that couldn't be read, or where its EOL is missing (T.4, 4.1.2)
   pub fault_start : old.end ≡ None → OnErr result (new.line_start ≡ get_or (line_starts old.settings old.bits) old.taken new.place)
-  -- no row was read: the last row and its fault stay as they were, and at the end the place of its line does
+  -- no row was read: the last row and its fault are unchanged, and at the end so is the offset of its line
   pub last : result ≢ Ok true → (new.row ≡ old.row) × (new.damage ≡ old.damage)
   pub last_start : result ≡ Ok false → new.line_start ≡ old.line_start
 
@@ -133,7 +133,7 @@ pub record ComesToLine (old new : RowsRead) (result : Result Bool DecodeError) :
   pub end : result ≡ Ok false → (new.end ≡ Some (Ok tt)) × HasEnded old.settings old.bits new.taken new.place
   pub error : IfErr result (λ e. (new.end ≡ Some (Err e)) × HasFailed old.settings old.bits new.taken e)
   pub fault_start : OnErr result (new.line_start ≡ get_or (line_starts old.settings old.bits) old.taken new.place)
-  -- the last row and its fault stay as they were, and so does the place of its line where the gap is without fault
+  -- the last row and its fault are unchanged, and so is the offset of its line if the gap has no fault
   pub last : (new.row ≡ old.row) × (new.damage ≡ old.damage)
   pub last_start : IfOk result (λ line. new.line_start ≡ old.line_start)
 
@@ -144,7 +144,7 @@ at_end_of_rows (Err error) = Err error
 
 -- ---- The invariant: not part of the trusted specification
 
--- the context between two rows of the reading, where so much was repaired
+-- the context between two rows of the reading, with this number of repaired rows
 abbrev pub context_at : DecodeSettings → Progress → Repairs → Held
 context_at settings so_far repairs = record {
   reference = row_before settings.columns so_far.rows;
@@ -186,12 +186,12 @@ Stands BehindRow settings bits held place = StandsBehindRow settings bits held (
 Stands AtEnd settings bits held place = HasEnded settings bits held.taken place
 Stands (AtFault error) settings bits held place = HasFailed settings bits held.taken error
 
--- the rows read were counted that were repaired (T.4, 4.1.2)
+-- the repaired rows among those read were counted (T.4, 4.1.2)
 pub record RepairsAreCounted (settings : DecodeSettings) (bits : Bits) (held : Held) : Type 0 where
   pub few : held.repairs.rows ≤ held.taken
   pub counted : held.repairs.rows ≡ sum_by length (take held.taken (repairs_by_line settings bits))
 
--- it stands there by the plain reading of these bits
+-- it is there by the plain reading of these bits
 abbrev pub IsStanding : RowState → BitsAt → Type 0
 IsStanding rows reader =
     Stands rows.stand rows.ctx.held.settings reader.bits rows.ctx.held reader.place

@@ -1,4 +1,5 @@
-//! Modes whose words are all at hand, drawn with the line's own values. What isn't usual is left to the calls of `context`.
+//! Modes whose code words are all in the window, drawn with the line's own values. The functions of `context` draw the
+//! others.
 
 ghost use Rattle.std.specs.Prelude.{vec_len, vec_capacity, get_or, ◌≡◌, ◌≢◌, ◌+◌, ◌-◌, ◌%◌, ◌<◌, ◌≤◌, ◌⊎◌, ℕ, Ok, Some, IfSome, IfNone, true, false, pos, negsuc, length, ◌++◌, ◌∷◌, []};
 ghost use Rattle.hayro_ccitt.specs.Bits.{here};
@@ -18,7 +19,7 @@ use crate::usual::{
     b1_after_left, has_room, is_next, lay_down, run_at_hand, seek_b1, turn_at, word_at_hand,
 };
 
-/// Fills the window, where fewer than 32 bits are at hand; false where that can't be.
+/// Fills the window if it has fewer than 32 bits; returns false if it can't be filled.
 #[inline(always)]
 fn has_mode(hand: &mut BitsAtHand<'_>) -> bool
     ensures same { hand.new.at ≡ hand.old.at }
@@ -30,7 +31,7 @@ fn has_mode(hand: &mut BitsAtHand<'_>) -> bool
     hand.refill()
 }
 
-/// The mode whose word stands here, if one does, and the number of its bits.
+/// Returns the mode whose code word is here, if there is one, and the number of its bits.
 #[inline(always)]
 fn mode_at_hand(hand: &BitsAtHand<'_>) -> (Option<Mode>, usize)
     requires within { 7 ≤ hand.now.left }
@@ -45,7 +46,7 @@ fn mode_at_hand(hand: &BitsAtHand<'_>) -> (Option<Mode>, usize)
     mode_of(hand.seven())
 }
 
-/// Whether there is room for a change.
+/// Returns whether there is room for a change.
 #[inline(always)]
 fn has_place(changes: &Vec<u32>) -> bool
     ensures { result ≡ true → vec_len changes.now < vec_capacity changes.now }
@@ -53,7 +54,8 @@ fn has_place(changes: &Vec<u32>) -> bool
     changes.capacity() > changes.len()
 }
 
-/// Draws V0: a change below b1, or the rest of the row. None where there is no room for a change; then nothing is drawn.
+/// Draws V0: a change below b1, or the rest of the row. Returns `None`, and draws nothing, if there is no room for a
+/// change.
 #[inline(always)]
 fn draw_v0(
     hand: &mut BitsAtHand<'_>,
@@ -93,7 +95,7 @@ fn draw_v0(
     Some((place, index + 1, color.opposite()))
 }
 
-/// Draws VR up to the row's end. None where it doesn't end there; then nothing is drawn.
+/// Draws VR up to the row's end. Returns `None`, and draws nothing, if it doesn't end there.
 #[inline(always)]
 fn draw_to_end(
     hand: &mut BitsAtHand<'_>,
@@ -131,8 +133,8 @@ fn draw_to_end(
     Some((columns, index, color.opposite()))
 }
 
-/// Draws VR: a change so many pixels right of b1, or the rest of the row. None where that is behind the row's end, or where
-/// there is no room for a change; then nothing is drawn.
+/// Draws VR: a change `more` pixels right of b1, or the rest of the row. Returns `None`, and draws nothing, if that is
+/// after the row's end or there is no room for a change.
 #[inline(always)]
 fn draw_right(
     hand: &mut BitsAtHand<'_>,
@@ -178,8 +180,8 @@ fn draw_right(
     Some((place, next, color.opposite()))
 }
 
-/// Draws VL up to the row's left edge, where nothing is painted: the row begins in black. None elsewhere, or where there is no
-/// room for a change; then nothing is drawn.
+/// Draws VL up to the row's left edge, if nothing is painted: the row begins in black. Returns `None`, and draws nothing,
+/// elsewhere or if there is no room for a change.
 #[inline(always)]
 fn draw_to_edge(
     hand: &mut BitsAtHand<'_>,
@@ -227,8 +229,8 @@ fn draw_to_edge(
     Some((painted, index + 1, color.opposite()))
 }
 
-/// Draws VL: a change so many pixels left of b1. None where it is neither right of a0 nor at the row's left edge, or where
-/// there is no room for it; then nothing is drawn.
+/// Draws VL: a change `less` pixels left of b1. Returns `None`, and draws nothing, if that is neither right of a0 nor at
+/// the row's left edge, or if there is no room for a change.
 #[inline(always)]
 fn draw_left(
     hand: &mut BitsAtHand<'_>,
@@ -274,7 +276,7 @@ fn draw_left(
     Some((place, next, color.opposite()))
 }
 
-/// Draws a pass: the colour goes on to below b2.
+/// Draws a pass: the colour continues to below b2.
 #[inline(always)]
 fn draw_pass(
     hand: &mut BitsAtHand<'_>,
@@ -308,7 +310,7 @@ fn draw_pass(
     Some((b2, index + 2, color))
 }
 
-/// Fills the window, where fewer than 55 bits are at hand; false where that can't be.
+/// Fills the window if it has fewer than 55 bits; returns false if it can't be filled.
 #[inline(always)]
 fn has_long_runs(hand: &mut BitsAtHand<'_>) -> bool
     ensures same { hand.new.at ≡ hand.old.at }
@@ -320,8 +322,8 @@ fn has_long_runs(hand: &mut BitsAtHand<'_>) -> bool
     hand.refill()
 }
 
-/// Two runs of two colours behind a horizontal mode: of each its pixels, its bits and its words. None where one of them has
-/// other words than one terminating word, or one make-up word and one.
+/// Returns the two runs after a horizontal mode: for each its pixels, its bits and its number of code words. Returns `None`
+/// if one of them is neither a terminating word nor a make-up word and a terminating word.
 #[inline(always)]
 fn runs_at_hand(
     hand: &mut BitsAtHand<'_>,
@@ -350,7 +352,7 @@ fn runs_at_hand(
     Some((run, width, words, run2, width2, words2))
 }
 
-/// Draws two runs. None where they aren't usual; then nothing is drawn.
+/// Draws two runs. Returns `None`, and draws nothing, if they aren't of the usual kind.
 #[inline(always)]
 fn draw_horizontal(
     hand: &mut BitsAtHand<'_>,
@@ -409,7 +411,7 @@ fn draw_horizontal(
     Some((place, next, color))
 }
 
-/// Draws the mode that stands here, for a colour. None where it isn't usual; then nothing is drawn.
+/// Draws the mode that is here, in a colour. Returns `None`, and draws nothing, if it isn't of the usual kind.
 #[inline(always)]
 fn draw_mode_at_hand(
     hand: &mut BitsAtHand<'_>,
@@ -473,7 +475,7 @@ fn draw_mode_at_hand(
     }
 }
 
-/// Whether a colour is the other one.
+/// Returns whether the two colours differ.
 #[inline(always)]
 fn is_turned(color: Color, next: Color) -> bool
     ensures same { result ≡ false → next ≡ color }
@@ -491,8 +493,8 @@ fn is_turned(color: Color, next: Color) -> bool
     }
 }
 
-/// Draws modes of one colour as long as they are usual, up to one that turns the colour, and tells how far the row reaches
-/// then, the index of b1, the colour, and whether that is all.
+/// Draws modes in one colour while they are of the usual kind, up to one that changes the colour. Returns how far the row
+/// reaches then, the index of b1, the colour, and whether that is all.
 #[inline(always)]
 fn draw_in_color(
     hand: &mut BitsAtHand<'_>,
@@ -541,8 +543,8 @@ fn draw_in_color(
     }
 }
 
-/// Draws modes as long as they are usual, from a line's start on, and tells how far the row reaches then, the index of b1 and
-/// the colour.
+/// Draws modes from a line's start on, while they are of the usual kind. Returns how far the row reaches then, the index of
+/// b1 and the colour.
 #[inline(always)]
 pub(crate) fn draw_modes(
     hand: &mut BitsAtHand<'_>,
@@ -564,7 +566,7 @@ pub(crate) fn draw_modes(
     ensures stroke { IsStroke columns places.now result.0 result.1 result.2 row.new.items }
     ensures same_bits { hand.new.at.bits ≡ hand.old.at.bits }
 {
-    // The window stands in values of this call alone.
+    // A copy of the window, so that its fields are values of this call.
     let mut bits = hand.copy();
     let mut place: u32 = 0;
     let mut at: usize = 0;
@@ -608,7 +610,7 @@ pub(crate) fn draw_modes(
     }
 }
 
-/// Lays down a front: a change that stands at its end isn't one yet, unless the row is full.
+/// Prepares a front for `context`: a change at the front's end is removed, unless the row is full.
 #[inline(always)]
 pub(crate) fn lay_down_row(changes: &mut Vec<u32>, painted: u32, columns: u32)
     requires lawful { AreChanges (painted + 1) changes.old.items }
@@ -621,7 +623,7 @@ pub(crate) fn lay_down_row(changes: &mut Vec<u32>, painted: u32, columns: u32)
     }
 }
 
-/// Whether the row of a list of changes is white.
+/// Returns whether the row of a list of changes is white.
 #[inline(always)]
 pub(crate) fn is_white_row(changes: &Vec<u32>) -> bool
     ensures { result ≡ true → changes.now.items ≡ [] }

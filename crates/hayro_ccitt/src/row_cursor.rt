@@ -1,4 +1,4 @@
-//! Rows one at a time, of data that is handed in at each call.
+//! Rows one at a time, from data that is passed to each call.
 
 ghost use Rattle.std.specs.Prelude.{◌≡◌, ◌+◌, ◌/◌, None, Some, IfOk, IsOkUnless, Result, length};
 ghost use Rattle.hayro_ccitt.specs.Bits.{BitsFit, bits_in};
@@ -14,11 +14,11 @@ use crate::{DecodeError, Result};
 use std::alloc::Global;
 use std::marker::Model;
 
-/// Reads the rows of an image one at a time, as [`RowReader`](crate::RowReader) does, but holds no reference to the data: each
-/// call is handed the data again. It holds two rows in memory and the tables of the code words.
+/// Reads the rows of an image one at a time, as [`RowReader`](crate::RowReader) does, but holds no reference to the data:
+/// it is passed to each call again. It holds two rows in memory and the lookup tables of the code words.
 ///
-/// The same data is to be handed in each time. With other data the rows and errors mean nothing, but each call returns, and
-/// reads nothing outside of the data.
+/// Pass the same data each time. With other data the rows and errors mean nothing, but each call returns, and reads nothing
+/// outside of the data.
 #[derive(Drop)]
 pub struct RowCursor {
     rows: RowState,
@@ -35,11 +35,11 @@ impl Model for RowCursor {
 }
 
 impl RowCursor {
-    /// A reader of the rows of an image, whose bytes hold their bits in this order. It stands before the first row.
+    /// Creates a reader of the rows of an image, whose bytes hold their bits in this order. It is before the first row.
     ///
     /// # Errors
     ///
-    /// `OutOfMemory` where the tables of the code words can't be allocated.
+    /// `OutOfMemory` if the lookup tables can't be allocated.
     pub fn new(
         alloc: Global,
         data: &[u8],
@@ -68,7 +68,7 @@ impl RowCursor {
         })
     }
 
-    /// Reads the next row from where the last call came to.
+    /// Reads the next row from where the last call ended.
     fn read_on(&mut self, data: &[u8]) -> Result<bool>
         requires fit { BitsFit «data».now }
         requires unended { ended self.old.stand ≡ None }
@@ -92,8 +92,8 @@ impl RowCursor {
     ///
     /// # Errors
     ///
-    /// Those of [`decode`](crate::decode), but for `Refused`. After an error each further call returns the same error. Data that
-    /// ends before the place to which the last call came is `UnexpectedEof`.
+    /// Those of [`decode`](crate::decode), except `Refused`. After an error each further call returns the same error. Data
+    /// that ends before the offset where the last call ended is `UnexpectedEof`.
     pub fn next_row(&mut self, data: &[u8]) -> Result<bool>
         requires fit { BitsFit «data».now }
         ensures reads { IsReadingOf (bits_in self.old.order «data».now) self.old → ended self.old.stand ≡ None → ReadsNext
@@ -111,8 +111,8 @@ impl RowCursor {
         }
     }
 
-    /// The changes of the last row that was read, in ascending order: the pixels at which its colour changes. There are none
-    /// before the first row.
+    /// Returns the changes of the last row that was read, in ascending order: the pixels at which its colour changes. There
+    /// are none before the first row.
     pub fn row(&self) -> &[u32]
         ensures changes { result.now ≡ changes self.now.held.reference }
         ensures lawful { AreChanges self.now.held.settings.columns result.now }
@@ -121,44 +121,44 @@ impl RowCursor {
         self.rows.ctx.reference_row()
     }
 
-    /// The number of rows that were read.
+    /// Returns the number of rows that were read.
     pub fn rows_read(&self) -> u64
         ensures { result ≡ self.now.held.taken }
     {
         self.rows.ctx.decoded_rows()
     }
 
-    /// The settings that it was made with.
+    /// Returns the settings.
     pub fn settings(&self) -> DecodeSettings
         ensures { result ≡ self.now.held.settings }
     {
         self.rows.ctx.settings()
     }
 
-    /// The offset in bits at which the line of the last row begins, after its EOL; in two-dimensional data of Group 3 that of
-    /// its tag bit (T.4 section 4.2.2).
+    /// Returns the offset in bits at which the line of the last row begins, after its EOL; in two-dimensional data of Group
+    /// 3 that of its tag bit (T.4 section 4.2.2).
     pub fn line_start(&self) -> usize
         ensures { result ≡ self.now.line_start }
     {
         self.rows.started_at
     }
 
-    /// The fault of the last row where its line was damaged and repaired, as a lenient reading of Group 3 with EOLs does (T.4
-    /// section 4.1.2); `None` where the line was whole, and before the first row.
+    /// Returns the fault of the last row if its line was damaged and repaired, as in a lenient reading of Group 3 with EOLs
+    /// (T.4 section 4.1.2); `None` if the line was whole, and before the first row.
     pub fn damage(&self) -> Option<DecodeError>
         ensures { result ≡ self.now.damage }
     {
         self.rows.damage
     }
 
-    /// The number of rows read whose line was damaged and repaired.
+    /// Returns the number of rows read whose line was damaged and repaired.
     pub fn damaged_rows(&self) -> u64
         ensures { result ≡ self.now.held.repairs.rows }
     {
         self.rows.ctx.damaged_rows()
     }
 
-    /// The number of bytes consumed so far, the last one whole.
+    /// Returns the number of bytes consumed so far, the last one rounded up.
     pub fn bytes_read(&self) -> usize
         ensures { result ≡ (self.now.place + 7) / 8 }
     {

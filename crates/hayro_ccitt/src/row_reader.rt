@@ -16,7 +16,7 @@ use crate::{DecodeError, Decoder, Result};
 use std::alloc::Global;
 use std::marker::Model;
 
-/// A sink that takes each row and keeps none.
+/// A sink that accepts each row and keeps none.
 #[derive(Drop)]
 struct NoRows {
     columns: u32,
@@ -55,7 +55,7 @@ pub(crate) enum Stand {
     AtFault(DecodeError),
 }
 
-/// Where a reading is after a gap, which says so.
+/// Returns the state after a gap.
 fn stand_after_gap(over: Result<bool>) -> Stand
     ensures { result ≡ stand_after over }
 {
@@ -66,7 +66,7 @@ fn stand_after_gap(over: Result<bool>) -> Stand
     }
 }
 
-/// Where the line of the last row begins, or after a gap that is at fault, the place of that gap.
+/// Returns where the line of the last row begins, or after a faulty gap, the offset of that gap.
 fn start_after_gap(over: Result<bool>, place: usize, before: usize) -> usize
     ensures { result ≡ start_after over place before }
 {
@@ -76,7 +76,7 @@ fn start_after_gap(over: Result<bool>, place: usize, before: usize) -> usize
     }
 }
 
-/// Whether a line follows a gap, which says whether the image ends there.
+/// Returns whether a line follows a gap.
 fn line_after_gap(over: Result<bool>) -> Result<bool>
     ensures { result ≡ line_after over }
 {
@@ -86,7 +86,7 @@ fn line_after_gap(over: Result<bool>) -> Result<bool>
     }
 }
 
-/// The fault of the last row, where it is one that was repaired since so many were.
+/// Returns the fault of the last row, if it was repaired: if more rows are repaired now than before it.
 fn damage_since(ctx: &DecoderContext, damaged_rows: u64) -> Option<DecodeError>
     ensures { result ≡ damage_since ctx.now.held.repairs damaged_rows }
 {
@@ -96,14 +96,14 @@ fn damage_since(ctx: &DecoderContext, damaged_rows: u64) -> Option<DecodeError>
     Some(ctx.last_fault())
 }
 
-/// Whether a line stands here.
+/// Returns whether there is a line here.
 fn is_at_line(stand: Stand) -> bool
     ensures { result ≡ is_at_line stand }
 {
     matches!(&stand, Stand::AtLine)
 }
 
-/// Passes what stands before the first line: in Group 4 EOFB may, and in Group 3 EOLs (T.6 section 2.4.1.1, T.4 section 4.1.2).
+/// Passes what is before the first line: EOFB in Group 4, EOLs in Group 3 (T.6 section 2.4.1.1, T.4 section 4.1.2).
 pub(crate) fn first_stand(ctx: &mut DecoderContext, reader: &mut BitReader<'_>) -> Stand
     requires fresh { ctx.old.held ≡ fresh ctx.old.held.settings }
     requires start { reader.old.place ≡ 0 }
@@ -119,7 +119,7 @@ pub(crate) fn first_stand(ctx: &mut DecoderContext, reader: &mut BitReader<'_>) 
     match ctx.settings().encoding {
         EncodingMode::Group4 => {
             let over = pass_gap(ctx, reader);
-            // That an offset is within the data is known once it is read.
+            // An offset is known to be within the data once it is read.
             let _place = reader.bit_pos();
             stand_after_gap(over)
         }
@@ -130,7 +130,7 @@ pub(crate) fn first_stand(ctx: &mut DecoderContext, reader: &mut BitReader<'_>) 
     }
 }
 
-/// What a reading keeps between two rows, beside the bits.
+/// What a reading keeps between two rows, besides the bits.
 #[derive(Drop)]
 pub(crate) struct RowState {
     pub(crate) ctx: DecoderContext,
@@ -140,7 +140,7 @@ pub(crate) struct RowState {
 }
 
 impl RowState {
-    /// Passes the gap before the next line, and returns whether a line stands there.
+    /// Passes the gap before the next line, and returns whether there is a line after it.
     fn come_to_line(&mut self, reader: &mut BitReader<'_>) -> Result<bool>
         requires { ended self.old.stand ≡ None }
         ensures comes { IsStanding self.old reader.old → ComesToLine (seen self.old reader.old) (seen self.new reader.new) result }
@@ -152,14 +152,14 @@ impl RowState {
             return Ok(true);
         }
         let over = pass_gap(&mut self.ctx, reader);
-        // That an offset is within the data is known once it is read.
+        // An offset is known to be within the data once it is read.
         let place = reader.bit_pos();
         self.started_at = start_after_gap(over, place, self.started_at);
         self.stand = stand_after_gap(over);
         line_after_gap(over)
     }
 
-    /// Whether no more rows were read than these bits have room for. Where it is false, they were read of other data.
+    /// Returns whether these bits have room for as many rows as were read. If not, the rows were read from other data.
     fn has_room(&self, reader: &BitReader<'_>) -> bool
         ensures rows { result ≡ true → self.now.ctx.held.taken ≤ length reader.now.bits + 1 }
         ensures damaged { result ≡ true → self.now.ctx.held.repairs.rows ≤ self.now.ctx.held.taken }
@@ -170,7 +170,7 @@ impl RowState {
         rows <= reader.bit_len() as u64 + 1 && self.ctx.damaged_rows() <= rows
     }
 
-    /// Reads the line that stands here.
+    /// Reads the line here.
     fn read_line(&mut self, reader: &mut BitReader<'_>) -> Result<bool>
         requires rows { self.old.ctx.held.taken ≤ length reader.old.bits + 1 }
         requires damaged { self.old.ctx.held.repairs.rows ≤ self.old.ctx.held.taken }
@@ -198,8 +198,8 @@ impl RowState {
         }
     }
 
-    /// Reads the next row, and returns whether there was one. Where more rows were read than these bits have room for, it is
-    /// `UnexpectedEof`.
+    /// Reads the next row, and returns whether there was one. It is `UnexpectedEof` if more rows were read than these bits
+    /// have room for.
     pub(crate) fn next_row(&mut self, reader: &mut BitReader<'_>) -> Result<bool>
         requires { ended self.old.stand ≡ None }
         ensures reads { IsStanding self.old reader.old → ReadsNext (seen self.old reader.old) (seen self.new reader.new) result }
@@ -217,10 +217,10 @@ impl RowState {
     }
 }
 
-/// Reads the rows of an image one at a time. It holds two rows in memory and the tables of the code words, however long the
-/// image is.
+/// Reads the rows of an image one at a time. It holds two rows in memory and the lookup tables of the code words, however
+/// long the image is.
 ///
-/// [`decode`](crate::decode) reads the same rows, and hands each to a sink.
+/// [`decode`](crate::decode) reads the same rows, and passes each to a sink.
 ///
 /// # Example
 ///
@@ -252,11 +252,11 @@ impl<'a> Model for RowReader<'a> {
 }
 
 impl<'a> RowReader<'a> {
-    /// A reader of the rows of an image, whose bytes hold their bits in this order. It stands before the first row.
+    /// Creates a reader of the rows of an image, whose bytes hold their bits in this order. It is before the first row.
     ///
     /// # Errors
     ///
-    /// `OutOfMemory` where the tables of the code words can't be allocated.
+    /// `OutOfMemory` if the lookup tables can't be allocated.
     pub fn new(
         alloc: Global,
         data: &'a [u8],
@@ -291,7 +291,7 @@ impl<'a> RowReader<'a> {
     ///
     /// # Errors
     ///
-    /// Those of [`decode`](crate::decode), but for `Refused`. After an error each further call returns the same error.
+    /// Those of [`decode`](crate::decode), except `Refused`. After an error each further call returns the same error.
     pub fn next_row(&mut self) -> Result<bool>
         ensures reads { ReadsNext self.old self.new result }
         ensures ended { (end : Result (Unit {0}) DecodeError) → self.old.end ≡ Some end
@@ -304,46 +304,46 @@ impl<'a> RowReader<'a> {
         }
     }
 
-    /// The changes of the last row that was read, in ascending order: the pixels at which its colour changes. There are none
-    /// before the first row.
+    /// Returns the changes of the last row that was read, in ascending order: the pixels at which its colour changes. There
+    /// are none before the first row.
     pub fn row(&self) -> &[u32]
         ensures { result.now ≡ changes self.now.row }
     {
         self.rows.ctx.reference_row()
     }
 
-    /// The number of rows that were read.
+    /// Returns the number of rows that were read.
     pub fn rows_read(&self) -> u64
         ensures { result ≡ self.now.taken }
     {
         self.rows.ctx.decoded_rows()
     }
 
-    /// The offset in bits at which the line of the last row begins, after its EOL; in two-dimensional data of Group 3 that of
-    /// its tag bit (T.4 section 4.2.2). After an error, that of the line that couldn't be read, or the offset at which strict data
-    /// misses an EOL.
+    /// Returns the offset in bits at which the line of the last row begins, after its EOL; in two-dimensional data of Group
+    /// 3 that of its tag bit (T.4 section 4.2.2). After an error, returns that of the line that couldn't be read, or the
+    /// offset at which strict data lacks an EOL.
     pub fn line_start(&self) -> usize
         ensures { result ≡ self.now.line_start }
     {
         self.rows.started_at
     }
 
-    /// The fault of the last row where its line was damaged and repaired, as a lenient reading of Group 3 with EOLs does (T.4
-    /// section 4.1.2); `None` where the line was whole, and before the first row.
+    /// Returns the fault of the last row if its line was damaged and repaired, as in a lenient reading of Group 3 with EOLs
+    /// (T.4 section 4.1.2); `None` if the line was whole, and before the first row.
     pub fn damage(&self) -> Option<DecodeError>
         ensures { result ≡ self.now.damage }
     {
         self.rows.damage
     }
 
-    /// The number of rows read whose line was damaged and repaired.
+    /// Returns the number of rows read whose line was damaged and repaired.
     pub fn damaged_rows(&self) -> u64
         ensures { result ≡ sum_by length (take self.now.taken (repairs_by_line self.now.settings self.now.bits)) }
     {
         self.rows.ctx.damaged_rows()
     }
 
-    /// The number of bytes consumed so far, the last one whole.
+    /// Returns the number of bytes consumed so far, the last one rounded up.
     pub fn bytes_read(&self) -> usize
         ensures { result ≡ (self.now.place + 7) / 8 }
     {

@@ -1,4 +1,4 @@
-//! The loop over rows that all encodings share: a row, and the gap behind it (T.4 section 4.1, T.6 section 2).
+//! The loop over rows that all encodings share: a row, and the gap after it (T.4 section 4.1, T.6 section 2).
 
 ghost use Rattle.std.specs.Prelude.{false, ◌≡◌, ◌≢◌, ◌<◌, ◌≤◌, ◌+◌, ◌*◌, Err, OnOk, OnErr, IfOk, IsOkUnless, true, ◌||◌, [], length, ◌^◌};
 ghost use Rattle.hayro_ccitt.specs.Answers.{DrawsLine, OnAnswer, IsRepairable, RepairStoresChange};
@@ -16,7 +16,7 @@ use crate::context::{DecoderContext, decode_1d_line, decode_2d_line};
 use crate::group3::recover;
 use crate::{DecodeError, Decoder, EncodingMode, Result};
 
-/// Whether the limit of rows is met; a limit of 0 is none.
+/// Returns whether the row limit is met; a limit of 0 is no limit.
 fn limit_met(ctx: &DecoderContext) -> bool
     ensures { result ≡ limit_met ctx.now.held.settings ctx.now.held.taken }
 {
@@ -24,7 +24,7 @@ fn limit_met(ctx: &DecoderContext) -> bool
     limit != 0 && limit == ctx.decoded_rows()
 }
 
-/// Moves to the next whole byte behind a row, where rows are aligned and the data has no EOLs.
+/// Moves to the next whole byte after a row, if rows are aligned and the data has no EOLs.
 fn align_row(ctx: &DecoderContext, reader: &mut BitReader<'_>)
     ensures rest { here reader.new ≡ behind_row ctx.now.held.settings ctx.now.held.has_eols (here reader.old) }
     ensures same_bits { reader.new.bits ≡ reader.old.bits }
@@ -34,8 +34,8 @@ fn align_row(ctx: &DecoderContext, reader: &mut BitReader<'_>)
     }
 }
 
-/// Hands a full row over to the sink, and moves to where the next line, or its EOL, begins. Its only refusal is
-/// `Refused`: then the context, the place and the sink's meaning are as before.
+/// Passes a full row to the sink, and moves to where the next line, or its EOL, begins. The only error is `Refused`: then
+/// the context, the offset and the sink's meaning are as before.
 #[inline(always)]
 fn take_row<D: Decoder>(
     ctx: &mut DecoderContext,
@@ -66,7 +66,7 @@ fn take_row<D: Decoder>(
     Ok(())
 }
 
-/// Hands over the row of a line that was repaired after this fault, as `take_row` does, and counts it as damaged.
+/// Passes the row of a line that was repaired after this fault to the sink, as `take_row` does, and counts it as damaged.
 #[inline(never)]
 fn take_damaged_row<D: Decoder>(
     ctx: &mut DecoderContext,
@@ -101,8 +101,8 @@ fn take_damaged_row<D: Decoder>(
     Ok(())
 }
 
-/// Reads the EOLs of T.6 data that stand here, with `end_of_block` at most the two of EOFB (T.6 section 2.4.1.1), and
-/// returns how many there were.
+/// Reads the EOLs of T.6 data here, with `end_of_block` at most the two of EOFB (T.6 section 2.4.1.1), and returns their
+/// number.
 #[inline(always)]
 fn read_eols_of_t6(ctx: &mut DecoderContext, reader: &mut BitReader<'_>) -> usize
     ensures eols { eols_by EncodingMode.Group4 ctx.old.held.settings.end_of_block (here reader.old) ≡ (result, here reader.new) }
@@ -123,8 +123,8 @@ fn read_eols_of_t6(ctx: &mut DecoderContext, reader: &mut BitReader<'_>) -> usiz
     }
 }
 
-/// Reads the EOLs that stand here, in two-dimensional data with their tags, and answers how many there were. Each bit
-/// that is looked at is a tick: one that is passed at most twice.
+/// Reads the EOLs here, in two-dimensional data with their tags, and returns their number. Each bit that is looked at is a
+/// tick: a bit that is passed counts at most twice.
 #[inline(always)]
 fn read_eols(ctx: &mut DecoderContext, reader: &mut BitReader<'_>) -> usize
     ensures eols { eols_here ctx.old.held.settings (here reader.old) ≡ (result, here reader.new) }
@@ -143,8 +143,7 @@ fn read_eols(ctx: &mut DecoderContext, reader: &mut BitReader<'_>) -> usize
     }
 }
 
-/// Whether the image ends behind a row, where so many EOLs were counted: at RTC, at the row limit or at the end of
-/// the data.
+/// Returns whether the image ends after a row and this number of EOLs: at RTC, at the row limit or at the end of the data.
 #[inline(always)]
 fn is_over(ctx: &DecoderContext, reader: &BitReader<'_>, count: usize) -> bool
     ensures over { result ≡ is_over ctx.now.held.settings ctx.now.held.taken (count, here reader.now) }
@@ -160,10 +159,10 @@ fn is_over(ctx: &DecoderContext, reader: &BitReader<'_>, count: usize) -> bool
 }
 
 /// Passes the gap before a line, and returns whether the image ends there: at EOFB or RTC with `end_of_block`, at the row
-/// limit or at the end of the data (T.4 sections 4.1.2 and 4.1.4, T.6 section 2.4.1.1). It counts the EOLs there. Where
-/// none came although the data has EOLs, the next one is looked for, and where none is left EOLs are given up; strict data
-/// is then at fault, which is `InvalidCode`. It takes no memory. Each bit that is looked at is a tick: one that is passed at
-/// most four times.
+/// limit or at the end of the data (T.4 sections 4.1.2 and 4.1.4, T.6 section 2.4.1.1). It counts the EOLs there. If there
+/// are none, although the data has EOLs, it searches for the next one; if none is left, it no longer expects EOLs, and
+/// strict data fails with `InvalidCode`. It allocates nothing. Each bit that is looked at is a tick: a bit that is passed
+/// counts at most four times.
 #[inline(always)]
 pub(crate) fn pass_gap(ctx: &mut DecoderContext, reader: &mut BitReader<'_>) -> Result<bool>
     ensures gap { gap_behind_row ctx.old.held.settings ctx.old.held.taken ctx.old.held.has_eols (here reader.old)
@@ -198,7 +197,7 @@ pub(crate) fn pass_gap(ctx: &mut DecoderContext, reader: &mut BitReader<'_>) -> 
     Ok(is_over(ctx, reader, count))
 }
 
-/// Decodes a line of the kind that its tag says (T.4 section 4.2.2). A missing tag is `UnexpectedEof`, with nothing
+/// Decodes a line of the kind that its tag selects (T.4 section 4.2.2). A missing tag is `UnexpectedEof`, with nothing
 /// painted.
 fn decode_tagged_line(ctx: &mut DecoderContext, reader: &mut BitReader<'_>) -> Result<()>
     requires begun { ctx.old.held.front ≡ [] }
@@ -224,7 +223,7 @@ fn decode_tagged_line(ctx: &mut DecoderContext, reader: &mut BitReader<'_>) -> R
     }
 }
 
-/// Decodes the line that stands here.
+/// Decodes the line here.
 #[inline(always)]
 fn decode_line(ctx: &mut DecoderContext, reader: &mut BitReader<'_>) -> Result<()>
     requires begun { ctx.old.held.front ≡ [] }
@@ -269,8 +268,8 @@ fn recover_from(
     recover(ctx, reader, start, error)
 }
 
-/// Reads a line, repairs it where it is damaged and may be, and hands its row over. The errors are those of the line
-/// that isn't repaired, `OutOfMemory` while a change is stored, and `Refused` where the sink refuses.
+/// Reads a line, repairs it if it is damaged and may be repaired, and passes its row to the sink. The errors are those of a
+/// line that isn't repaired, `OutOfMemory` if a change can't be stored, and `Refused` if the sink refuses the row.
 #[inline(always)]
 pub(crate) fn read_row<D: Decoder>(
     ctx: &mut DecoderContext,

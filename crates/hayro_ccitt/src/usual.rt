@@ -1,4 +1,5 @@
-//! Runs whose words are all at hand, drawn with the line's own values. What isn't usual is left to the calls of `context`.
+//! Runs whose code words are all in the window, drawn with the line's own values. The functions of `context` draw the
+//! others.
 
 ghost use Rattle.std.specs.Prelude.{vec_len, vec_capacity, get_or, ◌≡◌, ◌≢◌, ◌+◌, ◌-◌, ◌%◌, ◌<◌, ◌≤◌, ◌⊎◌, ℕ, IfSome, IfNone, true, false, length, ◌++◌, ◌∷◌, []};
 ghost use Rattle.hayro_ccitt.specs.Bits.{here};
@@ -14,7 +15,8 @@ use crate::changes::change_or_end;
 use crate::codes::{Color, Ticks};
 use crate::tables::LOOKUP_INVALID;
 
-/// The run and the number of bits of the word that stands so many bits on; the run is `LOOKUP_INVALID` where none does.
+/// Returns the run and the number of bits of the code word at an offset in the window; the run is `LOOKUP_INVALID` if there
+/// is none.
 #[inline(always)]
 pub(crate) fn word_at_hand(
     hand: &BitsAtHand<'_>,
@@ -32,8 +34,8 @@ pub(crate) fn word_at_hand(
     (u32::from(entry & LOOKUP_INVALID), usize::from(entry >> 12))
 }
 
-/// A run of one terminating word, or of one make-up word and one, so many bits on: its pixels, its bits and its words. None
-/// of any other.
+/// Returns the run at an offset in the window: its pixels, its bits and its number of code words. Returns `None` if it is
+/// neither a terminating word nor a make-up word and a terminating word.
 #[inline(always)]
 pub(crate) fn run_at_hand(
     hand: &BitsAtHand<'_>,
@@ -62,7 +64,7 @@ pub(crate) fn run_at_hand(
     }
 }
 
-/// Fills the window, where fewer than 52 bits are at hand; false where that can't be.
+/// Fills the window if it has fewer than 52 bits; returns false if it can't be filled.
 #[inline(always)]
 fn has_two_runs(hand: &mut BitsAtHand<'_>) -> bool
     ensures same { hand.new.at ≡ hand.old.at }
@@ -74,7 +76,7 @@ fn has_two_runs(hand: &mut BitsAtHand<'_>) -> bool
     hand.refill()
 }
 
-/// Stores a change at the place reached, where there is room for it.
+/// Stores a change at the position reached, if there is room for it.
 #[inline(always)]
 pub(crate) fn turn_at(changes: &mut Vec<u32>, place: u32)
     requires room { vec_len changes.old < vec_capacity changes.old }
@@ -85,7 +87,7 @@ pub(crate) fn turn_at(changes: &mut Vec<u32>, place: u32)
     changes.push_reserved(place);
 }
 
-/// Whether a change at the end of a run so long is right of the last one.
+/// Returns whether a change at the end of a run of this length is right of the last one.
 #[inline(always)]
 pub(crate) fn is_next(changes: &Vec<u32>, run: u32) -> bool
     ensures { result ≡ true → (0 < run) ⊎ (changes.now.items ≡ []) }
@@ -93,7 +95,7 @@ pub(crate) fn is_next(changes: &Vec<u32>, run: u32) -> bool
     run > 0 || changes.is_empty()
 }
 
-/// Whether there is room for two changes.
+/// Returns whether there is room for two changes.
 #[inline(always)]
 pub(crate) fn has_room(changes: &Vec<u32>) -> bool
     ensures { result ≡ true → vec_len changes.now + 2 ≤ vec_capacity changes.now }
@@ -101,7 +103,7 @@ pub(crate) fn has_room(changes: &Vec<u32>) -> bool
     changes.capacity() - changes.len() >= 2
 }
 
-/// Whether a run is no fault where there is so much room.
+/// Returns whether a run is no fault with this much room: it fits, or the reading is lenient.
 #[inline(always)]
 fn fits(run: u32, room: u32, strict: bool) -> bool
     ensures { result ≡ true → (run ≤ room) ⊎ (strict ≡ false) }
@@ -109,8 +111,8 @@ fn fits(run: u32, room: u32, strict: bool) -> bool
     run <= room || !strict
 }
 
-/// Draws a white run and a black one, or a white one up to the row's end, and tells how far the row reaches then and in
-/// which colour it would go on. None where they aren't usual; then nothing is drawn.
+/// Draws a white run and a black one, or a white one up to the row's end. Returns how far the row reaches then, and the
+/// colour in which it would continue; or `None`, drawing nothing, if they aren't of the usual kind.
 #[inline(always)]
 fn draw_two_runs(
     hand: &mut BitsAtHand<'_>,
@@ -175,7 +177,7 @@ fn draw_two_runs(
     Some((place + run2, Color::White))
 }
 
-/// Whether a run is of one terminating word and of some pixels.
+/// Returns whether a run is one terminating word, and not empty.
 #[inline(always)]
 fn is_short(run: u32) -> bool
     ensures { result ≡ true → (0 < run) × (run < 64) }
@@ -183,7 +185,7 @@ fn is_short(run: u32) -> bool
     run > 0 && run < 64
 }
 
-/// Fills the window, where fewer than 28 bits are at hand; false where that can't be.
+/// Fills the window if it has fewer than 28 bits; returns false if it can't be filled.
 #[inline(always)]
 fn has_two_words(hand: &mut BitsAtHand<'_>) -> bool
     ensures same { hand.new.at ≡ hand.old.at }
@@ -195,7 +197,7 @@ fn has_two_words(hand: &mut BitsAtHand<'_>) -> bool
     hand.refill()
 }
 
-/// Draws a white run and a black one of one word each that end before the row does: the commonest case.
+/// Draws a white run and a black one of one code word each that end before the row does: the most frequent case.
 #[inline(always)]
 fn draw_short_runs(
     hand: &mut BitsAtHand<'_>,
@@ -246,7 +248,7 @@ fn draw_short_runs(
     Some(painted + run + run2)
 }
 
-/// Draws a white run and a black one, the commonest case first.
+/// Draws a white run and a black one, trying the most frequent case first.
 #[inline(always)]
 fn draw_pair(
     hand: &mut BitsAtHand<'_>,
@@ -277,7 +279,8 @@ fn draw_pair(
     }
 }
 
-/// Draws runs by twos as long as they are usual, and tells how far the row reaches then and in which colour it goes on.
+/// Draws runs in pairs while they are of the usual kind. Returns how far the row reaches then, and the colour in which it
+/// continues.
 #[inline(always)]
 pub(crate) fn draw_runs(
     hand: &mut BitsAtHand<'_>,
@@ -315,8 +318,8 @@ pub(crate) fn draw_runs(
     }
 }
 
-/// Takes up a front for drawing by twos, white next: where it ends in black a change stands at its end. False where there is
-/// no room for that; then nothing changes.
+/// Prepares a front for drawing in pairs, white next: if it ends in black, a change is stored at its end. Returns false,
+/// and changes nothing, if there is no room for that.
 #[inline(always)]
 pub(crate) fn take_up(changes: &mut Vec<u32>, painted: u32) -> bool
     requires { AreChanges painted changes.old.items }
@@ -335,7 +338,7 @@ pub(crate) fn take_up(changes: &mut Vec<u32>, painted: u32) -> bool
     true
 }
 
-/// Lays down a front: a change that stands at its end isn't one yet.
+/// Prepares a front for `context`: a change at the front's end is removed.
 #[inline(always)]
 pub(crate) fn lay_down(changes: &mut Vec<u32>, painted: u32)
     requires { AreChanges (painted + 1) changes.old.items }
@@ -352,7 +355,7 @@ pub(crate) fn lay_down(changes: &mut Vec<u32>, painted: u32)
     changes.push_reserved(last);
 }
 
-/// The index of b1, going up by twos from an index that is near it. Each change that is looked at is a tick.
+/// Returns the index of b1, going up in steps of two from an index near it. Each change that is looked at is a tick.
 #[inline(always)]
 pub(crate) fn seek_b1(
     changes: &[u32],
@@ -380,7 +383,7 @@ pub(crate) fn seek_b1(
     index
 }
 
-/// The index of b1 after a mode that turns the colour left of b1, at a place right of a0.
+/// Returns the index of b1 after a mode that changes the colour left of b1, at a position right of a0.
 #[inline(always)]
 pub(crate) fn b1_after_left(
     changes: &[u32],

@@ -5,7 +5,7 @@ use Rattle.hayro_ccitt.proofs.BitReading.BitLists.{length-bits_in}
 use Rattle.fax_encode.specs.declared.settings.EncodeSettings.{EncodeSettings as EncoderSettings}
 use Rattle.hayro_ccitt_c.specs.Encoding.{HaveNoRoom, bits_asked}
 
--- bytes of the bits that are asked for, more than there is room for
+-- more bytes of the chosen bits than there is room for
 pub no_room : (asked : Option EncoderSettings) (columns : ℕ) (bitmap bytes : List ℕ) (count room : ℕ)
     → IfSome asked (λ s. bits_in s.order bytes ≡ bits_asked s columns bitmap) → count ≡ length bytes → room < count
     → IfSome asked (λ s. HaveNoRoom (bits_asked s columns bitmap) count room)

@@ -123,7 +123,7 @@ module _ (settings : DecodeSettings) (read : Bits) (taken columns : ℕ) (start 
     };
   }
 
--- there is no room for one row more
+-- there is no room for one more row
 pub no_room : (settings : DecodeSettings) (taken end columns long : ℕ) → end ≡ taken * bytes_of_row settings.columns → columns ≡ settings.columns → long < end + bytes_of_row columns
     → long < (taken + 1) * bytes_of_row settings.columns
 no_room settings taken end columns long is wide lt =

@@ -1,4 +1,4 @@
--- What C is told, from what decoding returns.
+-- What C gets of a decoding, from what decoding returns.
 use Rattle.std.proofs.Common.{◌≡◌, ◌≤◌, ◌+◌, min, ℕ, List, [], ◌∷◌, length, map, refl, ap, subst, ◌∙◌, Ok, Err, Option, Some, None, IfSome, inl, inr, arith}
 use Rattle.hayro_ccitt.specs.declared.error.DecodeError.TheVariants.{UnexpectedEof, InvalidCode, Overflow, OutOfMemory, Refused}
 use Rattle.hayro_ccitt.specs.declared.error.DecodeError.{DecodeError}

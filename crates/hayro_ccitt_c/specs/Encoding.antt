@@ -23,12 +23,13 @@ encoder_with s encoding = record {
   order = if has_flag s.flags 16 then LowestFirst else HighestFirst;
 }
 
--- the settings of the encoder that C passes, or none: an encoding or a flag that isn't known. 8 is a flag of decoding alone.
+-- the settings of the encoder that C passes, or None if they are invalid: an encoding or a flag that isn't known. 8 is a flag
+-- of decoding alone.
 abbrev pub encoder_of : EncodeSettings → Option EncoderSettings
 encoder_of s =
     if nat_lt s.flags 64 && not (has_flag s.flags 8) then option_map (encoder_with s) (encoding_of s.encoding) else None
 
--- whether settings have an encoding of a bitmap's rows: they name an encoding, and there is a row where one is needed
+-- whether settings have an encoding of a bitmap's rows: they name an encoding, and there is a row if one is needed
 abbrev pub can_encode : ℕ → List ℕ → EncoderSettings → Bool
 can_encode columns bitmap s =
     names_encoding s && not (needs_row s.encoding s.end_of_block && nat_lt (length bitmap) (bytes_of_row columns))
@@ -37,13 +38,13 @@ can_encode columns bitmap s =
 abbrev pub are_whole : ℕ → List ℕ → Bool
 are_whole columns bitmap = nat_lt 0 columns && length bitmap % bytes_of_row columns == 0
 
--- settings that may be none; none too if the bitmap isn't whole rows, or has no encoding by them
+-- settings, if they are valid, the bitmap is whole rows, and it has an encoding by them
 abbrev pub of_bitmap : ℕ → List ℕ → Option EncoderSettings → Option EncoderSettings
 of_bitmap columns bitmap None = None
 of_bitmap columns bitmap (Some s) =
     if are_whole columns bitmap then (if can_encode columns bitmap s then Some s else None) else None
 
--- the settings of the encoder by which C asks for a bitmap's encoding, or none
+-- the settings of the encoder that C passes for a bitmap, if it has an encoding by them
 abbrev pub asked : EncodeSettings → List ℕ → Option EncoderSettings
 asked s bitmap = of_bitmap s.columns bitmap (encoder_of s)
 
@@ -51,7 +52,7 @@ asked s bitmap = of_bitmap s.columns bitmap (encoder_of s)
 abbrev pub bits_asked : EncoderSettings → ℕ → List ℕ → Bits
 bits_asked s columns bitmap = filled_up (chosen s columns (shown columns bitmap))
 
--- The caller's memory begins with these bits, in this order and this number of bytes; and what lies after them is as it was.
+-- The caller's memory begins with these bits, in this order and this number of bytes; and what follows them is unchanged.
 pub record AreEncoded (order : BitOrder) (bits : Bits) (count : ℕ) (before after : List ℕ) : Type 0 where
   pub bits_are : bits_in order (take count after) ≡ bits
   pub rest : drop count after ≡ drop count before

@@ -1,4 +1,4 @@
--- What a handle owns: the reading at its pointer, and the right to free it, where it has one.
+-- What a handle owns: the reading at its pointer, and the right to free it, if it has one.
 use base.Fml.{Fml, ftrue}
 use base.Stored.{Coded}
 use denote.RawPtr.{Ptr}

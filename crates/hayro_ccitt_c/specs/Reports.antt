@@ -1,4 +1,4 @@
--- What C is told of a decoding.
+-- What C gets of a decoding.
 use Rattle.std.specs.Prelude.{sum_by, ◌≡◌, ◌≤◌, ◌<◌, ◌⊎◌, ℕ, ◌*◌, List, length, map, take, drop, sum, min, IfSome, Result, Ok, Err}
 use Rattle.hayro_ccitt.specs.declared.error.DecodeError.{DecodeError}
 use Rattle.hayro_ccitt.specs.declared.error.DecodeError.TheVariants.{UnexpectedEof, InvalidCode, Overflow, OutOfMemory, Refused}
@@ -39,7 +39,7 @@ EndsAfter settings bits taken (Err Overflow) = (taken ≡ length (plain settings
 EndsAfter settings bits taken (Err OutOfMemory) = (taken ≤ length (plain settings bits).rows) × ((taken ≡ 0) ⊎ PaintsBlack (lines_of settings bits) taken)
 EndsAfter settings bits taken (Err Refused) = taken < length (plain settings bits).rows
 
--- what C is told: a status, the number of rows accepted, and the number of bytes read
+-- what C gets: a status, the number of rows accepted, and the number of bytes read
 pub record IsReport (settings : DecodeSettings) (bits : Bits) (status rows bytes_read : ℕ) : Type 0 where
   pub answer : Result ℕ DecodeError
   pub ends : EndsAfter settings bits rows answer
@@ -50,11 +50,11 @@ pub record IsReport (settings : DecodeSettings) (bits : Bits) (status rows bytes
 abbrev pub changes_taken : DecodeSettings → Bits → ℕ → ℕ
 changes_taken settings bits taken = min (sum (map (λ row. length (changes row)) (take taken (plain settings bits).rows))) 18446744073709551615
 
--- how many of the first so many rows are repaired (T.4, 4.1.2)
+-- the number of repaired rows among the first n (T.4, 4.1.2)
 abbrev pub damaged_taken : DecodeSettings → Bits → ℕ → ℕ
 damaged_taken settings bits taken = sum_by length (take taken (repairs_by_line settings bits))
 
--- what C is told, with its fields that mean nothing yet
+-- what C gets, with its fields that mean nothing yet
 abbrev pub outcome_of : ℕ → ℕ → ℕ → ℕ → Outcome
 outcome_of rows changes bytes_read damaged_rows =
     record { rows = rows; changes = changes; bytes_read = bytes_read; damaged_rows = damaged_rows; reserved_1 = 0; reserved_2 = 0 }
@@ -64,17 +64,17 @@ outcome_of rows changes bytes_read damaged_rows =
 abbrev pub OnSettings : Settings → List ℕ → (DecodeSettings → Bits → Type 0) → Type 0
 OnSettings settings input P = BitsFit input → IfSome (settings_of settings) (λ s. P s (bits_in (order_of settings) input))
 
--- The caller's memory begins with the first packed rows, this many, and what lies after them is as it was.
+-- The caller's memory begins with the first packed rows, this many, and what follows them is unchanged.
 pub record ArePacked (settings : DecodeSettings) (bits : Bits) (taken : ℕ) (before after : List ℕ) : Type 0 where
   pub rows : bits_of (take (taken * bytes_of_row settings.columns) after) ≡ packed (take taken (plain settings bits).rows)
   pub rest : drop (taken * bytes_of_row settings.columns) after ≡ drop (taken * bytes_of_row settings.columns) before
   pub room : taken * bytes_of_row settings.columns ≤ length after
 
--- how many numbers the lists of the first `taken` rows occupy
+-- the number of numbers that the lists of the first `taken` rows occupy
 abbrev pub numbers_taken : DecodeSettings → Bits → ℕ → ℕ
 numbers_taken settings bits taken = length (listed (take taken (plain settings bits).rows))
 
--- The caller's memory begins with the lists of the first rows, this many, and what lies after them is as it was.
+-- The caller's memory begins with the lists of the first rows, this many, and what follows them is unchanged.
 pub record AreListed (settings : DecodeSettings) (bits : Bits) (taken : ℕ) (before after : List ℕ) : Type 0 where
   pub rows : take (numbers_taken settings bits taken) after ≡ listed (take taken (plain settings bits).rows)
   pub rest : drop (numbers_taken settings bits taken) after ≡ drop (numbers_taken settings bits taken) before

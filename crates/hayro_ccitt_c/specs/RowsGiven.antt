@@ -1,4 +1,4 @@
--- Rows that C is given one at a time.
+-- Rows that C reads one at a time.
 use Rattle.std.specs.Prelude.{◌≡◌, ◌≤◌, ◌⊎◌, ◌+◌, ◌/◌, ℕ, Bool, true, false, List, length, take, drop, Option, None, Some, IfSome, Result, Ok, Err}
 use Rattle.hayro_ccitt.specs.declared.bit_reader.BitOrder.{BitOrder}
 use Rattle.hayro_ccitt.specs.declared.error.DecodeError.{DecodeError}
@@ -13,12 +13,12 @@ use Rattle.hayro_ccitt_c.specs.Packing.{bytes_of_row}
 use Rattle.hayro_ccitt_c.specs.declared.reading.Reading.{Reading}
 use Rattle.hayro_ccitt_c.specs.declared.row_outcome.RowOutcome.{RowOutcome}
 
--- whether a row came
+-- whether there was a row
 abbrev pub is_row : Result Bool DecodeError → Bool
 is_row (Ok more) = more
 is_row (Err error) = false
 
--- the status of an answer: 0 for a row, 7 at the end of the image; no reading of rows refuses one
+-- the status of a result: 0 for a row, 7 at the end of the image; no reading of rows refuses one
 abbrev pub status_of_row : Result Bool DecodeError → ℕ
 status_of_row (Ok true) = 0
 status_of_row (Ok false) = 7
@@ -28,20 +28,20 @@ status_of_row (Err Overflow) = 3
 status_of_row (Err OutOfMemory) = 4
 status_of_row (Err Refused) = 6
 
--- What a call leaves of a reading of these bits that reads the next row: the row of the plain reading, or its end; and
--- behind the end nothing changes. Of other bits nothing is said.
+-- What a call that reads the next row leaves of a reading of these bits: the row of the plain reading, or its end; and after
+-- the end nothing changes. Nothing is said of other bits.
 pub record ReadsRow (bits : Bits) (old new : Paused) (answer : Result Bool DecodeError) : Type 0 where
   pub reading : IsReadingOf bits old → IsReadingOf bits new
   pub reads : IsReadingOf bits old → ended old.stand ≡ None → ReadsNext (rows_over bits old) (rows_over bits new) answer
   pub over : (end : Result (Unit {0}) DecodeError) → ended old.stand ≡ Some end → (new ≡ old) × (answer ≡ at_end_of_rows end)
   pub order : new.order ≡ old.order
 
--- the same, but where the last row is still to be given nothing is read
+-- the same, but if the last row is still to be returned nothing is read
 abbrev pub TurnsTo : Bool → Bits → Paused → Paused → Result Bool DecodeError → Type 0
 TurnsTo true bits old new answer = (new ≡ old) × (answer ≡ Ok true)
 TurnsTo false bits old new answer = ReadsRow bits old new answer
 
--- What a call leaves that gives the next row: a row that there is no room for is kept, and given by the next call.
+-- What a call leaves that returns the next row: a row that there is no room for is kept, and returned by the next call.
 pub record GivesRow (input : List ℕ) (old new : Reading) (status : ℕ) : Type 0 where
   pub answer : Result Bool DecodeError
   pub turns : TurnsTo old.is_kept (bits_in old.rows.order input) old.rows new.rows answer
@@ -49,19 +49,19 @@ pub record GivesRow (input : List ℕ) (old new : Reading) (status : ℕ) : Type
   pub kept : (new.is_kept ≡ true) → status ≡ 5
   pub refused : status ≡ 5 → new.is_kept ≡ true
 
--- the changes of a row stand at the front of the caller's memory, and what lies behind them is as it was
+-- the changes of a row are at the front of the caller's memory, and what follows them is unchanged
 pub record IsListed (row : Row) (before after : List ℕ) : Type 0 where
   pub room : length (changes row) ≤ length after
   pub row_is : take (length (changes row)) after ≡ changes row
   pub rest : drop (length (changes row)) after ≡ drop (length (changes row)) before
 
--- a packed row stands at the front of the caller's memory, and what lies behind it is as it was
+-- a packed row is at the front of the caller's memory, and what follows it is unchanged
 pub record IsPacked (columns : ℕ) (row : Row) (before after : List ℕ) : Type 0 where
   pub room : bytes_of_row columns ≤ length after
   pub row_is : bits_of (take (bytes_of_row columns) after) ≡ filled_up row
   pub rest : drop (bytes_of_row columns) after ≡ drop (bytes_of_row columns) before
 
--- nothing is told
+-- zeros
 abbrev pub told_nothing : RowOutcome
 told_nothing = record {
   rows = 0;
@@ -79,8 +79,8 @@ abbrev pub damage_told : Option DecodeError → ℕ
 damage_told None = 0
 damage_told (Some error) = status_of_row (Err error)
 
--- What C is told of a reading: how many rows were read, how many changes the last one has, where its line begins, the bytes
--- consumed so far, how many rows were repaired, and the fault of the last one.
+-- What C gets of a reading: the number of rows read, the number of changes of the last one, the offset of its line, the bytes
+-- consumed so far, the number of repaired rows, and the fault of the last one.
 pub record TellsOf (paused : Paused) (told : RowOutcome) : Type 0 where
   pub rows : told.rows ≡ paused.held.taken
   pub changes : told.changes ≡ length (changes paused.held.reference)
@@ -89,7 +89,7 @@ pub record TellsOf (paused : Paused) (told : RowOutcome) : Type 0 where
   pub damaged_rows : told.damaged_rows ≡ paused.held.repairs.rows
   pub damage : told.damage ≡ damage_told paused.damage
 
--- A reading of these bits by these settings that stands before the first row.
+-- A reading of these bits by these settings before the first row.
 pub record IsOpened (settings : DecodeSettings) (bits : Bits) (order : BitOrder) (opened : Reading) : Type 0 where
   pub reading : IsReadingOf bits opened.rows
   pub settings_are : opened.rows.held.settings ≡ settings
@@ -97,6 +97,6 @@ pub record IsOpened (settings : DecodeSettings) (bits : Bits) (order : BitOrder)
   pub none_read : opened.rows.held.taken ≡ 0
   pub none_kept : opened.is_kept ≡ false
 
--- a fact of what two handles stand for
+-- a statement about what two handles own
 abbrev pub OnReadings : Option Reading → Option Reading → (Reading → Reading → Type 0) → Type 0
 OnReadings old new P = IfSome old (λ before. IfSome new (λ after. P before after))

@@ -7,7 +7,7 @@ use Rattle.hayro_ccitt.specs.declared.settings.EncodingMode.TheVariants.{Group4,
 use Rattle.hayro_ccitt.specs.declared.settings.DecodeSettings.{DecodeSettings}
 use Rattle.hayro_ccitt_c.specs.declared.settings.Settings.{Settings}
 
--- the encoding that a number stands for
+-- the encoding of a number
 abbrev pub encoding_of : ℕ → Option EncodingMode
 encoding_of n =
     if n == 0 then Some Group4
@@ -35,6 +35,6 @@ settings_with s encoding = record {
 abbrev pub order_of : Settings → BitOrder
 order_of s = if has_flag s.flags 16 then LowestFirst else HighestFirst
 
--- the settings that C passes, or none: an encoding or a flag that isn't known
+-- the settings that C passes, or None if they are invalid: an encoding or a flag that isn't known
 abbrev pub settings_of : Settings → Option DecodeSettings
 settings_of s = if nat_lt s.flags 32 then option_map (settings_with s) (encoding_of s.encoding) else None

@@ -1,4 +1,4 @@
-//! Encoding for callers in C: what they ask for, and what is returned. `c/fax_encode.h` declares it.
+//! Encoding for callers in C: the settings that they pass, and what is returned. `c/fax_encode.h` declares it.
 
 ghost use Rattle.std.specs.Prelude.{◌≡◌, ◌<◌, ◌↔◌, ◌%◌, ◌==◌, ◌&&◌, false, nat_lt, IfOk, IfSome};
 ghost use Rattle.hayro_ccitt.specs.Bits.{bits_in};
@@ -39,7 +39,7 @@ pub struct EncodeOutcome {
 /// Why nothing was encoded.
 #[derive(Copy, Clone)]
 pub(crate) enum Unencoded {
-    /// No encoding was asked for, or the bitmap has none in it.
+    /// The settings name no encoding, or the bitmap has none with them.
     NotTaken,
     /// An allocation failed.
     OutOfMemory,
@@ -94,7 +94,7 @@ fn is_whole(columns: u32, bytes: usize) -> bool
     width > 0 && bytes % width == 0
 }
 
-/// Returns the bytes that C asks for.
+/// Returns the encoded bytes for C.
 pub(crate) fn encoded(
     alloc: Global,
     bitmap: &[u8],

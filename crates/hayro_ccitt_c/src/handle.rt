@@ -1,4 +1,4 @@
-//! A reading behind a pointer that C can't look into.
+//! A reading behind an opaque pointer.
 
 ghost use Rattle.std.specs.Prelude.{◌≡◌, Option, Some, None, IsSome};
 ghost use Rattle.std_alloc.specs.Box.Ownership.{box_owns};
@@ -38,8 +38,8 @@ impl<T: Drop, A: Allocator> Unboxed<T, A> {
     }
 }
 
-/// A pointer that owns a reading, or nothing: its type doesn't say what it points to, so that C can hold it. A handle that is
-/// dropped frees nothing: a reading is freed by the box that [`Handle::into_box`] makes.
+/// A pointer that owns a reading, or nothing: its type doesn't say what it points to, so that C can hold it. Dropping a
+/// handle frees nothing: a reading is freed by the box that [`Handle::into_box`] makes.
 #[repr(C)]
 #[derive(Drop)]
 pub struct Handle {
@@ -53,14 +53,14 @@ impl Model for Handle {
 }
 
 impl Handle {
-    /// A handle of nothing, whose pointer is never followed.
+    /// Creates a handle of nothing, whose pointer is never dereferenced.
     pub(crate) fn nowhere(at: *mut u8, alloc: Global) -> Handle
         ensures { result.value ≡ None }
     {
         Handle { at, alloc }
     }
 
-    /// Forgets what the pointer points to.
+    /// Changes the type to one that doesn't say what the pointer points to.
     fn from_unboxed(unboxed: Unboxed<Reading, Global>) -> Handle
         ensures { result.value ≡ Some unboxed.value }
     {
@@ -71,7 +71,7 @@ impl Handle {
         }
     }
 
-    /// Remembers what the pointer points to.
+    /// Changes the type back to one that says what the pointer points to.
     fn into_unboxed(self) -> Unboxed<Reading, Global>
         requires { IsSome self.value }
         ensures { Some result.value ≡ self.value }
@@ -83,14 +83,14 @@ impl Handle {
         }
     }
 
-    /// A handle of the reading in a box.
+    /// Creates a handle of the reading in a box.
     pub(crate) fn of(value: Box<Reading>) -> Handle
         ensures { result.value ≡ Some value.value }
     {
         Handle::from_unboxed(Unboxed::from_box(value))
     }
 
-    /// The box of the reading.
+    /// Returns the box of the reading.
     pub(crate) fn into_box(self) -> Box<Reading>
         requires { IsSome self.value }
         ensures { Some result.value ≡ self.value }

@@ -144,11 +144,11 @@ pub extern "C" fn hayro_ccitt_decode_changes(
     told(&report, rows.changes(), outcome)
 }
 
-/// Opens a reader of the rows of the data, which must be closed: all zeros, or as [`hayro_ccitt_close`] left it. It stands before
-/// the first row. The rows are read by [`hayro_ccitt_next_changes`] and [`hayro_ccitt_next_packed`].
+/// Opens a reader of the rows of the data before the first row. The reader must be closed: all zeros, or as
+/// [`hayro_ccitt_close`] left it. The rows are read by [`hayro_ccitt_next_changes`] and [`hayro_ccitt_next_packed`].
 ///
 /// A status of 4 says that an allocation failed; 6, that the data is too long, the settings are invalid or the reader is open.
-/// With all but 0 the reader stays as it is.
+/// With all but 0 the reader is unchanged.
 #[unsafe(no_mangle)]
 pub extern "C" fn hayro_ccitt_open(
     alloc: Global,
@@ -176,12 +176,12 @@ pub extern "C" fn hayro_ccitt_open(
     0
 }
 
-/// Reads the next row of the data, and lists its changes in `list`. The data is handed in again at each call. The numbers
+/// Reads the next row of the data, and lists its changes in `list`. The data is passed to each call again. The numbers
 /// after the last change keep their values.
 ///
-/// A status of 7 says that no row is left; 5, that there is no room for the row, which the next call gives; 6, that the
-/// reader isn't open or the data is too long. `outcome` holds what there is to tell of the last row that was read; with a
-/// status of 6, zeros.
+/// A status of 7 says that no row is left; 5, that there is no room for the row, which the next call returns; 6, that the
+/// reader isn't open or the data is too long. `outcome` describes the last row that was read; with a status of 6, it is
+/// zeros.
 #[unsafe(no_mangle)]
 pub extern "C" fn hayro_ccitt_next_changes(
     alloc: Global,
@@ -214,13 +214,13 @@ pub extern "C" fn hayro_ccitt_next_changes(
     status
 }
 
-/// Reads the next row of the data, and packs it into `bytes`: (columns + 7) / 8 bytes, the leftmost pixel in a byte's highest
-/// bit, 1 for black, and zeros after the last pixel. The data is handed in again at each call. The bytes after the row keep
-/// their values.
+/// Reads the next row of the data, and packs it into `bytes`: (columns + 7) / 8 bytes, the leftmost pixel in a byte's
+/// highest bit, 1 for black, and zeros after the last pixel. The data is passed to each call again. The bytes after the row
+/// keep their values.
 ///
-/// A status of 7 says that no row is left; 5, that there is no room for the row, which the next call gives; 6, that the
-/// reader isn't open or the data is too long. `outcome` holds what there is to tell of the last row that was read; with a
-/// status of 6, zeros.
+/// A status of 7 says that no row is left; 5, that there is no room for the row, which the next call returns; 6, that the
+/// reader isn't open or the data is too long. `outcome` describes the last row that was read; with a status of 6, it is
+/// zeros.
 #[unsafe(no_mangle)]
 pub extern "C" fn hayro_ccitt_next_packed(
     alloc: Global,
@@ -272,7 +272,8 @@ pub extern "C" fn hayro_ccitt_close(alloc: Global, reader: &mut Reader) -> u32
 ///
 /// `outcome` has the number of rows and of the encoded bytes if the status is 0 or 5, else 0. A status of 4 says that an
 /// allocation failed; 5, that `data` has no room for that many bytes; 6, that the settings name no encoding, or that the
-/// bitmap isn't whole rows, or has none and only Group 4 closed by EOFB has a picture without rows. With all but 0 `data` keeps its values.
+/// bitmap isn't whole rows, or has none and only Group 4 closed by EOFB has a picture without rows. With all but 0 `data`
+/// keeps its values.
 #[unsafe(no_mangle)]
 pub extern "C" fn fax_encode_bitmap(
     alloc: Global,

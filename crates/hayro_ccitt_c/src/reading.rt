@@ -1,4 +1,4 @@
-//! A reading that stands at a row, and gives it to C.
+//! A reading of the rows of an image, one at a time for C.
 
 ghost use Rattle.std.specs.Prelude.{◌≡◌, ◌≢◌, ◌<◌, length, not, false, true, IfOk};
 ghost use Rattle.hayro_ccitt.specs.Bits.{BitsFit, bits_in};
@@ -11,14 +11,14 @@ use hayro_ccitt::bit_reader::BitOrder;
 use hayro_ccitt::{DecodeError, DecodeSettings, Result, RowCursor};
 use std::alloc::Global;
 
-/// What a handle stands for: a reading, and whether its last row is still to be given.
+/// What a handle owns: a reading, and whether its last row is still to be returned.
 #[derive(Drop)]
 pub struct Reading {
     pub(crate) rows: RowCursor,
     pub(crate) is_kept: bool,
 }
 
-/// Whether a row came.
+/// Returns whether there was a row.
 fn is_row(answer: Result<bool>) -> bool
     ensures { result ≡ is_row answer }
 {
@@ -28,7 +28,7 @@ fn is_row(answer: Result<bool>) -> bool
     }
 }
 
-/// The status of an answer.
+/// Returns the status of a result.
 pub(crate) fn status_of_row(answer: Result<bool>) -> u32
     ensures status { result ≡ status_of_row answer }
     ensures not_refused { result ≢ 5 }
@@ -47,7 +47,7 @@ pub(crate) fn status_of_row(answer: Result<bool>) -> u32
 }
 
 impl Reading {
-    /// A reading of data that stands before the first row. Its only error is `OutOfMemory`.
+    /// Creates a reading of data before the first row. Its only error is `OutOfMemory`.
     pub(crate) fn new(
         alloc: Global,
         data: &[u8],
@@ -68,7 +68,7 @@ impl Reading {
         .map_err(|_| DecodeError::OutOfMemory)
     }
 
-    /// Comes to the row that is to be given next.
+    /// Reads the row that is to be returned next, unless it was read before.
     fn come_to_row(&mut self, data: &[u8]) -> Result<bool>
         requires fit { BitsFit «data».now }
         ensures turns { TurnsTo self.old.is_kept (bits_in self.old.rows.order «data».now) self.old.rows self.new.rows result }
@@ -81,7 +81,7 @@ impl Reading {
         self.rows.next_row(data)
     }
 
-    /// Gives the last row as a list of its changes, or keeps it where there is no room for it. Returns whether there was.
+    /// Writes the last row as a list of its changes, or keeps it if there is no room for it. Returns whether there was.
     fn list_row(&mut self, list: &mut [u32]) -> bool
         ensures listed { result ≡ true → IsListed self.old.rows.held.reference list.old list.new }
         ensures refused { result ≡ false → length list.new < length (changes self.old.rows.held.reference) }
@@ -99,7 +99,7 @@ impl Reading {
         has_room
     }
 
-    /// Gives the last row packed, or keeps it where there is no room for it. Returns whether there was.
+    /// Writes the last row packed, or keeps it if there is no room for it. Returns whether there was.
     fn pack_row(&mut self, bytes: &mut [u8]) -> bool
         ensures packed { result ≡ true
             → IsPacked self.old.rows.held.settings.columns self.old.rows.held.reference bytes.old bytes.new }
@@ -119,7 +119,7 @@ impl Reading {
         true
     }
 
-    /// Gives the next row as a list of its changes, and returns the status.
+    /// Writes the next row as a list of its changes, and returns the status.
     pub(crate) fn list_next(&mut self, data: &[u8], list: &mut [u32]) -> u32
         requires fit { BitsFit «data».now }
         ensures gives { GivesRow «data».now self.old self.new result }
@@ -134,7 +134,7 @@ impl Reading {
         if self.list_row(list) { 0 } else { 5 }
     }
 
-    /// Gives the next row packed, and returns the status.
+    /// Writes the next row packed, and returns the status.
     pub(crate) fn pack_next(&mut self, data: &[u8], bytes: &mut [u8]) -> u32
         requires fit { BitsFit «data».now }
         ensures gives { GivesRow «data».now self.old self.new result }

@@ -1,4 +1,4 @@
-//! What C is told of a decoding.
+//! What C gets of a decoding.
 
 ghost use Rattle.std.specs.Prelude.{◌≡◌, ◌≢◌, ◌≤◌, ◌<◌, ℕ, List, take, true, get_or, []};
 ghost use Rattle.hayro_ccitt.specs.Rows.{changes};

@@ -12,7 +12,7 @@ use std::mem;
 #[derive(Drop)]
 pub struct Reader {
     pub(crate) handle: Handle,
-    /// Where a handle of nothing points to; nothing is read or written there.
+    /// A pointer that a handle of nothing has; nothing is read or written there.
     nowhere: *mut u8,
     /// Whether the handle holds a reading.
     pub(crate) is_open: bool,

@@ -1,4 +1,4 @@
-//! What C is told of a row.
+//! What C gets of a row.
 
 ghost use Rattle.std.specs.Prelude.{◌≡◌, ◌+◌, ◌/◌, length};
 ghost use Rattle.hayro_ccitt.specs.Rows.{changes};
@@ -7,7 +7,7 @@ ghost use Rattle.hayro_ccitt_c.specs.RowsGiven.{TellsOf, damage_told, told_nothi
 use crate::reading::{Reading, status_of_row};
 use hayro_ccitt::DecodeError;
 
-/// What a call fills in for C that gives a row.
+/// What a call fills in that reads a row for C.
 #[repr(C)]
 #[derive(Copy, Clone)]
 pub struct RowOutcome {
@@ -17,11 +17,11 @@ pub struct RowOutcome {
     pub changes: u64,
     /// The offset in bits at which its line begins.
     pub line_start: u64,
-    /// The number of bytes consumed so far, the last one whole.
+    /// The number of bytes consumed so far, the last one rounded up.
     pub bytes_read: u64,
     /// The number of rows read so far that were damaged and repaired.
     pub damaged_rows: u64,
-    /// The status of the fault of the last row where it was damaged and repaired, else 0.
+    /// The status of the fault of the last row if it was damaged and repaired, else 0.
     pub damage: u64,
     /// Zero.
     pub reserved_1: u64,
@@ -29,7 +29,7 @@ pub struct RowOutcome {
     pub reserved_2: u64,
 }
 
-/// All zeros.
+/// Returns an outcome of zeros.
 pub(crate) fn nothing_told() -> RowOutcome
     ensures { result ≡ told_nothing }
 {
@@ -45,7 +45,7 @@ pub(crate) fn nothing_told() -> RowOutcome
     }
 }
 
-/// The status of the fault of a row that was repaired, 0 for one that was whole.
+/// Returns the status of the fault of a row that was repaired, 0 for one that was whole.
 fn damage_told(damage: Option<DecodeError>) -> u64
     ensures { result ≡ damage_told damage }
 {
@@ -55,7 +55,7 @@ fn damage_told(damage: Option<DecodeError>) -> u64
     }
 }
 
-/// What there is to tell of a reading.
+/// Returns the outcome of a reading.
 pub(crate) fn told_of(reading: &Reading) -> RowOutcome
     ensures { TellsOf reading.now.rows result }
 {

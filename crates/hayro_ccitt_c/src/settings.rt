@@ -23,7 +23,7 @@ pub struct Settings {
     pub flags: u32,
 }
 
-/// Returns the encoding that a number stands for, or `None`.
+/// Returns the encoding of a number, or `None`.
 pub(crate) fn encoding_of(number: u32) -> Option<EncodingMode>
     ensures { result ≡ encoding_of number }
 {

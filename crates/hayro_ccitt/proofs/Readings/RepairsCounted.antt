@@ -19,7 +19,7 @@ use Rattle.hayro_ccitt.proofs.Readings.TurnsMoveOn.{left_to_read}
 use Rattle.hayro_ccitt.proofs.Readings.RunsOverRows.{RowByRow, Comes, comes_first, comes_next, lines, lines_on}
 use Rattle.hayro_ccitt.proofs.Work.RunsCount.{sum_more}
 
--- a row that is taken is counted, where its line was repaired
+-- an accepted row is counted, if its line was repaired
 pub repaired_counts : (settings : DecodeSettings) (has_eols : Bool) (index offset : ℕ) (start : Bits) (line : Line) (row : Row) (rest : Bits) (before : Repairs)
     → row_of_line settings has_eols start line ≡ Ok (row, rest)
     → (repairs_with line before).rows ≡ before.rows + length (repaired_in settings has_eols index offset line)
@@ -40,7 +40,7 @@ repaired_none settings has_eols index offset start (Line.broken front fault) e i
     by true none = cond-true {A = List Damaged} (settings.strict || not has_eols) [] (record { row = index; start = offset; fault = fault } ∷ []) none
     by false some = let never = sym (cond-false (settings.strict || not has_eols) _ _ some) ∙ is in cc
 
--- at most one more is repaired where one more is taken
+-- at most one more is repaired where one more is accepted
 pub few_repaired : (line : Line) (old new : Held) (row : Row) → new ≡ record (with_row_taken old row) { repairs = repairs_with line old.repairs }
     → new.repairs.rows + old.taken ≤ new.taken + old.repairs.rows
 few_repaired (Line.whole pixels rest) old new row is = omega (arith, ap (λ (h : Held). h.repairs.rows) is, ap (λ (h : Held). h.taken) is)
@@ -54,7 +54,7 @@ module _ (settings : DecodeSettings) (bits : Bits) (start : Progress) where
   abbrev pub all_repairs : List (List Damaged)
   all_repairs = gathered_from (move_on settings) gives start
 
-  -- Between two rows: so many rows were repaired of the rows so far.
+  -- Between two rows: the number of rows repaired among the rows so far.
   pub record RepairsCounted (so_far : Progress) (rows : ℕ) : Type 0 where
     pub comes : Comes (move_on settings) gives left_to_read start so_far
     pub counted : rows ≡ sum_by length (take (length so_far.rows) all_repairs)
@@ -78,7 +78,7 @@ module _ (settings : DecodeSettings) (bits : Bits) (start : Progress) where
       with_row_counted taken then more one =
           omega (arith, one, counted.counted, sum_more all_repairs (length so_far.rows) repaired _ follow, ap (λ (k : ℕ). sum_by length (take k all_repairs)) more)
 
-      -- a row more
+      -- one more row
       pub repairs_next : (after : Progress) (then : ℕ) → move_on settings so_far ≡ Turn.next after → length after.rows ≡ suc (length so_far.rows)
           → then ≡ rows + length repaired → RepairsCounted after then
       repairs_next after then goes more one = record {
@@ -93,7 +93,7 @@ module _ (settings : DecodeSettings) (bits : Bits) (start : Progress) where
           = follow ∙ ap (λ (turn : Move). repaired ∷ gathered_after (lines (move_on settings) gives left_to_read) turn) ends in
           omega (arith, counted.counted, sum_by-take-drop length all_repairs (length so_far.rows), ap (sum_by length) last)
 
-      -- a run that ends with a row more
+      -- a run that ends with one more row
       pub repairs_end_behind : {A : Type 0} (end : Ending) → move_on settings so_far ≡ Turn.done end → (held : Held) (answer : Result A DecodeError)
           → held.taken ≡ suc (length so_far.rows) → held.repairs.rows ≡ rows + length repaired → CountsRepairs all_repairs held answer
       repairs_end_behind end ends held answer more one =
@@ -103,7 +103,7 @@ module _ (settings : DecodeSettings) (bits : Bits) (start : Progress) where
           by (Ok x) are = are
           by (Err e) are = λ fault. are
 
-      -- and one that ends with as many rows, where the line is no row or memory was wanted
+      -- and one that ends with the same rows, where the line is no row or an allocation failed
       pub repairs_end : {A : Type 0} (e : DecodeError) (held : Held) → held.taken ≡ length so_far.rows → held.repairs.rows ≡ rows
           → (IsFault e → (repaired ≡ []) × (end : Ending) × (move_on settings so_far ≡ Turn.done end)) → CountsRepairs {A = A} all_repairs held (Err e)
       repairs_end e held taken same fails = record {

@@ -45,7 +45,7 @@ get_or-there [] k x other is = absurd cc
 get_or-there (y ∷ xs) zero x other is = cc
 get_or-there (y ∷ xs) (suc k) x other is = get_or-there xs k x other is
 
--- and behind all elements there is none
+-- and after all elements there is none
 get_or-behind_all : {A : Type 0} (xs : List A) (k : ℕ) (other : A) → drop k xs ≡ [] → get_or xs k other ≡ other
 get_or-behind_all [] k other is = refl
 get_or-behind_all (x ∷ xs) zero other is = absurd cc
@@ -111,7 +111,7 @@ module _ (settings : DecodeSettings) (wide : 0 < settings.columns) (bits : Bits)
         (ap (λ (xs : List ℕ). slice_get xs (length so_far.rows)) (gathered_is gives)
         ∙ comes_line (move_on settings) (one_each gives) left_to_read (by_rows_left settings wide) first none_first so_far (comes gives) (gives so_far) refl)
 
-    -- where its turn is the last, no line begins behind it
+    -- where its turn is the last, no line begins after it
     pub no_line_behind : (end : Ending) → move_on settings so_far ≡ Turn.done end → (other : ℕ) → get_or (line_starts settings bits) (length so_far.rows + 1) other ≡ other
     no_line_behind end ends other =
         let gives : Progress → ℕ = λ s. length bits - length s.rest in
@@ -155,7 +155,7 @@ module _ (settings : DecodeSettings) (wide : 0 < settings.columns) (bits : Bits)
           (ap (λ (n : ℕ). slice_get by_line n) taken ∙ ap (λ (xs : List (List Damaged)). slice_get xs (length so_far.rows)) repairs_are
           ∙ comes_line (move_on settings) (one_each (repaired_by_turn settings bits)) left_to_read (by_rows_left settings wide) first none_first so_far (comes (repaired_by_turn settings bits)) repaired refl)
 
-      -- with it one line more is counted
+      -- with it one more line is counted
       pub repaired_more : sum_by length (take (rows + 1) by_line) ≡ sum_by length (take rows by_line) + length repaired
       repaired_more =
           let on = ap (λ (n : ℕ). drop n by_line) taken ∙ ap (λ (xs : List (List Damaged)). drop (length so_far.rows) xs) repairs_are
@@ -163,7 +163,7 @@ module _ (settings : DecodeSettings) (wide : 0 < settings.columns) (bits : Bits)
           let next : rows + 1 ≡ suc rows = omega arith in
           ap (λ (n : ℕ). sum_by length (take n by_line)) next ∙ sum_more by_line rows repaired _ on
 
-    -- a driver whose sink keeps nothing stands there
+    -- a driver whose sink keeps nothing is there
     abbrev pub between_of : (repairs : Repairs) → Between (move_on settings) (one_each (line_of_turn settings)) left_to_read first settings no_step nothing_kept nothing_kept (context_at settings so_far repairs) so_far.rest
     between_of repairs = record { so_far = so_far; comes = comes (line_of_turn settings); held = refl; here = refl; meaning = refl; refused = refl }
 
@@ -203,7 +203,7 @@ module _ (settings : DecodeSettings) (bits : Bits) (held : Held) (here : Bits) (
         subst (λ (x : Bits). TakesOneRow (line_here settings (row_before settings.columns so_far.rows) x)
         (row_of_line settings so_far.has_eols x (line_here settings (row_before settings.columns so_far.rows) x)) no_step nothing_kept nothing_kept (context_at settings so_far held.repairs) new answer left_over) stands.rest_is known
 
--- what is repaired of a line is told
+-- what is repaired of a line is reported
 repaired_told : (settings : DecodeSettings) (has_eols : Bool) (index offset : ℕ) (start : Bits) (line : Line) (row : Row) (rest : Bits) (before : Repairs)
     → row_of_line settings has_eols start line ≡ Ok (row, rest)
     → damage_since (repairs_with line before) before.rows ≡ fault_in (repaired_in settings has_eols index offset line)
@@ -362,7 +362,7 @@ module _ (settings : DecodeSettings) (bits : Bits) (held : Held) (here_now : Bit
   last_taken : last.taken ≡ length next.rows
   last_taken = ap (λ (h : Held). h.taken) frame ∙ ap (λ (h : Held). h.taken) stands.held_is
 
-  -- no line begins behind a gap that is at fault
+  -- no line begins after a faulty gap
   pub no_start_behind : (e : DecodeError) → gap_behind_row held.settings held.taken held.has_eols here_now ≡ gap_said (Err e) last.has_eols (drop place bits)
       → (other : ℕ) → get_or (line_starts settings bits) held.taken other ≡ other
   no_start_behind e said other =
@@ -441,7 +441,7 @@ first_line_stands settings wide bits other last rest frame is room = record {
   rest_is = is;
 }
 
--- what was counted stands where no row is read
+-- what was counted is unchanged where no row is read
 pub repairs_stay : (settings given : DecodeSettings) (bits read : Bits) (held last : Held) → given ≡ settings → read ≡ bits → last.taken ≡ held.taken → last.repairs ≡ held.repairs
     → RepairsAreCounted settings bits held → RepairsAreCounted given read last
 repairs_stay settings given bits read held last same are taken repairs counted = record {
@@ -451,7 +451,7 @@ repairs_stay settings given bits read held last same are taken repairs counted =
       ∙ ap (λ (b : Bits). sum_by length (take last.taken (repairs_by_line given b))) (sym are);
 }
 
--- what a call says that passes a gap
+-- the result of a call that passes a gap
 pub comes_to_line : (old : RowsRead) (last : Held) (at : BitsAt) (n : ℕ) (damage : Option DecodeError) (answer : Result Bool DecodeError) → last.settings ≡ old.settings → at.bits ≡ old.bits → last.taken ≡ old.taken
     → (last.reference ≡ old.row) × (damage ≡ old.damage) → IfOk answer (λ over. n ≡ old.line_start)
     → Stands (stand_after answer) old.settings old.bits last at.place → OnErr answer (n ≡ get_or (line_starts old.settings old.bits) old.taken at.place)
@@ -502,7 +502,7 @@ elsewhere : (P : DecodeSettings → Bits → ℕ → Type 0) (s t : DecodeSettin
 elsewhere P s t b c m n settings bits taken given =
     subst (λ (k : ℕ). P t c k) taken (subst (λ (x : Bits). P t x m) bits (subst (λ (x : DecodeSettings). P x b m) settings given))
 
--- what a call says that passes a gap, and then reads the line that stands there
+-- the result of a call that passes a gap, and then reads the line there
 pub reads_on : (old mid new : RowsRead) (result : Result Bool DecodeError) → ComesToLine old mid (Ok true)
     → ReadsNext mid new result → ReadsNext old new result
 reads_on old mid new result comes reads =

@@ -1,4 +1,4 @@
--- Where a strict reading is at no fault, a lenient one gets over no damage.
+-- Where a strict reading ends without a fault, a lenient one passes no damage.
 use Rattle.std.proofs.Common.{◌≡◌, ◌<◌, ◌+◌, ◌-◌, ◌⊎◌, inl, inr, ℕ, zero, suc, Bool, true, false, cond, ◌&&◌, eqb, List, [], ◌∷◌, ◌++◌, length, take, Err, refl, sym, ap, subst, ◌∙◌, arith}
 use Rattle.std.specs.Prelude.{IsOk, sum_by, flat_map}
 use Rattle.std.proofs.lemmas.Bool.{cond-true, cond-false, cases_lt, cases_eq, eq-eqb, ne_eqb, false≢true}
@@ -51,7 +51,7 @@ module _ (settings : DecodeSettings) (bits : Bits) where
 
   -- ---- One turn
 
-  -- a strict gap is at fault, or it is the lenient one, and misses no EOL
+  -- a strict gap has a fault, or it is the lenient one, and misses no EOL
   gap_sound : (taken : ℕ) (has_eols : Bool) (rest : Bits) → (gap_behind_row strictly taken has_eols rest ≡ Gap.over (Err InvalidCode))
       ⊎ ((misses_eol leniently taken has_eols rest ≡ false) × (gap_behind_row strictly taken has_eols rest ≡ gap_behind_row leniently taken has_eols rest))
   gap_sound taken has_eols rest = by (misses_eol settings taken has_eols rest) refl
@@ -65,7 +65,7 @@ module _ (settings : DecodeSettings) (bits : Bits) where
   abbrev Fails : Move → Type 0
   Fails turn = (fault : DecodeError) × (end : Ending) × (turn ≡ Turn.done end) × (end.outcome ≡ Err fault)
 
-  -- a strict turn fails, or it is the lenient one, and gets over nothing
+  -- a strict turn fails, or it is the lenient one, and passes nothing
   turn_sound : (s : Progress) → Fails (move_on strictly s) ⊎ ((damaged_by_turn leniently bits s ≡ []) × (move_on strictly s ≡ move_on leniently s))
   turn_sound s = by (line_of_turn strictly s) refl (line_by_agrees settings.encoding settings.columns (row_before settings.columns s.rows) s.rest)
     where
@@ -117,7 +117,7 @@ module _ (settings : DecodeSettings) (bits : Bits) where
     behind (Turn.next s) ok = from_line s ok
     behind (Turn.done end) ok = tt
 
-    -- the first gap is the same, or at fault
+    -- the first gap is the same, or has a fault
     first : (encoding : EncodingMode) → IsOk (ending_behind strictly (first_gap encoding strictly bits)).outcome → AreEmpty (gathered_behind leniently gives (first_gap encoding leniently bits))
     first Group3_1D ok = behind (first_gap Group3_1D leniently bits) ok
     first Group3_2D ok = behind (first_gap Group3_2D leniently bits) ok
@@ -132,7 +132,7 @@ module _ (settings : DecodeSettings) (bits : Bits) where
         let read = ap (λ (r : Reading). r.outcome) (cond-false {A = Reading} (eqb settings.columns 0) _ _ some) in
         first settings.encoding (ok_outcome bits (end_of strictly bits).outcome (subst IsOk read ok))
 
-  -- ---- Strict readings get over nothing
+  -- ---- Strict readings pass no damage
 
   strict_turn : (s : Progress) → damaged_by_turn strictly bits s ≡ []
   strict_turn s = by (line_of_turn strictly s)

@@ -42,7 +42,7 @@ module _ (c : goal.After-told) where
       (ap (λ n. drop n c.new-rows.result.lists.now) c.new-rows.ensures.end ∙ c.new-rows.ensures.numbers)
       c.new-rows.ensures.changes refl refl c.decoded-report.ensures.meaning
 
--- a statement about what was decoded, and about the memory that is left, is one about what C asks for
+-- a statement about what was decoded, and about the memory afterwards, is one about what C gets
 on : (c : goal.After-told) (P : DecodeSettings → Bits → List ℕ → Type 0) (memory : List ℕ) → P c.in-Some.meant (bits_in c.order_of.result c.args.«data».now) memory
     → BitsFit c.args.«data».now → IfSome (settings_of c.args.settings.now) (λ s. P s (bits_in (order_of c.args.settings.now) c.args.«data».now) memory)
 on c P memory = on_settings c.args.settings.now c.in-Some.meant c.args.«data».now c.order_of.result (λ s bits. P s bits memory) (meant c) c.order_of.ensures

@@ -3,7 +3,7 @@ use Rattle.std.proofs.lemmas.List.{length-map}
 use Rattle.faxpack.specs.Arguments.{picture_words}
 use Rattle.faxpack.proofs.arguments.picture_words.Goals as goal
 
--- fewer than two words are invalid
+-- fewer than two arguments are invalid
 too_few : (words : List (List ℕ)) → length words < 2 → None ≡ picture_words words
 too_few [] few = refl
 too_few (a ∷ []) few = refl

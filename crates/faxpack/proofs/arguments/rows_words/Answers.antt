@@ -3,7 +3,7 @@ use Rattle.std.proofs.lemmas.List.{length-map}
 use Rattle.faxpack.specs.Arguments.{rows_words}
 use Rattle.faxpack.proofs.arguments.rows_words.Goals as goal
 
--- fewer than four words are invalid
+-- fewer than four arguments are invalid
 too_few : (words : List (List ℕ)) → length words < 4 → None ≡ rows_words words
 too_few [] few = refl
 too_few (a ∷ []) few = refl

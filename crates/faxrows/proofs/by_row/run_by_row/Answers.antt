@@ -16,23 +16,23 @@ use Rattle.faxrows.proofs.by_row.run_by_row.Given.{Over}
 use Rattle.faxrows.proofs.by_row.run_by_row.Goals as goal
 
 module _ (g : Over) (c : goal.After-drop-input-2 g) where
-  -- the settings that the words mean
+  -- the settings that the arguments mean
   abbrev settings : DecodeSettings
   settings = c.in-Ok.rows.settings
 
-  -- the bits of what was read, in the order that the words mean
+  -- the bits of what was read, in the order that the arguments select
   abbrev bits : Bits
   bits = c.in-Ok.rows.bits
 
-  -- how many rows were read
+  -- the number of rows read
   abbrev read : ℕ
   read = c.write_by_row.new.rows.taken
 
-  -- what the writer holds grew by a text
+  -- a text was appended to what the writer has
   abbrev Grew : List ℕ → Type 0
   Grew text = Appends (g.W.Write.contents c.args.writer.now.0) (g.W.Write.contents c.write_by_row.new.writer.0) text
 
-  -- what was written, where the run ended so
+  -- what was written, if the run ended like this
   abbrev Written : Done → Type 0
   Written done =
       (outcome : Outcome)
@@ -43,7 +43,7 @@ module _ (g : Over) (c : goal.After-drop-input-2 g) where
   written : (done : Done) → c.write_by_row.result ≡ Ok done → Written done
   written done e = IfOk-at_ok Written e c.write_by_row.ensures.written
 
-  -- a fact of what was read is one of what is known
+  -- a statement about what was read is one about what is known
   abbrev Known : (DecodeSettings → Bits → Type 0) → Type 0
   Known = OnKnown (arguments_of_words (map string_bytes c.args.words.now)) (g.R.Read.remaining c.args.reader.now.0)
 
@@ -52,7 +52,7 @@ module _ (g : Over) (c : goal.After-drop-input-2 g) where
       on_known _ c.in-Some.arguments settings _ c.as_slice.result.now P (search rules) (search rules) (search rules)
       (subst (P settings) (search rules) holds)
 
-  -- all the text was written, and what the run's end says of the outcome is so
+  -- all the text was written, and what the run's end says of the result is true
   whole : (done : Done) (P : DecodeSettings → Bits → Type 0)
       → ((outcome : Outcome) → EndsAfter settings bits read outcome → done_of outcome ≡ done
       → (text_after settings bits read outcome ≡ whole_text settings bits) × P settings bits)

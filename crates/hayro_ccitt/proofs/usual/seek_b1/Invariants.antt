@@ -2,7 +2,7 @@ use Rattle.std.proofs.Common.{◌≡◌, ◌+◌, ◌-◌, ◌%◌, ◌≤◌, l
 use Rattle.hayro_ccitt.specs.UsualModes.{IsNear}
 use Rattle.hayro_ccitt.proofs.usual.seek_b1.Given as goal
 
--- each turn goes two further, and is one tick
+-- each turn advances by two, and is one tick
 abbrev pub invariant-loop-index : goal.invariant-loop-index
 invariant-loop-index l = record {
   near : IsNear l.columns l.changes l.painted l.index;

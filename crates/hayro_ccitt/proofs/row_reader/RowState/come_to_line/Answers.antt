@@ -13,7 +13,7 @@ use Rattle.hayro_ccitt.proofs.Readings.RowByRow.{starts_behind, behind_row_stand
 use Rattle.hayro_ccitt.proofs.row_reader.RowState.come_to_line.Goals as goal
 use Rattle.hayro_ccitt.proofs.row_reader.RowState.come_to_line.Goals.{After-line_after_gap}
 
--- where the reading is behind the gap
+-- where the reading is after the gap
 passed : (c : After-line_after_gap) → IsStanding c.args.self.now c.args.reader.now
     → Stands (stand_after c.pass_gap-over.result) c.args.self.now.ctx.held.settings c.args.reader.now.bits c.pass_gap-over.new.ctx.held c.pass_gap-over.new.reader.place
 passed c stands =
@@ -30,7 +30,7 @@ passed c stands =
     (omega (arith, c.bit_pos-place.ensures.place, c.bit_pos-place.ensures.within, ap length c.pass_gap-over.ensures.same_bits))
     c.pass_gap-over.ensures.held c.pass_gap-over.result said c.pass_gap-over.ensures.only_code
 
--- where its fault is, if it has one
+-- the offset of its fault, if it has one
 started : (c : After-line_after_gap) → IsStanding c.args.self.now c.args.reader.now
     → OnErr c.pass_gap-over.result (c.start_after_gap-self.result
     ≡ get_or (line_starts c.args.self.now.ctx.held.settings c.args.reader.now.bits) c.args.self.now.ctx.held.taken
@@ -53,7 +53,7 @@ started c stands =
     c.pass_gap-over.ensures.held c.pass_gap-over.result said
     c.bit_pos-place.result _ c.bit_pos-place.ensures.place)
 
--- where it has none, the place of the last row's line stays
+-- if it has none, the offset of the last row's line is unchanged
 kept : (over : Result Bool DecodeError) (place before : ℕ) → IfOk over (λ b. start_after over place before ≡ before)
 kept (Ok b) place before = refl
 kept (Err error) place before = tt

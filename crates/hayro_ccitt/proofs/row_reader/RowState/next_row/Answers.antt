@@ -6,7 +6,7 @@ use Rattle.hayro_ccitt.specs.RowsRead.{ComesToLine, seen}
 use Rattle.hayro_ccitt.proofs.Readings.RowByRow.{at_line_stands, few, reads_on}
 use Rattle.hayro_ccitt.proofs.row_reader.RowState.next_row.Goals as goal
 
--- where a line stands there is room for its row
+-- if there is a line, there is room for its row
 pub returns-then-not-has_room-clause-reads : goal.returns-then-not-has_room-clause-reads
 returns-then-not-has_room-clause-reads c stands =
     let rows = c.come_to_line.new.self in

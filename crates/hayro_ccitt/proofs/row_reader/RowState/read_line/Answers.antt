@@ -15,7 +15,7 @@ line_start_of : (place : ℕ) (bits : Bits) (result : ℕ) → result ≡ place 
     → result ≡ length bits - length (drop place bits)
 line_start_of place bits result is within = omega (arith, is, within, length-drop place bits)
 
--- where nothing is drawn, a line that is begun anew is the same
+-- if nothing is drawn, a line that is begun again is the same
 begun_is : (settings : DecodeSettings) (bits : Bits) (held : Held) (rest : Bits) → StandsAtLine settings bits held rest
     → (begun : Context) → begun.held ≡ redrawn held [] White → begun.held ≡ held
 begun_is settings bits held rest stands begun is =
@@ -49,7 +49,7 @@ row_was_not_read c at =
     isnt_read held.settings bits c.begin_line.new.self.held rest (subst (λ (h : Held). StandsAtLine held.settings bits h rest) (sym same) stands)
     c.read_row.new.ctx.held (here c.read_row.new.reader) c.in-Err.error c.in-Err.ensures.row
 
--- what an error leaves of the context
+-- what an error leaves in the context
 settings_left : (c : After-self-in-Err-1) → c.read_row.new.ctx.held.settings ≡ c.args.self.now.ctx.held.settings
 settings_left c = ap (λ (h : Held). h.settings) c.in-Err.ensures.row.held ∙ ap (λ (x : Context). x.held.settings) c.begin_line.ensures.frame
 
@@ -60,7 +60,7 @@ row_left : (c : After-self-in-Err-1) → c.read_row.new.ctx.held.reference ≡ c
 row_left c = ap (λ (h : Held). h.reference) c.in-Err.ensures.row.held
     ∙ ap (λ (x : Context). x.held.reference) c.begin_line.ensures.frame
 
--- what it leaves of the count of repairs
+-- what it leaves in the count of repairs
 repairs_left : (c : After-self-in-Err-1) → c.read_row.new.ctx.held.repairs ≡ c.args.self.now.ctx.held.repairs
 repairs_left c = ap (λ (h : Held). h.repairs) c.in-Err.ensures.row.held ∙ ap (λ (x : Context). x.held.repairs) c.begin_line.ensures.frame
 

@@ -1,4 +1,4 @@
--- `from_unboxed` forgets what the pointer points to: the handle owns it.
+-- `from_unboxed` changes the type to one that doesn't say what the pointer points to: the handle owns it.
 use Rattle.std.proofs.Common.{◌≡◌, List, [], ◌∷◌, ◌++◌, Some, refl, sym, subst}
 use mir.Val.{Val}
 use base.Logic.{SProp, ent, emp, id⊢}

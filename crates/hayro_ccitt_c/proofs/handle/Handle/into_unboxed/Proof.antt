@@ -1,4 +1,4 @@
--- `into_unboxed` remembers what the pointer points to: what the handle owned goes with it.
+-- `into_unboxed` changes the type back to one that says what the pointer points to: it owns what the handle owned.
 use Rattle.std.proofs.Common.{◌≡◌, List, [], ◌∷◌, ◌++◌, Option, Some, None, IsSome, refl, sym, ap, subst}
 use mir.Val.{Val}
 use base.Logic.{SProp, ent, emp, id⊢}
@@ -72,7 +72,7 @@ into_unboxed_spec 𝓤 𝓛 𝓜 𝓡 wired =
     sets ! (of_opd ! (get_in ! (fld ! refl (stop !)) (sub ! 0 refl (whole !)))) refl (Ptr-Good p) $
     sets ! (of_opd ! (get_in ! (fld ! refl (stop !)) (sub ! 1 refl (whole !)))) refl fits $
     sets ! (agg ! (and_then ! (get ! refl) (and_then ! (get ! refl) (no_more !)))) refl good $
-    -- what is given back
+    -- what is returned
     close_fields A L ghosts ! p a h $ move ! (0 ∷ 1 ∷ []) $ fjoin ! $ use1 𝓛 (‵ (given_back.own_val made (w ∷ []))) (id⊢ 𝓤 _) $
     use0 𝓛 (raw (fact 𝓤 (◌≡◌ {A = Option reading.the_row.Denot} (Some made.value) given.value)))
     (fact_i 𝓤 (◌≡◌ {A = Option reading.the_row.Denot} (Some made.value) given.value) (emp 𝓤) (sym found.1)) $

@@ -80,7 +80,7 @@ from_box_spec 𝓤 𝓛 𝓜 𝓡 wired T A LT LA g da dt dd allocates glue_t gl
     use1 𝓛 (later (some (λ (r : Ptr × A.Denot). (alive ⊛ ‵ (pair.own_val r (u ∷ []))) ⊛
     some (λ (ls : Lasts end κs y.0.3). ‵ (lasts end κs y.0.3 ls) ⊛
     (raw (fact 𝓤 (r.1 ≡ a)) ⊛ ‵ (box_owns (g.dealloc_token a) Row r.0 given.value)))))) (id⊢ 𝓤 _) $
-    -- what it gives back
+    -- what it returns
     await ! tt $ pick ! (λ r. split ! $ move ! (1 ∷ []) $ pick ! (λ ls. split3 ! $ drop ! $ heard ! (r.1 ≡ a) (λ same.
     move ! (1 ∷ []) $ split ! $ move ! (1 ∷ []) $ use1 𝓛 (‵ (fields Alloc L g r.0 r.1 (u ∷ []))) (id⊢ 𝓤 _) $
     rewrite ! 0 (λ (d : A.Denot). ‵ (fields Alloc L g r.0 d (u ∷ []))) same refl $

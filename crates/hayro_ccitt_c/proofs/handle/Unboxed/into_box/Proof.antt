@@ -88,7 +88,7 @@ into_box_spec 𝓤 𝓛 𝓜 𝓡 wired T A LT LA g da dt dd allocates glue_t gl
     use1 𝓛 (later (some (λ (r : made.Denot). (alive ⊛ ‵ (made.own_val r (u ∷ []))) ⊛
     some (λ (ls : Lasts end κs y.0.3). ‵ (lasts end κs y.0.3 ls) ⊛
     (raw (fact 𝓤 (r.value ≡ given.value)) ⊛ raw (fact 𝓤 (r.alloc ≡ a))))))) (id⊢ 𝓤 (call.post y u)) $
-    -- what it gives back
+    -- what it returns
     await ! tt $ pick ! (λ r. split ! $ move ! (1 ∷ []) $ pick ! (λ ls. split3 ! $ drop ! $
     move ! (2 ∷ []) $ split ! $ move ! (1 ∷ []) $ use1 𝓛 (‵ (made.own_val r (u ∷ []))) (id⊢ 𝓤 _) $ fsplit ! $
     open_fields Alloc L g ! r.ptr r.alloc (u ∷ []) (λ k u_is k_fits.
