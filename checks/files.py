@@ -1,6 +1,7 @@
 """Checks of fax2pbm and of the Python examples on files that other programs make of a page, as far as they are installed: each file
 is decoded to the page, or refused by a line that says why; so are files that are cut, damaged, or no fax at all."""
 import os
+import re
 import shutil
 import subprocess
 import tempfile
@@ -47,7 +48,9 @@ OTHERS = ["none", "lzw", "packbits"]
 
 
 def made(folder, tool, command, name):
-    if not shutil.which(tool):
+    # The files that it is made from may not be there: other tools make them.
+    sources = re.findall(r"[\w-]+\.(?:pbm|tif|pdf)\b", command)
+    if not shutil.which(tool) or not all(os.path.exists(f"{folder}/{it}") for it in sources):
         return None
     subprocess.run(["bash", "-c", command.replace("{}", name)], cwd=folder, capture_output=True, check=False, timeout=120)
     return name if os.path.exists(f"{folder}/{name}") and os.path.getsize(f"{folder}/{name}") else None

@@ -76,21 +76,21 @@ def equal_rows():
 
 
 def encoded_rows():
-    """The encoder allocates room for what it writes, and for the changes of a row: in Group 4 also for those of the row before."""
+    """The encoder allocates room for what it writes, and for the changes of a row and of the row before."""
     c_library.build()
     seen = 0
     with tempfile.TemporaryDirectory() as folder:
         library = called.Library(folder)
-        for encoding, mode in enumerate(("g4", "1d")):
+        # Group 4 with EOFB, and one-dimensional Group 3 with EOLs and RTC.
+        for encoding, (mode, flags) in enumerate((("g4", 1), ("1d", 3))):
             for row in [[], *ROWS]:
                 for count in (1, 2, HUNDRED):
                     data = strips.encoded(mode, 64, [row] * count)
                     library.refuse(0)
-                    answer = encoder.called(library.calls, 64, c_library.packed_row(64, row) * count, encoding, 0, len(data))
+                    answer = encoder.called(library.calls, 64, c_library.packed_row(64, row) * count, encoding, flags, 0, len(data))
                     assert answer[:2] == (0, (count, len(data))), (mode, row, answer)
                     asked = library.calls.requests_seen(), library.calls.bytes_asked()
-                    kept = changes_kept(row, min(count, 2) if mode == "g4" else 1)
-                    expected = together(doubled(FIRST_BYTES, len(data)), kept)
+                    expected = together(doubled(FIRST_BYTES, len(data)), changes_kept(row, min(count, 2)))
                     assert asked == expected, (mode, row, count, asked, expected)
                     seen += 1
         assert library.calls.blocks_held() == 0

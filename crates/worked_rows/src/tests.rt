@@ -708,10 +708,10 @@ fn tells_damage(
         rt, "memory",
     );
     assert_eq!(rt; (reader.damage(), reader.damaged_rows()), (None, 0));
-    let mut damaged_rows = 0;
+    let mut damaged_rows = 0u64;
     for fault in faults {
         if fault.is_some() {
-            damaged_rows += 1;
+            damaged_rows = damaged_rows.saturating_add(1);
         }
         assert_eq!(rt; reader.next_row(), Ok(true));
         assert_eq!(rt;
@@ -724,7 +724,7 @@ fn tells_damage(
         panic!(rt; "no memory");
     };
     for _ in 0..2 {
-        let mut sink = sink_of(rt.alloc(), settings.columns, usize::MAX);
+        let mut sink = sink_of(rt.alloc(), ctx.settings().columns, usize::MAX);
         let _ = decode(data, &mut sink, &mut ctx);
         assert_eq!(rt; ctx.damaged_rows(), damaged_rows, "of each image alone");
     }
