@@ -36,7 +36,7 @@ impl Decoder for NoRows {
     }
 }
 
-/// The settings for pages of Group 4 with this width, each closed by EOFB: no row limit, no alignment, strict.
+/// Returns the settings for pages of Group 4 with this width, each closed by EOFB: no row limit, no alignment, strict.
 pub fn group4_pages(columns: u32) -> DecodeSettings
     ensures { result ≡ page_settings columns }
 {

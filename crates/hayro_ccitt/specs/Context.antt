@@ -7,16 +7,16 @@ use Rattle.hayro_ccitt.specs.declared.error.DecodeError.{DecodeError}
 use Rattle.hayro_ccitt.specs.declared.error.DecodeError.TheVariants.{UnexpectedEof}
 use Rattle.hayro_ccitt.specs.Rows.{Row, white_row, repaired, paint, last_pixel}
 
--- how many of the rows that were taken were repaired, and the fault of the last of these (T.4, 4.1.2)
+-- how many of the accepted rows were repaired, and the fault of the last of these (T.4, 4.1.2)
 pub record Repairs : Type 0 where
   pub rows : ℕ
   pub fault : DecodeError
 
--- none was; the fault means nothing then (glue)
+-- none was; the fault means nothing then (auxiliary)
 abbrev pub no_repairs : Repairs
 no_repairs = record { rows = 0; fault = UnexpectedEof }
 
--- the reference row, the front of the coding row, the present colour, the number of rows that were taken, what was
+-- the reference row, the front of the coding row, the present colour, the number of rows that were accepted, what was
 -- repaired of them, whether EOLs are sought, and the settings (T.4, 4.1.2 and 4.2.1.1)
 pub record Held : Type 0 where
   pub reference : Row

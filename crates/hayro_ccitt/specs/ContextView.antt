@@ -5,7 +5,7 @@ use Rattle.hayro_ccitt.specs.Rows.{AreChanges, pixels}
 use Rattle.hayro_ccitt.specs.Context.{Context, ArePassed}
 use Rattle.hayro_ccitt.specs.declared.context.DecoderContext.TheInside.{Inside}
 
--- the rows that the lists of changes stand for
+-- the rows that the lists of changes represent
 abbrev pub context_of : Inside → Context
 context_of c =
     record {

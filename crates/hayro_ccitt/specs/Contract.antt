@@ -43,7 +43,7 @@ pub record Decodes {M : Type 0} (settings : DecodeSettings) (bits : Bits) (step 
   pub limited : (rows : List Row) → IsLimitedPicture settings rows bits → OnAnswer answer (IsOk answer)
   pub limited_picture : (rows : List Row) → IsLimitedPicture settings rows bits
       → OnAnswer answer (after.meaning ≡ meaning_after step before.meaning rows)
-  -- The context counts the rows that were repaired, of those taken (T.4, 4.1.2).
+  -- The context counts the rows that were repaired, of those accepted (T.4, 4.1.2).
   pub damaged_taken : held.repairs.rows ≡ sum_by length (take held.taken (repairs_by_line settings bits))
   pub damaged : OnAnswer answer (held.repairs.rows ≡ length (repairs_of settings bits))
   -- In a picture no row is repaired (T.4, 4.1.2).

@@ -372,7 +372,7 @@ impl<'a> Model for BitsAtHand<'a> {
 }
 
 impl<'a> BitReader<'a> {
-    /// The same bits at the same place, none of them at hand yet.
+    /// Returns the same bits at the same offset, none of them at hand yet.
     #[inline(always)]
     pub(crate) fn none_at_hand(&self) -> BitsAtHand<'a>
         ensures { result ≡ record { at = self.now; left = 0 } }
@@ -481,7 +481,7 @@ impl<'a> BitsAtHand<'a> {
         self.left
     }
 
-    /// The number of bits before the place.
+    /// Returns the number of bits before the offset.
     #[inline(always)]
     pub(crate) fn bit_pos(&self) -> usize
         ensures place { result ≡ self.now.at.place }

@@ -153,7 +153,7 @@ impl DecoderContext {
     }
 
     /// Whether EOLs are sought between the lines of Group 3 (T.4 section 4.1.2): at first where `end_of_line` is set or
-    /// EOLs stand at the front of the data, and no longer once none is left. After Group 4 it is false.
+    /// the data begins with EOLs, and no longer once none is left. After Group 4 it is false.
     pub fn has_eols(&self) -> bool
         ensures { result ≡ self.now.held.has_eols }
     {

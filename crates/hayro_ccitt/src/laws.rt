@@ -73,8 +73,8 @@ pub fn pictures()
     ensures limited { ReadsLimitedPictures }
 {}
 
-/// Where strict data are read without a fault, the lenient reading repairs no row and misses no EOL; so of a picture of any
-/// kind no damage is told.
+/// If the strict reading ends without a fault, the lenient one repairs no row and misses no EOL; so in a picture of any kind
+/// there is no damage.
 pub fn no_damage()
     ensures strict { StrictIsUndamaged }
     ensures pictures { PicturesAreUndamaged }

@@ -274,7 +274,7 @@ const LOOKUP_ENTRIES: usize = 8192;
 /// word.
 const NO_WORD: u16 = 8 << 12 | LOOKUP_INVALID;
 
-/// The code words of a colour by the next thirteen bits, which are taken as a number, the first bit highest. The low
+/// The code words of a colour by the next thirteen bits, read as a number, the first bit highest. The low
 /// twelve bits of an entry are the run of the word there, the high four its number of bits. Without a word the low twelve
 /// are `LOOKUP_INVALID`, and the high four are the number of bits that decide so: one more than the bits that agree with
 /// any word.
