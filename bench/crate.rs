@@ -18,7 +18,8 @@ pub struct Outcome {
     changes: u64,
     bytes_read: u64,
     damaged_rows: u64,
-    reserved: [u64; 2],
+    fault_start: u64,
+    reserved: u64,
 }
 
 struct Count<'a>(&'a mut Outcome);

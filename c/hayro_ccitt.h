@@ -70,8 +70,9 @@ typedef struct {
     uint64_t changes;      /* the number of their changes of colour, saturated at 2 ^ 64 - 1 */
     uint64_t bytes_read;   /* the bytes consumed, if the call returns HAYRO_CCITT_OK; else 0 */
     uint64_t damaged_rows; /* the number of rows among them whose line was damaged and repaired */
-    uint64_t reserved_1;   /* 0 */
-    uint64_t reserved_2;   /* 0 */
+    uint64_t fault_start;  /* on an error, the offset in bits at which the line after these rows begins, or strict data lacks an
+                            * EOL; else 0, and also if HAYRO_CCITT_OUT_OF_MEMORY came before the data was read */
+    uint64_t reserved;     /* 0 */
 } hayro_ccitt_outcome;
 
 /* What a call returns. Unless it is HAYRO_CCITT_NOT_TAKEN, the outcome's rows were decoded: on an error, those before it. */

@@ -27,10 +27,10 @@ class Settings(ctypes.Structure):
 
 
 class Outcome(ctypes.Structure):
-    _fields_ = [(name, ctypes.c_uint64) for name in ("rows", "changes", "bytes_read", "damaged_rows", "reserved_1", "reserved_2")]
+    _fields_ = [(name, ctypes.c_uint64) for name in ("rows", "changes", "bytes_read", "damaged_rows", "fault_start", "reserved")]
 
     def told(self):
-        assert (self.reserved_1, self.reserved_2) == (0, 0), (self.reserved_1, self.reserved_2)
+        assert self.reserved == 0, self.reserved
         return self.rows, self.changes, self.bytes_read
 
 
@@ -93,6 +93,7 @@ def called(call, data, settings, *memory):
     source = (ctypes.c_uint8 * (len(data) + 1)).from_buffer_copy(data + b"\0")
     lent = [word for items in memory for word in (items, ctypes.c_size_t(len(items) - GUARD))]
     answer = call(source, ctypes.c_size_t(len(data)), ctypes.byref(settings), *lent, ctypes.byref(outcome))
+    assert outcome.fault_start <= 8 * len(data) if answer in range(1, 6) else outcome.fault_start == 0, outcome.fault_start
     return answer, outcome.told()
 
 

@@ -112,7 +112,7 @@ static void each_case(const uint8_t *data, size_t length, const hayro_ccitt_sett
         last = hayro_ccitt_next_changes(data, length, again % 2 ? &second : &first, &none, 0, &row);
         must(last == (status ? status : HAYRO_CCITT_NO_ROW), "the end");
         must(row.rows == listed.rows && row.damaged_rows == listed.damaged_rows, "what is told at the end");
-        must(status || row.bytes_read == listed.bytes_read, "the bytes");
+        must(status ? row.line_start == listed.fault_start : row.bytes_read == listed.bytes_read, "the bytes, or the fault");
     }
     must(live > 0 && hayro_ccitt_close(&first) == HAYRO_CCITT_OK && hayro_ccitt_close(&second) == HAYRO_CCITT_OK, "close");
     must(hayro_ccitt_close(&second) == HAYRO_CCITT_NOT_TAKEN && live == 0, "all is freed");

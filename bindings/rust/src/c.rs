@@ -74,7 +74,8 @@ pub(crate) struct Outcome {
     pub(crate) changes: u64,
     pub(crate) bytes_read: u64,
     pub(crate) damaged_rows: u64,
-    reserved: [u64; 2],
+    pub(crate) fault_start: u64,
+    reserved: u64,
 }
 
 /// `hayro_ccitt_row`.

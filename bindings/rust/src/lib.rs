@@ -42,8 +42,8 @@
 //! # Differences from that crate
 //!
 //! If an allocation fails, the program ends, as with a [`Vec`].
-//! `decode_low_first`, [`decode_packed`], [`RowReader`], [`DecoderContext::damaged_rows`] and [`encode_bitmap`] are added. The package
-//! is `no_std`, and needs an allocator and a C compiler.
+//! `decode_low_first`, [`decode_packed`], [`RowReader`], [`DecoderContext::damaged_rows`], [`DecoderContext::fault_start`] and
+//! [`encode_bitmap`] are added. The package is `no_std`, and needs an allocator and a C compiler.
 
 #![no_std]
 #![warn(missing_docs)]
@@ -132,6 +132,7 @@ fn push_rows(
     settings: c::Settings,
 ) -> Result<usize> {
     ctx.damaged_rows = 0;
+    ctx.fault_start = None;
     let mut rows = RowReader::with(data, &ctx.settings, settings);
     let result = loop {
         match rows.next_row() {
@@ -141,6 +142,8 @@ fn push_rows(
         }
     };
     ctx.damaged_rows = rows.damaged_rows();
+    // After an error the reader tells the place of the fault.
+    ctx.fault_start = result.is_err().then(|| rows.line_start());
     result
 }
 
@@ -154,11 +157,13 @@ fn pack_rows(data: &[u8], ctx: &mut DecoderContext, settings: c::Settings) -> Pa
     let (status, outcome) = c::decode_packed(data, &settings, &mut bytes);
     let rows = usize_of(outcome.rows);
     bytes.truncate(rows * width);
+    let result = result_of(status, &outcome);
     ctx.damaged_rows = outcome.damaged_rows;
+    ctx.fault_start = result.is_err().then(|| usize_of(outcome.fault_start));
     PackedRows {
         rows,
         bytes,
-        result: result_of(status, &outcome),
+        result,
     }
 }
 
@@ -216,6 +221,7 @@ pub trait Decoder {
 pub struct DecoderContext {
     settings: DecodeSettings,
     damaged_rows: u64,
+    fault_start: Option<usize>,
 }
 
 impl DecoderContext {
@@ -224,6 +230,7 @@ impl DecoderContext {
         Self {
             settings,
             damaged_rows: 0,
+            fault_start: None,
         }
     }
 
@@ -231,6 +238,12 @@ impl DecoderContext {
     /// does.
     pub fn damaged_rows(&self) -> u64 {
         self.damaged_rows
+    }
+
+    /// Returns the offset of the fault in bits if the last image ended with an error: that at which the line after its rows begins,
+    /// after its EOL; or that at which strict data lacks an EOL.
+    pub fn fault_start(&self) -> Option<usize> {
+        self.fault_start
     }
 }
 

@@ -102,7 +102,8 @@ impl<'a> RowReader<'a> {
         self.rows.row.rows
     }
 
-    /// Returns the offset in bits at which the line of the last row begins, after its EOL.
+    /// Returns the offset in bits at which the line of the last row begins, after its EOL. After an error, returns that of the line
+    /// that couldn't be read, or the offset at which strict data lacks an EOL.
     pub fn line_start(&self) -> usize {
         usize_of(self.rows.row.line_start)
     }

@@ -303,6 +303,21 @@ fn repaired_rows_are_counted() {
     let mut context = DecoderContext::new(settings);
     let image = decode_packed(&data, &mut context);
     assert_eq!((image.rows, context.damaged_rows()), (3, 1));
+    assert_eq!(context.fault_start(), None);
+    // Read strictly, the damaged line ends the image: it begins after a line of 17 bits and an EOL of 12.
+    let mut strict = DecoderContext::new(DecodeSettings {
+        strict: true,
+        ..settings
+    });
+    assert_eq!(decode_packed(&data, &mut strict).rows, 1);
+    assert_eq!(strict.fault_start(), Some(29));
+    let mut rows = Vec::new();
+    let mut white = Borrowing {
+        rows: &mut rows,
+        wanted: &[],
+    };
+    assert!(decode(&data, &mut white, &mut strict).is_err());
+    assert_eq!((strict.fault_start(), rows.len()), (Some(29), 1));
     let mut rows = RowReader::new(&data, settings);
     let mut seen = Vec::new();
     while let Some(_changes) = rows.next_row().unwrap() {

@@ -5,7 +5,8 @@ use Rattle.hayro_ccitt.specs.declared.error.DecodeError.{DecodeError}
 use Rattle.hayro_ccitt.specs.declared.error.DecodeError.TheVariants.{UnexpectedEof, InvalidCode, Overflow, OutOfMemory, Refused}
 use Rattle.hayro_ccitt.specs.declared.settings.DecodeSettings.{DecodeSettings}
 use Rattle.hayro_ccitt.specs.Bits.{Bits}
-use Rattle.hayro_ccitt.specs.RowsRead.{RowsRead, ReadsNext, line_starts}
+use Rattle.hayro_ccitt.specs.PlainReading.{line_starts}
+use Rattle.hayro_ccitt.specs.RowsRead.{RowsRead, ReadsNext}
 use Rattle.fax_program.specs.Devices.{AppendsFront}
 use Rattle.faxrows.specs.declared.program.Done.TheVariants.{Good, Faulty, Memory}
 use Rattle.faxrows.specs.DamageText.{IsDamageText, IsDamageWithoutMemory, damage_after, damage_lines, damage_of_row, line_of_damage, whole_damage}

@@ -5,7 +5,7 @@ use Rattle.hayro_ccitt.specs.declared.error.DecodeError.TheVariants.{OutOfMemory
 use Rattle.hayro_ccitt.specs.declared.settings.DecodeSettings.{DecodeSettings}
 use Rattle.hayro_ccitt.specs.Bits.{Bits}
 use Rattle.hayro_ccitt.specs.Damage.{fault_in, repairs_by_line}
-use Rattle.hayro_ccitt.specs.RowsRead.{line_starts}
+use Rattle.hayro_ccitt.specs.PlainReading.{line_starts}
 use Rattle.hayro_ccitt.specs.Texts as library
 use Rattle.faxrows.specs.Runs.{Outcome, EndsAfter, rows_of, outcome_of}
 

@@ -1,6 +1,6 @@
 -- The contract of `decode`, from the accepted rows and the result.
-use Rattle.std.proofs.Common.{◌≡◌, ◌⊎◌, ℕ, Bool, List, take, take_all, Result, Ok, Err, false, sym, ap, subst, ◌∙◌, arith}
-use Rattle.std.specs.Prelude.{IsOk}
+use Rattle.std.proofs.Common.{◌≡◌, ◌⊎◌, ℕ, Bool, List, take, take_all, Option, None, Some, Result, Ok, Err, false, sym, ap, subst, ◌∙◌, arith}
+use Rattle.std.specs.Prelude.{IsOk, OnErr, OnOk}
 use Rattle.std.proofs.lemmas.List.Concat.{length-flat_map}
 use Rattle.hayro_ccitt.specs.declared.error.DecodeError.{DecodeError}
 use Rattle.hayro_ccitt.specs.declared.settings.DecodeSettings.{DecodeSettings}
@@ -10,8 +10,9 @@ use Rattle.hayro_ccitt.specs.Bits.{Bits, AreWholeBytes}
 use Rattle.hayro_ccitt.specs.Context.{Held}
 use Rattle.hayro_ccitt.specs.Contract.{Decodes}
 use Rattle.hayro_ccitt.specs.Damage.{Damaged, repairs_by_line}
-use Rattle.hayro_ccitt.specs.Decoding.{SinkState, TakesRows, CountsRepairs}
-use Rattle.hayro_ccitt.specs.PlainReading.{plain}
+use Rattle.hayro_ccitt.specs.Decoding.{SinkState, TakesRows, StopsShort, CountsRepairs}
+use Rattle.hayro_ccitt.specs.Lines.{Line}
+use Rattle.hayro_ccitt.specs.PlainReading.{plain, lines_of, failed_at}
 use Rattle.hayro_ccitt.specs.Rows.{Row}
 use Rattle.hayro_ccitt.specs.Settings.{AreSettings}
 use Rattle.hayro_ccitt.specs.Work.{CountsWork}
@@ -32,20 +33,35 @@ to_the_end : {M : Type 0} (rows : List Row) (outcome : Result ℕ DecodeError) {
 to_the_end rows outcome step before after held (Ok n) takes = (take_all held.taken rows (omega (arith, takes.all)), sym takes.ok)
 to_the_end rows outcome step before after held (Err error) takes = λ fault. (take_all held.taken rows (omega (arith, takes.all fault)), sym (takes.fault fault))
 
--- so the contract follows from the accepted rows, stopping short, and the work
-pub decodes : {M : Type 0} (settings : DecodeSettings) (bits : Bits) (step : M → List ℕ → M) (before after : SinkState M) (held : Held) (ticks : ℕ) (answer : Result ℕ DecodeError)
+-- what is known of the accepted rows stays so if the context is told the place of the fault
+taken_still : {M : Type 0} (rows : List Row) (outcome : Result ℕ DecodeError) (sought : Bool) (step : M → List ℕ → M) (before after : SinkState M) (held : Held) (place : Option ℕ) (answer : Result ℕ DecodeError)
+    → TakesRows rows outcome sought step before after held answer → TakesRows rows outcome sought step before after (record held { fault_start = place }) answer
+taken_still rows outcome sought step before after held place answer takes =
+    record { taken = takes.taken; meaning = takes.meaning; all = takes.all; ok = takes.ok; fault = takes.fault; has_eols = takes.has_eols }
+
+short_still : {M : Type 0} (rows : List Row) (lines : List Line) (before after : SinkState M) (held : Held) (place : Option ℕ) (answer : Result ℕ DecodeError)
+    → StopsShort rows lines before after held answer → StopsShort rows lines before after (record held { fault_start = place }) answer
+short_still rows lines before after held place answer short =
+    record { memory = short.memory; refused = short.refused; refused_row = short.refused_row; flag = short.flag; no_flag = short.no_flag }
+
+-- so the contract follows from the accepted rows, stopping short, and the work, where the context is told the place of the fault
+pub decodes : {M : Type 0} (settings : DecodeSettings) (bits : Bits) (step : M → List ℕ → M) (before after : SinkState M) (held : Held) (place : Option ℕ) (ticks : ℕ) (answer : Result ℕ DecodeError)
     → AreSettings settings → AreWholeBytes bits → LeavesRows settings bits step before after held answer
     → ((settings.encoding ≡ Group4) ⊎ (settings.columns ≡ 0) → held.has_eols ≡ false) → CountsWork settings bits held.taken ticks
-    → CountsRepairs (repairs_by_line settings bits) held answer → Decodes settings bits step before after held ticks answer
-decodes settings bits step before after held ticks answer are whole (takes, short) no_eols work repaired =
+    → CountsRepairs (repairs_by_line settings bits) held answer
+    → OnErr answer (place ≡ Some (failed_at settings bits held.taken)) → OnOk answer (place ≡ None)
+    → Decodes settings bits step before after (record held { fault_start = place }) ticks answer
+decodes settings bits step before after held place ticks answer are whole (takes, short) no_eols work repaired fails no_fault =
     let end = to_the_end (plain settings bits).rows (plain settings bits).outcome step before after held answer takes in
     record {
       work = work;
-      reading = takes;
+      reading = taken_still (plain settings bits).rows (plain settings bits).outcome (plain settings bits).has_eols step before after held place answer takes;
       whole = on_answer answer (λ e. means (plain settings bits).rows e.0) end;
       widths = plain_width settings bits;
       no_eols = no_eols;
-      short = short;
+      short = short_still (plain settings bits).rows (lines_of settings bits) before after held place answer short;
+      fault_start = fails;
+      no_fault = no_fault;
       closed = λ rows count picture. on_answer answer (λ e. e.1 ∙ (closed_pictures settings rows count bits are whole picture).1) end;
       closed_rows = λ rows count picture. (closed_pictures settings rows count bits are whole picture).0;
       picture = λ rows count picture. on_answer answer (λ e. means rows (e.0 ∙ (closed_pictures settings rows count bits are whole picture).0)) end;

@@ -9,6 +9,7 @@ pub mod RepairsCounted
 pub mod RowByRow
 pub mod RowsTaken
 pub mod RunsOverRows
+pub mod RunsReach
 pub mod Strictness
 pub mod WholeRuns
 pub mod TurnsAddRows

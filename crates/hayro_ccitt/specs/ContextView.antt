@@ -16,6 +16,7 @@ context_of c =
         taken = c.decoded_rows;
         repairs = record { rows = c.damaged_rows; fault = c.last_fault };
         has_eols = c.has_eols;
+        fault_start = c.fault_start;
         settings = c.settings;
       };
       passed = c.passed;

@@ -1,5 +1,5 @@
 -- The contract of `decode` and of `decode_low_first`, over the bits of their data.
-use Rattle.std.specs.Prelude.{◌≡◌, ◌⊎◌, ℕ, false, List, length, take, sum_by, Result, Ok, IsOk}
+use Rattle.std.specs.Prelude.{◌≡◌, ◌⊎◌, ℕ, false, List, length, take, sum_by, None, Some, Result, Ok, IsOk, OnOk, OnErr}
 use Rattle.hayro_ccitt.specs.declared.error.DecodeError.{DecodeError}
 use Rattle.hayro_ccitt.specs.declared.settings.DecodeSettings.{DecodeSettings}
 use Rattle.hayro_ccitt.specs.declared.settings.EncodingMode.TheVariants.{Group4}
@@ -10,7 +10,7 @@ use Rattle.hayro_ccitt.specs.Damage.{repairs_by_line, repairs_of}
 use Rattle.hayro_ccitt.specs.Decoding.{SinkState, TakesRows, StopsShort}
 use Rattle.hayro_ccitt.specs.Locality.{DamageStaysInRow}
 use Rattle.hayro_ccitt.specs.Pictures.{IsClosedPicture, IsLimitedPicture}
-use Rattle.hayro_ccitt.specs.PlainReading.{plain, lines_of}
+use Rattle.hayro_ccitt.specs.PlainReading.{plain, lines_of, failed_at}
 use Rattle.hayro_ccitt.specs.Rows.{Row, HaveWidth}
 use Rattle.hayro_ccitt.specs.Work.{CountsWork}
 
@@ -31,6 +31,10 @@ pub record Decodes {M : Type 0} (settings : DecodeSettings) (bits : Bits) (step 
   -- Fewer rows are accepted only if an allocation fails in a row with a black pixel, or the sink refuses a row (T.4,
   -- 4.2.1.1).
   pub short : StopsShort (plain settings bits).rows (lines_of settings bits) before after held answer
+  -- After an error the context holds the offset of the first bit of the line that has no row, or if there is none, that of
+  -- the first bit after the last row, where strict data lack an EOL; else none (T.4, 4.1.2).
+  pub fault_start : OnErr answer (held.fault_start ≡ Some (failed_at settings bits held.taken))
+  pub no_fault : OnOk answer (held.fault_start ≡ None)
   -- Data that begin with a T.6 encoding closed by EOFB, or a T.4 one closed by RTC, are read as its picture, whatever
   -- follows it: the result is its byte count, the rows are its rows, and the sink means them (T.6, 2.4.1.1; T.4, 4.1.4
   -- and 4.2.4).

@@ -1,5 +1,5 @@
 -- What decoding leaves: in the sink, in the context, and of the reading.
-use Rattle.std.specs.Prelude.{sum_by, ◌≡◌, ◌≢◌, ◌≤◌, ◌<◌, ℕ, ◌+◌, Bool, true, false, List, [], length, take, get_or, Result, Ok, Err, OnOk, OnErr, IfOk, IfErr}
+use Rattle.std.specs.Prelude.{sum_by, ◌≡◌, ◌≢◌, ◌≤◌, ◌<◌, ℕ, ◌+◌, ◌-◌, Bool, true, false, List, [], length, take, get_or, Result, Ok, Err, OnOk, OnErr, IfOk, IfErr}
 use Rattle.hayro_ccitt.specs.declared.codes.Color.TheVariants.{White}
 use Rattle.hayro_ccitt.specs.declared.error.DecodeError.{DecodeError}
 use Rattle.hayro_ccitt.specs.declared.error.DecodeError.TheVariants.{OutOfMemory, Refused}
@@ -7,8 +7,9 @@ use Rattle.hayro_ccitt.specs.Answers.{IsFault, OnAnswer, HasBlack, PaintsBlack, 
 use Rattle.hayro_ccitt.specs.Bits.{Bits}
 use Rattle.hayro_ccitt.specs.Context.{Context, Held, Repairs, redrawn}
 use Rattle.hayro_ccitt.specs.Damage.{Damaged, repaired_by_turn}
+use Rattle.hayro_ccitt.specs.declared.settings.DecodeSettings.{DecodeSettings}
 use Rattle.hayro_ccitt.specs.Lines.{Line}
-use Rattle.hayro_ccitt.specs.PlainReading.{Progress, Ending, Gap, move_on, one_each, end_of, ending_from, gathered_of, gathered_from, line_of_turn}
+use Rattle.hayro_ccitt.specs.PlainReading.{Progress, Ending, Gap, move_on, one_each, end_of, ending_from, gathered_of, gathered_from, line_of_turn, start_of_turn, end_of_turn, failing_at, failed_at}
 use Rattle.hayro_ccitt.specs.Rows.{Row, changes}
 use Rattle.hayro_ccitt.specs.Work.{CountsRun, words_of_turn, most_counted}
 
@@ -64,6 +65,10 @@ DecodesRows bits step before after old new answer =
     (gathered_of old.held.settings (repaired_by_turn old.held.settings bits) bits) (most_counted old.held.settings.encoding (length bits))
     step before after old new answer
 
+-- a run over the rows of some bits that took this number of rows and left these bits failed where the reading does (T.4, 4.1.2)
+abbrev pub FailsHere : DecodeSettings → Bits → ℕ → Bits → Type 0
+FailsHere settings bits taken rest = length bits - length rest ≡ failed_at settings bits taken
+
 -- ---- One turn: the contracts of private calls, not part of the trusted specification
 
 -- a call that returns no value, and leaves these bits
@@ -79,7 +84,7 @@ gap_said (Err e) has_eols rest = Gap.over (Err e)
 -- the context after one more accepted row
 abbrev pub with_row_taken : Held → Row → Held
 with_row_taken h row =
-    record { reference = row; front = []; color = White; taken = h.taken + 1; repairs = h.repairs; has_eols = h.has_eols; settings = h.settings }
+    record { reference = row; front = []; color = White; taken = h.taken + 1; repairs = h.repairs; has_eols = h.has_eols; fault_start = h.fault_start; settings = h.settings }
 
 -- what is repaired of the accepted rows, with the row of one more line: a broken line was repaired (T.4, 4.1.2)
 abbrev pub repairs_with : Line → Repairs → Repairs
@@ -92,12 +97,6 @@ pub record RowIsTaken {M : Type 0} (line : Line) (row : Result (Row × Bits) Dec
   pub is : row ≡ Ok (taken, rest)
   pub held : new ≡ record (with_row_taken old taken) { repairs = repairs_with line old.repairs }
   pub meaning : after.meaning ≡ step before.meaning (changes taken)
-
--- the bits after a line that began here: after a whole line what follows it; after a broken one that is repaired the
--- bits from the line's start, to which the reader goes back (T.4, 4.1.2)
-abbrev pub behind_line : Line → Bits → Bits
-behind_line (Line.whole row rest) start = rest
-behind_line (Line.broken front fault) start = start
 
 -- the row here is refused
 abbrev pub IsRefusedBy : (List ℕ → Type 0) → Result (Row × Bits) DecodeError → Type 0
@@ -121,3 +120,9 @@ DecodesFrom bits first most step before after old new answer =
     TakesAll (ending_from (move_on old.held.settings) first) (gathered_from (move_on old.held.settings) (one_each (line_of_turn old.held.settings)) first)
     (gathered_from (move_on old.held.settings) (one_each (words_of_turn old.held.settings)) first)
     (gathered_from (move_on old.held.settings) (one_each (repaired_by_turn old.held.settings bits)) first) most step before after old new answer
+
+-- a run over rows that begins at a line among some bits failed where the reading from there does
+abbrev pub FailsFrom : DecodeSettings → Bits → Progress → ℕ → Bits → Type 0
+FailsFrom settings bits first taken rest =
+    length bits - length rest
+    ≡ failing_at (gathered_from (move_on settings) (one_each (start_of_turn bits)) first) (gathered_from (move_on settings) (one_each (end_of_turn settings bits)) first) taken

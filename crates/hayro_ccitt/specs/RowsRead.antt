@@ -12,15 +12,11 @@ use Rattle.hayro_ccitt.specs.Answers.{IsFault, PaintsBlack}
 use Rattle.hayro_ccitt.specs.Bits.{Bits, BitsAt}
 use Rattle.hayro_ccitt.specs.Context.{Held, Repairs}
 use Rattle.hayro_ccitt.specs.Damage.{fault_in, repairs_by_line}
-use Rattle.hayro_ccitt.specs.PlainReading.{Progress, row_before, with_row, first_gap, move_on, row_of_line, line_of_turn, gathered_of, plain, lines_of}
+use Rattle.hayro_ccitt.specs.PlainReading.{Progress, row_before, with_row, first_gap, move_on, row_of_line, line_of_turn, plain, lines_of, line_starts}
 use Rattle.hayro_ccitt.specs.Repetition.{Turn, Reaches}
 use Rattle.hayro_ccitt.specs.Rows.{Row}
 
 -- ---- What is visible of a reader of rows
-
--- where the lines of the plain reading begin: the offset of each one's first bit (T.4, 4.1.1 and 4.2.2)
-abbrev pub line_starts : DecodeSettings → Bits → List ℕ
-line_starts settings bits = gathered_of settings (λ so_far. length bits - length so_far.rest) bits
 
 -- how a reading has ended, if it has: well, or with an error
 abbrev pub ended : Stand → Option (Result (Unit {0}) DecodeError)
@@ -153,6 +149,7 @@ context_at settings so_far repairs = record {
   taken = length so_far.rows;
   repairs = repairs;
   has_eols = so_far.has_eols;
+  fault_start = None;
   settings = settings;
 }
 

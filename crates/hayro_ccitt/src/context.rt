@@ -51,6 +51,7 @@ pub struct DecoderContext {
     /// The fault of the last row that was repaired; it means nothing before the first.
     last_fault: DecodeError,
     has_eols: bool,
+    fault_start: Option<usize>,
     settings: DecodeSettings,
     tables: Tables,
     ticks: Ticks,
@@ -98,6 +99,7 @@ impl DecoderContext {
             damaged_rows: 0,
             last_fault: DecodeError::UnexpectedEof,
             has_eols: false,
+            fault_start: None,
             settings,
             tables: Tables::new(alloc)?,
             ticks: Ticks::new(),
@@ -152,6 +154,23 @@ impl DecoderContext {
         self.last_fault = fault;
     }
 
+    /// Returns the offset of the fault in bits if the last [`decode`](crate::decode) returned an error, or `None`: that at which
+    /// the line of the row with the index [`decoded_rows`](DecoderContext::decoded_rows) begins, after its EOL, in
+    /// two-dimensional data of Group 3 that of its tag bit (T.4 section 4.2.2); or the offset at which strict data lacks an
+    /// EOL (T.4 section 4.1.2). It is within the data.
+    pub fn fault_start(&self) -> Option<usize>
+        ensures { result ≡ self.now.held.fault_start }
+    {
+        self.fault_start
+    }
+
+    /// Sets the offset of the fault.
+    pub(crate) fn set_fault_start(&mut self, place: Option<usize>)
+        ensures frame { self.new ≡ record self.old { held = record self.old.held { fault_start = place } } }
+    {
+        self.fault_start = place;
+    }
+
     /// Whether EOLs are sought between the lines of Group 3 (T.4 section 4.1.2): at first where `end_of_line` is set or
     /// the data begins with EOLs, and no longer once none is left. After Group 4 it is false.
     pub fn has_eols(&self) -> bool
@@ -195,6 +214,7 @@ impl DecoderContext {
         self.damaged_rows = 0;
         self.last_fault = DecodeError::UnexpectedEof;
         self.has_eols = false;
+        self.fault_start = None;
     }
 
     /// Resets all but the settings to what a new context has.

@@ -5,7 +5,7 @@ ghost use Rattle.hayro_ccitt.specs.Answers.{IsFault, IsRepairable, RepairStoresC
 ghost use Rattle.hayro_ccitt.specs.Bits.{here};
 ghost use Rattle.hayro_ccitt.specs.Context.{after_repair, fresh};
 ghost use Rattle.hayro_ccitt.specs.EndOfLine.{all_eols};
-ghost use Rattle.hayro_ccitt.specs.Decoding.{DecodesRows, leaving, gap_said};
+ghost use Rattle.hayro_ccitt.specs.Decoding.{DecodesRows, FailsHere, leaving, gap_said};
 ghost use Rattle.hayro_ccitt.specs.PlainReading.{gap_behind_row};
 ghost use Rattle.hayro_ccitt.specs.Ticks.{looked, looked_ahead};
 
@@ -73,6 +73,7 @@ pub fn check_eob(ctx: &mut DecoderContext, reader: &mut BitReader<'_>) -> Result
     ensures kept { OnErr result (ctx.new.held.has_eols ≡ ctx.old.held.has_eols) }
     ensures only_code { IsOkUnless result DecodeError.InvalidCode }
     ensures only_strict { OnErr result (ctx.old.held.settings.strict ≡ true) }
+    ensures stays { OnErr result (here reader.new ≡ here reader.old) }
     ensures same_bits { reader.new.bits ≡ reader.old.bits }
     ensures counts { ctx.old.ticks ≤ ctx.new.ticks }
     ensures at_least { OnOk result (ctx.old.ticks + length (here reader.old) ≤ ctx.new.ticks + length (here reader.new)) }
@@ -119,6 +120,7 @@ fn decode_eols_and_rows<D: Decoder>(
         (record { meaning = D.meaning decoder.old; refused = D.has_refused decoder.old; refuses = D.refuses decoder.old })
         (record { meaning = D.meaning decoder.new; refused = D.has_refused decoder.new; refuses = D.refuses decoder.new })
         ctx.old ctx.new (leaving result (here reader.new)) }
+    ensures fails { OnErr result (FailsHere ctx.old.held.settings reader.old.bits ctx.new.held.taken (here reader.new)) }
     ensures same_bits { reader.new.bits ≡ reader.old.bits }
 {
     read_leading_eols(ctx, reader);
@@ -147,6 +149,7 @@ pub fn decode_1d<D: Decoder>(
         (record { meaning = D.meaning decoder.old; refused = D.has_refused decoder.old; refuses = D.refuses decoder.old })
         (record { meaning = D.meaning decoder.new; refused = D.has_refused decoder.new; refuses = D.refuses decoder.new })
         ctx.old ctx.new (leaving result (here reader.new)) }
+    ensures fails { OnErr result (FailsHere ctx.old.held.settings reader.old.bits ctx.new.held.taken (here reader.new)) }
     ensures same_bits { reader.new.bits ≡ reader.old.bits }
 {
     decode_eols_and_rows(ctx, reader, decoder) // No line has a tag.
@@ -174,6 +177,7 @@ pub fn decode_2d<D: Decoder>(
         (record { meaning = D.meaning decoder.old; refused = D.has_refused decoder.old; refuses = D.refuses decoder.old })
         (record { meaning = D.meaning decoder.new; refused = D.has_refused decoder.new; refuses = D.refuses decoder.new })
         ctx.old ctx.new (leaving result (here reader.new)) }
+    ensures fails { OnErr result (FailsHere ctx.old.held.settings reader.old.bits ctx.new.held.taken (here reader.new)) }
     ensures same_bits { reader.new.bits ≡ reader.old.bits }
 {
     decode_eols_and_rows(ctx, reader, decoder) // Each line has its tag.

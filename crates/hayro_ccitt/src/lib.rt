@@ -9,12 +9,12 @@
 //! program reads it.
 #![tactic(auto)]
 
-ghost use Rattle.std.specs.Prelude.{◌≡◌, ◌*◌, ◌<◌, ◌≤◌, ◌↔◌, ℕ, List, Bool, true, false, Ok, OnOk, OnErr, IfOk, IsOkUnless, IsTrue, length};
+ghost use Rattle.std.specs.Prelude.{◌≡◌, ◌*◌, ◌<◌, ◌≤◌, ◌↔◌, ◌-◌, ℕ, List, Bool, true, false, None, Some, Ok, OnOk, OnErr, IfOk, IsOkUnless, IsTrue, length};
 ghost use Rattle.hayro_ccitt.specs.Answers.{OnAnswer};
 ghost use Rattle.hayro_ccitt.specs.Bits.{AreWholeBytes, BitsFit, bits_in, bits_of, low_first_bits_of, here};
 ghost use Rattle.hayro_ccitt.specs.Context.{fresh};
 ghost use Rattle.hayro_ccitt.specs.Contract.{Decodes};
-ghost use Rattle.hayro_ccitt.specs.Decoding.{DecodesRows, leaving};
+ghost use Rattle.hayro_ccitt.specs.Decoding.{DecodesRows, FailsHere, leaving};
 ghost use Rattle.hayro_ccitt.specs.PlainReading.{end_of, gathered_of, plain};
 ghost use Rattle.hayro_ccitt.specs.Rows.{AreChanges};
 ghost use Rattle.hayro_ccitt.specs.Work.{CountsRun, CountsWork, words_of_turn, most_counted};
@@ -118,6 +118,7 @@ fn decode_rows<D: Decoder>(
         (record { meaning = D.meaning decoder.old; refused = D.has_refused decoder.old; refuses = D.refuses decoder.old })
         (record { meaning = D.meaning decoder.new; refused = D.has_refused decoder.new; refuses = D.refuses decoder.new })
         ctx.old ctx.new (leaving result (here reader.new)) }
+    ensures fails { OnErr result (FailsHere ctx.old.held.settings reader.old.bits ctx.new.held.taken (here reader.new)) }
     ensures no_eols { ctx.old.held.settings.encoding ≡ EncodingMode.Group4 → ctx.new.held.has_eols ≡ false }
     ensures same_bits { reader.new.bits ≡ reader.old.bits }
 {
@@ -125,6 +126,17 @@ fn decode_rows<D: Decoder>(
         EncodingMode::Group4 => group4::decode(ctx, reader, decoder),
         EncodingMode::Group3_1D => group3::decode_1d(ctx, reader, decoder),
         EncodingMode::Group3_2D => group3::decode_2d(ctx, reader, decoder),
+    }
+}
+
+/// Returns the offset of the bits that a run over rows left unread, if it failed.
+fn fault_start_of(answer: Result<()>, reader: &BitReader<'_>) -> Option<usize>
+    ensures fault { OnErr answer (result ≡ Some (length reader.now.bits - length (here reader.now))) }
+    ensures none { OnOk answer (result ≡ None) }
+{
+    match answer {
+        Ok(()) => None,
+        Err(_) => Some(reader.bit_pos()),
     }
 }
 
@@ -154,7 +166,9 @@ fn decode_bits<D: Decoder>(
     if ctx.settings().columns == 0 {
         return Ok(0);
     }
-    decode_rows(ctx, reader, decoder)?;
+    let answer = decode_rows(ctx, reader, decoder);
+    ctx.set_fault_start(fault_start_of(answer, reader));
+    answer?;
     reader.align();
     Ok(reader.byte_pos())
 }
@@ -174,8 +188,9 @@ fn decode_bits<D: Decoder>(
 /// - `OutOfMemory` occurs only while a change of a row is stored, so in a line that paints a black pixel.
 /// - `Refused` occurs only if the sink refuses a row.
 ///
-/// After the last two the rows passed on are the first of the image's; [`DecoderContext::decoded_rows`] is their
-/// number.
+/// After the last two the rows passed on are the first of the image's. After each error
+/// [`DecoderContext::decoded_rows`] is the number of rows passed on, and [`DecoderContext::fault_start`] the offset of the
+/// line after them.
 ///
 /// # Example
 ///

@@ -4,7 +4,7 @@ ghost use Rattle.std.specs.Prelude.{false, ◌≡◌, ◌≢◌, ◌<◌, ◌≤
 ghost use Rattle.hayro_ccitt.specs.Answers.{DrawsLine, OnAnswer, IsRepairable, RepairStoresChange};
 ghost use Rattle.hayro_ccitt.specs.Bits.{here};
 ghost use Rattle.hayro_ccitt.specs.Context.{fresh, redrawn, after_repair};
-ghost use Rattle.hayro_ccitt.specs.Decoding.{DecodesFrom, TakesOneRow, behind_line, leaving, gap_said, with_row_taken};
+ghost use Rattle.hayro_ccitt.specs.Decoding.{DecodesFrom, FailsFrom, TakesOneRow, leaving, gap_said, with_row_taken};
 ghost use Rattle.hayro_ccitt.specs.PlainReading.{eols_by, eols_here, is_over, gap_behind_row, row_of_line, line_by, line_here, behind_row, limit_met};
 ghost use Rattle.hayro_ccitt.specs.Lines.{line_found};
 ghost use Rattle.hayro_ccitt.specs.Rows.{changes};
@@ -172,6 +172,7 @@ pub(crate) fn pass_gap(ctx: &mut DecoderContext, reader: &mut BitReader<'_>) -> 
     ensures kept { OnErr result (ctx.new.held.has_eols ≡ ctx.old.held.has_eols) }
     ensures only_code { IsOkUnless result DecodeError.InvalidCode }
     ensures only_strict { OnErr result (ctx.old.held.settings.strict ≡ true) }
+    ensures stays { OnErr result (here reader.new ≡ here reader.old) }
     ensures same_bits { reader.new.bits ≡ reader.old.bits }
     ensures counts { ctx.old.ticks ≤ ctx.new.ticks }
     ensures at_least { OnOk result (ctx.old.ticks + length (here reader.old) ≤ ctx.new.ticks + length (here reader.new)) }
@@ -245,7 +246,7 @@ fn decode_line(ctx: &mut DecoderContext, reader: &mut BitReader<'_>) -> Result<(
     }
 }
 
-/// Repairs a line that began at this offset and failed with this error, as [`recover`] does.
+/// Goes back to where a line began that failed with this error, and repairs it as [`recover`] does.
 #[cold]
 #[inline(never)]
 fn recover_from(
@@ -257,19 +258,21 @@ fn recover_from(
     requires within { line_start ≤ length reader.old.bits }
     ensures only_damage { OnOk result (IsRepairable ctx.old.held error) }
     ensures frame { OnOk result (ctx.new ≡ record ctx.old { held = after_repair ctx.old.held }) }
-    ensures put_back { OnOk result (reader.new ≡ record reader.old { place = line_start }) }
+    ensures put_back { reader.new ≡ record reader.old { place = line_start } }
     ensures only_memory { IsRepairable ctx.old.held error → IsOkUnless result DecodeError.OutOfMemory }
     ensures memory { IsRepairable ctx.old.held error → result ≡ Err DecodeError.OutOfMemory
         → RepairStoresChange ctx.old.held }
     ensures otherwise { (IsRepairable ctx.old.held error → ⊥) → result ≡ Err error }
-    ensures unchanged { OnErr result ((ctx.new ≡ ctx.old) × (reader.new ≡ reader.old)) }
+    ensures unchanged { OnErr result (ctx.new ≡ ctx.old) }
 {
-    let start = reader.at_bit(line_start);
+    *reader = reader.at_bit(line_start);
+    let start = reader.copy();
     recover(ctx, reader, start, error)
 }
 
 /// Reads a line, repairs it if it is damaged and may be repaired, and passes its row to the sink. The errors are those of a
-/// line that isn't repaired, `OutOfMemory` if a change can't be stored, and `Refused` if the sink refuses the row.
+/// line that isn't repaired, `OutOfMemory` if a change can't be stored, and `Refused` if the sink refuses the row; after each
+/// the reader is at the line's start.
 #[inline(always)]
 pub(crate) fn read_row<D: Decoder>(
     ctx: &mut DecoderContext,
@@ -288,8 +291,7 @@ pub(crate) fn read_row<D: Decoder>(
         (record { meaning = D.meaning decoder.old; refused = D.has_refused decoder.old; refuses = D.refuses decoder.old })
         (record { meaning = D.meaning decoder.new; refused = D.has_refused decoder.new; refuses = D.refuses decoder.new })
         ctx.old.held ctx.new.held result (here reader.new) }
-    ensures refused_place { result ≡ Err DecodeError.Refused → here reader.new
-        ≡ behind_line (line_here ctx.old.held.settings ctx.old.held.reference (here reader.old)) (here reader.old) }
+    ensures put_back { OnErr result (reader.new ≡ reader.old) }
     ensures same_bits { reader.new.bits ≡ reader.old.bits }
     ensures counts { ctx.old.ticks ≤ ctx.new.ticks }
     ensures at_least { OnOk result (ctx.old.ticks
@@ -305,7 +307,11 @@ pub(crate) fn read_row<D: Decoder>(
         recover_from(ctx, reader, line_start, error)?;
         return take_damaged_row(ctx, reader, decoder, error);
     }
-    take_row(ctx, reader, decoder)
+    if let Err(refusal) = take_row(ctx, reader, decoder) {
+        *reader = reader.at_bit(line_start);
+        return Err(refusal);
+    }
+    Ok(())
 }
 
 /// Reads rows from a line on, in every encoding, until EOFB or RTC (with `end_of_block`), the row limit or the end of the
@@ -324,6 +330,8 @@ pub(crate) fn read_rows<D: Decoder>(
         (record { meaning = D.meaning decoder.old; refused = D.has_refused decoder.old; refuses = D.refuses decoder.old })
         (record { meaning = D.meaning decoder.new; refused = D.has_refused decoder.new; refuses = D.refuses decoder.new })
         ctx.old ctx.new (leaving result (here reader.new)) }
+    ensures fails { OnErr result (FailsFrom ctx.old.held.settings reader.old.bits
+        (record { rows = []; has_eols = ctx.old.held.has_eols; rest = here reader.old }) ctx.new.held.taken (here reader.new)) }
     ensures no_eols { ctx.old.held.has_eols ≡ false → ctx.new.held.has_eols ≡ false }
     ensures same_bits { reader.new.bits ≡ reader.old.bits }
 {

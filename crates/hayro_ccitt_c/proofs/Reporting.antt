@@ -3,7 +3,7 @@ use Rattle.std.proofs.Common.{◌≡◌, ◌≤◌, ◌+◌, min, ℕ, List, [],
 use Rattle.hayro_ccitt.specs.declared.error.DecodeError.TheVariants.{UnexpectedEof, InvalidCode, Overflow, OutOfMemory, Refused}
 use Rattle.hayro_ccitt.specs.declared.error.DecodeError.{DecodeError}
 use Rattle.hayro_ccitt.specs.declared.settings.DecodeSettings.{DecodeSettings}
-use Rattle.std.specs.Prelude.{Result}
+use Rattle.std.specs.Prelude.{Result, OnErr, OnOk}
 use Rattle.std.specs.List.{fold}
 use Rattle.hayro_ccitt.specs.Answers.{meaning_after}
 use Rattle.hayro_ccitt.specs.declared.bit_reader.BitOrder.{BitOrder}
@@ -11,9 +11,9 @@ use Rattle.hayro_ccitt.specs.Bits.{Bits, bits_in}
 use Rattle.hayro_ccitt.specs.Rows.{Row, changes}
 use Rattle.hayro_ccitt.specs.Context.{Held}
 use Rattle.hayro_ccitt.specs.Decoding.{SinkState, TakesRows, StopsShort}
-use Rattle.hayro_ccitt.specs.PlainReading.{plain, lines_of}
+use Rattle.hayro_ccitt.specs.PlainReading.{plain, lines_of, failed_at}
 use Rattle.hayro_ccitt_c.specs.Packing.{counted}
-use Rattle.hayro_ccitt_c.specs.Reports.{EndsAfter, IsReport, OnSettings}
+use Rattle.hayro_ccitt_c.specs.Reports.{EndsAfter, FailsAt, IsReport, OnSettings}
 use Rattle.hayro_ccitt_c.specs.Settings.{order_of, settings_of}
 use Rattle.hayro_ccitt_c.specs.declared.settings.Settings.{Settings}
 
@@ -29,8 +29,15 @@ ends_after step settings bits before after held (Err OutOfMemory) takes short = 
 ends_after step settings bits before after held (Err Refused) takes short = short.refused refl
 
 -- if the first allocation fails, nothing is accepted
-pub no_memory : (settings : DecodeSettings) (bits : Bits) → IsReport settings bits 4 0 0
-no_memory settings bits = record { answer = Err OutOfMemory; ends = (omega arith, inl refl); status_is = refl; bytes_are = refl }
+pub no_memory : (settings : DecodeSettings) (bits : Bits) → IsReport settings bits 4 0 0 0
+no_memory settings bits =
+    record { answer = Err OutOfMemory; ends = (omega arith, inl refl); status_is = refl; bytes_are = refl; fault_is = inr (refl, (refl, refl)) }
+
+-- the place that the context tells is that of the end
+pub fails_at : (settings : DecodeSettings) (bits : Bits) (taken : ℕ) (answer : Result ℕ DecodeError) (place : Option ℕ) → OnErr answer (place ≡ Some (failed_at settings bits taken))
+    → OnOk answer (place ≡ None) → (told : ℕ) → ((n : ℕ) → place ≡ Some n → told ≡ n) → (place ≡ None → told ≡ 0) → FailsAt settings bits taken answer told
+fails_at settings bits taken (Ok count) place fails none told is isnt = isnt none
+fails_at settings bits taken (Err error) place fails none told is isnt = inl (is (failed_at settings bits taken) fails)
 
 -- a statement about the settings that C passes
 on_meant : (meant : Option DecodeSettings) (settings : DecodeSettings) (P : DecodeSettings → Type 0) → meant ≡ Some settings → P settings → IfSome meant P

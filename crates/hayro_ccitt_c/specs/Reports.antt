@@ -6,7 +6,7 @@ use Rattle.hayro_ccitt.specs.declared.settings.DecodeSettings.{DecodeSettings}
 use Rattle.hayro_ccitt.specs.Answers.{PaintsBlack}
 use Rattle.hayro_ccitt.specs.Bits.{Bits, BitsFit, bits_of, bits_in}
 use Rattle.hayro_ccitt.specs.Damage.{repairs_by_line}
-use Rattle.hayro_ccitt.specs.PlainReading.{plain, lines_of}
+use Rattle.hayro_ccitt.specs.PlainReading.{plain, lines_of, failed_at}
 use Rattle.hayro_ccitt.specs.Rows.{changes}
 use Rattle.fax_encode.specs.Packed.{packed}
 use Rattle.hayro_ccitt_c.specs.Packing.{bytes_of_row}
@@ -39,12 +39,19 @@ EndsAfter settings bits taken (Err Overflow) = (taken ≡ length (plain settings
 EndsAfter settings bits taken (Err OutOfMemory) = (taken ≤ length (plain settings bits).rows) × ((taken ≡ 0) ⊎ PaintsBlack (lines_of settings bits) taken)
 EndsAfter settings bits taken (Err Refused) = taken < length (plain settings bits).rows
 
--- what C gets: a status, the number of rows accepted, and the number of bytes read
-pub record IsReport (settings : DecodeSettings) (bits : Bits) (status rows bytes_read : ℕ) : Type 0 where
+-- where such an end is: at no offset if there is no fault; else where the reading fails, or at 0 if an allocation failed before
+-- it began
+abbrev pub FailsAt : DecodeSettings → Bits → ℕ → Result ℕ DecodeError → ℕ → Type 0
+FailsAt settings bits taken (Ok count) place = place ≡ 0
+FailsAt settings bits taken (Err error) place = (place ≡ failed_at settings bits taken) ⊎ ((error ≡ OutOfMemory) × (taken ≡ 0) × (place ≡ 0))
+
+-- what C gets: a status, the number of rows accepted, the number of bytes read, and the offset of the fault
+pub record IsReport (settings : DecodeSettings) (bits : Bits) (status rows bytes_read fault_start : ℕ) : Type 0 where
   pub answer : Result ℕ DecodeError
   pub ends : EndsAfter settings bits rows answer
   pub status_is : status ≡ status_of answer
   pub bytes_are : bytes_read ≡ bytes_read_of answer
+  pub fault_is : FailsAt settings bits rows answer fault_start
 
 -- the number of changes of the first `taken` rows, saturated at the greatest value of 64 bits
 abbrev pub changes_taken : DecodeSettings → Bits → ℕ → ℕ
@@ -54,10 +61,10 @@ changes_taken settings bits taken = min (sum (map (λ row. length (changes row))
 abbrev pub damaged_taken : DecodeSettings → Bits → ℕ → ℕ
 damaged_taken settings bits taken = sum_by length (take taken (repairs_by_line settings bits))
 
--- what C gets, with its fields that mean nothing yet
-abbrev pub outcome_of : ℕ → ℕ → ℕ → ℕ → Outcome
-outcome_of rows changes bytes_read damaged_rows =
-    record { rows = rows; changes = changes; bytes_read = bytes_read; damaged_rows = damaged_rows; reserved_1 = 0; reserved_2 = 0 }
+-- what C gets, with its field that means nothing yet
+abbrev pub outcome_of : ℕ → ℕ → ℕ → ℕ → ℕ → Outcome
+outcome_of rows changes bytes_read damaged_rows fault_start =
+    record { rows = rows; changes = changes; bytes_read = bytes_read; damaged_rows = damaged_rows; fault_start = fault_start; reserved = 0 }
 
 -- a statement about the settings that C passes, if they are valid, and about the bits of the data in the order that C
 -- passes, if the data isn't too long

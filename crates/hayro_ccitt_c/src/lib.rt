@@ -45,7 +45,8 @@ use std::alloc::Global;
 
 /// Counts the rows of the data and their changes.
 ///
-/// `outcome` has the number of rows, of their changes, and of the bytes consumed if the status is 0, else 0. A status of 6
+/// `outcome` has the number of rows, of their changes, and of the bytes consumed if the status is 0, else 0; if the status is 1
+/// to 5, the offset of the fault in bits. A status of 6
 /// says that the data is too long or the settings are invalid; no row is refused.
 #[unsafe(no_mangle)]
 pub extern "C" fn hayro_ccitt_measure(
@@ -55,14 +56,14 @@ pub extern "C" fn hayro_ccitt_measure(
     outcome: &mut Outcome,
 ) -> u32
     ensures report { OnSettings settings.now «data».now (λ s bits.
-        IsReport s bits result outcome.new.rows outcome.new.bytes_read) }
+        IsReport s bits result outcome.new.rows outcome.new.bytes_read outcome.new.fault_start) }
     ensures changes { OnSettings settings.now «data».now (λ s bits.
         outcome.new.changes ≡ changes_taken s bits outcome.new.rows) }
     ensures damaged { OnSettings settings.now «data».now (λ s bits.
         outcome.new.damaged_rows ≡ damaged_taken s bits outcome.new.rows) }
     ensures never_refused { result ≢ 5 }
     ensures untaken { (settings_of settings.now ≡ None) ⊎ (¬ (BitsFit «data».now))
-        → (result ≡ 6) × (outcome.new ≡ outcome_of 0 0 0 0) }
+        → (result ≡ 6) × (outcome.new ≡ outcome_of 0 0 0 0 0) }
 {
     let Some(meant) = settings_for(data, settings) else {
         return untaken(outcome);
@@ -76,7 +77,8 @@ pub extern "C" fn hayro_ccitt_measure(
 /// a byte's highest bit, 1 for black, and zeros after the row up to a whole byte. The bytes after the last row keep their
 /// values.
 ///
-/// `outcome` has the number of rows, of their changes, and of the bytes consumed if the status is 0, else 0. A status of 5 says
+/// `outcome` has the number of rows, of their changes, and of the bytes consumed if the status is 0, else 0; if the status is 1
+/// to 5, the offset of the fault in bits. A status of 5 says
 /// that there is no room for the next row; 6, that the data is too long or the settings are invalid.
 #[unsafe(no_mangle)]
 pub extern "C" fn hayro_ccitt_decode_packed(
@@ -87,7 +89,7 @@ pub extern "C" fn hayro_ccitt_decode_packed(
     outcome: &mut Outcome,
 ) -> u32
     ensures report { OnSettings settings.now «data».now (λ s bits.
-        IsReport s bits result outcome.new.rows outcome.new.bytes_read) }
+        IsReport s bits result outcome.new.rows outcome.new.bytes_read outcome.new.fault_start) }
     ensures changes { OnSettings settings.now «data».now (λ s bits.
         outcome.new.changes ≡ changes_taken s bits outcome.new.rows) }
     ensures damaged { OnSettings settings.now «data».now (λ s bits.
@@ -97,7 +99,7 @@ pub extern "C" fn hayro_ccitt_decode_packed(
     ensures refused { result ≡ 5 → OnSettings settings.now «data».now (λ s bits.
         length bitmap.new < (outcome.new.rows + 1) * bytes_of_row s.columns) }
     ensures untaken { (settings_of settings.now ≡ None) ⊎ (¬ (BitsFit «data».now))
-        → (result ≡ 6) × (outcome.new ≡ outcome_of 0 0 0 0)
+        → (result ≡ 6) × (outcome.new ≡ outcome_of 0 0 0 0 0)
         × (bitmap.new ≡ bitmap.old) }
 {
     let Some(meant) = settings_for(data, settings) else {
@@ -111,7 +113,8 @@ pub extern "C" fn hayro_ccitt_decode_packed(
 /// Lists the changes of the rows of the data in `lists`, row after row: of each row the number of its changes, and then the
 /// positions at which its colour changes, white first, ascending. The numbers after the last row keep their values.
 ///
-/// `outcome` has the number of rows, of their changes, and of the bytes consumed if the status is 0, else 0. A status of 5 says
+/// `outcome` has the number of rows, of their changes, and of the bytes consumed if the status is 0, else 0; if the status is 1
+/// to 5, the offset of the fault in bits. A status of 5 says
 /// that there is no room for the next row; 6, that the data is too long or the settings are invalid.
 #[unsafe(no_mangle)]
 pub extern "C" fn hayro_ccitt_decode_changes(
@@ -122,7 +125,7 @@ pub extern "C" fn hayro_ccitt_decode_changes(
     outcome: &mut Outcome,
 ) -> u32
     ensures report { OnSettings settings.now «data».now (λ s bits.
-        IsReport s bits result outcome.new.rows outcome.new.bytes_read) }
+        IsReport s bits result outcome.new.rows outcome.new.bytes_read outcome.new.fault_start) }
     ensures changes { OnSettings settings.now «data».now (λ s bits.
         outcome.new.changes ≡ changes_taken s bits outcome.new.rows) }
     ensures damaged { OnSettings settings.now «data».now (λ s bits.
@@ -133,7 +136,7 @@ pub extern "C" fn hayro_ccitt_decode_changes(
         length lists.new < numbers_taken s bits outcome.new.rows + 1
         + length (changes (get_or (plain s bits).rows outcome.new.rows []))) }
     ensures untaken { (settings_of settings.now ≡ None) ⊎ (¬ (BitsFit «data».now))
-        → (result ≡ 6) × (outcome.new ≡ outcome_of 0 0 0 0)
+        → (result ≡ 6) × (outcome.new ≡ outcome_of 0 0 0 0 0)
         × (lists.new ≡ lists.old) }
 {
     let Some(meant) = settings_for(data, settings) else {

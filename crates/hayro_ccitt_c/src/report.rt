@@ -23,10 +23,10 @@ pub struct Outcome {
     pub bytes_read: u64,
     /// The number of rows that were damaged and repaired.
     pub damaged_rows: u64,
+    /// The offset of the fault in bits if the status is 1 to 5, else 0.
+    pub fault_start: u64,
     /// Zero.
-    pub reserved_1: u64,
-    /// Zero.
-    pub reserved_2: u64,
+    pub reserved: u64,
 }
 
 /// How a decoding ended.
@@ -40,20 +40,22 @@ pub(crate) struct Report {
     pub bytes_read: u64,
     /// The number of rows that were damaged and repaired.
     pub damaged_rows: u64,
+    /// The offset of the fault in bits if the status is 1 to 5, else 0.
+    pub fault_start: u64,
 }
 
 /// Returns the status of data that is too long or settings that are invalid, and sets all of `outcome` to zeros.
 pub(crate) fn untaken(outcome: &mut Outcome) -> u32
     ensures status { result ≡ 6 }
-    ensures outcome { outcome.new ≡ outcome_of 0 0 0 0 }
+    ensures outcome { outcome.new ≡ outcome_of 0 0 0 0 0 }
 {
     *outcome = Outcome {
         rows: 0,
         changes: 0,
         bytes_read: 0,
         damaged_rows: 0,
-        reserved_1: 0,
-        reserved_2: 0,
+        fault_start: 0,
+        reserved: 0,
     };
     6
 }
@@ -62,15 +64,15 @@ pub(crate) fn untaken(outcome: &mut Outcome) -> u32
 pub(crate) fn told(report: &Report, changes: u64, outcome: &mut Outcome) -> u32
     ensures status { result ≡ report.now.status }
     ensures outcome { outcome.new
-        ≡ outcome_of report.now.rows changes report.now.bytes_read report.now.damaged_rows }
+        ≡ outcome_of report.now.rows changes report.now.bytes_read report.now.damaged_rows report.now.fault_start }
 {
     *outcome = Outcome {
         rows: report.rows,
         changes,
         bytes_read: report.bytes_read,
         damaged_rows: report.damaged_rows,
-        reserved_1: 0,
-        reserved_2: 0,
+        fault_start: report.fault_start,
+        reserved: 0,
     };
     report.status
 }
@@ -109,7 +111,7 @@ pub(crate) fn decoded<D: Decoder>(
 ) -> Report
     requires fit { BitsFit «data».now }
     requires width { settings.columns ≤ D.width sink.old }
-    ensures report { IsReport settings (bits_in order «data».now) result.status result.rows result.bytes_read }
+    ensures report { IsReport settings (bits_in order «data».now) result.status result.rows result.bytes_read result.fault_start }
     ensures damaged { result.damaged_rows ≡ damaged_taken settings (bits_in order «data».now) result.rows }
     ensures meaning { D.meaning sink.new ≡ meaning_after (D.step (D.width sink.old)) (D.meaning sink.old)
         (take result.rows (plain settings (bits_in order «data».now)).rows) }
@@ -124,6 +126,7 @@ pub(crate) fn decoded<D: Decoder>(
             rows: 0,
             bytes_read: 0,
             damaged_rows: 0,
+            fault_start: 0,
         };
     };
     let answer = decode_in(order, data, sink, &mut ctx);
@@ -132,5 +135,6 @@ pub(crate) fn decoded<D: Decoder>(
         rows: ctx.decoded_rows(),
         bytes_read: bytes_read_of(&answer),
         damaged_rows: ctx.damaged_rows(),
+        fault_start: ctx.fault_start().unwrap_or(0) as u64,
     }
 }

@@ -769,6 +769,42 @@ fn fails_at(
     }
     assert_eq!(rt; reader.next_row(), Err(InvalidCode));
     assert_eq!(rt; (reader.rows_read(), reader.line_start()), (rows, place));
+    let Ok(mut ctx) = DecoderContext::new(rt.alloc(), settings) else {
+        panic!(rt; "no memory");
+    };
+    for _ in 0..2 {
+        let mut sink = sink_of(rt.alloc(), ctx.settings().columns, usize::MAX);
+        assert_eq!(rt; decode(data, &mut sink, &mut ctx), Err(InvalidCode));
+        assert_eq!(rt;
+            (ctx.decoded_rows(), ctx.fault_start()),
+            (rows, Some(place))
+        );
+    }
+    ctx.reset();
+    assert_eq!(rt; ctx.fault_start(), None);
+}
+
+/// Where decoding stands after a sink refused the row with this index.
+fn refused_at(
+    rt: &(impl Abort + AllocGlobal),
+    data: &[u8],
+    settings: DecodeSettings,
+    index: usize,
+    place: usize,
+) {
+    assert!(rt; bits_fit(data));
+    let Ok(mut ctx) = DecoderContext::new(rt.alloc(), settings) else {
+        panic!(rt; "no memory");
+    };
+    let mut sink = sink_of(rt.alloc(), ctx.settings().columns, index);
+    assert_eq!(rt; decode(data, &mut sink, &mut ctx), Err(Refused));
+    assert_eq!(rt;
+        (ctx.decoded_rows(), ctx.fault_start()),
+        (index as u64, Some(place))
+    );
+    let mut all = sink_of(rt.alloc(), ctx.settings().columns, usize::MAX);
+    let _ = decode(data, &mut all, &mut ctx);
+    assert_eq!(rt; ctx.fault_start(), None);
 }
 
 #[test]
@@ -781,6 +817,9 @@ fn faults_have_a_place(rt: HostRuntime) {
     fails_at(&rt, &whole, group_3_1d(8, 2, "ls"), 1, 17);
     // One row, and then padding that is no mode.
     fails_at(&rt, &[0x31, 0xC0], group_4(8, 0, ""), 1, 10);
+    // A whole row is refused, and one that was repaired.
+    refused_at(&rt, &[0x31, 0xF8], group_4(8, 2, ""), 1, 10);
+    refused_at(&rt, &cut, group_3_1d(8, 3, "l"), 1, 29);
 }
 
 #[test]

@@ -100,6 +100,14 @@ module _ {M : Type 0} (line : Line) (start : Bits) (step : M → List ℕ → M)
           (otherwise (λ r. let both : true ≡ false = sym is ∙ or_from old.settings.strict (not old.has_eols) (sym same_strict ∙ r.lenient) (not_from_true old.has_eols (sym same_eols ∙ r.has_eols)) in cc))
       by false is = lenient e draws is (λ r. stores (broken e draws r.fault) r) otherwise
 
+-- a line that isn't read says nothing of the bits that are left
+pub draws_anywhere : (line : Line) (e : DecodeError) (front : Row) (rest other : Bits) → DrawsLine line (Err e) front rest → DrawsLine line (Err e) front other
+draws_anywhere line UnexpectedEof front rest other draws = draws
+draws_anywhere line InvalidCode front rest other draws = draws
+draws_anywhere line Overflow front rest other draws = draws
+draws_anywhere line OutOfMemory front rest other draws = draws
+draws_anywhere line Refused front rest other draws = draws
+
 -- a fault of the data breaks the line, with the front that is left
 pub line_breaks : (line : Line) (e : DecodeError) (front : Row) (rest : Bits) → IsFault e → DrawsLine line (Err e) front rest → line ≡ Line.broken front e
 line_breaks line UnexpectedEof front rest fault draws = draws

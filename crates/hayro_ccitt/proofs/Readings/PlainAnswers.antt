@@ -1,5 +1,5 @@
 -- What decoding leaves of whole data, given what a driver leaves of its bits.
-use Rattle.std.proofs.Common.{◌≡◌, ◌≢◌, ℕ, ◌+◌, ◌-◌, ◌*◌, ◌/◌, ◌≤◌, IfOk, Bool, true, false, eqb, List, length, drop, Result, Ok, Err, refl, sym, ap, subst, ◌∙◌, arith}
+use Rattle.std.proofs.Common.{◌≡◌, ◌≢◌, ℕ, ◌+◌, ◌-◌, ◌*◌, ◌/◌, ◌≤◌, IfOk, Bool, true, false, eqb, List, length, drop, Option, Some, Result, Ok, Err, refl, sym, ap, subst, ◌∙◌, arith}
 use Rattle.std.proofs.lemmas.Bool.{cond-false, eqb-true}
 use Rattle.std.proofs.lemmas.List.{length-drop}
 use Rattle.hayro_ccitt.specs.declared.error.DecodeError.{DecodeError}
@@ -9,9 +9,9 @@ use Rattle.hayro_ccitt.specs.Bits.{Bits}
 use Rattle.hayro_ccitt.specs.Context.{Held}
 use Rattle.hayro_ccitt.specs.Answers.{OnAnswer}
 use Rattle.hayro_ccitt.specs.Damage.{Damaged, repaired_by_turn, repairs_by_line}
-use Rattle.hayro_ccitt.specs.Decoding.{SinkState, TakesRows, StopsShort, CountsRepairs}
+use Rattle.hayro_ccitt.specs.Decoding.{SinkState, TakesRows, StopsShort, CountsRepairs, FailsHere}
 use Rattle.hayro_ccitt.specs.Lines.{Line}
-use Rattle.hayro_ccitt.specs.PlainReading.{Ending, Reading, plain, end_of, lines_of, gathered_of, line_of_turn, bytes_before, whole_reading}
+use Rattle.hayro_ccitt.specs.PlainReading.{Ending, Reading, plain, end_of, lines_of, gathered_of, line_of_turn, bytes_before, whole_reading, failed_at}
 
 -- a number of columns that isn't 0
 pub some_columns : (n : ℕ) → n ≢ 0 → eqb n 0 ≡ false
@@ -124,6 +124,12 @@ repairs_left given settings read whole same same_bits some held answer said alik
     let known : CountsRepairs (repairs_by_line given read) held answer = subst (λ (x : List (List Damaged)). CountsRepairs x held answer) (sym all) counted in
     let there = subst (λ (b : Bits). CountsRepairs (repairs_by_line settings b) held answer) same_bits (subst (λ (s : DecodeSettings). CountsRepairs (repairs_by_line s read) held answer) same known) in
     record { taken = there.taken; all = alike _ there.all }
+
+-- where it failed
+pub fault_left : (given settings : DecodeSettings) (bits read rest : Bits) → given ≡ settings → read ≡ bits → (taken : ℕ) → FailsHere given bits taken rest
+    → (place : Option ℕ) → place ≡ Some (length read - length rest) → place ≡ Some (failed_at settings bits taken)
+fault_left given settings bits read rest same are taken fails place is =
+    is ∙ ap (λ (b : Bits). Some (length b - length rest)) are ∙ ap (λ (n : ℕ). Some n) fails ∙ ap (λ (s : DecodeSettings). Some (failed_at s bits taken)) same
 
 module _ {M : Type 0} (given settings : DecodeSettings) (read whole : Bits) (same : given ≡ settings) (same_bits : read ≡ whole) (some : given.columns ≢ 0)
     (step : M → List ℕ → M) (before after : SinkState M) (held : Held) where

@@ -13,7 +13,7 @@ use Rattle.hayro_ccitt.specs.Context.{Held, Repairs, fresh}
 use Rattle.hayro_ccitt.specs.Damage.{Damaged, fault_in, repaired_in, repaired_by_turn, repairs_by_line}
 use Rattle.hayro_ccitt.specs.Decoding.{SinkState, TakesOneRow, repairs_with, gap_said}
 use Rattle.hayro_ccitt.specs.Lines.{Line}
-use Rattle.hayro_ccitt.specs.PlainReading.{Progress, Ending, Reading, Move, Gap, row_before, with_row, at_gap, gap_behind_row, row_of_line, add_row, line_here, line_of_turn, move_on, first_gap, first_line, at_front, ending_from, ending_behind, one_each, gathered_from, gathered_behind, gathered_of, bytes_before, whole_reading, plain, lines_of}
+use Rattle.hayro_ccitt.specs.PlainReading.{Progress, Ending, Reading, Move, Gap, row_before, with_row, at_gap, gap_behind_row, row_of_line, add_row, line_here, line_of_turn, move_on, first_gap, first_line, at_front, ending_from, ending_behind, one_each, gathered_from, gathered_behind, gathered_of, bytes_before, whole_reading, plain, lines_of, line_starts, start_of_turn}
 use Rattle.hayro_ccitt.specs.Repetition.{Turn, Reaches}
 use Rattle.hayro_ccitt.specs.Rows.{Row}
 use Rattle.hayro_ccitt.specs.declared.row_reader.Stand.{Stand}
@@ -23,13 +23,14 @@ use Rattle.hayro_ccitt.specs.declared.settings.EncodingMode.TheVariants.{Group4}
 use Rattle.hayro_ccitt.proofs.Readings.Gathered.{gathered_after}
 use Rattle.hayro_ccitt.proofs.Readings.GapsAndRows.{first_gap_t4}
 use Rattle.hayro_ccitt.proofs.Readings.Repeated.{reaches_on}
-use Rattle.hayro_ccitt.specs.RowsRead.{RowsRead, ReadsNext, damage_since, start_after, ComesToLine, read_so_far, line_after, RepairsAreCounted, Stands, ended, stand_after, is_at_line, StandsAtLine, StandsBehindRow, HasEnded, HasFailed, context_at, line_starts}
+use Rattle.hayro_ccitt.specs.RowsRead.{RowsRead, ReadsNext, damage_since, start_after, ComesToLine, read_so_far, line_after, RepairsAreCounted, Stands, ended, stand_after, is_at_line, StandsAtLine, StandsBehindRow, HasEnded, HasFailed, context_at}
 use Rattle.hayro_ccitt.proofs.Readings.PlainAnswers.{some_columns, bytes_before-place}
 use Rattle.hayro_ccitt.proofs.Readings.TurnsAddRows.{Keeps, first_gap_keeps}
 use Rattle.hayro_ccitt.proofs.Readings.TurnsMoveOn.{left_to_read, left_below, next_is, not_next}
 use Rattle.hayro_ccitt.proofs.Readings.RepairsCounted.{repaired_counts}
 use Rattle.hayro_ccitt.proofs.Work.RunsCount.{sum_more}
 use Rattle.hayro_ccitt.proofs.Readings.RunsOverRows.{lines, lines_on, drop-suc_cons, Comes, Between, Leaves, held_between-more, comes_first, comes_next, comes_done, comes_more, comes_line, get_or-behind, row_fails}
+use Rattle.hayro_ccitt.proofs.Readings.RunsReach.{get_or-there, comes_there, value_is, no_value_behind}
 use Rattle.hayro_ccitt.proofs.Readings.RowsTaken.{by_rows_left, row_of_turn, reads_row, turn_is}
 
 -- what a sink that keeps nothing, and refuses no row, means
@@ -38,30 +39,6 @@ nothing_kept = record { meaning = tt; refused = false; refuses = λ row. ⊥ }
 
 abbrev pub no_step : Unit {0} → List ℕ → Unit {0}
 no_step before row = tt
-
--- an element that is there is the one of its index
-get_or-there : {A : Type 0} (xs : List A) (k : ℕ) (x other : A) → slice_get xs k ≡ Some x → get_or xs k other ≡ x
-get_or-there [] k x other is = absurd cc
-get_or-there (y ∷ xs) zero x other is = cc
-get_or-there (y ∷ xs) (suc k) x other is = get_or-there xs k x other is
-
--- and after all elements there is none
-get_or-behind_all : {A : Type 0} (xs : List A) (k : ℕ) (other : A) → drop k xs ≡ [] → get_or xs k other ≡ other
-get_or-behind_all [] k other is = refl
-get_or-behind_all (x ∷ xs) zero other is = absurd cc
-get_or-behind_all (x ∷ xs) (suc k) other is = get_or-behind_all xs k other is
-
--- a turn that continues adds one row
-turn_adds : (settings : DecodeSettings) (s after : Progress) → move_on settings s ≡ Turn.next after → length after.rows ≡ suc (length s.rows)
-turn_adds settings s after e = by (row_of_turn settings s) e
-  where
-    by : (row : Result (Row × Bits) DecodeError) → add_row settings s row ≡ Turn.next after → length after.rows ≡ suc (length s.rows)
-    by (Err fault) e = absurd (not_next _ after e)
-    by (Ok (row, rest)) e = at (gap_behind_row settings (length (s.rows ++ row ∷ [])) s.has_eols rest) e
-      where
-        at : (gap : Gap) → at_gap (with_row s row rest) gap ≡ Turn.next after → length after.rows ≡ suc (length s.rows)
-        at (Gap.over outcome) e = absurd (not_next _ after e)
-        at (Gap.line_at has_eols here) e = omega (arith, ap (λ (p : Progress). length p.rows) (next_is _ after e), length-append s.rows (row ∷ []))
 
 module _ (settings : DecodeSettings) (wide : 0 < settings.columns) (bits : Bits) (first : Progress) (begins : first_gap settings.encoding settings bits ≡ Turn.next first) where
   -- no row comes before the first line
@@ -82,17 +59,9 @@ module _ (settings : DecodeSettings) (wide : 0 < settings.columns) (bits : Bits)
       cond-false (eqb settings.columns 0) _ _ (some_columns settings.columns (λ none. absurd (omega (arith, wide, none))))
       ∙ gathered_is (line_of_turn settings)
 
-  -- it reaches each state that is reached
-  comes_along : {A : Type 0} (gives : Progress → A) (s t : Progress) → Comes (move_on settings) (one_each gives) left_to_read first s → Reaches (move_on settings) s t
-      → Comes (move_on settings) (one_each gives) left_to_read first t
-  comes_along gives s t comes (Reaches.stays same) = comes
-  comes_along gives s t comes (Reaches.moves same after last e on) =
-      comes_along gives after t
-      (comes_next (move_on settings) (one_each gives) left_to_read (by_rows_left settings wide) first none_first s comes (gives s) refl after e (turn_adds settings s after e)) on
-
   module _ (so_far : Progress) (reaches : Reaches (move_on settings) first so_far) where
     pub comes : {A : Type 0} (gives : Progress → A) → Comes (move_on settings) (one_each gives) left_to_read first so_far
-    comes gives = comes_along gives first so_far (comes_first (move_on settings) (one_each gives) left_to_read (by_rows_left settings wide) first none_first) reaches
+    comes gives = comes_there settings wide first none_first so_far reaches gives
 
     -- there are at most as many rows as bits, and one more
     pub few_rows : length first.rest ≤ length bits → length so_far.rows ≤ length bits + 1
@@ -106,21 +75,14 @@ module _ (settings : DecodeSettings) (wide : 0 < settings.columns) (bits : Bits)
     -- the offset of its line
     pub line_start_is : (other : ℕ) → get_or (line_starts settings bits) (length so_far.rows) other ≡ length bits - length so_far.rest
     line_start_is other =
-        let gives : Progress → ℕ = λ s. length bits - length s.rest in
-        get_or-there (line_starts settings bits) (length so_far.rows) (gives so_far) other
-        (ap (λ (xs : List ℕ). slice_get xs (length so_far.rows)) (gathered_is gives)
-        ∙ comes_line (move_on settings) (one_each gives) left_to_read (by_rows_left settings wide) first none_first so_far (comes gives) (gives so_far) refl)
+        ap (λ (xs : List ℕ). get_or xs (length so_far.rows) other) (gathered_is (start_of_turn bits))
+        ∙ value_is settings wide first none_first so_far reaches (start_of_turn bits) other
 
     -- where its turn is the last, no line begins after it
     pub no_line_behind : (end : Ending) → move_on settings so_far ≡ Turn.done end → (other : ℕ) → get_or (line_starts settings bits) (length so_far.rows + 1) other ≡ other
     no_line_behind end ends other =
-        let gives : Progress → ℕ = λ s. length bits - length s.rest in
-        let follow = ap (λ (xs : List ℕ). drop (length so_far.rows) xs) (gathered_is gives)
-        ∙ lines_on (move_on settings) (one_each gives) left_to_read (by_rows_left settings wide) first none_first so_far (comes gives) (gives so_far) refl in
-        let last = follow ∙ ap (λ (turn : Move). gives so_far ∷ gathered_after (lines (move_on settings) (one_each gives) left_to_read) turn) ends in
-        let next : length so_far.rows + 1 ≡ suc (length so_far.rows) = omega arith in
-        ap (λ (n : ℕ). get_or (line_starts settings bits) n other) next
-        ∙ get_or-behind_all (line_starts settings bits) (suc (length so_far.rows)) other (drop-suc_cons (line_starts settings bits) (length so_far.rows) (gives so_far) [] last)
+        ap (λ (xs : List ℕ). get_or xs (length so_far.rows + 1) other) (gathered_is (start_of_turn bits))
+        ∙ no_value_behind settings wide first none_first so_far reaches end ends (start_of_turn bits) other
 
     module _ (row : Row) (rest : Bits) (is : row_of_turn settings so_far ≡ Ok (row, rest)) where
       prefix : IsPrefix (so_far.rows ++ row ∷ []) (plain settings bits).rows

@@ -9,7 +9,7 @@ use Rattle.hayro_ccitt.specs.Answers.{IsFault, meaning_after}
 use Rattle.hayro_ccitt.specs.Context.{Held, Repairs}
 use Rattle.hayro_ccitt.specs.Damage.{repaired_by_turn}
 use Rattle.hayro_ccitt.specs.Decoding.{SinkState, TakesOneRow, RowIsTaken, CountsRepairs, repairs_with, with_row_taken, gap_said}
-use Rattle.hayro_ccitt.specs.PlainReading.{Progress, Ending, Gap, gap_behind_row, line_here, line_of_turn, row_of_line, row_before, at_gap, add_row, pass_gap, with_row, move_on, one_each, ending_from, gathered_from}
+use Rattle.hayro_ccitt.specs.PlainReading.{Progress, Ending, Gap, gap_behind_row, line_here, line_of_turn, row_of_line, row_before, at_gap, add_row, pass_gap, ends_with, with_row, move_on, one_each, ending_from, gathered_from}
 use Rattle.hayro_ccitt.specs.Repetition.{Turn}
 use Rattle.hayro_ccitt.specs.Rows.{Row, changes}
 use Rattle.hayro_ccitt.specs.Work.{CountsRun, found_here, most_counted, most_given_up, words_of_turn}
@@ -240,6 +240,10 @@ module _ {M : Type 0} (settings : DecodeSettings) (wide : 0 < settings.columns) 
 
       pub last_taken : last.taken ≡ length next.rows
       last_taken = ap (λ (h : Held). h.taken) (frame ∙ ap (λ (h : Held). record h { has_eols = last.has_eols }) next_held)
+
+      -- a gap that ends the reading makes the turn the last one
+      pub turn_over : (outcome : Result Bits DecodeError) → gap_said answer last.has_eols left_over ≡ Gap.over outcome → move_on settings so_far ≡ ends_with next outcome
+      turn_over outcome over = turn ∙ ap (at_gap next) over
 
       -- strict data that miss an EOL end the run
       pub turn_misses : (e : DecodeError) → answer ≡ Err e → IsFault e → last.has_eols ≡ new.has_eols

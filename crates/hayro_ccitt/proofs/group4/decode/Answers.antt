@@ -1,5 +1,5 @@
 use Rattle.std.proofs.Common.{◌≡◌, ℕ, Bool, true, false, [], drop, length, Result, Ok, Err, sym, refl, ap, ◌∙◌, subst, arith}
-use Rattle.std.proofs.lemmas.Result.{err_from_is_err_and}
+use Rattle.std.proofs.lemmas.Result.{err_from_is_err_and, on_err_weaker}
 use Rattle.hayro_ccitt.specs.declared.error.DecodeError.{DecodeError}
 use Rattle.hayro_ccitt.specs.declared.error.DecodeError.TheVariants.{InvalidCode}
 use Rattle.hayro_ccitt.specs.declared.settings.EncodingMode.{EncodingMode}
@@ -11,6 +11,7 @@ use Rattle.hayro_ccitt.specs.PlainReading.{Ending, gap_behind_row, at_gap, at_fr
 use Rattle.hayro_ccitt.specs.Ticks.{tag_tests}
 use Rattle.hayro_ccitt.specs.Work.{most_counted, most_from_line}
 use Rattle.hayro_ccitt.proofs.Readings.RunsOverRows.{ends_well, ends_at_fault}
+use Rattle.hayro_ccitt.proofs.Readings.RunsReach.{fails_at_front, fails_whole}
 use Rattle.hayro_ccitt.proofs.Readings.WholeRuns.{decodes_from, decodes_none}
 use Rattle.hayro_ccitt.proofs.Work.EolsPassed.{line_has_bits, line_without_eols, looked_ahead_most, looked_most}
 use Rattle.hayro_ccitt.proofs.group4.decode.Given.{Over}
@@ -110,3 +111,36 @@ returns-clause-rows g c =
       ap length c.pass_gap.ensures.same_bits,
     ))
     middle _ _ c.pass_gap.new.reader.bits c.pass_gap.ensures.same_bits first (ap (λ (h : Held). h.settings) c.pass_gap.ensures.held) c.pass_gap.ensures.counts from
+
+-- there is no row before the first gap
+pub returns-in_err-pass_gap-clause-fails : goal.returns-in_err-pass_gap-clause-fails
+returns-in_err-pass_gap-clause-fails g c =
+    let at = (goal.at.returns-in_err-pass_gap-clause-fails g c).After-pass_gap in
+    let bits = c.args.reader.now.bits in
+    let new = c.pass_gap.new.ctx.held in
+    let rest = here c.pass_gap.new.reader in
+    let ends = first_is g at ∙ ap (λ (a : Result Bool DecodeError). at_gap (at_front bits) (gap_said a new.has_eols rest)) c.in_err-pass_gap.was in
+    rw ((err_from_is_err_and c.from_residual.result c.from_residual.ensures.1).1)
+    (fails_at_front c.args.ctx.now.held.settings bits _ ends new.taken rest (c.in_err-pass_gap.ensures.stays ∙ ap (λ (n : ℕ). drop n bits) c.requires.start))
+
+pub returns-clause-fails : goal.returns-clause-fails
+returns-clause-fails g c =
+    let at = (goal.at.returns-clause-fails g c).After-pass_gap in
+    let bits = c.args.reader.now.bits in
+    let middle = c.pass_gap.new.ctx.held in
+    let rest = here c.pass_gap.new.reader in
+    let is : c.pass_gap.result ≡ Ok false = c.in_ok-pass_gap.was ∙ ap (λ (b : Bool). Ok b) c.if-branch.false in
+    let first = first_is g at ∙ ap (λ (a : Result Bool DecodeError). at_gap (at_front bits) (gap_said a middle.has_eols rest)) is in
+    on_err_weaker c.read_rows.result
+    (fails_whole c.args.ctx.now.held.settings middle.settings bits c.pass_gap.new.reader.bits _ (ap (λ (h : Held). h.settings) c.pass_gap.ensures.held)
+    c.pass_gap.ensures.same_bits first c.read_rows.new.ctx.held.taken (here c.read_rows.new.reader))
+    c.read_rows.ensures.fails
+
+-- no EOL is sought after the first gap, so none is later
+pub returns-clause-no_eols : goal.returns-clause-no_eols
+returns-clause-no_eols g c =
+    let middle = c.pass_gap.new.ctx.held in
+    let rest = here c.pass_gap.new.reader in
+    let is : c.pass_gap.result ≡ Ok false = c.in_ok-pass_gap.was ∙ ap (λ (b : Bool). Ok b) c.if-branch.false in
+    let gap = gap_is g (goal.at.returns-clause-no_eols g c).After-pass_gap ∙ ap (λ (a : Result Bool DecodeError). gap_said a middle.has_eols rest) is in
+    c.read_rows.ensures.no_eols (line_without_eols c.args.ctx.now.held.settings 0 middle.has_eols c.args.reader.now.bits rest gap).0

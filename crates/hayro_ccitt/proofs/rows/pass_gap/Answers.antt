@@ -16,6 +16,13 @@ returns-then-count-gt0-clause-work c = λ kept.
       ap (λ (found : ℕ × Bits). length found.1) c.read_eols-count.ensures.eols,
     )
 
+pub returns-then-settings-clause-stays : goal.returns-then-settings-clause-stays
+returns-then-settings-clause-stays c =
+    let none : c.read_eols-count.result ≡ 0 = omega (arith, c.if-count-gt0.false) in
+    let now = here c.read_eols-count.new.reader in
+    eols_here_stay c.args.ctx.now.held.settings (here c.args.reader.now) now
+    (c.read_eols-count.ensures.eols ∙ ap (λ (n : ℕ). (n, now)) none)
+
 pub returns-then-settings-clause-work_refused : goal.returns-then-settings-clause-work_refused
 returns-then-settings-clause-work_refused c =
     let none : c.read_eols-count.result ≡ 0 = omega (arith, c.if-count-gt0.false) in

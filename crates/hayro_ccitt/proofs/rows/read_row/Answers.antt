@@ -9,19 +9,21 @@ use Rattle.hayro_ccitt.specs.Bits.{here}
 use Rattle.hayro_ccitt.specs.Context.{Context, Held}
 use Rattle.hayro_ccitt.specs.PlainReading.{line_here}
 use Rattle.hayro_ccitt.proofs.DrawingLines.FullRows.{IsFull, line_by_full}
-use Rattle.hayro_ccitt.proofs.DrawingLines.UnreadRows.{isnt_repaired, line_breaks}
+use Rattle.hayro_ccitt.proofs.DrawingLines.UnreadRows.{draws_anywhere, isnt_repaired, line_breaks}
 use Rattle.hayro_ccitt.proofs.rows.read_row.Goals as goal
 
 pub returns-in_err-recover_from-clause-row : goal.returns-in_err-recover_from-clause-row
 returns-in_err-recover_from-clause-row g c =
     let held = c.args.ctx.now.held in
-    let start = here c.args.reader.now in
+    let line = line_here held.settings held.reference (here c.args.reader.now) in
+    let left = here c.recover_from.new.reader in
     let answer = err_from_is_err_and c.from_residual.result c.from_residual.ensures.1 in
-    let ends = isnt_repaired (line_here held.settings held.reference start) start (g.D.Decoder.step (g.D.Decoder.width c.args.decoder.now))
+    let draws = draws_anywhere line c.in-Err.error c.decode_line.new.ctx.held.front (here c.decode_line.new.reader) left c.in-Err.ensures.line in
+    let ends = isnt_repaired line (here c.args.reader.now) (g.D.Decoder.step (g.D.Decoder.width c.args.decoder.now))
     (record { meaning = g.D.Decoder.meaning c.args.decoder.now; refused = g.D.Decoder.has_refused c.args.decoder.now; refuses = g.D.Decoder.refuses c.args.decoder.now }) held c.decode_line.new.ctx.held
-    c.decode_line.ensures.held (here c.decode_line.new.reader) c.in-Err.error c.in_err-recover_from.field-0.0 c.in-Err.ensures.line
+    c.decode_line.ensures.held left c.in-Err.error c.in_err-recover_from.field-0.0 draws
     c.in_err-recover_from.ensures.only_memory c.in_err-recover_from.ensures.memory c.in_err-recover_from.ensures.otherwise in
-    rw (answer.1, answer.2, c.in_err-recover_from.ensures.unchanged.0, c.in_err-recover_from.ensures.unchanged.1) ends
+    rw (answer.1, answer.2, c.in_err-recover_from.ensures.unchanged) ends
 
 pub take_row-requires-clause-full : goal.take_row-requires-clause-full
 take_row-requires-clause-full g c =
@@ -50,4 +52,4 @@ returns-clause-stored g c =
     let words = found_here held.settings held.reference start in
     let few = changes_found held.settings.encoding held.settings.strict held.settings.columns held.reference start in
     let drawn = subst (λ (l : Line). length (changes (front_of l)) ≤ length words) c.in_default.ensures.line few in
-    on_ok_weaker c.take_row.result (λ taken. omega (arith, drawn, ap (λ (h : Held). length (changes h.reference)) taken)) c.take_row.ensures.taken
+    omega (arith, drawn, ap (λ (h : Held). length (changes h.reference)) c.in_default-take_row.ensures.taken)

@@ -1,15 +1,18 @@
-use Rattle.std.proofs.Common.{rules, ◌≡◌, ◌≤◌, ◌+◌, Result, Bool, true, false, length, Ok, Err, refl, sym, ap, ◌∙◌, subst, arith}
+use Rattle.std.proofs.Common.{rules, ◌≡◌, ◌≤◌, ◌+◌, Result, Bool, true, false, [], ◌∷◌, length, Ok, Err, refl, sym, ap, ◌∙◌, subst, arith}
 use Rattle.std.proofs.lemmas.Result.{err_from_is_err_and}
-use Rattle.std.proofs.lemmas.List.{length-drop}
+use Rattle.std.proofs.lemmas.List.{length-append, length-drop}
 use Rattle.hayro_ccitt.specs.declared.error.DecodeError.TheVariants.{InvalidCode}
 use Rattle.hayro_ccitt.specs.Answers.{IsFault}
-use Rattle.hayro_ccitt.specs.Bits.{here}
+use Rattle.hayro_ccitt.specs.Bits.{BitsAt, here}
 use Rattle.hayro_ccitt.specs.Context.{Held}
 use Rattle.hayro_ccitt.specs.PlainReading.{move_on, one_each, line_here, line_of_turn, gathered_from, gap_behind_row}
 use Rattle.hayro_ccitt.proofs.Readings.TurnsMoveOn.{left_to_read}
 use Rattle.hayro_ccitt.proofs.Readings.RunsOverRows.{comes_first, held_between}
 use Rattle.hayro_ccitt.proofs.Readings.RepairsCounted.{RepairsCounted, none_repaired, few_repaired}
-use Rattle.hayro_ccitt.proofs.Readings.RowsTaken.{from_line, by_rows_left, left_start, turn_fails, turn_misses, turn_ends, next_between, next_counted, next_repaired, last_repairs, fails_repaired, next_paid, next_shorter, counted_last, fails_paid, giving_up_is_paid, misses_paid, ends_paid, words_are}
+use Rattle.hayro_ccitt.proofs.Readings.RowsTaken.{from_line, by_rows_left, left_start, takes_is, goes_on, last_taken, turn_over, turn_fails, turn_misses, turn_ends, next_between, next_counted, next_repaired, last_repairs, fails_repaired, next_paid, next_shorter, counted_last, fails_paid, giving_up_is_paid, misses_paid, ends_paid, words_are}
+use Rattle.hayro_ccitt.specs.Repetition.{Reaches}
+use Rattle.hayro_ccitt.proofs.Readings.Repeated.{reaches_on}
+use Rattle.hayro_ccitt.proofs.Readings.RunsReach.{fails_at_line, fails_behind_row}
 use Rattle.hayro_ccitt.specs.Work.{CountsRun, most_given_up, most_from_line, words_of_turn}
 use Rattle.hayro_ccitt.specs.declared.error.DecodeError.{DecodeError}
 use Rattle.hayro_ccitt.specs.Decoding.{gap_said}
@@ -49,11 +52,12 @@ rows-init g c =
       subst (RepairsCounted settings c.args.reader.now.bits first first) (sym (ap (λ (h : Held). h.repairs.rows) c.requires.first))
           (none_repaired settings c.args.reader.now.bits first (by_rows_left settings c.requires.columns) refl),
       omega (arith, ap (λ (h : Held). h.repairs.rows) c.requires.first),
+      Reaches.stays first,
     )
 
 pub read_row-requires-clause-rows : goal.read_row-requires-clause-rows
 read_row-requires-clause-rows g c =
-    let (between, unsought, same, width, words, paid, repaired, few) = c.rows.invariant in
+    let (between, unsought, same, width, words, paid, repaired, few, reaches) = c.rows.invariant in
     let settings = c.args.ctx.now.held.settings in
     let sought = c.args.ctx.now.held.has_eols in
     let rest0 = here c.args.reader.now in
@@ -63,7 +67,7 @@ read_row-requires-clause-rows g c =
 
 pub rows-smaller : goal.rows-smaller
 rows-smaller g c =
-    let (between, unsought, same, width, words, paid, repaired, few) = c.rows.invariant in
+    let (between, unsought, same, width, words, paid, repaired, few, reaches) = c.rows.invariant in
     let settings = c.args.ctx.now.held.settings in
     let sought = c.args.ctx.now.held.has_eols in
     let rest0 = here c.args.reader.now in
@@ -74,7 +78,7 @@ rows-smaller g c =
 
 pub rows-preserved : goal.rows-preserved
 rows-preserved g c =
-    let (between, unsought, same, width, words, paid, repaired, few) = c.rows.invariant in
+    let (between, unsought, same, width, words, paid, repaired, few, reaches) = c.rows.invariant in
     let settings = c.args.ctx.now.held.settings in
     let sought = c.args.ctx.now.held.has_eols in
     let rest0 = here c.args.reader.now in
@@ -88,7 +92,7 @@ rows-preserved g c =
     c.in_ok-read_row.ensures.row c.pass_gap.new.ctx.held (here c.pass_gap.new.reader) c.pass_gap.result c.pass_gap.ensures.gap c.pass_gap.ensures.held is
     c.args.ctx.now.ticks c.rows.ctx.ticks c.pass_gap.new.ctx.ticks words (omega (arith, found, c.in_ok-read_row.ensures.at_least, c.pass_gap.ensures.counts)) in
     let gap = c.pass_gap.ensures.gap ∙ ap (λ (a : Result Bool DecodeError). gap_said a c.pass_gap.new.ctx.held.has_eols (here c.pass_gap.new.reader)) is in
-    let goes_on = next_paid settings c.requires.columns sought rest0 bits g.D.Decoder.step _ _ _ _ _ between _ width _ _ _
+    let paid_on = next_paid settings c.requires.columns sought rest0 bits g.D.Decoder.step _ _ _ _ _ between _ width _ _ _
     within c.args.ctx.now.ticks (most_given_up sought (length bits)) c.rows.ctx.ticks paid c.read_row.new.ctx.ticks c.in_ok-read_row.ensures.at_most c.in_ok-read_row.ensures.row
     c.pass_gap.new.ctx.ticks c.pass_gap.new.ctx.held (here c.pass_gap.new.reader) gap c.pass_gap.ensures.held c.in_ok-read_row.ensures.stored
     (λ kept. omega (arith, c.in_ok-pass_gap.ensures.work kept, few_tag_tests c.read_row.new.ctx.held.settings.encoding)) c.in_ok-pass_gap.ensures.work_given_up (giving_up_is_paid sought c.rows.ctx.held.has_eols (length bits) unsought) in
@@ -106,11 +110,14 @@ rows-preserved g c =
     let row = ap (λ (h : Held). h.has_eols) c.in_ok-read_row.ensures.row.taken.held in
     let none = λ (sought_not : sought ≡ false). (line_without_eols c.read_row.new.ctx.held.settings c.read_row.new.ctx.held.taken c.pass_gap.new.ctx.held.has_eols (here c.read_row.new.reader) (here c.pass_gap.new.reader)
     (ap (λ (b : Bool). gap_behind_row c.read_row.new.ctx.held.settings c.read_row.new.ctx.held.taken b (here c.read_row.new.reader)) (sym (row ∙ unsought sought_not)) ∙ gap)).0 in
-    (next, none, c.pass_gap.ensures.same_bits ∙ c.read_row.ensures.same_bits ∙ same, c.read_row.ensures.width ∙ width, counted, goes_on, told, fewer)
+    let reached = reaches_on (move_on settings) (from_line sought rest0) between.so_far next.so_far reaches
+    (goes_on settings c.requires.columns sought rest0 bits g.D.Decoder.step _ _ _ _ _ between _ width _ _ _
+    c.in_ok-read_row.ensures.row c.pass_gap.new.ctx.held (here c.pass_gap.new.reader) c.pass_gap.result c.pass_gap.ensures.gap c.pass_gap.ensures.held is) in
+    (next, none, c.pass_gap.ensures.same_bits ∙ c.read_row.ensures.same_bits ∙ same, c.read_row.ensures.width ∙ width, counted, paid_on, told, fewer, reached)
 
 pub returns-in_err-read_row-clause-rows : goal.returns-in_err-read_row-clause-rows
 returns-in_err-read_row-clause-rows g c =
-    let (between, unsought, same, width, words, paid, repaired, few) = c.rows.invariant in
+    let (between, unsought, same, width, words, paid, repaired, few, reaches) = c.rows.invariant in
     let settings = c.args.ctx.now.held.settings in
     let sought = c.args.ctx.now.held.has_eols in
     let rest0 = here c.args.reader.now in
@@ -141,7 +148,7 @@ last_counted : (g : Over) (c : After-pass_gap g) → c.pass_gap.new.ctx.ticks �
     → CountsRun (gathered_from (move_on c.args.ctx.now.held.settings) (one_each (words_of_turn c.args.ctx.now.held.settings)) (from_line c.args.ctx.now.held.has_eols (here c.args.reader.now))) c.pass_gap.new.ctx.held.taken c.args.ctx.now.ticks c.pass_gap.new.ctx.ticks
     (most_from_line c.args.ctx.now.held.has_eols (length c.args.reader.now.bits))
 last_counted g c most =
-    let (between, unsought, same, width, words, paid, repaired, few) = c.rows.invariant in
+    let (between, unsought, same, width, words, paid, repaired, few, reaches) = c.rows.invariant in
     let settings = c.args.ctx.now.held.settings in
     let sought = c.args.ctx.now.held.has_eols in
     let rest0 = here c.args.reader.now in
@@ -153,7 +160,7 @@ last_counted g c most =
 
 pub returns-in_err-pass_gap-clause-rows : goal.returns-in_err-pass_gap-clause-rows
 returns-in_err-pass_gap-clause-rows g c =
-    let (between, unsought, same, width, words, paid, repaired, few) = c.rows.invariant in
+    let (between, unsought, same, width, words, paid, repaired, few, reaches) = c.rows.invariant in
     let settings = c.args.ctx.now.held.settings in
     let sought = c.args.ctx.now.held.has_eols in
     let rest0 = here c.args.reader.now in
@@ -181,7 +188,7 @@ returns-in_err-pass_gap-clause-rows g c =
 
 pub returns-then-branch-clause-rows : goal.returns-then-branch-clause-rows
 returns-then-branch-clause-rows g c =
-    let (between, unsought, same, width, words, paid, repaired, few) = c.rows.invariant in
+    let (between, unsought, same, width, words, paid, repaired, few, reaches) = c.rows.invariant in
     let settings = c.args.ctx.now.held.settings in
     let sought = c.args.ctx.now.held.has_eols in
     let rest0 = here c.args.reader.now in
@@ -205,17 +212,47 @@ returns-then-branch-clause-rows g c =
           (omega (arith, c.in_ok-pass_gap.ensures.work (c.in_ok-pass_gap.ensures.given_up c.if-branch.true), few_tag_tests c.read_row.new.ctx.held.settings.encoding)));
     }
 
+-- a row that isn't accepted leaves the reader at its line
+pub returns-in_err-read_row-clause-fails : goal.returns-in_err-read_row-clause-fails
+returns-in_err-read_row-clause-fails g c =
+    let (between, unsought, same, width, words, paid, repaired, few, reaches) = c.rows.invariant in
+    let settings = c.args.ctx.now.held.settings in
+    let left = c.read_row.new.ctx.held in
+    let first = from_line c.args.ctx.now.held.has_eols (here c.args.reader.now) in
+    rw ((err_from_is_err_and c.from_residual.result c.from_residual.ensures.1).1)
+    (fails_at_line settings c.requires.columns first refl between.so_far reaches c.args.reader.now.bits left.taken (here c.read_row.new.reader)
+    (ap (λ (h : Held). h.taken) c.in_err-read_row.ensures.row.held ∙ ap (λ (h : Held). h.taken) between.held)
+    (ap (λ (at : BitsAt). here at) c.in_err-read_row.ensures.put_back ∙ between.here))
+
+-- a missing EOL leaves it behind the row
+pub returns-in_err-pass_gap-clause-fails : goal.returns-in_err-pass_gap-clause-fails
+returns-in_err-pass_gap-clause-fails g c =
+    let (between, unsought, same, width, words, paid, repaired, few, reaches) = c.rows.invariant in
+    let settings = c.args.ctx.now.held.settings in
+    let sought = c.args.ctx.now.held.has_eols in
+    let rest0 = here c.args.reader.now in
+    let bits = c.args.reader.now.bits in
+    let read = (takes_is settings c.requires.columns sought rest0 bits g.D.Decoder.step _ _ _ _ _ between _ width _ _ _ (Ok tt) c.in_ok-read_row.ensures.row).taken in
+    let ends = turn_over settings c.requires.columns sought rest0 bits g.D.Decoder.step _ _ _ _ _ between _ width _ _ _
+    c.in_ok-read_row.ensures.row c.pass_gap.new.ctx.held (here c.pass_gap.new.reader) c.pass_gap.result c.pass_gap.ensures.gap c.pass_gap.ensures.held
+    (Err c.in_err-pass_gap.field-0.0) (ap (λ (a : Result Bool DecodeError). gap_said a c.pass_gap.new.ctx.held.has_eols (here c.pass_gap.new.reader)) c.in_err-pass_gap.was) in
+    let more = last_taken settings c.requires.columns sought rest0 bits g.D.Decoder.step _ _ _ _ _ between _ width _ _ _
+    c.in_ok-read_row.ensures.row c.pass_gap.new.ctx.held (here c.pass_gap.new.reader) c.pass_gap.result c.pass_gap.ensures.gap c.pass_gap.ensures.held in
+    rw ((err_from_is_err_and c.from_residual-in_err-pass_gap.result c.from_residual-in_err-pass_gap.ensures.1).1)
+    (fails_behind_row settings c.requires.columns (from_line sought rest0) refl between.so_far reaches bits read.taken (here c.read_row.new.reader) (here c.pass_gap.new.reader) read.is _ ends
+    c.pass_gap.new.ctx.held.taken (more ∙ length-append between.so_far.rows (read.taken ∷ [])) c.in_err-pass_gap.ensures.stays)
+
 pub returns-in_err-read_row-clause-no_eols : goal.returns-in_err-read_row-clause-no_eols
 returns-in_err-read_row-clause-no_eols g c = λ none.
-    let (between, unsought, same, width, words, paid, repaired, few) = c.rows.invariant in
+    let (between, unsought, same, width, words, paid, repaired, few, reaches) = c.rows.invariant in
     ap (λ (h : Held). h.has_eols) c.in_err-read_row.ensures.row.held ∙ unsought none
 
 pub returns-in_err-pass_gap-clause-no_eols : goal.returns-in_err-pass_gap-clause-no_eols
 returns-in_err-pass_gap-clause-no_eols g c = λ none.
-    let (between, unsought, same, width, words, paid, repaired, few) = c.rows.invariant in
+    let (between, unsought, same, width, words, paid, repaired, few, reaches) = c.rows.invariant in
     c.in_err-pass_gap.ensures.kept ∙ ap (λ (h : Held). h.has_eols) c.in_ok-read_row.ensures.row.taken.held ∙ unsought none
 
 pub returns-then-branch-clause-no_eols : goal.returns-then-branch-clause-no_eols
 returns-then-branch-clause-no_eols g c = λ none.
-    let (between, unsought, same, width, words, paid, repaired, few) = c.rows.invariant in
+    let (between, unsought, same, width, words, paid, repaired, few, reaches) = c.rows.invariant in
     c.in_ok-pass_gap.ensures.given_up c.if-branch.true ∙ ap (λ (h : Held). h.has_eols) c.in_ok-read_row.ensures.row.taken.held ∙ unsought none

@@ -1,6 +1,7 @@
 use Rattle.std.proofs.Common.{◌≡◌, ◌≤◌, false, suc, cond, length}
 use Rattle.hayro_ccitt.specs.Bits.{here}
 use Rattle.hayro_ccitt.specs.PlainReading.{move_on, one_each, line_of_turn}
+use Rattle.hayro_ccitt.specs.Repetition.{Reaches}
 use Rattle.hayro_ccitt.specs.Rows.{changes}
 use Rattle.hayro_ccitt.specs.Work.{most_given_up, words_of_turn}
 use Rattle.hayro_ccitt.proofs.Work.RunsCount.{WordsCounted}
@@ -26,6 +27,7 @@ invariant-rows g l =
     × IsPaidUpTo l.fn.ctx.ticks (length l.fn.reader.bits) (most_given_up l.fn.ctx.held.has_eols (length l.fn.reader.bits)) l.fn.ctx.held.settings.encoding l.ctx.held.has_eols l.ctx.ticks (length (changes l.ctx.held.reference)) (here l.reader)
     × RepairsCounted l.fn.ctx.held.settings l.fn.reader.bits (from_line l.fn.ctx.held.has_eols (here l.fn.reader)) between.so_far l.ctx.held.repairs.rows
     × (l.ctx.held.repairs.rows ≤ l.ctx.held.taken)
+    × Reaches (move_on l.fn.ctx.held.settings) (from_line l.fn.ctx.held.has_eols (here l.fn.reader)) between.so_far
 
 -- the bits that are left, and one more while EOLs are sought
 abbrev pub decreases-rows : goal.decreases-rows

@@ -6,8 +6,8 @@ use Rattle.hayro_ccitt.specs.declared.settings.DecodeSettings.{DecodeSettings}
 use Rattle.hayro_ccitt.specs.Bits.{Bits, here}
 use Rattle.hayro_ccitt.specs.Context.{Held}
 use Rattle.hayro_ccitt.specs.Decoding.{gap_said}
-use Rattle.hayro_ccitt.specs.PlainReading.{gap_behind_row}
-use Rattle.hayro_ccitt.specs.RowsRead.{ComesToLine, Stands, line_starts, read_so_far, start_after, stand_after}
+use Rattle.hayro_ccitt.specs.PlainReading.{gap_behind_row, line_starts}
+use Rattle.hayro_ccitt.specs.RowsRead.{ComesToLine, Stands, read_so_far, start_after, stand_after}
 use Rattle.hayro_ccitt.specs.RowsRead.{IsStanding, seen}
 use Rattle.hayro_ccitt.proofs.Readings.RowByRow.{starts_behind, behind_row_stands, repairs_stay, gap_stands, comes_to_line}
 use Rattle.hayro_ccitt.proofs.row_reader.RowState.come_to_line.Goals as goal
