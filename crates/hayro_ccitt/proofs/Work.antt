@@ -1,3 +1,4 @@
+pub mod CallsPaid
 pub mod ChangesStored
 pub mod EolsPassed
 pub mod RunsCount

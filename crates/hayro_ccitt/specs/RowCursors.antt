@@ -6,10 +6,10 @@ use Rattle.hayro_ccitt.specs.declared.row_cursor.RowCursor.TheInside.{Inside}
 use Rattle.hayro_ccitt.specs.declared.row_reader.Stand.{Stand}
 use Rattle.hayro_ccitt.specs.Bits.{Bits}
 use Rattle.hayro_ccitt.specs.Context.{Held}
-use Rattle.hayro_ccitt.specs.RowsRead.{RowsRead, Stands, RepairsAreCounted, read_so_far}
+use Rattle.hayro_ccitt.specs.RowsRead.{RowsRead, Stands, RepairsAreCounted, WorkIsPaid, read_so_far}
 
 -- what is kept of a reading whose data is elsewhere: the context, the order of the bits, the offset of the next bit, that of the
--- last row's line and its fault where it was repaired, and where the reading is
+-- last row's line and its fault where it was repaired, where the reading is, and the work of all calls
 pub record Paused : Type 0 where
   pub held : Held
   pub order : BitOrder
@@ -17,6 +17,7 @@ pub record Paused : Type 0 where
   pub line_start : ℕ
   pub damage : Option DecodeError
   pub stand : Stand
+  pub ticks : ℕ
 
 abbrev pub paused_of : Inside → Paused
 paused_of r = record {
@@ -26,14 +27,16 @@ paused_of r = record {
   line_start = r.rows.started_at;
   damage = r.rows.damage;
   stand = r.rows.stand;
+  ticks = r.rows.ctx.ticks;
 }
 
 -- what was read of these bits
 abbrev pub rows_over : Bits → Paused → RowsRead
-rows_over bits paused = read_so_far paused.held (record { bits = bits; place = paused.place }) paused.line_start paused.damage paused.stand
+rows_over bits paused = read_so_far paused.held paused.ticks (record { bits = bits; place = paused.place }) paused.line_start paused.damage paused.stand
 
 -- It is a reading of these bits: its rows so far are those of the plain reading.
 pub record IsReadingOf (bits : Bits) (paused : Paused) : Type 0 where
   pub within : paused.place ≤ length bits
   pub stands : Stands paused.stand paused.held.settings bits paused.held paused.place
   pub repairs : RepairsAreCounted paused.held.settings bits paused.held
+  pub work : WorkIsPaid paused.stand paused.held.settings bits paused.held paused.place paused.ticks

@@ -1,5 +1,5 @@
 -- Rows one at a time: what a reader of rows has read, and what a call leaves that reads the next row.
-use Rattle.std.specs.Prelude.{sum_by, take, ◌==◌, if◌then◌else◌, ◌≡◌, ◌≢◌, ◌≤◌, ◌<◌, ◌+◌, ◌-◌, ◌/◌, ℕ, Bool, true, false, not, drop, List, [], length, get_or, Option, None, Some, Result, Ok, Err, OnErr, IfOk, IfErr}
+use Rattle.std.specs.Prelude.{sum_by, take, ◌==◌, if◌then◌else◌, ◌≡◌, ◌≢◌, ◌≤◌, ◌<◌, ◌+◌, ◌*◌, ◌-◌, ◌/◌, ℕ, Bool, true, false, not, drop, List, [], length, get_or, Option, None, Some, Result, Ok, Err, OnErr, IfOk, IfErr}
 use Rattle.hayro_ccitt.specs.declared.codes.Color.TheVariants.{White}
 use Rattle.hayro_ccitt.specs.declared.error.DecodeError.{DecodeError}
 use Rattle.hayro_ccitt.specs.declared.error.DecodeError.TheVariants.{OutOfMemory, Refused}
@@ -12,9 +12,10 @@ use Rattle.hayro_ccitt.specs.Answers.{IsFault, PaintsBlack}
 use Rattle.hayro_ccitt.specs.Bits.{Bits, BitsAt}
 use Rattle.hayro_ccitt.specs.Context.{Held, Repairs}
 use Rattle.hayro_ccitt.specs.Damage.{fault_in, repairs_by_line}
-use Rattle.hayro_ccitt.specs.PlainReading.{Progress, row_before, with_row, first_gap, move_on, row_of_line, line_of_turn, plain, lines_of, line_starts}
+use Rattle.hayro_ccitt.specs.PlainReading.{Progress, row_before, with_row, first_gap, move_on, row_of_line, line_here, line_of_turn, plain, lines_of, line_starts}
 use Rattle.hayro_ccitt.specs.Repetition.{Turn, Reaches}
-use Rattle.hayro_ccitt.specs.Rows.{Row}
+use Rattle.hayro_ccitt.specs.Rows.{Row, changes}
+use Rattle.hayro_ccitt.specs.Work.{IsPaidUpTo, found_here, most_counted, words_of}
 
 -- ---- What is visible of a reader of rows
 
@@ -33,7 +34,7 @@ is_at_line AtEnd = false
 is_at_line (AtFault error) = false
 
 -- what is read and with which settings, the number of rows read, the last one, the offset of its line and its fault if it was
--- repaired, how the reading has ended, whether there is a line here, and the offset of the next bit
+-- repaired, how the reading has ended, whether there is a line here, the offset of the next bit, and the work of all calls
 pub record RowsRead : Type 0 where
   pub settings : DecodeSettings
   pub bits : Bits
@@ -44,9 +45,10 @@ pub record RowsRead : Type 0 where
   pub end : Option (Result (Unit {0}) DecodeError)
   pub at_line : Bool
   pub place : ℕ
+  pub ticks : ℕ
 
-abbrev pub read_so_far : Held → BitsAt → ℕ → Option DecodeError → Stand → RowsRead
-read_so_far held reader line_start damage stand = record {
+abbrev pub read_so_far : Held → ℕ → BitsAt → ℕ → Option DecodeError → Stand → RowsRead
+read_so_far held ticks reader line_start damage stand = record {
   settings = held.settings;
   bits = reader.bits;
   taken = held.taken;
@@ -56,11 +58,12 @@ read_so_far held reader line_start damage stand = record {
   end = ended stand;
   at_line = is_at_line stand;
   place = reader.place;
+  ticks = ticks;
 }
 
 -- what a reading keeps between two rows, and the bits from here on
 abbrev pub seen : RowState → BitsAt → RowsRead
-seen rows reader = read_so_far rows.ctx.held reader rows.started_at rows.damage rows.stand
+seen rows reader = read_so_far rows.ctx.held rows.ctx.ticks reader rows.started_at rows.damage rows.stand
 
 abbrev pub rows_read_of : Inside → RowsRead
 rows_read_of r = seen r.rows r.reader
@@ -104,6 +107,8 @@ pub record HasFailed (settings : DecodeSettings) (bits : Bits) (taken : ℕ) (er
 pub record ReadsNext (old new : RowsRead) (result : Result Bool DecodeError) : Type 0 where
   pub settings : new.settings ≡ old.settings
   pub bits : new.bits ≡ old.bits
+  -- its work is added to that of the calls before
+  pub counts : old.ticks ≤ new.ticks
   -- a row was read
   pub more : result ≡ Ok true → (new.end ≡ None) × (new.taken ≡ old.taken + 1) × (new.taken ≤ length (plain old.settings old.bits).rows)
   pub row : result ≡ Ok true → new.row ≡ get_or (plain old.settings old.bits).rows old.taken []
@@ -123,6 +128,7 @@ pub record ReadsNext (old new : RowsRead) (result : Result Bool DecodeError) : T
 pub record ComesToLine (old new : RowsRead) (result : Result Bool DecodeError) : Type 0 where
   pub settings : new.settings ≡ old.settings
   pub bits : new.bits ≡ old.bits
+  pub counts : old.ticks ≤ new.ticks
   pub taken : new.taken ≡ old.taken
   pub line : result ≡ Ok true → new.at_line ≡ true
   pub unended : result ≡ Ok true → new.end ≡ None
@@ -188,11 +194,45 @@ pub record RepairsAreCounted (settings : DecodeSettings) (bits : Bits) (held : H
   pub few : held.repairs.rows ≤ held.taken
   pub counted : held.repairs.rows ≡ sum_by length (take held.taken (repairs_by_line settings bits))
 
+-- What was counted up to a line is paid, from a first line before which this much was counted; where EOLs are sought, what
+-- ceasing to seek them costs is left.
+pub record PaidAtLine (settings : DecodeSettings) (bits : Bits) (held : Held) (rest : Bits) (ticks : ℕ) : Type 0 where
+  pub begun : ℕ
+  pub giving_up : ℕ
+  pub enough : begun + (16 * length bits + 6 + giving_up) ≤ most_counted settings.encoding (length bits)
+  pub sought : held.has_eols ≡ true → 8 * length bits + 8 ≤ giving_up
+  pub within : length rest ≤ length bits
+  pub paid : IsPaidUpTo begun (length bits) giving_up settings.encoding held.has_eols ticks (length (changes held.reference)) rest
+
+-- What was counted up to the line of the last row is paid, and that line counted as much as it may.
+pub record PaidBehindRow (settings : DecodeSettings) (bits : Bits) (held : Held) (rest : Bits) (ticks : ℕ) : Type 0 where
+  pub before : Held
+  pub start : Bits
+  pub ticks_before : ℕ
+  pub at_line : PaidAtLine settings bits before start ticks_before
+  pub kept : held.has_eols ≡ before.has_eols
+  pub row_is : row_of_line settings before.has_eols start (line_here settings before.reference start) ≡ Ok (held.reference, rest)
+  pub line : ticks ≤ ticks_before + 4 * length (found_here settings before.reference start) + 2 + length (changes before.reference)
+  pub stored : length (changes held.reference) ≤ length (found_here settings before.reference start) + 1
+
+-- the account of a reader of rows
+abbrev pub IsPaid : Stand → DecodeSettings → Bits → Held → ℕ → ℕ → Type 0
+IsPaid AtLine settings bits held place ticks = PaidAtLine settings bits held (drop place bits) ticks
+IsPaid BehindRow settings bits held place ticks = PaidBehindRow settings bits held (drop place bits) ticks
+IsPaid AtEnd settings bits held place ticks = ticks ≤ most_counted settings.encoding (length bits)
+IsPaid (AtFault error) settings bits held place ticks = ticks ≤ most_counted settings.encoding (length bits)
+
+-- the words of the lines of the rows that were read were counted, and what was counted is paid
+pub record WorkIsPaid (stand : Stand) (settings : DecodeSettings) (bits : Bits) (held : Held) (place ticks : ℕ) : Type 0 where
+  pub words : sum_by length (take held.taken (words_of settings bits)) ≤ ticks
+  pub paid : IsPaid stand settings bits held place ticks
+
 -- it is there by the plain reading of these bits
 abbrev pub IsStanding : RowState → BitsAt → Type 0
 IsStanding rows reader =
     Stands rows.stand rows.ctx.held.settings reader.bits rows.ctx.held reader.place
     × RepairsAreCounted rows.ctx.held.settings reader.bits rows.ctx.held
+    × WorkIsPaid rows.stand rows.ctx.held.settings reader.bits rows.ctx.held reader.place rows.ctx.ticks
 
 -- at the first bit of a line
 abbrev pub IsStandingAtLine : RowState → BitsAt → Type 0

@@ -7,7 +7,7 @@ use Rattle.hayro_ccitt.specs.Bits.{Bits}
 use Rattle.hayro_ccitt.specs.Lines.{found_1d, line_found}
 use Rattle.hayro_ccitt.specs.PlainReading.{Progress, row_before, gathered_of}
 use Rattle.hayro_ccitt.specs.Rows.{Row}
-use Rattle.hayro_ccitt.specs.Ticks.{looked}
+use Rattle.hayro_ccitt.specs.Ticks.{looked, looked_ahead}
 
 -- ---- auxiliary: the words that the lines of a reading find, line by line
 
@@ -58,3 +58,11 @@ pub record CountsWork (settings : DecodeSettings) (bits : Bits) (taken ticks : �
 abbrev pub most_for_body : DecodeSettings → Bits → ℕ → ℕ → ℕ
 most_for_body settings bits from to =
     4 * (to - from) + 5 * looked (drop to bits) + length (found_1d settings.strict settings.columns (drop from bits)) + 13
+
+-- ---- The account between two rows: not part of the trusted specification
+
+-- Of data of this many bits: what was counted, and the changes of the reference row, are paid by the bits that were
+-- consumed, by the zeros ahead, and if EOLs aren't sought by what ceasing to seek them may have cost.
+abbrev pub IsPaidUpTo : ℕ → ℕ → ℕ → EncodingMode → Bool → ℕ → ℕ → Bits → Type 0
+IsPaidUpTo begun bits giving_up encoding has_eols ticks changes here =
+    ticks + changes + 16 * length here ≤ begun + 16 * bits + looked_ahead encoding here + 1 + (if has_eols then 0 else giving_up)

@@ -3,6 +3,7 @@
 ghost use Rattle.std.specs.Prelude.{◌≡◌, ◌+◌, ◌/◌, None, Some, IfOk, IsOkUnless, Result, length};
 ghost use Rattle.hayro_ccitt.specs.Bits.{BitsFit, bits_in};
 ghost use Rattle.hayro_ccitt.specs.Rows.{AreChanges, changes};
+ghost use Rattle.hayro_ccitt.specs.Work.{CountsWork};
 ghost use Rattle.hayro_ccitt.specs.RowsRead.{ReadsNext, at_end_of_rows, ended};
 ghost use Rattle.hayro_ccitt.specs.RowCursors.{IsReadingOf, rows_over};
 
@@ -51,6 +52,7 @@ impl RowCursor {
         ensures settings { IfOk result (λ rows. rows.held.settings ≡ settings) }
         ensures order { IfOk result (λ rows. rows.order ≡ order) }
         ensures none_read { IfOk result (λ rows. rows.held.taken ≡ 0) }
+        ensures work { IfOk result (λ rows. CountsWork settings (bits_in order «data».now) rows.held.taken rows.ticks) }
         ensures only_memory { IsOkUnless result DecodeError.OutOfMemory }
     {
         let mut ctx = DecoderContext::new(alloc, settings)?;
@@ -88,7 +90,8 @@ impl RowCursor {
     }
 
     /// Reads the next row of the data, and returns whether there was one; its changes are those of [`row`](RowCursor::row). At the
-    /// end of the image it returns `Ok(false)`, and so does each further call.
+    /// end of the image it returns `Ok(false)`, and so does each further call. The work of all calls together has the bound
+    /// of [`decode`](crate::decode).
     ///
     /// # Errors
     ///
@@ -99,6 +102,8 @@ impl RowCursor {
         ensures reads { IsReadingOf (bits_in self.old.order «data».now) self.old → ended self.old.stand ≡ None → ReadsNext
             (rows_over (bits_in self.old.order «data».now) self.old) (rows_over (bits_in self.old.order «data».now) self.new) result }
         ensures reading { IsReadingOf (bits_in self.old.order «data».now) self.old → IsReadingOf (bits_in self.old.order «data».now) self.new }
+        ensures work { IsReadingOf (bits_in self.old.order «data».now) self.old
+            → CountsWork self.new.held.settings (bits_in self.old.order «data».now) self.new.held.taken self.new.ticks }
         ensures ended { (end : Result (Unit {0}) DecodeError) → ended self.old.stand ≡ Some end
             → (self.new ≡ self.old) × (result ≡ at_end_of_rows end) }
         ensures settings { self.new.held.settings ≡ self.old.held.settings }

@@ -5,7 +5,8 @@ ghost use Rattle.hayro_ccitt.specs.Bits.{BitsFit, bits_in};
 ghost use Rattle.hayro_ccitt.specs.Context.{fresh};
 ghost use Rattle.hayro_ccitt.specs.Rows.{changes};
 ghost use Rattle.hayro_ccitt.specs.Damage.{repairs_by_line};
-ghost use Rattle.hayro_ccitt.specs.RowsRead.{damage_since, start_after, Stands, ComesToLine, ReadsNext, stand_after, line_after, is_at_line, at_end_of_rows, ended, seen, IsStanding, IsStandingAtLine};
+ghost use Rattle.hayro_ccitt.specs.Work.{CountsWork};
+ghost use Rattle.hayro_ccitt.specs.RowsRead.{damage_since, start_after, Stands, IsPaid, ComesToLine, ReadsNext, stand_after, line_after, is_at_line, at_end_of_rows, ended, seen, IsStanding, IsStandingAtLine};
 
 use crate::bit_reader::{BitOrder, BitReader};
 use crate::context::DecoderContext;
@@ -107,11 +108,13 @@ fn is_at_line(stand: Stand) -> bool
 pub(crate) fn first_stand(ctx: &mut DecoderContext, reader: &mut BitReader<'_>) -> Stand
     requires fresh { ctx.old.held ≡ fresh ctx.old.held.settings }
     requires start { reader.old.place ≡ 0 }
+    requires uncounted { ctx.old.ticks ≡ 0 }
     ensures none_taken { ctx.new.held.taken ≡ 0 }
     ensures none_repaired { ctx.new.held.repairs.rows ≡ 0 }
     ensures settings { ctx.new.held.settings ≡ ctx.old.held.settings }
     ensures same_bits { reader.new.bits ≡ reader.old.bits }
     ensures stands { Stands result ctx.old.held.settings reader.old.bits ctx.new.held reader.new.place }
+    ensures paid { IsPaid result ctx.old.held.settings reader.old.bits ctx.new.held reader.new.place ctx.new.ticks }
 {
     if ctx.settings().columns == 0 {
         return Stand::AtEnd;
@@ -267,6 +270,7 @@ impl<'a> RowReader<'a> {
         ensures settings { IfOk result (λ rows. rows.settings ≡ settings) }
         ensures bits { IfOk result (λ rows. rows.bits ≡ bits_in order «data».now) }
         ensures none_read { IfOk result (λ rows. rows.taken ≡ 0) }
+        ensures work { IfOk result (λ rows. CountsWork rows.settings rows.bits rows.taken rows.ticks) }
         ensures only_memory { IsOkUnless result DecodeError.OutOfMemory }
     {
         let mut ctx = DecoderContext::new(alloc, settings)?;
@@ -287,13 +291,15 @@ impl<'a> RowReader<'a> {
     }
 
     /// Reads the next row, and returns whether there was one; its changes are those of [`row`](RowReader::row). At the end of
-    /// the image it returns `Ok(false)`, and so does each further call.
+    /// the image it returns `Ok(false)`, and so does each further call. The work of all calls together has the bound of
+    /// [`decode`](crate::decode): at most 128 ticks a bit, and 256 more.
     ///
     /// # Errors
     ///
     /// Those of [`decode`](crate::decode), except `Refused`. After an error each further call returns the same error.
     pub fn next_row(&mut self) -> Result<bool>
         ensures reads { ReadsNext self.old self.new result }
+        ensures work { CountsWork self.new.settings self.new.bits self.new.taken self.new.ticks }
         ensures ended { (end : Result (Unit {0}) DecodeError) → self.old.end ≡ Some end
             → (self.new ≡ self.old) × (result ≡ at_end_of_rows end) }
     {

@@ -16,6 +16,7 @@ use Rattle.hayro_ccitt.specs.Lines.{Line}
 use Rattle.hayro_ccitt.specs.PlainReading.{Progress, Ending, Reading, Move, Gap, row_before, with_row, at_gap, gap_behind_row, row_of_line, add_row, line_here, line_of_turn, move_on, first_gap, first_line, at_front, ending_from, ending_behind, one_each, gathered_from, gathered_behind, gathered_of, bytes_before, whole_reading, plain, lines_of, line_starts, start_of_turn}
 use Rattle.hayro_ccitt.specs.Repetition.{Turn, Reaches}
 use Rattle.hayro_ccitt.specs.Rows.{Row}
+use Rattle.hayro_ccitt.specs.Work.{found_here, words_of, words_of_turn}
 use Rattle.hayro_ccitt.specs.declared.row_reader.Stand.{Stand}
 use Rattle.hayro_ccitt.specs.declared.row_reader.Stand.TheVariants.{AtLine, BehindRow, AtEnd, AtFault}
 use Rattle.hayro_ccitt.specs.declared.settings.EncodingMode.{EncodingMode}
@@ -117,13 +118,28 @@ module _ (settings : DecodeSettings) (wide : 0 < settings.columns) (bits : Bits)
           (ap (λ (n : ℕ). slice_get by_line n) taken ∙ ap (λ (xs : List (List Damaged)). slice_get xs (length so_far.rows)) repairs_are
           ∙ comes_line (move_on settings) (one_each (repaired_by_turn settings bits)) left_to_read (by_rows_left settings wide) first none_first so_far (comes (repaired_by_turn settings bits)) repaired refl)
 
+      -- what is counted of each line, with that of its line
+      gathered_more : {A : Type 0} (counted : List (List A)) (gives : Progress → List A) → counted ≡ gathered_from (move_on settings) (one_each gives) first
+          → sum_by length (take (rows + 1) counted) ≡ sum_by length (take rows counted) + length (gives so_far)
+      gathered_more {A = A} counted gives are =
+          let on = ap (λ (n : ℕ). drop n counted) taken ∙ ap (λ (xs : List (List A)). drop (length so_far.rows) xs) are
+          ∙ lines_on (move_on settings) (one_each gives) left_to_read (by_rows_left settings wide) first none_first so_far (comes gives) (gives so_far) refl in
+          let next : rows + 1 ≡ suc rows = omega arith in
+          ap (λ (n : ℕ). sum_by length (take n counted)) next ∙ sum_more counted rows (gives so_far) _ on
+
       -- with it one more line is counted
       pub repaired_more : sum_by length (take (rows + 1) by_line) ≡ sum_by length (take rows by_line) + length repaired
-      repaired_more =
-          let on = ap (λ (n : ℕ). drop n by_line) taken ∙ ap (λ (xs : List (List Damaged)). drop (length so_far.rows) xs) repairs_are
-          ∙ lines_on (move_on settings) (one_each (repaired_by_turn settings bits)) left_to_read (by_rows_left settings wide) first none_first so_far (comes (repaired_by_turn settings bits)) repaired refl in
-          let next : rows + 1 ≡ suc rows = omega arith in
-          ap (λ (n : ℕ). sum_by length (take n by_line)) next ∙ sum_more by_line rows repaired _ on
+      repaired_more = gathered_more by_line (repaired_by_turn settings bits) repairs_are
+
+      -- its words
+      words_are : words_of settings bits ≡ gathered_from (move_on settings) (one_each (words_of_turn settings)) first
+      words_are =
+          cond-false (eqb settings.columns 0) _ _ (some_columns settings.columns (λ none. absurd (omega (arith, wide, none))))
+          ∙ gathered_is (words_of_turn settings)
+
+      pub words_more : sum_by length (take (rows + 1) (words_of settings bits))
+          ≡ sum_by length (take rows (words_of settings bits)) + length (words_of_turn settings so_far)
+      words_more = gathered_more (words_of settings bits) (words_of_turn settings) words_are
 
     -- a driver whose sink keeps nothing is there
     abbrev pub between_of : (repairs : Repairs) → Between (move_on settings) (one_each (line_of_turn settings)) left_to_read first settings no_step nothing_kept nothing_kept (context_at settings so_far repairs) so_far.rest
@@ -198,6 +214,8 @@ pub record IsRead (settings : DecodeSettings) (bits : Bits) (held new : Held) (h
   pub line_start : length bits - length here ≡ get_or (line_starts settings bits) held.taken 0
   pub damage : damage_since new.repairs held.repairs.rows ≡ fault_in (get_or (repairs_by_line settings bits) held.taken [])
   pub few : held.repairs.rows ≤ held.taken → new.repairs.rows ≤ new.taken
+  pub words : sum_by length (take new.taken (words_of settings bits))
+      ≡ sum_by length (take held.taken (words_of settings bits)) + length (found_here settings held.reference here)
   pub counted : held.repairs.rows ≡ sum_by length (take held.taken (repairs_by_line settings bits)) → new.repairs.rows ≡ sum_by length (take new.taken (repairs_by_line settings bits))
 
 pub is_read : (settings : DecodeSettings) (bits : Bits) (held : Held) (here : Bits) → StandsAtLine settings bits held here → (new : Held) (left_over : Bits)
@@ -214,6 +232,9 @@ is_read settings bits held here stands new left_over takes =
     let offset = length bits - length so_far.rest in
     let one = repaired_counts settings so_far.has_eols (length so_far.rows) offset so_far.rest line taken.taken left_over held.repairs taken.is in
     let there = row_is_there settings stands.wide bits stands.first stands.begins so_far stands.reaches taken.taken left_over taken.is in
+    let found : length (found_here settings held.reference here) ≡ length (words_of_turn settings so_far)
+    = ap (λ (h : Held). length (found_here settings h.reference here)) stands.held_is
+    ∙ ap (λ (x : Bits). length (found_here settings (row_before settings.columns so_far.rows) x)) stands.rest_is in
     record {
       stands = record {
         wide = stands.wide;
@@ -238,6 +259,9 @@ is_read settings bits held here stands new left_over takes =
           ∙ repaired_told settings so_far.has_eols (length so_far.rows) offset so_far.rest line taken.taken left_over held.repairs taken.is
           ∙ sym (ap fault_in (repaired_is settings stands.wide bits stands.first stands.begins so_far stands.reaches held.taken before));
       few = λ so. omega (arith, so, before, after, one, ap (λ (r : Repairs). r.rows) repaired, repaired_once settings so_far.has_eols (length so_far.rows) offset line);
+      words = ap (λ (n : ℕ). sum_by length (take n (words_of settings bits))) (after ∙ ap (λ (n : ℕ). n + 1) (sym before))
+          ∙ words_more settings stands.wide bits stands.first stands.begins so_far stands.reaches held.taken before
+          ∙ ap (λ (n : ℕ). sum_by length (take held.taken (words_of settings bits)) + n) (sym found);
       counted = λ so. omega (
         arith,
         so,
@@ -414,12 +438,14 @@ repairs_stay settings given bits read held last same are taken repairs counted =
 }
 
 -- the result of a call that passes a gap
-pub comes_to_line : (old : RowsRead) (last : Held) (at : BitsAt) (n : ℕ) (damage : Option DecodeError) (answer : Result Bool DecodeError) → last.settings ≡ old.settings → at.bits ≡ old.bits → last.taken ≡ old.taken
+pub comes_to_line : (old : RowsRead) (last : Held) (ticks : ℕ) (at : BitsAt) (n : ℕ) (damage : Option DecodeError) (answer : Result Bool DecodeError)
+    → last.settings ≡ old.settings → at.bits ≡ old.bits → last.taken ≡ old.taken → old.ticks ≤ ticks
     → (last.reference ≡ old.row) × (damage ≡ old.damage) → IfOk answer (λ over. n ≡ old.line_start)
     → Stands (stand_after answer) old.settings old.bits last at.place → OnErr answer (n ≡ get_or (line_starts old.settings old.bits) old.taken at.place)
-    → ComesToLine old (read_so_far last at n damage (stand_after answer)) (line_after answer)
-comes_to_line old last at n damage (Ok true) settings bits taken row begun stands start =
+    → ComesToLine old (read_so_far last ticks at n damage (stand_after answer)) (line_after answer)
+comes_to_line old last ticks at n damage (Ok true) settings bits taken counts row begun stands start =
     record {
+      counts = counts;
       last = row;
       last_start = begun;
       fault_start = tt;
@@ -431,8 +457,9 @@ comes_to_line old last at n damage (Ok true) settings bits taken row begun stand
       end = λ e. (refl, stands);
       error = tt;
     }
-comes_to_line old last at n damage (Ok false) settings bits taken row begun stands start =
+comes_to_line old last ticks at n damage (Ok false) settings bits taken counts row begun stands start =
     record {
+      counts = counts;
       last = row;
       last_start = begun;
       fault_start = tt;
@@ -444,8 +471,9 @@ comes_to_line old last at n damage (Ok false) settings bits taken row begun stan
       end = λ e. cc;
       error = tt;
     }
-comes_to_line old last at n damage (Err error) settings bits taken row begun stands start =
+comes_to_line old last ticks at n damage (Err error) settings bits taken counts row begun stands start =
     record {
+      counts = counts;
       last = row;
       last_start = tt;
       fault_start = start;
@@ -473,6 +501,7 @@ reads_on old mid new result comes reads =
     record {
       settings = reads.settings ∙ comes.settings;
       bits = reads.bits ∙ comes.bits;
+      counts = omega (arith, comes.counts, reads.counts);
       more = at (λ s b n. result ≡ Ok true
           → (new.end ≡ None) × (new.taken ≡ n + 1) × (new.taken ≤ length (plain s b).rows)) reads.more;
       row = at (λ s b n. result ≡ Ok true → new.row ≡ get_or (plain s b).rows n []) reads.row;

@@ -12,11 +12,11 @@ use Rattle.hayro_ccitt.specs.Decoding.{SinkState, TakesOneRow, RowIsTaken, Count
 use Rattle.hayro_ccitt.specs.PlainReading.{Progress, Ending, Gap, gap_behind_row, line_here, line_of_turn, row_of_line, row_before, at_gap, add_row, pass_gap, ends_with, with_row, move_on, one_each, ending_from, gathered_from}
 use Rattle.hayro_ccitt.specs.Repetition.{Turn}
 use Rattle.hayro_ccitt.specs.Rows.{Row, changes}
-use Rattle.hayro_ccitt.specs.Work.{CountsRun, found_here, most_counted, most_given_up, words_of_turn}
+use Rattle.hayro_ccitt.specs.Work.{CountsRun, IsPaidUpTo, found_here, most_counted, most_given_up, words_of_turn}
 use Rattle.hayro_ccitt.specs.Ticks.{looked_ahead}
 use Rattle.hayro_ccitt.specs.declared.settings.EncodingMode.{EncodingMode}
 use Rattle.hayro_ccitt.specs.declared.settings.EncodingMode.TheVariants.{Group4, Group3_1D, Group3_2D}
-use Rattle.hayro_ccitt.proofs.Work.TurnsPaid.{IsPaidUpTo, line_ends, missing_ends, gap_ends, turn_goes_on}
+use Rattle.hayro_ccitt.proofs.Work.TurnsPaid.{line_ends, missing_ends, gap_ends, turn_goes_on}
 use Rattle.hayro_ccitt.proofs.Work.RunsCount.{WordsCounted, counted_next, counted_ends_behind}
 use Rattle.hayro_ccitt.proofs.Readings.TurnsAddRows.{Adds, Keeps, after_row_keeps, keeps_adds, move_adds}
 use Rattle.hayro_ccitt.proofs.Readings.TurnsMoveOn.{left_to_read, left_below, move_shrinks}

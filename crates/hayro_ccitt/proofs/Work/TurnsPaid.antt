@@ -10,7 +10,7 @@ use Rattle.hayro_ccitt.specs.Lines.{Line, line_found}
 use Rattle.hayro_ccitt.specs.PlainReading.{Gap, aligned, behind_row, gap_behind_row, line_by, line_here, row_of_line}
 use Rattle.hayro_ccitt.specs.Rows.{Row, repaired}
 use Rattle.hayro_ccitt.specs.Ticks.{looked_ahead}
-use Rattle.hayro_ccitt.specs.Work.{found_here}
+use Rattle.hayro_ccitt.specs.Work.{IsPaidUpTo, found_here}
 use Rattle.hayro_ccitt.proofs.Work.EolsPassed.{length-within, line_past_eol, line_given_up, line_behind_shorter, line_without_eols, looked_ahead_most, looked_ahead_to_eol}
 use Rattle.hayro_ccitt.proofs.Work.WordsPay.{line_1d_paid, line_2d_paid, either_shorter, found_within, found_before_eol}
 
@@ -113,12 +113,6 @@ turn_pays settings h taken reference here rest next row wide is gap = by (line_h
         }
 
 -- ---- The account
-
--- Between two rows, of data of this many bits: what was counted, and the changes of the reference row, are paid by the
--- bits that were consumed, by the zeros ahead, and if EOLs aren't sought by what ceasing to seek them may have cost.
-abbrev pub IsPaidUpTo : ℕ → ℕ → ℕ → EncodingMode → Bool → ℕ → ℕ → Bits → Type 0
-IsPaidUpTo begun bits giving_up encoding has_eols ticks changes here =
-    ticks + changes + 16 * length here ≤ begun + 16 * bits + looked_ahead encoding here + 1 + cond has_eols 0 giving_up
 
 module _ (settings : DecodeSettings) (wide : 0 < settings.columns) (begun bits giving_up : ℕ) (reference : Row) (h : Bool) (here : Bits) (within : length here ≤ bits)
     (ticks changes : ℕ) (paid : IsPaidUpTo begun bits giving_up settings.encoding h ticks changes here) (now : ℕ)

@@ -1,5 +1,6 @@
 use Rattle.std.proofs.Common.{◌≡◌, ◌≢◌, ◌∙◌, ◌<◌, ℕ, false, inl, inr, length, drop, ap, sym, subst, arith}
 use Rattle.std.proofs.lemmas.List.{length-drop}
+use Rattle.std.proofs.lemmas.Result.{IfOk-weaker, on_err_weaker, on_ok_weaker}
 use Rattle.hayro_ccitt.specs.declared.row_reader.Stand.{Stand}
 use Rattle.hayro_ccitt.specs.declared.settings.DecodeSettings.{DecodeSettings}
 use Rattle.hayro_ccitt.specs.declared.settings.EncodingMode.TheVariants.{Group4}
@@ -8,8 +9,12 @@ use Rattle.hayro_ccitt.specs.Context.{Held}
 use Rattle.hayro_ccitt.specs.Decoding.{gap_said}
 use Rattle.hayro_ccitt.specs.EndOfLine.{all_eols}
 use Rattle.hayro_ccitt.specs.PlainReading.{gap_behind_row, first_line}
-use Rattle.hayro_ccitt.specs.RowsRead.{Stands}
+use Rattle.hayro_ccitt.specs.Rows.{changes}
+use Rattle.hayro_ccitt.specs.RowsRead.{IsPaid, Stands}
+use Rattle.hayro_ccitt.specs.Ticks.{looked, looked_ahead}
 use Rattle.hayro_ccitt.proofs.Readings.RowByRow.{first_gap_stands, first_line_stands}
+use Rattle.hayro_ccitt.proofs.Work.CallsPaid.{first_gap_paid, first_line_paid}
+use Rattle.hayro_ccitt.proofs.Work.ChangesStored.{changes_white}
 use Rattle.hayro_ccitt.proofs.row_reader.first_stand.Goals as goal
 
 pub returns-in-Group4-clause-stands : goal.returns-in-Group4-clause-stands
@@ -29,6 +34,35 @@ returns-in-Group4-clause-stands c =
     subst (λ (s : Stand). Stands s settings bits last at.place) (sym c.stand_after_gap.ensures)
     (first_gap_stands settings wide bits (ap (λ (s : DecodeSettings). s.encoding) (sym c.settings-2.ensures.value) ∙ c.in-Group4.is) last at.place
     (omega (arith, c.bit_pos-place.ensures.place, c.bit_pos-place.ensures.within, ap length c.pass_gap-over.ensures.same_bits)) frame c.pass_gap-over.result said c.pass_gap-over.ensures.only_code)
+
+pub returns-in-Group4-clause-paid : goal.returns-in-Group4-clause-paid
+returns-in-Group4-clause-paid c =
+    let held = c.args.ctx.now.held in
+    let settings = held.settings in
+    let bits = c.args.reader.now.bits in
+    let last = c.pass_gap-over.new.ctx.held in
+    let at = c.pass_gap-over.new.reader in
+    let now = c.pass_gap-over.new.ctx.ticks in
+    let begins : here c.args.reader.now ≡ bits = ap (λ (n : ℕ). drop n bits) c.requires.start in
+    let unsought : held.has_eols ≡ false = ap (λ (h : Held). h.has_eols) c.requires.fresh in
+    let said : gap_behind_row settings 0 false bits ≡ gap_said c.pass_gap-over.result last.has_eols (drop at.place bits)
+    = ap (λ (h : Held). gap_behind_row settings h.taken h.has_eols bits) (sym c.requires.fresh)
+    ∙ ap (λ (x : Bits). gap_behind_row settings held.taken held.has_eols x) (sym begins)
+    ∙ c.pass_gap-over.ensures.gap ∙ ap (λ (b : Bits). gap_said c.pass_gap-over.result last.has_eols (drop at.place b)) c.pass_gap-over.ensures.same_bits in
+    let frame = c.pass_gap-over.ensures.held ∙ ap (λ (h : Held). record h { has_eols = last.has_eols }) c.requires.fresh in
+    subst (λ (s : Stand). IsPaid s settings bits last at.place now) (sym c.stand_after_gap.ensures)
+    (first_gap_paid settings (ap (λ (s : DecodeSettings). s.encoding) (sym c.settings-2.ensures.value) ∙ c.in-Group4.is) bits last at.place now
+    frame c.pass_gap-over.result said
+    (IfOk-weaker c.pass_gap-over.result _ _ (λ over kept is. kept is ∙ unsought) c.pass_gap-over.ensures.given_up)
+    (on_ok_weaker c.pass_gap-over.result (λ work unsought_on. omega (
+      arith,
+      c.requires.uncounted,
+      work (unsought_on ∙ sym unsought),
+      ap length begins,
+      ap (λ (b : Bits). length (drop at.place b)) c.pass_gap-over.ensures.same_bits,
+      ap (λ (b : Bits). looked_ahead settings.encoding (drop at.place b)) c.pass_gap-over.ensures.same_bits,
+    )) c.pass_gap-over.ensures.work)
+    (on_err_weaker c.pass_gap-over.result (λ refused. omega (arith, c.requires.uncounted, refused, ap looked begins)) c.pass_gap-over.ensures.work_refused))
 
 pub returns-in-Group3_1D : goal.returns-in-Group3_1D
 returns-in-Group3_1D c =
@@ -54,4 +88,14 @@ returns-in-Group3_1D c =
       settings = ap (λ (h : Held). h.settings) frame;
       same_bits = c.read_leading_eols.ensures.same_bits;
       stands = first_line_stands settings wide bits other last (drop at.place bits) frame rest (omega (arith, length-drop at.place bits));
+      paid = first_line_paid settings other bits last (drop at.place bits) c.read_leading_eols.new.ctx.ticks
+          (ap (λ (h : Held). length (changes h.reference)) frame ∙ changes_white settings.columns) (omega (arith, length-drop at.place bits))
+          (omega (
+            arith,
+            c.requires.uncounted,
+            c.read_leading_eols.ensures.work,
+            ap length begins,
+            ap (λ (b : Bits). length (drop at.place b)) c.read_leading_eols.ensures.same_bits,
+            ap (λ (b : Bits). looked (drop at.place b)) c.read_leading_eols.ensures.same_bits,
+          ));
     }

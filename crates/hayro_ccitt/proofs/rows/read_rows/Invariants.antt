@@ -3,9 +3,8 @@ use Rattle.hayro_ccitt.specs.Bits.{here}
 use Rattle.hayro_ccitt.specs.PlainReading.{move_on, one_each, line_of_turn}
 use Rattle.hayro_ccitt.specs.Repetition.{Reaches}
 use Rattle.hayro_ccitt.specs.Rows.{changes}
-use Rattle.hayro_ccitt.specs.Work.{most_given_up, words_of_turn}
+use Rattle.hayro_ccitt.specs.Work.{IsPaidUpTo, most_given_up, words_of_turn}
 use Rattle.hayro_ccitt.proofs.Work.RunsCount.{WordsCounted}
-use Rattle.hayro_ccitt.proofs.Work.TurnsPaid.{IsPaidUpTo}
 use Rattle.hayro_ccitt.proofs.Readings.TurnsMoveOn.{left_to_read}
 use Rattle.hayro_ccitt.proofs.Readings.RunsOverRows.{Between}
 use Rattle.hayro_ccitt.proofs.Readings.RepairsCounted.{RepairsCounted}

@@ -1,5 +1,5 @@
-use Rattle.std.specs.Prelude.{OnErr, IfOk, Ok, Err}
-use Rattle.std.proofs.Common.{ℕ, get_or, ◌≡◌, ◌∙◌, Bool, Result, length, drop, ap, sym, subst, arith, refl}
+use Rattle.std.specs.Prelude.{OnErr, OnOk, IfOk, Ok, Err, sum_by}
+use Rattle.std.proofs.Common.{ℕ, ◌+◌, ◌*◌, ◌≤◌, take, get_or, ◌≡◌, ◌∙◌, Bool, Result, length, drop, ap, sym, subst, arith, refl}
 use Rattle.hayro_ccitt.specs.declared.error.DecodeError.{DecodeError}
 use Rattle.hayro_ccitt.specs.declared.row_reader.Stand.{Stand}
 use Rattle.hayro_ccitt.specs.declared.settings.DecodeSettings.{DecodeSettings}
@@ -8,8 +8,11 @@ use Rattle.hayro_ccitt.specs.Context.{Held}
 use Rattle.hayro_ccitt.specs.Decoding.{gap_said}
 use Rattle.hayro_ccitt.specs.PlainReading.{gap_behind_row, line_starts}
 use Rattle.hayro_ccitt.specs.RowsRead.{ComesToLine, Stands, read_so_far, start_after, stand_after}
-use Rattle.hayro_ccitt.specs.RowsRead.{IsStanding, seen}
+use Rattle.hayro_ccitt.specs.RowsRead.{IsStanding, WorkIsPaid, seen}
+use Rattle.hayro_ccitt.specs.Ticks.{looked_ahead, tag_tests}
+use Rattle.hayro_ccitt.specs.Work.{words_of}
 use Rattle.hayro_ccitt.proofs.Readings.RowByRow.{starts_behind, behind_row_stands, repairs_stay, gap_stands, comes_to_line}
+use Rattle.hayro_ccitt.proofs.Work.CallsPaid.{behind_row_paid, gap_paid}
 use Rattle.hayro_ccitt.proofs.row_reader.RowState.come_to_line.Goals as goal
 use Rattle.hayro_ccitt.proofs.row_reader.RowState.come_to_line.Goals.{After-line_after_gap}
 
@@ -65,6 +68,39 @@ start_stays c =
     subst (λ (n : ℕ). IfOk c.pass_gap-over.result (λ over. n ≡ before)) (sym c.start_after_gap-self.ensures)
     (kept c.pass_gap-over.result c.bit_pos-place.result _)
 
+-- what was counted is paid
+paid : (c : After-line_after_gap) → IsStanding c.args.self.now c.args.reader.now
+    → WorkIsPaid (stand_after c.pass_gap-over.result) c.args.self.now.ctx.held.settings c.args.reader.now.bits c.pass_gap-over.new.ctx.held
+    c.pass_gap-over.new.reader.place c.pass_gap-over.new.ctx.ticks
+paid c stands =
+    let rows = c.args.self.now in
+    let held = rows.ctx.held in
+    let bits = c.args.reader.now.bits in
+    let last = c.pass_gap-over.new.ctx.held in
+    let at = c.pass_gap-over.new.reader in
+    let work = stands.2 in
+    let behind = behind_row_stands rows.stand held.settings bits held c.args.reader.now.place c.requires
+    (sym c.is_at_line.ensures ∙ c.if-is_at_line.false) stands.0 in
+    let row = behind_row_paid rows.stand held.settings bits held c.args.reader.now.place rows.ctx.ticks c.requires
+    (sym c.is_at_line.ensures ∙ c.if-is_at_line.false) work.paid in
+    let same = c.pass_gap-over.ensures.same_bits in
+    let said = subst (λ (b : Bits). gap_behind_row held.settings held.taken held.has_eols (here c.args.reader.now)
+    ≡ gap_said c.pass_gap-over.result last.has_eols (drop at.place b)) same c.pass_gap-over.ensures.gap in
+    record {
+      words = omega (
+        arith,
+        work.words,
+        c.pass_gap-over.ensures.counts,
+        ap (λ (h : Held). sum_by length (take h.taken (words_of held.settings bits))) c.pass_gap-over.ensures.held,
+      );
+      paid = gap_paid held.settings behind.wide bits held (here c.args.reader.now) rows.ctx.ticks row last at.place c.pass_gap-over.new.ctx.ticks
+          c.pass_gap-over.ensures.held c.pass_gap-over.result said c.pass_gap-over.ensures.given_up
+          (subst (λ (b : Bits). OnOk c.pass_gap-over.result (last.has_eols ≡ held.has_eols
+          → c.pass_gap-over.new.ctx.ticks + 4 * length (drop at.place b) ≤ rows.ctx.ticks + 4 * length (here c.args.reader.now)
+          + tag_tests held.settings.encoding + looked_ahead held.settings.encoding (drop at.place b))) same c.pass_gap-over.ensures.work)
+          c.pass_gap-over.ensures.work_given_up c.pass_gap-over.ensures.work_refused;
+    }
+
 pub returns-clause-stands : goal.returns-clause-stands
 returns-clause-stands c stands =
     let settings = c.args.self.now.ctx.held.settings in
@@ -78,6 +114,10 @@ returns-clause-stands c stands =
           (subst (λ (s : DecodeSettings). Stands (stand_after c.pass_gap-over.result) s at.bits last at.place) (sym same)
           (subst (λ (b : Bits). Stands (stand_after c.pass_gap-over.result) settings b last at.place) (sym c.pass_gap-over.ensures.same_bits) (passed c stands))),
       counted,
+      subst (λ (s : Stand). WorkIsPaid s last.settings at.bits last at.place c.pass_gap-over.new.ctx.ticks) (sym c.stand_after_gap-self.ensures)
+          (subst (λ (s : DecodeSettings). WorkIsPaid (stand_after c.pass_gap-over.result) s at.bits last at.place c.pass_gap-over.new.ctx.ticks) (sym same)
+          (subst (λ (b : Bits). WorkIsPaid (stand_after c.pass_gap-over.result) settings b last at.place c.pass_gap-over.new.ctx.ticks)
+          (sym c.pass_gap-over.ensures.same_bits) (paid c stands))),
     )
 
 pub returns-clause-comes : goal.returns-clause-comes
@@ -89,10 +129,10 @@ returns-clause-comes c stands =
     let settings : last.settings ≡ rows.ctx.held.settings = ap (λ (h : Held). h.settings) c.pass_gap-over.ensures.held in
     let taken : last.taken ≡ rows.ctx.held.taken = ap (λ (h : Held). h.taken) c.pass_gap-over.ensures.held in
     let start = c.start_after_gap-self.result in
-    subst (λ (s : Stand). ComesToLine old (read_so_far last at start rows.damage s) c.line_after_gap.result)
+    subst (λ (s : Stand). ComesToLine old (read_so_far last c.pass_gap-over.new.ctx.ticks at start rows.damage s) c.line_after_gap.result)
     (sym c.stand_after_gap-self.ensures)
-    (subst (λ (r : Result Bool DecodeError). ComesToLine old (read_so_far last at start rows.damage
+    (subst (λ (r : Result Bool DecodeError). ComesToLine old (read_so_far last c.pass_gap-over.new.ctx.ticks at start rows.damage
     (stand_after c.pass_gap-over.result)) r) (sym c.line_after_gap.ensures)
-    (comes_to_line old last at start rows.damage c.pass_gap-over.result settings c.pass_gap-over.ensures.same_bits
-    taken (ap (λ (h : Held). h.reference) c.pass_gap-over.ensures.held, refl) (start_stays c)
+    (comes_to_line old last c.pass_gap-over.new.ctx.ticks at start rows.damage c.pass_gap-over.result settings
+    c.pass_gap-over.ensures.same_bits taken c.pass_gap-over.ensures.counts (ap (λ (h : Held). h.reference) c.pass_gap-over.ensures.held, refl) (start_stays c)
     (passed c stands) (started c stands)))

@@ -1,12 +1,19 @@
-use Rattle.std.proofs.Common.{◌≡◌, ◌∙◌, ◌-◌, ℕ, [], ◌≤◌, ap, sym, subst, refl, length, drop, arith}
+use Rattle.std.specs.Prelude.{sum_by}
+use Rattle.std.proofs.Common.{◌≡◌, ◌∙◌, ◌-◌, ℕ, [], ◌≤◌, take, Result, Ok, ap, sym, subst, refl, length, drop, arith}
 use Rattle.std.proofs.lemmas.List.{length-drop}
 use Rattle.hayro_ccitt.specs.declared.codes.Color.TheVariants.{White}
 use Rattle.hayro_ccitt.specs.declared.settings.DecodeSettings.{DecodeSettings}
 use Rattle.hayro_ccitt.specs.Bits.{Bits, here}
 use Rattle.hayro_ccitt.specs.Context.{Context, Held, redrawn}
+use Rattle.hayro_ccitt.specs.declared.error.DecodeError.{DecodeError}
+use Rattle.hayro_ccitt.specs.PlainReading.{line_here, row_of_line}
+use Rattle.hayro_ccitt.specs.Rows.{Row, changes}
 use Rattle.hayro_ccitt.specs.RowsRead.{StandsAtLine, StandsBehindRow, HasFailed, damage_since}
-use Rattle.hayro_ccitt.specs.RowsRead.{IsStandingAtLine}
+use Rattle.hayro_ccitt.specs.RowsRead.{IsStandingAtLine, WorkIsPaid}
+use Rattle.hayro_ccitt.specs.Work.{found_here, words_of}
+use Rattle.hayro_ccitt.specs.declared.row_reader.Stand.TheVariants.{BehindRow, AtFault}
 use Rattle.hayro_ccitt.proofs.Readings.RowByRow.{IsRead, at_line_stands, starts_there, repairs_stay, is_read, isnt_read}
+use Rattle.hayro_ccitt.proofs.Work.CallsPaid.{at_line_paid, failed_most}
 use Rattle.hayro_ccitt.proofs.row_reader.RowState.read_line.Goals as goal
 use Rattle.hayro_ccitt.proofs.row_reader.RowState.read_line.Goals.{After-self-in-Ok-2-1, After-self-in-Err-1}
 
@@ -64,6 +71,67 @@ row_left c = ap (λ (h : Held). h.reference) c.in-Err.ensures.row.held
 repairs_left : (c : After-self-in-Err-1) → c.read_row.new.ctx.held.repairs ≡ c.args.self.now.ctx.held.repairs
 repairs_left c = ap (λ (h : Held). h.repairs) c.in-Err.ensures.row.held ∙ ap (λ (x : Context). x.held.repairs) c.begin_line.ensures.frame
 
+-- what was counted is paid
+row_is_paid : (c : After-self-in-Ok-2-1) → IsStandingAtLine c.args.self.now c.args.reader.now
+    → WorkIsPaid BehindRow c.args.self.now.ctx.held.settings c.args.reader.now.bits c.read_row.new.ctx.held c.read_row.new.reader.place
+    c.read_row.new.ctx.ticks
+row_is_paid c at =
+    let held = c.args.self.now.ctx.held in
+    let bits = c.args.reader.now.bits in
+    let new = c.read_row.new.ctx.held in
+    let begun = ap (λ (x : Context). x.held) c.begin_line.ensures.frame in
+    let ticks = ap (λ (x : Context). x.ticks) c.begin_line.ensures.frame in
+    let work = at.1.2 in
+    let taken = c.in-Ok.ensures.row.taken in
+    let start = here c.args.reader.now in
+    let found = ap (λ (h : Held). length (found_here h.settings h.reference start)) begun in
+    record {
+      words = omega (arith, work.words, (row_was_read c at).words, c.in-Ok.ensures.at_least, ticks, found);
+      paid = record {
+        before = held;
+        start = start;
+        ticks_before = c.args.self.now.ctx.ticks;
+        at_line = at_line_paid c.args.self.now.stand held.settings bits held c.args.reader.now.place c.args.self.now.ctx.ticks at.0 work.paid;
+        kept = ap (λ (h : Held). h.has_eols) taken.held ∙ ap (λ (h : Held). h.has_eols) begun;
+        row_is = sym (ap (λ (h : Held). row_of_line h.settings h.has_eols start (line_here h.settings h.reference start)) begun) ∙ taken.is
+            ∙ ap {B = Result (Row × Bits) DecodeError} (λ (r : Row). Ok (r, here c.read_row.new.reader)) (sym (ap (λ (h : Held). h.reference) taken.held))
+            ∙ ap {B = Result (Row × Bits) DecodeError} (λ (b : Bits). Ok (new.reference, drop c.read_row.new.reader.place b)) c.read_row.ensures.same_bits;
+        line = omega (arith, c.read_row.ensures.at_most, ticks, found, ap (λ (h : Held). length (changes h.reference)) begun);
+        stored = omega (arith, c.in-Ok.ensures.stored, found);
+      };
+    }
+
+fault_is_paid : (c : After-self-in-Err-1) → IsStandingAtLine c.args.self.now c.args.reader.now
+    → WorkIsPaid (AtFault c.in-Err.error) c.args.self.now.ctx.held.settings c.args.reader.now.bits c.read_row.new.ctx.held
+    c.read_row.new.reader.place c.read_row.new.ctx.ticks
+fault_is_paid c at =
+    let held = c.args.self.now.ctx.held in
+    let bits = c.args.reader.now.bits in
+    let place = c.args.reader.now.place in
+    let rest = here c.args.reader.now in
+    let begun = ap (λ (x : Context). x.held) c.begin_line.ensures.frame in
+    let ticks = ap (λ (x : Context). x.ticks) c.begin_line.ensures.frame in
+    let work = at.1.2 in
+    let stands = at_line_stands c.args.self.now.stand held.settings bits held place at.0 at.1.0 in
+    record {
+      words = omega (
+        arith,
+        work.words,
+        c.read_row.ensures.counts,
+        ticks,
+        ap (λ (n : ℕ). sum_by length (take n (words_of held.settings bits))) (taken_left c),
+      );
+      paid = failed_most held.settings stands.wide bits held rest c.args.self.now.ctx.ticks
+          (at_line_paid c.args.self.now.stand held.settings bits held place c.args.self.now.ctx.ticks at.0 work.paid) c.read_row.new.ctx.ticks
+          (omega (
+            arith,
+            c.read_row.ensures.at_most,
+            ticks,
+            ap (λ (h : Held). length (found_here h.settings h.reference rest)) begun,
+            ap (λ (h : Held). length (changes h.reference)) begun,
+          ));
+    }
+
 pub returns-in-Ok-clause-stands : goal.returns-in-Ok-clause-stands
 returns-in-Ok-clause-stands c at =
     let read = row_was_read c at in
@@ -76,6 +144,9 @@ returns-in-Ok-clause-stands c at =
           (subst (λ (b : Bits). StandsBehindRow settings b new (here c.read_row.new.reader)) (sym c.read_row.ensures.same_bits) read.stands),
       repairs_stay settings new.settings bits read_bits new new read.settings_are c.read_row.ensures.same_bits refl refl
           (record { few = read.few counted.few; counted = read.counted counted.counted }),
+      subst (λ (s : DecodeSettings). WorkIsPaid BehindRow s read_bits new c.read_row.new.reader.place c.read_row.new.ctx.ticks) (sym read.settings_are)
+          (subst (λ (b : Bits). WorkIsPaid BehindRow settings b new c.read_row.new.reader.place c.read_row.new.ctx.ticks)
+          (sym c.read_row.ensures.same_bits) (row_is_paid c at)),
     )
 
 pub returns-in-Err-clause-stands : goal.returns-in-Err-clause-stands
@@ -87,6 +158,9 @@ returns-in-Err-clause-stands c at =
       subst (λ (s : DecodeSettings). HasFailed s read_bits new.taken c.in-Err.error) (sym (settings_left c))
           (subst (λ (b : Bits). HasFailed held.settings b new.taken c.in-Err.error) (sym c.read_row.ensures.same_bits) (row_was_not_read c at)),
       repairs_stay held.settings new.settings bits read_bits held new (settings_left c) c.read_row.ensures.same_bits (taken_left c) (repairs_left c) at.1.1,
+      subst (λ (s : DecodeSettings). WorkIsPaid (AtFault c.in-Err.error) s read_bits new c.read_row.new.reader.place c.read_row.new.ctx.ticks) (sym (settings_left c))
+          (subst (λ (b : Bits). WorkIsPaid (AtFault c.in-Err.error) held.settings b new c.read_row.new.reader.place c.read_row.new.ctx.ticks)
+          (sym c.read_row.ensures.same_bits) (fault_is_paid c at)),
     )
 
 pub returns-in-Ok-clause-reads : goal.returns-in-Ok-clause-reads
@@ -96,6 +170,7 @@ returns-in-Ok-clause-reads c at =
     record {
       settings = read.settings_are;
       bits = c.read_row.ensures.same_bits;
+      counts = omega (arith, c.read_row.ensures.counts, ap (λ (x : Context). x.ticks) c.begin_line.ensures.frame);
       more = λ e. (refl, read.more, read.within);
       row = λ e. read.row;
       line_start = λ e. line_start_of reader.place reader.bits c.bit_pos-self.result c.bit_pos-self.ensures.place c.bit_pos-self.ensures.within ∙ read.line_start;
@@ -118,6 +193,7 @@ returns-in-Err-clause-reads c at =
     record {
       settings = settings_left c;
       bits = c.read_row.ensures.same_bits;
+      counts = omega (arith, c.read_row.ensures.counts, ap (λ (x : Context). x.ticks) c.begin_line.ensures.frame);
       more = λ e. cc;
       row = λ e. cc;
       line_start = λ e. cc;

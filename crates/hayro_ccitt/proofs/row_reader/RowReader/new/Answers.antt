@@ -1,0 +1,18 @@
+use Rattle.std.proofs.Common.{sym, subst}
+use Rattle.hayro_ccitt.specs.declared.settings.DecodeSettings.{DecodeSettings}
+use Rattle.hayro_ccitt.specs.Bits.{Bits}
+use Rattle.hayro_ccitt.specs.Work.{CountsWork}
+use Rattle.hayro_ccitt.proofs.Work.CallsPaid.{begun_is_counted}
+use Rattle.hayro_ccitt.proofs.row_reader.RowReader.new.Goals as goal
+
+-- what comes before the first line is within the bound
+pub returns-clause-work : goal.returns-clause-work
+returns-clause-work c =
+    let first = c.first_stand-stand in
+    let settings = c.in_ok-ctx.ctx.held.settings in
+    let bits = c.match-order.reader.bits in
+    let held = first.new.ctx.held in
+    let ticks = first.new.ctx.ticks in
+    subst (λ (s : DecodeSettings). CountsWork s first.new.reader.bits held.taken ticks) (sym first.ensures.settings)
+    (subst (λ (b : Bits). CountsWork settings b held.taken ticks) (sym first.ensures.same_bits)
+    (begun_is_counted first.result settings bits held first.new.reader.place ticks first.ensures.none_taken first.ensures.stands first.ensures.paid))

@@ -1,0 +1,10 @@
+use Rattle.hayro_ccitt.proofs.Work.CallsPaid.{work_is_counted}
+use Rattle.hayro_ccitt.proofs.row_reader.RowReader.next_row.Goals as goal
+
+-- what was counted so far is within the bound
+pub returns-in-AtLine-clause-work : goal.returns-in-AtLine-clause-work
+returns-in-AtLine-clause-work c =
+    let rows = c.next_row.new.self in
+    let reader = c.next_row.new.reader in
+    let stands = c.next_row.ensures.stands c.self.invariant in
+    work_is_counted rows.stand rows.ctx.held.settings reader.bits rows.ctx.held reader.place rows.ctx.ticks stands.0 stands.2
