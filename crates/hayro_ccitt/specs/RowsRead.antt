@@ -1,5 +1,5 @@
 -- Rows one at a time: what a reader of rows has read, and what a call leaves that reads the next row.
-use Rattle.std.specs.Prelude.{sum_by, take, ◌==◌, if◌then◌else◌, ◌≡◌, ◌≢◌, ◌≤◌, ◌<◌, ◌+◌, ◌*◌, ◌-◌, ◌/◌, ℕ, Bool, true, false, not, drop, List, [], length, get_or, Option, None, Some, Result, Ok, Err, OnErr, IfOk, IfErr}
+use Rattle.std.specs.Prelude.{sum_by, take, ◌==◌, if◌then◌else◌, ◌≡◌, ◌≢◌, ◌≤◌, ◌<◌, ◌+◌, ◌*◌, ◌/◌, ℕ, Bool, true, false, not, drop, [], length, get_or, Option, None, Some, Result, Ok, Err, OnErr, IfOk, IfErr}
 use Rattle.hayro_ccitt.specs.declared.codes.Color.TheVariants.{White}
 use Rattle.hayro_ccitt.specs.declared.error.DecodeError.{DecodeError}
 use Rattle.hayro_ccitt.specs.declared.error.DecodeError.TheVariants.{OutOfMemory, Refused}

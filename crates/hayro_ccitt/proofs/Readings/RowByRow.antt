@@ -1,5 +1,5 @@
 -- Rows one at a time: a reader of rows is where the run of a driver is whose sink keeps nothing.
-use Rattle.std.proofs.Common.{◌≡◌, ◌+◌, ◌-◌, ◌<◌, ◌≤◌, ℕ, zero, suc, Bool, true, false, eqb, List, [], ◌∷◌, ◌++◌, length, drop, get_or, Some, Result, Ok, Err, refl, sym, ap, ◌∙◌, subst, arith}
+use Rattle.std.proofs.Common.{◌≡◌, ◌+◌, ◌-◌, ◌<◌, ◌≤◌, ℕ, suc, Bool, true, false, eqb, List, [], ◌∷◌, ◌++◌, length, drop, get_or, Some, Result, Ok, Err, refl, sym, ap, ◌∙◌, subst, arith}
 use Rattle.std.proofs.lemmas.Bool.{cond-true, cond-false, eq-eqb, ne_eqb, false≢true}
 use Rattle.std.proofs.lemmas.List.{length-append, length-drop}
 use Rattle.std.proofs.Common.{cond, take, not, ◌||◌, None, Option}
@@ -13,7 +13,7 @@ use Rattle.hayro_ccitt.specs.Context.{Held, Repairs, fresh}
 use Rattle.hayro_ccitt.specs.Damage.{Damaged, fault_in, repaired_in, repaired_by_turn, repairs_by_line}
 use Rattle.hayro_ccitt.specs.Decoding.{SinkState, TakesOneRow, repairs_with, gap_said}
 use Rattle.hayro_ccitt.specs.Lines.{Line}
-use Rattle.hayro_ccitt.specs.PlainReading.{Progress, Ending, Reading, Move, Gap, row_before, with_row, at_gap, gap_behind_row, row_of_line, add_row, line_here, line_of_turn, move_on, first_gap, first_line, at_front, ending_from, ending_behind, one_each, gathered_from, gathered_behind, gathered_of, bytes_before, whole_reading, plain, lines_of, line_starts, start_of_turn}
+use Rattle.hayro_ccitt.specs.PlainReading.{Progress, Ending, Reading, Move, row_before, with_row, at_gap, gap_behind_row, row_of_line, line_here, line_of_turn, move_on, first_gap, first_line, at_front, ending_from, ending_behind, one_each, gathered_from, gathered_behind, gathered_of, bytes_before, whole_reading, plain, lines_of, line_starts, start_of_turn}
 use Rattle.hayro_ccitt.specs.Repetition.{Turn, Reaches}
 use Rattle.hayro_ccitt.specs.Rows.{Row}
 use Rattle.hayro_ccitt.specs.Work.{found_here, words_of, words_of_turn}
@@ -21,16 +21,15 @@ use Rattle.hayro_ccitt.specs.declared.row_reader.Stand.{Stand}
 use Rattle.hayro_ccitt.specs.declared.row_reader.Stand.TheVariants.{AtLine, BehindRow, AtEnd, AtFault}
 use Rattle.hayro_ccitt.specs.declared.settings.EncodingMode.{EncodingMode}
 use Rattle.hayro_ccitt.specs.declared.settings.EncodingMode.TheVariants.{Group4}
-use Rattle.hayro_ccitt.proofs.Readings.Gathered.{gathered_after}
 use Rattle.hayro_ccitt.proofs.Readings.GapsAndRows.{first_gap_t4}
 use Rattle.hayro_ccitt.proofs.Readings.Repeated.{reaches_on}
 use Rattle.hayro_ccitt.specs.RowsRead.{RowsRead, ReadsNext, damage_since, start_after, ComesToLine, read_so_far, line_after, RepairsAreCounted, Stands, ended, stand_after, is_at_line, StandsAtLine, StandsBehindRow, HasEnded, HasFailed, context_at}
 use Rattle.hayro_ccitt.proofs.Readings.PlainAnswers.{some_columns, bytes_before-place}
 use Rattle.hayro_ccitt.proofs.Readings.TurnsAddRows.{Keeps, first_gap_keeps}
-use Rattle.hayro_ccitt.proofs.Readings.TurnsMoveOn.{left_to_read, left_below, next_is, not_next}
+use Rattle.hayro_ccitt.proofs.Readings.TurnsMoveOn.{left_to_read, left_below}
 use Rattle.hayro_ccitt.proofs.Readings.RepairsCounted.{repaired_counts}
 use Rattle.hayro_ccitt.proofs.Work.RunsCount.{sum_more}
-use Rattle.hayro_ccitt.proofs.Readings.RunsOverRows.{lines, lines_on, drop-suc_cons, Comes, Between, Leaves, held_between-more, comes_first, comes_next, comes_done, comes_more, comes_line, get_or-behind, row_fails}
+use Rattle.hayro_ccitt.proofs.Readings.RunsOverRows.{lines_on, Comes, Between, Leaves, held_between-more, comes_done, comes_more, comes_line, get_or-behind, row_fails}
 use Rattle.hayro_ccitt.proofs.Readings.RunsReach.{get_or-there, comes_there, value_is, no_value_behind}
 use Rattle.hayro_ccitt.proofs.Readings.RowsTaken.{by_rows_left, row_of_turn, reads_row, turn_is}
 
