@@ -1,16 +1,19 @@
 -- The entries that are written out are those of the code lists.
-use Rattle.std.proofs.Common.{◌≡◌, ℕ, zero, suc, ◌+◌, ◌-◌, ◌<◌, ◌≤◌, Bool, true, ◌&&◌, eqb, List, [], ◌∷◌, ◌++◌, length, get_or, take, drop, refl, inl, inr, sym, ap, ◌∙◌, arith}
-use Rattle.std.proofs.lemmas.Bool.{and_parts, eqb-true, cases_lt}
+use Rattle.std.proofs.Common.{◌≡◌, ℕ, zero, suc, ◌+◌, ◌-◌, ◌*◌, ◌/◌, ◌<◌, Bool, true, false, ◌&&◌, ◌||◌, eqb, List, [], ◌∷◌, ◌++◌, length, Option, Some, None, is_some, if◌then◌else◌, get_or, take, drop, refl, inl, inr, sym, ap, ◌∙◌, arith}
+use Rattle.std.proofs.lemmas.Bool.{and_parts, eqb-true, cases_eq, false≢true}
 use Rattle.std.proofs.lemmas.List.{get_or-drop, get_or-take, length-take, length-drop}
 use Rattle.hayro_ccitt.specs.declared.codes.Color.{Color}
 use Rattle.hayro_ccitt.specs.declared.codes.Color.TheVariants.{White, Black}
 use Rattle.hayro_ccitt.specs.declared.tables.TheConstants.{WHITE_TERMINATING, WHITE_MAKEUP, BLACK_TERMINATING, BLACK_MAKEUP, COMMON_MAKEUP}
 use Rattle.hayro_ccitt.specs.declared.entries.TheConstants.{WHITE_ENTRIES, BLACK_ENTRIES}
-use Rattle.hayro_ccitt.specs.Bits.{low_bits}
+use Rattle.hayro_ccitt.specs.Bits.{Bits, low_bits}
 use Rattle.hayro_ccitt.specs.CodeLists.{Code, numbered, white_codes, black_codes}
-use Rattle.hayro_ccitt.specs.LookUps.{AreEntries, entry_of, with_rows, thirteen_bits}
+use Rattle.hayro_ccitt.specs.LookUps.{AreEntries, entry_of, with_row, with_rows, thirteen_bits}
+use Rattle.hayro_ccitt.specs.CodeReading.{after, is_prefix}
 use Rattle.hayro_ccitt.specs.Runs.{codes_of}
 use Rattle.hayro_ccitt.proofs.BitReading.LookUpEntries.{Table, entry_written, length-thirteen_bits}
+use Rattle.hayro_ccitt.proofs.CodeWords.ReadCodes.{either_prefix}
+use Rattle.hayro_ccitt.proofs.BitReading.WordRanges.{low_bits-append}
 use Rattle.hayro_ccitt.proofs.BitReading.TablesAgree.{numbered_white, numbered_black}
 
 -- each of some entries, from an index on, is what the rows of a table write
@@ -30,69 +33,89 @@ agrees_at table (entry ∷ entries) from (suc index) e lt =
     let at : from + suc index ≡ suc from + index = omega arith in
     rw at (agrees_at table entries (suc from) index both.1 (omega arith))
 
--- 1024 entries from an index on; checking more at once takes too long
+-- whether the word of a row and the start of some bits agree as far as both go
+abbrev may_write : ℕ × ℕ × ℕ → Bits → Bool
+may_write row start = is_prefix (low_bits row.1 row.2) start || is_prefix start (low_bits row.1 row.2)
+
+-- the rows that can write an entry whose index starts with these bits
+abbrev rows_under : Bits → Table → Table
+rows_under start [] = []
+rows_under start (row ∷ table) = if may_write row start then row ∷ rows_under start table else rows_under start table
+
+or_right : (a b : Bool) → b ≡ true → a || b ≡ true
+or_right true b e = refl
+or_right false b e = e
+
+-- a row whose word disagrees with the start of some bits writes nothing there
+not_here : (row : ℕ × ℕ × ℕ) (start more : Bits) → may_write row start ≡ false → is_prefix (low_bits row.1 row.2) (start ++ more) ≡ false
+not_here row start more differs = by (after (low_bits row.1 row.2) (start ++ more)) refl
+  where
+    by : (found : Option Bits) → after (low_bits row.1 row.2) (start ++ more) ≡ found → is_some found ≡ false
+    by None e = refl
+    by (Some rest) e = elim (either_prefix (low_bits row.1 row.2) start more rest e) [
+      | inl is ↦ absurd (false≢true (sym differs ∙ ap (λ (b : Bool). b || is_prefix start (low_bits row.1 row.2)) is))
+      | inr is ↦ absurd (false≢true (sym differs ∙ or_right (is_prefix (low_bits row.1 row.2) start) (is_prefix start (low_bits row.1 row.2)) is))
+    ]
+
+-- so the other rows write the same entries
+under_same : (start more : Bits) (table : Table) (entry : ℕ)
+    → with_rows (rows_under start table) (start ++ more) entry ≡ with_rows table (start ++ more) entry
+under_same start more [] entry = refl
+under_same start more (row ∷ table) entry =
+    by (under_same start more table entry) (under_same start more table (with_row row (start ++ more) entry)) (may_write row start) refl
+  where
+    by : with_rows (rows_under start table) (start ++ more) entry ≡ with_rows table (start ++ more) entry
+        → with_rows (rows_under start table) (start ++ more) (with_row row (start ++ more) entry)
+        ≡ with_rows table (start ++ more) (with_row row (start ++ more) entry)
+        → (b : Bool) → may_write row start ≡ b
+        → with_rows (if b then row ∷ rows_under start table else rows_under start table) (start ++ more) entry
+        ≡ with_rows table (start ++ more) (with_row row (start ++ more) entry)
+    by kept written true e = written
+    by kept written false e = rw (not_here row start more e) kept
+
+-- the 128 entries whose index starts with the same six bits, each by the rows that can write it
 abbrev part_agrees : Table → List ℕ → ℕ → Bool
-part_agrees table entries from = agrees table (take 1024 (drop from entries)) from
+part_agrees table entries part = agrees (rows_under (low_bits 6 part) table) (take 128 (drop (128 * part) entries)) (128 * part)
 
-part_at : (table : Table) (entries : List ℕ) (from index : ℕ) → length entries ≡ 8192 → from + 1024 ≤ 8192 → part_agrees table entries from ≡ true
-    → from ≤ index → index < from + 1024 → get_or entries index 0 ≡ with_rows table (low_bits 13 index) 36863
-part_at table entries from index count room e low high =
-    let at : from + (index - from) ≡ index = omega (arith, low) in
-    let few : index - from < length (take 1024 (drop from entries)) = omega (arith, length-take 1024 (drop from entries), length-drop from entries, count, room, low, high) in
-    let here : get_or (take 1024 (drop from entries)) (index - from) 0 ≡ get_or entries index 0
-    = get_or-take 1024 (drop from entries) (index - from) 0 (omega (arith, low, high)) ∙ get_or-drop from entries (index - from) 0 ∙ ap (λ (i : ℕ). get_or entries i 0) at in
-    sym here ∙ agrees_at table (take 1024 (drop from entries)) from (index - from) e few ∙ ap (λ (i : ℕ). with_rows table (low_bits 13 i) 36863) at
+-- all parts below one
+abbrev parts_agree : Table → List ℕ → ℕ → Bool
+parts_agree table entries zero = true
+parts_agree table entries (suc part) = part_agrees table entries part && parts_agree table entries part
 
--- all entries
-record AllAgree (table : Table) (entries : List ℕ) : Type 0 where
-  pub part_0 : part_agrees table entries 0 ≡ true
-  pub part_1 : part_agrees table entries 1024 ≡ true
-  pub part_2 : part_agrees table entries 2048 ≡ true
-  pub part_3 : part_agrees table entries 3072 ≡ true
-  pub part_4 : part_agrees table entries 4096 ≡ true
-  pub part_5 : part_agrees table entries 5120 ≡ true
-  pub part_6 : part_agrees table entries 6144 ≡ true
-  pub part_7 : part_agrees table entries 7168 ≡ true
+part_of : (table : Table) (entries : List ℕ) (parts part : ℕ) → parts_agree table entries parts ≡ true → part < parts
+    → part_agrees table entries part ≡ true
+part_of table entries zero part all below = absurd (omega (arith, below))
+part_of table entries (suc last) part all below =
+    let both = and_parts (part_agrees table entries last) (parts_agree table entries last) all in
+    elim (cases_eq part last) [
+      | inl same ↦ rw same both.0
+      | inr other ↦ part_of table entries last part both.1 (omega (arith, below, other))
+    ]
 
-all_at : (table : Table) (entries : List ℕ) (index : ℕ) → length entries ≡ 8192 → AllAgree table entries → index < 8192
+all_at : (table : Table) (entries : List ℕ) (index : ℕ) → length entries ≡ 8192 → parts_agree table entries 64 ≡ true → index < 8192
     → get_or entries index 0 ≡ with_rows table (low_bits 13 index) 36863
 all_at table entries index count all below =
-    elim (cases_lt index 1024) [
-      | inl lt ↦ part_at table entries 0 index count (omega arith) all.part_0 (omega arith) (omega (arith, lt))
-      | inr ge0 ↦
-          elim (cases_lt index 2048) [
-            | inl lt ↦ part_at table entries 1024 index count (omega arith) all.part_1 (omega (arith, ge0)) (omega (arith, lt))
-            | inr ge1 ↦
-                elim (cases_lt index 3072) [
-                  | inl lt ↦ part_at table entries 2048 index count (omega arith) all.part_2 (omega (arith, ge1)) (omega (arith, lt))
-                  | inr ge2 ↦
-                      elim (cases_lt index 4096) [
-                        | inl lt ↦ part_at table entries 3072 index count (omega arith) all.part_3 (omega (arith, ge2)) (omega (arith, lt))
-                        | inr ge3 ↦
-                            elim (cases_lt index 5120) [
-                              | inl lt ↦ part_at table entries 4096 index count (omega arith) all.part_4 (omega (arith, ge3)) (omega (arith, lt))
-                              | inr ge4 ↦
-                                  elim (cases_lt index 6144) [
-                                    | inl lt ↦ part_at table entries 5120 index count (omega arith) all.part_5 (omega (arith, ge4)) (omega (arith, lt))
-                                    | inr ge5 ↦
-                                        elim (cases_lt index 7168) [
-                                          | inl lt ↦ part_at table entries 6144 index count (omega arith) all.part_6 (omega (arith, ge5)) (omega (arith, lt))
-                                          | inr ge6 ↦
-                                              part_at table entries 7168 index count (omega arith) all.part_7 (omega (arith, ge6)) (omega (arith, below))
-                                        ]
-                                  ]
-                            ]
-                      ]
-                ]
-          ]
-    ]
+    let part = index / 128 in
+    let at : 128 * part + (index - 128 * part) ≡ index = omega arith in
+    let few : index - 128 * part < length (take 128 (drop (128 * part) entries))
+    = omega (arith, length-take 128 (drop (128 * part) entries), length-drop (128 * part) entries, count, below) in
+    let here : get_or (take 128 (drop (128 * part) entries)) (index - 128 * part) 0 ≡ get_or entries index 0
+    = get_or-take 128 (drop (128 * part) entries) (index - 128 * part) 0 (omega arith)
+    ∙ get_or-drop (128 * part) entries (index - 128 * part) 0 ∙ ap (λ (i : ℕ). get_or entries i 0) at in
+    let agree = agrees_at (rows_under (low_bits 6 part) table) (take 128 (drop (128 * part) entries)) (128 * part) (index - 128 * part)
+    (part_of table entries 64 part all (omega (arith, below))) few in
+    sym here ∙ agree ∙ ap (λ (i : ℕ). with_rows (rows_under (low_bits 6 part) table) (low_bits 13 i) 36863) at
+    ∙ ap (λ (bits : Bits). with_rows (rows_under (low_bits 6 part) table) bits 36863) (low_bits-append 6 7 index)
+    ∙ under_same (low_bits 6 part) (low_bits 7 index) table 36863
+    ∙ ap (λ (bits : Bits). with_rows table bits 36863) (sym (low_bits-append 6 7 index))
 
 thirteen : (index : ℕ) → low_bits 13 index ≡ thirteen_bits index
 unfolding thirteen_bits
 thirteen index = refl
 
 -- so they are those of its list
-entries_agree : (color : Color) (table : Table) (entries : List ℕ) → numbered table ≡ codes_of color → length entries ≡ 8192 → AllAgree table entries
+entries_agree : (color : Color) (table : Table) (entries : List ℕ) → numbered table ≡ codes_of color → length entries ≡ 8192
+    → parts_agree table entries 64 ≡ true
     → AreEntries (codes_of color) entries
 entries_agree color table entries of count all = record {
   count = count;
@@ -104,63 +127,17 @@ entries_agree color table entries of count all = record {
 abbrev white_table : Table
 white_table = WHITE_TERMINATING ++ WHITE_MAKEUP ++ COMMON_MAKEUP
 
-white_0 : part_agrees white_table WHITE_ENTRIES 0 ≡ true
-white_0 = refl
-
-white_1 : part_agrees white_table WHITE_ENTRIES 1024 ≡ true
-white_1 = refl
-
-white_2 : part_agrees white_table WHITE_ENTRIES 2048 ≡ true
-white_2 = refl
-
-white_3 : part_agrees white_table WHITE_ENTRIES 3072 ≡ true
-white_3 = refl
-
-white_4 : part_agrees white_table WHITE_ENTRIES 4096 ≡ true
-white_4 = refl
-
-white_5 : part_agrees white_table WHITE_ENTRIES 5120 ≡ true
-white_5 = refl
-
-white_6 : part_agrees white_table WHITE_ENTRIES 6144 ≡ true
-white_6 = refl
-
-white_7 : part_agrees white_table WHITE_ENTRIES 7168 ≡ true
-white_7 = refl
+white_agrees : parts_agree white_table WHITE_ENTRIES 64 ≡ true
+white_agrees = refl
 
 pub white_entries_are : AreEntries white_codes WHITE_ENTRIES
-white_entries_are =
-    entries_agree White white_table WHITE_ENTRIES numbered_white refl
-    (record { part_0 = white_0; part_1 = white_1; part_2 = white_2; part_3 = white_3; part_4 = white_4; part_5 = white_5; part_6 = white_6; part_7 = white_7 })
+white_entries_are = entries_agree White white_table WHITE_ENTRIES numbered_white refl white_agrees
 
 abbrev black_table : Table
 black_table = BLACK_TERMINATING ++ BLACK_MAKEUP ++ COMMON_MAKEUP
 
-black_0 : part_agrees black_table BLACK_ENTRIES 0 ≡ true
-black_0 = refl
-
-black_1 : part_agrees black_table BLACK_ENTRIES 1024 ≡ true
-black_1 = refl
-
-black_2 : part_agrees black_table BLACK_ENTRIES 2048 ≡ true
-black_2 = refl
-
-black_3 : part_agrees black_table BLACK_ENTRIES 3072 ≡ true
-black_3 = refl
-
-black_4 : part_agrees black_table BLACK_ENTRIES 4096 ≡ true
-black_4 = refl
-
-black_5 : part_agrees black_table BLACK_ENTRIES 5120 ≡ true
-black_5 = refl
-
-black_6 : part_agrees black_table BLACK_ENTRIES 6144 ≡ true
-black_6 = refl
-
-black_7 : part_agrees black_table BLACK_ENTRIES 7168 ≡ true
-black_7 = refl
+black_agrees : parts_agree black_table BLACK_ENTRIES 64 ≡ true
+black_agrees = refl
 
 pub black_entries_are : AreEntries black_codes BLACK_ENTRIES
-black_entries_are =
-    entries_agree Black black_table BLACK_ENTRIES numbered_black refl
-    (record { part_0 = black_0; part_1 = black_1; part_2 = black_2; part_3 = black_3; part_4 = black_4; part_5 = black_5; part_6 = black_6; part_7 = black_7 })
+black_entries_are = entries_agree Black black_table BLACK_ENTRIES numbered_black refl black_agrees

@@ -23,7 +23,7 @@ after_at (true ∷ word) rest = after_at word rest
 after_at (false ∷ word) rest = after_at word rest
 
 -- of two words at one position, one is a prefix of the other
-either_prefix : (u w here rest : Bits) → after u (w ++ here) ≡ Some rest → (is_prefix u w ≡ true) ⊎ (is_prefix w u ≡ true)
+pub either_prefix : (u w here rest : Bits) → after u (w ++ here) ≡ Some rest → (is_prefix u w ≡ true) ⊎ (is_prefix w u ≡ true)
 either_prefix [] w here rest e = inl refl
 either_prefix (b ∷ u) [] here rest e = inr refl
 either_prefix (true ∷ u) (true ∷ w) here rest e = either_prefix u w here rest e
