@@ -138,12 +138,6 @@ pub(crate) struct EncodeOutcome {
 
 // SAFETY: these are the declarations of c/hayro_ccitt.h and c/fax_encode.h, and the structures above are their structures.
 unsafe extern "C" {
-    fn hayro_ccitt_measure(
-        data: *const u8,
-        data_length: usize,
-        settings: *const Settings,
-        outcome: *mut Outcome,
-    ) -> u32;
     fn hayro_ccitt_decode_packed(
         data: *const u8,
         data_length: usize,
@@ -185,18 +179,11 @@ unsafe extern "C" {
     ) -> u32;
 }
 
-/// Returns the status, and the numbers of rows and changes.
-pub(crate) fn measure(data: &[u8], settings: &Settings) -> (u32, Outcome) {
-    let mut outcome = Outcome::default();
-    // SAFETY: pointers of references and slices are not null and valid for their lengths, and `outcome` is this call's own.
-    let status = unsafe { hayro_ccitt_measure(data.as_ptr(), data.len(), settings, &mut outcome) };
-    (status, outcome)
-}
-
 /// Packs the rows, and returns the status and the outcome.
 pub(crate) fn decode_packed(data: &[u8], settings: &Settings, bitmap: &mut [u8]) -> (u32, Outcome) {
     let mut outcome = Outcome::default();
-    // SAFETY: as above; and nothing else refers to `bitmap`, since it is borrowed mutably.
+    // SAFETY: pointers of references and slices are not null and valid for their lengths, `outcome` is this call's own, and
+    // nothing else refers to `bitmap`, since it is borrowed mutably.
     let status = unsafe {
         hayro_ccitt_decode_packed(
             data.as_ptr(),

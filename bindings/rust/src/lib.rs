@@ -101,7 +101,7 @@ pub struct PackedRows {
     pub result: Result<usize>,
 }
 
-/// Decodes an image to a bitmap.
+/// Decodes an image to a bitmap, in memory for the bitmap.
 ///
 /// # Example
 ///
@@ -148,32 +148,95 @@ fn push_rows(
 }
 
 fn pack_rows(data: &[u8], ctx: &mut DecoderContext, settings: c::Settings) -> PackedRows {
-    let (status, counted) = c::measure(data, &settings);
-    if status == c::OUT_OF_MEMORY {
-        out_of_memory::<u8>(0);
-    }
     let width = ctx.settings.columns.div_ceil(8) as usize;
-    let mut bytes = zeros(usize_of(counted.rows).saturating_mul(width));
-    let (status, outcome) = c::decode_packed(data, &settings, &mut bytes);
-    let rows = usize_of(outcome.rows);
-    bytes.truncate(rows * width);
-    let result = result_of(status, &outcome);
+    let mut packed = match room_for_all(data, &ctx.settings, width) {
+        Some(room) => pack_at_once(data, ctx, &settings, zeros(room)),
+        None => pack_as_they_come(data, ctx, &settings, width),
+    };
+    packed.bytes.truncate(packed.rows * width);
+    packed.bytes.shrink_to_fit();
+    packed
+}
+
+/// Returns the length of a bitmap of as many rows as there may be, if that is usual: up to 1 MiB, or 64 times the length of the
+/// data. There may be as many as the limit, and one more than the data has bits. With more room nothing is allocated for rows
+/// that may not come.
+fn room_for_all(data: &[u8], settings: &DecodeSettings, width: usize) -> Option<usize> {
+    let limit = match settings.rows {
+        0 => usize::MAX,
+        rows => rows as usize,
+    };
+    let rows = limit.min(data.len().saturating_mul(8).saturating_add(1));
+    let usual = data.len().saturating_mul(64).max(1 << 20);
+    rows.checked_mul(width).filter(|room| *room <= usual)
+}
+
+/// Packs all rows into this bitmap, which has room for them.
+fn pack_at_once(
+    data: &[u8],
+    ctx: &mut DecoderContext,
+    settings: &c::Settings,
+    mut bytes: Vec<u8>,
+) -> PackedRows {
+    let (status, outcome) = c::decode_packed(data, settings, &mut bytes);
+    let result = match status {
+        // It is at most the length of the data.
+        c::OK => Ok(outcome.bytes_read as usize),
+        _ => Err(error_of(status)),
+    };
     ctx.damaged_rows = outcome.damaged_rows;
     ctx.fault_start = result.is_err().then(|| usize_of(outcome.fault_start));
     PackedRows {
-        rows,
+        rows: usize_of(outcome.rows),
         bytes,
         result,
     }
 }
 
-/// Returns the result of a status. There was room, since the rows were counted, and no slice is too long; so the last arm is
-/// for an allocation that failed.
-fn result_of(status: u32, outcome: &c::Outcome) -> Result<usize> {
-    match status {
-        // It is at most the length of the data.
-        c::OK => Ok(outcome.bytes_read as usize),
+/// Packs the rows one after another into a bitmap that grows as they come.
+fn pack_as_they_come(
+    data: &[u8],
+    ctx: &mut DecoderContext,
+    settings: &c::Settings,
+    width: usize,
+) -> PackedRows {
+    let mut rows = open_rows(data, settings);
+    let mut bytes = Vec::new();
+    let mut end = 0;
+    let status = loop {
+        match rows.next_packed(&mut bytes[end..]) {
+            c::OK => end += width,
+            // The next call packs the row for which there was no room.
+            c::REFUSED => {
+                let room = (end / width * 2)
+                    .max(data.len().saturating_mul(8) / width)
+                    .max(1);
+                let mut longer = zeros(room.saturating_mul(width));
+                longer[..end].copy_from_slice(&bytes);
+                bytes = longer;
+            }
+            status => break status,
+        }
+    };
+    let result = match status {
+        c::NO_ROW => Ok(usize_of(rows.row.bytes_read)),
         _ => Err(error_of(status)),
+    };
+    ctx.damaged_rows = rows.row.damaged_rows;
+    // After an error the reader tells the place of the fault.
+    ctx.fault_start = result.is_err().then(|| usize_of(rows.row.line_start));
+    PackedRows {
+        rows: usize_of(rows.row.rows),
+        bytes,
+        result,
+    }
+}
+
+/// Opens a reader. The settings are valid, and no slice is too long; so if it can't, an allocation failed.
+fn open_rows<'a>(data: &'a [u8], settings: &c::Settings) -> c::Rows<'a> {
+    match c::Rows::open(data, settings) {
+        Ok(rows) => rows,
+        Err(_) => out_of_memory::<u8>(0),
     }
 }
 
@@ -193,12 +256,7 @@ fn usize_of(number: u64) -> usize {
 
 /// Returns a vector of zeros. If the allocation fails, the program ends.
 fn zeros<T: Copy + Default>(length: usize) -> Vec<T> {
-    let mut made = Vec::new();
-    if made.try_reserve_exact(length).is_err() {
-        out_of_memory::<T>(length);
-    }
-    made.resize(length, T::default());
-    made
+    alloc::vec![T::default(); length]
 }
 
 /// Ends the program after an allocation that failed.

@@ -1,6 +1,6 @@
 //! Rows one at a time.
 
-use crate::{DecodeError, DecodeSettings, Result, c, error_of, out_of_memory, usize_of, zeros};
+use crate::{DecodeError, DecodeSettings, Result, c, error_of, open_rows, usize_of, zeros};
 use alloc::vec::Vec;
 
 /// Reads the rows of an image one at a time, in memory for a row, however long the image is.
@@ -41,12 +41,8 @@ impl<'a> RowReader<'a> {
     }
 
     pub(crate) fn with(data: &'a [u8], settings: &DecodeSettings, told: c::Settings) -> Self {
-        // The settings are valid, and no slice is too long; so an allocation failed.
-        let Ok(rows) = c::Rows::open(data, &told) else {
-            out_of_memory::<u8>(0)
-        };
         Self {
-            rows,
+            rows: open_rows(data, &told),
             columns: settings.columns,
             changes: Vec::new(),
             packed: Vec::new(),

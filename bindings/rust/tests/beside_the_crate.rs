@@ -127,6 +127,34 @@ fn rows_before_an_error_are_there() {
 }
 
 #[test]
+fn no_memory_is_allocated_for_rows_that_do_not_come() {
+    let widest = DecodeSettings {
+        columns: u32::MAX,
+        ..settings(u32::MAX)
+    };
+    let image = decode_packed(&[0, 0], &mut DecoderContext::new(widest));
+    assert_eq!((image.rows, image.bytes.capacity()), (0, 0));
+    assert_eq!(image.result, Err(DecodeError::InvalidCode));
+}
+
+#[test]
+fn as_many_rows_as_come_are_packed() {
+    let wide = DecodeSettings {
+        columns: 800,
+        ..settings(0)
+    };
+    // A row with the changes 3 and 5, and copies of it of three bits.
+    let mut data = vec![0xFF; 29_999];
+    data[0] = 0x31;
+    let image = decode_packed(&data, &mut DecoderContext::new(wide));
+    assert_eq!((image.rows, image.result), (79_995, Ok(29_999)));
+    assert_eq!(image.bytes.capacity(), 79_995 * 100);
+    let mut row = [0; 100];
+    row[0] = 0x18;
+    assert!(image.bytes.chunks(100).all(|one| one == row));
+}
+
+#[test]
 fn packed_rows_in_either_order() {
     let mut context = DecoderContext::new(settings(2));
     let turned: Vec<u8> = TWO_ROWS.iter().map(|byte| byte.reverse_bits()).collect();

@@ -1,7 +1,8 @@
-//! Each case of `corpus/cases.tsv`: the rows, the result and the number of bytes consumed.
+//! Each case of `corpus/cases.tsv`: the rows, the result and the number of bytes consumed, and the same rows packed.
 
 use hayro_ccitt::{
-    DecodeSettings, Decoder, DecoderContext, EncodingMode, decode, decode_low_first,
+    DecodeSettings, Decoder, DecoderContext, EncodingMode, PackedRows, decode, decode_low_first,
+    decode_packed, decode_packed_low_first,
 };
 use std::fs;
 
@@ -28,6 +29,51 @@ fn bytes_of(text: &str) -> Vec<u8> {
             bytes.collect::<Vec<u8>>().repeat(times.parse().unwrap())
         })
         .collect()
+}
+
+/// Paints each row into a bitmap.
+struct Bitmap {
+    columns: u32,
+    bytes: Vec<u8>,
+}
+
+impl Decoder for Bitmap {
+    fn push_row(&mut self, changes: &[u32]) {
+        let start = self.bytes.len();
+        self.bytes
+            .resize(start + self.columns.div_ceil(8) as usize, 0);
+        for run in changes.chunks(2) {
+            for pixel in run[0]..run.get(1).copied().unwrap_or(self.columns) {
+                self.bytes[start + pixel as usize / 8] |= 0x80 >> (pixel % 8);
+            }
+        }
+    }
+}
+
+/// The packed rows are those that a sink gets, also with another limit that is no limit, and take no more memory.
+fn compare_packed(bytes: &[u8], settings: DecodeSettings, low_first: bool) {
+    let unreached = u32::MAX;
+    for rows in [
+        settings.rows,
+        if settings.rows == 0 { unreached } else { 0 },
+    ] {
+        let mut context = DecoderContext::new(DecodeSettings { rows, ..settings });
+        let mut bitmap = Bitmap {
+            columns: settings.columns,
+            bytes: Vec::new(),
+        };
+        let (result, packed): (_, PackedRows) = if low_first {
+            let result = decode_low_first(bytes, &mut bitmap, &mut context);
+            (result, decode_packed_low_first(bytes, &mut context))
+        } else {
+            let result = decode(bytes, &mut bitmap, &mut context);
+            (result, decode_packed(bytes, &mut context))
+        };
+        let width = settings.columns.div_ceil(8) as usize;
+        assert_eq!((packed.result, &packed.bytes), (result, &bitmap.bytes));
+        assert_eq!(packed.rows * width, packed.bytes.len());
+        assert_eq!(packed.bytes.capacity(), packed.bytes.len());
+    }
 }
 
 fn settings_of(words: &str) -> DecodeSettings {
@@ -70,6 +116,10 @@ fn known_cases() {
                 Err(error) => format!("error: {error}"),
             });
             assert_eq!(text.0.join("/"), expected, "{words} {data}");
+        }
+        let settings = settings_of(words);
+        if settings.columns <= 1 << 16 {
+            compare_packed(&bytes_of(data), settings, words.contains('r'));
         }
         seen += 1;
     }
