@@ -31,7 +31,7 @@ ends_after step settings bits before after held (Err Refused) takes short = shor
 -- if the first allocation fails, nothing is accepted
 pub no_memory : (settings : DecodeSettings) (bits : Bits) → IsReport settings bits 4 0 0 0
 no_memory settings bits =
-    record { answer = Err OutOfMemory; ends = (omega arith, inl refl); status_is = refl; bytes_are = refl; fault_is = inr (refl, (refl, refl)) }
+    record { answer = Err OutOfMemory; ends = (omega arith, inl refl); status_is = refl; bytes_are = refl; fault_is = inr (refl, refl, refl) }
 
 -- the place that the context tells is that of the end
 pub fails_at : (settings : DecodeSettings) (bits : Bits) (taken : ℕ) (answer : Result ℕ DecodeError) (place : Option ℕ) → OnErr answer (place ≡ Some (failed_at settings bits taken))
