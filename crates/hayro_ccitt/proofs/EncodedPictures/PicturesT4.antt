@@ -49,7 +49,9 @@ line_1d_starts color row bits more EncodesLine1D.over some = absurd (omega arith
 line_1d_starts color row bits more (EncodesLine1D.run n word {row = others} {bits = next} spells first maximal rest) some =
     subst IsLineStart (sym (append_assoc word next more)) (run_starts color n word (next ++ more) spells)
 
-line_2d_after_tag : (reference row : Row) (from : ℕ) (color : Color) (bits more : Bits) → EncodesLine2D reference row from color bits
+-- no EOL is here, where a zero is the tag before
+pub line_2d_after_tag : (reference row : Row) (from : ℕ) (color : Color) (bits more : Bits)
+    → EncodesLine2D reference row from color bits
     → from ≤ length row → after_eol 1 (bits ++ more) ≡ None
 line_2d_after_tag reference row from color bits more given le = grind (arith, common_steps)
 
