@@ -3,6 +3,7 @@ pub mod BodyTests
 pub mod BodyWork
 pub mod Damage
 pub mod DamageByK
+pub mod EncodedBodies
 pub mod EolsAlike
 pub mod LineStarts
 pub mod LineTails

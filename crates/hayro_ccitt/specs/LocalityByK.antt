@@ -5,7 +5,7 @@ use Rattle.hayro_ccitt.specs.declared.error.DecodeError.{DecodeError}
 use Rattle.hayro_ccitt.specs.declared.settings.EncodingMode.TheVariants.{Group3_2D}
 use Rattle.hayro_ccitt.specs.declared.settings.DecodeSettings.{DecodeSettings}
 use Rattle.hayro_ccitt.specs.Bits.{Bits, AreWholeBytes, IsPrefix}
-use Rattle.hayro_ccitt.specs.Encodings.{EncodesLine2D}
+use Rattle.hayro_ccitt.specs.Encodings.{EncodesLine, EncodesLine2D, EncodesRowsWithEols, IsPicture, eol}
 use Rattle.hayro_ccitt.specs.EndOfLine.{after_eol, eols_with_tags, tagged_eols}
 use Rattle.hayro_ccitt.specs.Lines.{Line}
 use Rattle.hayro_ccitt.specs.Locality.{IsEol, IsEolAt, ComesToLine, EndAlike}
@@ -94,3 +94,13 @@ DamageEndsAt1D settings one rows outcome = (two : Bits) (from to to2 lines : ℕ
 abbrev pub LocalityByK : Type 0
 LocalityByK = (settings : DecodeSettings) (bits : Bits) → AreSettings settings → AreWholeBytes bits
     → DamageEndsAt1D settings bits (plain settings bits).rows (plain settings bits).outcome
+
+-- A line of an encoding, after lines of one with an EOL before each, is such a body in data that have an EOL behind it
+-- (T.4, 4.1.2 and 4.2).
+abbrev pub EncodedLinesAreBodies : Type 0
+EncodedLinesAreBodies = (settings : DecodeSettings) (reference above row : Row) (rows : List Row) (front line next : Bits)
+    (fill : ℕ)
+    → AreSettings settings → settings.encoding ≡ Group3_2D → settings.strict ≡ false → IsPicture settings.columns (row ∷ rows)
+    → EncodesRowsWithEols Group3_2D reference rows front → EncodesLine Group3_2D above row line → IsEolAt next
+    → IsTaggedBody settings ((front ++ eol fill) ++ (line ++ next)) (length (front ++ eol fill))
+        (length (front ++ eol fill) + length line)

@@ -4,7 +4,7 @@ use Rattle.std.proofs.Common.{◌≡◌, ℕ, suc, ◌+◌, ◌-◌, ◌≤◌, 
 use Rattle.std.proofs.Common.{Some, None, Result, Ok, Err, refl, sym, ap, subst, ◌∙◌, append_assoc, arith, ◌⊎◌, inl, inr}
 use Rattle.std.specs.Prelude.{pos, ◌+ℤ◌}
 use Rattle.std.proofs.lemmas.Bool.{cases_lt, lt-ltb, le-ltb, lt-leb}
-use Rattle.std.proofs.lemmas.List.{replicate-append-replicate}
+use Rattle.std.proofs.lemmas.List.{length-append, replicate-append-replicate}
 use Rattle.hayro_ccitt.specs.declared.codes.Color.{Color}
 use Rattle.hayro_ccitt.specs.declared.codes.Color.TheVariants.{White}
 use Rattle.hayro_ccitt.specs.declared.codes.Mode.{Mode}
@@ -54,13 +54,13 @@ quiet_word word quiet n le =
     let one = scan_below n 3 q.0 word le q.1 in
     (one.0, one.1, omega (arith, one.2, q.2))
 
-quiet_append : (a b : Bits) → Quiet a → Quiet b → Quiet (a ++ b)
+pub quiet_append : (a b : Bits) → Quiet a → Quiet b → Quiet (a ++ b)
 quiet_append a b p q n le =
     let f = p n le in
     let g = q f.0 f.2 in
     (g.0, scan-append n f.0 a b f.1 ∙ g.1, g.2)
 
-quiet_run : (color : Color) (n : ℕ) (bits : Bits) → Spells color n bits → Quiet bits
+pub quiet_run : (color : Color) (n : ℕ) (bits : Bits) → Spells color n bits → Quiet bits
 quiet_run color n bits (Spells.terminating m word has small) = quiet_word bits (word_quiet bits (inl (color, n, has)))
 quiet_run color n bits (Spells.makeup m word {n = k} {bits = next} has large rest) =
     quiet_append word next (quiet_word word (word_quiet word (inl (color, m, has)))) (quiet_run color k next rest)
@@ -208,47 +208,56 @@ module _ (columns : ℕ) (other : Row) (after : Bits) where
       (two_runs front color _ _ run1 run2 (next ++ tail) spells1 spells2
           (λ more. line_from reference row _ more color next steps))))
 
--- whatever row it is read against, it ends at a word or is broken
+-- Whatever row it is read against, it ends at a word or is broken.
 line_ahead : (columns : ℕ) (other reference row : Row) (bits after : Bits) → EncodesLine2D reference row 0 White bits
     → Ahead columns other after (line_2d false columns other (bits ++ (replicate 11 false ++ after)))
 line_ahead columns other reference row bits after encodes = line_from columns other after reference row 0 [] White bits encodes
 
--- and the next EOL from where it ended, or from its tag if it is broken, is the one behind it
-pub next_behind : (settings : DecodeSettings) → settings.encoding ≡ Group3_2D → settings.strict ≡ false
-    → (other reference row : Row) (line next after : Bits)
-    → EncodesLine2D reference row 0 White line → after_eol 0 next ≡ Some after
-    → past 0 (rest_of (line_here settings other (false ∷ line ++ next)) (false ∷ line ++ next)) ≡ Some after
-next_behind settings encoding lenient other reference row line next after encodes e =
-    rw (is, tail_is) (by (line_2d false settings.columns other (line ++ tail))
-        (line_ahead settings.columns other reference row line more encodes))
-  where
-    eol : (k : ℕ) × (next ≡ replicate k false ++ true ∷ after) × (11 ≤ 0 + k)
-    eol = after_eol_is 0 next after e
+-- an EOL begins with eleven zeros
+zeros_first : (next after : Bits) → after_eol 0 next ≡ Some after → (more : Bits) × (next ≡ replicate 11 false ++ more)
+zeros_first next after e =
+    let eol = after_eol_is 0 next after e in
+    let more = replicate (eol.0 - 11) false ++ true ∷ after in
+    let sum : 11 + (eol.0 - 11) ≡ eol.0 = omega (arith, eol.2) in (
+      more,
+      eol.1 ∙ ap (λ (n : ℕ). replicate n false ++ true ∷ after) (sym sum)
+          ∙ ap (λ (b : Bits). b ++ true ∷ after) (sym (replicate-append-replicate 11 (eol.0 - 11) false))
+          ∙ append_assoc (replicate 11 false) (replicate (eol.0 - 11) false) (true ∷ after),
+    )
 
-    more : Bits
-    more = replicate (eol.0 - 11) false ++ true ∷ after
+module _ (settings : DecodeSettings) (encoding : settings.encoding ≡ Group3_2D) (lenient : settings.strict ≡ false)
+    (other reference row : Row) (line next after : Bits) (encodes : EncodesLine2D reference row 0 White line)
+    (eol : after_eol 0 next ≡ Some after) where
+  -- the bits that follow, from the zeros of the EOL on
+  abbrev zeros : (more : Bits) × (next ≡ replicate 11 false ++ more)
+  zeros = zeros_first next after eol
 
-    tail : Bits
-    tail = replicate 11 false ++ more
+  is : line_here settings other (false ∷ line ++ next) ≡ line_2d false settings.columns other
+      (line ++ (replicate 11 false ++ zeros.0))
+  is = ap (λ (e : EncodingMode). line_by e settings.strict settings.columns other (false ∷ line ++ next)) encoding
+      ∙ ap (λ (s : Bool). line_2d s settings.columns other (line ++ next)) lenient
+      ∙ ap (λ (b : Bits). line_2d false settings.columns other (line ++ b)) zeros.1
 
-    tail_is : next ≡ tail
-    tail_is =
-        let sum : 11 + (eol.0 - 11) ≡ eol.0 = omega (arith, eol.2) in
-        eol.1 ∙ ap (λ (n : ℕ). replicate n false ++ true ∷ after) (sym sum)
-        ∙ ap (λ (b : Bits). b ++ true ∷ after) (sym (replicate-append-replicate 11 (eol.0 - 11) false))
-        ∙ append_assoc (replicate 11 false) (replicate (eol.0 - 11) false) (true ∷ after)
+  ahead : Ahead settings.columns other zeros.0 (line_here settings other (false ∷ line ++ next))
+  ahead = subst (Ahead settings.columns other zeros.0) (sym is)
+      (line_ahead settings.columns other reference row line zeros.0 encodes)
 
-    is : line_here settings other (false ∷ line ++ next) ≡ line_2d false settings.columns other (line ++ next)
-    is = ap (λ (e : EncodingMode). line_by e settings.strict settings.columns other (false ∷ line ++ next)) encoding
-        ∙ ap (λ (s : Bool). line_2d s settings.columns other (line ++ next)) lenient
+  -- the next EOL from where it ended, or from its tag if it is broken, is the one behind it
+  pub next_behind : past 0 (rest_of (line_here settings other (false ∷ line ++ next)) (false ∷ line ++ next)) ≡ Some after
+  next_behind = by (line_here settings other (false ∷ line ++ next)) ahead
+    where
+      by : (read : Line) → Ahead settings.columns other zeros.0 read → past 0 (rest_of read (false ∷ line ++ next)) ≡ Some after
+      by (Line.whole front rest) (suffix, quiet, rest_is) =
+          let q = quiet 0 (omega arith) in
+          let rest_next : rest ≡ suffix ++ next = rest_is ∙ ap (λ (b : Bits). suffix ++ b) (sym zeros.1) in
+          ap (past 0) rest_next ∙ past_before 0 suffix next after (scan_past 0 q.0 suffix (omega arith) q.1) eol
+      by (Line.broken front fault) broken =
+          let q = quiet_line reference row 0 White line encodes 1 (omega arith) in
+          past_before 0 (false ∷ line) next after (scan_past 1 q.0 line (omega arith) q.1) eol
 
-    found : after_eol 0 tail ≡ Some after
-    found = ap (after_eol 0) (sym tail_is) ∙ e
-
-    by : (read : Line) → Ahead settings.columns other more read → past 0 (rest_of read (false ∷ line ++ tail)) ≡ Some after
-    by (Line.whole front rest) (suffix, quiet, rest_is) =
-        let q = quiet 0 (omega arith) in
-        rw rest_is (past_before 0 suffix tail after (scan_past 0 q.0 suffix (omega arith) q.1) found)
-    by (Line.broken front fault) broken =
-        let q = quiet_line reference row 0 White line encodes 1 (omega arith) in
-        past_before 0 (false ∷ line) tail after (scan_past 1 q.0 line (omega arith) q.1) found
+  -- a whole line leaves it all
+  pub leaves_next : (read : Row) (rest : Bits) → line_here settings other (false ∷ line ++ next) ≡ Line.whole read rest
+      → length next ≤ length rest
+  leaves_next read rest e =
+      let left = subst (Ahead settings.columns other zeros.0) e ahead in
+      omega (arith, ap length left.2, ap length zeros.1, length-append left.0 (replicate 11 false ++ zeros.0))

@@ -30,7 +30,7 @@ use Rattle.hayro_ccitt.proofs.DamagedLines.Damage.{LinesDiffer, damage}
 
 module _ (settings : DecodeSettings) (encoding : settings.encoding ≡ Group3_2D) (lenient : settings.strict ≡ false) where
   -- the EOL before the lines that follow
-  eol_before : (lines : ℕ) (here : Bits) → ComeBefore1D settings lines here → IsEolAt here
+  pub eol_before : (lines : ℕ) (here : Bits) → ComeBefore1D settings lines here → IsEolAt here
   eol_before zero here (eol, ends) = eol
   eol_before (suc lines) here (reference, row, line, next, encodes, e, more) = (false ∷ line ++ next, e)
 
