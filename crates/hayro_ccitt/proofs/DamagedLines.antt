@@ -1,6 +1,9 @@
+pub mod AnyReference
 pub mod BodyTests
 pub mod BodyWork
 pub mod Damage
+pub mod DamageByK
+pub mod EncodedBodies
 pub mod EolsAlike
 pub mod LineStarts
 pub mod LineTails

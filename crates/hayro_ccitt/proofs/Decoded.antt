@@ -17,6 +17,7 @@ use Rattle.hayro_ccitt.specs.Rows.{Row}
 use Rattle.hayro_ccitt.specs.Settings.{AreSettings}
 use Rattle.hayro_ccitt.specs.Work.{CountsWork}
 use Rattle.hayro_ccitt.proofs.DamagedLines.Damage.{damage_stays}
+use Rattle.hayro_ccitt.proofs.DamagedLines.DamageByK.{damage_ends}
 use Rattle.hayro_ccitt.proofs.EncodedPictures.PicturesOfEachKind.{closed_pictures, limited_pictures}
 use Rattle.hayro_ccitt.proofs.Readings.PlainAnswers.{LeavesRows}
 use Rattle.hayro_ccitt.proofs.Readings.RowWidths.{plain_width}
@@ -73,6 +74,8 @@ decodes settings bits step before after held place ticks answer are whole (takes
       closed_whole = λ rows count picture. repaired.taken ∙ no_repairs settings bits held.taken (closed_strict settings rows count bits are whole picture);
       limited_whole = λ rows picture. repaired.taken ∙ no_repairs settings bits held.taken (limited_strict settings rows bits are whole picture);
       damage = on_answer answer (λ e. damage_stays settings bits (take held.taken (plain settings bits).rows) answer are whole e.0 e.1) end;
+      damage_by_k = on_answer answer (λ e. damage_ends settings bits
+          (take held.taken (plain settings bits).rows) answer are whole e.0 e.1) end;
     }
   where
     means : (rows : List Row) → take held.taken (plain settings bits).rows ≡ rows → after.meaning ≡ meaning_after step before.meaning rows

@@ -9,6 +9,7 @@ use Rattle.hayro_ccitt.specs.Context.{Held}
 use Rattle.hayro_ccitt.specs.Damage.{repairs_by_line, repairs_of}
 use Rattle.hayro_ccitt.specs.Decoding.{SinkState, TakesRows, StopsShort}
 use Rattle.hayro_ccitt.specs.Locality.{DamageStaysInRow}
+use Rattle.hayro_ccitt.specs.LocalityByK.{DamageEndsAt1D}
 use Rattle.hayro_ccitt.specs.Pictures.{IsClosedPicture, IsLimitedPicture}
 use Rattle.hayro_ccitt.specs.PlainReading.{plain, lines_of, failed_at}
 use Rattle.hayro_ccitt.specs.Rows.{Row, HaveWidth}
@@ -55,3 +56,6 @@ pub record Decodes {M : Type 0} (settings : DecodeSettings) (bits : Bits) (step 
   pub limited_whole : (rows : List Row) → IsLimitedPicture settings rows bits → held.repairs.rows ≡ 0
   -- In lenient one-dimensional data with EOLs a change inside one line's body changes that row alone (T.4, 4.1.2).
   pub damage : OnAnswer answer (DamageStaysInRow settings bits (take held.taken (plain settings bits).rows) answer)
+  -- In two-dimensional ones a change inside one line changes no row from the next one-dimensional line on, if the lines in
+  -- between are those of an encoding (T.4, 4.1.2 and 4.2).
+  pub damage_by_k : OnAnswer answer (DamageEndsAt1D settings bits (take held.taken (plain settings bits).rows) answer)

@@ -13,6 +13,7 @@ pub mod Laws
 pub mod Lending
 pub mod Lines
 pub mod Locality
+pub mod LocalityByK
 pub mod LookUps
 pub mod Pictures
 pub mod PlainReading

@@ -136,25 +136,28 @@ pub record EndsAt (settings : DecodeSettings) (bits : Bits) (outcome : Result �
   pub place_is : place + length rest ≡ length bits
   pub count_is : outcome ≡ Ok count
 
--- How the readings of two data end that differ only in the line at a position; the first has these rows (T.4, 4.1.2).
-pub data EndAlike (settings : DecodeSettings) (one two : Bits) (from : ℕ) (rows : List Row) (outcome other : Result ℕ DecodeError) : Type 0 where
+-- How the readings of two data end whose rows may differ from the line at a position on, in as many rows at most; the
+-- first has these rows (T.4, 4.1.2).
+pub data EndAlike (settings : DecodeSettings) (one two : Bits) (from differ : ℕ) (rows : List Row)
+    (outcome other : Result ℕ DecodeError) : Type 0 where
   -- both with the same fault
-  faults : (fault : DecodeError) → outcome ≡ Err fault → other ≡ Err fault → EndAlike settings one two from rows outcome other
+  faults : (fault : DecodeError) → outcome ≡ Err fault → other ≡ Err fault
+      → EndAlike settings one two from differ rows outcome other
   -- both at once, without columns
-  no_columns : settings.columns ≡ 0 → outcome ≡ Ok 0 → other ≡ Ok 0 → EndAlike settings one two from rows outcome other
+  no_columns : settings.columns ≡ 0 → outcome ≡ Ok 0 → other ≡ Ok 0 → EndAlike settings one two from differ rows outcome other
   -- both at one position, not after the line's start, with one count
   before : (place count : ℕ) → place ≤ from → EndsAt settings one outcome place count → EndsAt settings two other place count
-      → EndAlike settings one two from rows outcome other
+      → EndAlike settings one two from differ rows outcome other
   -- both after the line's start, at the same number of bytes before the end of their data
   past : (place place2 count count2 : ℕ) → from < place → from < place2
       → EndsAt settings one outcome place count → EndsAt settings two other place2 count2 → 8 * count + length two ≡ 8 * count2 + length one
-      → EndAlike settings one two from rows outcome other
-  -- both at the row limit, which the row of this very line meets, wherever the line ends
+      → EndAlike settings one two from differ rows outcome other
+  -- both at the row limit, which one of these very rows meets, wherever its line ends
   at_limit : (index place place2 count count2 : ℕ)
       → ComesToLine settings one from index → ComesToLine settings two from index
-      → settings.rows ≡ suc index → length rows ≡ suc index → from ≤ place → from ≤ place2
+      → index < settings.rows → settings.rows ≤ index + differ → length rows ≡ settings.rows → from ≤ place → from ≤ place2
       → EndsAt settings one outcome place count → EndsAt settings two other place2 count2
-      → EndAlike settings one two from rows outcome other
+      → EndAlike settings one two from differ rows outcome other
 
 -- Two data differ only within one body, which is local in both; and EOLs are sought from the start (T.4, 4.1.2).
 pub record DifferInOneBody (settings : DecodeSettings) (one two : Bits) (from to to2 : ℕ) : Type 0 where
@@ -169,7 +172,7 @@ pub record DifferInOneBody (settings : DecodeSettings) (one two : Bits) (from to
 abbrev pub DamageStaysInRow : DecodeSettings → Bits → List Row → Result ℕ DecodeError → Type 0
 DamageStaysInRow settings one rows outcome = (two : Bits) (from to to2 : ℕ) → AreWholeBytes two → DifferInOneBody settings one two from to to2
     → OneRowDiffers settings one two from rows (plain settings two).rows
-    × EndAlike settings one two from rows outcome (plain settings two).outcome
+    × EndAlike settings one two from 1 rows outcome (plain settings two).outcome
 
 -- This is true of the plain reading (T.4, 4.1.2).
 abbrev pub Locality : Type 0

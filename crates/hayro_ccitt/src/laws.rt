@@ -11,6 +11,7 @@ ghost use Rattle.hayro_ccitt.specs.Laws.{ReadsPictureT6, ReadsLimitedRowsT6, Rea
 ghost use Rattle.hayro_ccitt.specs.Laws.{AfterEofb, PicturesComeToEofb, OnePictureT6, OnePictureT4};
 ghost use Rattle.hayro_ccitt.specs.Laws.{EveryPictureHasAnEncoding, BytesBeginWithAnyBits, BitsOfBytesAreWhole, OrdersMirror, RowsOfChanges, ChangesOfRows, StepsOnRows};
 ghost use Rattle.hayro_ccitt.specs.Locality.{LinesByEols, StartsAre, Locality, LocalByTests};
+ghost use Rattle.hayro_ccitt.specs.LocalityByK.{LocalityByK, EncodedLinesAreBodies};
 
 use crate::Decoder;
 
@@ -109,6 +110,16 @@ pub fn lines_by_eols()
 pub fn locality()
     ensures one_row { Locality }
     ensures tests { LocalByTests }
+{}
+
+/// Two-dimensional lenient data of Group 3 with EOLs. A line lies between two EOLs, or at the start of the data before the
+/// first, with its tag; behind the tag is a one, no EOL is in between, and the line as it is read, if it is whole, ends before
+/// the last twelve bits of the EOL after it. If the two-dimensional lines that follow it, up to the next one-dimensional
+/// one, are lines of encodings, then another such line instead of it changes at most its row and theirs, and the reading
+/// ends alike. Each line of an encoding is such a line (T.4 sections 4.1.2 and 4.2).
+pub fn locality_by_k()
+    ensures rows { LocalityByK }
+    ensures bodies { EncodedLinesAreBodies }
 {}
 
 /// Lawful lists of changes and rows of pixels correspond one to one (T.4 section 4.2.1.1).

@@ -8,7 +8,7 @@ use Rattle.hayro_ccitt.specs.Bits.{Bits, bits_of}
 use Rattle.hayro_ccitt.specs.Rows.{Row, pixels}
 use Rattle.hayro_ccitt.specs.Lines.{Line}
 use Rattle.hayro_ccitt.specs.Encodings.{Spells, EncodesLine1D, EncodesLine2D}
-use Rattle.worked_rows.specs.Examples.{hex, EncodesTwoLines, EncodesTaggedRows, with_eols, three_rows, bits_changed, bits_added, words_added, group3_1d, HaveLocalBodies, ReadsDamage, LimitBehindTheBody}
+use Rattle.worked_rows.specs.Examples.{hex, EncodesTwoLines, EncodesTaggedRows, with_eols, three_rows, bits_changed, bits_added, words_added, group3_1d, HaveLocalBodies, ReadsDamage, LimitBehindTheBody, OneLineFollows, ReadsDamageByK}
 use Rattle.hayro_ccitt.specs.Locality.{IsLocal, IsLocalByTests, ComesToLine, EndAlike}
 use Rattle.hayro_ccitt.specs.Repetition.{Turn, Reaches}
 use Rattle.hayro_ccitt.specs.PlainReading.{Progress, Move, first_line, move_on}
@@ -207,6 +207,24 @@ limit_behind rows count count2 (EndAlike.before place n le one two) =
 limit_behind rows count count2 (EndAlike.past place place2 n n2 lt lt2 one two counts) =
     let sum : 8 * n + 128 ≡ 8 * n2 + 56 = counts in
     omega (arith, sum, count_is count n one.count_is, count_is count2 n2 two.count_is)
-limit_behind rows count count2 (EndAlike.at_limit index place place2 n n2 comes comes2 limit many le le2 one two) =
-    let second : index ≡ 2 = omega (arith, limit) in
+limit_behind rows count count2 (EndAlike.at_limit index place place2 n n2 comes comes2 met limit many le le2 one two) =
+    let second : index ≡ 2 = omega (arith, met, limit) in
     absurd (not_before_two (subst (ComesToLine limit_of_three (bits_of (hex three_rows)) 29) second comes))
+
+-- ---- Locality in two dimensions
+
+pub one_line_follows : OneLineFollows
+one_line_follows = (
+  pixels 8 (3 ∷ 5 ∷ []),
+  pixels 8 (3 ∷ 5 ∷ []),
+  true ∷ true ∷ true ∷ [],
+  _,
+  EncodesLine2D.vertical 0 (true ∷ []) (pos 0) (omega arith) (inr (inr (inl (refl, refl)))) refl
+      (EncodesLine2D.vertical 4 (true ∷ []) (pos 0) (omega arith) (inr (inr (inl (refl, refl)))) refl
+      (EncodesLine2D.vertical 6 (true ∷ []) (pos 0) (omega arith) (inr (inr (inl (refl, refl)))) refl EncodesLine2D.over)),
+  refl,
+  ((_, refl), inr (inl (_, refl))),
+)
+
+pub damage_by_k_read : ReadsDamageByK
+damage_by_k_read = (refl, refl, refl)

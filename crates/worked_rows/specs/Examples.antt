@@ -1,5 +1,5 @@
 -- Worked examples, written as texts: settings, bytes, and the result of the plain reading.
-use Rattle.std.specs.Prelude.{ℕ, ◌+◌, ◌-◌, ◌*◌, ◌==◌, ◌≡◌, nat_lt, List, [], ◌∷◌, take, map, codes, Bool, false, Ok, Result, if◌then◌else◌}
+use Rattle.std.specs.Prelude.{ℕ, ◌+◌, ◌-◌, ◌*◌, ◌==◌, ◌≡◌, nat_lt, List, [], ◌∷◌, take, drop, map, codes, Bool, false, Ok, Result, if◌then◌else◌}
 use Rattle.std.specs.List.{list_any}
 use Prim.Native.String.{String}
 use Rattle.hayro_ccitt.specs.declared.error.DecodeError.{DecodeError}
@@ -11,6 +11,7 @@ use Rattle.hayro_ccitt.specs.Damage.{Damaged, damage_of, repairs_of}
 use Rattle.hayro_ccitt.specs.Rows.{Row, changes, pixels, white_row}
 use Rattle.hayro_ccitt.specs.Encodings.{EncodesRows, PictureT4}
 use Rattle.hayro_ccitt.specs.Locality.{IsLocal, EndAlike}
+use Rattle.hayro_ccitt.specs.LocalityByK.{ComeBefore1D}
 use Rattle.hayro_ccitt.specs.PlainReading.{plain}
 
 -- the value of a hexadecimal digit, a capital letter or a figure
@@ -131,4 +132,36 @@ ReadsDamage = (reading_of with_eols three_rows ≡ ([] ∷ (3 ∷ 5 ∷ []) ∷ 
 -- lengths
 abbrev pub LimitBehindTheBody : Type 0
 LimitBehindTheBody = (rows : List Row) (count count2 : ℕ)
-    → EndAlike (group3_1d 8 3 "l") (bits_of (hex three_rows)) (bits_of (hex words_added)) 29 rows (Ok count) (Ok count2) → count + 16 ≡ count2 + 7
+    → EndAlike (group3_1d 8 3 "l") (bits_of (hex three_rows)) (bits_of (hex words_added)) 29 1 rows (Ok count) (Ok count2)
+        → count + 16 ≡ count2 + 7
+
+-- ---- Locality in two dimensions
+
+-- eight columns of lenient two-dimensional data with EOLs
+abbrev pub with_tags : DecodeSettings
+with_tags = group3_2d 8 0 "l"
+
+-- four rows: a one-dimensional line, two two-dimensional ones, of which the first has the bits from 30 to 41 and the
+-- second keeps its changes, and a one-dimensional one
+abbrev pub four_rows : String
+four_rows = "001CC00463800B800073"
+
+-- with a longer run before the first change
+abbrev pub change_moved : String
+change_moved = "001CC0046F800B800073"
+
+-- with a mode that doesn't exist instead
+abbrev pub mode_broken : String
+mode_broken = "001CC00407800B800073"
+
+-- one two-dimensional line of an encoding follows that line, and then a one-dimensional one: `LocalityByK` speaks of two
+-- rows
+abbrev pub OneLineFollows : Type 0
+OneLineFollows = ComeBefore1D with_tags 1 (drop 41 (bits_of (hex four_rows)))
+
+-- The line and the one after it differ, and not the last. Against the white row of the broken line the next one is full
+-- after its first word, and the rest of its words is passed over.
+abbrev pub ReadsDamageByK : Type 0
+ReadsDamageByK = (reading_of with_tags four_rows ≡ ([] ∷ (3 ∷ 5 ∷ []) ∷ (3 ∷ 5 ∷ []) ∷ [] ∷ [], Ok 10))
+    × (reading_of with_tags change_moved ≡ ([] ∷ (4 ∷ 6 ∷ []) ∷ (4 ∷ 6 ∷ []) ∷ [] ∷ [], Ok 10))
+    × (reading_of with_tags mode_broken ≡ ([] ∷ [] ∷ [] ∷ [] ∷ [], Ok 10))

@@ -1,12 +1,14 @@
 -- EOLs of two data that are equal up to one position, where an EOL ends and none begins.
 use Rattle.std.proofs.Common.{◌≡◌, ℕ, zero, suc, ◌<◌, ◌≤◌, Bool, true, false, cond, leb, [], ◌∷◌, ◌++◌, length, replicate, Option, Some, None}
 use Rattle.std.proofs.Common.{refl, sym, ap, ◌∙◌, append_assoc, arith, ◌⊎◌, inl, inr}
+use Rattle.std.proofs.lemmas.Bool.{lt-leb}
 use Rattle.std.proofs.lemmas.List.{length-append}
 use Rattle.hayro_ccitt.specs.Bits.{Bits}
-use Rattle.hayro_ccitt.specs.EndOfLine.{after_eol, all_eols}
-use Rattle.hayro_ccitt.proofs.DamagedLines.PastEol.{past, all_eols-some, all_eols-none}
+use Rattle.hayro_ccitt.specs.EndOfLine.{after_eol, all_eols, past_tag, pass_last_tag}
+use Rattle.hayro_ccitt.proofs.DamagedLines.PastEol.{past, all_eols-some, all_eols-none, all_tagged, all_tagged-some, all_tagged-none}
 use Rattle.hayro_ccitt.proofs.BitReading.ZerosInWords.{scan, scan_holds}
 use Rattle.hayro_ccitt.proofs.DamagedLines.LinesBeforeEol.{Inside}
+use Rattle.hayro_ccitt.proofs.DrawingLines.LinesLeaveBits.{Leaves, leaves_trans}
 use Rattle.std.proofs.lemmas.Grind.{common_steps}
 
 -- bits that end with the zeros of an EOL
@@ -37,9 +39,23 @@ inside_after bits before after inside e =
     closes_after (inside.last.0 ++ before) after inside.last.1
     (append_assoc inside.last.0 before (true ∷ after) ∙ ap (λ (x : Bits). inside.last.0 ++ x) (sym e) ∙ inside.last.2)
 
+-- what follows a one is a suffix
+pub leaves_after : (bits before after : Bits) → bits ≡ before ++ true ∷ after → Leaves bits after
+leaves_after bits before after e = (before ++ true ∷ [], e ∙ sym (append_assoc before (true ∷ []) after))
+
+-- a suffix isn't longer
+pub leaves_length : (bits rest : Bits) → Leaves bits rest → length rest ≤ length bits
+leaves_length bits rest leaves = omega (arith, ap length leaves.1, length-append leaves.0 rest)
+
 -- what follows a one is shorter
 pub after_shorter : (bits before after : Bits) → bits ≡ before ++ true ∷ after → length after < length bits
 after_shorter bits before after e = omega (arith, ap length e, length-append before (true ∷ after))
+
+-- the tag after fewer than six EOLs stays
+pub last_tag_few : (count : ℕ) (here : Bits) → count < 6 → pass_last_tag (count, here) ≡ (count, here)
+last_tag_few count [] few = refl
+last_tag_few count (true ∷ here) few = rw (lt-leb 6 count few) refl
+last_tag_few count (false ∷ here) few = refl
 
 module _ (x y : Bits) where
   -- what follows an EOL: within the equal bits; or just past them; or there is none
@@ -85,7 +101,7 @@ module _ (x y : Bits) where
 
   -- where counting EOLs ends: within the equal bits, or just past them
   abbrev pub RestAlike : Bits → Bits → Bits → Type 0
-  RestAlike bits here there = ((rest : Bits) × (length rest ≤ length bits) × (Closes bits → Closes rest) × (here ≡ rest ++ true ∷ x)
+  RestAlike bits here there = ((rest : Bits) × Leaves bits rest × (Closes bits → Closes rest) × (here ≡ rest ++ true ∷ x)
       × (there ≡ rest ++ true ∷ y)) ⊎ ((here ≡ x) × (there ≡ y))
 
   -- counts of EOLs that end alike
@@ -107,7 +123,8 @@ module _ (x y : Bits) where
             rw (all_eols-some (bits ++ true ∷ x) (a.1 ++ true ∷ x) (e ∙ a.3), all_eols-some (bits ++ true ∷ y) (a.1 ++ true ∷ y) (f ∙ a.4)) (
               ap suc more.0,
               elim more.1 [
-                | inl b ↦ inl (b.0, omega (arith, b.1, shorter), λ closes. b.2 (closes_after a.0 a.1 closes.0 (sym a.2 ∙ closes.1)), b.3, b.4)
+                | inl b ↦ inl (b.0, leaves_trans bits a.1 b.0 (leaves_after bits a.0 a.1 a.2) b.1, λ closes. b.2
+                    (closes_after a.0 a.1 closes.0 (sym a.2 ∙ closes.1)), b.3, b.4)
                 | inr b ↦ inr b
               ],
             )
@@ -115,8 +132,122 @@ module _ (x y : Bits) where
             let step = all_eols-some (bits ++ true ∷ x) x (e ∙ a.0) in
             let step2 = all_eols-some (bits ++ true ∷ y) y (f ∙ a.1) in
             grind (arith, common_steps, all_eols-none x none_x, all_eols-none y none_y, step, step2)
-        by on o p e f (inr (inr a)) = grind (arith, common_steps, all_eols-none)
+        by on o p e f (inr (inr a)) =
+            rw (all_eols-none (bits ++ true ∷ x) (e ∙ a.0), all_eols-none (bits ++ true ∷ y) (f ∙ a.1))
+            (refl, inl (bits, ([], refl), λ closes. closes, refl, refl))
 
     -- the consecutive EOLs are alike in both
     pub all_eols_alike : (bits : Bits) → CountAlike bits (all_eols (bits ++ true ∷ x)) (all_eols (bits ++ true ∷ y))
     all_eols_alike bits = count_for (suc (length bits)) bits (omega arith)
+
+    -- so they are from an EOL on that ends among the equal bits
+    pub eols_found : (bits found other : Bits) → after_eol 0 found ≡ Some (bits ++ true ∷ x)
+        → after_eol 0 other ≡ Some (bits ++ true ∷ y)
+        → CountAlike bits (all_eols found) (all_eols other)
+    eols_found bits found other e f =
+        let more = all_eols_alike bits in
+        rw (all_eols-some found (bits ++ true ∷ x) e, all_eols-some other (bits ++ true ∷ y) f) (ap suc more.0, more.1)
+
+    -- ---- The same with tags, where the different bits begin with the tag of a line
+    module _ (tag_x : past_tag x ≡ x) (tag_y : past_tag y ≡ y) where
+      -- what follows a tag among the equal bits, or no tag
+      abbrev TagAlike : Bits → Bits → Bits → Type 0
+      TagAlike bits here there = (rest : Bits) × Leaves bits rest × (Closes bits → Closes rest) × (here ≡ rest ++ true ∷ x)
+          × (there ≡ rest ++ true ∷ y)
+
+      past_tag_alike : (bits : Bits) → TagAlike bits (past_tag (bits ++ true ∷ x)) (past_tag (bits ++ true ∷ y))
+      past_tag_alike [] = ([], ([], refl), λ closes. closes, rw (none_x, past_tag) refl, rw (none_y, past_tag) refl)
+      past_tag_alike (false ∷ bits) = (false ∷ bits, ([], refl), λ closes. closes, refl, refl)
+      past_tag_alike (true ∷ bits) = by (after_eol 0 (bits ++ true ∷ x)) (after_eol 0 (bits ++ true ∷ y)) refl refl
+          (after_eol_alike 0 bits)
+        where
+          behind : Closes (true ∷ bits) → Closes bits
+          behind closes = closes_after [] bits closes.0 closes.1
+
+          by : (o p : Option Bits) → after_eol 0 (bits ++ true ∷ x) ≡ o → after_eol 0 (bits ++ true ∷ y) ≡ p
+              → EolAlike bits o p → TagAlike (true ∷ bits) (past_tag (true ∷ bits ++ true ∷ x))
+                  (past_tag (true ∷ bits ++ true ∷ y))
+          by o p e f (inl a) = (bits, (true ∷ [], refl), behind, rw (e ∙ a.3, past_tag) refl, rw (f ∙ a.4, past_tag) refl)
+          by o p e f (inr (inl a)) = (bits, (true ∷ [], refl), behind, rw (e ∙ a.0, past_tag) refl, rw (f ∙ a.1, past_tag) refl)
+          by o p e f (inr (inr a)) = (true ∷ bits, ([], refl), λ closes. closes, rw (e ∙ a.0, past_tag) refl, rw
+              (f ∙ a.1, past_tag) refl)
+
+      -- consecutive EOLs with their tags
+      tagged_for : (n : ℕ) (bits : Bits) → length bits < n
+          → CountAlike bits (all_tagged (bits ++ true ∷ x)) (all_tagged (bits ++ true ∷ y))
+      tagged_for zero bits lt = absurd (omega arith)
+      tagged_for (suc n) bits lt = by (λ rest small. tagged_for n rest small) (after_eol 0 (bits ++ true ∷ x))
+          (after_eol 0 (bits ++ true ∷ y)) refl refl
+          (after_eol_alike 0 bits)
+        where
+          by : ((rest : Bits) → length rest < n → CountAlike rest (all_tagged (rest ++ true ∷ x)) (all_tagged (rest ++ true ∷ y)))
+              → (o p : Option Bits)
+              → after_eol 0 (bits ++ true ∷ x) ≡ o → after_eol 0 (bits ++ true ∷ y) ≡ p
+              → EolAlike bits o p → CountAlike bits (all_tagged (bits ++ true ∷ x)) (all_tagged (bits ++ true ∷ y))
+          by on o p e f (inl a) =
+              let shorter = after_shorter bits a.0 a.1 a.2 in
+              let tag = past_tag_alike a.1 in
+              let more = on tag.0 (omega (arith, shorter, leaves_length a.1 tag.0 tag.1, lt)) in
+              let keeps : Closes bits → Closes tag.0 = λ closes. tag.2 (closes_after a.0 a.1 closes.0 (sym a.2 ∙ closes.1)) in
+              rw (all_tagged-some (bits ++ true ∷ x) (a.1 ++ true ∷ x) (e ∙ a.3), all_tagged-some (bits ++ true ∷ y)
+                  (a.1 ++ true ∷ y) (f ∙ a.4), tag.3, tag.4) (
+                ap suc more.0,
+                elim more.1 [
+                  | inl b ↦ inl (b.0, leaves_trans bits a.1 b.0 (leaves_after bits a.0 a.1 a.2)
+                      (leaves_trans a.1 tag.0 b.0 tag.1 b.1), λ closes. b.2 (keeps closes), b.3, b.4)
+                  | inr b ↦ inr b
+                ],
+              )
+          by on o p e f (inr (inl a)) =
+              rw (
+                all_tagged-some (bits ++ true ∷ x) x (e ∙ a.0),
+                all_tagged-some (bits ++ true ∷ y) y (f ∙ a.1),
+                tag_x,
+                tag_y,
+                all_tagged-none x none_x,
+                all_tagged-none y none_y,
+              ) (refl, inr (refl, refl))
+          by on o p e f (inr (inr a)) =
+              rw (all_tagged-none (bits ++ true ∷ x) (e ∙ a.0), all_tagged-none (bits ++ true ∷ y) (f ∙ a.1))
+              (refl, inl (bits, ([], refl), λ closes. closes, refl, refl))
+
+      -- they are alike in both
+      pub all_tagged_alike : (bits : Bits) → CountAlike bits (all_tagged (bits ++ true ∷ x)) (all_tagged (bits ++ true ∷ y))
+      all_tagged_alike bits = tagged_for (suc (length bits)) bits (omega arith)
+
+      -- so they are from an EOL on that ends among the equal bits
+      pub tagged_found : (bits found other : Bits) → after_eol 0 found ≡ Some (bits ++ true ∷ x)
+          → after_eol 0 other ≡ Some (bits ++ true ∷ y)
+          → CountAlike bits (all_tagged found) (all_tagged other)
+      tagged_found bits found other e f =
+          let tag = past_tag_alike bits in
+          let more = all_tagged_alike tag.0 in
+          rw (all_tagged-some found (bits ++ true ∷ x) e, all_tagged-some other (bits ++ true ∷ y) f, tag.3, tag.4) (
+            ap suc more.0,
+            elim more.1 [
+              | inl b ↦ inl (b.0, leaves_trans bits tag.0 b.0 tag.1 b.1, λ closes. b.2 (tag.2 closes), b.3, b.4)
+              | inr b ↦ inr b
+            ],
+          )
+
+      -- so they are after the tag of RTC, unless it is the one with which the different bits begin
+      pub last_tag_alike : (bits : Bits) (f g : ℕ × Bits) → CountAlike bits f g → ((count : ℕ) → f ≡ (count, x) → count < 6)
+          → ((count : ℕ) → g ≡ (count, y) → count < 6) → CountAlike bits (pass_last_tag f) (pass_last_tag g)
+      last_tag_alike bits (n, here) (m, there) (same, inl ([], le, keeps, e, f)) few_x few_y = rw (← same, e, f) (by (leb 6 n))
+        where
+          by : (b : Bool) → CountAlike bits (cond b (n, x) (n, true ∷ x)) (cond b (n, y) (n, true ∷ y))
+          by true = (refl, inr (refl, refl))
+          by false = (refl, inl ([], le, keeps, refl, refl))
+      last_tag_alike bits (n, here) (m, there) (same, inl (false ∷ rest, le, keeps, e, f)) few_x few_y =
+          rw (← same, e, f) (refl, inl (false ∷ rest, le, keeps, refl, refl))
+      last_tag_alike bits (n, here) (m, there) (same, inl (true ∷ rest, le, keeps, e, f)) few_x few_y = rw (← same, e, f)
+          (by (leb 6 n))
+        where
+          by : (b : Bool) → CountAlike bits (cond b (n, rest ++ true ∷ x) (n, true ∷ rest ++ true ∷ x))
+              (cond b (n, rest ++ true ∷ y) (n, true ∷ rest ++ true ∷ y))
+          by true = (refl, inl (rest, leaves_trans bits (true ∷ rest) rest le (true ∷ [], refl), λ closes. let c
+              = keeps closes in closes_after [] rest c.0 c.1, refl, refl))
+          by false = (refl, inl (true ∷ rest, le, keeps, refl, refl))
+      last_tag_alike bits (n, here) (m, there) (same, inr (e, f)) few_x few_y =
+          rw (e, f, last_tag_few n x (few_x n (ap (λ (b : Bits). (n, b)) e)), last_tag_few m y
+              (few_y m (ap (λ (b : Bits). (m, b)) f))) (same, inr (refl, refl))

@@ -1,14 +1,20 @@
 -- What the premises of locality say of the bits from a line on, and of those before it.
-use Rattle.std.proofs.Common.{◌≡◌, ℕ, zero, suc, ◌+◌, ◌-◌, ◌≤◌, true, false, List, [], ◌∷◌, ◌++◌, length, take, drop, replicate, Option, Some, None}
+use Rattle.std.proofs.Common.{◌≡◌, ℕ, zero, suc, ◌+◌, ◌-◌, ◌<◌, ◌≤◌, true, false, List, [], ◌∷◌, ◌++◌, length, take, drop, replicate, Option, Some, None}
 use Rattle.std.proofs.Common.{refl, sym, ap, ◌∙◌, append_assoc, arith}
 use Rattle.std.proofs.lemmas.Bool.{cases_lt, lt-leb, le-leb}
 use Rattle.std.proofs.lemmas.List.{length-append, length-take-le, length-drop, length-replicate, take-append-drop, drop-drop}
 use Rattle.hayro_ccitt.specs.declared.settings.DecodeSettings.{DecodeSettings}
-use Rattle.hayro_ccitt.specs.Bits.{Bits}
-use Rattle.hayro_ccitt.specs.EndOfLine.{after_eol, next_eol}
-use Rattle.hayro_ccitt.specs.Locality.{IsLocal, StaysBefore}
-use Rattle.hayro_ccitt.proofs.DamagedLines.PastEol.{past, past-eol, past_is, then_after}
-use Rattle.hayro_ccitt.proofs.DamagedLines.SoughtTurns.{found_next}
+use Rattle.hayro_ccitt.specs.Bits.{Bits, IsPrefix}
+use Rattle.hayro_ccitt.specs.EndOfLine.{after_eol, past_tag}
+use Rattle.hayro_ccitt.specs.Repetition.{Reaches}
+use Rattle.hayro_ccitt.specs.Rows.{Row}
+use Rattle.hayro_ccitt.specs.Lines.{Line}
+use Rattle.hayro_ccitt.specs.PlainReading.{first_line, row_before, line_here, line_of_turn, move_on}
+use Rattle.hayro_ccitt.specs.Locality.{IsEol, IsLocal}
+use Rattle.hayro_ccitt.specs.LocalityByK.{IsTaggedBody}
+use Rattle.hayro_ccitt.proofs.DamagedLines.PastEol.{past, past-eol, past_later, next_eol_leaves}
+use Rattle.hayro_ccitt.proofs.DamagedLines.SoughtTurns.{sought, rest_of, found_next, line_is}
+use Rattle.hayro_ccitt.proofs.DrawingLines.LinesLeaveBits.{LineLeaves, line_by_leaves}
 use Rattle.hayro_ccitt.proofs.DamagedLines.RunsAlike.{IsTail}
 use Rattle.std.proofs.lemmas.Grind.{common_steps}
 
@@ -49,23 +55,22 @@ after_eol-append seen [] rest z e = absurd cc
 after_eol-append seen (false ∷ here) rest z e = after_eol-append (suc seen) here rest z e
 after_eol-append seen (true ∷ here) rest z e = let f = eol_at_one seen here rest e in rw (le-leb 11 seen f.0) (ap (λ (b : Bits). Some (b ++ z)) f.1)
 
--- the next EOL is further on in the same bits
-pub next_eol_leaves : (here found : Bits) → next_eol here ≡ Some found → (before : Bits) × (here ≡ before ++ found)
-next_eol_leaves [] found e = absurd cc
-next_eol_leaves (bit ∷ here) found e = by (next_eol_leaves here found) (after_eol 0 (bit ∷ here)) refl
-  where
-    by : (next_eol here ≡ Some found → (before : Bits) × (here ≡ before ++ found)) → (o : Option Bits) → after_eol 0 (bit ∷ here) ≡ o
-        → (before : Bits) × ((bit ∷ here) ≡ before ++ found)
-    by on None f = let g : next_eol here ≡ Some found = rw (f, next_eol) at e in let h = on g in (bit ∷ h.0, ap (λ (b : Bits). bit ∷ b) h.1)
-    by on (Some rest) f = grind (arith, common_steps)
-
 -- if no EOL ends within some bits, the next is the one after them
-past_before : (seen : ℕ) (bits z after : Bits) → past seen bits ≡ None → after_eol 0 z ≡ Some after → past seen (bits ++ z) ≡ Some after
+pub past_before : (seen : ℕ) (bits z after : Bits) → past seen bits ≡ None → after_eol 0 z ≡ Some after
+    → past seen (bits ++ z) ≡ Some after
 past_before seen [] z after none e = past-eol seen z after (after_eol_more 0 seen z after (omega arith) e)
 past_before seen (false ∷ bits) z after none e = past_before (suc seen) bits z after none e
 past_before seen (true ∷ bits) z after none e = grind (arith, common_steps, cases_lt, le-leb, lt-leb, past_before 0 bits z after)
 
-module _ (settings : DecodeSettings) (bits : Bits) (from to : ℕ) (local : IsLocal settings bits from to) where
+-- a body between two positions, and what follows the EOL behind it
+pub record IsBody (bits : Bits) (from to : ℕ) (after : Bits) : Type 0 where
+  pub order : from ≤ to
+  pub within : to ≤ length bits
+  pub one : (place : ℕ) × (from ≤ place) × (place < to) × IsPrefix (true ∷ []) (drop place bits)
+  pub no_eol : (place end : ℕ) → from ≤ place → end ≤ to → IsEol bits place end → ⊥
+  pub eol : after_eol 0 (drop to bits) ≡ Some after
+
+module _ (bits : Bits) (from to : ℕ) (after : Bits) (local : IsBody bits from to after) where
   -- the bits from the body on
   abbrev pub line_on : Bits
   line_on = drop from bits
@@ -119,7 +124,7 @@ module _ (settings : DecodeSettings) (bits : Bits) (from to : ℕ) (local : IsLo
           ∙ append_assoc (replicate is.0 false) (true ∷ rest) eol_on in
           grind (arith, common_steps, after_eol-append, body_length, length-append, length-replicate, not_within)
 
-  no_eol_here : after_eol 0 line_on ≡ None
+  pub no_eol_here : after_eol 0 line_on ≡ None
   no_eol_here = by (after_eol 0 line_on) refl
     where
       by : (o : Option Bits) → after_eol 0 line_on ≡ o → after_eol 0 line_on ≡ None
@@ -135,15 +140,101 @@ module _ (settings : DecodeSettings) (bits : Bits) (from to : ℕ) (local : IsLo
           let first = first_one is.0 rest (take n line_on) local.one.3.0 split in
           absurd (not_within [] rest is.0 line_on refl is.1 e (omega (arith, first, short, local.one.1, local.one.2)))
 
-  next_is : past 0 line_on ≡ Some local.closes.0
-  next_is = ap (past 0) cut ∙ past_before 0 body eol_on local.closes.0 none_in_body local.closes.1
+  pub next_is : past 0 line_on ≡ Some after
+  next_is = ap (past 0) cut ∙ past_before 0 body eol_on after none_in_body local.eol
 
-  stays_before : StaysBefore settings.columns line_on
-  stays_before found after e f row rest is =
-      let g : ◌≡◌ {A = Option Bits} (Some local.closes.0) (Some after) = sym next_is ∙ past_is line_on ∙ ap then_after e ∙ f in
-      let same : local.closes.0 ≡ after = cc in
-      omega (arith, local.closes.2 row rest is, ap length same)
+-- the next EOL is the same behind a line that is broken or ends before its last twelve bits
+pub line_past_by : (settings : DecodeSettings) (reference : Row) (here after : Bits) → past 0 here ≡ Some after
+    → ((row : Row) (rest : Bits) → line_here settings reference here ≡ Line.whole row rest → length after + 12 ≤ length rest)
+    → past 0 (rest_of (line_here settings reference here) here) ≡ Some after
+line_past_by settings reference here after next stays =
+    by (line_here settings reference here) refl (line_by_leaves settings.encoding settings.strict settings.columns reference here)
+  where
+    by : (line : Line) → line_here settings reference here ≡ line → LineLeaves here line → past 0 (rest_of line here) ≡ Some after
+    by (Line.whole row rest) e leaves = past_later 0 leaves.0 rest after (ap (past 0) (sym leaves.1) ∙ next) (stays row rest e)
+    by (Line.broken front fault) e leaves = next
 
-  -- a local body begins such a tail
-  pub is_tail : IsTail settings.columns local.closes.0 line_on
-  is_tail = record { none = no_eol_here; next = next_is; stays = stays_before }
+-- ---- One-dimensional data
+
+-- the body of a one-dimensional line
+pub body_1d : (settings : DecodeSettings) (bits : Bits) (from to : ℕ) (local : IsLocal settings bits from to)
+    → IsBody bits from to local.closes.0
+body_1d settings bits from to local =
+    record { order = local.order; within = local.within; one = local.one; no_eol = local.no_eol; eol = local.closes.1 }
+
+-- a local body begins such a tail
+pub is_tail : (settings : DecodeSettings) (bits : Bits) (from to : ℕ) (local : IsLocal settings bits from to)
+    → IsTail settings local.closes.0 (drop from bits)
+is_tail settings bits from to local =
+    let body = body_1d settings bits from to local in
+    record {
+      none = no_eol_here bits from to local.closes.0 body;
+      next = next_is bits from to local.closes.0 body;
+      tag = λ e. absurd (let f = local.encoding in cc);
+    }
+
+-- the next EOL behind its line is the one behind it
+pub stays_1d : (settings : DecodeSettings) (bits : Bits) (from to : ℕ) (local : IsLocal settings bits from to) (reference : Row)
+    → past 0 (rest_of (line_here settings reference (drop from bits)) (drop from bits)) ≡ Some local.closes.0
+stays_1d settings bits from to local reference =
+    line_past_by settings reference (drop from bits) local.closes.0
+        (next_is bits from to local.closes.0 (body_1d settings bits from to local))
+    (λ row rest e. local.closes.2 row rest (sym (line_is settings local.encoding local.lenient reference (drop from bits)) ∙ e))
+
+-- ---- Two-dimensional data
+
+-- the tag and the body of a line of two-dimensional data
+body_2d : (settings : DecodeSettings) (bits : Bits) (from to : ℕ) (local : IsTaggedBody settings bits from to)
+    → IsBody bits from to local.closes.0
+body_2d settings bits from to local = record {
+  order = omega (arith, local.one.1, local.one.2);
+  within = local.within;
+  one = (local.one.0, omega (arith, local.one.1), local.one.2, local.one.3);
+  no_eol = local.no_eol;
+  eol = local.closes.1;
+}
+
+-- the body alone
+behind_tag : (settings : DecodeSettings) (bits : Bits) (from to : ℕ) (local : IsTaggedBody settings bits from to)
+    → IsBody bits (suc from) to local.closes.0
+behind_tag settings bits from to local = record {
+  order = omega (arith, local.one.1, local.one.2);
+  within = local.within;
+  one = (local.one.0, local.one.1, local.one.2, local.one.3);
+  no_eol = λ place end le le2 eol. local.no_eol place end (omega (arith, le)) le2 eol;
+  eol = local.closes.1;
+}
+
+-- it begins such a tail
+pub is_tagged_tail : (settings : DecodeSettings) (bits : Bits) (from to : ℕ) (local : IsTaggedBody settings bits from to)
+    → IsTail settings local.closes.0 (drop from bits)
+is_tagged_tail settings bits from to local =
+    let body = body_2d settings bits from to local in
+    record {
+      none = no_eol_here bits from to local.closes.0 body;
+      next = next_is bits from to local.closes.0 body;
+      tag = λ e. by (drop from bits) refl;
+    }
+  where
+    none : after_eol 0 (drop (suc from) bits) ≡ None
+    none = no_eol_here bits (suc from) to local.closes.0 (behind_tag settings bits from to local)
+
+    by : (here : Bits) → drop from bits ≡ here → past_tag here ≡ here
+    by [] e = refl
+    by (false ∷ here) e = refl
+    by (true ∷ here) e =
+        let next : from + 1 ≡ suc from = omega arith in
+        let behind : here ≡ drop (suc from) bits = sym (ap (drop 1) e) ∙ drop-drop 1 from bits
+            ∙ ap (λ (n : ℕ). drop n bits) next in
+        let no_eol : after_eol 0 here ≡ None = ap (after_eol 0) behind ∙ none in
+        rw (no_eol, past_tag) refl
+
+-- the next EOL behind its line, as it is read, is the one behind it
+pub stays_2d : (settings : DecodeSettings) (bits : Bits) (from to : ℕ) (local : IsTaggedBody settings bits from to)
+    (rows : List Row)
+    → Reaches (move_on settings) (first_line settings bits) (sought rows (drop from bits))
+    → past 0 (rest_of (line_of_turn settings (sought rows (drop from bits))) (drop from bits)) ≡ Some local.closes.0
+stays_2d settings bits from to local rows reached =
+    line_past_by settings (row_before settings.columns rows) (drop from bits) local.closes.0
+    (next_is bits from to local.closes.0 (body_2d settings bits from to local))
+    (λ row rest e. local.closes.2 (sought rows (drop from bits)) reached refl row rest e)

@@ -1,24 +1,29 @@
 -- A line that begins before the zeros of an EOL ends before their end, whatever comes after them.
-use Rattle.std.proofs.Common.{◌≡◌, ℕ, suc, ◌≤◌, Bool, true, false, cond, leb, [], ◌∷◌, ◌++◌, length, replicate, Option, Some}
+use Rattle.std.proofs.Common.{◌≡◌, ℕ, suc, ◌-◌, ◌≤◌, Bool, true, false, cond, leb, List, [], ◌∷◌, ◌++◌, length, replicate, Option, Some}
 use Rattle.std.proofs.Common.{None, Result, Ok, Err, refl, sym, ap, ◌∙◌, append_assoc, arith, inl, inr}
+use Rattle.std.specs.Prelude.{pos, ◌+ℤ◌}
 use Rattle.std.proofs.lemmas.Bool.{cases_lt, lt-ltb, le-ltb}
 use Rattle.std.proofs.lemmas.List.{append_cancel_left}
 use Rattle.hayro_ccitt.specs.declared.codes.Color.{Color}
+use Rattle.hayro_ccitt.specs.declared.codes.Mode.{Mode}
+use Rattle.hayro_ccitt.specs.declared.codes.Mode.TheVariants.{Pass, Horizontal, Vertical}
 use Rattle.hayro_ccitt.specs.declared.error.DecodeError.{DecodeError}
 use Rattle.hayro_ccitt.specs.declared.error.DecodeError.TheVariants.{UnexpectedEof}
 use Rattle.hayro_ccitt.specs.Bits.{Bits}
-use Rattle.hayro_ccitt.specs.CodeReading.{read_code}
+use Rattle.hayro_ccitt.specs.CodeLists.{Code, mode_codes}
+use Rattle.hayro_ccitt.specs.CodeReading.{Has, is_prefix_free, read_code}
+use Rattle.hayro_ccitt.specs.Laws.{IsWord}
 use Rattle.hayro_ccitt.specs.Repetition.{Turn}
-use Rattle.hayro_ccitt.specs.Rows.{Row, opposite, paint}
+use Rattle.hayro_ccitt.specs.Rows.{Row, opposite, right_of, b1, paint}
 use Rattle.hayro_ccitt.specs.Runs.{codes_of, run_turn, run_from}
-use Rattle.hayro_ccitt.specs.Lines.{Line, Pen, start, line_1d}
-use Rattle.hayro_ccitt.proofs.DrawingLines.Drawings.{try, step_1d, step_1d_is}
+use Rattle.hayro_ccitt.specs.Lines.{Line, Pen, start, line_1d, line_2d, place_from}
+use Rattle.hayro_ccitt.proofs.DrawingLines.Drawings.{try, run_then, mode_step, step_1d, step_2d, step_1d_is, step_2d_is, horizontal_is}
 use Rattle.hayro_ccitt.specs.Answers.{Step}
 use Rattle.hayro_ccitt.proofs.Readings.Repeated.{Follows, repeated_follows}
 use Rattle.hayro_ccitt.proofs.CodeWords.ReadCodes.{read_code_found, read_code_again}
 use Rattle.hayro_ccitt.proofs.CodeWords.ReadRuns.{run_shrinks, size}
-use Rattle.hayro_ccitt.proofs.BitReading.ZerosInWords.{scan, is_quiet, scan_below, scan-append, quiet_is, word_quiet, prefix_of_prefix, codes_free}
-use Rattle.hayro_ccitt.proofs.DrawingLines.ReadLines.{left, step_1d_shrinks}
+use Rattle.hayro_ccitt.proofs.BitReading.ZerosInWords.{scan, is_quiet, scan_below, scan-append, quiet_is, word_quiet, prefix_of_prefix, codes_free, modes_free}
+use Rattle.hayro_ccitt.proofs.DrawingLines.ReadLines.{left, step_1d_shrinks, step_2d_shrinks}
 use Rattle.std.proofs.lemmas.Grind.{common_steps}
 
 scan_stays : (n : ℕ) (a b : Bits) → scan n a ≡ None → scan n (a ++ b) ≡ None
@@ -73,33 +78,52 @@ word_inside bits x word rest inside quiet e =
     ]
 
 -- ---- What is found in one is found in the other
-abbrev pub FoundAlike : Bits → Bits → Result (ℕ × Bits) DecodeError → Result (ℕ × Bits) DecodeError → Type 0
+abbrev pub FoundAlike : {V : Type 0} → Bits → Bits → Result (V × Bits) DecodeError → Result (V × Bits) DecodeError → Type 0
 FoundAlike x y (Ok found) (Ok other) = (found.0 ≡ other.0) × InFront x y found.1 other.1
 FoundAlike x y (Ok found) (Err fault) = ⊥
 FoundAlike x y (Err fault) (Ok other) = ⊥
 FoundAlike x y (Err fault) (Err other) = Unit {0}
 
-reads_too : (color : Color) (bits x y : Bits) (n : ℕ) (rest : Bits) → Inside bits → read_code (codes_of color) (bits ++ x) ≡ Ok (n, rest)
-    → (more : Bits) × Inside more × (rest ≡ more ++ x) × (read_code (codes_of color) (bits ++ y) ≡ Ok (n, more ++ y))
-reads_too color bits x y n rest inside e =
-    let f = read_code_found (codes_of color) (bits ++ x) n rest e in
-    let g = word_inside bits x f.0 rest inside (word_quiet f.0 (inl (color, n, f.1))) f.2 in
-    let there : bits ++ y ≡ f.0 ++ (g.0 ++ y) = ap (λ (b : Bits). b ++ y) g.2 ∙ append_assoc f.0 g.0 y in
-    (g.0, g.1, g.3, ap (read_code (codes_of color)) there ∙ read_code_again (codes_of color) n f.0 (g.0 ++ y) (codes_free color) f.1)
+module _ {V : Type 0} (list : List (Code V)) (free : is_prefix_free list ≡ true)
+    (words : (v : V) (word : Bits) → Has list v word → IsWord word) where
+  reads_too : (bits x y : Bits) (v : V) (rest : Bits) → Inside bits → read_code list (bits ++ x) ≡ Ok (v, rest)
+      → (more : Bits) × Inside more × (rest ≡ more ++ x) × (read_code list (bits ++ y) ≡ Ok (v, more ++ y))
+  reads_too bits x y v rest inside e =
+      let f = read_code_found list (bits ++ x) v rest e in
+      let g = word_inside bits x f.0 rest inside (word_quiet f.0 (words v f.0 f.1)) f.2 in
+      let there : bits ++ y ≡ f.0 ++ (g.0 ++ y) = ap (λ (b : Bits). b ++ y) g.2 ∙ append_assoc f.0 g.0 y in
+      (g.0, g.1, g.3, ap (read_code list) there ∙ read_code_again list v f.0 (g.0 ++ y) free f.1)
+
+  words_alike : (bits x y : Bits) → Inside bits → FoundAlike x y (read_code list (bits ++ x)) (read_code list (bits ++ y))
+  words_alike bits x y inside = by (read_code list (bits ++ x)) (read_code list (bits ++ y)) refl refl
+    where
+      by : (r q : Result (V × Bits) DecodeError) → read_code list (bits ++ x) ≡ r → read_code list (bits ++ y) ≡ q
+          → FoundAlike x y r q
+      by (Ok (v, rest)) (Ok (w, other)) e f =
+          let g = reads_too bits x y v rest inside e in
+          let same : ◌≡◌ {A = Result (V × Bits) DecodeError} (Ok (v, g.0 ++ y)) (Ok (w, other)) = sym g.3 ∙ f in
+          let pairs : (v, g.0 ++ y) ≡ (w, other) = cc in
+          (ap (λ (p : V × Bits). p.0) pairs, (g.0, g.1, g.2, sym (ap (λ (p : V × Bits). p.1) pairs)))
+      by (Ok (v, rest)) (Err fault) e f =
+          let g = reads_too bits x y v rest inside e in
+          let same : ◌≡◌ {A = Result (V × Bits) DecodeError} (Ok (v, g.0 ++ y)) (Err fault) = sym g.3 ∙ f in cc
+      by (Err fault) (Ok (w, other)) e f =
+          let g = reads_too bits y x w other inside f in
+          let same : ◌≡◌ {A = Result (V × Bits) DecodeError} (Ok (w, g.0 ++ x)) (Err fault) = sym g.3 ∙ e in cc
+      by (Err fault) (Err other) e f = tt
+
+  words_in_front : (x y here there : Bits) → InFront x y here there → FoundAlike x y (read_code list here) (read_code list there)
+  words_in_front x y here there (bits, inside, e, f) = rw (e, f) (words_alike bits x y inside)
 
 read_code_alike : (color : Color) (bits x y : Bits) → Inside bits
     → FoundAlike x y (read_code (codes_of color) (bits ++ x)) (read_code (codes_of color) (bits ++ y))
-read_code_alike color bits x y inside = by (read_code (codes_of color) (bits ++ x)) (read_code (codes_of color) (bits ++ y)) refl refl
-  where
-    by : (r q : Result (ℕ × Bits) DecodeError) → read_code (codes_of color) (bits ++ x) ≡ r → read_code (codes_of color) (bits ++ y) ≡ q → FoundAlike x y r q
-    by (Ok (n, rest)) (Ok (m, other)) e f =
-        let g = reads_too color bits x y n rest inside e in
-        let same : ◌≡◌ {A = Result (ℕ × Bits) DecodeError} (Ok (n, g.0 ++ y)) (Ok (m, other)) = sym g.3 ∙ f in
-        let pairs : (n, g.0 ++ y) ≡ (m, other) = cc in
-        (ap (λ (p : ℕ × Bits). p.0) pairs, (g.0, g.1, g.2, sym (ap (λ (p : ℕ × Bits). p.1) pairs)))
-    by (Ok (n, rest)) (Err fault) e f = grind (arith, common_steps, reads_too color bits x y n rest inside e)
-    by (Err fault) (Ok (m, other)) e f = grind (arith, common_steps, reads_too color bits y x m other inside f)
-    by (Err fault) (Err other) e f = tt
+read_code_alike color bits x y inside = words_alike (codes_of color) (codes_free color)
+    (λ n word has. inl (color, n, has)) bits x y inside
+
+read_mode_alike : (x y here there : Bits) → InFront x y here there
+    → FoundAlike x y (read_code mode_codes here) (read_code mode_codes there)
+read_mode_alike x y here there front = words_in_front mode_codes modes_free
+    (λ mode word has. inr (mode, has)) x y here there front
 
 module _ (x y : Bits) where
   -- states of a run that are alike
@@ -166,4 +190,85 @@ module _ (x y : Bits) where
       repeated_follows (step_1d false columns) (Line.broken [] UnexpectedEof) left (step_1d_shrinks false columns) (step_1d false columns)
       (Line.broken [] UnexpectedEof) left (step_1d_shrinks false columns) Pens LineAlike
       (pens_alike columns _) (suc (length here)) (suc (length there)) (start here) (start there) (omega arith) (omega arith)
+      ([], Color.White, here, there, refl, refl, front)
+
+  -- the same of a two-dimensional line, against one reference row
+  module _ (columns : ℕ) (reference : Row) (rest : Pen → Line) where
+    abbrev Both : Step → Step → Type 0
+    Both step other = Follows Pens LineAlike rest step other
+
+    run_then_alike : (front : Row) (color : Color) (here there : Bits) (behind : Pen → Step) → InFront x y here there
+        → ((s t : Pen) → Pens s t → Both (behind s) (behind t))
+        → Both (run_then false columns (record { front = front; color = color; rest = here }) behind)
+        (run_then false columns (record { front = front; color = color; rest = there }) behind)
+    run_then_alike front color here there behind infront on = by (run_from color (0, here)) (run_from color (0, there))
+        (run_alike color 0 here there infront)
+      where
+        step : Result (ℕ × Bits) DecodeError → Step
+        step r = try front r (λ run. try front (paint false columns front color run.0)
+            (λ more. behind (record { front = more; color = opposite color; rest = run.1 })))
+
+        by : (r q : Result (ℕ × Bits) DecodeError) → FoundAlike x y r q → Both (step r) (step q)
+        by (Ok (n, left)) (Ok (m, other)) (same, still) = rw (← same) (on _ _ (_, opposite color, left, other, refl, refl, still))
+        by (Ok found) (Err fault) alike = absurd alike
+        by (Err fault) (Ok found) alike = absurd alike
+        by (Err fault) (Err other) alike = refl
+
+    mode_alike : (front : Row) (color : Color) (here there : Bits) (mode : Mode) → InFront x y here there
+        → Both (mode_step false columns reference (record { front = front; color = color; rest = here }) mode)
+        (mode_step false columns reference (record { front = front; color = color; rest = there }) mode)
+    mode_alike front color here there Pass infront = (_, color, here, there, refl, refl, infront)
+    mode_alike front color here there Horizontal infront =
+        rw (
+          ← horizontal_is false columns reference (record { front = front; color = color; rest = here }),
+          ← horizontal_is false columns reference (record { front = front; color = color; rest = there }),
+        ) (run_then_alike front color here there (λ p. run_then false columns p Turn.next) infront second)
+      where
+        second : (s t : Pen) → Pens s t → Both (run_then false columns s Turn.next) (run_then false columns t Turn.next)
+        second s t (more, color2, here2, there2, a, b, still) = rw (a, b)
+            (run_then_alike more color2 here2 there2 Turn.next still (λ u v pens. pens))
+    mode_alike front color here there (Vertical k) infront = by
+        (place_from (length front) (pos (b1 reference (right_of front) color) +ℤ k))
+      where
+        by : (r : Result ℕ DecodeError)
+            → Both (try front r (λ place. try front (paint false columns front color (place - length front))
+            (λ more. Turn.next (record { front = more; color = opposite color; rest = here }))))
+            (try front r (λ place. try front (paint false columns front color (place - length front))
+            (λ more. Turn.next (record { front = more; color = opposite color; rest = there }))))
+        by (Ok place) = (_, opposite color, here, there, refl, refl, infront)
+        by (Err fault) = refl
+
+    step_2d_alike : (s t : Pen) → Pens s t → Both (step_2d false columns reference s) (step_2d false columns reference t)
+    step_2d_alike s t (front, color, here, there, a, b, infront) =
+        rw (
+          a,
+          b,
+          step_2d_is false columns reference (record { front = front; color = color; rest = here }),
+          step_2d_is false columns reference (record { front = front; color = color; rest = there }),
+        ) (full (leb columns (length front)))
+      where
+        step : Result (Mode × Bits) DecodeError → Step
+        step r = try front r (λ mode. mode_step false columns reference
+            (record { front = front; color = color; rest = mode.1 }) mode.0)
+
+        by : (r q : Result (Mode × Bits) DecodeError) → FoundAlike x y r q → Both (step r) (step q)
+        by (Ok (mode, left)) (Ok (same_mode, other)) (same, still) = rw (← same) (mode_alike front color left other mode still)
+        by (Ok found) (Err fault) alike = absurd alike
+        by (Err fault) (Ok found) alike = absurd alike
+        by (Err fault) (Err other) alike = refl
+
+        full : (whole : Bool) → Both (cond whole (Turn.done (Line.whole front here)) (step (read_code mode_codes here)))
+            (cond whole (Turn.done (Line.whole front there)) (step (read_code mode_codes there)))
+        full true = (refl, infront)
+        full false = by (read_code mode_codes here) (read_code mode_codes there) (read_mode_alike x y here there infront)
+
+  pub line_2d_alike : (columns : ℕ) (reference : Row) (here there : Bits) → InFront x y here there
+      → LineAlike (line_2d false columns reference here) (line_2d false columns reference there)
+  line_2d_alike columns reference here there front =
+      repeated_follows (step_2d false columns reference) (Line.broken [] UnexpectedEof) left
+          (step_2d_shrinks false columns reference)
+      (step_2d false columns reference) (Line.broken [] UnexpectedEof) left
+          (step_2d_shrinks false columns reference) Pens LineAlike
+      (step_2d_alike columns reference _) (suc (length here)) (suc (length there)) (start here) (start there) (omega arith)
+          (omega arith)
       ([], Color.White, here, there, refl, refl, front)

@@ -8,7 +8,7 @@ use Rattle.hayro_ccitt.specs.EndOfLine.{after_eol, next_eol}
 use Rattle.hayro_ccitt.specs.Locality.{IsEol, IsLocal, IsLocalByTests, LocalByTests}
 use Rattle.hayro_ccitt.proofs.Readings.TurnsMoveOn.{next_eol_found, eol_of}
 use Rattle.hayro_ccitt.proofs.DamagedLines.PastEol.{past_is, then_after}
-use Rattle.hayro_ccitt.proofs.DamagedLines.LineTails.{after_eol_is, drop_at, none_in_body}
+use Rattle.hayro_ccitt.proofs.DamagedLines.LineTails.{after_eol_is, drop_at, none_in_body, body_1d}
 use Rattle.hayro_ccitt.proofs.DamagedLines.EolsAlike.{no_one}
 use Rattle.std.proofs.lemmas.Grind.{common_steps}
 
@@ -145,7 +145,8 @@ module _ (settings : DecodeSettings) (bits : Bits) (from to : ℕ) where
       none_found None e = e
       none_found (Some found) e =
           let f = next_eol_found (take (to - from) (drop from bits)) found e in
-          let both : ◌≡◌ {A = Option Bits} None (Some f.1.0) = sym (none_in_body settings bits from to local)
+          let both : ◌≡◌ {A = Option Bits} None (Some f.1.0) = sym
+              (none_in_body bits from to local.closes.0 (body_1d settings bits from to local))
           ∙ past_is (take (to - from) (drop from bits)) ∙ ap then_after e ∙ f.1.1 in
           absurd cc
 

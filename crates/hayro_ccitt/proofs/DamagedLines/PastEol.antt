@@ -1,11 +1,11 @@
 -- What follows the next EOL.
 use Rattle.std.proofs.Common.{◌≡◌, ℕ, zero, suc, ◌+◌, ◌≤◌, true, false, cond, leb, [], ◌∷◌, ◌++◌, length, Option, Some, None, refl}
-use Rattle.std.proofs.Common.{arith}
+use Rattle.std.proofs.Common.{ap, ◌∙◌, arith}
 use Rattle.std.proofs.lemmas.Bool.{cases_lt, lt-leb, le-leb}
 use Rattle.std.proofs.lemmas.List.{length-append}
 use Rattle.hayro_ccitt.specs.Bits.{Bits}
-use Rattle.hayro_ccitt.specs.EndOfLine.{after_eol, one_more, eols, all_eols, next_eol}
-use Rattle.hayro_ccitt.proofs.Readings.TurnsMoveOn.{eols-some, eols-none, after_eol_shorter}
+use Rattle.hayro_ccitt.specs.EndOfLine.{after_eol, one_more, eols, all_eols, next_eol, past_tag, eols_with_tags}
+use Rattle.hayro_ccitt.proofs.Readings.TurnsMoveOn.{eols-some, eols-none, eols_with_tags-some, eols_with_tags-none, past_tag_shorter, after_eol_shorter}
 use Rattle.std.proofs.lemmas.Grind.{common_steps}
 
 -- what follows the next EOL that ends further on, given the number of zeros just before
@@ -61,6 +61,55 @@ all_eols-some here rest e = grind (arith, common_steps, after_eol_shorter, commo
 -- if there is none, none is counted
 pub all_eols-none : (here : Bits) → after_eol 0 here ≡ None → all_eols here ≡ (0, here)
 all_eols-none here e = eols-none (length here) here e
+
+-- all EOLs here, with the tags between them
+abbrev pub all_tagged : Bits → ℕ × Bits
+all_tagged here = eols_with_tags (length here) here
+
+-- the number of EOLs asked for doesn't matter, if there are no more bits
+pub eols_with_tags_same : (n m : ℕ) (here : Bits) → length here ≤ n → length here ≤ m
+    → eols_with_tags n here ≡ eols_with_tags m here
+eols_with_tags_same zero zero here h k = refl
+eols_with_tags_same zero (suc m) [] h k = refl
+eols_with_tags_same zero (suc m) (b ∷ here) h k = absurd (omega arith)
+eols_with_tags_same (suc n) zero [] h k = refl
+eols_with_tags_same (suc n) zero (b ∷ here) h k = absurd (omega arith)
+eols_with_tags_same (suc n) (suc m) here h k = by (λ rest. eols_with_tags_same n m rest) (after_eol 0 here) refl
+  where
+    by : ((rest : Bits) → length rest ≤ n → length rest ≤ m → eols_with_tags n rest ≡ eols_with_tags m rest) → (o : Option Bits)
+        → after_eol 0 here ≡ o
+        → eols_with_tags (suc n) here ≡ eols_with_tags (suc m) here
+    by on None e = rw (eols_with_tags-none (suc n) here e, eols_with_tags-none (suc m) here e) refl
+    by on (Some rest) e =
+        let shorter = after_eol_shorter 0 here rest e in
+        rw (eols_with_tags-some n here rest e, eols_with_tags-some m here rest e)
+        (ap one_more (on (past_tag rest) (omega (arith, shorter, past_tag_shorter rest, h))
+            (omega (arith, shorter, past_tag_shorter rest, k))))
+
+-- if there is an EOL, it is counted, and those after its tag
+pub all_tagged-some : (here rest : Bits) → after_eol 0 here ≡ Some rest → all_tagged here ≡ one_more (all_tagged (past_tag rest))
+all_tagged-some [] rest e = absurd cc
+all_tagged-some (b ∷ here) rest e =
+    let shorter = after_eol_shorter 0 (b ∷ here) rest e in
+    eols_with_tags-some (length here) (b ∷ here) rest e
+    ∙ ap one_more (eols_with_tags_same (length here) (length (past_tag rest)) (past_tag rest)
+        (omega (arith, shorter, past_tag_shorter rest)) (omega arith))
+
+-- if there is none, none is counted
+pub all_tagged-none : (here : Bits) → after_eol 0 here ≡ None → all_tagged here ≡ (0, here)
+all_tagged-none here e = eols_with_tags-none (length here) here e
+
+-- the next EOL is further on in the same bits
+pub next_eol_leaves : (here found : Bits) → next_eol here ≡ Some found → (before : Bits) × (here ≡ before ++ found)
+next_eol_leaves [] found e = absurd cc
+next_eol_leaves (bit ∷ here) found e = by (next_eol_leaves here found) (after_eol 0 (bit ∷ here)) refl
+  where
+    by : (next_eol here ≡ Some found → (before : Bits) × (here ≡ before ++ found)) → (o : Option Bits)
+        → after_eol 0 (bit ∷ here) ≡ o
+        → (before : Bits) × ((bit ∷ here) ≡ before ++ found)
+    by on None f = let g : next_eol here ≡ Some found = rw (f, next_eol) at e in let h = on g in
+        (bit ∷ h.0, ap (λ (b : Bits). bit ∷ b) h.1)
+    by on (Some rest) f = grind (arith, common_steps)
 
 -- If twelve bits are left before the end of the next EOL, it is also the next one from there.
 pub past_here : (seen fewer : ℕ) (here after : Bits) → fewer ≤ seen → past seen here ≡ Some after → length after + 12 ≤ fewer + length here

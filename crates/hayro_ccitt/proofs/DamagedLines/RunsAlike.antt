@@ -1,111 +1,204 @@
 -- Two runs over data that differ in one line.
-use Rattle.std.proofs.Common.{◌≡◌, ℕ, suc, ◌-◌, ◌%◌, ◌<◌, ◌≤◌, Bool, true, false, cond, not, ◌&&◌, ◌||◌, eqb, leb, List, [], ◌∷◌, ◌++◌, length}
-use Rattle.std.proofs.Common.{replicate, Option, Some, None, Ok, Err, refl, sym, ap, subst, ◌∙◌, arith, ◌⊎◌, inl, inr}
-use Rattle.std.proofs.lemmas.Bool.{cases_Bool}
-use Rattle.std.proofs.lemmas.List.{length-append, length-drop}
+use Rattle.std.proofs.Common.{◌≡◌, ℕ, zero, suc, ◌+◌, ◌-◌, ◌%◌, ◌<◌, ◌≤◌, Bool, true, false, cond, not, ◌&&◌, ◌||◌, eqb, leb, List, [], ◌∷◌, ◌++◌, length}
+use Rattle.std.proofs.Common.{replicate, Option, Some, None, Ok, Err, refl, sym, ap, subst, ◌∙◌, append_assoc, arith, ◌⊎◌, inl, inr}
+use Rattle.std.proofs.lemmas.Bool.{cases_Bool, and_parts, eqb-true}
+use Rattle.std.proofs.lemmas.List.{length-append, length-drop, append_cancel_right}
 use Rattle.hayro_ccitt.specs.declared.error.DecodeError.{DecodeError}
 use Rattle.hayro_ccitt.specs.declared.error.DecodeError.TheVariants.{InvalidCode}
-use Rattle.hayro_ccitt.specs.declared.settings.EncodingMode.TheVariants.{Group3_1D}
+use Rattle.hayro_ccitt.specs.declared.settings.EncodingMode.{EncodingMode}
+use Rattle.hayro_ccitt.specs.declared.settings.EncodingMode.TheVariants.{Group4, Group3_1D, Group3_2D}
 use Rattle.hayro_ccitt.specs.declared.settings.DecodeSettings.{DecodeSettings}
 use Rattle.hayro_ccitt.specs.Bits.{Bits}
 use Rattle.hayro_ccitt.specs.Repetition.{Turn}
 use Rattle.hayro_ccitt.specs.Rows.{Row}
-use Rattle.hayro_ccitt.specs.Lines.{Line, line_1d}
-use Rattle.hayro_ccitt.specs.EndOfLine.{after_eol, one_more, all_eols, next_eol}
-use Rattle.hayro_ccitt.specs.PlainReading.{eols_of_end, Progress, Ending, Move, aligned, limit_met, at_end, ends_with, eols_here}
-use Rattle.hayro_ccitt.specs.PlainReading.{after_line, move_on}
-use Rattle.hayro_ccitt.specs.Locality.{row_of, row_at, StaysBefore}
+use Rattle.hayro_ccitt.specs.Lines.{Line}
+use Rattle.hayro_ccitt.specs.EndOfLine.{after_eol, all_eols, next_eol, past_tag}
+use Rattle.hayro_ccitt.specs.PlainReading.{eols_of_end, Progress, Ending, Move, row_before, aligned, limit_met, at_end, ends_with, line_by, eols_by, eols_here}
+use Rattle.hayro_ccitt.specs.PlainReading.{line_here, line_of_turn, after_line, move_on}
+use Rattle.hayro_ccitt.specs.Locality.{row_of}
 use Rattle.hayro_ccitt.proofs.Readings.Repeated.{Follows}
-use Rattle.hayro_ccitt.proofs.Readings.TurnsMoveOn.{cond_le, eols_shorter, next_eol_found, eols_here_counted}
-use Rattle.hayro_ccitt.proofs.DamagedLines.PastEol.{past, all_eols-none}
-use Rattle.hayro_ccitt.proofs.DamagedLines.SoughtTurns.{sought, rest_of, not_past_end, after_row_past, line_is, move_line, limit_done}
-use Rattle.hayro_ccitt.proofs.DrawingLines.LinesLeaveBits.{LineLeaves, line_1d_leaves}
-use Rattle.hayro_ccitt.proofs.DamagedLines.LinesByEols.{line_past}
-use Rattle.hayro_ccitt.proofs.DamagedLines.LinesBeforeEol.{Inside, LineAlike, line_1d_alike}
-use Rattle.hayro_ccitt.proofs.DamagedLines.EolsAlike.{Closes, closes_inside, inside_after, after_shorter, past_alike, PastAlike, CountAlike, RestAlike, all_eols_alike}
+use Rattle.hayro_ccitt.proofs.Readings.TurnsMoveOn.{cond_le, length-one_more, eols_shorter, past_tag_shorter, eols_with_tags_shorter, last_tag_shorter, next_eol_found, eols_here_counted}
+use Rattle.hayro_ccitt.proofs.BitReading.ZerosInWords.{scan}
+use Rattle.hayro_ccitt.proofs.DamagedLines.PastEol.{past, all_eols-some, all_eols-none, all_tagged, all_tagged-some, all_tagged-none}
+use Rattle.hayro_ccitt.proofs.DamagedLines.SoughtTurns.{sought, rest_of, not_past_end, eols_here_same, row_past, move_sought, sought_done}
+use Rattle.hayro_ccitt.proofs.DrawingLines.LinesLeaveBits.{Leaves, LineLeaves, line_by_leaves}
+use Rattle.hayro_ccitt.proofs.DamagedLines.LinesBeforeEol.{Inside, LineAlike, line_1d_alike, line_2d_alike}
+use Rattle.hayro_ccitt.proofs.DamagedLines.EolsAlike.{Closes, closes_inside, inside_after, leaves_after, leaves_length, past_alike, PastAlike, CountAlike, RestAlike, all_eols_alike, eols_found, all_tagged_alike, tagged_found, last_tag_alike, last_tag_few}
+use Rattle.hayro_ccitt.proofs.EncodedPictures.PictureLines.{row_before_push}
 use Rattle.hayro_ccitt.proofs.Readings.RowsAndGaps.{unless_over, seek_from, seek_eol, after_row, row_added, after_whole-is, after_damage-is}
-use Rattle.std.proofs.lemmas.Grind.{common_steps}
 
--- ---- Rows of which one may differ
+-- ---- Rows of which some may differ
 
--- the rows are equal, or all but one, of which something is said by the rows before it
-abbrev pub RowsAlike : (List Row → Type 0) → List Row → List Row → Type 0
-RowsAlike Begins xs ys = (xs ≡ ys)
-    ⊎ ((before : List Row) × (a b : Row) × (more : List Row) × (xs ≡ before ++ a ∷ more) × (ys ≡ before ++ b ∷ more) × Begins before)
+-- the rows are equal, or all but a number of consecutive ones, of which something is said by the rows before them
+abbrev pub RowsAlike : ℕ → (List Row → Type 0) → List Row → List Row → Type 0
+RowsAlike differ Begins xs ys = (xs ≡ ys)
+    ⊎ ((before these those more : List Row) × (length these ≡ length those) × (length these ≤ differ)
+    × (xs ≡ before ++ (these ++ more)) × (ys ≡ before ++ (those ++ more)) × Begins before)
 
-rows_length : {Begins : List Row → Type 0} (xs ys : List Row) → RowsAlike Begins xs ys → length xs ≡ length ys
-rows_length xs ys given = grind (arith, common_steps)
+rows_length : (differ : ℕ) (Begins : List Row → Type 0) (xs ys : List Row) → RowsAlike differ Begins xs ys → length xs ≡ length ys
+rows_length differ Begins xs ys (inl e) = ap length e
+rows_length differ Begins xs ys (inr (before, these, those, more, same, few, e, f, begins)) =
+    omega (
+      arith,
+      ap length e,
+      ap length f,
+      same,
+      length-append before (these ++ more),
+      length-append before (those ++ more),
+      length-append these more,
+      length-append those more,
+    )
 
-rows_more : {Begins : List Row → Type 0} (xs ys : List Row) (row : Row) → RowsAlike Begins xs ys → RowsAlike Begins (xs ++ row ∷ []) (ys ++ row ∷ [])
-rows_more xs ys row (inl e) = inl (ap (λ (x : List Row). x ++ row ∷ []) e)
-rows_more xs ys row (inr (before, a, b, more, e, f, begins)) = grind (arith, common_steps)
+rows_more : (differ : ℕ) (Begins : List Row → Type 0) (xs ys : List Row) (row : Row) → RowsAlike differ Begins xs ys
+    → RowsAlike differ Begins (xs ++ row ∷ []) (ys ++ row ∷ [])
+rows_more differ Begins xs ys row (inl e) = inl (ap (λ (x : List Row). x ++ row ∷ []) e)
+rows_more differ Begins xs ys row (inr (before, these, those, more, same, few, e, f, begins)) =
+    inr (before, these, those, more ++ row ∷ [], same, few, moved these xs e, moved those ys f, begins)
+  where
+    moved : (some all : List Row) → all ≡ before ++ (some ++ more) → all ++ row ∷ [] ≡ before ++ (some ++ (more ++ row ∷ []))
+    moved some all g = ap (λ (x : List Row). x ++ row ∷ []) g ∙ append_assoc before (some ++ more) (row ∷ [])
+        ∙ ap (λ (x : List Row). before ++ x) (append_assoc some more (row ∷ []))
 
 -- a state between lines
 abbrev pub run_at : List Row → Bool → Bits → Progress
 run_at rows has_eols rest = record { rows = rows; has_eols = has_eols; rest = rest }
 
 -- how two runs end: with one fault; at one position among the equal bits; past the EOL after the line; or at the limit
-pub data EndsAlike (settings : DecodeSettings) (Begins : List Row → Type 0) (from : ℕ) (x y after : Bits) (r q : Ending) : Type 0 where
-  faults : (fault : DecodeError) → r.outcome ≡ Err fault → q.outcome ≡ Err fault → RowsAlike Begins r.rows q.rows → EndsAlike settings Begins from x y after r q
+pub data EndsAlike (settings : DecodeSettings) (Begins : List Row → Type 0) (differ from : ℕ) (x y after : Bits)
+    (r q : Ending) : Type 0 where
+  faults : (fault : DecodeError) → r.outcome ≡ Err fault → q.outcome ≡ Err fault → RowsAlike differ Begins r.rows q.rows
+      → EndsAlike settings Begins differ from x y after r q
   early : (bits : Bits) → length bits < from → r.outcome ≡ Ok (bits ++ true ∷ x) → q.outcome ≡ Ok (bits ++ true ∷ y) → r.rows ≡ q.rows
-      → EndsAlike settings Begins from x y after r q
-  there : r.outcome ≡ Ok x → q.outcome ≡ Ok y → r.rows ≡ q.rows → EndsAlike settings Begins from x y after r q
-  later : (rest : Bits) → length rest ≤ length after → r.outcome ≡ Ok rest → q.outcome ≡ Ok rest → RowsAlike Begins r.rows q.rows
-      → EndsAlike settings Begins from x y after r q
-  limit : (before : List Row) (a b : Row) (u v : Bits) → Begins before → settings.rows ≡ suc (length before) → r.rows ≡ before ++ a ∷ [] → q.rows ≡ before ++ b ∷ []
+      → EndsAlike settings Begins differ from x y after r q
+  there : r.outcome ≡ Ok x → q.outcome ≡ Ok y → r.rows ≡ q.rows → EndsAlike settings Begins differ from x y after r q
+  later : (rest : Bits) → length rest ≤ length after → r.outcome ≡ Ok rest → q.outcome ≡ Ok rest
+      → RowsAlike differ Begins r.rows q.rows
+      → EndsAlike settings Begins differ from x y after r q
+  limit : (before these those : List Row) (u v : Bits) → Begins before → length these ≡ length those → 0 < length these
+      → length these ≤ differ
+      → settings.rows ≡ length before + length these → r.rows ≡ before ++ these → q.rows ≡ before ++ those
       → r.outcome ≡ Ok u → q.outcome ≡ Ok v → length u ≤ length x → length v ≤ length y
-      → EndsAlike settings Begins from x y after r q
+      → EndsAlike settings Begins differ from x y after r q
 
--- where two runs are between lines: at one position among the equal bits; just past them; or past the EOL after the
--- line
-pub data RunsAlike (Begins : List Row → Type 0) (from : ℕ) (x y after : Bits) (s t : Progress) : Type 0 where
-  ahead : (rows : List Row) (bits : Bits) → Closes bits → length bits < from → s ≡ sought rows (bits ++ true ∷ x) → t ≡ sought rows (bits ++ true ∷ y)
-      → RunsAlike Begins from x y after s t
-  there : (rows : List Row) → s ≡ sought rows x → t ≡ sought rows y → RunsAlike Begins from x y after s t
-  beyond : (xs ys : List Row) (has_eols : Bool) (rest : Bits) → RowsAlike Begins xs ys → length rest ≤ length after → s ≡ run_at xs has_eols rest
-      → t ≡ run_at ys has_eols rest → RunsAlike Begins from x y after s t
+-- EOLs that end the data, or come before a line that is the same whatever its reference row is
+abbrev pub Unreferred : DecodeSettings → ℕ × Bits → Type 0
+Unreferred settings (count, rest) = ((settings.end_of_block && leb (eols_of_end settings.encoding) count) ≡ true)
+    ⊎ ((reference other : Row) → line_here settings reference rest ≡ line_here settings other rest)
 
--- the bits from the line on: there is no EOL there, the next is followed by some bits, and the line stays before it
-pub record IsTail (columns : ℕ) (after x : Bits) : Type 0 where
+-- What follows an EOL: as many lines, each with the same next EOL behind it whatever its reference row is, and then such
+-- EOLs.
+abbrev pub Settles : DecodeSettings → ℕ → Bits → Type 0
+Settles settings zero after = (found : Bits) → after_eol 0 found ≡ Some after → Unreferred settings (eols_here settings found)
+Settles settings (suc n) after = (next : Bits) × (length next ≤ length after)
+    × ((found : Bits) → after_eol 0 found ≡ Some after → eols_here settings found ≡ (1, after))
+    × ((reference : Row) → past 0 (rest_of (line_here settings reference after) after) ≡ Some next) × Settles settings n next
+
+-- where two runs are between lines: at one position among the equal bits; just past them; among the lines that are read
+-- against rows that differ; or past them
+pub data RunsAlike (settings : DecodeSettings) (Begins : List Row → Type 0) (differ : ℕ) (Within : Bits → Type 0)
+    (x y after : Bits) (s t : Progress) : Type 0 where
+  ahead : (rows : List Row) (bits : Bits) → Closes bits → Within bits → s ≡ sought rows (bits ++ true ∷ x)
+      → t ≡ sought rows (bits ++ true ∷ y)
+      → RunsAlike settings Begins differ Within x y after s t
+  there : (rows : List Row) → s ≡ sought rows x → t ≡ sought rows y → RunsAlike settings Begins differ Within x y after s t
+  among : (before these those : List Row) (here : Bits) (left : ℕ) → Begins before → length these ≡ length those
+      → length these + suc left ≤ differ
+      → Settles settings (suc left) here → length here ≤ length after → s ≡ sought (before ++ these) here
+          → t ≡ sought (before ++ those) here
+      → RunsAlike settings Begins differ Within x y after s t
+  beyond : (xs ys : List Row) (has_eols : Bool) (rest : Bits) → RowsAlike differ Begins xs ys → length rest ≤ length after
+      → line_here settings (row_before settings.columns xs) rest ≡ line_here settings (row_before settings.columns ys) rest
+      → s ≡ run_at xs has_eols rest → t ≡ run_at ys has_eols rest → RunsAlike settings Begins differ Within x y after s t
+
+-- the bits from the line on: there is no EOL there, also after a tag if it has one, and the next is followed by some bits
+pub record IsTail (settings : DecodeSettings) (after x : Bits) : Type 0 where
   pub none : after_eol 0 x ≡ None
   pub next : past 0 x ≡ Some after
-  pub stays : StaysBefore columns x
+  pub tag : settings.encoding ≡ Group3_2D → past_tag x ≡ x
 
-module _ (settings : DecodeSettings) (encoding : settings.encoding ≡ Group3_1D) (lenient : settings.strict ≡ false) (Begins : List Row → Type 0) (from : ℕ) (x y after : Bits)
-    (tail_x : IsTail settings.columns after x) (tail_y : IsTail settings.columns after y) (rest : Progress → Ending) where
+-- an encoding of Group 3
+abbrev pub IsGroup3 : EncodingMode → Type 0
+IsGroup3 encoding = (encoding ≡ Group3_1D) ⊎ (encoding ≡ Group3_2D)
+
+-- behind the first of bits that end with the zeros of an EOL there are enough zeros left
+closes_tail : (tag : Bool) (bits : Bits) → Closes (tag ∷ bits) → Inside bits
+closes_tail tag bits ([], e) =
+    let ten : bits ≡ replicate 10 false = cc in
+    record { holds = ap (scan 3) ten; last = (tag ∷ [], [], e) }
+closes_tail tag bits (b ∷ first, e) = closes_inside bits (first, cc)
+
+module _ (settings : DecodeSettings) (group3 : IsGroup3 settings.encoding) (lenient : settings.strict ≡ false)
+    (Begins : List Row → Type 0) (differ from : ℕ) (x y after : Bits)
+    (tail_x : IsTail settings after x) (tail_y : IsTail settings after y) (Within : Bits → Type 0)
+    (within_later : (bits rest : Bits) → Within bits → Leaves bits rest → Within rest)
+    (within_short : (bits : Bits) → Within bits → length bits < from)
+    (few_x : (bits found : Bits) (count : ℕ) → settings.encoding ≡ Group3_2D → Within bits → Leaves (bits ++ true ∷ x) found
+        → all_tagged found ≡ (count, x) → count < 6)
+    (few_y : (bits found : Bits) (count : ℕ) → settings.encoding ≡ Group3_2D → Within bits → Leaves (bits ++ true ∷ y) found
+        → all_tagged found ≡ (count, y) → count < 6)
+    (lines : ℕ) (enough : suc lines ≤ differ) (settles : Settles settings lines after)
+    (stays_x : (rows : List Row) → Begins rows → past 0 (rest_of (line_of_turn settings (sought rows x)) x) ≡ Some after)
+    (stays_y : (rows : List Row) → Begins rows → past 0 (rest_of (line_of_turn settings (sought rows y)) y) ≡ Some after)
+    (rest : Progress → Ending) where
   -- two turns that are alike
   abbrev Both : Move → Move → Type 0
-  Both m n = Follows (RunsAlike Begins from x y after) (EndsAlike settings Begins from x y after) rest m n
+  Both m n = Follows (RunsAlike settings Begins differ Within x y after)
+      (EndsAlike settings Begins differ from x y after) rest m n
 
-  -- ---- Past the EOL after the line everything is alike except one row
-  unless_beyond : (xs ys : List Row) (has_eols : Bool) (a b : Bits) (found : ℕ × Bits) → RowsAlike Begins xs ys → length found.1 ≤ length after
+  abbrev Alike : List Row → List Row → Type 0
+  Alike xs ys = RowsAlike differ Begins xs ys
+
+  -- the line here is the same after both
+  abbrev SameLine : List Row → List Row → Bits → Type 0
+  SameLine xs ys here = line_here settings (row_before settings.columns xs) here ≡ line_here settings
+      (row_before settings.columns ys) here
+
+  -- ---- Past the lines that may differ everything is alike except their rows
+
+  -- the test whether a reading is over
+  abbrev over : ℕ → ℕ → Bits → Bool
+  over taken count here = ((settings.end_of_block && leb (eols_of_end settings.encoding) count) || limit_met settings taken) ||
+      at_end here
+
+  unless_beyond : (xs ys : List Row) (has_eols : Bool) (a b : Bits) (found : ℕ × Bits) → Alike xs ys
+      → length found.1 ≤ length after
+      → (((settings.end_of_block && leb (eols_of_end settings.encoding) found.0) ≡ true) ⊎ SameLine xs ys found.1)
       → Both (unless_over settings (run_at xs has_eols a) found) (unless_over settings (run_at ys has_eols b) found)
-  unless_beyond xs ys has_eols a b (count, here) alike short =
+  unless_beyond xs ys has_eols a b (count, here) alike short same =
       subst (λ (n : ℕ). Both (unless_over settings (run_at xs has_eols a) (count, here))
-      (cond (over n) (ends_with (run_at ys has_eols b) (Ok here)) (Turn.next (run_at ys has_eols here)))) (rows_length xs ys alike) (by (over (length xs)))
+      (cond (over n count here) (ends_with (run_at ys has_eols b) (Ok here)) (Turn.next (run_at ys has_eols here))))
+          (rows_length differ Begins xs ys alike)
+      (by_line same)
     where
-      over : ℕ → Bool
-      over n = ((settings.end_of_block && leb (eols_of_end settings.encoding) count) || limit_met settings n) || at_end here
-
-      by : (t : Bool) → Both (cond t (ends_with (run_at xs has_eols a) (Ok here)) (Turn.next (run_at xs has_eols here)))
+      by : (t : Bool) → (t ≡ false → SameLine xs ys here)
+          → Both (cond t (ends_with (run_at xs has_eols a) (Ok here)) (Turn.next (run_at xs has_eols here)))
           (cond t (ends_with (run_at ys has_eols b) (Ok here)) (Turn.next (run_at ys has_eols here)))
-      by true = EndsAlike.later here short refl refl alike
-      by false = RunsAlike.beyond xs ys has_eols here alike short refl refl
+      by true line = EndsAlike.later here short refl refl alike
+      by false line = RunsAlike.beyond xs ys has_eols here alike short (line refl) refl refl
 
-  row_beyond : (xs ys : List Row) (has_eols : Bool) (here : Bits) → RowsAlike Begins xs ys → length here ≤ length after
+      by_line : (((settings.end_of_block && leb (eols_of_end settings.encoding) count) ≡ true) ⊎ SameLine xs ys here)
+          → Both (cond (over (length xs) count here) (ends_with (run_at xs has_eols a) (Ok here))
+              (Turn.next (run_at xs has_eols here)))
+          (cond (over (length xs) count here) (ends_with (run_at ys has_eols b) (Ok here)) (Turn.next (run_at ys has_eols here)))
+      by_line (inl ends) = rw ends (EndsAlike.later here short refl refl alike)
+      by_line (inr line) = by (over (length xs) count here) (λ e. line)
+
+  row_beyond : (xs ys : List Row) (has_eols : Bool) (here : Bits) → Alike xs ys → length here ≤ length after
+      → ((there : Bits) → SameLine xs ys there)
       → Both (after_row settings (run_at xs has_eols here)) (after_row settings (run_at ys has_eols here))
-  row_beyond xs ys has_eols here alike short =
+  row_beyond xs ys has_eols here alike short same =
       subst (λ (n : ℕ). Both (after_row settings (run_at xs has_eols here))
       (cond (test n) (seek_eol settings (run_at ys has_eols here)) (unless_over settings (run_at ys has_eols here) (eols_here settings here))))
-      (rows_length xs ys alike) (by (test (length xs)))
+      (rows_length differ Begins xs ys alike) (by (test (length xs)))
     where
       test : ℕ → Bool
       test n = ((eqb (eols_here settings here).0 0 && has_eols) && not (limit_met settings n)) && not (at_end here)
 
       from_next : (o : Option Bits) → next_eol here ≡ o → Both (seek_from settings (run_at xs has_eols here) o) (seek_from settings (run_at ys has_eols here) o)
-      from_next None e = RunsAlike.beyond xs ys false here alike short refl refl
+      from_next None e = RunsAlike.beyond xs ys false here alike short (same here) refl refl
       from_next (Some found) e = unless_beyond xs ys has_eols here here (eols_here settings found) alike
           (omega (arith, (next_eol_found here found e).0, (eols_here_counted settings found).0, short))
+              (inr (same (eols_here settings found).1))
 
       strictly : (t : Bool) → Both (cond t (ends_with (run_at xs has_eols here) (Err InvalidCode))
           (seek_from settings (run_at xs has_eols here) (next_eol here)))
@@ -118,16 +211,25 @@ module _ (settings : DecodeSettings) (encoding : settings.encoding ≡ Group3_1D
           (cond t (seek_eol settings (run_at ys has_eols here)) (unless_over settings (run_at ys has_eols here) (eols_here settings here)))
       by true = strictly settings.strict
       by false = unless_beyond xs ys has_eols here here (eols_here settings here) alike (omega (arith, (eols_here_counted settings here).0, short))
+          (inr (same (eols_here settings here).1))
 
-  line_beyond : (xs ys : List Row) (has_eols : Bool) (here : Bits) (line : Line) → RowsAlike Begins xs ys → length here ≤ length after → LineLeaves here line
+  -- after the same row the next line is the same
+  same_after : (xs ys : List Row) (row : Row) (here : Bits) → SameLine (xs ++ row ∷ []) (ys ++ row ∷ []) here
+  same_after xs ys row here =
+      ap (λ (r : Row). line_here settings r here)
+          (row_before_push settings.columns xs row ∙ sym (row_before_push settings.columns ys row))
+
+  line_beyond : (xs ys : List Row) (has_eols : Bool) (here : Bits) (line : Line) → Alike xs ys → length here ≤ length after
+      → LineLeaves here line
       → Both (after_line settings (run_at xs has_eols here) line) (after_line settings (run_at ys has_eols here) line)
   line_beyond xs ys has_eols here (Line.whole row left) alike short leaves =
       let al : Bool = settings.rows_are_byte_aligned && not has_eols in
       let shorter : length (cond al (aligned left) left) ≤ length left
       = cond_le al (aligned left) left (length left) (omega (arith, length-drop (length left % 8) left)) (omega arith) in
       rw (after_whole-is settings (run_at xs has_eols here) row left, after_whole-is settings (run_at ys has_eols here) row left)
-      (row_beyond (xs ++ row ∷ []) (ys ++ row ∷ []) has_eols (cond al (aligned left) left) (rows_more xs ys row alike)
-      (omega (arith, shorter, short, ap length leaves.1, length-append leaves.0 left)))
+      (row_beyond (xs ++ row ∷ []) (ys ++ row ∷ []) has_eols (cond al (aligned left) left)
+          (rows_more differ Begins xs ys row alike)
+      (omega (arith, shorter, short, ap length leaves.1, length-append leaves.0 left)) (same_after xs ys row))
   line_beyond xs ys has_eols here (Line.broken front fault) alike short leaves =
       rw (after_damage-is settings (run_at xs has_eols here) front fault, after_damage-is settings (run_at ys has_eols here) front fault)
       (by (settings.strict || not has_eols))
@@ -144,16 +246,86 @@ module _ (settings : DecodeSettings) (encoding : settings.encoding ≡ Group3_1D
       by : (t : Bool) → Both (cond t (ends_with (run_at xs has_eols here) (Err fault)) (row_added settings (run_at xs has_eols here) row here))
           (cond t (ends_with (run_at ys has_eols here) (Err fault)) (row_added settings (run_at ys has_eols here) row here))
       by true = EndsAlike.faults fault refl refl alike
-      by false = row_beyond (xs ++ row ∷ []) (ys ++ row ∷ []) has_eols (cond al (aligned here) here) (rows_more xs ys row alike) (omega (arith, shorter, short))
+      by false = row_beyond (xs ++ row ∷ []) (ys ++ row ∷ []) has_eols (cond al (aligned here) here)
+          (rows_more differ Begins xs ys row alike)
+          (omega (arith, shorter, short)) (same_after xs ys row)
 
-  move_beyond : (xs ys : List Row) (has_eols : Bool) (here : Bits) → RowsAlike Begins xs ys → length here ≤ length after
+  move_beyond : (xs ys : List Row) (has_eols : Bool) (here : Bits) → Alike xs ys → length here ≤ length after
+      → SameLine xs ys here
       → Both (move_on settings (run_at xs has_eols here)) (move_on settings (run_at ys has_eols here))
-  move_beyond xs ys has_eols here alike short = grind (arith, common_steps, line_1d_leaves, line_beyond, line_is)
+  move_beyond xs ys has_eols here alike short same =
+      let line : Line = line_here settings (row_before settings.columns xs) here in
+      subst (λ (other : Line). Both (after_line settings (run_at xs has_eols here) line)
+          (after_line settings (run_at ys has_eols here) other)) same
+      (line_beyond xs ys has_eols here line alike short
+      (line_by_leaves settings.encoding settings.strict settings.columns (row_before settings.columns xs) here))
 
   -- ---- At or before the line
   not_end : (bits z : Bits) → at_end (bits ++ true ∷ z) ≡ false
   not_end [] z = refl
   not_end (b ∷ bits) z = refl
+
+  -- one EOL is counted before the line
+  alone : (z found : Bits) → IsTail settings after z → after_eol 0 found ≡ Some z → eols_here settings found ≡ (1, z)
+  alone z found tail e = by settings.encoding settings.end_of_block group3 tail.tag
+    where
+      by : (encoding : EncodingMode) (block : Bool) → IsGroup3 encoding → (encoding ≡ Group3_2D → past_tag z ≡ z)
+          → eols_by encoding block found ≡ (1, z)
+      by Group3_1D block is tag = rw (all_eols-some found z e, all_eols-none z tail.none) refl
+      by Group3_2D block is tag = rw (all_tagged-some found z e, tag refl, all_tagged-none z tail.none)
+          (last_tag_few 1 z (omega arith))
+      by Group4 block (inl is) tag = absurd cc
+      by Group4 block (inr is) tag = absurd cc
+
+  -- counting EOLs goes on behind the first
+  counted_shorter : (found z : Bits) → after_eol 0 found ≡ Some z → length (eols_here settings found).1 ≤ length z
+  counted_shorter found z e = by settings.encoding settings.end_of_block group3
+    where
+      by : (encoding : EncodingMode) (block : Bool) → IsGroup3 encoding → length (eols_by encoding block found).1 ≤ length z
+      by Group3_1D block is = rw (all_eols-some found z e)
+          (omega (arith, length-one_more (all_eols z), eols_shorter (length z) z))
+      by Group3_2D block is =
+          let more : ℕ × Bits = all_tagged (past_tag z) in
+          omega (
+            arith,
+            last_tag_shorter (all_tagged found),
+            ap (λ (f : ℕ × Bits). length f.1) (all_tagged-some found z e),
+            length-one_more more,
+            eols_with_tags_shorter (length (past_tag z)) (past_tag z),
+            past_tag_shorter z,
+          )
+      by Group4 block (inl is) = absurd cc
+      by Group4 block (inr is) = absurd cc
+
+  -- the EOLs from here on are alike
+  counted_here : (bits : Bits) → Within bits
+      → CountAlike x y bits (eols_here settings (bits ++ true ∷ x)) (eols_here settings (bits ++ true ∷ y))
+  counted_here bits within = by settings.encoding settings.end_of_block refl group3
+    where
+      by : (encoding : EncodingMode) (block : Bool) → settings.encoding ≡ encoding → IsGroup3 encoding
+          → CountAlike x y bits (eols_by encoding block (bits ++ true ∷ x)) (eols_by encoding block (bits ++ true ∷ y))
+      by Group3_1D block same is = all_eols_alike x y tail_x.none tail_y.none bits
+      by Group3_2D block same is = last_tag_alike x y tail_x.none tail_y.none (tail_x.tag same) (tail_y.tag same) bits _ _
+          (all_tagged_alike x y tail_x.none tail_y.none (tail_x.tag same) (tail_y.tag same) bits)
+          (λ count e. few_x bits (bits ++ true ∷ x) count same within ([], refl) e)
+              (λ count e. few_y bits (bits ++ true ∷ y) count same within ([], refl) e)
+      by Group4 block same (inl is) = absurd cc
+      by Group4 block same (inr is) = absurd cc
+
+  -- the same from an EOL on that ends among the equal bits
+  counted : (bits more found other : Bits) → Within bits → Leaves (bits ++ true ∷ x) found → Leaves (bits ++ true ∷ y) other
+      → after_eol 0 found ≡ Some (more ++ true ∷ x) → after_eol 0 other ≡ Some (more ++ true ∷ y)
+      → CountAlike x y more (eols_here settings found) (eols_here settings other)
+  counted bits more found other within leaves leaves2 e f = by settings.encoding settings.end_of_block refl group3
+    where
+      by : (encoding : EncodingMode) (block : Bool) → settings.encoding ≡ encoding → IsGroup3 encoding
+          → CountAlike x y more (eols_by encoding block found) (eols_by encoding block other)
+      by Group3_1D block same is = eols_found x y tail_x.none tail_y.none more found other e f
+      by Group3_2D block same is = last_tag_alike x y tail_x.none tail_y.none (tail_x.tag same) (tail_y.tag same) more _ _
+          (tagged_found x y tail_x.none tail_y.none (tail_x.tag same) (tail_y.tag same) more found other e f)
+          (λ count g. few_x bits found count same within leaves g) (λ count g. few_y bits other count same within leaves2 g)
+      by Group4 block same (inl is) = absurd cc
+      by Group4 block same (inr is) = absurd cc
 
   -- after EOLs the last of which ends where the line begins
   unless_there : (rows : List Row) (u v : Bits) (count : ℕ)
@@ -167,123 +339,218 @@ module _ (settings : DecodeSettings) (encoding : settings.encoding ≡ Group3_1D
       by false = RunsAlike.there rows refl refl
 
   -- after EOLs that end at or before the line
-  unless_ahead : (rows : List Row) (u v : Bits) (count : ℕ) (bits here other : Bits) → Closes bits → length bits < from
-      → RestAlike x y bits here other → Both (unless_over settings (sought rows u) (count, here)) (unless_over settings (sought rows v) (count, other))
-  unless_ahead rows u v count bits here other closes short (inl (a, le, keeps, e, f)) =
-      rw (e, f, not_end a x, not_end a y) (by (((settings.end_of_block && leb (eols_of_end settings.encoding) count) || limit_met settings (length rows)) || false))
+  unless_ahead : (rows : List Row) (u v bits : Bits) (found other : ℕ × Bits) → Closes bits → Within bits
+      → CountAlike x y bits found other
+      → Both (unless_over settings (sought rows u) found) (unless_over settings (sought rows v) other)
+  unless_ahead rows u v bits (count, here) (count2, other) closes within (same, inl (a, leaves, keeps, e, f)) =
+      rw (← same, e, f, not_end a x, not_end a y)
+      (by (((settings.end_of_block && leb (eols_of_end settings.encoding) count) || limit_met settings (length rows)) || false))
     where
+      still : Within a
+      still = within_later bits a within leaves
+
       by : (t : Bool) → Both (cond t (ends_with (sought rows u) (Ok (a ++ true ∷ x))) (Turn.next (sought rows (a ++ true ∷ x))))
           (cond t (ends_with (sought rows v) (Ok (a ++ true ∷ y))) (Turn.next (sought rows (a ++ true ∷ y))))
-      by true = EndsAlike.early a (omega arith) refl refl refl
-      by false = RunsAlike.ahead rows a (keeps closes) (omega arith) refl refl
-  unless_ahead rows u v count bits here other closes short (inr (e, f)) = rw (e, f) (unless_there rows u v count)
+      by true = EndsAlike.early a (within_short a still) refl refl refl
+      by false = RunsAlike.ahead rows a (keeps closes) still refl refl
+  unless_ahead rows u v bits (count, here) (count2, other) closes within (same, inr (e, f)) = rw (← same, e, f)
+      (unless_there rows u v count)
 
   -- after a row whose line ended before the EOL that ends where the line begins
-  row_ahead : (rows : List Row) (bits : Bits) → Inside bits → length bits < from
+  row_ahead : (rows : List Row) (bits : Bits) → Inside bits → Within bits
       → Both (after_row settings (sought rows (bits ++ true ∷ x))) (after_row settings (sought rows (bits ++ true ∷ y)))
-  row_ahead rows bits inside short = by_limit (cases_Bool (limit_met settings (length rows)))
+  row_ahead rows bits inside within = by_limit (cases_Bool (limit_met settings (length rows)))
     where
-      counted : (a : Bits) → CountAlike x y a (all_eols (a ++ true ∷ x)) (all_eols (a ++ true ∷ y))
-      counted = all_eols_alike x y tail_x.none tail_y.none
-
       at_limit : (found other : ℕ × Bits) → RestAlike x y bits found.1 other.1
           → Both (ends_with (sought rows (bits ++ true ∷ x)) (Ok found.1)) (ends_with (sought rows (bits ++ true ∷ y)) (Ok other.1))
-      at_limit found other (inl (a, le, keeps, e, f)) = EndsAlike.early a (omega arith) (ap Ok e) (ap Ok f) refl
+      at_limit found other (inl (a, leaves, keeps, e, f)) = EndsAlike.early a (within_short a (within_later bits a within leaves))
+          (ap Ok e) (ap Ok f) refl
       at_limit found other (inr (e, f)) = EndsAlike.there (ap Ok e) (ap Ok f) refl
 
       by_past : limit_met settings (length rows) ≡ false → (o p : Option Bits) → past 0 (bits ++ true ∷ x) ≡ o → past 0 (bits ++ true ∷ y) ≡ p
           → PastAlike x y bits o p → Both (after_row settings (sought rows (bits ++ true ∷ x))) (after_row settings (sought rows (bits ++ true ∷ y)))
       by_past open_limit o p e f (inl (before, a, is, g, h)) =
-          let closes = inside_after bits before a inside is in
-          let shorter = after_shorter bits before a is in
-          let both = counted a in
-          rw (
-            after_row_past settings encoding lenient rows (bits ++ true ∷ x) (a ++ true ∷ x) open_limit
-                (e ∙ g),
-            after_row_past settings encoding lenient rows (bits ++ true ∷ y) (a ++ true ∷ y) open_limit (f ∙ h),
-          )
-          (subst (λ (n : ℕ). Both (unless_over settings (sought rows (bits ++ true ∷ x)) (one_more (all_eols (a ++ true ∷ x))))
-          (unless_over settings (sought rows (bits ++ true ∷ y)) (suc n, (all_eols (a ++ true ∷ y)).1))) both.0
-          (unless_ahead rows (bits ++ true ∷ x) (bits ++ true ∷ y) (suc (all_eols (a ++ true ∷ x)).0) a (all_eols (a ++ true ∷ x)).1
-          (all_eols (a ++ true ∷ y)).1 closes (omega arith) both.1))
+          let one = row_past settings lenient rows (bits ++ true ∷ x) (a ++ true ∷ x) open_limit (e ∙ g) in
+          let two = row_past settings lenient rows (bits ++ true ∷ y) (a ++ true ∷ y) open_limit (f ∙ h) in
+          rw (one.3, two.3)
+          (unless_ahead rows (bits ++ true ∷ x) (bits ++ true ∷ y) a (eols_here settings one.0) (eols_here settings two.0)
+          (inside_after bits before a inside is) (within_later bits a within (leaves_after bits before a is))
+          (counted bits a one.0 two.0 within one.1 two.1 one.2 two.2))
       by_past open_limit o p e f (inr (inl (g, h))) =
-          let step = after_row_past settings encoding lenient rows (bits ++ true ∷ x) x open_limit (e ∙ g) in
-          let step2 = after_row_past settings encoding lenient rows (bits ++ true ∷ y) y open_limit (f ∙ h) in
-          let step3 = unless_there rows (bits ++ true ∷ x) (bits ++ true ∷ y) 1 in
-          grind (arith, common_steps, step, step2, all_eols-none x tail_x.none, all_eols-none y tail_y.none, step3)
+          let one = row_past settings lenient rows (bits ++ true ∷ x) x open_limit (e ∙ g) in
+          let two = row_past settings lenient rows (bits ++ true ∷ y) y open_limit (f ∙ h) in
+          rw (one.3, two.3, alone x one.0 tail_x one.2, alone y two.0 tail_y two.2)
+              (unless_there rows (bits ++ true ∷ x) (bits ++ true ∷ y) 1)
       by_past open_limit o p e f (inr (inr (g, h))) =
-          grind (arith, common_steps, after_row_past settings encoding lenient rows (bits ++ true ∷ x) after open_limit (e ∙ g ∙ tail_x.next), after_row_past settings encoding lenient rows (bits ++ true ∷ y) after open_limit (f ∙ h ∙ tail_y.next), eols_shorter (length after) after, unless_beyond rows rows true (bits ++ true ∷ x) (bits ++ true ∷ y) (one_more (all_eols after)) (inl refl) (eols_shorter (length after) after))
+          let one = row_past settings lenient rows (bits ++ true ∷ x) after open_limit (e ∙ g ∙ tail_x.next) in
+          let two = row_past settings lenient rows (bits ++ true ∷ y) after open_limit (f ∙ h ∙ tail_y.next) in
+          rw (one.3, two.3, eols_here_same settings two.0 one.0 after two.2 one.2)
+          (unless_beyond rows rows true (bits ++ true ∷ x) (bits ++ true ∷ y) (eols_here settings one.0) (inl refl)
+          (counted_shorter one.0 after one.2) (inr refl))
 
       by_limit : (limit_met settings (length rows) ≡ true) ⊎ (limit_met settings (length rows) ≡ false)
           → Both (after_row settings (sought rows (bits ++ true ∷ x))) (after_row settings (sought rows (bits ++ true ∷ y)))
       by_limit (inl met) = rw (
-        limit_done settings encoding lenient rows (bits ++ true ∷ x) met,
-        limit_done settings encoding lenient rows
-            (bits ++ true ∷ y) met,
-      ) (at_limit (all_eols (bits ++ true ∷ x)) (all_eols (bits ++ true ∷ y)) (counted bits).1)
+        sought_done settings rows (bits ++ true ∷ x) met,
+        sought_done settings rows (bits ++ true ∷ y) met,
+      ) (at_limit (eols_here settings (bits ++ true ∷ x)) (eols_here settings (bits ++ true ∷ y)) (counted_here bits within).1)
       by_limit (inr open_limit) = by_past open_limit (past 0 (bits ++ true ∷ x)) (past 0 (bits ++ true ∷ y)) refl refl (past_alike x y 0 bits)
 
-  line_ahead : (rows : List Row) (bits : Bits) → Closes bits → length bits < from
+  -- a line that begins before is the same
+  line_in_front : (reference : Row) (bits : Bits) → Closes bits
+      → LineAlike (true ∷ x) (true ∷ y) (line_here settings reference (bits ++ true ∷ x))
+          (line_here settings reference (bits ++ true ∷ y))
+  line_in_front reference bits closes = rw lenient (by settings.encoding group3 bits closes)
+    where
+      by : (encoding : EncodingMode) → IsGroup3 encoding → (bits : Bits) → Closes bits
+          → LineAlike (true ∷ x) (true ∷ y) (line_by encoding false settings.columns reference (bits ++ true ∷ x))
+          (line_by encoding false settings.columns reference (bits ++ true ∷ y))
+      by Group3_1D is bits closes = line_1d_alike (true ∷ x) (true ∷ y) settings.columns _ _
+          (bits, closes_inside bits closes, refl, refl)
+      by Group3_2D is [] closes = absurd (let e = closes.1 in omega
+          (arith, ap length e, length-append closes.0 (replicate 11 false)))
+      by Group3_2D is (true ∷ bits) closes = line_1d_alike (true ∷ x) (true ∷ y) settings.columns _ _
+          (bits, closes_tail true bits closes, refl, refl)
+      by Group3_2D is (false ∷ bits) closes =
+          line_2d_alike (true ∷ x) (true ∷ y) settings.columns reference _ _ (bits, closes_tail false bits closes, refl, refl)
+      by Group4 (inl is) bits closes = absurd cc
+      by Group4 (inr is) bits closes = absurd cc
+
+  line_ahead : (rows : List Row) (bits : Bits) → Closes bits → Within bits
       → Both (move_on settings (sought rows (bits ++ true ∷ x))) (move_on settings (sought rows (bits ++ true ∷ y)))
-  line_ahead rows bits closes short =
-      rw (move_line settings encoding lenient rows (bits ++ true ∷ x), move_line settings encoding lenient rows (bits ++ true ∷ y))
-      (by (line_1d false settings.columns (bits ++ true ∷ x)) (line_1d false settings.columns (bits ++ true ∷ y))
-      (line_1d_alike (true ∷ x) (true ∷ y) settings.columns (bits ++ true ∷ x) (bits ++ true ∷ y) (bits, closes_inside bits closes, refl, refl))
-      (line_1d_leaves false settings.columns (bits ++ true ∷ x)))
+  line_ahead rows bits closes within =
+      rw (move_sought settings lenient rows (bits ++ true ∷ x), move_sought settings lenient rows (bits ++ true ∷ y))
+      (by (line_here settings (row_before settings.columns rows) (bits ++ true ∷ x))
+          (line_here settings (row_before settings.columns rows) (bits ++ true ∷ y))
+      (line_in_front (row_before settings.columns rows) bits closes)
+      (line_by_leaves settings.encoding settings.strict settings.columns (row_before settings.columns rows) (bits ++ true ∷ x)))
     where
       by : (line other : Line) → LineAlike (true ∷ x) (true ∷ y) line other → LineLeaves (bits ++ true ∷ x) line
           → Both (after_row settings (sought (rows ++ row_of settings.columns line ∷ []) (rest_of line (bits ++ true ∷ x))))
           (after_row settings (sought (rows ++ row_of settings.columns other ∷ []) (rest_of other (bits ++ true ∷ y))))
       by (Line.whole row here) (Line.whole same other) (is, (a, inside, e, f)) leaves =
-          let shorter : length a ≤ length bits = omega
-          (arith, ap length leaves.1, length-append leaves.0 here, ap length e, length-append a (true ∷ x), length-append bits (true ∷ x)) in
-          rw (← is, e, f) (row_ahead (rows ++ row ∷ []) a inside (omega arith))
+          let split : bits ++ true ∷ x ≡ (leaves.0 ++ a) ++ true ∷ x
+          = leaves.1 ∙ ap (λ (b : Bits). leaves.0 ++ b) e ∙ sym (append_assoc leaves.0 a (true ∷ x)) in
+          let suffix : Leaves bits a = (leaves.0, append_cancel_right bits (leaves.0 ++ a) (true ∷ x) split) in
+          rw (← is, e, f) (row_ahead (rows ++ row ∷ []) a inside (within_later bits a within suffix))
       by (Line.whole row here) (Line.broken front fault) alike leaves = absurd alike
       by (Line.broken front fault) (Line.whole row here) alike leaves = absurd alike
-      by (Line.broken front fault) (Line.broken same other) is leaves = grind (arith, common_steps, closes_inside, row_ahead)
+      by (Line.broken front fault) (Line.broken same other) is leaves =
+          rw (← is) (row_ahead (rows ++ row_of settings.columns (Line.broken front fault) ∷ []) bits
+              (closes_inside bits closes) within)
 
-  -- ---- At the line
-  limit_is : (rows : List Row) (row : Row) → limit_met settings (length (rows ++ row ∷ [])) ≡ true → settings.rows ≡ suc (length rows)
-  limit_is rows row met = grind (arith, common_steps)
-
-  row_there : (rows : List Row) (a b : Row) (u v : Bits) → Begins rows → past 0 u ≡ Some after → past 0 v ≡ Some after → length u ≤ length x → length v ≤ length y
-      → Both (after_row settings (sought (rows ++ a ∷ []) u)) (after_row settings (sought (rows ++ b ∷ []) v))
-  row_there rows a b u v begins e f le le2 = by (cases_Bool (limit_met settings (length (rows ++ a ∷ []))))
+  -- ---- At the line, and at those that are read against its row
+  -- after a row that may differ, if the next EOL is the same
+  row_there : (before these those : List Row) (u v z : Bits) (left : ℕ) → Begins before → length these ≡ length those
+      → 0 < length these
+      → length these + left ≤ differ → past 0 u ≡ Some z → past 0 v ≡ Some z → length u ≤ length x → length v ≤ length y
+          → length z ≤ length after
+      → Settles settings left z
+      → Both (after_row settings (sought (before ++ these) u)) (after_row settings (sought (before ++ those) v))
+  row_there before these those u v z left begins same some few e f le le2 short settled =
+      by (cases_Bool (limit_met settings (length (before ++ these))))
     where
-      alike : RowsAlike Begins (rows ++ a ∷ []) (rows ++ b ∷ [])
-      alike = inr (rows, a, b, [], refl, refl, begins)
+      as_many : length (before ++ these) ≡ length (before ++ those)
+      as_many = omega (arith, same, length-append before these, length-append before those)
 
-      as_many : limit_met settings (length (rows ++ a ∷ [])) ≡ limit_met settings (length (rows ++ b ∷ []))
-      as_many = ap (limit_met settings) (rows_length (rows ++ a ∷ []) (rows ++ b ∷ []) alike)
+      limit_is : limit_met settings (length (before ++ these)) ≡ true → settings.rows ≡ length before + length these
+      limit_is met = eqb-true settings.rows (length (before ++ these))
+          (and_parts (not (eqb settings.rows 0)) (eqb settings.rows (length (before ++ these))) met).1
+          ∙ length-append before these
 
-      by : (limit_met settings (length (rows ++ a ∷ [])) ≡ true) ⊎ (limit_met settings (length (rows ++ a ∷ [])) ≡ false)
-          → Both (after_row settings (sought (rows ++ a ∷ []) u)) (after_row settings (sought (rows ++ b ∷ []) v))
+      nil : (rows : List Row) → rows ++ [] ≡ rows
+      nil [] = refl
+      nil (row ∷ rows) = ap (λ (r : List Row). row ∷ r) (nil rows)
+
+      alike : Alike (before ++ these) (before ++ those)
+      alike = inr (before, these, those, [], same, omega arith, ap (λ (r : List Row). before ++ r) (sym (nil these)), ap
+          (λ (r : List Row). before ++ r) (sym (nil those)), begins)
+
+      settle : (n : ℕ) → length these + n ≤ differ → Settles settings n z → (found : Bits) → after_eol 0 found ≡ Some z
+          → Both (unless_over settings (sought (before ++ these) u) (eols_here settings found))
+              (unless_over settings (sought (before ++ those) v) (eols_here settings found))
+      settle zero most unreferred found g = unless_beyond (before ++ these) (before ++ those) true u v
+          (eols_here settings found) alike
+          (omega (arith, counted_shorter found z g, short))
+              (elim (unreferred found g) [ inl ends ↦ inl ends | inr line ↦ inr (line _ _) ])
+      settle (suc n) most (next, shorter, one, behind, further) found g = rw (one found g)
+          (subst (λ (m : ℕ). Both (unless_over settings (sought (before ++ these) u) (1, z))
+          (cond (over m 1 z) (ends_with (sought (before ++ those) v) (Ok z)) (Turn.next (sought (before ++ those) z)))) as_many
+              (on (over (length (before ++ these)) 1 z)))
+        where
+          on : (t : Bool) → Both (cond t (ends_with (sought (before ++ these) u) (Ok z)) (Turn.next (sought (before ++ these) z)))
+              (cond t (ends_with (sought (before ++ those) v) (Ok z)) (Turn.next (sought (before ++ those) z)))
+          on true = EndsAlike.later z short refl refl alike
+          on false = RunsAlike.among before these those z n begins same most (next, shorter, one, behind, further) short refl refl
+
+      by : (limit_met settings (length (before ++ these)) ≡ true) ⊎ (limit_met settings (length (before ++ these)) ≡ false)
+          → Both (after_row settings (sought (before ++ these) u)) (after_row settings (sought (before ++ those) v))
       by (inl met) =
-          rw (limit_done settings encoding lenient (rows ++ a ∷ []) u met, limit_done settings encoding lenient (rows ++ b ∷ []) v (sym as_many ∙ met))
-          (EndsAlike.limit rows a b (all_eols u).1 (all_eols v).1 begins (limit_is rows a met) refl refl refl refl
-          (omega (arith, eols_shorter (length u) u, le)) (omega (arith, eols_shorter (length v) v, le2)))
+          rw (sought_done settings (before ++ these) u met, sought_done settings (before ++ those) v
+              (ap (limit_met settings) (sym as_many) ∙ met))
+          (EndsAlike.limit before these those (eols_here settings u).1 (eols_here settings v).1 begins same some (omega arith)
+              (limit_is met) refl refl refl refl
+          (omega (arith, (eols_here_counted settings u).0, le)) (omega (arith, (eols_here_counted settings v).0, le2)))
       by (inr open_limit) =
-          rw (
-            after_row_past settings encoding lenient (rows ++ a ∷ []) u after open_limit e,
-            after_row_past settings encoding lenient
-                (rows ++ b ∷ []) v after (sym as_many ∙ open_limit) f,
-          )
-          (unless_beyond (rows ++ a ∷ []) (rows ++ b ∷ []) true u v (one_more (all_eols after)) alike (eols_shorter (length after) after))
+          let one = row_past settings lenient (before ++ these) u z open_limit e in
+          let two = row_past settings lenient (before ++ those) v z (ap (limit_met settings) (sym as_many) ∙ open_limit) f in
+          rw (one.3, two.3, eols_here_same settings two.0 one.0 z two.2 one.2) (settle left few settled one.0 one.2)
 
   rest_shorter : (line : Line) (here : Bits) → LineLeaves here line → length (rest_of line here) ≤ length here
-  rest_shorter line here leaves = grind (arith, common_steps)
+  rest_shorter (Line.whole row left) here leaves = leaves_length here left leaves
+  rest_shorter (Line.broken front fault) here leaves = omega arith
 
   line_there : (rows : List Row) → Begins rows → Both (move_on settings (sought rows x)) (move_on settings (sought rows y))
   line_there rows begins =
-      rw (move_line settings encoding lenient rows x, move_line settings encoding lenient rows y)
-      (row_there rows (row_at settings.columns x) (row_at settings.columns y) (rest_of (line_1d false settings.columns x) x)
-      (rest_of (line_1d false settings.columns y) y) begins
-      (line_past settings.columns x after tail_x.stays tail_x.next) (line_past settings.columns y after tail_y.stays tail_y.next)
-      (rest_shorter (line_1d false settings.columns x) x (line_1d_leaves false settings.columns x))
-      (rest_shorter (line_1d false settings.columns y) y (line_1d_leaves false settings.columns y)))
+      let line : Line = line_of_turn settings (sought rows x) in
+      let other : Line = line_of_turn settings (sought rows y) in
+      rw (move_sought settings lenient rows x, move_sought settings lenient rows y)
+      (row_there rows (row_of settings.columns line ∷ []) (row_of settings.columns other ∷ []) (rest_of line x)
+          (rest_of other y) after lines
+      begins refl (omega arith) (omega (arith, enough)) (stays_x rows begins) (stays_y rows begins)
+      (rest_shorter line x (line_by_leaves settings.encoding settings.strict settings.columns
+          (row_before settings.columns rows) x))
+      (rest_shorter other y (line_by_leaves settings.encoding settings.strict settings.columns
+          (row_before settings.columns rows) y))
+      (omega arith) settles)
+
+  -- what follows the next EOL is shorter than the line's bits
+  line_among : (before these those : List Row) (here : Bits) (left : ℕ) → Begins before → length these ≡ length those
+      → length these + suc left ≤ differ → length here ≤ length x → length here ≤ length y
+      → Settles settings (suc left) here → length here ≤ length after
+      → Both (move_on settings (sought (before ++ these) here)) (move_on settings (sought (before ++ those) here))
+  line_among before these those here left begins same few short_x short_y (next, shorter, one, behind, further) short =
+      let line : Line = line_of_turn settings (sought (before ++ these) here) in
+      let other : Line = line_of_turn settings (sought (before ++ those) here) in
+      let row : Row = row_of settings.columns line in
+      let row2 : Row = row_of settings.columns other in
+      rw (
+        move_sought settings lenient (before ++ these) here,
+        move_sought settings lenient (before ++ those) here,
+        append_assoc before these (row ∷ []),
+        append_assoc before those (row2 ∷ []),
+      )
+      (row_there before (these ++ row ∷ []) (those ++ row2 ∷ []) (rest_of line here) (rest_of other here) next left begins
+      (omega (arith, same, length-append these (row ∷ []), length-append those (row2 ∷ [])))
+          (omega (arith, length-append these (row ∷ [])))
+      (omega (arith, few, length-append these (row ∷ []))) (behind (row_before settings.columns (before ++ these)))
+      (behind (row_before settings.columns (before ++ those)))
+      (omega (arith, short_x, rest_shorter line here
+          (line_by_leaves settings.encoding settings.strict settings.columns
+          (row_before settings.columns (before ++ these)) here)))
+      (omega (arith, short_y, rest_shorter other here
+          (line_by_leaves settings.encoding settings.strict settings.columns
+          (row_before settings.columns (before ++ those)) here)))
+      (omega (arith, shorter, short)) further)
 
   -- a turn of two such runs
-  pub moves_alike : (s t : Progress) → ((rows : List Row) → s ≡ sought rows x → t ≡ sought rows y → Begins rows) → RunsAlike Begins from x y after s t → Both (move_on settings s) (move_on settings t)
-  moves_alike s t begins (RunsAlike.ahead rows bits closes short e f) = rw (e, f) (line_ahead rows bits closes short)
-  moves_alike s t begins (RunsAlike.there rows e f) = rw (e, f) (line_there rows (begins rows e f))
-  moves_alike s t begins (RunsAlike.beyond xs ys has_eols here alike short e f) = rw (e, f) (move_beyond xs ys has_eols here alike short)
+  pub moves_alike : (s t : Progress) → ((rows : List Row) → s ≡ sought rows x → t ≡ sought rows y → Begins rows)
+      → length after ≤ length x → length after ≤ length y
+      → RunsAlike settings Begins differ Within x y after s t → Both (move_on settings s) (move_on settings t)
+  moves_alike s t begins le le2 (RunsAlike.ahead rows bits closes within e f) = rw (e, f) (line_ahead rows bits closes within)
+  moves_alike s t begins le le2 (RunsAlike.there rows e f) = rw (e, f) (line_there rows (begins rows e f))
+  moves_alike s t begins le le2 (RunsAlike.among before these those here left given same few settled short e f) =
+      rw (e, f) (line_among before these those here left given same few (omega (arith, short, le))
+          (omega (arith, short, le2)) settled short)
+  moves_alike s t begins le le2 (RunsAlike.beyond xs ys has_eols here alike short same e f) = rw (e, f)
+      (move_beyond xs ys has_eols here alike short same)

@@ -1,14 +1,18 @@
 -- What a line leaves is a suffix of the bits that it began with.
-use Rattle.std.proofs.Common.{◌≡◌, ℕ, suc, ◌+◌, Bool, true, false, cond, ltb, leb, [], ◌++◌, length, Result, Ok, Err, refl, sym, ap, subst, ◌∙◌, append_assoc}
+use Rattle.std.proofs.Common.{◌≡◌, ℕ, suc, ◌+◌, Bool, true, false, cond, ltb, leb, [], ◌∷◌, ◌++◌, length, Result, Ok, Err, refl, sym, ap, subst, ◌∙◌, append_assoc}
 use Rattle.hayro_ccitt.specs.declared.codes.Color.{Color}
 use Rattle.hayro_ccitt.specs.declared.error.DecodeError.{DecodeError}
 use Rattle.hayro_ccitt.specs.declared.error.DecodeError.TheVariants.{UnexpectedEof, Overflow}
+use Rattle.hayro_ccitt.specs.declared.settings.EncodingMode.{EncodingMode}
+use Rattle.hayro_ccitt.specs.declared.settings.EncodingMode.TheVariants.{Group4, Group3_1D, Group3_2D}
 use Rattle.hayro_ccitt.specs.Bits.{Bits}
 use Rattle.hayro_ccitt.specs.CodeReading.{read_code}
 use Rattle.hayro_ccitt.specs.Repetition.{Turn}
 use Rattle.hayro_ccitt.specs.Rows.{Row, opposite, paint}
 use Rattle.hayro_ccitt.specs.Runs.{codes_of, run_of_word, run_turn, run_from}
-use Rattle.hayro_ccitt.specs.Lines.{Line, Pen, start, line_1d}
+use Rattle.hayro_ccitt.specs.Lines.{Line, Pen, start, line_1d, line_2d}
+use Rattle.hayro_ccitt.specs.PlainReading.{line_by}
+use Rattle.hayro_ccitt.proofs.DrawingLines.WhatFollows.{line_2d_found}
 use Rattle.hayro_ccitt.proofs.DrawingLines.Drawings.{try, run_then, step_1d, step_1d_is}
 use Rattle.hayro_ccitt.specs.Answers.{Step}
 use Rattle.hayro_ccitt.proofs.Readings.Repeated.{repeated_keeps}
@@ -95,3 +99,27 @@ line_1d_leaves strict columns here =
     ends : (there : Bits) (line : Line) → Leaves here there → LineLeaves there line → LineLeaves here line
     ends there (Line.whole row rest) p q = leaves_trans here there rest p q
     ends there (Line.broken front fault) p q = tt
+
+-- and a two-dimensional one
+line_2d_leaves : (strict : Bool) (columns : ℕ) (reference : Row) (here : Bits)
+    → LineLeaves here (line_2d strict columns reference here)
+line_2d_leaves strict columns reference here = by (line_2d strict columns reference here) refl
+  where
+    by : (line : Line) → line_2d strict columns reference here ≡ line → LineLeaves here line
+    by (Line.whole row rest) e = let found = line_2d_found strict columns reference here row rest e in (found.bits, found.is)
+    by (Line.broken front fault) e = tt
+
+behind_tag : (tag : Bool) (here : Bits) (line : Line) → LineLeaves here line → LineLeaves (tag ∷ here) line
+behind_tag tag here (Line.whole row rest) leaves = (tag ∷ leaves.0, ap (λ (b : Bits). tag ∷ b) leaves.1)
+behind_tag tag here (Line.broken front fault) leaves = tt
+
+-- so does a line of any kind
+pub line_by_leaves : (encoding : EncodingMode) (strict : Bool) (columns : ℕ) (reference : Row) (here : Bits)
+    → LineLeaves here (line_by encoding strict columns reference here)
+line_by_leaves Group3_1D strict columns reference here = line_1d_leaves strict columns here
+line_by_leaves Group3_2D strict columns reference [] = tt
+line_by_leaves Group3_2D strict columns reference (true ∷ here) = behind_tag true here (line_1d strict columns here)
+    (line_1d_leaves strict columns here)
+line_by_leaves Group3_2D strict columns reference (false ∷ here) =
+    behind_tag false here (line_2d strict columns reference here) (line_2d_leaves strict columns reference here)
+line_by_leaves Group4 strict columns reference here = line_2d_leaves strict columns reference here

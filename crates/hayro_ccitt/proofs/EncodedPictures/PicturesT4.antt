@@ -49,7 +49,9 @@ line_1d_starts color row bits more EncodesLine1D.over some = absurd (omega arith
 line_1d_starts color row bits more (EncodesLine1D.run n word {row = others} {bits = next} spells first maximal rest) some =
     subst IsLineStart (sym (append_assoc word next more)) (run_starts color n word (next ++ more) spells)
 
-line_2d_after_tag : (reference row : Row) (from : ℕ) (color : Color) (bits more : Bits) → EncodesLine2D reference row from color bits
+-- no EOL is here, where a zero is the tag before
+pub line_2d_after_tag : (reference row : Row) (from : ℕ) (color : Color) (bits more : Bits)
+    → EncodesLine2D reference row from color bits
     → from ≤ length row → after_eol 1 (bits ++ more) ≡ None
 line_2d_after_tag reference row from color bits more given le = grind (arith, common_steps)
 
@@ -126,7 +128,8 @@ tagged_eols_closing (suc n) (suc most) closing more (fill, next, then, is) le =
     let step = tagged_eols_closing n most next more in
     grind (arith, common_steps, one_more-count, tag_after, tagged_eols_behind, tagged_eols_more, step)
 
-six_tagged : (closing more : Bits) → ClosesWithEols Group3_2D 6 closing → 6 ≤ (tagged_eols (closing ++ more)).0
+-- the six EOLs of RTC are counted
+pub six_tagged : (closing more : Bits) → ClosesWithEols Group3_2D 6 closing → 6 ≤ (tagged_eols (closing ++ more)).0
 six_tagged closing more is = grind (arith, common_steps, last_tag_count, length-closing, tagged_eols_closing)
 
 -- the settings are for this encoding, which is one of T.4
@@ -183,7 +186,8 @@ module _ (settings : DecodeSettings) (wide : 0 < settings.columns) (small : sett
   tag_starts reference row line more given row_len = grind (arith, common_steps, common_steps, line_1d_starts)
 
   -- one EOL is counted before a line
-  eol_before : (encoding : EncodingMode) (reference row : Row) (fill : ℕ) (line more : Bits) → Matches encoding settings → EncodesLine encoding reference row line
+  pub eol_before : (encoding : EncodingMode) (reference row : Row) (fill : ℕ) (line more : Bits) → Matches encoding settings
+      → EncodesLine encoding reference row line
       → length row ≡ settings.columns → eols_here settings (eol fill ++ (line ++ more)) ≡ (1, line ++ more)
   eol_before encoding reference row fill line more matches is row_len =
       grind (arith, common_steps, eols_here_one, eols_here_two, line_t4_starts, one_eol, one_tagged, tag_starts)

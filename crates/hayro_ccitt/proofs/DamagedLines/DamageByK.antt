@@ -1,0 +1,194 @@
+-- Damage to a line of two-dimensional data ends at the next one-dimensional line.
+use Rattle.std.proofs.Common.{◌≡◌, ℕ, zero, suc, ◌+◌, ◌-◌, ◌<◌, ◌≤◌, eqb, true, false, List, [], ◌∷◌, ◌++◌, length, take, drop, Option, Some, None, Result, Ok}
+use Rattle.std.proofs.Common.{refl, sym, ap, subst, ◌∙◌, append_assoc, arith, ◌⊎◌, inl, inr}
+use Rattle.std.proofs.lemmas.Bool.{cases_lt, cases_eq, cond-true, eq-eqb, le-leb}
+use Rattle.std.proofs.lemmas.List.{length-append}
+use Rattle.hayro_ccitt.specs.declared.codes.Color.TheVariants.{White}
+use Rattle.hayro_ccitt.specs.declared.error.DecodeError.{DecodeError}
+use Rattle.hayro_ccitt.specs.declared.settings.EncodingMode.{EncodingMode}
+use Rattle.hayro_ccitt.specs.declared.settings.EncodingMode.TheVariants.{Group3_2D}
+use Rattle.hayro_ccitt.specs.declared.settings.DecodeSettings.{DecodeSettings}
+use Rattle.hayro_ccitt.specs.Bits.{Bits, AreWholeBytes}
+use Rattle.hayro_ccitt.specs.Settings.{AreSettings}
+use Rattle.hayro_ccitt.specs.Repetition.{Reaches}
+use Rattle.hayro_ccitt.specs.Rows.{Row}
+use Rattle.hayro_ccitt.specs.Encodings.{EncodesLine2D}
+use Rattle.hayro_ccitt.specs.EndOfLine.{after_eol, one_more, pass_last_tag}
+use Rattle.hayro_ccitt.specs.PlainReading.{first_line, move_on, line_by, eols_by, line_here, eols_here, plain, Reading, nothing_read, whole_reading, end_of}
+use Rattle.hayro_ccitt.specs.Locality.{IsEolAt, EndAlike}
+use Rattle.hayro_ccitt.specs.LocalityByK.{IsTaggedBody, ComesBefore1D, ComeBefore1D, RowsDiffer, DamageEndsAt1D, LocalityByK}
+use Rattle.hayro_ccitt.proofs.Readings.TurnsMoveOn.{after_eol_shorter}
+use Rattle.hayro_ccitt.proofs.EncodedPictures.PicturesT4.{line_2d_after_tag}
+use Rattle.hayro_ccitt.proofs.DamagedLines.PastEol.{all_tagged-some, all_tagged-none}
+use Rattle.hayro_ccitt.proofs.DamagedLines.SoughtTurns.{sought, eols_here_same}
+use Rattle.hayro_ccitt.proofs.DamagedLines.RunsAlike.{RowsAlike, Settles, Unreferred, IsTail}
+use Rattle.hayro_ccitt.proofs.DamagedLines.LineTails.{is_tagged_tail, stays_2d}
+use Rattle.hayro_ccitt.proofs.DamagedLines.AnyReference.{next_behind}
+use Rattle.hayro_ccitt.proofs.DamagedLines.Damage.{LinesDiffer, damage}
+
+-- ---- The lines that follow
+
+module _ (settings : DecodeSettings) (encoding : settings.encoding ≡ Group3_2D) (lenient : settings.strict ≡ false) where
+  -- the EOL before the lines that follow
+  pub eol_before : (lines : ℕ) (here : Bits) → ComeBefore1D settings lines here → IsEolAt here
+  eol_before zero here (eol, ends) = eol
+  eol_before (suc lines) here (reference, row, line, next, encodes, e, more) = (false ∷ line ++ next, e)
+
+  -- a one-dimensional line has no reference row
+  unreferred : (here : Bits) → ComesBefore1D settings here → Unreferred settings (eols_here settings here)
+  unreferred here (eol, ends) = rw is_2d (by ends)
+    where
+      is_2d : eols_here settings here ≡ eols_by Group3_2D settings.end_of_block here
+      is_2d = ap (λ (e : EncodingMode). eols_by e settings.end_of_block here) encoding
+
+      same : (tagged : Bits) → ((reference other : Row)
+          → line_by Group3_2D settings.strict settings.columns reference tagged ≡ line_by Group3_2D settings.strict
+          settings.columns other tagged)
+          → (reference other : Row) → line_here settings reference tagged ≡ line_here settings other tagged
+      same tagged f reference other = rw encoding (f reference other)
+
+      by : ((settings.end_of_block ≡ true) × (6 ≤ (eols_by Group3_2D settings.end_of_block here).0))
+          ⊎ (((line : Bits) × ((eols_by Group3_2D settings.end_of_block here).1 ≡ true ∷ line))
+              ⊎ ((eols_by Group3_2D settings.end_of_block here).1 ≡ []))
+          → Unreferred settings (eols_by Group3_2D settings.end_of_block here)
+      by (inl (block, six)) = inl (rw (block, encoding, le-leb 6 (eols_by Group3_2D settings.end_of_block here).0 six) refl)
+      by (inr (inl (line, e))) = inr (rw e (same (true ∷ line) (λ reference other. refl)))
+      by (inr (inr e)) = inr (rw e (same [] (λ reference other. refl)))
+
+  -- no EOL stands at a two-dimensional line
+  no_eol_at : (reference row : Row) (line next : Bits) → EncodesLine2D reference row 0 White line
+      → after_eol 0 (false ∷ line ++ next) ≡ None
+  no_eol_at reference row line next encodes = line_2d_after_tag reference row 0 White line next encodes (omega arith)
+
+  -- so one EOL is counted before it
+  one_before : (reference row : Row) (line next found : Bits) → EncodesLine2D reference row 0 White line
+      → after_eol 0 found ≡ Some (false ∷ line ++ next)
+      → eols_here settings found ≡ (1, false ∷ line ++ next)
+  one_before reference row line next found encodes e =
+      ap (λ (e : EncodingMode). eols_by e settings.end_of_block found) encoding
+      ∙ ap pass_last_tag (all_tagged-some found (false ∷ line ++ next) e
+          ∙ ap one_more (all_tagged-none (false ∷ line ++ next) (no_eol_at reference row line next encodes)))
+
+  -- the lines that follow are read with the same EOLs behind them, whatever they are read against
+  settles : (lines : ℕ) (here after : Bits) → ComeBefore1D settings lines here → after_eol 0 here ≡ Some after
+      → Settles settings lines after
+  settles zero here after comes e = λ found f. rw (eols_here_same settings found here after f e) (unreferred here comes)
+  settles (suc lines) here after (reference, row, line, next, encodes, f, more) e =
+      let eol = eol_before lines next more in
+      let same : ◌≡◌ {A = Option Bits} (Some (false ∷ line ++ next)) (Some after) = sym f ∙ e in
+      let after_is : false ∷ line ++ next ≡ after = cc in
+      subst (Settles settings (suc lines)) after_is (
+        eol.0,
+        omega (arith, after_eol_shorter 0 next eol.0 eol.1, length-append line next),
+        λ found g. one_before reference row line next found encodes g,
+        λ other. next_behind settings encoding lenient other reference row line next eol.0 encodes eol.1,
+        settles lines next eol.0 more eol.1,
+      )
+
+-- ---- Rows of which some may differ
+
+drop_past : {A : Type 0} (n : ℕ) (front rest : List A) → length front ≤ n → drop n (front ++ rest) ≡ drop (n - length front) rest
+drop_past n [] rest le = ap (λ (m : ℕ). drop m rest) (let e : n ≡ n - 0 = omega arith in e)
+drop_past zero (a ∷ front) rest le = absurd (omega arith)
+drop_past (suc n) (a ∷ front) rest le =
+    let less : n - length front ≡ suc n - suc (length front) = omega arith in
+    drop_past n front rest (omega arith) ∙ ap (λ (m : ℕ). drop m rest) less
+
+take_front : {A : Type 0} (front rest : List A) → take (length front) (front ++ rest) ≡ front
+take_front [] rest = refl
+take_front {A} (a ∷ front) rest = ap (λ (l : List A). a ∷ l) (take_front front rest)
+
+-- rows that are alike differ in that many at most
+rows_differ : (settings : DecodeSettings) (one two : Bits) (from differ : ℕ) (rows others : List Row)
+    → RowsAlike differ (λ before. Reaches (move_on settings) (first_line settings one) (sought before (drop from one))
+    × Reaches (move_on settings) (first_line settings two) (sought before (drop from two))) rows others
+    → RowsDiffer settings one two from differ rows others
+rows_differ settings one two from differ rows others (inl e) = inl (sym e)
+rows_differ settings one two from differ rows others (inr (before, these, those, more, same, few, e, f, begins)) =
+    inr (
+      length before,
+      (sought before (drop from one), begins.0, refl, refl),
+      (sought before (drop from two), begins.1, refl, refl),
+      (
+        omega (
+          arith,
+          ap length e,
+          ap length f,
+          same,
+          length-append before (these ++ more),
+          length-append before (those ++ more),
+          length-append these more,
+          length-append those more,
+        ),
+        ap (take (length before)) f ∙ take_front before (those ++ more)
+            ∙ sym (ap (take (length before)) e ∙ take_front before (these ++ more)),
+        behind those others f (omega (arith, same, few))
+            ∙ ap (λ (n : ℕ). drop (length before + differ - (length before + n)) more) (sym same)
+            ∙ sym (behind these rows e few),
+      ),
+    )
+  where
+    behind : (some all : List Row) → all ≡ before ++ (some ++ more) → length some ≤ differ
+        → drop (length before + differ) all ≡ drop (length before + differ - (length before + length some)) more
+    behind some all g le =
+        ap (drop (length before + differ)) (g ∙ sym (append_assoc before some more))
+        ∙ drop_past (length before + differ) (before ++ some) more (omega (arith, length-append before some, le))
+        ∙ ap (λ (n : ℕ). drop (length before + differ - n) more) (length-append before some)
+
+-- the law
+pub locality_by_k : LocalityByK
+locality_by_k settings one are whole_one two from to to2 lines whole_two differ = by (cases_eq settings.columns 0)
+  where
+    body : IsTaggedBody settings one from to
+    body = differ.body
+
+    other : IsTaggedBody settings two from to2
+    other = differ.other
+
+    same_after : other.closes.0 ≡ body.closes.0
+    same_after =
+        let same : ◌≡◌ {A = Option Bits} (Some other.closes.0) (Some body.closes.0) = sym other.closes.1
+            ∙ ap (after_eol 0) (sym differ.behind) ∙ body.closes.1 in
+        cc
+
+    lines_differ : LinesDiffer settings one two from body.closes.0 lines
+    lines_differ = record {
+      group3 = inr differ.encoding;
+      lenient = differ.lenient;
+      fits_one = omega (arith, body.one.1, body.one.2, body.within);
+      fits_two = omega (arith, other.one.1, other.one.2, other.within);
+      same = differ.before;
+      starts = body.starts;
+      sought_by = differ.sought;
+      tail_one = is_tagged_tail settings one from to body;
+      tail_two = subst (λ (a : Bits). IsTail settings a (drop from two)) same_after (is_tagged_tail settings two from to2 other);
+      few_one = λ e. body.tag;
+      few_two = λ e. other.tag;
+      stays_one = λ rows reached. stays_2d settings one from to body rows reached;
+      stays_two = λ rows reached. stays_2d settings two from to2 other rows reached ∙ ap Some same_after;
+      settles = settles settings differ.encoding differ.lenient lines (drop to one) body.closes.0 differ.follow body.closes.1;
+    }
+
+    by : (settings.columns ≡ 0) ⊎ (settings.columns ≡ 0 → ⊥)
+        → RowsDiffer settings one two from (suc lines) (plain settings one).rows (plain settings two).rows
+        × EndAlike settings one two from (suc lines) (plain settings one).rows (plain settings one).outcome
+            (plain settings two).outcome
+    by (inl e) =
+        let nothing : (bits : Bits) → plain settings bits ≡ nothing_read
+        = λ bits. cond-true (eqb settings.columns 0) nothing_read (whole_reading bits (end_of settings bits))
+            (eq-eqb settings.columns 0 e) in
+        let outcome : (bits : Bits) → (plain settings bits).outcome ≡ Ok 0 = λ bits. ap (λ (r : Reading). r.outcome)
+            (nothing bits) in
+        (inl (ap (λ (r : Reading). r.rows) (nothing two ∙ sym (nothing one))), EndAlike.no_columns e (outcome one) (outcome two))
+    by (inr e) =
+        let wide : 0 < settings.columns = elim (cases_lt 0 settings.columns) [ inl lt ↦ lt | inr ge ↦ absurd (e (omega arith)) ]
+            in
+        let both = damage settings one two from body.closes.0 lines lines_differ wide whole_one whole_two in
+        (rows_differ settings one two from (suc lines) (plain settings one).rows (plain settings two).rows both.0, both.1)
+
+-- a run with the rows and the result of the plain reading has what the law says
+pub damage_ends : (settings : DecodeSettings) (bits : Bits) (rows : List Row) (outcome : Result ℕ DecodeError)
+    → AreSettings settings → AreWholeBytes bits
+    → rows ≡ (plain settings bits).rows → outcome ≡ (plain settings bits).outcome → DamageEndsAt1D settings bits rows outcome
+damage_ends settings bits rows outcome are whole rows_are outcome_is = rw (rows_are, outcome_is)
+    (locality_by_k settings bits are whole)

@@ -1,0 +1,106 @@
+-- Two-dimensional lenient data of Group 3 with EOLs: damage ends at the next one-dimensional line.
+use Rattle.std.specs.Prelude.{◌≡◌, ℕ, zero, suc, ◌+◌, ◌<◌, ◌≤◌, ◌⊎◌, Some, Result, true, false, List, [], ◌∷◌, ◌++◌, length, take, drop}
+use Rattle.hayro_ccitt.specs.declared.codes.Color.TheVariants.{White}
+use Rattle.hayro_ccitt.specs.declared.error.DecodeError.{DecodeError}
+use Rattle.hayro_ccitt.specs.declared.settings.EncodingMode.TheVariants.{Group3_2D}
+use Rattle.hayro_ccitt.specs.declared.settings.DecodeSettings.{DecodeSettings}
+use Rattle.hayro_ccitt.specs.Bits.{Bits, AreWholeBytes, IsPrefix}
+use Rattle.hayro_ccitt.specs.Encodings.{EncodesLine, EncodesLine2D, EncodesRowsWithEols, IsPicture, eol}
+use Rattle.hayro_ccitt.specs.EndOfLine.{after_eol, eols_with_tags, tagged_eols}
+use Rattle.hayro_ccitt.specs.Lines.{Line}
+use Rattle.hayro_ccitt.specs.Locality.{IsEol, IsEolAt, ComesToLine, EndAlike}
+use Rattle.hayro_ccitt.specs.PlainReading.{Progress, first_line, move_on, line_of_turn, plain}
+use Rattle.hayro_ccitt.specs.Repetition.{Reaches}
+use Rattle.hayro_ccitt.specs.Rows.{Row}
+use Rattle.hayro_ccitt.specs.Settings.{AreSettings}
+
+-- ---- the line that may be damaged
+
+-- the EOLs with their tags that end at a position are fewer than six: the tag there is a line's, not that of RTC (T.4,
+-- 4.2.2 and 4.2.4)
+abbrev pub IsTagOfLine : Bits → ℕ → Type 0
+IsTagOfLine bits end = (place count : ℕ) → eols_with_tags (length (drop place bits)) (drop place bits) ≡ (count, drop end bits)
+    → count < 6
+
+-- the line at a position, read against the row before it, is broken or ends before the last twelve bits of an EOL;
+-- `after` is what follows that EOL (T.4, 4.1.2 and 4.2)
+abbrev pub IsReadBefore : DecodeSettings → Bits → ℕ → Bits → Type 0
+IsReadBefore settings bits place after = (so_far : Progress)
+    → Reaches (move_on settings) (first_line settings bits) so_far → so_far.rest ≡ drop place bits
+    → (row : Row) (rest : Bits) → line_of_turn settings so_far ≡ Line.whole row rest → length after + 12 ≤ length rest
+
+-- The tag and the body of a line lie between two positions: an EOL ends where the tag is, or the data begin there; behind
+-- the tag is a one, and no EOL is in between; an EOL follows, and the line, as it is read, ends before the last twelve
+-- bits of that EOL if it is whole (T.4, 4.1.2 and 4.2.2).
+pub record IsTaggedBody (settings : DecodeSettings) (bits : Bits) (from to : ℕ) : Type 0 where
+  pub within : to ≤ length bits
+  pub starts : (from ≡ 0) ⊎ ((place : ℕ) × IsEol bits place from)
+  pub tag : IsTagOfLine bits from
+  pub one : (place : ℕ) × (from < place) × (place < to) × IsPrefix (true ∷ []) (drop place bits)
+  pub no_eol : (place end : ℕ) → from ≤ place → end ≤ to → IsEol bits place end → ⊥
+  pub closes : (after : Bits) × (after_eol 0 (drop to bits) ≡ Some after) × IsReadBefore settings bits from after
+
+-- ---- the lines behind it
+
+-- here is an EOL; it and those that follow it with their tags are RTC, which is looked for, or come before a
+-- one-dimensional line or the end of the data (T.4, 4.2.2 and 4.2.4)
+abbrev pub ComesBefore1D : DecodeSettings → Bits → Type 0
+ComesBefore1D settings here = IsEolAt here
+    × (((settings.end_of_block ≡ true) × (6 ≤ (tagged_eols here).0))
+    ⊎ (((line : Bits) × ((tagged_eols here).1 ≡ true ∷ line)) ⊎ ((tagged_eols here).1 ≡ [])))
+
+-- here are as many two-dimensional lines of an encoding, an EOL before each and behind the last, which comes before a
+-- one-dimensional line, RTC or the end (T.4, 4.2)
+abbrev pub ComeBefore1D : DecodeSettings → ℕ → Bits → Type 0
+ComeBefore1D settings zero here = ComesBefore1D settings here
+ComeBefore1D settings (suc lines) here = (reference row : Row) × (line next : Bits) × EncodesLine2D reference row 0 White line
+    × (after_eol 0 here ≡ Some (false ∷ line ++ next)) × ComeBefore1D settings lines next
+
+-- ---- damage ends at the next one-dimensional line
+
+-- Two data differ only within one line, tag and body; EOLs are sought from the start; and in the first data this number
+-- of two-dimensional lines follows before the next one-dimensional one (T.4, 4.1.2 and 4.2).
+pub record DifferInOneLine (settings : DecodeSettings) (one two : Bits) (from to to2 lines : ℕ) : Type 0 where
+  pub encoding : settings.encoding ≡ Group3_2D
+  pub lenient : settings.strict ≡ false
+  pub before : take from one ≡ take from two
+  pub behind : drop to one ≡ drop to2 two
+  pub body : IsTaggedBody settings one from to
+  pub other : IsTaggedBody settings two from to2
+  pub sought : (settings.end_of_line ≡ true) ⊎ ((end : ℕ) × (end ≤ from) × IsEol one 0 end)
+  pub follow : ComeBefore1D settings lines (drop to one)
+
+-- as many rows, which are equal before an index and from this number of rows after it on
+abbrev pub SameBut : ℕ → ℕ → List Row → List Row → Type 0
+SameBut index count rows others =
+    (length others ≡ length rows) × (take index others ≡ take index rows)
+        × (drop (index + count) others ≡ drop (index + count) rows)
+
+-- the rows of two data are equal, except at most this number of them, from the one whose line begins at a position in
+-- both on (T.4, 4.2)
+abbrev pub RowsDiffer : DecodeSettings → Bits → Bits → ℕ → ℕ → List Row → List Row → Type 0
+RowsDiffer settings one two from count rows others = (others ≡ rows)
+    ⊎ ((index : ℕ) × ComesToLine settings one from index × ComesToLine settings two from index × SameBut index count rows others)
+
+-- Some data were read as these rows, with this result. Whatever replaces one line, up to the next one-dimensional line at
+-- most its row and those of the lines in between change, and the reading ends alike (T.4, 4.1.2 and 4.2).
+abbrev pub DamageEndsAt1D : DecodeSettings → Bits → List Row → Result ℕ DecodeError → Type 0
+DamageEndsAt1D settings one rows outcome = (two : Bits) (from to to2 lines : ℕ) → AreWholeBytes two
+    → DifferInOneLine settings one two from to to2 lines
+    → RowsDiffer settings one two from (suc lines) rows (plain settings two).rows
+    × EndAlike settings one two from (suc lines) rows outcome (plain settings two).outcome
+
+-- This is true of the plain reading (T.4, 4.1.2 and 4.2).
+abbrev pub LocalityByK : Type 0
+LocalityByK = (settings : DecodeSettings) (bits : Bits) → AreSettings settings → AreWholeBytes bits
+    → DamageEndsAt1D settings bits (plain settings bits).rows (plain settings bits).outcome
+
+-- A line of an encoding, after lines of one with an EOL before each, is such a body in data that have an EOL behind it
+-- (T.4, 4.1.2 and 4.2).
+abbrev pub EncodedLinesAreBodies : Type 0
+EncodedLinesAreBodies = (settings : DecodeSettings) (reference above row : Row) (rows : List Row) (front line next : Bits)
+    (fill : ℕ)
+    → AreSettings settings → settings.encoding ≡ Group3_2D → settings.strict ≡ false → IsPicture settings.columns (row ∷ rows)
+    → EncodesRowsWithEols Group3_2D reference rows front → EncodesLine Group3_2D above row line → IsEolAt next
+    → IsTaggedBody settings ((front ++ eol fill) ++ (line ++ next)) (length (front ++ eol fill))
+        (length (front ++ eol fill) + length line)

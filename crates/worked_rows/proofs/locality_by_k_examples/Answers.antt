@@ -1,0 +1,8 @@
+use Rattle.worked_rows.proofs.Examples.{one_line_follows, damage_by_k_read}
+use Rattle.worked_rows.proofs.locality_by_k_examples.Goals as goal
+
+pub returns-clause-follows : goal.returns-clause-follows
+returns-clause-follows c = one_line_follows
+
+pub returns-clause-damage : goal.returns-clause-damage
+returns-clause-damage c = damage_by_k_read
