@@ -74,7 +74,7 @@ pub record DifferInOneLine (settings : DecodeSettings) (one two : Bits) (from to
 abbrev pub SameBut : ℕ → ℕ → List Row → List Row → Type 0
 SameBut index count rows others =
     (length others ≡ length rows) × (take index others ≡ take index rows)
-        × (drop (index + count) others ≡ drop (index + count) rows)
+    × (drop (index + count) others ≡ drop (index + count) rows)
 
 -- the rows of two data are equal, except at most this number of them, from the one whose line begins at a position in
 -- both on (T.4, 4.2)
@@ -103,4 +103,4 @@ EncodedLinesAreBodies = (settings : DecodeSettings) (reference above row : Row) 
     → AreSettings settings → settings.encoding ≡ Group3_2D → settings.strict ≡ false → IsPicture settings.columns (row ∷ rows)
     → EncodesRowsWithEols Group3_2D reference rows front → EncodesLine Group3_2D above row line → IsEolAt next
     → IsTaggedBody settings ((front ++ eol fill) ++ (line ++ next)) (length (front ++ eol fill))
-        (length (front ++ eol fill) + length line)
+    (length (front ++ eol fill) + length line)

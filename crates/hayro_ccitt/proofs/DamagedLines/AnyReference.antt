@@ -85,7 +85,7 @@ quiet_line reference row from color bits
 -- ---- The words of a run are read, unless they sum to too much
 spelled : (color : Color) (n : ℕ) (bits : Bits) (total : ℕ) (more : Bits) → Spells color n bits
     → (run_from color (total, bits ++ more) ≡ Ok (total + n, more))
-        ⊎ ((fault : DecodeError) × (run_from color (total, bits ++ more) ≡ Err fault))
+    ⊎ ((fault : DecodeError) × (run_from color (total, bits ++ more) ≡ Err fault))
 spelled color n bits total more (Spells.terminating m word has small) =
     let read = read_code_again (codes_of color) n bits more (codes_free color) has in
     elim (cases_lt 4294967295 (total + n)) [
@@ -136,8 +136,11 @@ module _ (columns : ℕ) (other : Row) (after : Bits) where
   by_step : (front : Row) (color : Color) (bits : Bits) → Quiet bits → Ahead (goes (mode_read front color (bits ++ tail)))
       → Ahead (drawn_by (step_2d false columns other) (pen_at front color (bits ++ tail)))
   by_step front color bits quiet on =
-      rw (drawn2 false columns other (pen_at front color (bits ++ tail)), step_2d_is false columns other
-          (pen_at front color (bits ++ tail)))
+      rw (
+        drawn2 false columns other (pen_at front color (bits ++ tail)),
+        step_2d_is false columns other
+            (pen_at front color (bits ++ tail)),
+      )
       (by (leb columns (length front)))
     where
       by : (full : Bool) → Ahead (goes (cond full (Turn.done (Line.whole front (bits ++ tail)))
@@ -149,9 +152,9 @@ module _ (columns : ℕ) (other : Row) (after : Bits) where
       → mode_read front color ((word ++ next) ++ tail) ≡ mode_step false columns other (pen_at front color (next ++ tail)) mode
   mode_is front color mode word next has =
       ap (λ (r : Result (Mode × Bits) DecodeError). try front r
-          (λ mode. mode_step false columns other (pen_at front color mode.1) mode.0))
+      (λ mode. mode_step false columns other (pen_at front color mode.1) mode.0))
       (ap (read_code mode_codes) (append_assoc word next tail)
-          ∙ read_code_again mode_codes mode word (next ++ tail) modes_free has)
+      ∙ read_code_again mode_codes mode word (next ++ tail) modes_free has)
 
   -- a run is read and painted, or broken
   run_ahead : (front : Row) (color : Color) (n : ℕ) (word rest : Bits) (behind : Pen → Step) → Spells color n word
@@ -189,11 +192,11 @@ module _ (columns : ℕ) (other : Row) (after : Bits) where
       (quiet_line reference row from color [] EncodesLine2D.over) tt
   line_from reference row from front color bits (EncodesLine2D.pass from2 word {bits = next} inside has left_of steps) =
       by_step front color (word ++ next) (quiet_line reference row from color bits
-          (EncodesLine2D.pass from2 word {bits = next} inside has left_of steps))
+      (EncodesLine2D.pass from2 word {bits = next} inside has left_of steps))
       (rw (mode_is front color Pass word next has) (line_from reference row _ _ color next steps))
   line_from reference row from front color bits (EncodesLine2D.vertical from2 word k {bits = next} inside has exact steps) =
       by_step front color (word ++ next) (quiet_line reference row from color bits
-          (EncodesLine2D.vertical from2 word k {bits = next} inside has exact steps))
+      (EncodesLine2D.vertical from2 word k {bits = next} inside has exact steps))
       (rw (mode_is front color (Vertical k) word next has)
       (placed front color (next ++ tail) (place_from (length front) (pos (b1 other (right_of front) color) +ℤ k))
       (λ more. line_from reference row _ more (opposite color) next steps)))
@@ -201,12 +204,12 @@ module _ (columns : ℕ) (other : Row) (after : Bits) where
       (EncodesLine2D.horizontal from2 word {first = run1} {second = run2} {bits = next} inside has spells1 spells2 steps) =
       by_step front color (word ++ (run1 ++ (run2 ++ next)))
       (quiet_line reference row from color bits
-          (EncodesLine2D.horizontal from2 word {first = run1} {second = run2} {bits = next} inside has spells1 spells2 steps))
+      (EncodesLine2D.horizontal from2 word {first = run1} {second = run2} {bits = next} inside has spells1 spells2 steps))
       (rw (mode_is front color Horizontal word (run1 ++ (run2 ++ next)) has)
       (subst (λ (b : Bits). Ahead (goes (mode_step false columns other (pen_at front color b) Horizontal)))
       (sym (append_assoc run1 (run2 ++ next) tail ∙ ap (λ (b : Bits). run1 ++ b) (append_assoc run2 next tail)))
       (two_runs front color _ _ run1 run2 (next ++ tail) spells1 spells2
-          (λ more. line_from reference row _ more color next steps))))
+      (λ more. line_from reference row _ more color next steps))))
 
 -- Whatever row it is read against, it ends at a word or is broken.
 line_ahead : (columns : ℕ) (other reference row : Row) (bits after : Bits) → EncodesLine2D reference row 0 White bits

@@ -39,7 +39,7 @@ module _ (settings : DecodeSettings) (wide : 0 < settings.columns) (one two : Bi
     (whole_one : AreWholeBytes one) (whole_two : AreWholeBytes two)
     (length_one : length one ≡ from + length x) (length_two : length two ≡ from + length y)
     (x_is : x ≡ drop from one) (y_is : y ≡ drop from two) (tail_x : IsTail settings after x)
-        (tail_y : IsTail settings after y) where
+    (tail_y : IsTail settings after y) where
   -- the ends of both readings
   abbrev end_one : Ending
   end_one = end_of settings one
@@ -121,13 +121,23 @@ module _ (settings : DecodeSettings) (wide : 0 < settings.columns) (one two : Bi
       let at_two : place2 + length v ≡ length two = omega (arith, le2, length_two) in
       let many : length (plain settings one).rows ≡ settings.rows
       = ap length (rows_of one ∙ r) ∙ length-append before these ∙ sym is in (
-        rows_differ (inr (before, these, those, [], same, few, r
-            ∙ ap (λ (rows : List Row). before ++ rows) (sym (append-nil these)), q
-            ∙ ap (λ (rows : List Row). before ++ rows) (sym (append-nil those)), begins)),
+        rows_differ (inr (
+          before,
+          these,
+          those,
+          [],
+          same,
+          few,
+          r
+              ∙ ap (λ (rows : List Row). before ++ rows) (sym (append-nil these)),
+          q
+              ∙ ap (λ (rows : List Row). before ++ rows) (sym (append-nil those)),
+          begins,
+        )),
         EndAlike.at_limit (length before) place place2 ((place + 7) / 8) ((place2 + 7) / 8) (comes_one before begins)
             (comes_two before begins)
             (omega (arith, is, some)) (omega (arith, is, few)) many (omega (arith, le, length_one))
-                (omega (arith, le2, length_two))
+            (omega (arith, le2, length_two))
             (ends_at one u place e at_one) (ends_at two v place2 f at_two),
       )
 
@@ -207,8 +217,14 @@ module _ (settings : DecodeSettings) (one two : Bits) (from : ℕ) (after : Bits
 
   within_short : (bits : Bits) → Within bits → length bits < from
   within_short bits within =
-      omega (arith, leaves_length one (bits ++ true ∷ drop from one) within.0, length-append bits
-          (true ∷ drop from one), length-drop from one, given.fits_one)
+      omega (
+        arith,
+        leaves_length one (bits ++ true ∷ drop from one) within.0,
+        length-append bits
+            (true ∷ drop from one),
+        length-drop from one,
+        given.fits_one,
+      )
 
   abbrev Start : Progress → Progress → Type 0
   Start s t = RunsAlike settings Begun (suc lines) Within (drop from one) (drop from two) after s t
@@ -269,7 +285,7 @@ module _ (settings : DecodeSettings) (one two : Bits) (from : ℕ) (after : Bits
     -- readings that start alike end alike
     ends_alike : Start (first one) (first two)
         → EndsAlike settings Begun (suc lines) from (drop from one) (drop from two) after (end_of settings one)
-            (end_of settings two)
+        (end_of settings two)
     ends_alike alike =
         let late : Progress → Ending = λ run. record { rows = run.rows; has_eols = run.has_eols; outcome = Err UnexpectedEof } in
         rw (whole one given.group3, whole two given.group3)
@@ -278,19 +294,22 @@ module _ (settings : DecodeSettings) (one two : Bits) (from : ℕ) (after : Bits
         Start (EndsAlike settings Begun (suc lines) from (drop from one) (drop from two) after)
         (first one) (first two)
         (λ s t reached other_reached. moves_alike settings given.group3 given.lenient Begun (suc lines) from (drop from one)
-            (drop from two) after
+        (drop from two) after
         given.tail_one given.tail_two Within within_later within_short
         (λ bits found count e within leaves. few_from one found from count (given.few_one e)
-            (leaves_trans one (bits ++ true ∷ drop from one) found within.0 leaves))
+        (leaves_trans one (bits ++ true ∷ drop from one) found within.0 leaves))
         (λ bits found count e within leaves. few_from two found from count (given.few_two e)
-            (leaves_trans two (bits ++ true ∷ drop from two) found within.1 leaves))
+        (leaves_trans two (bits ++ true ∷ drop from two) found within.1 leaves))
         lines (omega arith) given.settles (λ rows begun. given.stays_one rows begun.0)
-            (λ rows begun. given.stays_two rows begun.1)
+        (λ rows begun. given.stays_two rows begun.1)
         (λ t. repeated (move_on settings) (late (first two)) (suc (left_to_read t)) t) s t
-        (λ rows e f. (subst (Reaches (move_on settings) (first one)) e reached, subst
-            (Reaches (move_on settings) (first two)) f other_reached))
+        (λ rows e f. (
+          subst (Reaches (move_on settings) (first one)) e reached,
+          subst
+              (Reaches (move_on settings) (first two)) f other_reached,
+        ))
         (omega (arith, past_shorter 0 (drop from one) after given.tail_one.next))
-            (omega (arith, past_shorter 0 (drop from two) after given.tail_two.next)))
+        (omega (arith, past_shorter 0 (drop from two) after given.tail_two.next)))
         (suc (suc (length (first one).rest))) (suc (suc (length (first two).rest))) (left_below (first one))
         (left_below (first two)) alike)
       where
@@ -302,11 +321,11 @@ module _ (settings : DecodeSettings) (one two : Bits) (from : ℕ) (after : Bits
     pub damage : AreWholeBytes one → AreWholeBytes two
         → RowsAlike (suc lines) Begun (plain settings one).rows (plain settings two).rows
         × EndAlike settings one two from (suc lines) (plain settings one).rows (plain settings one).outcome
-            (plain settings two).outcome
+        (plain settings two).outcome
     damage whole_one whole_two =
         answers_alike settings wide one two (suc lines) from (drop from one) (drop from two) after whole_one whole_two
         (omega (arith, given.fits_one, length-drop from one))
-            (omega (arith, given.fits_two, length-drop from two)) refl refl given.tail_one given.tail_two
+        (omega (arith, given.fits_two, length-drop from two)) refl refl given.tail_one given.tail_two
         (ends_alike (begin given.starts given.sought_by))
 
 -- ---- One-dimensional data

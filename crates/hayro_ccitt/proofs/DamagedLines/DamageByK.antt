@@ -49,7 +49,7 @@ module _ (settings : DecodeSettings) (encoding : settings.encoding ≡ Group3_2D
 
       by : ((settings.end_of_block ≡ true) × (6 ≤ (eols_by Group3_2D settings.end_of_block here).0))
           ⊎ (((line : Bits) × ((eols_by Group3_2D settings.end_of_block here).1 ≡ true ∷ line))
-              ⊎ ((eols_by Group3_2D settings.end_of_block here).1 ≡ []))
+          ⊎ ((eols_by Group3_2D settings.end_of_block here).1 ≡ []))
           → Unreferred settings (eols_by Group3_2D settings.end_of_block here)
       by (inl (block, six)) = inl (rw (block, encoding, le-leb 6 (eols_by Group3_2D settings.end_of_block here).0 six) refl)
       by (inr (inl (line, e))) = inr (rw e (same (true ∷ line) (λ reference other. refl)))
@@ -67,7 +67,7 @@ module _ (settings : DecodeSettings) (encoding : settings.encoding ≡ Group3_2D
   one_before reference row line next found encodes e =
       ap (λ (e : EncodingMode). eols_by e settings.end_of_block found) encoding
       ∙ ap pass_last_tag (all_tagged-some found (false ∷ line ++ next) e
-          ∙ ap one_more (all_tagged-none (false ∷ line ++ next) (no_eol_at reference row line next encodes)))
+      ∙ ap one_more (all_tagged-none (false ∷ line ++ next) (no_eol_at reference row line next encodes)))
 
   -- the lines that follow are read with the same EOLs behind them, whatever they are read against
   settles : (lines : ℕ) (here after : Bits) → ComeBefore1D settings lines here → after_eol 0 here ≡ Some after
@@ -148,7 +148,7 @@ locality_by_k settings one are whole_one two from to to2 lines whole_two differ 
     same_after : other.closes.0 ≡ body.closes.0
     same_after =
         let same : ◌≡◌ {A = Option Bits} (Some other.closes.0) (Some body.closes.0) = sym other.closes.1
-            ∙ ap (after_eol 0) (sym differ.behind) ∙ body.closes.1 in
+        ∙ ap (after_eol 0) (sym differ.behind) ∙ body.closes.1 in
         cc
 
     lines_differ : LinesDiffer settings one two from body.closes.0 lines
@@ -172,17 +172,17 @@ locality_by_k settings one are whole_one two from to to2 lines whole_two differ 
     by : (settings.columns ≡ 0) ⊎ (settings.columns ≡ 0 → ⊥)
         → RowsDiffer settings one two from (suc lines) (plain settings one).rows (plain settings two).rows
         × EndAlike settings one two from (suc lines) (plain settings one).rows (plain settings one).outcome
-            (plain settings two).outcome
+        (plain settings two).outcome
     by (inl e) =
         let nothing : (bits : Bits) → plain settings bits ≡ nothing_read
         = λ bits. cond-true (eqb settings.columns 0) nothing_read (whole_reading bits (end_of settings bits))
-            (eq-eqb settings.columns 0 e) in
+        (eq-eqb settings.columns 0 e) in
         let outcome : (bits : Bits) → (plain settings bits).outcome ≡ Ok 0 = λ bits. ap (λ (r : Reading). r.outcome)
-            (nothing bits) in
+        (nothing bits) in
         (inl (ap (λ (r : Reading). r.rows) (nothing two ∙ sym (nothing one))), EndAlike.no_columns e (outcome one) (outcome two))
     by (inr e) =
         let wide : 0 < settings.columns = elim (cases_lt 0 settings.columns) [ inl lt ↦ lt | inr ge ↦ absurd (e (omega arith)) ]
-            in
+        in
         let both = damage settings one two from body.closes.0 lines lines_differ wide whole_one whole_two in
         (rows_differ settings one two from (suc lines) (plain settings one).rows (plain settings two).rows both.0, both.1)
 

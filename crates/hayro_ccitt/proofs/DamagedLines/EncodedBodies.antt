@@ -146,10 +146,18 @@ last_two (suc n) count here last lt e = by (λ c next small. last_two n c next l
         let more : all_tagged (past_tag rest) ≡ (suc (suc count), last) = grind (arith, common_steps) in
         let two = on count (past_tag rest) (omega (arith, lt, after_eol_shorter 0 here rest f, past_tag_shorter rest)) more in
         let is = after_eol_is 0 here rest f in
-        let first : Leaves here rest = (replicate is.0 false ++ true ∷ [], is.1
-            ∙ sym (append_assoc (replicate is.0 false) (true ∷ []) rest)) in
-        (two.0, two.1, leaves_trans here rest two.0 first
-            (leaves_trans rest (past_tag rest) two.0 (tag_leaves rest) two.2), two.3, two.4)
+        let first : Leaves here rest = (
+          replicate is.0 false ++ true ∷ [],
+          is.1
+              ∙ sym (append_assoc (replicate is.0 false) (true ∷ []) rest),
+        ) in (
+          two.0,
+          two.1,
+          leaves_trans here rest two.0 first
+              (leaves_trans rest (past_tag rest) two.0 (tag_leaves rest) two.2),
+          two.3,
+          two.4,
+        )
 
 -- ---- One EOL is counted before a line that comes after a line
 
@@ -183,16 +191,23 @@ module _ (front words next : Bits) (tag : Bool) (fill : ℕ) (quiet : Quiet word
           let zeros = after_eol_is 0 found rest e in
           let first = first_one zeros.0 rest more (tag ∷ behind) (sym zeros.1 ∙ split) in
           let sizes : zeros.0 + suc (length rest) ≡ length more + suc (length (tag ∷ behind))
-          = omega (arith, ap length zeros.1, ap length split, length-append (replicate zeros.0 false)
-              (true ∷ rest), length-replicate zeros.0 false, length-append more (true ∷ (tag ∷ behind))) in
+          = omega (
+            arith,
+            ap length zeros.1,
+            ap length split,
+            length-append (replicate zeros.0 false)
+                (true ∷ rest),
+            length-replicate zeros.0 false,
+            length-append more (true ∷ (tag ∷ behind)),
+          ) in
           let after_found : Leaves found rest
           = (replicate zeros.0 false ++ true ∷ [], zeros.1 ∙ sym (append_assoc (replicate zeros.0 false) (true ∷ []) rest)) in
           let in_both : Leaves ((more ++ true ∷ tag ∷ []) ++ behind) rest
           = (after_found.0, append_assoc more (true ∷ tag ∷ []) behind ∙ sym split ∙ after_found.1) in
           let tagged : Leaves ((more ++ true ∷ tag ∷ []) ++ behind) (past_tag rest) = leaves_trans _ rest (past_tag rest) in_both
-              (tag_leaves rest) in
+          (tag_leaves rest) in
           let covered = covers (more ++ true ∷ tag ∷ []) behind (past_tag rest) tagged
-              (omega (arith, sizes, first, tag_short rest)) in
+          (omega (arith, sizes, first, tag_short rest)) in
           let others = after_eol_is 0 (past_tag rest) next f in
           let words_at : past_tag rest ≡ (covered.0 ++ one.0) ++ true ∷ (one.1 ++ (eol fill ++ next))
           = covered.1 ∙ ap (λ (w : Bits). covered.0 ++ (w ++ (eol fill ++ next))) one.2
@@ -275,8 +290,14 @@ pub record IsTagged (line : Bits) : Type 0 where
 
 tagged : (above row : Row) (line : Bits) → EncodesLine Group3_2D above row line → 0 < length row → IsTagged line
 tagged above row line (words, inl (is, encodes)) some =
-    record { tag = true; words = words; is = is; quiet = quiet_1d White row words encodes; one
-        = holds_1d White row words encodes some }
+    record {
+      tag = true;
+      words = words;
+      is = is;
+      quiet = quiet_1d White row words encodes;
+      one
+          = holds_1d White row words encodes some;
+    }
 tagged above row line (words, inr (is, encodes)) some = record {
   tag = false;
   words = words;
@@ -299,8 +320,14 @@ last_line columns reference (row ∷ rows) bits wide widths (fill, line, next, e
     some = omega (arith, wide, All-head (λ row. length row ≡ columns) row rows widths)
 
     by : (next ≡ []) ⊎ LastLine next → (bits ≡ []) ⊎ LastLine bits
-    by (inl e) = inr ([], line, fill, split ∙ append_assoc (eol fill) line next ∙ ap (λ (b : Bits). eol fill ++ (line ++ b)) e
-        ∙ ap (λ (b : Bits). eol fill ++ b) (append-nil line), tagged reference row line encodes some)
+    by (inl e) = inr (
+      [],
+      line,
+      fill,
+      split ∙ append_assoc (eol fill) line next ∙ ap (λ (b : Bits). eol fill ++ (line ++ b)) e
+          ∙ ap (λ (b : Bits). eol fill ++ b) (append-nil line),
+      tagged reference row line encodes some,
+    )
     by (inr (before, last, fill2, e, is)) =
         inr (
           eol fill ++ (line ++ before),
@@ -351,8 +378,16 @@ module _ (settings : DecodeSettings) (encoding : settings.encoding ≡ Group3_2D
       ∙ ap (λ (n : ℕ). drop n whole) (let sum : from + (place - from) ≡ place = omega arith in sum) in
       let first = past_first 0 (take (place - from) (line ++ next)) (drop (place - from) (line ++ next)) (drop end whole) after
       (ap (after_eol 0) there ∙ stands) (ap (past 0) (take-append-drop (place - from) (line ++ next)) ∙ next_from) in
-      omega (arith, first, longer, length-drop end whole, le2, length-append (front ++ eol fill)
-          (line ++ next), length-append line next)
+      omega (
+        arith,
+        first,
+        longer,
+        length-drop end whole,
+        le2,
+        length-append (front ++ eol fill)
+            (line ++ next),
+        length-append line next,
+      )
 
   read_before : (other read : Row) (rest : Bits) → line_here settings other (line ++ next) ≡ Line.whole read rest
       → length after + 12 ≤ length rest
@@ -369,8 +404,12 @@ module _ (settings : DecodeSettings) (encoding : settings.encoding ≡ Group3_2D
           let rest_is : next ≡ rest = cc in
           omega (arith, longer, ap length rest_is)
       by (words, inr (line_is, encodes)) =
-          omega (arith, longer, leaves_next settings encoding lenient other above row words next after encodes eol_next read rest
-          (ap (λ (b : Bits). line_here settings other (b ++ next)) (sym line_is) ∙ e))
+          omega (
+            arith,
+            longer,
+            leaves_next settings encoding lenient other above row words next after encodes eol_next read rest
+                (ap (λ (b : Bits). line_here settings other (b ++ next)) (sym line_is) ∙ e),
+          )
 
   -- so it is such a body, if the tag is a line's
   body : IsTagOfLine whole from → IsTaggedBody settings whole from to
@@ -388,20 +427,29 @@ module _ (settings : DecodeSettings) (encoding : settings.encoding ≡ Group3_2D
       ),
     );
     no_eol = no_eol_in;
-    closes = (after, ap (after_eol 0) next_on
-        ∙ eol_next, λ so_far reached here read rest e. read_before (row_before settings.columns so_far.rows) read rest
-        (ap (line_here settings (row_before settings.columns so_far.rows)) (sym (here ∙ line_on)) ∙ e));
+    closes = (
+      after,
+      ap (after_eol 0) next_on
+          ∙ eol_next,
+      λ so_far reached here read rest e. read_before (row_before settings.columns so_far.rows) read rest
+          (ap (line_here settings (row_before settings.columns so_far.rows)) (sym (here ∙ line_on)) ∙ e),
+    );
   }
     where
       sizes : from ≡ length front + (12 + fill)
-      sizes = omega (arith, length-append front (eol fill), length-append (replicate (11 + fill) false)
-          (true ∷ []), length-replicate (11 + fill) false)
+      sizes = omega (
+        arith,
+        length-append front (eol fill),
+        length-append (replicate (11 + fill) false)
+            (true ∷ []),
+        length-replicate (11 + fill) false,
+      )
 
       stands : after_eol 0 (drop (length front) whole) ≡ Some (drop from whole)
       stands =
           ap (λ (b : Bits). after_eol 0 (drop (length front) b)) (append_assoc front (eol fill) (line ++ next))
           ∙ ap (after_eol 0) (drop_front front (eol fill ++ (line ++ next))) ∙ eol_stands fill (line ++ next)
-              ∙ ap Some (sym line_on)
+          ∙ ap Some (sym line_on)
 
       line_is : line ++ next ≡ (is.tag ∷ is.one.0) ++ true ∷ (is.one.1 ++ next)
       line_is = ap (λ (b : Bits). b ++ next) is.is ∙ ap (λ (b : Bits). (is.tag ∷ b) ++ next) is.one.2
@@ -428,7 +476,7 @@ few_tags front line fill (inl none) here count leaves e = by count e
         let two = last_two (suc (length here)) count here line (omega arith) e in
         let at = leaves_trans (eol fill ++ line) here two.0 first two.2 in
         let next : past 0 (at.0 ++ two.0) ≡ Some line = ap (past 0) (sym at.1)
-            ∙ past-eol 0 (eol fill ++ line) line (eol_stands fill line) in
+        ∙ past-eol 0 (eol fill ++ line) line (eol_stands fill line) in
         absurd (omega (
           arith,
           past_first 0 at.0 two.0 two.1 line two.3 next,
@@ -446,9 +494,9 @@ few_tags front line fill (inr (before, last, fill2, split, is)) here count leave
         ∙ ap (λ (b : Bits). b ++ (eol fill ++ line)) (split ∙ ap (λ (b : Bits). before ++ (eol fill2 ++ b)) is.is)
         ∙ append_assoc before (eol fill2 ++ (is.tag ∷ is.words)) (eol fill ++ line)
         ∙ ap (λ (b : Bits). before ++ (b ++ (eol fill ++ line)))
-            (append_assoc (replicate (11 + fill2) false) (true ∷ []) (is.tag ∷ is.words))
+        (append_assoc (replicate (11 + fill2) false) (true ∷ []) (is.tag ∷ is.words))
         ∙ ap (λ (b : Bits). before ++ b) (append_assoc (replicate (11 + fill2) false) (true ∷ (is.tag ∷ is.words))
-            (eol fill ++ line))
+        (eol fill ++ line))
         ∙ sym (append_assoc before (replicate (11 + fill2) false) (true ∷ (is.tag ∷ (is.words ++ (eol fill ++ line)))))
 
 -- the law

@@ -123,8 +123,14 @@ module _ (x y : Bits) where
             rw (all_eols-some (bits ++ true ∷ x) (a.1 ++ true ∷ x) (e ∙ a.3), all_eols-some (bits ++ true ∷ y) (a.1 ++ true ∷ y) (f ∙ a.4)) (
               ap suc more.0,
               elim more.1 [
-                | inl b ↦ inl (b.0, leaves_trans bits a.1 b.0 (leaves_after bits a.0 a.1 a.2) b.1, λ closes. b.2
-                    (closes_after a.0 a.1 closes.0 (sym a.2 ∙ closes.1)), b.3, b.4)
+                | inl b ↦ inl (
+                  b.0,
+                  leaves_trans bits a.1 b.0 (leaves_after bits a.0 a.1 a.2) b.1,
+                  λ closes. b.2
+                      (closes_after a.0 a.1 closes.0 (sym a.2 ∙ closes.1)),
+                  b.3,
+                  b.4,
+                )
                 | inr b ↦ inr b
               ],
             )
@@ -166,11 +172,17 @@ module _ (x y : Bits) where
 
           by : (o p : Option Bits) → after_eol 0 (bits ++ true ∷ x) ≡ o → after_eol 0 (bits ++ true ∷ y) ≡ p
               → EolAlike bits o p → TagAlike (true ∷ bits) (past_tag (true ∷ bits ++ true ∷ x))
-                  (past_tag (true ∷ bits ++ true ∷ y))
+              (past_tag (true ∷ bits ++ true ∷ y))
           by o p e f (inl a) = (bits, (true ∷ [], refl), behind, rw (e ∙ a.3, past_tag) refl, rw (f ∙ a.4, past_tag) refl)
           by o p e f (inr (inl a)) = (bits, (true ∷ [], refl), behind, rw (e ∙ a.0, past_tag) refl, rw (f ∙ a.1, past_tag) refl)
-          by o p e f (inr (inr a)) = (true ∷ bits, ([], refl), λ closes. closes, rw (e ∙ a.0, past_tag) refl, rw
-              (f ∙ a.1, past_tag) refl)
+          by o p e f (inr (inr a)) = (
+            true ∷ bits,
+            ([], refl),
+            λ closes. closes,
+            rw (e ∙ a.0, past_tag) refl,
+            rw
+                (f ∙ a.1, past_tag) refl,
+          )
 
       -- consecutive EOLs with their tags
       tagged_for : (n : ℕ) (bits : Bits) → length bits < n
@@ -189,12 +201,23 @@ module _ (x y : Bits) where
               let tag = past_tag_alike a.1 in
               let more = on tag.0 (omega (arith, shorter, leaves_length a.1 tag.0 tag.1, lt)) in
               let keeps : Closes bits → Closes tag.0 = λ closes. tag.2 (closes_after a.0 a.1 closes.0 (sym a.2 ∙ closes.1)) in
-              rw (all_tagged-some (bits ++ true ∷ x) (a.1 ++ true ∷ x) (e ∙ a.3), all_tagged-some (bits ++ true ∷ y)
-                  (a.1 ++ true ∷ y) (f ∙ a.4), tag.3, tag.4) (
+              rw (
+                all_tagged-some (bits ++ true ∷ x) (a.1 ++ true ∷ x) (e ∙ a.3),
+                all_tagged-some (bits ++ true ∷ y)
+                    (a.1 ++ true ∷ y) (f ∙ a.4),
+                tag.3,
+                tag.4,
+              ) (
                 ap suc more.0,
                 elim more.1 [
-                  | inl b ↦ inl (b.0, leaves_trans bits a.1 b.0 (leaves_after bits a.0 a.1 a.2)
-                      (leaves_trans a.1 tag.0 b.0 tag.1 b.1), λ closes. b.2 (keeps closes), b.3, b.4)
+                  | inl b ↦ inl (
+                    b.0,
+                    leaves_trans bits a.1 b.0 (leaves_after bits a.0 a.1 a.2)
+                        (leaves_trans a.1 tag.0 b.0 tag.1 b.1),
+                    λ closes. b.2 (keeps closes),
+                    b.3,
+                    b.4,
+                  )
                   | inr b ↦ inr b
                 ],
               )
@@ -245,9 +268,23 @@ module _ (x y : Bits) where
         where
           by : (b : Bool) → CountAlike bits (cond b (n, rest ++ true ∷ x) (n, true ∷ rest ++ true ∷ x))
               (cond b (n, rest ++ true ∷ y) (n, true ∷ rest ++ true ∷ y))
-          by true = (refl, inl (rest, leaves_trans bits (true ∷ rest) rest le (true ∷ [], refl), λ closes. let c
-              = keeps closes in closes_after [] rest c.0 c.1, refl, refl))
+          by true = (
+            refl,
+            inl (
+              rest,
+              leaves_trans bits (true ∷ rest) rest le (true ∷ [], refl),
+              λ closes. let c
+                  = keeps closes in closes_after [] rest c.0 c.1,
+              refl,
+              refl,
+            ),
+          )
           by false = (refl, inl (true ∷ rest, le, keeps, refl, refl))
       last_tag_alike bits (n, here) (m, there) (same, inr (e, f)) few_x few_y =
-          rw (e, f, last_tag_few n x (few_x n (ap (λ (b : Bits). (n, b)) e)), last_tag_few m y
-              (few_y m (ap (λ (b : Bits). (m, b)) f))) (same, inr (refl, refl))
+          rw (
+            e,
+            f,
+            last_tag_few n x (few_x n (ap (λ (b : Bits). (n, b)) e)),
+            last_tag_few m y
+                (few_y m (ap (λ (b : Bits). (m, b)) f)),
+          ) (same, inr (refl, refl))

@@ -178,7 +178,7 @@ pub stays_1d : (settings : DecodeSettings) (bits : Bits) (from to : ℕ) (local 
     → past 0 (rest_of (line_here settings reference (drop from bits)) (drop from bits)) ≡ Some local.closes.0
 stays_1d settings bits from to local reference =
     line_past_by settings reference (drop from bits) local.closes.0
-        (next_is bits from to local.closes.0 (body_1d settings bits from to local))
+    (next_is bits from to local.closes.0 (body_1d settings bits from to local))
     (λ row rest e. local.closes.2 row rest (sym (line_is settings local.encoding local.lenient reference (drop from bits)) ∙ e))
 
 -- ---- Two-dimensional data
@@ -225,7 +225,7 @@ is_tagged_tail settings bits from to local =
     by (true ∷ here) e =
         let next : from + 1 ≡ suc from = omega arith in
         let behind : here ≡ drop (suc from) bits = sym (ap (drop 1) e) ∙ drop-drop 1 from bits
-            ∙ ap (λ (n : ℕ). drop n bits) next in
+        ∙ ap (λ (n : ℕ). drop n bits) next in
         let no_eol : after_eol 0 here ≡ None = ap (after_eol 0) behind ∙ none in
         rw (no_eol, past_tag) refl
 

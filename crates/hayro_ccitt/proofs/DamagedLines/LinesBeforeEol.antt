@@ -266,9 +266,9 @@ module _ (x y : Bits) where
       → LineAlike (line_2d false columns reference here) (line_2d false columns reference there)
   line_2d_alike columns reference here there front =
       repeated_follows (step_2d false columns reference) (Line.broken [] UnexpectedEof) left
-          (step_2d_shrinks false columns reference)
+      (step_2d_shrinks false columns reference)
       (step_2d false columns reference) (Line.broken [] UnexpectedEof) left
-          (step_2d_shrinks false columns reference) Pens LineAlike
+      (step_2d_shrinks false columns reference) Pens LineAlike
       (step_2d_alike columns reference _) (suc (length here)) (suc (length there)) (start here) (start there) (omega arith)
-          (omega arith)
+      (omega arith)
       ([], Color.White, here, there, refl, refl, front)

@@ -146,7 +146,7 @@ module _ (settings : DecodeSettings) (bits : Bits) (from to : ℕ) where
       none_found (Some found) e =
           let f = next_eol_found (take (to - from) (drop from bits)) found e in
           let both : ◌≡◌ {A = Option Bits} None (Some f.1.0) = sym
-              (none_in_body bits from to local.closes.0 (body_1d settings bits from to local))
+          (none_in_body bits from to local.closes.0 (body_1d settings bits from to local))
           ∙ past_is (take (to - from) (drop from bits)) ∙ ap then_after e ∙ f.1.1 in
           absurd cc
 

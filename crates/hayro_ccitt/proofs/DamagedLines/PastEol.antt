@@ -84,7 +84,7 @@ eols_with_tags_same (suc n) (suc m) here h k = by (λ rest. eols_with_tags_same 
         let shorter = after_eol_shorter 0 here rest e in
         rw (eols_with_tags-some n here rest e, eols_with_tags-some m here rest e)
         (ap one_more (on (past_tag rest) (omega (arith, shorter, past_tag_shorter rest, h))
-            (omega (arith, shorter, past_tag_shorter rest, k))))
+        (omega (arith, shorter, past_tag_shorter rest, k))))
 
 -- if there is an EOL, it is counted, and those after its tag
 pub all_tagged-some : (here rest : Bits) → after_eol 0 here ≡ Some rest → all_tagged here ≡ one_more (all_tagged (past_tag rest))
@@ -93,7 +93,7 @@ all_tagged-some (b ∷ here) rest e =
     let shorter = after_eol_shorter 0 (b ∷ here) rest e in
     eols_with_tags-some (length here) (b ∷ here) rest e
     ∙ ap one_more (eols_with_tags_same (length here) (length (past_tag rest)) (past_tag rest)
-        (omega (arith, shorter, past_tag_shorter rest)) (omega arith))
+    (omega (arith, shorter, past_tag_shorter rest)) (omega arith))
 
 -- if there is none, none is counted
 pub all_tagged-none : (here : Bits) → after_eol 0 here ≡ None → all_tagged here ≡ (0, here)

@@ -104,7 +104,7 @@ pub data RunsAlike (settings : DecodeSettings) (Begins : List Row → Type 0) (d
   among : (before these those : List Row) (here : Bits) (left : ℕ) → Begins before → length these ≡ length those
       → length these + suc left ≤ differ
       → Settles settings (suc left) here → length here ≤ length after → s ≡ sought (before ++ these) here
-          → t ≡ sought (before ++ those) here
+      → t ≡ sought (before ++ those) here
       → RunsAlike settings Begins differ Within x y after s t
   beyond : (xs ys : List Row) (has_eols : Bool) (rest : Bits) → RowsAlike differ Begins xs ys → length rest ≤ length after
       → line_here settings (row_before settings.columns xs) rest ≡ line_here settings (row_before settings.columns ys) rest
@@ -133,9 +133,9 @@ module _ (settings : DecodeSettings) (group3 : IsGroup3 settings.encoding) (leni
     (within_later : (bits rest : Bits) → Within bits → Leaves bits rest → Within rest)
     (within_short : (bits : Bits) → Within bits → length bits < from)
     (few_x : (bits found : Bits) (count : ℕ) → settings.encoding ≡ Group3_2D → Within bits → Leaves (bits ++ true ∷ x) found
-        → all_tagged found ≡ (count, x) → count < 6)
+    → all_tagged found ≡ (count, x) → count < 6)
     (few_y : (bits found : Bits) (count : ℕ) → settings.encoding ≡ Group3_2D → Within bits → Leaves (bits ++ true ∷ y) found
-        → all_tagged found ≡ (count, y) → count < 6)
+    → all_tagged found ≡ (count, y) → count < 6)
     (lines : ℕ) (enough : suc lines ≤ differ) (settles : Settles settings lines after)
     (stays_x : (rows : List Row) → Begins rows → past 0 (rest_of (line_of_turn settings (sought rows x)) x) ≡ Some after)
     (stays_y : (rows : List Row) → Begins rows → past 0 (rest_of (line_of_turn settings (sought rows y)) y) ≡ Some after)
@@ -167,7 +167,7 @@ module _ (settings : DecodeSettings) (group3 : IsGroup3 settings.encoding) (leni
   unless_beyond xs ys has_eols a b (count, here) alike short same =
       subst (λ (n : ℕ). Both (unless_over settings (run_at xs has_eols a) (count, here))
       (cond (over n count here) (ends_with (run_at ys has_eols b) (Ok here)) (Turn.next (run_at ys has_eols here))))
-          (rows_length differ Begins xs ys alike)
+      (rows_length differ Begins xs ys alike)
       (by_line same)
     where
       by : (t : Bool) → (t ≡ false → SameLine xs ys here)
@@ -178,7 +178,7 @@ module _ (settings : DecodeSettings) (group3 : IsGroup3 settings.encoding) (leni
 
       by_line : (((settings.end_of_block && leb (eols_of_end settings.encoding) count) ≡ true) ⊎ SameLine xs ys here)
           → Both (cond (over (length xs) count here) (ends_with (run_at xs has_eols a) (Ok here))
-              (Turn.next (run_at xs has_eols here)))
+          (Turn.next (run_at xs has_eols here)))
           (cond (over (length xs) count here) (ends_with (run_at ys has_eols b) (Ok here)) (Turn.next (run_at ys has_eols here)))
       by_line (inl ends) = rw ends (EndsAlike.later here short refl refl alike)
       by_line (inr line) = by (over (length xs) count here) (λ e. line)
@@ -198,7 +198,7 @@ module _ (settings : DecodeSettings) (group3 : IsGroup3 settings.encoding) (leni
       from_next None e = RunsAlike.beyond xs ys false here alike short (same here) refl refl
       from_next (Some found) e = unless_beyond xs ys has_eols here here (eols_here settings found) alike
           (omega (arith, (next_eol_found here found e).0, (eols_here_counted settings found).0, short))
-              (inr (same (eols_here settings found).1))
+          (inr (same (eols_here settings found).1))
 
       strictly : (t : Bool) → Both (cond t (ends_with (run_at xs has_eols here) (Err InvalidCode))
           (seek_from settings (run_at xs has_eols here) (next_eol here)))
@@ -217,7 +217,7 @@ module _ (settings : DecodeSettings) (group3 : IsGroup3 settings.encoding) (leni
   same_after : (xs ys : List Row) (row : Row) (here : Bits) → SameLine (xs ++ row ∷ []) (ys ++ row ∷ []) here
   same_after xs ys row here =
       ap (λ (r : Row). line_here settings r here)
-          (row_before_push settings.columns xs row ∙ sym (row_before_push settings.columns ys row))
+      (row_before_push settings.columns xs row ∙ sym (row_before_push settings.columns ys row))
 
   line_beyond : (xs ys : List Row) (has_eols : Bool) (here : Bits) (line : Line) → Alike xs ys → length here ≤ length after
       → LineLeaves here line
@@ -228,7 +228,7 @@ module _ (settings : DecodeSettings) (group3 : IsGroup3 settings.encoding) (leni
       = cond_le al (aligned left) left (length left) (omega (arith, length-drop (length left % 8) left)) (omega arith) in
       rw (after_whole-is settings (run_at xs has_eols here) row left, after_whole-is settings (run_at ys has_eols here) row left)
       (row_beyond (xs ++ row ∷ []) (ys ++ row ∷ []) has_eols (cond al (aligned left) left)
-          (rows_more differ Begins xs ys row alike)
+      (rows_more differ Begins xs ys row alike)
       (omega (arith, shorter, short, ap length leaves.1, length-append leaves.0 left)) (same_after xs ys row))
   line_beyond xs ys has_eols here (Line.broken front fault) alike short leaves =
       rw (after_damage-is settings (run_at xs has_eols here) front fault, after_damage-is settings (run_at ys has_eols here) front fault)
@@ -256,7 +256,7 @@ module _ (settings : DecodeSettings) (group3 : IsGroup3 settings.encoding) (leni
   move_beyond xs ys has_eols here alike short same =
       let line : Line = line_here settings (row_before settings.columns xs) here in
       subst (λ (other : Line). Both (after_line settings (run_at xs has_eols here) line)
-          (after_line settings (run_at ys has_eols here) other)) same
+      (after_line settings (run_at ys has_eols here) other)) same
       (line_beyond xs ys has_eols here line alike short
       (line_by_leaves settings.encoding settings.strict settings.columns (row_before settings.columns xs) here))
 
@@ -308,7 +308,7 @@ module _ (settings : DecodeSettings) (group3 : IsGroup3 settings.encoding) (leni
       by Group3_2D block same is = last_tag_alike x y tail_x.none tail_y.none (tail_x.tag same) (tail_y.tag same) bits _ _
           (all_tagged_alike x y tail_x.none tail_y.none (tail_x.tag same) (tail_y.tag same) bits)
           (λ count e. few_x bits (bits ++ true ∷ x) count same within ([], refl) e)
-              (λ count e. few_y bits (bits ++ true ∷ y) count same within ([], refl) e)
+          (λ count e. few_y bits (bits ++ true ∷ y) count same within ([], refl) e)
       by Group4 block same (inl is) = absurd cc
       by Group4 block same (inr is) = absurd cc
 
@@ -380,7 +380,7 @@ module _ (settings : DecodeSettings) (group3 : IsGroup3 settings.encoding) (leni
           let one = row_past settings lenient rows (bits ++ true ∷ x) x open_limit (e ∙ g) in
           let two = row_past settings lenient rows (bits ++ true ∷ y) y open_limit (f ∙ h) in
           rw (one.3, two.3, alone x one.0 tail_x one.2, alone y two.0 tail_y two.2)
-              (unless_there rows (bits ++ true ∷ x) (bits ++ true ∷ y) 1)
+          (unless_there rows (bits ++ true ∷ x) (bits ++ true ∷ y) 1)
       by_past open_limit o p e f (inr (inr (g, h))) =
           let one = row_past settings lenient rows (bits ++ true ∷ x) after open_limit (e ∙ g ∙ tail_x.next) in
           let two = row_past settings lenient rows (bits ++ true ∷ y) after open_limit (f ∙ h ∙ tail_y.next) in
@@ -399,7 +399,7 @@ module _ (settings : DecodeSettings) (group3 : IsGroup3 settings.encoding) (leni
   -- a line that begins before is the same
   line_in_front : (reference : Row) (bits : Bits) → Closes bits
       → LineAlike (true ∷ x) (true ∷ y) (line_here settings reference (bits ++ true ∷ x))
-          (line_here settings reference (bits ++ true ∷ y))
+      (line_here settings reference (bits ++ true ∷ y))
   line_in_front reference bits closes = rw lenient (by settings.encoding group3 bits closes)
     where
       by : (encoding : EncodingMode) → IsGroup3 encoding → (bits : Bits) → Closes bits
@@ -421,7 +421,7 @@ module _ (settings : DecodeSettings) (group3 : IsGroup3 settings.encoding) (leni
   line_ahead rows bits closes within =
       rw (move_sought settings lenient rows (bits ++ true ∷ x), move_sought settings lenient rows (bits ++ true ∷ y))
       (by (line_here settings (row_before settings.columns rows) (bits ++ true ∷ x))
-          (line_here settings (row_before settings.columns rows) (bits ++ true ∷ y))
+      (line_here settings (row_before settings.columns rows) (bits ++ true ∷ y))
       (line_in_front (row_before settings.columns rows) bits closes)
       (line_by_leaves settings.encoding settings.strict settings.columns (row_before settings.columns rows) (bits ++ true ∷ x)))
     where
@@ -437,14 +437,14 @@ module _ (settings : DecodeSettings) (group3 : IsGroup3 settings.encoding) (leni
       by (Line.broken front fault) (Line.whole row here) alike leaves = absurd alike
       by (Line.broken front fault) (Line.broken same other) is leaves =
           rw (← is) (row_ahead (rows ++ row_of settings.columns (Line.broken front fault) ∷ []) bits
-              (closes_inside bits closes) within)
+          (closes_inside bits closes) within)
 
   -- ---- At the line, and at those that are read against its row
   -- after a row that may differ, if the next EOL is the same
   row_there : (before these those : List Row) (u v z : Bits) (left : ℕ) → Begins before → length these ≡ length those
       → 0 < length these
       → length these + left ≤ differ → past 0 u ≡ Some z → past 0 v ≡ Some z → length u ≤ length x → length v ≤ length y
-          → length z ≤ length after
+      → length z ≤ length after
       → Settles settings left z
       → Both (after_row settings (sought (before ++ these) u)) (after_row settings (sought (before ++ those) v))
   row_there before these those u v z left begins same some few e f le le2 short settled =
@@ -463,20 +463,30 @@ module _ (settings : DecodeSettings) (group3 : IsGroup3 settings.encoding) (leni
       nil (row ∷ rows) = ap (λ (r : List Row). row ∷ r) (nil rows)
 
       alike : Alike (before ++ these) (before ++ those)
-      alike = inr (before, these, those, [], same, omega arith, ap (λ (r : List Row). before ++ r) (sym (nil these)), ap
-          (λ (r : List Row). before ++ r) (sym (nil those)), begins)
+      alike = inr (
+        before,
+        these,
+        those,
+        [],
+        same,
+        omega arith,
+        ap (λ (r : List Row). before ++ r) (sym (nil these)),
+        ap
+            (λ (r : List Row). before ++ r) (sym (nil those)),
+        begins,
+      )
 
       settle : (n : ℕ) → length these + n ≤ differ → Settles settings n z → (found : Bits) → after_eol 0 found ≡ Some z
           → Both (unless_over settings (sought (before ++ these) u) (eols_here settings found))
-              (unless_over settings (sought (before ++ those) v) (eols_here settings found))
+          (unless_over settings (sought (before ++ those) v) (eols_here settings found))
       settle zero most unreferred found g = unless_beyond (before ++ these) (before ++ those) true u v
           (eols_here settings found) alike
           (omega (arith, counted_shorter found z g, short))
-              (elim (unreferred found g) [ inl ends ↦ inl ends | inr line ↦ inr (line _ _) ])
+          (elim (unreferred found g) [ inl ends ↦ inl ends | inr line ↦ inr (line _ _) ])
       settle (suc n) most (next, shorter, one, behind, further) found g = rw (one found g)
           (subst (λ (m : ℕ). Both (unless_over settings (sought (before ++ these) u) (1, z))
           (cond (over m 1 z) (ends_with (sought (before ++ those) v) (Ok z)) (Turn.next (sought (before ++ those) z)))) as_many
-              (on (over (length (before ++ these)) 1 z)))
+          (on (over (length (before ++ these)) 1 z)))
         where
           on : (t : Bool) → Both (cond t (ends_with (sought (before ++ these) u) (Ok z)) (Turn.next (sought (before ++ these) z)))
               (cond t (ends_with (sought (before ++ those) v) (Ok z)) (Turn.next (sought (before ++ those) z)))
@@ -486,10 +496,13 @@ module _ (settings : DecodeSettings) (group3 : IsGroup3 settings.encoding) (leni
       by : (limit_met settings (length (before ++ these)) ≡ true) ⊎ (limit_met settings (length (before ++ these)) ≡ false)
           → Both (after_row settings (sought (before ++ these) u)) (after_row settings (sought (before ++ those) v))
       by (inl met) =
-          rw (sought_done settings (before ++ these) u met, sought_done settings (before ++ those) v
-              (ap (limit_met settings) (sym as_many) ∙ met))
+          rw (
+            sought_done settings (before ++ these) u met,
+            sought_done settings (before ++ those) v
+                (ap (limit_met settings) (sym as_many) ∙ met),
+          )
           (EndsAlike.limit before these those (eols_here settings u).1 (eols_here settings v).1 begins same some (omega arith)
-              (limit_is met) refl refl refl refl
+          (limit_is met) refl refl refl refl
           (omega (arith, (eols_here_counted settings u).0, le)) (omega (arith, (eols_here_counted settings v).0, le2)))
       by (inr open_limit) =
           let one = row_past settings lenient (before ++ these) u z open_limit e in
@@ -506,12 +519,12 @@ module _ (settings : DecodeSettings) (group3 : IsGroup3 settings.encoding) (leni
       let other : Line = line_of_turn settings (sought rows y) in
       rw (move_sought settings lenient rows x, move_sought settings lenient rows y)
       (row_there rows (row_of settings.columns line ∷ []) (row_of settings.columns other ∷ []) (rest_of line x)
-          (rest_of other y) after lines
+      (rest_of other y) after lines
       begins refl (omega arith) (omega (arith, enough)) (stays_x rows begins) (stays_y rows begins)
       (rest_shorter line x (line_by_leaves settings.encoding settings.strict settings.columns
-          (row_before settings.columns rows) x))
+      (row_before settings.columns rows) x))
       (rest_shorter other y (line_by_leaves settings.encoding settings.strict settings.columns
-          (row_before settings.columns rows) y))
+      (row_before settings.columns rows) y))
       (omega arith) settles)
 
   -- what follows the next EOL is shorter than the line's bits
@@ -532,15 +545,23 @@ module _ (settings : DecodeSettings) (group3 : IsGroup3 settings.encoding) (leni
       )
       (row_there before (these ++ row ∷ []) (those ++ row2 ∷ []) (rest_of line here) (rest_of other here) next left begins
       (omega (arith, same, length-append these (row ∷ []), length-append those (row2 ∷ [])))
-          (omega (arith, length-append these (row ∷ [])))
+      (omega (arith, length-append these (row ∷ [])))
       (omega (arith, few, length-append these (row ∷ []))) (behind (row_before settings.columns (before ++ these)))
       (behind (row_before settings.columns (before ++ those)))
-      (omega (arith, short_x, rest_shorter line here
-          (line_by_leaves settings.encoding settings.strict settings.columns
-          (row_before settings.columns (before ++ these)) here)))
-      (omega (arith, short_y, rest_shorter other here
-          (line_by_leaves settings.encoding settings.strict settings.columns
-          (row_before settings.columns (before ++ those)) here)))
+      (omega (
+        arith,
+        short_x,
+        rest_shorter line here
+            (line_by_leaves settings.encoding settings.strict settings.columns
+            (row_before settings.columns (before ++ these)) here),
+      ))
+      (omega (
+        arith,
+        short_y,
+        rest_shorter other here
+            (line_by_leaves settings.encoding settings.strict settings.columns
+            (row_before settings.columns (before ++ those)) here),
+      ))
       (omega (arith, shorter, short)) further)
 
   -- a turn of two such runs
@@ -551,6 +572,6 @@ module _ (settings : DecodeSettings) (group3 : IsGroup3 settings.encoding) (leni
   moves_alike s t begins le le2 (RunsAlike.there rows e f) = rw (e, f) (line_there rows (begins rows e f))
   moves_alike s t begins le le2 (RunsAlike.among before these those here left given same few settled short e f) =
       rw (e, f) (line_among before these those here left given same few (omega (arith, short, le))
-          (omega (arith, short, le2)) settled short)
+      (omega (arith, short, le2)) settled short)
   moves_alike s t begins le le2 (RunsAlike.beyond xs ys has_eols here alike short same e f) = rw (e, f)
       (move_beyond xs ys has_eols here alike short same)

@@ -86,7 +86,7 @@ module _ (settings : DecodeSettings) where
             let same : ◌≡◌ {A = Option Bits} (Some next) (Some after) = sym (past-eol 0 here next f) ∙ e in
             let counts = eols_here_some settings here next f in
             let no_test : test ≡ false = rw (ne_eqb (eols_here settings here).0 0 (λ z. absurd (omega (arith, z, counts)))) refl
-                in
+            in
             (here, ([], refl), f ∙ same, cond-false test _ _ no_test)
         by None f =
             let next = found_next here after e in
@@ -102,7 +102,7 @@ module _ (settings : DecodeSettings) where
     pub move_sought : (rows : List Row) (here : Bits)
         → move_on settings (sought rows here) ≡ after_row settings
         (sought (rows ++ row_of settings.columns (line_of_turn settings (sought rows here)) ∷ [])
-            (rest_of (line_of_turn settings (sought rows here)) here))
+        (rest_of (line_of_turn settings (sought rows here)) here))
     move_sought rows here = by (line_of_turn settings (sought rows here))
       where
         by : (line : Line) → after_line settings (sought rows here) line ≡ after_row settings
