@@ -1,12 +1,12 @@
 use Rattle.std.specs.Prelude.{OnErr, OnOk, IfOk, Ok, Err, sum_by}
-use Rattle.std.proofs.Common.{ℕ, ◌+◌, ◌*◌, ◌≤◌, take, get_or, ◌≡◌, ◌∙◌, Bool, Result, length, drop, ap, sym, subst, arith, refl}
+use Rattle.std.proofs.Common.{ℕ, ◌+◌, ◌-◌, ◌*◌, ◌≤◌, take, length-drop, ◌≡◌, ◌∙◌, Bool, Result, length, drop, ap, sym, subst, arith, refl}
 use Rattle.hayro_ccitt.specs.declared.error.DecodeError.{DecodeError}
 use Rattle.hayro_ccitt.specs.declared.row_reader.Stand.{Stand}
 use Rattle.hayro_ccitt.specs.declared.settings.DecodeSettings.{DecodeSettings}
 use Rattle.hayro_ccitt.specs.Bits.{Bits, here}
 use Rattle.hayro_ccitt.specs.Context.{Held}
 use Rattle.hayro_ccitt.specs.Decoding.{gap_said}
-use Rattle.hayro_ccitt.specs.PlainReading.{gap_behind_row, line_starts}
+use Rattle.hayro_ccitt.specs.PlainReading.{gap_behind_row, line_starts, failed_at}
 use Rattle.hayro_ccitt.specs.RowsRead.{ComesToLine, Stands, read_so_far, start_after, stand_after}
 use Rattle.hayro_ccitt.specs.RowsRead.{IsStanding, WorkIsPaid, seen}
 use Rattle.hayro_ccitt.specs.Ticks.{looked_ahead, tag_tests}
@@ -36,8 +36,7 @@ passed c stands =
 -- the offset of its fault, if it has one
 started : (c : After-line_after_gap) → IsStanding c.args.self.now c.args.reader.now
     → OnErr c.pass_gap-over.result (c.start_after_gap-self.result
-    ≡ get_or (line_starts c.args.self.now.ctx.held.settings c.args.reader.now.bits) c.args.self.now.ctx.held.taken
-    c.pass_gap-over.new.reader.place)
+    ≡ failed_at c.args.self.now.ctx.held.settings c.args.reader.now.bits c.args.self.now.ctx.held.taken)
 started c stands =
     let rows = c.args.self.now in
     let held = rows.ctx.held in
@@ -49,12 +48,19 @@ started c stands =
     let said = subst (λ (b : Bits). gap_behind_row held.settings held.taken held.has_eols (here c.args.reader.now)
     ≡ gap_said c.pass_gap-over.result last.has_eols (drop at.place b)) c.pass_gap-over.ensures.same_bits
     c.pass_gap-over.ensures.gap in
-    subst (λ (n : ℕ). OnErr c.pass_gap-over.result (n ≡ get_or (line_starts held.settings bits) held.taken at.place))
+    let gap_start : c.bit_pos-gap_start.result ≡ length bits - length (here c.args.reader.now)
+    = omega (
+      arith,
+      c.bit_pos-gap_start.ensures.place,
+      c.bit_pos-gap_start.ensures.within,
+      length-drop c.args.reader.now.place bits,
+    ) in
+    subst (λ (n : ℕ). OnErr c.pass_gap-over.result (n ≡ failed_at held.settings bits held.taken))
     (sym c.start_after_gap-self.ensures)
     (starts_behind held.settings bits held (here c.args.reader.now) behind last at.place
     (omega (arith, c.bit_pos-place.ensures.place, c.bit_pos-place.ensures.within, ap length c.pass_gap-over.ensures.same_bits))
     c.pass_gap-over.ensures.held c.pass_gap-over.result said
-    c.bit_pos-place.result _ c.bit_pos-place.ensures.place)
+    c.bit_pos-gap_start.result _ gap_start)
 
 -- if it has none, the offset of the last row's line is unchanged
 kept : (over : Result Bool DecodeError) (place before : ℕ) → IfOk over (λ b. start_after over place before ≡ before)
@@ -66,7 +72,7 @@ start_stays : (c : After-line_after_gap)
 start_stays c =
     let before = c.args.self.now.started_at in
     subst (λ (n : ℕ). IfOk c.pass_gap-over.result (λ over. n ≡ before)) (sym c.start_after_gap-self.ensures)
-    (kept c.pass_gap-over.result c.bit_pos-place.result _)
+    (kept c.pass_gap-over.result c.bit_pos-gap_start.result _)
 
 -- what was counted is paid
 paid : (c : After-line_after_gap) → IsStanding c.args.self.now c.args.reader.now

@@ -12,7 +12,7 @@ use Rattle.hayro_ccitt.specs.RowsRead.{StandsAtLine, StandsBehindRow, HasFailed,
 use Rattle.hayro_ccitt.specs.RowsRead.{IsStandingAtLine, WorkIsPaid}
 use Rattle.hayro_ccitt.specs.Work.{found_here, words_of}
 use Rattle.hayro_ccitt.specs.declared.row_reader.Stand.TheVariants.{BehindRow, AtFault}
-use Rattle.hayro_ccitt.proofs.Readings.RowByRow.{IsRead, at_line_stands, starts_there, repairs_stay, is_read, isnt_read}
+use Rattle.hayro_ccitt.proofs.Readings.RowByRow.{IsRead, at_line_stands, fails_at_line, repairs_stay, is_read, isnt_read}
 use Rattle.hayro_ccitt.proofs.Work.CallsPaid.{at_line_paid, failed_most}
 use Rattle.hayro_ccitt.proofs.row_reader.RowState.read_line.Goals as goal
 use Rattle.hayro_ccitt.proofs.row_reader.RowState.read_line.Goals.{After-self-in-Ok-2-1, After-self-in-Err-1}
@@ -202,7 +202,7 @@ returns-in-Err-clause-reads c at =
       error = (refl, taken_left c, row_was_not_read c at);
       fault_start = λ unended. line_start_of reader.place reader.bits c.bit_pos-self.result c.bit_pos-self.ensures.place
           c.bit_pos-self.ensures.within
-          ∙ starts_there held.settings reader.bits held (here reader) stands c.read_row.new.reader.place;
+          ∙ fails_at_line held.settings reader.bits held (here reader) stands;
       last = λ none. (row_left c, refl);
       last_start = λ e. cc;
     }
