@@ -3,6 +3,7 @@ pub mod BytesOfBits
 pub mod ChosenBySettings
 pub mod ChosenLines
 pub mod ChosenWords
+pub mod ClosedPictures
 pub mod CutBits
 pub mod Elements
 pub mod FilledEols

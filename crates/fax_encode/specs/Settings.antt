@@ -3,6 +3,7 @@ use Rattle.std.specs.Prelude.{ℕ, zero, suc, ◌+◌, ◌-◌, ◌%◌, Bool, t
 use Rattle.hayro_ccitt.specs.declared.settings.EncodingMode.{EncodingMode}
 use Rattle.hayro_ccitt.specs.declared.settings.EncodingMode.TheVariants.{Group4, Group3_1D, Group3_2D}
 use Rattle.hayro_ccitt.specs.declared.settings.DecodeSettings.{DecodeSettings}
+use Rattle.hayro_ccitt.specs.declared.bit_reader.BitOrder.TheVariants.{HighestFirst}
 use Rattle.hayro_ccitt.specs.Bits.{Bits}
 use Rattle.hayro_ccitt.specs.Rows.{Row, white_row}
 use Rattle.hayro_ccitt.specs.Encodings.{padding, eol, tag_of}
@@ -139,6 +140,32 @@ abbrev pub chosen : EncodeSettings → ℕ → List Row → Bits
 chosen settings columns rows =
     chosen_picture settings.encoding settings.end_of_line settings.k settings.eols_end_at_bytes settings.rows_are_byte_aligned settings.end_of_block
     (white_row columns) rows
+
+-- ---- the settings of closed pictures
+
+-- Group 4 with EOFB (T.6, 2.4.1.1)
+abbrev pub group4_settings : Bool → EncodeSettings
+group4_settings aligned = record {
+  encoding = Group4;
+  k = 1;
+  end_of_line = false;
+  eols_end_at_bytes = false;
+  rows_are_byte_aligned = aligned;
+  end_of_block = true;
+  order = HighestFirst;
+}
+
+-- one-dimensional Group 3 with EOLs and RTC (T.4, 4.1)
+abbrev pub group3_settings : EncodeSettings
+group3_settings = record {
+  encoding = Group3_1D;
+  k = 1;
+  end_of_line = true;
+  eols_end_at_bytes = false;
+  rows_are_byte_aligned = false;
+  end_of_block = true;
+  order = HighestFirst;
+}
 
 -- ---- settings that read it
 

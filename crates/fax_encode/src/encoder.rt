@@ -94,6 +94,21 @@ impl Encoder {
         })
     }
 
+    /// Returns the number of rows.
+    pub fn rows(&self) -> usize
+        ensures { result ≡ self.now.count }
+    {
+        self.rows
+    }
+
+    /// Returns whether a row is still needed: [`finish`](Encoder::finish) would return `NoRows`.
+    pub fn needs_row(&self) -> bool
+        ensures { (result ≡ true) ↔ ((self.now.wants_memory ≡ false) × (self.now.count ≡ 0)
+            × (needs_row self.now.settings.encoding self.now.settings.end_of_block ≡ true)) }
+    {
+        !self.wants_memory && self.rows == 0 && needs_row(self.settings)
+    }
+
     /// Adds a row. Until all of it is added, the encoder is marked as out of memory.
     fn add(&mut self, changes: &[u32]) -> Result<(), AllocError>
         requires lawful { AreChanges self.old.columns changes.now }

@@ -1,24 +1,19 @@
 //! Group 4 (T.6): two-dimensional lines (T.4, section 4.2).
 
-ghost use Rattle.std.specs.Prelude.{◌≡◌, ◌≢◌, ◌+◌, ◌%◌, ◌<◌, ◌≤◌, ◌++◌, ◌↔◌, ℕ, [], false, map, length, get_or, Err, IfOk, OnOk, MatchOption, if◌then◌else◌};
-ghost use Rattle.hayro_ccitt.specs.Bits.{bits_of};
+ghost use Rattle.std.specs.Prelude.{◌≡◌, ◌+◌, ◌<◌, ◌≤◌, ◌++◌, [], length, get_or, IfOk, OnOk, MatchOption, if◌then◌else◌};
 ghost use Rattle.hayro_ccitt.specs.declared.codes.Mode.TheVariants.{Horizontal};
-ghost use Rattle.hayro_ccitt.specs.Rows.{AreChanges, pixels, opposite, white_row, b1, b2};
-ghost use Rattle.hayro_ccitt.specs.Encodings.{eol, padding};
-ghost use Rattle.fax_encode.specs.Chosen.{bits_at, place_after, chosen_mode, chosen_run, word_of_mode, chosen_line_2d, chosen_lines_2d, chosen_t6, filled_up, rows_of};
+ghost use Rattle.hayro_ccitt.specs.Rows.{AreChanges, pixels, opposite, b1, b2};
+ghost use Rattle.hayro_ccitt.specs.Encodings.{padding};
+ghost use Rattle.fax_encode.specs.Chosen.{bits_at, place_after, chosen_mode, chosen_run, word_of_mode, chosen_line_2d};
 ghost use Rattle.fax_encode.specs.Coding.{AreLeft, AreAllLeft, place_of};
-ghost use Rattle.fax_encode.specs.Refusals.{AreRows, IsFirstUnlawful};
 ghost use Rattle.fax_encode.specs.Writing.{all_bits};
 
-use crate::EncodeError;
 use crate::bit_writer::BitWriter;
-use crate::group3::put_eol;
-use crate::rows::first_unlawful;
 use crate::runs::{put_run, put_word};
 use crate::words::{horizontal_word, pass_word, vertical_word};
 use hayro_ccitt::changes::change_or_end;
 use hayro_ccitt::codes::Color;
-use std::alloc::{AllocError, Global};
+use std::alloc::AllocError;
 
 /// How far a line is coded: the first position right of a0, the present colour, how many changes of the row are left of
 /// that position, and how many of the reference row are known to be.
@@ -192,79 +187,4 @@ pub fn put_padding(writer: &mut BitWriter, aligned: bool) -> Result<(), AllocErr
         ++ (if aligned then padding (length (all_bits writer.old)) else [])) }
 {
     if aligned { writer.fill_up() } else { Ok(()) }
-}
-
-/// Writes the lines of a picture, each against the row before it.
-fn put_lines(
-    writer: &mut BitWriter,
-    columns: u32,
-    rows: &[Vec<u32>],
-    aligned: bool,
-) -> Result<(), AllocError>
-    requires whole { length (all_bits writer.old) % 8 ≡ 0 }
-    requires rows { AreRows columns (map (λ row. row.items) rows.now) }
-    ensures { OnOk result (all_bits writer.new ≡ all_bits writer.old
-        ++ chosen_lines_2d aligned (white_row columns) (rows_of columns (map (λ row. row.items) rows.now))) }
-{
-    let mut reference: &[u32] = &[];
-    for row in rows {
-        put_line(writer, columns, reference, row.as_slice())?;
-        put_padding(writer, aligned)?;
-        reference = row.as_slice();
-    }
-    Ok(())
-}
-
-/// Returns the bytes of a picture with its EOFB.
-fn picture(
-    alloc: Global,
-    columns: u32,
-    rows: &[Vec<u32>],
-    aligned: bool,
-) -> Result<Vec<u8>, AllocError>
-    requires { AreRows columns (map (λ row. row.items) rows.now) }
-    ensures { IfOk result (λ bytes. bits_of bytes.items
-        ≡ filled_up (chosen_t6 columns aligned (rows_of columns (map (λ row. row.items) rows.now)))) }
-{
-    let mut writer = BitWriter::new(alloc);
-    put_lines(&mut writer, columns, rows, aligned)?;
-    put_eol(&mut writer)?;
-    put_eol(&mut writer)?;
-    writer.finish()
-}
-
-/// Encodes rows, given as lists of changes, as Group 4 (T.6): the modes of each row against the row before it, with zeros
-/// up to a whole byte after each row if they are `aligned`, and EOFB after the last, with zeros up to a whole byte. No rows
-/// are encoded as EOFB alone. With 8 columns and not aligned the one row `[3, 5]` is 31 C0 04 00 40: horizontal mode, 3
-/// white pixels, 2 black ones, a vertical mode, and EOFB (T.6 sections 2.2 and 2.4.1.1).
-///
-/// # Errors
-///
-/// `NoColumns` if `columns` is 0, else `NotARow` with the index of the first list that is not strictly ascending and
-/// below `columns`, else `OutOfMemory` if an allocation fails; never `NoRows`.
-pub fn encode_g4(
-    alloc: Global,
-    columns: u32,
-    rows: &[Vec<u32>],
-    aligned: bool,
-) -> std::result::Result<Vec<u8>, EncodeError>
-    ensures no_columns { (result ≡ Err EncodeError.NoColumns) ↔ (columns ≡ 0) }
-    ensures no_encoding { result ≢ Err EncodeError.NoEncoding }
-    ensures not_a_row { (k : ℕ) → (result ≡ Err (EncodeError.NotARow k))
-        ↔ ((0 < columns) × IsFirstUnlawful columns (map (λ row. row.items) rows.now) k) }
-    ensures no_rows { result ≢ Err EncodeError.NoRows }
-    ensures rows { IfOk result (λ _. AreRows columns (map (λ row. row.items) rows.now)) }
-    ensures encoded { IfOk result (λ bytes. bits_of bytes.items
-        ≡ filled_up (chosen_t6 columns aligned (rows_of columns (map (λ row. row.items) rows.now)))) }
-{
-    if columns == 0 {
-        return Err(EncodeError::NoColumns);
-    }
-    if let Some(row) = first_unlawful(columns, rows) {
-        return Err(EncodeError::NotARow(row));
-    }
-    match picture(alloc, columns, rows, aligned) {
-        Ok(bytes) => Ok(bytes),
-        Err(_) => Err(EncodeError::OutOfMemory),
-    }
 }

@@ -3,10 +3,10 @@
 
 mod bit_order;
 mod bit_writer;
-mod bitmap_encoding;
 mod bitmap_rows;
 mod bitmap_sink;
 mod by_settings;
+mod closed_pictures;
 mod encoder;
 mod encoding;
 mod error;
@@ -20,15 +20,13 @@ mod runs;
 mod settings;
 mod words;
 
-pub use bitmap_encoding::{encode_bitmap_1d, encode_bitmap_g4};
 pub use bitmap_rows::rows_of_bitmap;
 pub use bitmap_sink::BitmapSink;
 pub use by_settings::{encode, encode_bitmap};
+pub use closed_pictures::{encode_1d, encode_bitmap_1d, encode_bitmap_g4, encode_g4};
 pub use encoder::Encoder;
 pub use encoding::names_encoding;
 pub use error::EncodeError;
-pub use group3::encode_1d;
-pub use group4::encode_g4;
 pub use painting::paint_row;
 pub use round_trip::{bitmap_by_group3, bitmap_by_group4};
 pub use settings::EncodeSettings;

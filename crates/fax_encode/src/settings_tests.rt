@@ -278,6 +278,7 @@ fn refusals_row_by_row(rt: HostRuntime) -> Result<(), Fail> {
     let Ok(none) = Encoder::new(alloc, 24, one) else {
         panic!(&rt; "the settings are refused");
     };
+    assert!(&rt; none.needs_row());
     assert_eq!(&rt; none.finish().err(), Some(EncodeError::NoRows));
     let Ok(mut encoder) = Encoder::new(alloc, 24, one) else {
         panic!(&rt; "the settings are refused");
@@ -289,6 +290,8 @@ fn refusals_row_by_row(rt: HostRuntime) -> Result<(), Fail> {
         encoder.push_packed_row(&[0, 0]),
         Err(EncodeError::NotARow(1))
     );
+    assert!(&rt; !encoder.needs_row());
+    assert_eq!(&rt; encoder.rows(), 1);
     let Ok(bytes) = encoder.finish() else {
         panic!(&rt; "a row is refused");
     };

@@ -1,0 +1,8 @@
+use Rattle.fax_encode.specs.Packed.{shown}
+use Rattle.fax_encode.proofs.ClosedPictures.{in_group4}
+use Rattle.fax_encode.proofs.closed_pictures.encode_bitmap_g4.Goals as goal
+
+pub returns-clause-encoded : goal.returns-clause-encoded
+returns-clause-encoded c =
+    in_group4 (λ bytes. bytes.items) _ _ c.args.columns (shown c.args.columns c.args.bitmap.now)
+    c.encode_bitmap.ensures.encoded c.args.aligned c.group4_settings.ensures
