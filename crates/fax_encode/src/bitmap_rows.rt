@@ -49,6 +49,31 @@ fn turns(before: u64, word: u64) -> u64
     word ^ (before << 63 | word >> 1)
 }
 
+/// Appends the positions of the ones among the first bits of a word, counted from a first position on. The list grows where
+/// it is full.
+#[inline(never)]
+fn push_ones_growing(
+    list: &mut Vec<u32>,
+    first: u32,
+    count: u32,
+    word: u64,
+) -> Result<(), AllocError>
+    requires few { count ≤ 64 }
+    requires within { first + count < 2 ^ 32 }
+    ensures { OnOk result (list.new.items ≡ list.old.items ++ ones_from first (take count (low_bits 64 word))) }
+{
+    let mut ones = word;
+    while ones != 0 {
+        let ahead = ones.leading_zeros();
+        if ahead >= count {
+            return Ok(());
+        }
+        list.push(first + ahead)?;
+        ones -= 1 << (63 - ahead);
+    }
+    Ok(())
+}
+
 /// Appends the positions of the ones among the first bits of a word, counted from a first position on.
 #[inline(always)]
 fn push_ones(list: &mut Vec<u32>, first: u32, count: u32, word: u64) -> Result<(), AllocError>
@@ -62,8 +87,11 @@ fn push_ones(list: &mut Vec<u32>, first: u32, count: u32, word: u64) -> Result<(
         if ahead >= count {
             return Ok(());
         }
-        list.push(first + ahead)?;
-        ones -= 1 << (63 - ahead);
+        if list.len() >= list.capacity() {
+            return push_ones_growing(list, first, count, ones);
+        }
+        list.push_reserved(first + ahead);
+        ones ^= 1 << (63 - ahead);
     }
     Ok(())
 }

@@ -2,7 +2,7 @@
 
 ghost use Rattle.std.specs.Prelude.{◌≡◌, ◌^◌, ◌<◌, ◌≤◌, ◌++◌, OnOk, length, nat_le};
 ghost use Rattle.hayro_ccitt.specs.Bits.{low_bits};
-ghost use Rattle.hayro_ccitt.specs.Rows.{AreChanges};
+ghost use Rattle.hayro_ccitt.specs.Rows.{AreChanges, opposite};
 ghost use Rattle.fax_encode.specs.Chosen.{chosen_rest, chosen_run, chosen_runs};
 ghost use Rattle.fax_encode.specs.Writing.{all_bits};
 
@@ -72,6 +72,28 @@ pub fn put_run(writer: &mut BitWriter, color: Color, pixels: u32) -> Result<(), 
     put_word(writer, terminating_word(color, pixels))
 }
 
+/// Writes the words of a run, and those of a run of the other colour after it.
+#[inline(always)]
+pub fn put_runs(
+    writer: &mut BitWriter,
+    color: Color,
+    first: u32,
+    second: u32,
+) -> Result<(), AllocError>
+    ensures { OnOk result (all_bits writer.new
+        ≡ all_bits writer.old ++ (chosen_run color first ++ chosen_run (opposite color) second)) }
+{
+    if first < 64 && second < 64 {
+        return put_two_words(
+            writer,
+            terminating_word(color, first),
+            terminating_word(color.opposite(), second),
+        );
+    }
+    put_run(writer, color, first)?;
+    put_run(writer, color.opposite(), second)
+}
+
 /// Writes the runs of a row, white first, up to each change and up to the row's end.
 pub fn put_row(writer: &mut BitWriter, columns: u32, changes: &[u32]) -> Result<(), AllocError>
     requires { AreChanges columns changes.now }
@@ -82,8 +104,7 @@ pub fn put_row(writer: &mut BitWriter, columns: u32, changes: &[u32]) -> Result<
     while changes.len() - next >= 2 {
         let black = changes[next];
         let white = changes[next + 1];
-        put_run(writer, Color::White, black - place)?;
-        put_run(writer, Color::Black, white - black)?;
+        put_runs(writer, Color::White, black - place, white - black)?;
         place = white;
         next += 2;
     }
@@ -91,8 +112,7 @@ pub fn put_row(writer: &mut BitWriter, columns: u32, changes: &[u32]) -> Result<
         return put_run(writer, Color::White, columns - place);
     }
     let black = changes[next];
-    put_run(writer, Color::White, black - place)?;
-    put_run(writer, Color::Black, columns - black)
+    put_runs(writer, Color::White, black - place, columns - black)
 }
 
 /// Returns the number of bits of the code words of a run.

@@ -1,11 +1,14 @@
-use Rattle.std.proofs.Common.{◌≡◌, ◌+◌, ◌-◌, ◌<◌, ◌≤◌, ◌++◌, ℕ, suc, true, false, length, get_or, refl, sym, ap, ◌∙◌, arith}
+use Rattle.std.proofs.Common.{◌≡◌, ◌+◌, ◌-◌, ◌<◌, ◌≤◌, ◌++◌, ℕ, suc, Bool, true, false, cond, [], length, get_or, refl, sym, ap, subst, ◌∙◌, arith}
 use Rattle.hayro_ccitt.specs.declared.codes.Color.{Color}
 use Rattle.hayro_ccitt.specs.declared.codes.Mode.TheVariants.{Horizontal}
 use Rattle.hayro_ccitt.specs.Bits.{Bits, low_bits}
 use Rattle.hayro_ccitt.specs.Rows.{Row, pixels, opposite, a1, a2, b1, b2}
 use Rattle.hayro_ccitt.proofs.PixelRows.ChangesAndPixels.{length-pixels}
 use Rattle.fax_encode.specs.Chosen.{Place, chosen_run, word_of_mode, vertical_mode}
-use Rattle.fax_encode.specs.Coding.{place_of}
+use Rattle.std.proofs.lemmas.List.{append-nil}
+use Rattle.fax_encode.specs.Coding.{IsNear, place_of}
+use Rattle.fax_encode.proofs.StepsToB1.{near_pass, near_right}
+use Rattle.hayro_ccitt.proofs.PixelRows.ChangePlaces.{a1_next}
 use Rattle.fax_encode.specs.Writing.{all_bits}
 use Rattle.fax_encode.proofs.Elements.{a1_found, a2_found, left_of_next, still_left}
 use Rattle.fax_encode.proofs.ModesWritten.{pass_bits, vertical_bits, horizontal_bits, pass_place, vertical_place, horizontal_place, first_run, second_run, near_same, step_right}
@@ -21,6 +24,10 @@ a1_is c = c.change_or_end-a1.ensures ∙ sym (a1_found c.args.columns c.args.cha
 
 a2_is : (c : After-find_above-above) → a2 (pixels c.args.columns c.args.changes.now) c.args.at.from ≡ get_or c.args.changes.now (c.args.at.next + 1) c.args.columns
 a2_is c = a2_found c.args.columns c.args.changes.now c.requires.changes c.args.at.from c.args.at.next c.requires.next
+
+-- it is right of a0
+a1_right : (c : After-find_above-above) → c.args.at.from ≤ c.change_or_end-a1.result
+a1_right c = omega (arith, a1_is c, (a1_next (pixels c.args.columns c.args.changes.now) c.args.at.from).above (inside c))
 
 pub returns-in-Some-clause-written : goal.returns-in-Some-clause-written
 returns-in-Some-clause-written c =
@@ -40,6 +47,12 @@ returns-in-Some-clause-place c =
     let from : c.from.result + 1 ≡ suc (b2 reference c.args.at.from c.args.at.color) = omega (arith, c.from.ensures, c.in-Some.ensures.0, c.find_above-above.ensures.b2) in
     ap to from ∙ sym (pass_place reference row (place_of c.args.at) (inside d) left)
 
+pub returns-in-Some-clause-near : goal.returns-in-Some-clause-near
+returns-in-Some-clause-near c = subst (λ (n : ℕ). IsNear c.args.columns c.args.reference.now (record { from = n + 1; color = c.args.at.color }) (c.find_above-above.result.index + 2))
+    (sym c.from.ensures)
+    (near_pass c.args.columns c.args.reference.now c.requires.reference (place_of c.args.at) c.find_above-above.result.index c.find_above-above.ensures.near c.in-Some.b2
+    c.in-Some.ensures.0)
+
 pub returns-in-Some-clause-next : goal.returns-in-Some-clause-next
 returns-in-Some-clause-next c = λ le.
     let right = step_right c.args.columns c.args.reference.now c.args.changes.now c.requires.reference c.requires.changes (place_of c.args.at) _ c.requires.inside
@@ -47,38 +60,45 @@ returns-in-Some-clause-next c = λ le.
     still_left c.args.columns c.args.changes.now c.args.at.from (c.from.result + 1) c.args.at.next (omega (arith, right.0)) c.requires.next
     (omega (arith, c.from.ensures, c.in-Some.ensures.1, c.change_or_end-a1.ensures))
 
-pub returns-in-Some-vertical_word-clause-written : goal.returns-in-Some-vertical_word-clause-written
-returns-in-Some-vertical_word-clause-written c =
-    let d = (goal.at.returns-in-Some-vertical_word-clause-written c).After-find_above-above in
-    let reference : Row = pixels c.args.columns c.args.reference.now in
-    let row : Row = pixels c.args.columns c.args.changes.now in
-    let a : c.change_or_end-a1.result ≡ a1 row c.args.at.from = a1_is d in
-    let b : c.change_or_end-b1.result ≡ b1 reference c.args.at.from c.args.at.color = c.change_or_end-b1.ensures ∙ sym c.find_above-above.ensures.b1 in
-    let right : a1 row c.args.at.from ≤ b2 reference c.args.at.from c.args.at.color = omega (arith, c.in_default.ensures, a, c.find_above-above.ensures.b2) in
-    let near = near_same _ _ _ _ true b a c.in-Some-vertical_word.ensures.0 in
-    let word : low_bits c.in-Some-vertical_word.word.count c.in-Some-vertical_word.word.bits ≡ word_of_mode (vertical_mode (b1 reference c.args.at.from c.args.at.color) (a1 row c.args.at.from))
-    = c.in-Some-vertical_word.ensures.1.spells ∙ ap (λ (n : ℕ). word_of_mode (vertical_mode n c.change_or_end-a1.result)) b
-    ∙ ap (λ (n : ℕ). word_of_mode (vertical_mode (b1 reference c.args.at.from c.args.at.color) n)) a in
-    c.in_ok-put_word-2.ensures ∙ ap (λ (b : Bits). all_bits c.args.writer.now ++ b) (word ∙ sym (vertical_bits reference row (place_of c.args.at) (inside d) right near))
+-- ---- after a vertical mode
+pub above_after_vertical-requires-clause-right : goal.above_after_vertical-requires-clause-right
+above_after_vertical-requires-clause-right c = a1_right (goal.at.above_after_vertical-requires-clause-right c).After-find_above-above
 
-pub returns-in-Some-vertical_word-clause-place : goal.returns-in-Some-vertical_word-clause-place
-returns-in-Some-vertical_word-clause-place c =
-    let d = (goal.at.returns-in-Some-vertical_word-clause-place c).After-find_above-above in
+pub returns-then-is_vertical-clause-written : goal.returns-then-is_vertical-clause-written
+returns-then-is_vertical-clause-written c =
+    let d = (goal.at.returns-then-is_vertical-clause-written c).After-find_above-above in
+    let reference : Row = pixels c.args.columns c.args.reference.now in
+    let row : Row = pixels c.args.columns c.args.changes.now in
+    let first : ℕ = b1 reference c.args.at.from c.args.at.color in
+    let a : c.change_or_end-a1.result ≡ a1 row c.args.at.from = a1_is d in
+    let b : c.find_above-above.result.b1 ≡ first = sym c.find_above-above.ensures.b1 in
+    let right : a1 row c.args.at.from ≤ b2 reference c.args.at.from c.args.at.color = omega (arith, c.in_default.ensures, a, c.find_above-above.ensures.b2) in
+    let near = near_same _ _ _ _ true b a (sym c.in_ok-is_vertical.ensures.near ∙ c.if-is_vertical.true) in
+    let word : Bits = word_of_mode (vertical_mode c.find_above-above.result.b1 c.change_or_end-a1.result) in
+    let same : word ≡ word_of_mode (vertical_mode first (a1 row c.args.at.from))
+    = ap (λ (n : ℕ). word_of_mode (vertical_mode n c.change_or_end-a1.result)) b ∙ ap (λ (n : ℕ). word_of_mode (vertical_mode first n)) a in
+    c.in_ok-is_vertical.ensures.written
+    ∙ ap (λ (t : Bool). all_bits c.args.writer.now ++ cond t word []) c.if-is_vertical.true
+    ∙ ap (λ (b : Bits). all_bits c.args.writer.now ++ b) (same ∙ sym (vertical_bits reference row (place_of c.args.at) (inside d) right near))
+
+pub returns-then-is_vertical-clause-place : goal.returns-then-is_vertical-clause-place
+returns-then-is_vertical-clause-place c =
+    let d = (goal.at.returns-then-is_vertical-clause-place c).After-find_above-above in
     let reference : Row = pixels c.args.columns c.args.reference.now in
     let row : Row = pixels c.args.columns c.args.changes.now in
     let a : c.change_or_end-a1.result ≡ a1 row c.args.at.from = a1_is d in
-    let b : c.change_or_end-b1.result ≡ b1 reference c.args.at.from c.args.at.color = c.change_or_end-b1.ensures ∙ sym c.find_above-above.ensures.b1 in
+    let b : c.find_above-above.result.b1 ≡ b1 reference c.args.at.from c.args.at.color = sym c.find_above-above.ensures.b1 in
     let right : a1 row c.args.at.from ≤ b2 reference c.args.at.from c.args.at.color = omega (arith, c.in_default.ensures, a, c.find_above-above.ensures.b2) in
-    let near = near_same _ _ _ _ true b a c.in-Some-vertical_word.ensures.0 in
+    let near = near_same _ _ _ _ true b a (sym c.in_ok-is_vertical.ensures.near ∙ c.if-is_vertical.true) in
     let to : ℕ → Place = λ n. record { from = n; color = c.opposite.result } in
     let turned : Color → Place = λ k. record { from = suc (a1 row c.args.at.from); color = k } in
-    let from : c.from-in-Some-vertical_word.result + 1 ≡ suc (a1 row c.args.at.from) = omega (arith, c.from-in-Some-vertical_word.ensures, a) in
+    let from : c.from-then-is_vertical.result + 1 ≡ suc (a1 row c.args.at.from) = omega (arith, c.from-then-is_vertical.ensures, a) in
     ap to from ∙ ap turned c.opposite.ensures ∙ sym (vertical_place reference row (place_of c.args.at) (inside d) right near)
 
-pub returns-in-Some-vertical_word-clause-next : goal.returns-in-Some-vertical_word-clause-next
-returns-in-Some-vertical_word-clause-next c = λ le.
-    left_of_next 0 c.args.columns c.args.changes.now c.args.at.next (c.args.at.next + 1) c.from-in-Some-vertical_word.result refl c.requires.changes
-    (c.from-in-Some-vertical_word.ensures ∙ c.change_or_end-a1.ensures) (omega arith)
+pub returns-then-is_vertical-clause-next : goal.returns-then-is_vertical-clause-next
+returns-then-is_vertical-clause-next c = λ le.
+    left_of_next 0 c.args.columns c.args.changes.now c.args.at.next (c.args.at.next + 1) c.from-then-is_vertical.result refl c.requires.changes
+    (c.from-then-is_vertical.ensures ∙ c.change_or_end-a1.ensures) (omega arith)
 
 pub overflow_sub-a1 : goal.overflow_sub-a1
 overflow_sub-a1 c =
@@ -90,19 +110,27 @@ overflow_sub-a2 c =
     let d = (goal.at.overflow_sub-a2 c).After-find_above-above in
     omega (arith, a1_is d, a2_is d, c.change_or_end-a2.ensures, second_run (pixels c.args.columns c.args.changes.now) c.args.at.from)
 
+-- ---- after horizontal mode
 pub returns-clause-written : goal.returns-clause-written
 returns-clause-written c =
     let d = (goal.at.returns-clause-written c).After-find_above-above in
     let reference : Row = pixels c.args.columns c.args.reference.now in
     let row : Row = pixels c.args.columns c.args.changes.now in
     let a : c.change_or_end-a1.result ≡ a1 row c.args.at.from = a1_is d in
-    let b : c.change_or_end-b1.result ≡ b1 reference c.args.at.from c.args.at.color = c.change_or_end-b1.ensures ∙ sym c.find_above-above.ensures.b1 in
+    let b : c.find_above-above.result.b1 ≡ b1 reference c.args.at.from c.args.at.color = sym c.find_above-above.ensures.b1 in
     let right : a1 row c.args.at.from ≤ b2 reference c.args.at.from c.args.at.color = omega (arith, c.in_default.ensures, a, c.find_above-above.ensures.b2) in
-    let near = near_same _ _ _ _ false b a c.in_default-vertical_word.ensures in
+    let near = near_same _ _ _ _ false b a (sym c.in_ok-is_vertical.ensures.near ∙ c.if-is_vertical.false) in
     let first : c.change_or_end-a1.result - c.saturating_sub.result ≡ a1 row c.args.at.from - (c.args.at.from - 1) = omega (arith, c.saturating_sub.ensures, a) in
     let second : c.change_or_end-a2.result - c.change_or_end-a1.result ≡ a2 row c.args.at.from - a1 row c.args.at.from = omega (arith, a, a2_is d, c.change_or_end-a2.ensures) in
     let runs : ℕ → ℕ → Bits = λ m n. all_bits c.args.writer.now ++ (word_of_mode Horizontal ++ (chosen_run c.args.at.color m ++ chosen_run (opposite c.args.at.color) n)) in
-    c.in_ok-put_horizontal.ensures ∙ ap (λ (n : ℕ). runs n (c.change_or_end-a2.result - c.change_or_end-a1.result)) first ∙ ap (runs (a1 row c.args.at.from - (c.args.at.from - 1))) second
+    let nothing : all_bits c.put_vertical.new.writer ≡ all_bits c.args.writer.now
+    = c.in_ok-is_vertical.ensures.written
+    ∙ ap (λ (t : Bool). all_bits c.args.writer.now ++ cond t (word_of_mode (vertical_mode c.find_above-above.result.b1 c.change_or_end-a1.result)) []) c.if-is_vertical.false
+    ∙ append-nil (all_bits c.args.writer.now) in
+    c.in_ok-put_horizontal.ensures
+    ∙ ap (λ (b : Bits). b ++ (word_of_mode Horizontal ++ (chosen_run c.args.at.color (c.change_or_end-a1.result - c.saturating_sub.result)
+    ++ chosen_run (opposite c.args.at.color) (c.change_or_end-a2.result - c.change_or_end-a1.result)))) nothing
+    ∙ ap (λ (n : ℕ). runs n (c.change_or_end-a2.result - c.change_or_end-a1.result)) first ∙ ap (runs (a1 row c.args.at.from - (c.args.at.from - 1))) second
     ∙ ap (λ (b : Bits). all_bits c.args.writer.now ++ b) (sym (horizontal_bits reference row (place_of c.args.at) (inside d) right near))
 
 pub returns-clause-place : goal.returns-clause-place
@@ -111,12 +139,19 @@ returns-clause-place c =
     let reference : Row = pixels c.args.columns c.args.reference.now in
     let row : Row = pixels c.args.columns c.args.changes.now in
     let a : c.change_or_end-a1.result ≡ a1 row c.args.at.from = a1_is d in
-    let b : c.change_or_end-b1.result ≡ b1 reference c.args.at.from c.args.at.color = c.change_or_end-b1.ensures ∙ sym c.find_above-above.ensures.b1 in
+    let b : c.find_above-above.result.b1 ≡ b1 reference c.args.at.from c.args.at.color = sym c.find_above-above.ensures.b1 in
     let right : a1 row c.args.at.from ≤ b2 reference c.args.at.from c.args.at.color = omega (arith, c.in_default.ensures, a, c.find_above-above.ensures.b2) in
-    let near = near_same _ _ _ _ false b a c.in_default-vertical_word.ensures in
+    let near = near_same _ _ _ _ false b a (sym c.in_ok-is_vertical.ensures.near ∙ c.if-is_vertical.false) in
     let to : ℕ → Place = λ n. record { from = n; color = c.args.at.color } in
     let from : c.from-2.result + 1 ≡ suc (a2 row c.args.at.from) = omega (arith, c.from-2.ensures, c.change_or_end-a2.ensures, a2_is d) in
     ap to from ∙ sym (horizontal_place reference row (place_of c.args.at) (inside d) right near)
+
+pub returns-clause-near : goal.returns-clause-near
+returns-clause-near c =
+    let d = (goal.at.returns-clause-near c).After-find_above-above in
+    let le : c.args.at.from ≤ c.from-2.result + 1
+    = omega (arith, a1_right d, c.from-2.ensures, c.change_or_end-a2.ensures, a1_is d, a2_is d, second_run (pixels c.args.columns c.args.changes.now) c.args.at.from) in
+    near_right c.args.columns c.args.reference.now c.requires.reference (place_of c.args.at) c.find_above-above.result.index c.find_above-above.ensures.near (c.from-2.result + 1) le
 
 pub returns-clause-next : goal.returns-clause-next
 returns-clause-next c = λ le.

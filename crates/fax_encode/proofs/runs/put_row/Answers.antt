@@ -5,7 +5,7 @@ use Rattle.hayro_ccitt.specs.Bits.{Bits}
 use Rattle.hayro_ccitt.specs.Rows.{AscendFrom}
 use Rattle.fax_encode.specs.Chosen.{chosen_run, chosen_runs}
 use Rattle.fax_encode.specs.Writing.{all_bits}
-use Rattle.fax_encode.proofs.RunsWritten.{next_within, next_ascends, next_run, one_part}
+use Rattle.fax_encode.proofs.RunsWritten.{next_within, next_ascends, next_run, two_runs, one_part}
 use Rattle.fax_encode.proofs.runs.put_row.Goals as goal
 
 pub loop-next-preserved : goal.loop-next-preserved
@@ -21,15 +21,15 @@ loop-next-preserved c =
     let two : i + 1 + 1 ≡ i + 2 = omega arith in
     let ascend = c.loop-next.invariant.ascend in
     let behind = next_ascends columns place i White changes first ascend in
-    let drawn = one_part (all_bits c.put_run.new.writer) (all_bits c.loop-next.writer) (chosen_runs columns White place (drop i changes)) (chosen_run White (black - place))
-    (chosen_runs columns Black black (drop (i + 1) changes)) _ c.loop-next.invariant.written (next_run columns place i White changes first ascend) c.in_ok-put_run.ensures in
+    let left : Bits = chosen_runs columns White white (drop (i + 1 + 1) changes) in
+    let split = two_runs columns place i White changes first second ascend in
     record {
       counted = omega (arith, second);
       within = next_within columns black (i + 1) Black changes second behind;
       ascend = subst (λ (n : ℕ). AscendFrom white columns (drop n changes)) two (next_ascends columns black (i + 1) Black changes second behind);
-      written = ap (λ (n : ℕ). all_bits c.put_run-in-loop-next.new.writer ++ chosen_runs columns White white (drop n changes)) (sym two)
-          ∙ one_part (all_bits c.put_run-in-loop-next.new.writer) (all_bits c.put_run.new.writer) (chosen_runs columns Black black (drop (i + 1) changes)) (chosen_run Black (white - black))
-          (chosen_runs columns White white (drop (i + 1 + 1) changes)) _ drawn (next_run columns black (i + 1) Black changes second behind) c.in_ok-put_run-2.ensures;
+      written = ap (λ (n : ℕ). all_bits c.put_runs.new.writer ++ chosen_runs columns White white (drop n changes)) (sym two)
+          ∙ one_part (all_bits c.put_runs.new.writer) (all_bits c.loop-next.writer) (chosen_runs columns White place (drop i changes))
+          (chosen_run White (black - place) ++ chosen_run Black (white - black)) left _ c.loop-next.invariant.written split c.in_ok-put_runs.ensures;
     }
 
 pub returns : goal.returns
@@ -41,7 +41,8 @@ returns c =
     let black : ℕ = get_or changes i 0 in
     let last : i < length changes = omega (arith, c.loop-next-test.false, c.if-next-changes.false, c.loop-next.invariant.counted) in
     let none : drop (i + 1) changes ≡ [] = nil_from_length (drop (i + 1) changes) (omega (arith, c.loop-next-test.false, length-drop (i + 1) changes)) in
-    let drawn = one_part (all_bits c.put_run-2.new.writer) (all_bits c.loop-next.writer) (chosen_runs columns White place (drop i changes)) (chosen_run White (black - place))
-    (chosen_runs columns Black black (drop (i + 1) changes)) _ c.loop-next.invariant.written (next_run columns place i White changes last c.loop-next.invariant.ascend) c.in_ok-put_run-3.ensures in
-    let rest : chosen_run Black (columns - black) ≡ chosen_runs columns Black black (drop (i + 1) changes) = ap (chosen_runs columns Black black) (sym none) in
-    subst (λ (b : Bits). OnOk c.put_run-3.result (all_bits c.put_run-3.new.writer ≡ b)) (ap (λ (b : Bits). all_bits c.put_run-2.new.writer ++ b) rest ∙ drawn) c.put_run-3.ensures
+    let split : chosen_runs columns White place (drop i changes) ≡ chosen_run White (black - place) ++ chosen_run Black (columns - black)
+    = next_run columns place i White changes last c.loop-next.invariant.ascend
+    ∙ ap (λ (l : List ℕ). chosen_run White (black - place) ++ chosen_runs columns Black black l) none in
+    subst (λ (b : Bits). OnOk c.put_runs-2.result (all_bits c.put_runs-2.new.writer ≡ b)) (ap (λ (b : Bits). all_bits c.loop-next.writer ++ b) (sym split) ∙ c.loop-next.invariant.written)
+    c.put_runs-2.ensures
