@@ -90,16 +90,9 @@ module _ (columns : ℕ) (places : List ℕ) (lawful : AreChanges columns places
       let one : index + 1 ≡ 1 = omega arith in
       record { turns = rw (← one) (turns_next index at.color near.turns); left = λ k l. absurd (omega arith) }
 
-  module _ (before : ℕ) (is : index ≡ before + 1) where
-    pub near_over : (a1 : ℕ) → get_or places before columns ≤ a1 → IsNear columns places (record { from = a1 + 1; color = opposite at.color }) (index + 1)
-    near_over a1 le = record {
-      turns = turns_next index at.color near.turns;
-      left = λ k l. omega (arith, le, rising columns places lawful k before (omega arith));
-    }
-
-    -- else from the change before it on
-    pub near_back : (a1 : ℕ) → at.from ≤ a1 → IsNear columns places (record { from = a1 + 1; color = opposite at.color }) before
-    near_back a1 le = record {
-      turns = turns_before before at.color (rw (← is) near.turns);
-      left = λ k l. omega (arith, le, near.left k (omega arith));
-    }
+  -- else from the change before it on
+  pub near_back : (before a1 : ℕ) → index ≡ before + 1 → at.from ≤ a1 → IsNear columns places (record { from = a1 + 1; color = opposite at.color }) before
+  near_back before a1 is le = record {
+    turns = turns_before before at.color (rw (← is) near.turns);
+    left = λ k l. omega (arith, le, near.left k (omega arith));
+  }

@@ -114,10 +114,9 @@ fn two_are_plain(bytes: &[u8], is_black: bool) -> bool
     requires { 16 ≤ length bytes.now }
     ensures { IsTrue result → bits_of (take 16 bytes.now) ≡ replicate 128 is_black }
 {
-    if whole_word(bytes) != plain_word(is_black) {
-        return false;
-    }
-    whole_word(&bytes[8..]) == plain_word(is_black)
+    let first = whole_word(bytes) == plain_word(is_black);
+    let second = whole_word(&bytes[8..]) == plain_word(is_black);
+    first & second
 }
 
 /// Returns whether the first four words of pixels have this colour only.
@@ -126,13 +125,20 @@ fn four_are_plain(bytes: &[u8], is_black: bool) -> bool
     requires { 32 ≤ length bytes.now }
     ensures { IsTrue result → bits_of (take 32 bytes.now) ≡ replicate 256 is_black }
 {
-    if !two_are_plain(bytes, is_black) {
-        return false;
-    }
-    two_are_plain(&bytes[16..], is_black)
+    two_are_plain(bytes, is_black) & two_are_plain(&bytes[16..], is_black)
 }
 
-/// Returns how many words of pixels at the start have this colour only, up to a maximum; four at a time, and then one by one.
+/// Returns whether the first eight words of pixels have this colour only. All are looked at, by one test.
+#[inline(always)]
+fn eight_are_plain(bytes: &[u8], is_black: bool) -> bool
+    requires { 64 ≤ length bytes.now }
+    ensures { IsTrue result → bits_of (take 64 bytes.now) ≡ replicate 512 is_black }
+{
+    four_are_plain(bytes, is_black) & four_are_plain(&bytes[32..], is_black)
+}
+
+/// Returns how many words of pixels at the start have this colour only, up to a maximum; eight at a time, then four, and then one by
+/// one.
 #[inline(always)]
 fn count_plain(bytes: &[u8], most: usize, is_black: bool) -> usize
     requires { 8 * most ≤ length bytes.now }
@@ -140,6 +146,9 @@ fn count_plain(bytes: &[u8], most: usize, is_black: bool) -> usize
     ensures plain { bits_of (take (8 * result) bytes.now) ≡ replicate (64 * result) is_black }
 {
     let mut count = 0;
+    'eights: while most - count >= 8 && eight_are_plain(&bytes[8 * count..], is_black) {
+        count += 8;
+    }
     'fours: while most - count >= 4 && four_are_plain(&bytes[8 * count..], is_black) {
         count += 4;
     }

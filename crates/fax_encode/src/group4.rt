@@ -80,11 +80,7 @@ fn above_after_vertical(
     if above.index == 0 {
         return 1;
     }
-    let before = above.index - 1;
-    if change_or_end(reference, before, columns) <= a1 {
-        return above.index + 1;
-    }
-    before
+    above.index - 1
 }
 
 /// Returns b2, the change after b1, if it is left of a1.

@@ -34,6 +34,7 @@ fn put_two_words(writer: &mut BitWriter, first: Word, second: Word) -> Result<()
 }
 
 /// Writes the words of less than 2560 pixels: a make-up word if there are 64 or more, and a terminating word.
+#[inline(always)]
 fn put_rest(writer: &mut BitWriter, color: Color, pixels: u32) -> Result<(), AllocError>
     requires { pixels < 2560 }
     ensures { OnOk result (all_bits writer.new ≡ all_bits writer.old ++ chosen_rest color pixels) }
@@ -94,8 +95,32 @@ pub fn put_runs(
     put_run(writer, color.opposite(), second)
 }
 
+/// Writes the words of a white row.
+#[inline(never)]
+fn put_white_row(writer: &mut BitWriter, columns: u32) -> Result<(), AllocError>
+    ensures { OnOk result (all_bits writer.new ≡ all_bits writer.old ++ chosen_run Color.White columns) }
+{
+    if columns >= 2560 {
+        return put_long_run(writer, Color::White, columns);
+    }
+    put_rest(writer, Color::White, columns)
+}
+
 /// Writes the runs of a row, white first, up to each change and up to the row's end.
+#[inline(always)]
 pub fn put_row(writer: &mut BitWriter, columns: u32, changes: &[u32]) -> Result<(), AllocError>
+    requires { AreChanges columns changes.now }
+    ensures { OnOk result (all_bits writer.new ≡ all_bits writer.old ++ chosen_runs columns Color.White 0 changes.now) }
+{
+    if changes.is_empty() {
+        return put_white_row(writer, columns);
+    }
+    put_changes(writer, columns, changes)
+}
+
+/// Writes the runs of a row, white first, in pairs.
+#[inline(never)]
+fn put_changes(writer: &mut BitWriter, columns: u32, changes: &[u32]) -> Result<(), AllocError>
     requires { AreChanges columns changes.now }
     ensures { OnOk result (all_bits writer.new ≡ all_bits writer.old ++ chosen_runs columns Color.White 0 changes.now) }
 {

@@ -42,6 +42,7 @@ pub fn terminating_word(color: Color, pixels: u32) -> Word
 }
 
 /// Returns the make-up word of a colour for a multiple of 64 pixels (T.4, table 3).
+#[inline(always)]
 pub fn makeup_word(color: Color, times: u32) -> Word
     requires some { 0 < times }
     requires few { times ≤ 40 }
