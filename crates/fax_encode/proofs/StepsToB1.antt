@@ -1,5 +1,5 @@
 -- b1 is found in steps of two changes, and from near where it was.
-use Rattle.std.proofs.Common.{◌≡◌, ℕ, zero, suc, ◌+◌, ◌-◌, ◌<◌, ◌≤◌, false, not, List, length, get_or, refl, sym, ap, ◌∙◌, arith, inl, inr}
+use Rattle.std.proofs.Common.{◌≡◌, ℕ, zero, suc, ◌+◌, ◌-◌, ◌<◌, ◌≤◌, ◌%◌, ◌⊎◌, false, not, List, length, get_or, refl, sym, ap, ◌∙◌, arith, inl, inr}
 use Rattle.std.proofs.lemmas.Bool.{cases_lt}
 use Rattle.std.proofs.lemmas.Grind.{get_or_default_zero}
 use Rattle.hayro_ccitt.specs.declared.codes.Color.{Color}
@@ -9,7 +9,7 @@ use Rattle.hayro_ccitt.specs.UsualModes.{TurnsFrom}
 use Rattle.hayro_ccitt.proofs.PixelRows.ReferencePlaces.{IsSplit, turned, turned-not, turned_by_parity, not_not, in_list_if_below, b1_is}
 use Rattle.hayro_ccitt.proofs.PixelRows.B1ByParity.{rising, turns_next, turns_second, turns_before}
 use Rattle.fax_encode.specs.Chosen.{Place}
-use Rattle.fax_encode.specs.Coding.{IsNear}
+use Rattle.fax_encode.specs.Coding.{IsNear, color_after}
 
 turns_by : (index : ℕ) (color : Color) → TurnsFrom index color → turned index false ≡ is_black color
 turns_by index White e = (turned_by_parity index).0 e
@@ -17,6 +17,28 @@ turns_by index Black e = (turned_by_parity index).1 e
 
 turned_before : (k : ℕ) (color : Color) → turned (suc k) false ≡ is_black color → turned k false ≡ not (is_black color)
 turned_before k color colored = sym (not_not (turned k false)) ∙ ap not (sym (turned-not k false) ∙ colored)
+
+-- one change turns the colour, and two don't
+even_or_odd : (n : ℕ) → (n % 2 ≡ 0) ⊎ (n % 2 ≡ 1)
+even_or_odd n = elim (cases_lt (n % 2) 1) [ inl lt ↦ inl (omega arith) | inr ge ↦ inr (omega arith) ]
+
+white_after : (n : ℕ) → n % 2 ≡ 0 → color_after n ≡ White
+white_after n e = rw e refl
+
+black_after : (n : ℕ) → n % 2 ≡ 1 → color_after n ≡ Black
+black_after n e = rw e refl
+
+pub color_next : (n : ℕ) → color_after (n + 1) ≡ opposite (color_after n)
+color_next n = elim (even_or_odd n) [
+  | inl even ↦ black_after (n + 1) (omega arith) ∙ ap opposite (sym (white_after n even))
+  | inr odd ↦ white_after (n + 1) (omega arith) ∙ ap opposite (sym (black_after n odd))
+]
+
+pub color_second : (n : ℕ) → color_after (n + 2) ≡ color_after n
+color_second n = elim (even_or_odd n) [
+  | inl even ↦ white_after (n + 2) (omega arith) ∙ sym (white_after n even)
+  | inr odd ↦ black_after (n + 2) (omega arith) ∙ sym (black_after n odd)
+]
 
 -- a line begins at the first change
 pub near_start : (columns : ℕ) (places : List ℕ) → IsNear columns places (record { from = 0; color = White }) 0

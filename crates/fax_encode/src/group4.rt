@@ -1,12 +1,12 @@
 //! Group 4 (T.6): two-dimensional lines (T.4, section 4.2).
 
-ghost use Rattle.std.specs.Prelude.{◌≡◌, ◌≢◌, ◌+◌, ◌%◌, ◌<◌, ◌≤◌, ◌++◌, ◌↔◌, ℕ, [], false, map, length, get_or, Err, IfOk, OnOk, MatchOption, if◌then◌else◌};
+ghost use Rattle.std.specs.Prelude.{◌≡◌, ◌≢◌, ◌+◌, ◌%◌, ◌<◌, ◌≤◌, ◌++◌, ◌↔◌, ℕ, [], true, false, map, length, get_or, Err, IfOk, OnOk, MatchOption, if◌then◌else◌};
 ghost use Rattle.hayro_ccitt.specs.Bits.{bits_of};
 ghost use Rattle.hayro_ccitt.specs.declared.codes.Mode.TheVariants.{Horizontal};
 ghost use Rattle.hayro_ccitt.specs.Rows.{AreChanges, pixels, opposite, white_row, b1, b2};
 ghost use Rattle.hayro_ccitt.specs.Encodings.{eol, padding};
 ghost use Rattle.fax_encode.specs.Chosen.{bits_at, place_after, chosen_mode, chosen_run, is_near, vertical_mode, word_of_mode, chosen_line_2d, chosen_lines_2d, chosen_t6, filled_up, rows_of};
-ghost use Rattle.fax_encode.specs.Coding.{AreAllLeft, IsNear, place_of};
+ghost use Rattle.fax_encode.specs.Coding.{AreAllLeft, IsNear, color_after, place_of};
 ghost use Rattle.fax_encode.specs.Refusals.{AreRows, IsFirstUnlawful};
 ghost use Rattle.fax_encode.specs.Writing.{all_bits};
 
@@ -20,14 +20,25 @@ use hayro_ccitt::changes::change_or_end;
 use hayro_ccitt::codes::Color;
 use std::alloc::{AllocError, Global};
 
-/// How far a line is coded: the first position right of a0, the present colour, how many changes of the row are left of
-/// that position, and an index among the changes of the reference row from which b1 is found.
+/// How far a line is coded: the first position right of a0, how many changes of the row are left of that position, and an
+/// index among the changes of the reference row from which b1 is found. The number of changes determines the present colour.
 #[derive(Clone, Copy)]
 struct Coding {
     from: u64,
-    color: Color,
     next: usize,
     above: usize,
+}
+
+/// Returns the colour after a number of changes.
+#[inline(always)]
+fn color_after(changes: usize) -> Color
+    ensures { result ≡ color_after changes }
+{
+    if changes.is_multiple_of(2) {
+        Color::White
+    } else {
+        Color::Black
+    }
 }
 
 /// Where b1 is among the changes of a reference row: its index, and its position. b2 is the next change.
@@ -43,8 +54,8 @@ fn find_above(columns: u32, reference: &[u32], at: Coding) -> Above
     requires lawful { AreChanges columns reference.now }
     requires inside { at.from ≤ columns }
     requires near { IsNear columns reference.now (place_of at) at.above }
-    ensures b1 { b1 (pixels columns reference.now) at.from at.color ≡ result.b1 }
-    ensures b2 { b2 (pixels columns reference.now) at.from at.color ≡ get_or reference.now (result.index + 1) columns }
+    ensures b1 { b1 (pixels columns reference.now) at.from (color_after at.next) ≡ result.b1 }
+    ensures b2 { b2 (pixels columns reference.now) at.from (color_after at.next) ≡ get_or reference.now (result.index + 1) columns }
     ensures first { result.b1 ≡ get_or reference.now result.index columns }
     ensures near { IsNear columns reference.now (place_of at) result.index }
     ensures within { result.index ≤ length reference.now + 1 }
@@ -72,7 +83,7 @@ fn above_after_vertical(
     requires first { above.b1 ≡ get_or reference.now above.index columns }
     requires near { IsNear columns reference.now (place_of _at) above.index }
     requires within { above.index ≤ length reference.now + 1 }
-    ensures { IsNear columns reference.now (record { from = a1 + 1; color = opposite _at.color }) result }
+    ensures { IsNear columns reference.now (record { from = a1 + 1; color = opposite (color_after _at.next) }) result }
 {
     if above.b1 <= a1 {
         return above.index + 1;
@@ -99,6 +110,16 @@ fn b2_left_of(columns: u32, reference: &[u32], index: usize, b1: u32, a1: u32) -
     if b2 < a1 { Some(b2) } else { None }
 }
 
+/// Writes the vertical mode V0, of a1 below b1.
+#[inline(always)]
+fn put_below(writer: &mut BitWriter, _b1: u32, _a1: u32) -> Result<(), AllocError>
+    requires { _a1 ≡ _b1 }
+    ensures near { is_near _b1 _a1 ≡ true }
+    ensures written { OnOk result (all_bits writer.new ≡ all_bits writer.old ++ word_of_mode (vertical_mode _b1 _a1)) }
+{
+    put_word(writer, below_word())
+}
+
 /// Writes the vertical mode from b1 to a1, if that is at most three positions from it; returns whether it is.
 #[inline(always)]
 fn put_vertical(writer: &mut BitWriter, b1: u32, a1: u32) -> Result<bool, AllocError>
@@ -106,10 +127,6 @@ fn put_vertical(writer: &mut BitWriter, b1: u32, a1: u32) -> Result<bool, AllocE
     ensures written { IfOk result (λ is_written. all_bits writer.new ≡ all_bits writer.old
         ++ (if is_written then word_of_mode (vertical_mode b1 a1) else [])) }
 {
-    if a1 == b1 {
-        put_word(writer, below_word())?;
-        return Ok(true);
-    }
     if let Some(word) = vertical_word(b1, a1) {
         put_word(writer, word)?;
         return Ok(true);
@@ -157,11 +174,19 @@ fn put_mode(
 {
     let a1 = change_or_end(changes, at.next, columns);
     let above = find_above(columns, reference, at);
+    let next = at.next + 1;
+    if a1 == above.b1 {
+        put_below(writer, above.b1, a1)?;
+        return Ok(Coding {
+            from: u64::from(a1) + 1,
+            next,
+            above: above.index + 1,
+        });
+    }
     if let Some(b2) = b2_left_of(columns, reference, above.index, above.b1, a1) {
         put_word(writer, pass_word())?;
         return Ok(Coding {
             from: u64::from(b2) + 1,
-            color: at.color,
             next: at.next,
             above: above.index + 2,
         });
@@ -170,21 +195,19 @@ fn put_mode(
     if is_vertical {
         return Ok(Coding {
             from: u64::from(a1) + 1,
-            color: at.color.opposite(),
-            next: at.next + 1,
+            next,
             above: above_after_vertical(columns, reference, at, above, a1),
         });
     }
-    let a2 = change_or_end(changes, at.next + 1, columns);
+    let a2 = change_or_end(changes, next, columns);
     put_horizontal(
         writer,
-        at.color,
+        color_after(at.next),
         a1 - at.from.saturating_sub(1) as u32,
         a2 - a1,
     )?;
     Ok(Coding {
         from: u64::from(a2) + 1,
-        color: at.color,
         next: at.next + 2,
         above: above.index,
     })
@@ -204,7 +227,6 @@ pub fn put_line(
 {
     let mut at = Coding {
         from: 0,
-        color: Color::White,
         next: 0,
         above: 0,
     };
