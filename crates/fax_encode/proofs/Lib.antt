@@ -20,6 +20,7 @@ pub mod RunLengths
 pub mod RunsWritten
 pub mod ScannedRows
 pub mod ScannedWords
+pub mod StepsToB1
 pub mod StoredWords
 pub mod TurnedBits
 pub mod WordTables

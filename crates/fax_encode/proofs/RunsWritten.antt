@@ -7,7 +7,9 @@ use Rattle.hayro_ccitt.proofs.BitReading.BitLists.{drop_some}
 use Rattle.hayro_ccitt.proofs.PixelRows.ChangesAndPixels.{AscendFrom-wider}
 use Rattle.hayro_ccitt.specs.Rows.{opposite, AscendFrom}
 use Rattle.hayro_ccitt.specs.declared.codes.Color.{Color}
-use Rattle.hayro_ccitt.specs.Bits.{Bits}
+use Rattle.hayro_ccitt.specs.Bits.{Bits, low_bits}
+use Rattle.fax_encode.specs.declared.words.Word.{Word}
+use Rattle.fax_encode.specs.Writing.{IsWord}
 use Rattle.fax_encode.specs.Chosen.{word_of_length, chosen_rest, chosen_run, chosen_runs}
 
 -- a few pixels are a terminating word
@@ -40,6 +42,10 @@ run_rest color n lt =
     let all : n % 2560 ≡ n = omega arith in
     ap (λ (k : ℕ). flat_map (λ word. word) (replicate k (word_of_length color 2560)) ++ chosen_rest color (n % 2560)) none ∙ ap (chosen_rest color) all
 
+-- a short run is one word
+pub short_run : (color : Color) (n : ℕ) (word : Word) → n < 64 → IsWord (word_of_length color n) word → low_bits word.count word.bits ≡ chosen_run color n
+short_run color n word lt is = is.spells ∙ sym (run_rest color n (omega arith) ∙ rest_few color n lt)
+
 -- what was written, and what is left to write, with one part more
 pub one_part : (old now rest part left whole : Bits) → now ++ rest ≡ whole → rest ≡ part ++ left → old ≡ now ++ part → old ++ left ≡ whole
 one_part old now rest part left whole e split more =
@@ -67,3 +73,16 @@ module _ (columns place i : ℕ) (color : Color) (changes : List ℕ) (lt : i < 
   pub next_run : chosen_runs columns color place (drop i changes)
       ≡ chosen_run color (get_or changes i 0 - place) ++ chosen_runs columns (opposite color) (get_or changes i 0) (drop (i + 1) changes)
   next_run = ap (chosen_runs columns color place) next_is
+
+-- and the one after it
+pub two_runs : (columns place i : ℕ) (color : Color) (changes : List ℕ) → i < length changes → i + 1 < length changes → AscendFrom place columns (drop i changes)
+    → chosen_runs columns color place (drop i changes)
+    ≡ (chosen_run color (get_or changes i 0 - place) ++ chosen_run (opposite color) (get_or changes (i + 1) 0 - get_or changes i 0))
+    ++ chosen_runs columns (opposite (opposite color)) (get_or changes (i + 1) 0) (drop (i + 1 + 1) changes)
+two_runs columns place i color changes first second ascend =
+    let one : Bits = chosen_run color (get_or changes i 0 - place) in
+    let two : Bits = chosen_run (opposite color) (get_or changes (i + 1) 0 - get_or changes i 0) in
+    let rest : Bits = chosen_runs columns (opposite (opposite color)) (get_or changes (i + 1) 0) (drop (i + 1 + 1) changes) in
+    next_run columns place i color changes first ascend
+    ∙ ap (λ (b : Bits). one ++ b) (next_run columns (get_or changes i 0) (i + 1) (opposite color) changes second (next_ascends columns place i color changes first ascend))
+    ∙ sym (append_assoc one two rest)

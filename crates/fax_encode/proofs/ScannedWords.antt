@@ -4,11 +4,12 @@ use mathlib.Core.Bool.{beq}
 use lib.Count.{count_leading_zeros}
 use Rattle.std.specs.List.{range_with_len}
 use Rattle.std.specs.Int.{bit_at, from_be_bytes, w64}
+use Rattle.std.specs.Int.Bits.{xor_zero_r}
 use Rattle.std.specs.Int.RustNames.{bit_or, bit_xor}
 use Rattle.std.proofs.lemmas.Bool.{cases_lt}
 use Rattle.std.proofs.lemmas.List.{get_or_past}
 use Rattle.std.proofs.lemmas.List.FromFn.{get_or-map-range_with_len}
-use Rattle.std.proofs.lemmas.Nat.{be_bytes_8, or_shifted, leading_top, leading_length, one_shl}
+use Rattle.std.proofs.lemmas.Nat.{be_bytes_8, or_shifted, xor_block, leading_top, leading_length, one_shl}
 use Rattle.std.proofs.lemmas.Nat.Bits.{bit_at_xor, bit_at-lt, bit_at-suc, bit_at_above, bit_at_cat_low, bit_at_cat_high}
 use Rattle.std.proofs.Math.Nat.{pow-suc}
 use Rattle.hayro_ccitt.specs.Bits.{Bits, bit_of, bits_of, low_bits}
@@ -17,7 +18,7 @@ use Rattle.hayro_ccitt.proofs.BitReading.ZerosPassed.{one_times, some_number}
 use Rattle.hayro_ccitt.proofs.PixelRows.RowChanges.{changes_from}
 use Rattle.fax_encode.specs.Scanning.{differences, ones_from}
 use Rattle.fax_encode.proofs.PaintedWords.{bits_of_word}
-use Rattle.fax_encode.proofs.WrittenBits.{low_bits_below}
+use Rattle.fax_encode.proofs.WrittenBits.{low_bits_below, power_positive}
 
 -- ---- the word of eight bytes
 -- the first eight bytes, and zeros past the end
@@ -173,6 +174,32 @@ module _ (word ahead count : ℕ) (small : word < 2 ^ 64) (is : ahead ≡ count_
       let at : 63 - ahead ≡ top.0 = omega (arith, top.1) in
       let one : 1 * 2 ^ (63 - ahead) % 2 ^ 64 ≡ 2 ^ top.0 = ap (λ (n : ℕ). 1 * 2 ^ n % 2 ^ 64) at ∙ one_shl top.0 64 (omega (arith, top.1)) in
       omega (arith, one, top.2)
+
+  -- and which is turned
+  pub one_turned : ahead < 64 → bit_xor word (1 * 2 ^ (63 - ahead) % 2 ^ 64) ≡ word - 1 * 2 ^ (63 - ahead) % 2 ^ 64
+  one_turned lt =
+      let top = leading_top 64 word (some_number 64 word small (omega (arith, is))) small in
+      let j : ℕ = top.0 in
+      let at : 63 - ahead ≡ j = omega (arith, top.1) in
+      let one : 1 * 2 ^ (63 - ahead) % 2 ^ 64 ≡ 2 ^ j = ap (λ (n : ℕ). 1 * 2 ^ n % 2 ^ 64) at ∙ one_shl j 64 (omega (arith, top.1)) in
+      let twice : 2 ^ suc j ≡ 2 ^ j * 2 = pow-suc 2 j in
+      let rest : ℕ = word - 2 ^ j in
+      let low : rest < 2 ^ j = omega (arith, top.2, top.3, twice) in
+      let whole : word ≡ 1 * 2 ^ j + rest = omega (arith, top.2) in
+      let alone : 2 ^ j ≡ 1 * 2 ^ j + 0 = omega arith in
+      let none : 0 < 2 ^ j = power_positive j in
+      let both : bit_xor 1 1 ≡ 0 = refl in
+      let left : bit_xor 1 1 * 2 ^ j + bit_xor rest 0 ≡ rest = omega (arith, ap (λ (n : ℕ). n * 2 ^ j) both, xor_zero_r rest) in
+      ap (bit_xor word) one ∙ ap (λ (n : ℕ). bit_xor word n) alone ∙ ap (λ (n : ℕ). bit_xor n (1 * 2 ^ j + 0)) whole
+      ∙ xor_block j 1 1 rest 0 low none ∙ left ∙ ap (λ (n : ℕ). word - n) (sym one)
+
+  pub one_less : ahead < 64 → bit_xor word (1 * 2 ^ (63 - ahead) % 2 ^ 64) < word
+  one_less lt =
+      let top = leading_top 64 word (some_number 64 word small (omega (arith, is))) small in
+      let j : ℕ = top.0 in
+      let at : 63 - ahead ≡ j = omega (arith, top.1) in
+      let one : 1 * 2 ^ (63 - ahead) % 2 ^ 64 ≡ 2 ^ j = ap (λ (n : ℕ). 1 * 2 ^ n % 2 ^ 64) at ∙ one_shl j 64 (omega (arith, top.1)) in
+      omega (arith, one_turned lt, one, power_positive j, top.2)
 
 -- ---- changes
 -- the changes of a row are the ones among its differences

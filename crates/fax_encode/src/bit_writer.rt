@@ -1,6 +1,7 @@
 //! Bits written one after another into bytes, each byte's highest bit first.
 
 ghost use Rattle.std.specs.Prelude.{◌≡◌, ◌+◌, ◌-◌, ◌*◌, ◌%◌, ◌^◌, ◌<◌, ◌≤◌, ◌++◌, [], OnOk, IfOk, length, take};
+ghost use Rattle.std.specs.Int.{to_be_bytes, w64};
 ghost use Rattle.hayro_ccitt.specs.Bits.{bits_of, low_bits};
 ghost use Rattle.fax_encode.specs.Writing.{all_bits};
 ghost use Rattle.fax_encode.specs.Chosen.{filled_up};
@@ -65,6 +66,15 @@ fn push_whole_bytes(bytes: &mut Vec<u8>, bits: u64, count: u32) -> Result<u32, A
     Ok(left)
 }
 
+/// Stores a word as eight bytes, the highest first.
+#[inline(never)]
+fn store_word(bytes: &mut Vec<u8>, word: u64) -> Result<(), AllocError>
+    ensures stored { OnOk result (bytes.new.items ≡ bytes.old.items ++ to_be_bytes w64 word) }
+    ensures whole { length bytes.old.items % 8 ≡ 0 → length bytes.new.items % 8 ≡ 0 }
+{
+    bytes.extend_from_slice(&word.to_be_bytes())
+}
+
 impl BitWriter {
     /// Creates a writer that has written nothing. It allocates nothing.
     pub fn new(alloc: Global) -> BitWriter
@@ -102,9 +112,9 @@ impl BitWriter {
     {
         let over = count - self.room;
         let full = self.pending << self.room | u64::from(word >> over);
-        self.bytes.extend_from_slice(&full.to_be_bytes())?;
         self.pending = u64::from(word);
         self.room = 64 - over;
+        store_word(&mut self.bytes, full)?;
         Ok(())
     }
 

@@ -49,6 +49,31 @@ fn turns(before: u64, word: u64) -> u64
     word ^ (before << 63 | word >> 1)
 }
 
+/// Appends the positions of the ones among the first bits of a word, counted from a first position on. The list grows where
+/// it is full.
+#[inline(never)]
+fn push_ones_growing(
+    list: &mut Vec<u32>,
+    first: u32,
+    count: u32,
+    word: u64,
+) -> Result<(), AllocError>
+    requires few { count ≤ 64 }
+    requires within { first + count < 2 ^ 32 }
+    ensures { OnOk result (list.new.items ≡ list.old.items ++ ones_from first (take count (low_bits 64 word))) }
+{
+    let mut ones = word;
+    while ones != 0 {
+        let ahead = ones.leading_zeros();
+        if ahead >= count {
+            return Ok(());
+        }
+        list.push(first + ahead)?;
+        ones -= 1 << (63 - ahead);
+    }
+    Ok(())
+}
+
 /// Appends the positions of the ones among the first bits of a word, counted from a first position on.
 #[inline(always)]
 fn push_ones(list: &mut Vec<u32>, first: u32, count: u32, word: u64) -> Result<(), AllocError>
@@ -62,8 +87,11 @@ fn push_ones(list: &mut Vec<u32>, first: u32, count: u32, word: u64) -> Result<(
         if ahead >= count {
             return Ok(());
         }
-        list.push(first + ahead)?;
-        ones -= 1 << (63 - ahead);
+        if list.len() >= list.capacity() {
+            return push_ones_growing(list, first, count, ones);
+        }
+        list.push_reserved(first + ahead);
+        ones ^= 1 << (63 - ahead);
     }
     Ok(())
 }
@@ -86,10 +114,9 @@ fn two_are_plain(bytes: &[u8], is_black: bool) -> bool
     requires { 16 ≤ length bytes.now }
     ensures { IsTrue result → bits_of (take 16 bytes.now) ≡ replicate 128 is_black }
 {
-    if whole_word(bytes) != plain_word(is_black) {
-        return false;
-    }
-    whole_word(&bytes[8..]) == plain_word(is_black)
+    let first = whole_word(bytes) == plain_word(is_black);
+    let second = whole_word(&bytes[8..]) == plain_word(is_black);
+    first & second
 }
 
 /// Returns whether the first four words of pixels have this colour only.
@@ -98,13 +125,20 @@ fn four_are_plain(bytes: &[u8], is_black: bool) -> bool
     requires { 32 ≤ length bytes.now }
     ensures { IsTrue result → bits_of (take 32 bytes.now) ≡ replicate 256 is_black }
 {
-    if !two_are_plain(bytes, is_black) {
-        return false;
-    }
-    two_are_plain(&bytes[16..], is_black)
+    two_are_plain(bytes, is_black) & two_are_plain(&bytes[16..], is_black)
 }
 
-/// Returns how many words of pixels at the start have this colour only, up to a maximum; four at a time, and then one by one.
+/// Returns whether the first eight words of pixels have this colour only. All are looked at, by one test.
+#[inline(always)]
+fn eight_are_plain(bytes: &[u8], is_black: bool) -> bool
+    requires { 64 ≤ length bytes.now }
+    ensures { IsTrue result → bits_of (take 64 bytes.now) ≡ replicate 512 is_black }
+{
+    four_are_plain(bytes, is_black) & four_are_plain(&bytes[32..], is_black)
+}
+
+/// Returns how many words of pixels at the start have this colour only, up to a maximum; eight at a time, then four, and then one by
+/// one.
 #[inline(always)]
 fn count_plain(bytes: &[u8], most: usize, is_black: bool) -> usize
     requires { 8 * most ≤ length bytes.now }
@@ -112,6 +146,9 @@ fn count_plain(bytes: &[u8], most: usize, is_black: bool) -> usize
     ensures plain { bits_of (take (8 * result) bytes.now) ≡ replicate (64 * result) is_black }
 {
     let mut count = 0;
+    'eights: while most - count >= 8 && eight_are_plain(&bytes[8 * count..], is_black) {
+        count += 8;
+    }
     'fours: while most - count >= 4 && four_are_plain(&bytes[8 * count..], is_black) {
         count += 4;
     }

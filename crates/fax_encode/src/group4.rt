@@ -1,68 +1,94 @@
 //! Group 4 (T.6): two-dimensional lines (T.4, section 4.2).
 
-ghost use Rattle.std.specs.Prelude.{◌≡◌, ◌+◌, ◌<◌, ◌≤◌, ◌++◌, [], length, get_or, IfOk, OnOk, MatchOption, if◌then◌else◌};
+ghost use Rattle.std.specs.Prelude.{◌≡◌, ◌+◌, ◌<◌, ◌≤◌, ◌++◌, [], length, get_or, IfOk, OnOk, MatchOption, if◌then◌else◌, true, false};
 ghost use Rattle.hayro_ccitt.specs.declared.codes.Mode.TheVariants.{Horizontal};
 ghost use Rattle.hayro_ccitt.specs.Rows.{AreChanges, pixels, opposite, b1, b2};
 ghost use Rattle.hayro_ccitt.specs.Encodings.{padding};
-ghost use Rattle.fax_encode.specs.Chosen.{bits_at, place_after, chosen_mode, chosen_run, word_of_mode, chosen_line_2d};
-ghost use Rattle.fax_encode.specs.Coding.{AreLeft, AreAllLeft, place_of};
+ghost use Rattle.fax_encode.specs.Chosen.{bits_at, place_after, chosen_mode, chosen_run, word_of_mode, chosen_line_2d, is_near, vertical_mode};
+ghost use Rattle.fax_encode.specs.Coding.{AreAllLeft, place_of, IsNear, color_after};
+
+
 ghost use Rattle.fax_encode.specs.Writing.{all_bits};
 
 use crate::bit_writer::BitWriter;
-use crate::runs::{put_run, put_word};
-use crate::words::{horizontal_word, pass_word, vertical_word};
+use crate::runs::{put_runs, put_word};
+use crate::words::{below_word, horizontal_word, pass_word, vertical_word};
 use hayro_ccitt::changes::change_or_end;
 use hayro_ccitt::codes::Color;
 use std::alloc::AllocError;
 
-/// How far a line is coded: the first position right of a0, the present colour, how many changes of the row are left of
-/// that position, and how many of the reference row are known to be.
+/// How far a line is coded: the first position right of a0, how many changes of the row are left of that position, and an
+/// index among the changes of the reference row from which b1 is found. The number of changes determines the present colour.
 #[derive(Clone, Copy)]
 struct Coding {
     from: u64,
-    color: Color,
     next: usize,
-    passed: usize,
+    above: usize,
 }
 
-/// Where b1 is among the changes of a reference row: its index, and how many changes are left of the position right of a0.
-/// b2 is the next change.
+/// Returns the colour after a number of changes.
+#[inline(always)]
+fn color_after(changes: usize) -> Color
+    ensures { result ≡ color_after changes }
+{
+    if changes.is_multiple_of(2) {
+        Color::White
+    } else {
+        Color::Black
+    }
+}
+
+/// Where b1 is among the changes of a reference row: its index, and its position. b2 is the next change.
 #[derive(Clone, Copy)]
 struct Above {
     index: usize,
-    left: usize,
+    b1: u32,
 }
 
-/// Returns how many changes are left of a position, of which `known` are known to be.
+/// Finds b1 of a reference row (T.4, section 4.2.1.1), in steps of two changes.
 #[inline(always)]
-fn count_left(changes: &[u32], known: usize, from: u64) -> usize
-    requires { AreLeft changes.now from known }
-    ensures { AreAllLeft changes.now from result }
-{
-    let mut left = known;
-    while left < changes.len() && u64::from(changes[left]) < from {
-        left += 1;
-    }
-    left
-}
-
-/// Finds b1 of a reference row (T.4, section 4.2.1.1).
-#[inline(always)]
-fn find_above(columns: u32, reference: &[u32], from: u64, color: Color, known: usize) -> Above
+fn find_above(columns: u32, reference: &[u32], at: Coding) -> Above
     requires lawful { AreChanges columns reference.now }
-    requires known { AreLeft reference.now from known }
-    ensures b1 { b1 (pixels columns reference.now) from color ≡ get_or reference.now result.index columns }
-    ensures b2 { b2 (pixels columns reference.now) from color ≡ get_or reference.now (result.index + 1) columns }
-    ensures left { AreAllLeft reference.now from result.left }
+    requires inside { at.from ≤ columns }
+    requires near { IsNear columns reference.now (place_of at) at.above }
+    ensures b1 { b1 (pixels columns reference.now) at.from (color_after at.next) ≡ result.b1 }
+    ensures b2 { b2 (pixels columns reference.now) at.from (color_after at.next) ≡ get_or reference.now (result.index + 1) columns }
+    ensures first { result.b1 ≡ get_or reference.now result.index columns }
+    ensures near { IsNear columns reference.now (place_of at) result.index }
     ensures within { result.index ≤ length reference.now + 1 }
 {
-    let left = count_left(reference, known, from);
-    let mut index = left;
-    // A change with an even index turns to black.
-    if left.is_multiple_of(2) != color.is_white() {
-        index += 1;
+    let mut index = at.above;
+    let mut b1 = change_or_end(reference, index, columns);
+    'twos: while u64::from(b1) < at.from {
+        index += 2;
+        b1 = change_or_end(reference, index, columns);
     }
-    Above { index, left }
+    Above { index, b1 }
+}
+
+/// Returns an index from which b1 is found after a vertical mode that ends at a1.
+#[inline(always)]
+fn above_after_vertical(
+    columns: u32,
+    reference: &[u32],
+    _at: Coding,
+    above: Above,
+    a1: u32,
+) -> usize
+    requires lawful { AreChanges columns reference.now }
+    requires right { _at.from ≤ a1 }
+    requires first { above.b1 ≡ get_or reference.now above.index columns }
+    requires near { IsNear columns reference.now (place_of _at) above.index }
+    requires within { above.index ≤ length reference.now + 1 }
+    ensures { IsNear columns reference.now (record { from = a1 + 1; color = opposite (color_after _at.next) }) result }
+{
+    if above.b1 <= a1 {
+        return above.index + 1;
+    }
+    if above.index == 0 {
+        return 1;
+    }
+    above.index - 1
 }
 
 /// Returns b2, the change after b1, if it is left of a1.
@@ -81,6 +107,30 @@ fn b2_left_of(columns: u32, reference: &[u32], index: usize, b1: u32, a1: u32) -
     if b2 < a1 { Some(b2) } else { None }
 }
 
+/// Writes the vertical mode V0, of a1 below b1.
+#[inline(always)]
+fn put_below(writer: &mut BitWriter, _b1: u32, _a1: u32) -> Result<(), AllocError>
+    requires { _a1 ≡ _b1 }
+    ensures near { is_near _b1 _a1 ≡ true }
+    ensures written { OnOk result (all_bits writer.new ≡ all_bits writer.old ++ word_of_mode (vertical_mode _b1 _a1)) }
+{
+    put_word(writer, below_word())
+}
+
+/// Writes the vertical mode from b1 to a1, if that is at most three positions from it; returns whether it is.
+#[inline(always)]
+fn put_vertical(writer: &mut BitWriter, b1: u32, a1: u32) -> Result<bool, AllocError>
+    ensures near { IfOk result (λ is_written. is_written ≡ is_near b1 a1) }
+    ensures written { IfOk result (λ is_written. all_bits writer.new ≡ all_bits writer.old
+        ++ (if is_written then word_of_mode (vertical_mode b1 a1) else [])) }
+{
+    if let Some(word) = vertical_word(b1, a1) {
+        put_word(writer, word)?;
+        return Ok(true);
+    }
+    Ok(false)
+}
+
 /// Writes horizontal mode and its two runs, the first of this colour (T.4, section 4.2.1.3.1).
 #[inline(never)]
 fn put_horizontal(
@@ -93,13 +143,11 @@ fn put_horizontal(
         ++ (word_of_mode Horizontal ++ (chosen_run color first ++ chosen_run (opposite color) second))) }
 {
     put_word(writer, horizontal_word())?;
-    put_run(writer, color, first)?;
-    put_run(writer, color.opposite(), second)
+    put_runs(writer, color, first, second)
 }
 
 /// Writes one mode: pass if b2 is left of a1; else vertical if a1 is at most three positions from b1; else horizontal (T.4,
-/// section 4.2.1.3.2). Afterwards all changes of the row that are left of the new position are counted, and all of the
-/// reference row that are left of the old one.
+/// section 4.2.1.3.2). Afterwards all changes of the row that are left of the new position are counted.
 #[inline(always)]
 fn put_mode(
     writer: &mut BitWriter,
@@ -111,49 +159,54 @@ fn put_mode(
     requires reference { AreChanges columns reference.now }
     requires changes { AreChanges columns changes.now }
     requires inside { at.from ≤ columns }
-    requires passed { AreLeft reference.now at.from at.passed }
+    requires near { IsNear columns reference.now (place_of at) at.above }
     requires next { AreAllLeft changes.now at.from at.next }
     ensures written { OnOk result (all_bits writer.new ≡ all_bits writer.old
         ++ bits_at (pixels columns reference.now) (pixels columns changes.now) (place_of at)) }
     ensures place { IfOk result (λ after. place_of after
         ≡ place_after (pixels columns reference.now) (pixels columns changes.now) (place_of at)
         (chosen_mode (pixels columns reference.now) (pixels columns changes.now) (place_of at))) }
-    ensures passed { IfOk result (λ after. AreAllLeft reference.now at.from after.passed) }
+    ensures near { IfOk result (λ after. IsNear columns reference.now (place_of after) after.above) }
     ensures next { IfOk result (λ after. after.from ≤ columns → AreAllLeft changes.now after.from after.next) }
 {
     let a1 = change_or_end(changes, at.next, columns);
-    let above = find_above(columns, reference, at.from, at.color, at.passed);
-    let b1 = change_or_end(reference, above.index, columns);
-    if let Some(b2) = b2_left_of(columns, reference, above.index, b1, a1) {
+    let above = find_above(columns, reference, at);
+    let next = at.next + 1;
+    if a1 == above.b1 {
+        put_below(writer, above.b1, a1)?;
+        return Ok(Coding {
+            from: u64::from(a1) + 1,
+            next,
+            above: above.index + 1,
+        });
+    }
+    if let Some(b2) = b2_left_of(columns, reference, above.index, above.b1, a1) {
         put_word(writer, pass_word())?;
         return Ok(Coding {
             from: u64::from(b2) + 1,
-            color: at.color,
             next: at.next,
-            passed: above.left,
+            above: above.index + 2,
         });
     }
-    if let Some(word) = vertical_word(b1, a1) {
-        put_word(writer, word)?;
+    let is_vertical = put_vertical(writer, above.b1, a1)?;
+    if is_vertical {
         return Ok(Coding {
             from: u64::from(a1) + 1,
-            color: at.color.opposite(),
-            next: at.next + 1,
-            passed: above.left,
+            next,
+            above: above_after_vertical(columns, reference, at, above, a1),
         });
     }
-    let a2 = change_or_end(changes, at.next + 1, columns);
+    let a2 = change_or_end(changes, next, columns);
     put_horizontal(
         writer,
-        at.color,
+        color_after(at.next),
         a1 - at.from.saturating_sub(1) as u32,
         a2 - a1,
     )?;
     Ok(Coding {
         from: u64::from(a2) + 1,
-        color: at.color,
         next: at.next + 2,
-        passed: above.left,
+        above: above.index,
     })
 }
 
@@ -171,9 +224,8 @@ pub fn put_line(
 {
     let mut at = Coding {
         from: 0,
-        color: Color::White,
         next: 0,
-        passed: 0,
+        above: 0,
     };
     'modes: while at.from <= u64::from(columns) {
         at = put_mode(writer, columns, reference, changes, at)?;

@@ -2,7 +2,7 @@
 
 ghost use Rattle.std.specs.Prelude.{◌≡◌, ◌^◌, ◌<◌, ◌≤◌, ◌++◌, OnOk, length, nat_le};
 ghost use Rattle.hayro_ccitt.specs.Bits.{low_bits};
-ghost use Rattle.hayro_ccitt.specs.Rows.{AreChanges};
+ghost use Rattle.hayro_ccitt.specs.Rows.{AreChanges, opposite};
 ghost use Rattle.fax_encode.specs.Chosen.{chosen_rest, chosen_run, chosen_runs};
 ghost use Rattle.fax_encode.specs.Writing.{all_bits};
 
@@ -34,6 +34,7 @@ fn put_two_words(writer: &mut BitWriter, first: Word, second: Word) -> Result<()
 }
 
 /// Writes the words of less than 2560 pixels: a make-up word if there are 64 or more, and a terminating word.
+#[inline(always)]
 fn put_rest(writer: &mut BitWriter, color: Color, pixels: u32) -> Result<(), AllocError>
     requires { pixels < 2560 }
     ensures { OnOk result (all_bits writer.new ≡ all_bits writer.old ++ chosen_rest color pixels) }
@@ -72,8 +73,54 @@ pub fn put_run(writer: &mut BitWriter, color: Color, pixels: u32) -> Result<(), 
     put_word(writer, terminating_word(color, pixels))
 }
 
+/// Writes the words of a run, and those of a run of the other colour after it.
+#[inline(always)]
+pub fn put_runs(
+    writer: &mut BitWriter,
+    color: Color,
+    first: u32,
+    second: u32,
+) -> Result<(), AllocError>
+    ensures { OnOk result (all_bits writer.new
+        ≡ all_bits writer.old ++ (chosen_run color first ++ chosen_run (opposite color) second)) }
+{
+    if first < 64 && second < 64 {
+        return put_two_words(
+            writer,
+            terminating_word(color, first),
+            terminating_word(color.opposite(), second),
+        );
+    }
+    put_run(writer, color, first)?;
+    put_run(writer, color.opposite(), second)
+}
+
+/// Writes the words of a white row.
+#[inline(never)]
+fn put_white_row(writer: &mut BitWriter, columns: u32) -> Result<(), AllocError>
+    ensures { OnOk result (all_bits writer.new ≡ all_bits writer.old ++ chosen_run Color.White columns) }
+{
+    if columns >= 2560 {
+        return put_long_run(writer, Color::White, columns);
+    }
+    put_rest(writer, Color::White, columns)
+}
+
 /// Writes the runs of a row, white first, up to each change and up to the row's end.
+#[inline(always)]
 pub fn put_row(writer: &mut BitWriter, columns: u32, changes: &[u32]) -> Result<(), AllocError>
+    requires { AreChanges columns changes.now }
+    ensures { OnOk result (all_bits writer.new ≡ all_bits writer.old ++ chosen_runs columns Color.White 0 changes.now) }
+{
+    if changes.is_empty() {
+        return put_white_row(writer, columns);
+    }
+    put_changes(writer, columns, changes)
+}
+
+/// Writes the runs of a row, white first, in pairs.
+#[inline(never)]
+fn put_changes(writer: &mut BitWriter, columns: u32, changes: &[u32]) -> Result<(), AllocError>
     requires { AreChanges columns changes.now }
     ensures { OnOk result (all_bits writer.new ≡ all_bits writer.old ++ chosen_runs columns Color.White 0 changes.now) }
 {
@@ -82,8 +129,7 @@ pub fn put_row(writer: &mut BitWriter, columns: u32, changes: &[u32]) -> Result<
     while changes.len() - next >= 2 {
         let black = changes[next];
         let white = changes[next + 1];
-        put_run(writer, Color::White, black - place)?;
-        put_run(writer, Color::Black, white - black)?;
+        put_runs(writer, Color::White, black - place, white - black)?;
         place = white;
         next += 2;
     }
@@ -91,8 +137,7 @@ pub fn put_row(writer: &mut BitWriter, columns: u32, changes: &[u32]) -> Result<
         return put_run(writer, Color::White, columns - place);
     }
     let black = changes[next];
-    put_run(writer, Color::White, black - place)?;
-    put_run(writer, Color::Black, columns - black)
+    put_runs(writer, Color::White, black - place, columns - black)
 }
 
 /// Returns the number of bits of the code words of a run.

@@ -1,8 +1,8 @@
 //! The code words of runs and of modes, as numbers with a number of bits.
 
-ghost use Rattle.std.specs.Prelude.{◌≡◌, ◌-◌, ◌*◌, ◌^◌, ◌<◌, ◌≤◌, MatchOption, true, false, length, get_or};
+ghost use Rattle.std.specs.Prelude.{◌≡◌, ◌-◌, ◌*◌, ◌^◌, ◌<◌, ◌≤◌, MatchOption, true, false, pos, length, get_or};
 ghost use Rattle.hayro_ccitt.specs.Bits.{low_bits};
-ghost use Rattle.hayro_ccitt.specs.declared.codes.Mode.TheVariants.{Pass, Horizontal};
+ghost use Rattle.hayro_ccitt.specs.declared.codes.Mode.TheVariants.{Pass, Horizontal, Vertical};
 ghost use Rattle.fax_encode.specs.Chosen.{word_of_length, word_of_mode, vertical_mode, is_near};
 ghost use Rattle.fax_encode.specs.Writing.{IsWord};
 
@@ -42,6 +42,7 @@ pub fn terminating_word(color: Color, pixels: u32) -> Word
 }
 
 /// Returns the make-up word of a colour for a multiple of 64 pixels (T.4, table 3).
+#[inline(always)]
 pub fn makeup_word(color: Color, times: u32) -> Word
     requires some { 0 < times }
     requires few { times ≤ 40 }
@@ -73,6 +74,17 @@ pub fn horizontal_word() -> Word
     Word {
         count: 3,
         bits: 0b001,
+    }
+}
+
+/// Returns the code word of the vertical mode V0, of a1 below b1.
+#[inline(always)]
+pub fn below_word() -> Word
+    ensures { IsWord (word_of_mode (Vertical (pos 0))) result }
+{
+    Word {
+        count: 1,
+        bits: 0b1,
     }
 }
 

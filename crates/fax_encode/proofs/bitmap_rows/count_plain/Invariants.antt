@@ -2,6 +2,15 @@ use Rattle.std.proofs.Common.{◌≡◌, ◌*◌, ◌-◌, ◌≤◌, take, repl
 use Rattle.hayro_ccitt.specs.Bits.{bits_of}
 use Rattle.fax_encode.proofs.bitmap_rows.count_plain.Given as goal
 
+abbrev pub invariant-eights : goal.invariant-eights
+invariant-eights l = record {
+  within : l.count ≤ l.most;
+  same : bits_of (take (8 * l.count) l.bytes) ≡ replicate (64 * l.count) l.is_black;
+}
+
+abbrev pub decreases-eights : goal.decreases-eights
+decreases-eights l = l.most - l.count
+
 abbrev pub invariant-fours : goal.invariant-fours
 invariant-fours l = record {
   within : l.count ≤ l.most;

@@ -1,30 +1,24 @@
-use Rattle.std.proofs.Common.{◌+◌}
-use Rattle.hayro_ccitt.proofs.PixelRows.ReferencePlaces.{b1_first, b1_second, b2_after_b1}
-use Rattle.fax_encode.proofs.Elements.{split_of}
+use Rattle.std.proofs.Common.{◌+◌, ◌<◌, ◌≤◌, ℕ, get_or, sym, ◌∙◌, arith}
+use Rattle.hayro_ccitt.proofs.PixelRows.ReferencePlaces.{b2_after_b1}
+use Rattle.fax_encode.specs.Coding.{color_after, place_of}
+use Rattle.fax_encode.proofs.StepsToB1.{b1_reached, near_up, near_within}
 use Rattle.fax_encode.proofs.group4.find_above.Goals as goal
 
-pub returns-then-is_multiple_of-is_white-clause-b1 : goal.returns-then-is_multiple_of-is_white-clause-b1
-returns-then-is_multiple_of-is_white-clause-b1 c =
-    let split = split_of c.args.reference.now c.args.from c.count_left-left.result c.count_left-left.ensures in
-    b1_second c.args.columns c.args.reference.now c.args.from c.count_left-left.result c.args.color c.is_multiple_of.result c.is_white.result c.requires.lawful split
-    c.is_multiple_of.ensures c.is_white.ensures c.if-is_multiple_of-is_white.true
+pub twos-preserved : goal.twos-preserved
+twos-preserved c = record {
+  near = near_up c.args.columns c.args.reference.now c.requires.lawful (place_of c.args.at) c.twos.index c.twos.invariant.near
+      (omega (arith, c.twos-test.true, c.from.ensures, c.twos.invariant.here));
+  here = c.change_or_end-b1-in-twos.ensures;
+}
 
-pub returns-else-is_multiple_of-is_white-clause-b1 : goal.returns-else-is_multiple_of-is_white-clause-b1
-returns-else-is_multiple_of-is_white-clause-b1 c =
-    let split = split_of c.args.reference.now c.args.from c.count_left-left.result c.count_left-left.ensures in
-    b1_first c.args.columns c.args.reference.now c.args.from c.count_left-left.result c.args.color c.is_multiple_of.result c.is_white.result c.requires.lawful split
-    c.is_multiple_of.ensures c.is_white.ensures c.if-is_multiple_of-is_white.false
+pub returns-clause-b1 : goal.returns-clause-b1
+returns-clause-b1 c = b1_reached c.args.columns c.args.reference.now c.requires.lawful (place_of c.args.at) c.twos.index c.twos.invariant.near c.requires.inside
+    (omega (arith, c.twos-test.false, c.from.ensures, c.twos.invariant.here)) ∙ sym c.twos.invariant.here
 
-pub returns-then-is_multiple_of-is_white-clause-b2 : goal.returns-then-is_multiple_of-is_white-clause-b2
-returns-then-is_multiple_of-is_white-clause-b2 c =
-    let split = split_of c.args.reference.now c.args.from c.count_left-left.result c.count_left-left.ensures in
-    b2_after_b1 c.args.columns c.args.reference.now c.args.from (c.count_left-left.result + 1) c.args.color c.requires.lawful
-    (b1_second c.args.columns c.args.reference.now c.args.from c.count_left-left.result c.args.color c.is_multiple_of.result c.is_white.result c.requires.lawful split
-    c.is_multiple_of.ensures c.is_white.ensures c.if-is_multiple_of-is_white.true)
+pub returns-clause-b2 : goal.returns-clause-b2
+returns-clause-b2 c = b2_after_b1 c.args.columns c.args.reference.now c.args.at.from c.twos.index (color_after c.args.at.next) c.requires.lawful
+    (b1_reached c.args.columns c.args.reference.now c.requires.lawful (place_of c.args.at) c.twos.index c.twos.invariant.near c.requires.inside
+    (omega (arith, c.twos-test.false, c.from.ensures, c.twos.invariant.here)))
 
-pub returns-else-is_multiple_of-is_white-clause-b2 : goal.returns-else-is_multiple_of-is_white-clause-b2
-returns-else-is_multiple_of-is_white-clause-b2 c =
-    let split = split_of c.args.reference.now c.args.from c.count_left-left.result c.count_left-left.ensures in
-    b2_after_b1 c.args.columns c.args.reference.now c.args.from c.count_left-left.result c.args.color c.requires.lawful
-    (b1_first c.args.columns c.args.reference.now c.args.from c.count_left-left.result c.args.color c.is_multiple_of.result c.is_white.result c.requires.lawful split
-    c.is_multiple_of.ensures c.is_white.ensures c.if-is_multiple_of-is_white.false)
+pub returns-clause-within : goal.returns-clause-within
+returns-clause-within c = near_within c.args.columns c.args.reference.now c.requires.lawful (place_of c.args.at) c.twos.index c.twos.invariant.near c.requires.inside

@@ -3,7 +3,6 @@ use Rattle.hayro_ccitt.specs.Rows.{pixels}
 use Rattle.fax_encode.specs.Chosen.{bits_at, chosen_from}
 use Rattle.fax_encode.specs.Coding.{place_of}
 use Rattle.fax_encode.specs.Writing.{all_bits}
-use Rattle.fax_encode.proofs.Elements.{AreLeft-right}
 use Rattle.fax_encode.proofs.ModesWritten.{step_right, step_bits, no_more}
 use Rattle.fax_encode.proofs.RunsWritten.{one_part}
 use Rattle.fax_encode.proofs.group4.put_line.Goals as goal
@@ -21,7 +20,7 @@ modes-preserved c =
     c.in_ok-at.ensures.place in
     record {
       within = right.1;
-      passed = AreLeft-right c.args.reference.now c.modes.at.from c.in_ok-at.at.from c.in_ok-at.at.passed (omega (arith, right.0)) c.in_ok-at.ensures.passed.left;
+      near = c.in_ok-at.ensures.near;
       next = c.in_ok-at.ensures.next;
       written = one_part (all_bits c.put_mode.new.writer) (all_bits c.modes.writer)
           (chosen_from (pixels c.args.columns c.args.reference.now) (pixels c.args.columns c.args.changes.now) (place_of c.modes.at))

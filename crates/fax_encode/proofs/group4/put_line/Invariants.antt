@@ -1,14 +1,14 @@
 use Rattle.std.proofs.Common.{◌≡◌, ◌+◌, ◌-◌, ◌≤◌, ◌++◌}
 use Rattle.hayro_ccitt.specs.Rows.{pixels}
 use Rattle.fax_encode.specs.Chosen.{chosen_from, chosen_line_2d}
-use Rattle.fax_encode.specs.Coding.{AreLeft, AreAllLeft, place_of}
+use Rattle.fax_encode.specs.Coding.{AreAllLeft, IsNear, place_of}
 use Rattle.fax_encode.specs.Writing.{all_bits}
 use Rattle.fax_encode.proofs.group4.put_line.Given as goal
 
 abbrev pub invariant-modes : goal.invariant-modes
 invariant-modes l = record {
   within : l.at.from ≤ l.columns + 1;
-  passed : AreLeft l.reference l.at.from l.at.passed;
+  near : IsNear l.columns l.reference (place_of l.at) l.at.above;
   next : l.at.from ≤ l.columns → AreAllLeft l.changes l.at.from l.at.next;
   written : all_bits l.writer ++ chosen_from (pixels l.columns l.reference) (pixels l.columns l.changes) (place_of l.at)
       ≡ all_bits l.fn.writer ++ chosen_line_2d (pixels l.columns l.reference) (pixels l.columns l.changes);

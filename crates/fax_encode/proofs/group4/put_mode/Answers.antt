@@ -1,13 +1,16 @@
-use Rattle.std.proofs.Common.{◌≡◌, ◌+◌, ◌-◌, ◌<◌, ◌≤◌, ◌++◌, ℕ, suc, true, false, length, get_or, refl, sym, ap, ◌∙◌, arith}
+use Rattle.std.proofs.Common.{◌≡◌, ◌+◌, ◌-◌, ◌<◌, ◌≤◌, ◌++◌, ℕ, suc, Bool, true, false, cond, [], length, get_or, refl, sym, ap, subst, ◌∙◌, arith}
 use Rattle.hayro_ccitt.specs.declared.codes.Color.{Color}
 use Rattle.hayro_ccitt.specs.declared.codes.Mode.TheVariants.{Horizontal}
 use Rattle.hayro_ccitt.specs.Bits.{Bits, low_bits}
 use Rattle.hayro_ccitt.specs.Rows.{Row, pixels, opposite, a1, a2, b1, b2}
 use Rattle.hayro_ccitt.proofs.PixelRows.ChangesAndPixels.{length-pixels}
 use Rattle.fax_encode.specs.Chosen.{Place, chosen_run, word_of_mode, vertical_mode}
-use Rattle.fax_encode.specs.Coding.{place_of}
+use Rattle.std.proofs.lemmas.List.{append-nil}
+use Rattle.fax_encode.specs.Coding.{IsNear, color_after, place_of}
+use Rattle.fax_encode.proofs.StepsToB1.{color_next, color_second, near_next, near_pass, near_right}
+use Rattle.hayro_ccitt.proofs.PixelRows.ChangePlaces.{a1_next}
 use Rattle.fax_encode.specs.Writing.{all_bits}
-use Rattle.fax_encode.proofs.Elements.{a1_found, a2_found, left_of_next, still_left}
+use Rattle.fax_encode.proofs.Elements.{a1_found, a2_found, next_is_right, left_of_next, still_left}
 use Rattle.fax_encode.proofs.ModesWritten.{pass_bits, vertical_bits, horizontal_bits, pass_place, vertical_place, horizontal_place, first_run, second_run, near_same, step_right}
 use Rattle.fax_encode.proofs.group4.put_mode.Goals.{After-find_above-above}
 use Rattle.fax_encode.proofs.group4.put_mode.Goals as goal
@@ -22,12 +25,16 @@ a1_is c = c.change_or_end-a1.ensures ∙ sym (a1_found c.args.columns c.args.cha
 a2_is : (c : After-find_above-above) → a2 (pixels c.args.columns c.args.changes.now) c.args.at.from ≡ get_or c.args.changes.now (c.args.at.next + 1) c.args.columns
 a2_is c = a2_found c.args.columns c.args.changes.now c.requires.changes c.args.at.from c.args.at.next c.requires.next
 
+-- it is right of a0
+a1_right : (c : After-find_above-above) → c.args.at.from ≤ c.change_or_end-a1.result
+a1_right c = omega (arith, a1_is c, (a1_next (pixels c.args.columns c.args.changes.now) c.args.at.from).above (inside c))
+
 pub returns-in-Some-clause-written : goal.returns-in-Some-clause-written
 returns-in-Some-clause-written c =
     let d = (goal.at.returns-in-Some-clause-written c).After-find_above-above in
     let reference : Row = pixels c.args.columns c.args.reference.now in
     let row : Row = pixels c.args.columns c.args.changes.now in
-    let left : b2 reference c.args.at.from c.args.at.color < a1 row c.args.at.from = omega (arith, c.in-Some.ensures.0, c.in-Some.ensures.1, c.find_above-above.ensures.b2, a1_is d) in
+    let left : b2 reference c.args.at.from (color_after c.args.at.next) < a1 row c.args.at.from = omega (arith, c.in-Some.ensures.0, c.in-Some.ensures.1, c.find_above-above.ensures.b2, a1_is d) in
     c.in_ok-put_word.ensures ∙ ap (λ (b : Bits). all_bits c.args.writer.now ++ b) (c.pass_word.ensures.spells ∙ sym (pass_bits reference row (place_of c.args.at) (inside d) left))
 
 pub returns-in-Some-clause-place : goal.returns-in-Some-clause-place
@@ -35,50 +42,120 @@ returns-in-Some-clause-place c =
     let d = (goal.at.returns-in-Some-clause-place c).After-find_above-above in
     let reference : Row = pixels c.args.columns c.args.reference.now in
     let row : Row = pixels c.args.columns c.args.changes.now in
-    let left : b2 reference c.args.at.from c.args.at.color < a1 row c.args.at.from = omega (arith, c.in-Some.ensures.0, c.in-Some.ensures.1, c.find_above-above.ensures.b2, a1_is d) in
-    let to : ℕ → Place = λ n. record { from = n; color = c.args.at.color } in
-    let from : c.from.result + 1 ≡ suc (b2 reference c.args.at.from c.args.at.color) = omega (arith, c.from.ensures, c.in-Some.ensures.0, c.find_above-above.ensures.b2) in
+    let left : b2 reference c.args.at.from (color_after c.args.at.next) < a1 row c.args.at.from = omega (arith, c.in-Some.ensures.0, c.in-Some.ensures.1, c.find_above-above.ensures.b2, a1_is d) in
+    let to : ℕ → Place = λ n. record { from = n; color = (color_after c.args.at.next) } in
+    let from : c.from-in-Some.result + 1 ≡ suc (b2 reference c.args.at.from (color_after c.args.at.next)) = omega (arith, c.from-in-Some.ensures, c.in-Some.ensures.0, c.find_above-above.ensures.b2) in
     ap to from ∙ sym (pass_place reference row (place_of c.args.at) (inside d) left)
+
+pub returns-in-Some-clause-near : goal.returns-in-Some-clause-near
+returns-in-Some-clause-near c = subst (λ (n : ℕ). IsNear c.args.columns c.args.reference.now (record { from = n + 1; color = (color_after c.args.at.next) }) (c.find_above-above.result.index + 2))
+    (sym c.from-in-Some.ensures)
+    (near_pass c.args.columns c.args.reference.now c.requires.reference (place_of c.args.at) c.find_above-above.result.index c.find_above-above.ensures.near c.in-Some.b2
+    c.in-Some.ensures.0)
 
 pub returns-in-Some-clause-next : goal.returns-in-Some-clause-next
 returns-in-Some-clause-next c = λ le.
     let right = step_right c.args.columns c.args.reference.now c.args.changes.now c.requires.reference c.requires.changes (place_of c.args.at) _ c.requires.inside
     (returns-in-Some-clause-place c) in
-    still_left c.args.columns c.args.changes.now c.args.at.from (c.from.result + 1) c.args.at.next (omega (arith, right.0)) c.requires.next
-    (omega (arith, c.from.ensures, c.in-Some.ensures.1, c.change_or_end-a1.ensures))
+    still_left c.args.columns c.args.changes.now c.args.at.from (c.from-in-Some.result + 1) c.args.at.next (omega (arith, right.0)) c.requires.next
+    (omega (arith, c.from-in-Some.ensures, c.in-Some.ensures.1, c.change_or_end-a1.ensures))
 
-pub returns-in-Some-vertical_word-clause-written : goal.returns-in-Some-vertical_word-clause-written
-returns-in-Some-vertical_word-clause-written c =
-    let d = (goal.at.returns-in-Some-vertical_word-clause-written c).After-find_above-above in
+-- ---- after V0
+-- b2 is not left of a1
+below_right : (c : After-find_above-above) → c.change_or_end-a1.result ≡ c.find_above-above.result.b1
+    → a1 (pixels c.args.columns c.args.changes.now) c.args.at.from ≤ b2 (pixels c.args.columns c.args.reference.now) c.args.at.from (color_after c.args.at.next)
+below_right c same =
+    let index : ℕ = c.find_above-above.result.index in
+    omega (
+      arith,
+      same,
+      a1_is c,
+      c.find_above-above.ensures.first,
+      c.find_above-above.ensures.b2,
+      next_is_right 0 c.args.columns c.args.reference.now index (index + 1) refl c.requires.reference,
+    )
+
+pub returns-then-a1-above-clause-written : goal.returns-then-a1-above-clause-written
+returns-then-a1-above-clause-written c =
+    let d = (goal.at.returns-then-a1-above-clause-written c).After-find_above-above in
+    let reference : Row = pixels c.args.columns c.args.reference.now in
+    let row : Row = pixels c.args.columns c.args.changes.now in
+    let first : ℕ = b1 reference c.args.at.from (color_after c.args.at.next) in
+    let a : c.change_or_end-a1.result ≡ a1 row c.args.at.from = a1_is d in
+    let b : c.find_above-above.result.b1 ≡ first = sym c.find_above-above.ensures.b1 in
+    let near = near_same _ _ _ _ true b a c.put_below.ensures.near in
+    let same = ap (λ (n : ℕ). word_of_mode (vertical_mode n c.change_or_end-a1.result)) b ∙ ap (λ (n : ℕ). word_of_mode (vertical_mode first n)) a in
+    c.in_ok-put_below.ensures.written
+    ∙ ap (λ (b : Bits). all_bits c.args.writer.now ++ b)
+    (same ∙ sym (vertical_bits reference row (place_of c.args.at) (inside d) (below_right d c.if-a1-above.true) near))
+
+pub returns-then-a1-above-clause-place : goal.returns-then-a1-above-clause-place
+returns-then-a1-above-clause-place c =
+    let d = (goal.at.returns-then-a1-above-clause-place c).After-find_above-above in
     let reference : Row = pixels c.args.columns c.args.reference.now in
     let row : Row = pixels c.args.columns c.args.changes.now in
     let a : c.change_or_end-a1.result ≡ a1 row c.args.at.from = a1_is d in
-    let b : c.change_or_end-b1.result ≡ b1 reference c.args.at.from c.args.at.color = c.change_or_end-b1.ensures ∙ sym c.find_above-above.ensures.b1 in
-    let right : a1 row c.args.at.from ≤ b2 reference c.args.at.from c.args.at.color = omega (arith, c.in_default.ensures, a, c.find_above-above.ensures.b2) in
-    let near = near_same _ _ _ _ true b a c.in-Some-vertical_word.ensures.0 in
-    let word : low_bits c.in-Some-vertical_word.word.count c.in-Some-vertical_word.word.bits ≡ word_of_mode (vertical_mode (b1 reference c.args.at.from c.args.at.color) (a1 row c.args.at.from))
-    = c.in-Some-vertical_word.ensures.1.spells ∙ ap (λ (n : ℕ). word_of_mode (vertical_mode n c.change_or_end-a1.result)) b
-    ∙ ap (λ (n : ℕ). word_of_mode (vertical_mode (b1 reference c.args.at.from c.args.at.color) n)) a in
-    c.in_ok-put_word-2.ensures ∙ ap (λ (b : Bits). all_bits c.args.writer.now ++ b) (word ∙ sym (vertical_bits reference row (place_of c.args.at) (inside d) right near))
-
-pub returns-in-Some-vertical_word-clause-place : goal.returns-in-Some-vertical_word-clause-place
-returns-in-Some-vertical_word-clause-place c =
-    let d = (goal.at.returns-in-Some-vertical_word-clause-place c).After-find_above-above in
-    let reference : Row = pixels c.args.columns c.args.reference.now in
-    let row : Row = pixels c.args.columns c.args.changes.now in
-    let a : c.change_or_end-a1.result ≡ a1 row c.args.at.from = a1_is d in
-    let b : c.change_or_end-b1.result ≡ b1 reference c.args.at.from c.args.at.color = c.change_or_end-b1.ensures ∙ sym c.find_above-above.ensures.b1 in
-    let right : a1 row c.args.at.from ≤ b2 reference c.args.at.from c.args.at.color = omega (arith, c.in_default.ensures, a, c.find_above-above.ensures.b2) in
-    let near = near_same _ _ _ _ true b a c.in-Some-vertical_word.ensures.0 in
-    let to : ℕ → Place = λ n. record { from = n; color = c.opposite.result } in
+    let b : c.find_above-above.result.b1 ≡ b1 reference c.args.at.from (color_after c.args.at.next) = sym c.find_above-above.ensures.b1 in
+    let near = near_same _ _ _ _ true b a c.put_below.ensures.near in
+    let to : ℕ → Place = λ n. record { from = n; color = color_after (c.args.at.next + 1) } in
     let turned : Color → Place = λ k. record { from = suc (a1 row c.args.at.from); color = k } in
-    let from : c.from-in-Some-vertical_word.result + 1 ≡ suc (a1 row c.args.at.from) = omega (arith, c.from-in-Some-vertical_word.ensures, a) in
-    ap to from ∙ ap turned c.opposite.ensures ∙ sym (vertical_place reference row (place_of c.args.at) (inside d) right near)
+    let from : c.from.result + 1 ≡ suc (a1 row c.args.at.from) = omega (arith, c.from.ensures, a) in
+    ap to from ∙ ap turned (color_next c.args.at.next)
+    ∙ sym (vertical_place reference row (place_of c.args.at) (inside d) (below_right d c.if-a1-above.true) near)
 
-pub returns-in-Some-vertical_word-clause-next : goal.returns-in-Some-vertical_word-clause-next
-returns-in-Some-vertical_word-clause-next c = λ le.
-    left_of_next 0 c.args.columns c.args.changes.now c.args.at.next (c.args.at.next + 1) c.from-in-Some-vertical_word.result refl c.requires.changes
-    (c.from-in-Some-vertical_word.ensures ∙ c.change_or_end-a1.ensures) (omega arith)
+pub returns-then-a1-above-clause-near : goal.returns-then-a1-above-clause-near
+returns-then-a1-above-clause-near c =
+    let after : ℕ → Color → Type 0 = λ n k. IsNear c.args.columns c.args.reference.now (record { from = n; color = k }) (c.find_above-above.result.index + 1) in
+    let from : c.change_or_end-a1.result + 1 ≡ c.from.result + 1 = omega (arith, c.from.ensures) in
+    let next = near_next c.args.columns c.args.reference.now c.requires.reference (place_of c.args.at) c.find_above-above.result.index c.find_above-above.ensures.near
+    c.change_or_end-a1.result (omega (arith, c.if-a1-above.true, c.find_above-above.ensures.first)) in
+    subst (λ (n : ℕ). after n (color_after (c.args.at.next + 1))) from
+    (subst (λ (k : Color). after (c.change_or_end-a1.result + 1) k) (sym (color_next c.args.at.next)) next)
+
+pub returns-then-a1-above-clause-next : goal.returns-then-a1-above-clause-next
+returns-then-a1-above-clause-next c = λ le.
+    left_of_next 0 c.args.columns c.args.changes.now c.args.at.next (c.args.at.next + 1) c.from.result refl c.requires.changes
+    (c.from.ensures ∙ c.change_or_end-a1.ensures) (omega arith)
+
+-- ---- after a vertical mode
+pub above_after_vertical-requires-clause-right : goal.above_after_vertical-requires-clause-right
+above_after_vertical-requires-clause-right c = a1_right (goal.at.above_after_vertical-requires-clause-right c).After-find_above-above
+
+pub returns-then-is_vertical-clause-written : goal.returns-then-is_vertical-clause-written
+returns-then-is_vertical-clause-written c =
+    let d = (goal.at.returns-then-is_vertical-clause-written c).After-find_above-above in
+    let reference : Row = pixels c.args.columns c.args.reference.now in
+    let row : Row = pixels c.args.columns c.args.changes.now in
+    let first : ℕ = b1 reference c.args.at.from (color_after c.args.at.next) in
+    let a : c.change_or_end-a1.result ≡ a1 row c.args.at.from = a1_is d in
+    let b : c.find_above-above.result.b1 ≡ first = sym c.find_above-above.ensures.b1 in
+    let right : a1 row c.args.at.from ≤ b2 reference c.args.at.from (color_after c.args.at.next) = omega (arith, c.in_default.ensures, a, c.find_above-above.ensures.b2) in
+    let near = near_same _ _ _ _ true b a (sym c.in_ok-is_vertical.ensures.near ∙ c.if-is_vertical.true) in
+    let word : Bits = word_of_mode (vertical_mode c.find_above-above.result.b1 c.change_or_end-a1.result) in
+    let same : word ≡ word_of_mode (vertical_mode first (a1 row c.args.at.from))
+    = ap (λ (n : ℕ). word_of_mode (vertical_mode n c.change_or_end-a1.result)) b ∙ ap (λ (n : ℕ). word_of_mode (vertical_mode first n)) a in
+    c.in_ok-is_vertical.ensures.written
+    ∙ ap (λ (t : Bool). all_bits c.args.writer.now ++ cond t word []) c.if-is_vertical.true
+    ∙ ap (λ (b : Bits). all_bits c.args.writer.now ++ b) (same ∙ sym (vertical_bits reference row (place_of c.args.at) (inside d) right near))
+
+pub returns-then-is_vertical-clause-place : goal.returns-then-is_vertical-clause-place
+returns-then-is_vertical-clause-place c =
+    let d = (goal.at.returns-then-is_vertical-clause-place c).After-find_above-above in
+    let reference : Row = pixels c.args.columns c.args.reference.now in
+    let row : Row = pixels c.args.columns c.args.changes.now in
+    let a : c.change_or_end-a1.result ≡ a1 row c.args.at.from = a1_is d in
+    let b : c.find_above-above.result.b1 ≡ b1 reference c.args.at.from (color_after c.args.at.next) = sym c.find_above-above.ensures.b1 in
+    let right : a1 row c.args.at.from ≤ b2 reference c.args.at.from (color_after c.args.at.next) = omega (arith, c.in_default.ensures, a, c.find_above-above.ensures.b2) in
+    let near = near_same _ _ _ _ true b a (sym c.in_ok-is_vertical.ensures.near ∙ c.if-is_vertical.true) in
+    let to : ℕ → Place = λ n. record { from = n; color = color_after (c.args.at.next + 1) } in
+    let turned : Color → Place = λ k. record { from = suc (a1 row c.args.at.from); color = k } in
+    let from : c.from-then-is_vertical.result + 1 ≡ suc (a1 row c.args.at.from) = omega (arith, c.from-then-is_vertical.ensures, a) in
+    ap to from ∙ ap turned (color_next c.args.at.next) ∙ sym (vertical_place reference row (place_of c.args.at) (inside d) right near)
+
+pub returns-then-is_vertical-clause-next : goal.returns-then-is_vertical-clause-next
+returns-then-is_vertical-clause-next c = λ le.
+    left_of_next 0 c.args.columns c.args.changes.now c.args.at.next (c.args.at.next + 1) c.from-then-is_vertical.result refl c.requires.changes
+    (c.from-then-is_vertical.ensures ∙ c.change_or_end-a1.ensures) (omega arith)
 
 pub overflow_sub-a1 : goal.overflow_sub-a1
 overflow_sub-a1 c =
@@ -90,19 +167,36 @@ overflow_sub-a2 c =
     let d = (goal.at.overflow_sub-a2 c).After-find_above-above in
     omega (arith, a1_is d, a2_is d, c.change_or_end-a2.ensures, second_run (pixels c.args.columns c.args.changes.now) c.args.at.from)
 
+pub returns-then-is_vertical-clause-near : goal.returns-then-is_vertical-clause-near
+returns-then-is_vertical-clause-near c =
+    let turned = subst (λ (k : Color). IsNear c.args.columns c.args.reference.now (record { from = c.change_or_end-a1.result + 1; color = k }) c.above_after_vertical.result)
+    (sym (color_next c.args.at.next)) c.above_after_vertical.ensures in
+    subst (λ (n : ℕ). IsNear c.args.columns c.args.reference.now (record { from = n + 1; color = color_after (c.args.at.next + 1) }) c.above_after_vertical.result)
+    (sym c.from-then-is_vertical.ensures) turned
+
+-- ---- after horizontal mode
 pub returns-clause-written : goal.returns-clause-written
 returns-clause-written c =
     let d = (goal.at.returns-clause-written c).After-find_above-above in
     let reference : Row = pixels c.args.columns c.args.reference.now in
     let row : Row = pixels c.args.columns c.args.changes.now in
     let a : c.change_or_end-a1.result ≡ a1 row c.args.at.from = a1_is d in
-    let b : c.change_or_end-b1.result ≡ b1 reference c.args.at.from c.args.at.color = c.change_or_end-b1.ensures ∙ sym c.find_above-above.ensures.b1 in
-    let right : a1 row c.args.at.from ≤ b2 reference c.args.at.from c.args.at.color = omega (arith, c.in_default.ensures, a, c.find_above-above.ensures.b2) in
-    let near = near_same _ _ _ _ false b a c.in_default-vertical_word.ensures in
+    let b : c.find_above-above.result.b1 ≡ b1 reference c.args.at.from (color_after c.args.at.next) = sym c.find_above-above.ensures.b1 in
+    let right : a1 row c.args.at.from ≤ b2 reference c.args.at.from (color_after c.args.at.next) = omega (arith, c.in_default.ensures, a, c.find_above-above.ensures.b2) in
+    let near = near_same _ _ _ _ false b a (sym c.in_ok-is_vertical.ensures.near ∙ c.if-is_vertical.false) in
     let first : c.change_or_end-a1.result - c.saturating_sub.result ≡ a1 row c.args.at.from - (c.args.at.from - 1) = omega (arith, c.saturating_sub.ensures, a) in
     let second : c.change_or_end-a2.result - c.change_or_end-a1.result ≡ a2 row c.args.at.from - a1 row c.args.at.from = omega (arith, a, a2_is d, c.change_or_end-a2.ensures) in
-    let runs : ℕ → ℕ → Bits = λ m n. all_bits c.args.writer.now ++ (word_of_mode Horizontal ++ (chosen_run c.args.at.color m ++ chosen_run (opposite c.args.at.color) n)) in
-    c.in_ok-put_horizontal.ensures ∙ ap (λ (n : ℕ). runs n (c.change_or_end-a2.result - c.change_or_end-a1.result)) first ∙ ap (runs (a1 row c.args.at.from - (c.args.at.from - 1))) second
+    let runs : ℕ → ℕ → Bits = λ m n. all_bits c.args.writer.now ++ (word_of_mode Horizontal ++ (chosen_run (color_after c.args.at.next) m ++ chosen_run (opposite (color_after c.args.at.next)) n)) in
+    let nothing : all_bits c.put_vertical.new.writer ≡ all_bits c.args.writer.now
+    = c.in_ok-is_vertical.ensures.written
+    ∙ ap (λ (t : Bool). all_bits c.args.writer.now ++ cond t (word_of_mode (vertical_mode c.find_above-above.result.b1 c.change_or_end-a1.result)) []) c.if-is_vertical.false
+    ∙ append-nil (all_bits c.args.writer.now) in
+    c.in_ok-put_horizontal.ensures
+    ∙ ap (λ (k : Color). all_bits c.put_vertical.new.writer ++ (word_of_mode Horizontal ++ (chosen_run k (c.change_or_end-a1.result - c.saturating_sub.result)
+    ++ chosen_run (opposite k) (c.change_or_end-a2.result - c.change_or_end-a1.result)))) c.color_after.ensures
+    ∙ ap (λ (b : Bits). b ++ (word_of_mode Horizontal ++ (chosen_run (color_after c.args.at.next) (c.change_or_end-a1.result - c.saturating_sub.result)
+    ++ chosen_run (opposite (color_after c.args.at.next)) (c.change_or_end-a2.result - c.change_or_end-a1.result)))) nothing
+    ∙ ap (λ (n : ℕ). runs n (c.change_or_end-a2.result - c.change_or_end-a1.result)) first ∙ ap (runs (a1 row c.args.at.from - (c.args.at.from - 1))) second
     ∙ ap (λ (b : Bits). all_bits c.args.writer.now ++ b) (sym (horizontal_bits reference row (place_of c.args.at) (inside d) right near))
 
 pub returns-clause-place : goal.returns-clause-place
@@ -111,12 +205,22 @@ returns-clause-place c =
     let reference : Row = pixels c.args.columns c.args.reference.now in
     let row : Row = pixels c.args.columns c.args.changes.now in
     let a : c.change_or_end-a1.result ≡ a1 row c.args.at.from = a1_is d in
-    let b : c.change_or_end-b1.result ≡ b1 reference c.args.at.from c.args.at.color = c.change_or_end-b1.ensures ∙ sym c.find_above-above.ensures.b1 in
-    let right : a1 row c.args.at.from ≤ b2 reference c.args.at.from c.args.at.color = omega (arith, c.in_default.ensures, a, c.find_above-above.ensures.b2) in
-    let near = near_same _ _ _ _ false b a c.in_default-vertical_word.ensures in
-    let to : ℕ → Place = λ n. record { from = n; color = c.args.at.color } in
+    let b : c.find_above-above.result.b1 ≡ b1 reference c.args.at.from (color_after c.args.at.next) = sym c.find_above-above.ensures.b1 in
+    let right : a1 row c.args.at.from ≤ b2 reference c.args.at.from (color_after c.args.at.next) = omega (arith, c.in_default.ensures, a, c.find_above-above.ensures.b2) in
+    let near = near_same _ _ _ _ false b a (sym c.in_ok-is_vertical.ensures.near ∙ c.if-is_vertical.false) in
+    let to : ℕ → Place = λ n. record { from = n; color = (color_after c.args.at.next) } in
     let from : c.from-2.result + 1 ≡ suc (a2 row c.args.at.from) = omega (arith, c.from-2.ensures, c.change_or_end-a2.ensures, a2_is d) in
-    ap to from ∙ sym (horizontal_place reference row (place_of c.args.at) (inside d) right near)
+    let kept : Color → Place = λ k. record { from = c.from-2.result + 1; color = k } in
+    ap kept (color_second c.args.at.next) ∙ ap to from ∙ sym (horizontal_place reference row (place_of c.args.at) (inside d) right near)
+
+pub returns-clause-near : goal.returns-clause-near
+returns-clause-near c =
+    let d = (goal.at.returns-clause-near c).After-find_above-above in
+    let le : c.args.at.from ≤ c.from-2.result + 1
+    = omega (arith, a1_right d, c.from-2.ensures, c.change_or_end-a2.ensures, a1_is d, a2_is d, second_run (pixels c.args.columns c.args.changes.now) c.args.at.from) in
+    subst (λ (k : Color). IsNear c.args.columns c.args.reference.now (record { from = c.from-2.result + 1; color = k }) c.find_above-above.result.index)
+    (sym (color_second c.args.at.next))
+    (near_right c.args.columns c.args.reference.now c.requires.reference (place_of c.args.at) c.find_above-above.result.index c.find_above-above.ensures.near (c.from-2.result + 1) le)
 
 pub returns-clause-next : goal.returns-clause-next
 returns-clause-next c = λ le.

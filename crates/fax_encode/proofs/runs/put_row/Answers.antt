@@ -1,47 +1,16 @@
-use Rattle.std.proofs.Common.{◌≡◌, ◌+◌, ◌-◌, ◌<◌, ◌++◌, ℕ, List, [], OnOk, length, drop, get_or, sym, ap, subst, ◌∙◌, arith}
-use Rattle.std.proofs.lemmas.List.{nil_from_length, length-drop}
-use Rattle.hayro_ccitt.specs.declared.codes.Color.TheVariants.{White, Black}
+use Rattle.std.proofs.Common.{◌≡◌, ◌-◌, ◌++◌, ℕ, List, [], OnOk, sym, ap, subst, length, ◌∙◌, arith}
+use Rattle.std.proofs.lemmas.Bool.{eqb-true}
+use Rattle.std.proofs.lemmas.List.{nil_from_length}
+use Rattle.hayro_ccitt.specs.declared.codes.Color.TheVariants.{White}
 use Rattle.hayro_ccitt.specs.Bits.{Bits}
-use Rattle.hayro_ccitt.specs.Rows.{AscendFrom}
 use Rattle.fax_encode.specs.Chosen.{chosen_run, chosen_runs}
 use Rattle.fax_encode.specs.Writing.{all_bits}
-use Rattle.fax_encode.proofs.RunsWritten.{next_within, next_ascends, next_run, one_part}
 use Rattle.fax_encode.proofs.runs.put_row.Goals as goal
 
-pub loop-next-preserved : goal.loop-next-preserved
-loop-next-preserved c =
-    let i : ℕ = c.loop-next.next in
-    let columns : ℕ = c.args.columns in
-    let changes : List ℕ = c.args.changes.now in
-    let place : ℕ = c.loop-next.place in
-    let black : ℕ = get_or changes i 0 in
-    let white : ℕ = get_or changes (i + 1) 0 in
-    let first : i < length changes = omega (arith, c.loop-next-test.true) in
-    let second : i + 1 < length changes = omega (arith, c.loop-next-test.true) in
-    let two : i + 1 + 1 ≡ i + 2 = omega arith in
-    let ascend = c.loop-next.invariant.ascend in
-    let behind = next_ascends columns place i White changes first ascend in
-    let drawn = one_part (all_bits c.put_run.new.writer) (all_bits c.loop-next.writer) (chosen_runs columns White place (drop i changes)) (chosen_run White (black - place))
-    (chosen_runs columns Black black (drop (i + 1) changes)) _ c.loop-next.invariant.written (next_run columns place i White changes first ascend) c.in_ok-put_run.ensures in
-    record {
-      counted = omega (arith, second);
-      within = next_within columns black (i + 1) Black changes second behind;
-      ascend = subst (λ (n : ℕ). AscendFrom white columns (drop n changes)) two (next_ascends columns black (i + 1) Black changes second behind);
-      written = ap (λ (n : ℕ). all_bits c.put_run-in-loop-next.new.writer ++ chosen_runs columns White white (drop n changes)) (sym two)
-          ∙ one_part (all_bits c.put_run-in-loop-next.new.writer) (all_bits c.put_run.new.writer) (chosen_runs columns Black black (drop (i + 1) changes)) (chosen_run Black (white - black))
-          (chosen_runs columns White white (drop (i + 1 + 1) changes)) _ drawn (next_run columns black (i + 1) Black changes second behind) c.in_ok-put_run-2.ensures;
-    }
-
-pub returns : goal.returns
-returns c =
-    let i : ℕ = c.loop-next.next in
-    let columns : ℕ = c.args.columns in
-    let changes : List ℕ = c.args.changes.now in
-    let place : ℕ = c.loop-next.place in
-    let black : ℕ = get_or changes i 0 in
-    let last : i < length changes = omega (arith, c.loop-next-test.false, c.if-next-changes.false, c.loop-next.invariant.counted) in
-    let none : drop (i + 1) changes ≡ [] = nil_from_length (drop (i + 1) changes) (omega (arith, c.loop-next-test.false, length-drop (i + 1) changes)) in
-    let drawn = one_part (all_bits c.put_run-2.new.writer) (all_bits c.loop-next.writer) (chosen_runs columns White place (drop i changes)) (chosen_run White (black - place))
-    (chosen_runs columns Black black (drop (i + 1) changes)) _ c.loop-next.invariant.written (next_run columns place i White changes last c.loop-next.invariant.ascend) c.in_ok-put_run-3.ensures in
-    let rest : chosen_run Black (columns - black) ≡ chosen_runs columns Black black (drop (i + 1) changes) = ap (chosen_runs columns Black black) (sym none) in
-    subst (λ (b : Bits). OnOk c.put_run-3.result (all_bits c.put_run-3.new.writer ≡ b)) (ap (λ (b : Bits). all_bits c.put_run-2.new.writer ++ b) rest ∙ drawn) c.put_run-3.ensures
+pub returns-then-is_empty : goal.returns-then-is_empty
+returns-then-is_empty c =
+    let none : c.args.changes.now ≡ []
+    = nil_from_length c.args.changes.now (eqb-true (length c.args.changes.now) 0 (sym c.is_empty.ensures ∙ c.if-is_empty.true)) in
+    let all : c.args.columns ≡ c.args.columns - 0 = omega arith in
+    subst (λ (l : List ℕ). OnOk c.put_white_row.result (all_bits c.put_white_row.new.writer ≡ all_bits c.args.writer.now ++ chosen_runs c.args.columns White 0 l)) (sym none)
+    (subst (λ (n : ℕ). OnOk c.put_white_row.result (all_bits c.put_white_row.new.writer ≡ all_bits c.args.writer.now ++ chosen_run White n)) all c.put_white_row.ensures)

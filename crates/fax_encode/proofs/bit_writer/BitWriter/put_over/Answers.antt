@@ -17,6 +17,6 @@ returns c =
     let within : room ≤ c.args.count
     = omega (arith, c.requires.full, ap (λ (w : Written). length w.rest) c.self.view_is, length-low_bits (64 - room) c.self.inside.pending, c.self.invariant.2) in
     let full = ap (λ (n : ℕ). bit_or (c.self.inside.pending * 2 ^ room % 2 ^ 64) n) c.from.ensures in
-    rw (← c.self.view_is) (ap (λ (n : ℕ). bits_of c.extend_from_slice.new.self.items ++ low_bits (64 - (64 - (c.args.count - room))) n) c.from-self-inside.ensures
-    ∙ stored c.self.inside.bytes.items c.extend_from_slice.new.self.items c.self.inside.pending room c.args.count c.args.word _ c.self.invariant.2 within
-    (omega (arith, c.requires.count)) c.requires.word full (c.in_ok-extend_from_slice.ensures.items ∙ ap (λ (l : List ℕ). c.self.inside.bytes.items ++ l) c.to_be_bytes.ensures))
+    rw (← c.self.view_is) (ap (λ (n : ℕ). bits_of c.store_word.new.bytes.items ++ low_bits (64 - (64 - (c.args.count - room))) n) c.from-self-inside.ensures
+    ∙ stored c.self.inside.bytes.items c.store_word.new.bytes.items c.self.inside.pending room c.args.count c.args.word _ c.self.invariant.2 within
+    (omega (arith, c.requires.count)) c.requires.word full c.in_ok-store_word.ensures.stored)

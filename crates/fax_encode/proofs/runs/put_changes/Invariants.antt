@@ -3,7 +3,7 @@ use Rattle.hayro_ccitt.specs.declared.codes.Color.TheVariants.{White}
 use Rattle.hayro_ccitt.specs.Rows.{AscendFrom}
 use Rattle.fax_encode.specs.Chosen.{chosen_runs}
 use Rattle.fax_encode.specs.Writing.{all_bits}
-use Rattle.fax_encode.proofs.runs.put_row.Given as goal
+use Rattle.fax_encode.proofs.runs.put_changes.Given as goal
 
 abbrev pub invariant-loop-next : goal.invariant-loop-next
 invariant-loop-next l =

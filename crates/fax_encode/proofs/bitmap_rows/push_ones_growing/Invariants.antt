@@ -1,0 +1,11 @@
+use Rattle.std.proofs.Common.{◌≡◌, ◌++◌, take}
+use Rattle.hayro_ccitt.specs.Bits.{low_bits}
+use Rattle.fax_encode.specs.Scanning.{ones_from}
+use Rattle.fax_encode.proofs.bitmap_rows.push_ones_growing.Given as goal
+
+abbrev pub invariant-loop-ones : goal.invariant-loop-ones
+invariant-loop-ones l = l.list.items ++ ones_from l.first (take l.count (low_bits 64 l.ones))
+    ≡ l.fn.list.items ++ ones_from l.first (take l.count (low_bits 64 l.fn.word))
+
+abbrev pub decreases-loop-ones : goal.decreases-loop-ones
+decreases-loop-ones l = l.ones

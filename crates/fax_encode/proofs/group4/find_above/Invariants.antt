@@ -1,0 +1,12 @@
+use Rattle.std.proofs.Common.{◌≡◌, ◌+◌, ◌-◌, length, get_or}
+use Rattle.fax_encode.specs.Coding.{IsNear, place_of}
+use Rattle.fax_encode.proofs.group4.find_above.Given as goal
+
+abbrev pub invariant-twos : goal.invariant-twos
+invariant-twos l = record {
+  near : IsNear l.columns l.reference (place_of l.at) l.index;
+  here : l.b1 ≡ get_or l.reference l.index l.columns;
+}
+
+abbrev pub decreases-twos : goal.decreases-twos
+decreases-twos l = length l.reference + 2 - l.index
