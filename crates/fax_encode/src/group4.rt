@@ -6,8 +6,6 @@ ghost use Rattle.hayro_ccitt.specs.Rows.{AreChanges, pixels, opposite, b1, b2};
 ghost use Rattle.hayro_ccitt.specs.Encodings.{padding};
 ghost use Rattle.fax_encode.specs.Chosen.{bits_at, place_after, chosen_mode, chosen_run, word_of_mode, chosen_line_2d, is_near, vertical_mode};
 ghost use Rattle.fax_encode.specs.Coding.{AreAllLeft, place_of, IsNear, color_after};
-
-
 ghost use Rattle.fax_encode.specs.Writing.{all_bits};
 
 use crate::bit_writer::BitWriter;
