@@ -16,9 +16,9 @@ fn shows(
     rows: &[&[u32]],
 ) -> Result<(), Fail> {
     let found = rows_of_bitmap(rt.alloc(), columns, bitmap)?;
-    assert_eq!(rt; found.len(), rows.len(), "rows of {columns} columns");
+    assert_eq!(rt; (columns, found.len()), (columns, rows.len()));
     for (row, expected) in found.iter().zip(rows) {
-        assert_eq!(rt; row.as_slice(), *expected, "a row of {columns} columns");
+        assert_eq!(rt; (columns, row.as_slice()), (columns, *expected));
     }
     Ok(())
 }
@@ -55,6 +55,19 @@ fn rows_over_words(rt: HostRuntime) -> Result<(), Fail> {
     Ok(())
 }
 
+/// Compares the bytes of two encodings.
+fn are_alike(
+    rt: &impl Abort,
+    columns: u32,
+    ours: Result<Vec<u8>, EncodeError>,
+    theirs: Result<Vec<u8>, EncodeError>,
+) {
+    let (Ok(ours), Ok(theirs)) = (ours, theirs) else {
+        panic!(rt; "a picture is refused");
+    };
+    assert_eq!(rt; (columns, ours.as_slice()), (columns, theirs.as_slice()));
+}
+
 #[test]
 fn as_lists_are_encoded(rt: HostRuntime) -> Result<(), Fail> {
     let alloc = rt.alloc();
@@ -67,37 +80,21 @@ fn as_lists_are_encoded(rt: HostRuntime) -> Result<(), Fail> {
             }
             for length in 1..4usize {
                 let Some(front) = bitmap.get(..length) else {
-                    panic!(&rt; "fewer than {length} rows");
+                    panic!(&rt; "fewer rows");
                 };
                 let rows = rows_of_bitmap(alloc, columns, front)?;
                 for aligned in [false, true] {
-                    let Ok(ours) = encode_bitmap_g4(alloc, columns, front, aligned) else {
-                        panic!(&rt; "no Group 4 of {columns} columns");
-                    };
-                    let Ok(theirs) = encode_g4(alloc, columns, rows.as_slice(), aligned) else {
-                        panic!(&rt; "no Group 4 of {columns} columns");
-                    };
-                    assert_eq!(&rt;
-                        ours.as_slice(),
-                        theirs.as_slice(),
-                        "Group 4, {columns} columns"
-                    );
+                    let ours = encode_bitmap_g4(alloc, columns, front, aligned);
+                    let theirs = encode_g4(alloc, columns, rows.as_slice(), aligned);
+                    are_alike(&rt, columns, ours, theirs);
                 }
-                let Ok(ours) = encode_bitmap_1d(alloc, columns, front) else {
-                    panic!(&rt; "no Group 3 of {columns} columns");
-                };
-                let Ok(theirs) = encode_1d(alloc, columns, rows.as_slice()) else {
-                    panic!(&rt; "no Group 3 of {columns} columns");
-                };
-                assert_eq!(&rt;
-                    ours.as_slice(),
-                    theirs.as_slice(),
-                    "Group 3, {columns} columns"
-                );
+                let ours = encode_bitmap_1d(alloc, columns, front);
+                let theirs = encode_1d(alloc, columns, rows.as_slice());
+                are_alike(&rt, columns, ours, theirs);
                 let Ok(sink) = bitmap_by_group3(alloc, columns, rows.as_slice()) else {
-                    panic!(&rt; "no bitmap of {columns} columns");
+                    panic!(&rt; "no bitmap");
                 };
-                assert_eq!(&rt; sink.bytes(), front, "by way of Group 3, {columns} columns");
+                assert_eq!(&rt; (columns, sink.bytes()), (columns, front));
             }
         }
     }

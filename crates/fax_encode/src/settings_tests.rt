@@ -72,6 +72,14 @@ fn row_by_row(
     encoder.finish()
 }
 
+/// Compares the bytes of an encoded picture.
+fn has_bytes(rt: &impl Abort, encoded: Result<Vec<u8>, EncodeError>, bytes: &[u8]) {
+    let Ok(encoded) = encoded else {
+        panic!(rt; "the picture is refused");
+    };
+    assert_eq!(rt; encoded.as_slice(), bytes);
+}
+
 /// Encodes the picture from its lists, from its bitmap, and row by row, and compares the bytes.
 fn encodes(
     rt: &(impl Abort + AllocGlobal),
@@ -79,20 +87,12 @@ fn encodes(
     bytes: &[u8],
 ) -> Result<(), Fail> {
     let lists = picture(rt.alloc())?;
-    let Ok(of_lists) = encode(rt.alloc(), 24, lists.as_slice(), settings) else {
-        panic!(rt; "{settings:?} are refused");
-    };
-    assert_eq!(rt; of_lists.as_slice(), bytes, "lists by {settings:?}");
-    let Ok(of_bitmap) = encode_bitmap(rt.alloc(), 24, &BITMAP, settings) else {
-        panic!(rt; "{settings:?} are refused");
-    };
-    assert_eq!(rt; of_bitmap.as_slice(), bytes, "a bitmap by {settings:?}");
-    for are_packed in [false, true] {
-        let Ok(of_rows) = row_by_row(rt.alloc(), settings, are_packed) else {
-            panic!(rt; "{settings:?} are refused");
-        };
-        assert_eq!(rt; of_rows.as_slice(), bytes, "rows by {settings:?}");
-    }
+    let of_lists = encode(rt.alloc(), 24, lists.as_slice(), settings);
+    has_bytes(rt, of_lists, bytes);
+    let of_bitmap = encode_bitmap(rt.alloc(), 24, &BITMAP, settings);
+    has_bytes(rt, of_bitmap, bytes);
+    has_bytes(rt, row_by_row(rt.alloc(), settings, false), bytes);
+    has_bytes(rt, row_by_row(rt.alloc(), settings, true), bytes);
     Ok(())
 }
 
@@ -213,9 +213,9 @@ fn refusals(rt: HostRuntime) -> Result<(), Fail> {
     ];
     for settings in unnamed {
         let refused = encode(alloc, 0, lists.as_slice(), settings).err();
-        assert_eq!(&rt; refused, Some(EncodeError::NoEncoding), "{settings:?}");
+        assert_eq!(&rt; refused, Some(EncodeError::NoEncoding));
         let refused = encode_bitmap(alloc, 0, &BITMAP, settings).err();
-        assert_eq!(&rt; refused, Some(EncodeError::NoEncoding), "{settings:?}");
+        assert_eq!(&rt; refused, Some(EncodeError::NoEncoding));
     }
     assert_eq!(&rt;
         encode(alloc, 0, lists.as_slice(), one).err(),
@@ -350,7 +350,7 @@ fn to_read(settings: EncodeSettings) -> DecodeSettings {
 fn comes_back(rt: &(impl Abort + AllocGlobal), settings: EncodeSettings) -> Result<(), Fail> {
     let alloc = rt.alloc();
     let Ok(bytes) = encode_bitmap(alloc, 24, &BITMAP, settings) else {
-        panic!(rt; "{settings:?} are refused");
+        panic!(rt; "the picture is refused");
     };
     let Ok(mut ctx) = DecoderContext::new(alloc, to_read(settings)) else {
         panic!(rt; "no memory");
@@ -359,12 +359,9 @@ fn comes_back(rt: &(impl Abort + AllocGlobal), settings: EncodeSettings) -> Resu
     let columns = ctx.settings().columns;
     let mut sink = BitmapSink::new(alloc, columns);
     let read = decode_in(settings.order, &bytes, &mut sink, &mut ctx);
-    assert_eq!(rt; read, Ok(bytes.len()), "bytes by {settings:?}");
-    assert_eq!(rt; sink.bytes(), BITMAP.as_slice(), "rows by {settings:?}");
-    let Ok(again) = encode_bitmap(alloc, 24, sink.bytes(), settings) else {
-        panic!(rt; "{settings:?} are refused");
-    };
-    assert_eq!(rt; again, bytes, "again by {settings:?}");
+    assert_eq!(rt; (read, sink.bytes()), (Ok(bytes.len()), BITMAP.as_slice()));
+    let again = encode_bitmap(alloc, 24, sink.bytes(), settings);
+    has_bytes(rt, again, &bytes);
     Ok(())
 }
 

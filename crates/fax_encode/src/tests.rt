@@ -33,9 +33,9 @@ fn encodes_g4(
         panic!(rt; "no memory");
     };
     let Ok(encoded) = encode_g4(rt.alloc(), columns, lists.as_slice(), aligned) else {
-        panic!(rt; "{rows:?} is refused");
+        panic!(rt; "rows are refused");
     };
-    assert_eq!(rt; encoded.as_slice(), bytes, "Group 4 of {rows:?}");
+    assert_eq!(rt; encoded.as_slice(), bytes);
 }
 
 /// Encodes rows as one-dimensional Group 3, and compares the bytes.
@@ -44,9 +44,9 @@ fn encodes_1d(rt: &(impl Abort + AllocGlobal), columns: u32, rows: &[&[u32]], by
         panic!(rt; "no memory");
     };
     let Ok(encoded) = encode_1d(rt.alloc(), columns, lists.as_slice()) else {
-        panic!(rt; "{rows:?} is refused");
+        panic!(rt; "rows are refused");
     };
-    assert_eq!(rt; encoded.as_slice(), bytes, "Group 3 of {rows:?}");
+    assert_eq!(rt; encoded.as_slice(), bytes);
 }
 
 /// Encodes rows as Group 4, decodes them, and compares the bitmap.
@@ -58,13 +58,9 @@ fn packs(
     bytes: &[u8],
 ) {
     let Ok(sink) = bitmap_by_group4(rt.alloc(), columns, lists, aligned) else {
-        panic!(rt; "no bitmap of {columns} columns");
+        panic!(rt; "no bitmap");
     };
-    assert_eq!(rt;
-        sink.bytes(),
-        bytes,
-        "{columns} columns, aligned: {aligned}"
-    );
+    assert_eq!(rt; (columns, aligned, sink.bytes()), (columns, aligned, bytes));
 }
 
 /// Encodes rows as one-dimensional Group 3, decodes them in a context, and compares the bitmap.
@@ -76,13 +72,15 @@ fn packs_1d(
 ) {
     let columns = ctx.settings().columns;
     let Ok(encoded) = encode_1d(rt.alloc(), columns, lists) else {
-        panic!(rt; "{bytes:?} is refused");
+        panic!(rt; "rows are refused");
     };
     assert!(rt; bits_fit(&encoded));
     let mut sink = BitmapSink::new(rt.alloc(), columns);
     let read = decode(&encoded, &mut sink, ctx);
-    assert_eq!(rt; read, Ok(encoded.len()));
-    assert_eq!(rt; sink.bytes(), bytes, "{columns} columns by Group 3");
+    assert_eq!(rt;
+        (columns, read, sink.bytes()),
+        (columns, Ok(encoded.len()), bytes)
+    );
 }
 
 #[test]
@@ -258,7 +256,7 @@ fn every_small_picture(rt: HostRuntime) -> Result<(), Fail> {
             for rows in 1..4usize {
                 let (Some(front), Some(packed)) = (lists.as_slice().get(..rows), bytes.get(..rows))
                 else {
-                    panic!(&rt; "fewer than {rows} rows");
+                    panic!(&rt; "fewer rows");
                 };
                 packs(&rt, columns, front, false, packed);
                 packs(&rt, columns, front, true, packed);

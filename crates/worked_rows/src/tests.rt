@@ -114,13 +114,9 @@ fn group_3_2d(columns: u32, rows: u32, flags: &str) -> DecodeSettings
 
 /// Compares the rows of a sink, which are named by data.
 fn has_rows(rt: &impl Abort, sink: &Limited, rows: &[&[u32]], data: &[u8]) {
-    assert_eq!(rt;
-        sink.rows.len(),
-        rows.len(),
-        "the number of rows of {data:?}"
-    );
+    assert_eq!(rt; (data, sink.rows.len()), (data, rows.len()));
     for (row, changes) in sink.rows.iter().zip(rows) {
-        assert_eq!(rt; row.as_slice(), *changes, "a row of {data:?}");
+        assert_eq!(rt; (data, row.as_slice()), (data, *changes));
     }
 }
 
@@ -147,25 +143,15 @@ fn decodes_in(
     let front = data.get(..16).unwrap_or(data);
     assert!(rt; bits_fit(data));
     let mut sink = sink_of(rt.alloc(), ctx.settings().columns, usize::MAX);
-    assert_eq!(rt;
-        decode(data, &mut sink, ctx),
-        answer,
-        "the answer of {front:?}"
-    );
+    let read = decode(data, &mut sink, ctx);
+    let count = rows.len() as u64;
+    assert_eq!(rt; (front, read, ctx.decoded_rows()), (front, answer, count));
     has_rows(rt, &sink, rows, front);
-    assert_eq!(rt;
-        ctx.decoded_rows(),
-        rows.len() as u64,
-        "decoded_rows of {front:?}"
-    );
     let low_first = mirrored(rt, data);
     assert!(rt; bits_fit(&low_first));
     let mut sink = sink_of(rt.alloc(), ctx.settings().columns, usize::MAX);
-    assert_eq!(rt;
-        decode_low_first(&low_first, &mut sink, ctx),
-        answer,
-        "the answer of {front:?}, mirrored"
-    );
+    let read = decode_low_first(&low_first, &mut sink, ctx);
+    assert_eq!(rt; (front, read), (front, answer));
     has_rows(rt, &sink, rows, front);
 }
 
@@ -248,7 +234,7 @@ fn refuses_each(
         };
         let mut sink = sink_of(rt.alloc(), settings.columns, limit);
         let refused = decode(data, &mut sink, &mut ctx);
-        assert_eq!(rt; refused, Err(Refused), "after {limit} rows");
+        assert_eq!(rt; (limit, refused), (limit, Err(Refused)));
         assert!(rt; sink.has_refused);
         has_rows(rt, &sink, &rows[..limit], data);
         assert_eq!(rt; ctx.decoded_rows(), limit as u64);
@@ -460,8 +446,7 @@ fn reads_runs(rt: HostRuntime) -> std::result::Result<(), Fail> {
         assert!(rt; bits_fit(&data));
         let mut reader = BitReader::new(&data);
         let found = reader.decode_run(color, &tables, &mut ticks);
-        assert_eq!(rt; found, Ok(run), "{color:?} of {data:?}");
-        assert_eq!(rt; reader.bit_pos(), place, "{color:?} of {data:?}");
+        assert_eq!(rt; (color, found, reader.bit_pos()), (color, Ok(run), place));
     }
     Ok(())
 }
@@ -476,7 +461,7 @@ fn runs_that_are_none(rt: HostRuntime) -> std::result::Result<(), Fail> {
     ] {
         assert!(rt; bits_fit(data));
         let found = BitReader::new(data).decode_run(Color::White, &tables, &mut ticks);
-        assert_eq!(rt; found, Err(error), "{data:?}");
+        assert_eq!(rt; (data, found), (data, Err(error)));
     }
     Ok(())
 }
@@ -533,8 +518,8 @@ fn reads_line_ends(rt: HostRuntime) {
     ] {
         assert!(rt; bits_fit(data));
         let mut reader = BitReader::new(data);
-        assert_eq!(rt; reader.read_eol_if_available(&mut ticks), count, "{data:?}");
-        assert_eq!(rt; reader.bit_pos(), place, "{data:?}");
+        let found = reader.read_eol_if_available(&mut ticks);
+        assert_eq!(rt; (data, found, reader.bit_pos()), (data, count, place));
     }
     assert!(rt; bits_fit(&[0x00]));
     let (zeros, after) = BitReader::new(&[0x00]).zero_run(&mut ticks);
@@ -574,17 +559,24 @@ fn draws_lines(rt: HostRuntime) -> std::result::Result<(), Fail> {
     let data = [0x31, 0xC0];
     assert!(rt; bits_fit(&data));
     let mut reader = BitReader::new(&data);
-    assert_eq!(rt; (ctx.b1(), ctx.b2()), (8, 8));
-    assert_eq!(rt; decode_2d_line(&mut ctx, &mut reader), Ok(()));
-    assert_eq!(rt; reader.bit_pos(), 10);
-    assert_eq!(rt; ctx.next_line(&mut sink), Ok(()));
-    assert_eq!(rt; (ctx.b1(), ctx.b2()), (3, 5));
-    assert_eq!(rt; ctx.push_pixels(4), Ok(()));
-    assert_eq!(rt; (ctx.b1(), ctx.b2()), (8, 8));
-    assert_eq!(rt; ctx.next_line(&mut sink), Ok(()));
+    let first = (ctx.b1(), ctx.b2());
+    let drawn = decode_2d_line(&mut ctx, &mut reader);
+    let taken = ctx.next_line(&mut sink);
+    assert_eq!(rt;
+        (first, drawn, reader.bit_pos(), taken),
+        ((8, 8), Ok(()), 10, Ok(()))
+    );
+    let first = (ctx.b1(), ctx.b2());
+    let pushed = ctx.push_pixels(4);
+    let behind = (ctx.b1(), ctx.b2());
+    assert_eq!(rt; (first, pushed, behind), ((3, 5), Ok(()), (8, 8)));
+    let taken = ctx.next_line(&mut sink);
     has_rows(&rt, &sink, &[&[3, 5], &[]], &data);
-    assert_eq!(rt; ctx.decoded_rows(), 2);
-    assert_eq!(rt; ctx.next_line(&mut sink), Err(Refused));
+    let rows = ctx.decoded_rows();
+    assert_eq!(rt;
+        (taken, rows, ctx.next_line(&mut sink)),
+        (Ok(()), 2, Err(Refused))
+    );
     Ok(())
 }
 
@@ -596,12 +588,11 @@ fn draws_lines_of_runs(rt: HostRuntime) -> std::result::Result<(), Fail> {
     let data = [0x8E, 0x26];
     assert!(rt; bits_fit(&data));
     let mut reader = BitReader::new(&data);
-    assert_eq!(rt; decode_1d_line(&mut ctx, &mut reader), Ok(()));
-    assert_eq!(rt; reader.bit_pos(), 10);
-    assert_eq!(rt; ctx.next_line(&mut sink), Ok(()));
-    assert_eq!(rt; decode_1d_line(&mut ctx, &mut reader), Ok(()));
-    assert_eq!(rt; reader.bit_pos(), 15);
-    assert_eq!(rt; ctx.next_line(&mut sink), Ok(()));
+    for place in [10, 15] {
+        let drawn = decode_1d_line(&mut ctx, &mut reader);
+        let taken = ctx.next_line(&mut sink);
+        assert_eq!(rt; (drawn, reader.bit_pos(), taken), (Ok(()), place, Ok(())));
+    }
     has_rows(&rt, &sink, &[&[3, 5], &[]], &data);
     assert_eq!(rt; decode_1d_line(&mut ctx, &mut reader), Err(UnexpectedEof));
     Ok(())

@@ -53,16 +53,16 @@ fn consumes_as_a_list_of_bits(rt: HostRuntime) {
                 };
                 let mut rest = bits;
                 for _ in 0..8 * length / n.max(1) + 2 {
-                    assert_eq!(rt; reader.peek_u32(), first_32(rest), "{n} of {data:?}");
+                    assert_eq!(rt; (n, length, reader.peek_u32()), (n, length, first_32(rest)));
                     let answer = if n <= rest.len() {
                         Ok(())
                     } else {
                         Err(UnexpectedEof)
                     };
                     rest = rest.get(n..).unwrap_or(&[]);
-                    assert_eq!(rt; reader.consume(n), answer, "{n} of {data:?}");
+                    let consumed = reader.consume(n);
                     let place = bits.len().checked_sub(rest.len());
-                    assert_eq!(rt; Some(reader.bit_pos()), place, "{n} of {data:?}");
+                    assert_eq!(rt; (n, consumed, Some(reader.bit_pos())), (n, answer, place));
                 }
             }
         }
@@ -88,28 +88,27 @@ fn reads_on_as_a_list_of_bits(rt: HostRuntime) -> std::result::Result<(), Fail> 
                 let rest = bits.get(place..).unwrap_or(&[]);
                 let bit = rest.first().map(|digit| u32::from(*digit == b'1'));
                 let mut next = reader.clone()?;
-                assert_eq!(rt;
-                    next.read_bit(),
-                    bit.ok_or(UnexpectedEof),
-                    "{place} of {data:?}"
-                );
                 let behind = rest.get(1..).unwrap_or(&[]);
-                assert_eq!(rt; next.peek_u32(), first_32(behind), "{place} of {data:?}");
+                assert_eq!(rt;
+                    (place, next.read_bit(), next.peek_u32()),
+                    (place, bit.ok_or(UnexpectedEof), first_32(behind))
+                );
                 let mut whole = reader.clone()?;
                 whole.align();
+                let edge = place.div_ceil(8) * 8;
+                let aligned = bits.get(edge..).unwrap_or(&[]);
                 assert_eq!(rt;
-                    whole.bit_pos(),
-                    place.div_ceil(8) * 8,
-                    "{place} of {data:?}"
+                    (place, whole.bit_pos(), whole.peek_u32()),
+                    (place, edge, first_32(aligned))
                 );
-                let aligned = bits.get(place.div_ceil(8) * 8..).unwrap_or(&[]);
-                assert_eq!(rt; whole.peek_u32(), first_32(aligned), "{place} of {data:?}");
                 let zeros = rest.iter().take_while(|digit| **digit == b'0').count();
-                assert_eq!(rt; reader.zero_run(&mut ticks).0, zeros, "{place} of {data:?}");
                 assert_eq!(rt;
-                    reader.consume(1).is_ok(),
-                    bit.is_some(),
-                    "{place} of {data:?}"
+                    (
+                        place,
+                        reader.zero_run(&mut ticks).0,
+                        reader.consume(1).is_ok()
+                    ),
+                    (place, zeros, bit.is_some())
                 );
             }
         }
@@ -135,9 +134,6 @@ fn counts_zeros(rt: HostRuntime) {
         let data = &[0; 17][..length];
         assert!(rt; bits_fit(data));
         let (count, after) = BitReader::new(data).zero_run(&mut ticks);
-        assert!(rt;
-            count == 8 * length && after.is_none(),
-            "{length} zero bytes"
-        );
+        assert_eq!(rt; (count, after.is_none()), (8 * length, true));
     }
 }

@@ -39,8 +39,8 @@ fn reads_eols_with_tags(rt: HostRuntime) -> std::result::Result<(), Fail> {
         let data = bytes_of(rt.alloc(), digits)?;
         assert!(rt; bits_fit(&data));
         let mut reader = BitReader::new(&data);
-        assert_eq!(rt; reader.read_tagged_eols(&mut ticks), count, "{digits}");
-        assert_eq!(rt; reader.bit_pos(), place, "{digits}");
+        let found = reader.read_tagged_eols(&mut ticks);
+        assert_eq!(rt; (digits, found, reader.bit_pos()), (digits, count, place));
     }
     Ok(())
 }
@@ -119,11 +119,10 @@ fn looks_behind_a_row(rt: HostRuntime) -> std::result::Result<(), Fail> {
         assert!(rt; ctx.decoded_rows() > 0);
         ctx.set_has_eols(true);
         let mut reader = BitReader::new(&data);
-        assert_eq!(rt; check_eob(&mut ctx, &mut reader), answer, "{digits}");
+        let found = check_eob(&mut ctx, &mut reader);
         assert_eq!(rt;
-            (reader.bit_pos(), ctx.has_eols()),
-            (place, has_eols),
-            "{digits}"
+            (digits, found, reader.bit_pos(), ctx.has_eols()),
+            (digits, answer, place, has_eols)
         );
     }
     Ok(())

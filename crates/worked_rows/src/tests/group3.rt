@@ -192,7 +192,7 @@ fn eols_that_were_there(rt: HostRuntime) -> std::result::Result<(), Fail> {
         let mut ctx = DecoderContext::new(rt.alloc(), settings)?;
         let mut sink = sink_of(rt.alloc(), settings.columns, usize::MAX);
         let _ = decode(&data, &mut sink, &mut ctx);
-        assert_eq!(rt; ctx.has_eols(), has_eols, "{digits}");
+        assert_eq!(rt; (digits, ctx.has_eols()), (digits, has_eols));
     }
     Ok(())
 }

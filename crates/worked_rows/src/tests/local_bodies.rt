@@ -34,7 +34,7 @@ fn is_local(
     };
     assert!(rt; bits_fit(&data));
     let found = body_is_local(&data, ctx, from, to);
-    assert_eq!(rt; found, Ok(local), "{from} to {to} of {digits}");
+    assert_eq!(rt; (digits, from, to, found), (digits, from, to, Ok(local)));
 }
 
 #[test]

@@ -44,7 +44,7 @@ fn compare_all(
     for index in 0..8192u32 {
         let entry = lookup.entry(index as usize).map(u32::from);
         let wanted = scanned(index, terminating, makeup);
-        assert_eq!(rt; entry, Some(wanted), "at {index}");
+        assert_eq!(rt; (index, entry), (index, Some(wanted)));
     }
     assert_eq!(rt; lookup.entry(8192), None);
     assert_eq!(rt; lookup.entry(usize::MAX), None);
@@ -62,7 +62,7 @@ fn white_entries(rt: HostRuntime) -> std::result::Result<(), Fail> {
         (1696, 0x8000),
         (4096, 0x4003),
     ] {
-        assert_eq!(rt; white.entry(index), Some(entry), "at {index}");
+        assert_eq!(rt; (index, white.entry(index)), (index, Some(entry)));
     }
     compare_all(&rt, &white, &WHITE_TERMINATING, &WHITE_MAKEUP);
     Ok(())
@@ -79,7 +79,7 @@ fn black_entries(rt: HostRuntime) -> std::result::Result<(), Fail> {
         (440, 0xA000),
         (6144, 0x2002),
     ] {
-        assert_eq!(rt; black.entry(index), Some(entry), "at {index}");
+        assert_eq!(rt; (index, black.entry(index)), (index, Some(entry)));
     }
     compare_all(&rt, &black, &BLACK_TERMINATING, &BLACK_MAKEUP);
     Ok(())

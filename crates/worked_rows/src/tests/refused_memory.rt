@@ -104,7 +104,7 @@ fn refuses_each_request(
             assert_eq!(rt; (found, sink.taken), (answer, rows.len()));
             return;
         }
-        assert_eq!(rt; found, Err(OutOfMemory), "request {number}");
+        assert_eq!(rt; (number, found), (number, Err(OutOfMemory)));
         assert!(rt; sink.taken < rows.len());
         assert_eq!(rt; ctx.decoded_rows(), sink.taken as u64);
         decodes_known(rt, &mut ctx, data, rows, answer);
@@ -207,7 +207,7 @@ fn refused_bodies(rt: HostRuntime) -> std::result::Result<(), Fail> {
             assert_eq!(rt; found, Ok(true));
             return Ok(());
         }
-        assert_eq!(rt; found, Err(OutOfMemory), "request {number}");
+        assert_eq!(rt; (number, found), (number, Err(OutOfMemory)));
         assert_eq!(rt; body_is_local(&data, &mut ctx, 29, 39), Ok(true));
         decodes_known(&rt, &mut ctx, &data, rows, Ok(7));
     }
@@ -263,7 +263,7 @@ fn white_rows_without_memory(rt: HostRuntime) -> std::result::Result<(), Fail> {
         let mut ctx = DecoderContext::new(rt.alloc(), settings)?;
         refuse_request(rt.alloc(), 1);
         decodes_known(&rt, &mut ctx, &data, rows, answer);
-        assert!(rt; !was_refused(rt.alloc()), "{digits}");
+        assert_eq!(rt; (digits, was_refused(rt.alloc())), (digits, false));
     }
     Ok(())
 }
