@@ -4,6 +4,7 @@ pub mod ChosenBySettings
 pub mod ChosenLines
 pub mod ChosenWords
 pub mod CutBits
+pub mod DamageReachesKRows
 pub mod Elements
 pub mod FilledEols
 pub mod LinesByK
