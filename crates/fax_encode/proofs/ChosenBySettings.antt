@@ -24,7 +24,8 @@ use Rattle.fax_encode.proofs.ReadToTheEnd.{all_but, rounded_up, rtc_few, few_zer
 use Rattle.fax_encode.proofs.ChosenLines.{line_1d_encodes, line_2d_encodes}
 
 -- ---- lines
-line_encodes : (encoding : EncodingMode) (left : ℕ) (reference row : Row) → length reference ≡ length row → 0 < length row
+-- a line is one of an encoding
+pub line_encodes : (encoding : EncodingMode) (left : ℕ) (reference row : Row) → length reference ≡ length row → 0 < length row
     → EncodesLine encoding reference row (chosen_line encoding left reference row)
 line_encodes Group4 left reference row same some = line_2d_encodes reference row same
 line_encodes Group3_1D left reference row same some = line_1d_encodes row some
@@ -46,7 +47,9 @@ lines_encode encoding columns k aligned left reference (row ∷ rows) wide same 
       refl,
     )
 
-lines_with_eols_encode : (encoding : EncodingMode) (columns k : ℕ) (fills : Bool) (at left : ℕ) (reference : Row) (rows : List Row) → 0 < columns → length reference ≡ columns
+-- the lines are those of an encoding, with EOLs
+pub lines_with_eols_encode : (encoding : EncodingMode) (columns k : ℕ) (fills : Bool) (at left : ℕ) (reference : Row)
+    (rows : List Row) → 0 < columns → length reference ≡ columns
     → HaveWidth columns rows → EncodesRowsWithEols encoding reference rows (chosen_lines_with_eols encoding k fills at left reference rows)
 lines_with_eols_encode encoding columns k fills at left reference [] wide same widths = refl
 lines_with_eols_encode encoding columns k fills at left reference (row ∷ rows) wide same widths =
@@ -60,13 +63,15 @@ lines_with_eols_encode encoding columns k fills at left reference (row ∷ rows)
       refl,
     )
 
-eols_close : (encoding : EncodingMode) (fills : Bool) (at n : ℕ) → ClosesWithEols encoding n (chosen_eols encoding fills at n)
+-- and the EOLs close it
+pub eols_close : (encoding : EncodingMode) (fills : Bool) (at n : ℕ) → ClosesWithEols encoding n (chosen_eols encoding fills at n)
 eols_close encoding fills at zero = refl
 eols_close encoding fills at (suc n) =
     let next : ℕ = at + 12 + fill_of fills at + length (tag_of encoding) in
     (fill_of fills at, chosen_eols encoding fills next n, eols_close encoding fills next n, refl)
 
-white_is_wide : (columns : ℕ) → length (white_row columns) ≡ columns
+-- a white row has the width
+pub white_is_wide : (columns : ℕ) → length (white_row columns) ≡ columns
 white_is_wide columns = length-replicate columns false
 
 -- the law

@@ -5,6 +5,7 @@ pub mod ChosenLines
 pub mod ChosenWords
 pub mod ClosedPictures
 pub mod CutBits
+pub mod DamageReachesKRows
 pub mod Elements
 pub mod FilledEols
 pub mod LinesByK

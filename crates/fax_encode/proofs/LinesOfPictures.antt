@@ -120,7 +120,8 @@ all_written settings columns at left reference rows now e =
 
 -- ---- row by row
 -- the lines of rows that are pushed are those that are left
-lines_pushed : (rows : RowsEncoded) (more : List Row) → (with_rows rows more).lines ≡ rows.lines ++ lines_left rows.settings (length rows.lines) rows.left rows.last more
+pub lines_pushed : (rows : RowsEncoded) (more : List Row) → (with_rows rows more).lines ≡ rows.lines
+    ++ lines_left rows.settings (length rows.lines) rows.left rows.last more
 lines_pushed rows [] = sym (append-nil rows.lines) ∙ ap (λ (b : Bits). rows.lines ++ b) (sym (lines_none rows.settings (length rows.lines) rows.left rows.last))
 lines_pushed rows (row ∷ more) =
     lines_pushed (with_row rows row) more ∙ line_written rows.settings rows.left rows.last row more rows.lines (with_row rows row).lines refl

@@ -1,10 +1,12 @@
 -- The laws of the chosen encoding.
-use Rattle.std.specs.Prelude.{◌≡◌, ℕ, suc, ◌^◌, ◌<◌, ◌≤◌, Bool, true, false, List, [], ◌∷◌, ◌++◌, length, Ok, All}
+use Rattle.std.specs.Prelude.{◌≡◌, ℕ, suc, ◌^◌, ◌<◌, ◌≤◌, Bool, true, false, List, [], ◌∷◌, ◌++◌, length, take, drop, ◌+◌, Ok, All}
 use Rattle.hayro_ccitt.specs.declared.settings.EncodingMode.{EncodingMode}
 use Rattle.hayro_ccitt.specs.declared.settings.EncodingMode.TheVariants.{Group4, Group3_1D, Group3_2D}
 use Rattle.hayro_ccitt.specs.declared.settings.DecodeSettings.{DecodeSettings}
 use Rattle.hayro_ccitt.specs.Answers.{meaning_after}
-use Rattle.hayro_ccitt.specs.Bits.{Bits, bits_in, bits_of}
+use Rattle.hayro_ccitt.specs.Bits.{Bits, AreWholeBytes, bits_in, bits_of}
+use Rattle.hayro_ccitt.specs.Locality.{EndAlike}
+use Rattle.hayro_ccitt.specs.LocalityByK.{IsTaggedBody, RowsDiffer}
 use Rattle.hayro_ccitt.specs.Rows.{Row, HaveWidth, white_row, pixels}
 use Rattle.hayro_ccitt.specs.Encodings.{IsPicture, PictureT6, PictureT4, EncodesRows, EncodesRowsWithEols, ClosesWithEols}
 use Rattle.hayro_ccitt.specs.declared.bit_reader.BitOrder.TheVariants.{HighestFirst}
@@ -14,7 +16,7 @@ use Rattle.fax_encode.specs.Packed.{packed, shown, with_packed_row}
 use Rattle.fax_encode.specs.Refusals.{AreRows}
 use Rattle.fax_encode.specs.RowByRow.{no_rows, with_rows}
 use Rattle.fax_encode.specs.declared.settings.EncodeSettings.{EncodeSettings}
-use Rattle.fax_encode.specs.Settings.{chosen, chosen_line, chosen_lines, chosen_lines_with_eols, chosen_eols, needs_row, with_end, decode_settings_for}
+use Rattle.fax_encode.specs.Settings.{chosen, chosen_line, chosen_lines, chosen_lines_with_eols, chosen_eols, fill_of, needs_row, with_end, decode_settings_for}
 
 -- what is chosen for a picture is an encoding of it
 abbrev pub ChosenIsAnEncoding : Type 0
@@ -124,6 +126,47 @@ ChosenBySettings = (columns k : ℕ) (rows : List Row)
       end_of_block = true;
       order = HighestFirst;
     }) columns rows ≡ chosen_t4 rows)
+
+-- ---- damage
+
+-- the lenient settings that read what is chosen for this number of rows
+abbrev pub lenient_settings_for : EncodeSettings → ℕ → ℕ → DecodeSettings
+lenient_settings_for settings columns rows = record (decode_settings_for settings columns rows) { strict = false }
+
+-- where the tag of the line after these rows stands: after their lines and an EOL (T.4, 4.1.2 and 4.2.2)
+abbrev pub tag_after : EncodeSettings → ℕ → List Row → ℕ
+tag_after settings columns rows =
+    length (with_rows (no_rows settings columns) rows).lines
+    + (12 + fill_of settings.eols_end_at_bytes (length (with_rows (no_rows settings columns) rows).lines))
+
+-- where the line of a row after these rows ends
+abbrev pub line_end : EncodeSettings → ℕ → List Row → Row → ℕ
+line_end settings columns rows row =
+    tag_after settings columns rows
+    + length (chosen_line settings.encoding (with_rows (no_rows settings columns) rows).left
+    (with_rows (no_rows settings columns) rows).last row)
+
+-- two data differ only within a line of the first one, up to an EOL in both; in the second one a line is there too
+abbrev pub DamagedLine : DecodeSettings → Bits → Bits → ℕ → ℕ → ℕ → Type 0
+DamagedLine settings one two from to to2 = (take from one ≡ take from two) × (drop to one ≡ drop to2 two)
+    × IsTaggedBody settings two from to2
+
+-- their rows are equal except at most this number of them, from that line on, and both readings end alike
+abbrev pub ChangesAtMost : DecodeSettings → Bits → Bits → ℕ → ℕ → Type 0
+ChangesAtMost settings one two from count = RowsDiffer settings one two from count (plain settings one).rows
+    (plain settings two).rows
+    × EndAlike settings one two from count (plain settings one).rows (plain settings one).outcome (plain settings two).outcome
+
+-- In what is chosen as two-dimensional Group 3 with EOLs and RTC, damage within one line changes at most K rows: whatever
+-- replaces the tag and body of the line of a row, if it is such a line too, as it is read (T.4, 4.2.1).
+abbrev pub DamageReachesKRows : Type 0
+DamageReachesKRows = (settings : EncodeSettings) (columns : ℕ) (before later : List Row) (row : Row) (two : Bits) (to2 : ℕ)
+    → settings.encoding ≡ Group3_2D → settings.end_of_line ≡ true → settings.end_of_block ≡ true → 0 < settings.k
+    → columns < 2 ^ 32 → IsPicture columns (before ++ row ∷ later) → AreWholeBytes two
+    → DamagedLine (lenient_settings_for settings columns 0) (filled_up (chosen settings columns (before ++ row ∷ later))) two
+    (tag_after settings columns before) (line_end settings columns before row) to2
+    → ChangesAtMost (lenient_settings_for settings columns 0) (filled_up (chosen settings columns (before ++ row ∷ later))) two
+    (tag_after settings columns before) settings.k
 
 -- auxiliary: the bytes of what is chosen for rows of eight columns
 abbrev pub IsWritten : EncodeSettings → List Row → List ℕ → Type 0

@@ -1,6 +1,6 @@
 //! Laws of the chosen encoding: each is the contract of a function that does nothing.
 
-ghost use Rattle.fax_encode.specs.Laws.{ChosenBySettings, ChosenComesBack, ChosenIsRead, ChosenLinesEncode, NeverLonger, WorkedSettings};
+ghost use Rattle.fax_encode.specs.Laws.{ChosenBySettings, ChosenComesBack, ChosenIsRead, ChosenLinesEncode, DamageReachesKRows, NeverLonger, WorkedSettings};
 ghost use Rattle.fax_encode.specs.Laws.{RowsAreChosen, BitmapRoundTripT4, BitmapRoundTripT6, ChosenIsAnEncoding, PackedIsShown, RoundTripT6, RoundTripT4, RowsArePacked};
 
 /// What is chosen for a picture encodes it: as T.6, closed by EOFB, and as one-dimensional T.4 with an EOL before each
@@ -53,4 +53,11 @@ pub fn chosen_is_read()
 /// Rows passed to an [`Encoder`](crate::Encoder) one by one are encoded as all of them at once.
 pub fn rows_are_chosen()
     ensures { RowsAreChosen }
+{}
+
+/// In two-dimensional Group 3 with EOLs and RTC, as it is encoded, damage within one line, tag and body, that leaves no EOL there
+/// changes at most `k` rows for a lenient reading: that of the line, and those of the two-dimensional lines up to the next
+/// one-dimensional one (T.4 section 4.2.1).
+pub fn damage_reaches_k_rows()
+    ensures { DamageReachesKRows }
 {}
