@@ -2,7 +2,8 @@
  *
  *   encode ENCODER ENCODING COLUMNS BITMAP STRIP
  *
- * ENCODER is `ours` or `tiff`. ENCODING is 0 for Group 4, 1 for one-dimensional Group 3. The strip is written to STRIP.
+ * ENCODER is `ours` or `tiff`. ENCODING is 0 for Group 4, 1 for one-dimensional Group 3, 2 for two-dimensional, in which K is 4,
+ * as libtiff chooses for 200 lines an inch. The strip is written to STRIP.
  * Callgrind is given --toggle-collect=measured. */
 #include "../c/fax_encode.h"
 #include <stdio.h>
@@ -32,6 +33,9 @@ static TIFF *tiff_to_write(char *name)
     TIFFSetField(made, TIFFTAG_BITSPERSAMPLE, 1);
     TIFFSetField(made, TIFFTAG_PHOTOMETRIC, PHOTOMETRIC_MINISWHITE);
     TIFFSetField(made, TIFFTAG_COMPRESSION, settings.encoding ? COMPRESSION_CCITTFAX3 : COMPRESSION_CCITTFAX4);
+    TIFFSetField(made, TIFFTAG_YRESOLUTION, 200.0);
+    if (settings.encoding == FAX_ENCODE_GROUP_3_2D)
+        TIFFSetField(made, TIFFTAG_GROUP3OPTIONS, GROUP3OPT_2DENCODING);
     return made;
 }
 
@@ -47,8 +51,8 @@ int main(int count, char **words)
     if (count != 6)
         return 2;
     int by_tiff = !strcmp(words[1], "tiff");
-    settings = (fax_encode_settings){strtoul(words[3], NULL, 10), strtoul(words[2], NULL, 10), FAX_ENCODE_END_OF_BLOCK, 0};
-    if (settings.encoding == FAX_ENCODE_GROUP_3_1D)
+    settings = (fax_encode_settings){strtoul(words[3], NULL, 10), strtoul(words[2], NULL, 10), FAX_ENCODE_END_OF_BLOCK, 4};
+    if (settings.encoding != FAX_ENCODE_GROUP_4)
         settings.flags += FAX_ENCODE_END_OF_LINE;
     FILE *file = fopen(words[4], "rb");
     if (!file || fseek(file, 0, SEEK_END))
