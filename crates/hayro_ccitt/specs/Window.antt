@@ -14,8 +14,8 @@ place_in_word LowestFirst k = 8 * (k / 8) + (7 - k % 8)
 
 -- The window contains the bits from the offset on, the first in the highest position: those up to 33 after the limit, zeros
 -- past the end of the data, and zeros after them. The offset is at most the limit, so the window has at least the next 32
--- bits. The word ahead contains the 64 bits from its edge on, which the window reaches; if the edge is after the limit all
--- of them are within the data.
+-- bits. The word ahead contains the 64 bits from its edge on, which the window reaches; if the edge is after the limit it is
+-- within the data.
 pub record IsFilled (r : Inside) : Type 0 where
   pub fit : BitsFit r.«data».now
   pub within : r.place ≤ r.limit
@@ -26,7 +26,7 @@ pub record IsFilled (r : Inside) : Type 0 where
   pub ahead : (k : ℕ) → k < 64 → bit_of r.ahead (63 - k) ≡ get_or (bits_in r.order r.«data».now) (8 * r.edge + k) false
   pub reached : 8 * r.edge ≤ r.limit + 33
   pub near_edge : r.limit ≤ 8 * r.edge + 31
-  pub whole : r.limit < 8 * r.edge → 8 * r.edge + 64 ≤ 8 * length r.«data».now
+  pub inside : r.limit < 8 * r.edge → r.edge ≤ length r.«data».now
 
 -- ---- Bits at hand: a window that the drawing of a line keeps for itself.
 

@@ -227,16 +227,17 @@ impl<'a> BitReader<'a> {
             if next <= edge {
                 // The word ahead has what the window lacks.
                 window |= self.ahead >> (edge - next);
+                self.limit = (next + 31).min(self.data.len() * 8);
             } else if byte + 8 <= self.data.len() {
                 // The word ahead begins before the offset, and the one after it has the rest.
                 let word = whole_word(&self.data[byte..], self.order);
                 window = self.ahead << (next - edge) | word >> (64 - (next - edge));
                 self.ahead = word;
                 self.edge = byte;
+                self.limit = next + 31;
             } else {
                 return self.refill_near_end(next);
             }
-            self.limit = next + 31;
         }
         self.place = next;
         self.window = window;
@@ -254,6 +255,16 @@ impl<'a> BitReader<'a> {
         ensures only_end { IsOkUnless result DecodeError.UnexpectedEof }
     {
         let end = self.data.len() * 8;
+        let edge = self.edge * 8;
+        if next > edge && next < end && end <= edge + 64 {
+            // The word ahead has all bits that are left.
+            self.place = next;
+            self.limit = (next + 31).min(end);
+            self.window = self.ahead << (next - edge);
+            self.ahead = 0;
+            self.edge = self.data.len();
+            return Ok(());
+        }
         *self = BitReader::at_place(self.data, self.order, next.min(end));
         if next > end {
             return Err(DecodeError::UnexpectedEof);
@@ -488,13 +499,5 @@ impl<'a> BitsAtHand<'a> {
         ensures within { result ≤ length self.now.at.bits }
     {
         self.limit - self.left
-    }
-
-    /// Returns a reader at the same offset.
-    #[inline(always)]
-    pub(crate) fn reader(&self) -> BitReader<'a>
-        ensures { result ≡ self.now.at }
-    {
-        BitReader::at_place(self.data, self.order, self.limit - self.left)
     }
 }

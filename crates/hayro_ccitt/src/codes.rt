@@ -490,8 +490,23 @@ impl<'a> BitReader<'a> {
         }
     }
 
-    /// Returns whether an EOL is here. Each bit that is examined is a tick.
+    /// Returns whether an EOL is here, with its fill (T.4 sections 4.1.2 and 4.1.3). Each bit that is examined is a tick.
     fn is_at_eol(&self, ticks: &mut Ticks) -> bool
+        ensures eol { result ≡ is_some (after_eol 0 (here self.now)) }
+        ensures ticks { ticks.new ≡ ticks.old + looked (here self.now) }
+    {
+        let zeros = self.peek_u32().leading_zeros() as usize;
+        if zeros >= 32 {
+            return self.is_at_far_eol(ticks);
+        }
+        ticks.tick_times(zeros + 1);
+        zeros >= 11
+    }
+
+    /// The same for an EOL that may have more fill.
+    #[cold]
+    #[inline(never)]
+    fn is_at_far_eol(&self, ticks: &mut Ticks) -> bool
         ensures eol { result ≡ is_some (after_eol 0 (here self.now)) }
         ensures ticks { ticks.new ≡ ticks.old + looked (here self.now) }
     {

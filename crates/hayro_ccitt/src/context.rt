@@ -11,7 +11,7 @@ ghost use Rattle.hayro_ccitt.specs.Answers.{DrawsLine, DrawsStep, OnAnswer, word
 use crate::bit_reader::{BitOrder, BitReader, BitsAtHand};
 use crate::changes::{append_pixels, b1_index, change_or_end};
 use crate::codes::{Color, Mode, Ticks};
-use crate::modes::{draw_modes, is_white_row, lay_down_row};
+use crate::modes::{draw_modes, has_no_room, is_white_row, lay_down_row};
 use crate::settings::DecodeSettings;
 use crate::tables::Tables;
 use crate::usual::{draw_runs, lay_down, take_up};
@@ -509,12 +509,12 @@ impl DecoderContext {
         }
         if let Some(mut hand) = reader.at_hand(BitOrder::HighestFirst) {
             self.draw_by_twos(&mut hand);
-            *reader = hand.reader();
+            reader.go_to(hand.bit_pos());
             return;
         }
         if let Some(mut hand) = reader.at_hand(BitOrder::LowestFirst) {
             self.draw_by_twos(&mut hand);
-            *reader = hand.reader();
+            reader.go_to(hand.bit_pos());
         }
     }
 
@@ -633,6 +633,10 @@ impl DecoderContext {
         ensures same_bits { reader.new.bits ≡ reader.old.bits }
     {
         if self.draw_white_line(reader) {
+            return;
+        }
+        // Before the first change is stored, room is made for it by a call that may fail.
+        if is_white_row(&self.ref_changes) && has_no_room(&self.coding_changes) {
             return;
         }
         self.draw_modes_of(reader);

@@ -54,6 +54,14 @@ fn has_place(changes: &Vec<u32>) -> bool
     changes.capacity() > changes.len()
 }
 
+/// Returns whether a list has no room even for its first change.
+#[inline(always)]
+pub(crate) fn has_no_room(changes: &Vec<u32>) -> bool
+    ensures { result ≡ true → vec_capacity changes.now ≡ 0 }
+{
+    changes.capacity() == 0
+}
+
 /// Draws V0: a change below b1, or the rest of the row. Returns `None`, and draws nothing, if there is no room for a
 /// change.
 #[inline(always)]

@@ -103,6 +103,14 @@ pub(crate) fn has_room(changes: &Vec<u32>) -> bool
     changes.capacity() - changes.len() >= 2
 }
 
+/// The same, by a sum: the loop over pairs of runs then has its values in registers, in either order of bits.
+#[inline(always)]
+fn has_room_for_pair(changes: &Vec<u32>) -> bool
+    ensures { result ≡ true → vec_len changes.now + 2 ≤ vec_capacity changes.now }
+{
+    changes.len() + 2 <= changes.capacity()
+}
+
 /// Returns whether a run is no fault with this much room: it fits, or the reading is lenient.
 #[inline(always)]
 fn fits(run: u32, room: u32, strict: bool) -> bool
@@ -153,7 +161,7 @@ fn draw_two_runs(
     if !is_next(row, run) {
         return None;
     }
-    if !has_room(row) {
+    if !has_room_for_pair(row) {
         return None;
     }
     let place = painted + run;
@@ -236,7 +244,7 @@ fn draw_short_runs(
     if run + run2 >= columns - painted {
         return None;
     }
-    if !has_room(row) {
+    if !has_room_for_pair(row) {
         return None;
     }
     hand.pass(width);

@@ -1,9 +1,13 @@
 -- A window that moves on stays filled.
-use Rattle.std.proofs.Common.{◌≡◌, ℕ, ◌+◌, ◌-◌, ◌*◌, ◌/◌, ◌%◌, ◌^◌, ◌<◌, ◌≤◌, false, length, get_or, ap, ◌∙◌, arith}
+use Rattle.std.proofs.Common.{◌≡◌, ℕ, ◌+◌, ◌-◌, ◌*◌, ◌/◌, ◌%◌, ◌^◌, ◌<◌, ◌≤◌, eqb, min, inl, inr, false, length, get_or, sym, ap, ◌∙◌, arith}
 use Rattle.std.specs.Int.RustNames.{bit_or}
+use Rattle.std.proofs.lemmas.Bool.{cases_lt}
+use Rattle.std.proofs.lemmas.List.{get_or_past}
+use Rattle.std.proofs.lemmas.Nat.Bits.{bit_at-zero}
 use Rattle.hayro_ccitt.specs.declared.bit_reader.BitReader.TheInside.{Inside}
 use Rattle.hayro_ccitt.specs.Bits.{Bits, bit_of, bits_in}
 use Rattle.hayro_ccitt.specs.Window.{IsFilled}
+use Rattle.hayro_ccitt.proofs.BitReading.BitLists.{length-bits_in}
 use Rattle.hayro_ccitt.proofs.BitReading.WindowWords.{holds_on, zeros_behind, joined}
 
 -- it has all bits up to the next position
@@ -22,33 +26,38 @@ filled_on r n f within =
       ahead = f.ahead;
       reached = f.reached;
       near_edge = f.near_edge;
-      whole = f.whole;
+      inside = f.inside;
     }
 
 -- the word ahead has the rest
 pub filled_ahead : (r : Inside) (n : ℕ) → IsFilled r → r.ahead < 2 ^ 64 → r.limit < r.place + n → r.place + n ≤ r.edge * 8
-    → IsFilled record r { place = r.place + n; limit = r.place + n + 31; window = bit_or (r.window * 2 ^ n % 2 ^ 64) (r.ahead / 2 ^ (r.edge * 8 - (r.place + n))) }
+    → IsFilled record r {
+      place = r.place + n;
+      limit = min (r.place + n + 31) (length r.«data».now * 8);
+      window = bit_or (r.window * 2 ^ n % 2 ^ 64) (r.ahead / 2 ^ (r.edge * 8 - (r.place + n)));
+    }
 filled_ahead r n f fits past before =
     let bits : Bits = bits_in r.order r.«data».now in
     let next : ℕ = r.place + n in
     let most : ℕ = r.limit + 33 - r.place in
     let left : ℕ = r.edge * 8 - next in
     let few : most ≤ 64 = omega (arith, f.near) in
-    let whole : 8 * r.edge + 64 ≤ 8 * length r.«data».now = f.whole (omega (arith, past, before)) in
+    let inside : r.edge ≤ length r.«data».now = f.inside (omega (arith, past, before)) in
     let window = joined bits r.place n most r.window r.ahead left few (omega (arith, f.reached, before)) fits f.held
     (λ j lt after. f.behind j lt (omega (arith, after)))
     (λ j lt. let at : 8 * r.edge + j ≡ next + left + j = omega (arith, before) in f.ahead j lt ∙ ap (λ (i : ℕ). get_or bits i false) at) in
     record {
       fit = f.fit;
-      within = omega arith;
-      before_end = omega (arith, before, whole);
+      within = omega (arith, before, inside);
+      before_end = omega arith;
       near = omega arith;
       held = λ k h. window k (omega (arith, h));
-      behind = λ k h after. absurd (omega (arith, h, after));
+      behind = λ k h after.
+          window k h ∙ get_or_past bits (next + k) false (omega (arith, after, h, length-bits_in r.order r.«data».now));
       ahead = f.ahead;
-      reached = omega (arith, f.reached, past);
+      reached = omega (arith, f.reached, past, f.before_end);
       near_edge = omega (arith, before);
-      whole = λ h. whole;
+      inside = λ h. inside;
     }
 
 -- the word after the one ahead has the rest
@@ -79,5 +88,42 @@ filled_afresh r n word f few fits past room fresh =
       ahead = fresh;
       reached = omega (arith, past);
       near_edge = omega (arith, near);
-      whole = λ h. omega (arith, room);
+      inside = λ h. omega (arith, room);
+    }
+
+-- the word ahead has all bits that are left
+pub filled_last : (r : Inside) (next : ℕ) → IsFilled r → r.edge * 8 < next → next < length r.«data».now * 8
+    → length r.«data».now * 8 ≤ r.edge * 8 + 64
+    → IsFilled record r {
+      place = next;
+      limit = min (next + 31) (length r.«data».now * 8);
+      window = r.ahead * 2 ^ (next - r.edge * 8) % 2 ^ 64;
+      ahead = 0;
+      edge = length r.«data».now;
+    }
+filled_last r next f past before last =
+    let bits : Bits = bits_in r.order r.«data».now in
+    let passed : ℕ = next - r.edge * 8 in
+    let size = length-bits_in r.order r.«data».now in
+    let all : (k : ℕ) → k < 64 → bit_of (r.ahead * 2 ^ passed % 2 ^ 64) (63 - k) ≡ get_or bits (next + k) false =
+    λ k h. elim (cases_lt (passed + k) 64) [
+      | inl own ↦
+          let at : 8 * r.edge + passed + k ≡ next + k = omega (arith, past) in
+          holds_on bits (8 * r.edge) passed 64 r.ahead (omega arith) f.ahead k own ∙ ap (λ (i : ℕ). get_or bits i false) at
+      | inr out ↦
+          let beyond = get_or_past bits (next + k) false (omega (arith, past, last, out, size)) in
+          zeros_behind passed 64 r.ahead (λ j lt after. absurd (omega (arith, lt, after))) k h out ∙ sym beyond
+    ] in
+    record {
+      fit = f.fit;
+      within = omega (arith, before);
+      before_end = omega arith;
+      near = omega arith;
+      held = λ k h. all k (omega (arith, h));
+      behind = λ k h after. all k h ∙ get_or_past bits (next + k) false (omega (arith, after, h, size));
+      ahead = λ k h.
+          ap (λ (b : ℕ). eqb b 1) (bit_at-zero (63 - k)) ∙ sym (get_or_past bits (8 * length r.«data».now + k) false (omega (arith, size)));
+      reached = omega (arith, past, last);
+      near_edge = omega arith;
+      inside = λ h. omega arith;
     }

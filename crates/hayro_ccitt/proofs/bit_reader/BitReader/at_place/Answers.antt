@@ -18,5 +18,5 @@ invariant_of-result c =
       ahead = c.word_at-ahead.ensures;
       reached = omega arith;
       near_edge = omega arith;
-      whole = λ h. absurd (omega (arith, h));
+      inside = λ h. omega (arith, c.requires.within);
     }

@@ -6,31 +6,33 @@ use Rattle.hayro_ccitt.proofs.BitReading.BitPlaces.{bits_at}
 use Rattle.hayro_ccitt.proofs.BitReading.WindowWords.{bits_in-drop}
 use Rattle.hayro_ccitt.proofs.BitReading.FilledWindows.{filled_on, filled_ahead, filled_afresh}
 use Rattle.hayro_ccitt.proofs.bit_reader.BitReader.consume.Goals as goal
-use Rattle.hayro_ccitt.proofs.bit_reader.BitReader.consume.Goals.{then-next-self, then-next-edge, else-next-edge+then-byte-self, else-next-self}
+use Rattle.hayro_ccitt.proofs.bit_reader.BitReader.consume.Goals.{then-next-self+then-next-edge}
+use Rattle.hayro_ccitt.proofs.bit_reader.BitReader.consume.Goals.{then-next-self+else-next-edge+then-byte-self, else-next-self}
 use Rattle.std.proofs.lemmas.Grind.{common_steps}
 
 pub invariant_of-self : goal.invariant_of-self
 invariant_of-self c =
     let r = c.self.inside in
     elim c.if-next-self.branch [
-      | then-next-self w ↦ elim w.if-next-edge.branch [
-        | then-next-edge v ↦
-            let fits : r.ahead < 2 ^ 64 = omega arith in
-            rw (w.window-is, w.self-inside-is, v.window-is, v.self-inside-is) (filled_ahead r c.args.n c.self.invariant fits w.if-next-self.true v.if-next-edge.true)
-        | else-next-edge+then-byte-self v ↦
-            let word = v.whole_word-word.result in
-            let fits : word < 2 ^ 64 = omega arith in
-            let fresh : (j : ℕ) → j < 64 → bit_of word (63 - j) ≡ get_or (bits_in r.order r.«data».now) (8 * (r.edge + 8) + j) false =
-            λ j lt. v.whole_word-word.ensures j lt ∙ ap (λ (xs : List ℕ). get_or (bits_in r.order xs) j false) (take_rest r.«data».now (r.edge + 8)) ∙ bits_in-drop r.order r.«data».now (r.edge + 8) j in
-            rw (w.window-is, w.self-inside-is, v.window-is, v.self-inside-is)
-            (filled_afresh r c.args.n word c.self.invariant c.requires fits (omega (arith, v.if-next-edge.false)) v.if-byte-self.true fresh)
-      ]
+      | then-next-self+then-next-edge v ↦
+          let fits : r.ahead < 2 ^ 64 = omega arith in
+          rw (v.window-is, v.self-inside-is, v.min-self-inside.ensures)
+          (filled_ahead r c.args.n c.self.invariant fits v.if-next-self.true v.if-next-edge.true)
+      | then-next-self+else-next-edge+then-byte-self v ↦
+          let word = v.whole_word-word.result in
+          let fits : word < 2 ^ 64 = omega arith in
+          let fresh : (j : ℕ) → j < 64 → bit_of word (63 - j) ≡ get_or (bits_in r.order r.«data».now) (8 * (r.edge + 8) + j) false =
+          λ j lt. v.whole_word-word.ensures j lt
+          ∙ ap (λ (xs : List ℕ). get_or (bits_in r.order xs) j false) (take_rest r.«data».now (r.edge + 8))
+          ∙ bits_in-drop r.order r.«data».now (r.edge + 8) j in
+          rw (v.window-is, v.self-inside-is)
+          (filled_afresh r c.args.n word c.self.invariant c.requires fits (omega (arith, v.if-next-edge.false)) v.if-byte-self.true fresh)
       | else-next-self w ↦ rw (w.window-is, w.self-inside-is) (filled_on r c.args.n c.self.invariant (omega (arith, w.if-next-self.false)))
     ]
 
 -- the data doesn't change, nor does the order of its bits
 same_data : (c : goal.After-self-3-1) → (c.if-next-self.self-inside.«data» ≡ c.self.inside.«data») × (c.if-next-self.self-inside.order ≡ c.self.inside.order)
-same_data c = grind (arith, common_steps, else-next-self, then-next-edge, then-next-self)
+same_data c = grind (arith, common_steps, else-next-self, then-next-self+then-next-edge, then-next-self+else-next-edge+then-byte-self)
 
 -- so that the position is within them
 within : (c : goal.After-self-3-1) → c.self.inside.place + c.args.n ≤ length (bits_in c.self.inside.order c.self.inside.«data».now)

@@ -1,13 +1,31 @@
-use Rattle.std.proofs.Common.{◌≡◌, ap}
+use Rattle.std.proofs.Common.{◌≡◌, ◌≤◌, ℕ, length, drop, ap, sym, subst, ◌∙◌}
+use Rattle.hayro_ccitt.specs.Bits.{Bits, BitsAt, here}
 use Rattle.hayro_ccitt.specs.Window.{AtHand}
 use Rattle.hayro_ccitt.proofs.context.DecoderContext.draw_runs_of.Goals as goal
 
+pub go_to-requires : goal.go_to-requires
+go_to-requires c =
+    let bits : c.draw_by_twos.new.hand.at.bits ≡ c.args.reader.now.bits
+    = c.draw_by_twos.ensures.same_bits ∙ ap (λ (h : AtHand). h.at.bits) c.in-Some.ensures.same in
+    subst (λ (b : Bits). c.bit_pos.result ≤ length b) bits c.bit_pos.ensures.within
+
 pub returns-in-Some-clause-drawn : goal.returns-in-Some-clause-drawn
 returns-in-Some-clause-drawn c =
+    let hand = c.draw_by_twos.new.hand in
     let same : c.in-Some.hand.at ≡ c.args.reader.now = ap (λ (h : AtHand). h.at) c.in-Some.ensures.same in
-    rw (c.reader.ensures, ← same) c.draw_by_twos.ensures.drawn
+    let bits : hand.at.bits ≡ c.args.reader.now.bits = c.draw_by_twos.ensures.same_bits ∙ ap (λ (at : BitsAt). at.bits) same in
+    let there : here c.go_to.new.self ≡ here hand.at
+    = ap here c.go_to.ensures ∙ ap (λ (n : ℕ). drop n c.args.reader.now.bits) c.bit_pos.ensures.place
+    ∙ ap (λ (b : Bits). drop hand.at.place b) (sym bits) in
+    rw (there, ← same) c.draw_by_twos.ensures.drawn
 
 pub returns-in-Some-at_hand-clause-drawn : goal.returns-in-Some-at_hand-clause-drawn
 returns-in-Some-at_hand-clause-drawn c =
+    let hand = c.draw_by_twos-in-Some-at_hand.new.hand in
     let same : c.in-Some-at_hand.hand.at ≡ c.args.reader.now = ap (λ (h : AtHand). h.at) c.in-Some-at_hand.ensures.same in
-    rw (c.reader-in-Some-at_hand.ensures, ← same) c.draw_by_twos-in-Some-at_hand.ensures.drawn
+    let bits : hand.at.bits ≡ c.args.reader.now.bits
+    = c.draw_by_twos-in-Some-at_hand.ensures.same_bits ∙ ap (λ (at : BitsAt). at.bits) same in
+    let there : here c.go_to-in-Some-at_hand.new.self ≡ here hand.at
+    = ap here c.go_to-in-Some-at_hand.ensures ∙ ap (λ (n : ℕ). drop n c.args.reader.now.bits) c.bit_pos-in-Some-at_hand.ensures.place
+    ∙ ap (λ (b : Bits). drop hand.at.place b) (sym bits) in
+    rw (there, ← same) c.draw_by_twos-in-Some-at_hand.ensures.drawn
