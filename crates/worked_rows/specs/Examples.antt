@@ -133,7 +133,7 @@ ReadsDamage = (reading_of with_eols three_rows ≡ ([] ∷ (3 ∷ 5 ∷ []) ∷ 
 abbrev pub LimitBehindTheBody : Type 0
 LimitBehindTheBody = (rows : List Row) (count count2 : ℕ)
     → EndAlike (group3_1d 8 3 "l") (bits_of (hex three_rows)) (bits_of (hex words_added)) 29 1 rows (Ok count) (Ok count2)
-        → count + 16 ≡ count2 + 7
+    → count + 16 ≡ count2 + 7
 
 -- ---- Locality in two dimensions
 
