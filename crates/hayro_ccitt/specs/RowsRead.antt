@@ -212,7 +212,8 @@ pub record PaidBehindRow (settings : DecodeSettings) (bits : Bits) (held : Held)
   pub at_line : PaidAtLine settings bits before start ticks_before
   pub kept : held.has_eols ≡ before.has_eols
   pub row_is : row_of_line settings before.has_eols start (line_here settings before.reference start) ≡ Ok (held.reference, rest)
-  pub line : ticks ≤ ticks_before + 4 * length (found_here settings before.reference start) + 2 + length (changes before.reference)
+  pub line : ticks ≤ ticks_before + 4 * length (found_here settings before.reference start) + 2
+      + length (changes before.reference)
   pub stored : length (changes held.reference) ≤ length (found_here settings before.reference start) + 1
 
 -- the account of a reader of rows

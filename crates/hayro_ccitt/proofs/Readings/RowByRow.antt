@@ -90,11 +90,13 @@ module _ (settings : DecodeSettings) (wide : 0 < settings.columns) (bits : Bits)
         let gives = end_of_turn settings bits in
         get_or-there (row_ends settings bits) (length so_far.rows) (gives so_far) other
         (ap (λ (xs : List ℕ). slice_get xs (length so_far.rows)) (gathered_is gives)
-        ∙ comes_line (move_on settings) (one_each gives) left_to_read (by_rows_left settings wide) first none_first so_far (comes gives)
+        ∙ comes_line (move_on settings) (one_each gives) left_to_read (by_rows_left settings wide) first none_first so_far
+        (comes gives)
         (gives so_far) refl)
 
     -- where its turn is the last, a reading fails there
-    pub fails_behind : (end : Ending) → move_on settings so_far ≡ Turn.done end → (row : Row) (rest : Bits) → row_of_turn settings so_far ≡ Ok (row, rest)
+    pub fails_behind : (end : Ending) → move_on settings so_far ≡ Turn.done end → (row : Row) (rest : Bits)
+        → row_of_turn settings so_far ≡ Ok (row, rest)
         → failed_at settings bits (length so_far.rows + 1) ≡ length bits - length rest
     fails_behind end ends row rest is =
         let index : (length so_far.rows + 1) - 1 ≡ length so_far.rows = omega arith in
@@ -135,11 +137,13 @@ module _ (settings : DecodeSettings) (wide : 0 < settings.columns) (bits : Bits)
           ∙ comes_line (move_on settings) (one_each (repaired_by_turn settings bits)) left_to_read (by_rows_left settings wide) first none_first so_far (comes (repaired_by_turn settings bits)) repaired refl)
 
       -- what is counted of each line, with that of its line
-      gathered_more : {A : Type 0} (counted : List (List A)) (gives : Progress → List A) → counted ≡ gathered_from (move_on settings) (one_each gives) first
+      gathered_more : {A : Type 0} (counted : List (List A)) (gives : Progress → List A)
+          → counted ≡ gathered_from (move_on settings) (one_each gives) first
           → sum_by length (take (rows + 1) counted) ≡ sum_by length (take rows counted) + length (gives so_far)
       gathered_more {A = A} counted gives are =
           let on = ap (λ (n : ℕ). drop n counted) taken ∙ ap (λ (xs : List (List A)). drop (length so_far.rows) xs) are
-          ∙ lines_on (move_on settings) (one_each gives) left_to_read (by_rows_left settings wide) first none_first so_far (comes gives) (gives so_far) refl in
+          ∙ lines_on (move_on settings) (one_each gives) left_to_read (by_rows_left settings wide) first none_first so_far
+          (comes gives) (gives so_far) refl in
           let next : rows + 1 ≡ suc rows = omega arith in
           ap (λ (n : ℕ). sum_by length (take n counted)) next ∙ sum_more counted rows (gives so_far) _ on
 
@@ -366,17 +370,20 @@ module _ (settings : DecodeSettings) (bits : Bits) (held : Held) (here_now : Bit
   last_taken = ap (λ (h : Held). h.taken) frame ∙ ap (λ (h : Held). h.taken) stands.held_is
 
   -- with a faulty gap the reading fails where it begins
-  fails_there : (e : DecodeError) → gap_behind_row held.settings held.taken held.has_eols here_now ≡ gap_said (Err e) last.has_eols (drop place bits)
+  fails_there : (e : DecodeError) → gap_behind_row held.settings held.taken held.has_eols here_now
+      ≡ gap_said (Err e) last.has_eols (drop place bits)
       → failed_at settings bits held.taken ≡ length bits - length here_now
   fails_there e said =
       let more : held.taken ≡ length stands.so_far.rows + 1
       = ap (λ (h : Held). h.taken) stands.held_is ∙ length-append stands.so_far.rows (stands.row ∷ []) in
       ap (failed_at settings bits) more
-      ∙ fails_behind settings stands.wide bits stands.first stands.begins stands.so_far stands.reaches _ (turn_said (Err e) said) stands.row
+      ∙ fails_behind settings stands.wide bits stands.first stands.begins stands.so_far stands.reaches _
+      (turn_said (Err e) said) stands.row
       here_now stands.row_is
 
   pub starts_behind : (answer : Result Bool DecodeError) → gap_behind_row held.settings held.taken held.has_eols here_now ≡ gap_said answer last.has_eols (drop place bits)
-      → (offset before : ℕ) → offset ≡ length bits - length here_now → OnErr answer (start_after answer offset before ≡ failed_at settings bits held.taken)
+      → (offset before : ℕ) → offset ≡ length bits - length here_now
+      → OnErr answer (start_after answer offset before ≡ failed_at settings bits held.taken)
   starts_behind (Ok over) said offset before is = tt
   starts_behind (Err e) said offset before is = is ∙ sym (fails_there e said)
 
@@ -431,13 +438,15 @@ module _ (settings : DecodeSettings) (wide : 0 < settings.columns) (bits : Bits)
   first_gap_stands (Err e) said code = ended_badly settings bits [] last place within none false e code (first_ended _ (first_said (Err e) said))
 
 -- where no EOLs are sought, no gap is faulty
-pub no_fault : (settings : DecodeSettings) (taken : ℕ) (here : Bits) (answer : Result Bool DecodeError) (has_eols : Bool) (rest : Bits)
+pub no_fault : (settings : DecodeSettings) (taken : ℕ) (here : Bits) (answer : Result Bool DecodeError) (has_eols : Bool)
+    (rest : Bits)
     → gap_behind_row settings taken false here ≡ gap_said answer has_eols rest → (error : DecodeError)
     → ended (stand_after answer) ≡ Some (Err error) → ⊥
 no_fault settings taken here (Ok true) has_eols rest said error is = cc
 no_fault settings taken here (Ok false) has_eols rest said error is = cc
 no_fault settings taken here (Err e) has_eols rest said error is =
-    by (is_over settings taken (eols_here settings here)) (sym (cond-false (misses_eol settings taken false here) _ _ unmissed) ∙ said)
+    by (is_over settings taken (eols_here settings here)) (sym (cond-false (misses_eol settings taken false here) _ _ unmissed)
+    ∙ said)
   where
     unmissed : misses_eol settings taken false here ≡ false
     unmissed = by_count (eqb (eols_here settings here).0 0)
@@ -446,7 +455,8 @@ no_fault settings taken here (Err e) has_eols rest said error is =
         by_count true = refl
         by_count false = refl
 
-    by : (over : Bool) → cond {A = Gap} over (Gap.over (Ok (eols_here settings here).1)) (Gap.line_at false (eols_here settings here).1) ≡ Gap.over (Err e) → ⊥
+    by : (over : Bool) → cond {A = Gap} over (Gap.over (Ok (eols_here settings here).1))
+        (Gap.line_at false (eols_here settings here).1) ≡ Gap.over (Err e) → ⊥
     by true never = cc
     by false never = cc
 
@@ -476,10 +486,12 @@ repairs_stay settings given bits read held last same are taken repairs counted =
 }
 
 -- the result of a call that passes a gap
-pub comes_to_line : (old : RowsRead) (last : Held) (ticks : ℕ) (at : BitsAt) (n : ℕ) (damage : Option DecodeError) (answer : Result Bool DecodeError)
+pub comes_to_line : (old : RowsRead) (last : Held) (ticks : ℕ) (at : BitsAt) (n : ℕ) (damage : Option DecodeError)
+    (answer : Result Bool DecodeError)
     → last.settings ≡ old.settings → at.bits ≡ old.bits → last.taken ≡ old.taken → old.ticks ≤ ticks
     → (last.reference ≡ old.row) × (damage ≡ old.damage) → IfOk answer (λ over. n ≡ old.line_start)
-    → Stands (stand_after answer) old.settings old.bits last at.place → OnErr answer (n ≡ failed_at old.settings old.bits old.taken)
+    → Stands (stand_after answer) old.settings old.bits last at.place
+    → OnErr answer (n ≡ failed_at old.settings old.bits old.taken)
     → ComesToLine old (read_so_far last ticks at n damage (stand_after answer)) (line_after answer)
 comes_to_line old last ticks at n damage (Ok true) settings bits taken counts row begun stands start =
     record {

@@ -76,7 +76,8 @@ start_stays c =
 
 -- what was counted is paid
 paid : (c : After-line_after_gap) → IsStanding c.args.self.now c.args.reader.now
-    → WorkIsPaid (stand_after c.pass_gap-over.result) c.args.self.now.ctx.held.settings c.args.reader.now.bits c.pass_gap-over.new.ctx.held
+    → WorkIsPaid (stand_after c.pass_gap-over.result) c.args.self.now.ctx.held.settings c.args.reader.now.bits
+    c.pass_gap-over.new.ctx.held
     c.pass_gap-over.new.reader.place c.pass_gap-over.new.ctx.ticks
 paid c stands =
     let rows = c.args.self.now in
@@ -99,11 +100,13 @@ paid c stands =
         c.pass_gap-over.ensures.counts,
         ap (λ (h : Held). sum_by length (take h.taken (words_of held.settings bits))) c.pass_gap-over.ensures.held,
       );
-      paid = gap_paid held.settings behind.wide bits held (here c.args.reader.now) rows.ctx.ticks row last at.place c.pass_gap-over.new.ctx.ticks
+      paid = gap_paid held.settings behind.wide bits held (here c.args.reader.now) rows.ctx.ticks row last at.place
+          c.pass_gap-over.new.ctx.ticks
           c.pass_gap-over.ensures.held c.pass_gap-over.result said c.pass_gap-over.ensures.given_up
           (subst (λ (b : Bits). OnOk c.pass_gap-over.result (last.has_eols ≡ held.has_eols
           → c.pass_gap-over.new.ctx.ticks + 4 * length (drop at.place b) ≤ rows.ctx.ticks + 4 * length (here c.args.reader.now)
-          + tag_tests held.settings.encoding + looked_ahead held.settings.encoding (drop at.place b))) same c.pass_gap-over.ensures.work)
+          + tag_tests held.settings.encoding + looked_ahead held.settings.encoding (drop at.place b))) same
+          c.pass_gap-over.ensures.work)
           c.pass_gap-over.ensures.work_given_up c.pass_gap-over.ensures.work_refused;
     }
 
@@ -120,9 +123,12 @@ returns-clause-stands c stands =
           (subst (λ (s : DecodeSettings). Stands (stand_after c.pass_gap-over.result) s at.bits last at.place) (sym same)
           (subst (λ (b : Bits). Stands (stand_after c.pass_gap-over.result) settings b last at.place) (sym c.pass_gap-over.ensures.same_bits) (passed c stands))),
       counted,
-      subst (λ (s : Stand). WorkIsPaid s last.settings at.bits last at.place c.pass_gap-over.new.ctx.ticks) (sym c.stand_after_gap-self.ensures)
-          (subst (λ (s : DecodeSettings). WorkIsPaid (stand_after c.pass_gap-over.result) s at.bits last at.place c.pass_gap-over.new.ctx.ticks) (sym same)
-          (subst (λ (b : Bits). WorkIsPaid (stand_after c.pass_gap-over.result) settings b last at.place c.pass_gap-over.new.ctx.ticks)
+      subst (λ (s : Stand). WorkIsPaid s last.settings at.bits last at.place c.pass_gap-over.new.ctx.ticks)
+          (sym c.stand_after_gap-self.ensures)
+          (subst (λ (s : DecodeSettings). WorkIsPaid (stand_after c.pass_gap-over.result) s at.bits last at.place
+          c.pass_gap-over.new.ctx.ticks) (sym same)
+          (subst (λ (b : Bits). WorkIsPaid (stand_after c.pass_gap-over.result) settings b last at.place
+          c.pass_gap-over.new.ctx.ticks)
           (sym c.pass_gap-over.ensures.same_bits) (paid c stands))),
     )
 
@@ -135,10 +141,12 @@ returns-clause-comes c stands =
     let settings : last.settings ≡ rows.ctx.held.settings = ap (λ (h : Held). h.settings) c.pass_gap-over.ensures.held in
     let taken : last.taken ≡ rows.ctx.held.taken = ap (λ (h : Held). h.taken) c.pass_gap-over.ensures.held in
     let start = c.start_after_gap-self.result in
-    subst (λ (s : Stand). ComesToLine old (read_so_far last c.pass_gap-over.new.ctx.ticks at start rows.damage s) c.line_after_gap.result)
+    subst (λ (s : Stand). ComesToLine old (read_so_far last c.pass_gap-over.new.ctx.ticks at start rows.damage s)
+    c.line_after_gap.result)
     (sym c.stand_after_gap-self.ensures)
     (subst (λ (r : Result Bool DecodeError). ComesToLine old (read_so_far last c.pass_gap-over.new.ctx.ticks at start rows.damage
     (stand_after c.pass_gap-over.result)) r) (sym c.line_after_gap.ensures)
     (comes_to_line old last c.pass_gap-over.new.ctx.ticks at start rows.damage c.pass_gap-over.result settings
-    c.pass_gap-over.ensures.same_bits taken c.pass_gap-over.ensures.counts (ap (λ (h : Held). h.reference) c.pass_gap-over.ensures.held, refl) (start_stays c)
+    c.pass_gap-over.ensures.same_bits taken c.pass_gap-over.ensures.counts
+    (ap (λ (h : Held). h.reference) c.pass_gap-over.ensures.held, refl) (start_stays c)
     (passed c stands) (started c stands)))
