@@ -1,14 +1,16 @@
 -- The examples.
-use Rattle.std.proofs.Common.{◌≡◌, ◌*◌, ℕ, ◌+◌, ◌≤◌, true, false, [], ◌∷◌, length, Result, Ok, Err, refl, sym, ap, subst, ◌∙◌, arith, ◌⊎◌, inl, inr}
+use Rattle.std.proofs.Common.{◌≡◌, ◌*◌, ℕ, ◌+◌, ◌≤◌, true, false, [], ◌∷◌, ◌++◌, length, drop, Result, Ok, Err, refl, sym, ap, subst, ◌∙◌, arith, ◌⊎◌, inl, inr}
 use Rattle.std.specs.Prelude.{pos, negsuc}
 use Rattle.std.proofs.lemmas.List.Elements.{All-cons}
 use Rattle.hayro_ccitt.specs.declared.codes.Color.TheVariants.{White}
 use Rattle.hayro_ccitt.specs.declared.error.DecodeError.{DecodeError}
 use Rattle.hayro_ccitt.specs.Bits.{Bits, bits_of}
-use Rattle.hayro_ccitt.specs.Rows.{Row, pixels}
+use Rattle.hayro_ccitt.specs.Rows.{Row, pixels, white_row}
 use Rattle.hayro_ccitt.specs.Lines.{Line}
-use Rattle.hayro_ccitt.specs.Encodings.{Spells, EncodesLine1D, EncodesLine2D}
-use Rattle.worked_rows.specs.Examples.{hex, EncodesTwoLines, EncodesTaggedRows, with_eols, three_rows, bits_changed, bits_added, words_added, group3_1d, HaveLocalBodies, ReadsDamage, LimitBehindTheBody, OneLineFollows, ReadsDamageByK}
+use Rattle.hayro_ccitt.specs.Encodings.{Spells, EncodesLine1D, EncodesLine2D, IsPicture, eol}
+use Rattle.hayro_ccitt.specs.LocalityByK.{IsTaggedBody}
+use Rattle.hayro_ccitt.proofs.DamagedLines.EncodedBodies.{encoded_lines_are_bodies}
+use Rattle.worked_rows.specs.Examples.{hex, EncodesTwoLines, EncodesTaggedRows, with_eols, three_rows, bits_changed, bits_added, words_added, group3_1d, HaveLocalBodies, ReadsDamage, LimitBehindTheBody, OneLineFollows, OneLineDiffers, ReadsDamageByK, with_tags, four_rows}
 use Rattle.hayro_ccitt.specs.Locality.{IsLocal, IsLocalByTests, ComesToLine, EndAlike}
 use Rattle.hayro_ccitt.specs.Repetition.{Turn, Reaches}
 use Rattle.hayro_ccitt.specs.PlainReading.{Progress, Move, first_line, move_on}
@@ -225,6 +227,55 @@ one_line_follows = (
   refl,
   ((_, refl), inr (inl (_, refl))),
 )
+
+-- the first line with its EOL, and the bits from the third one's EOL on
+abbrev first_line_of : Bits
+first_line_of = eol 0 ++ (true ∷ true ∷ false ∷ false ∷ true ∷ true ∷ []) ++ []
+
+abbrev from_third : Bits
+from_third = drop 41 (bits_of (hex four_rows))
+
+-- a second line of one white and one black run
+body_of : (m : ℕ) (word : Bits) → IsPicture 8 (pixels 8 (m ∷ (m + 2) ∷ []) ∷ pixels 8 [] ∷ [])
+    → EncodesLine2D (pixels 8 []) (pixels 8 (m ∷ (m + 2) ∷ [])) 0 White (false ∷ false ∷ true ∷ word ++ true ∷ true ∷ true ∷ [])
+    → IsTaggedBody with_tags ((first_line_of ++ eol 0)
+    ++ ((false ∷ false ∷ false ∷ true ∷ word ++ true ∷ true ∷ true ∷ []) ++ from_third))
+    (length (first_line_of ++ eol 0)) (length (first_line_of ++ eol 0) + length
+    (false ∷ false ∷ false ∷ true ∷ word ++ true ∷ true ∷ true ∷ []))
+body_of m word picture encodes =
+    encoded_lines_are_bodies with_tags (white_row 8) (pixels 8 []) (pixels 8 (m ∷ (m + 2) ∷ [])) (pixels 8 [] ∷ []) first_line_of
+    (false ∷ false ∷ false ∷ true ∷ word ++ true ∷ true ∷ true ∷ []) from_third 0
+    (record { columns = omega arith; rows = omega arith }) refl refl
+    picture (0, true ∷ true ∷ false ∷ false ∷ true ∷ true ∷ [], [], (_, inl (refl, eight_white)), refl, refl)
+    (_, inr (refl, encodes)) (_, refl)
+
+-- rows of eight pixels
+eights : (row : Row) → length row ≡ 8 → IsPicture 8 (row ∷ pixels 8 [] ∷ [])
+eights row e = (
+  omega arith,
+  All-cons (λ row. length row ≡ 8) row (pixels 8 [] ∷ []) e
+      (All-cons (λ row. length row ≡ 8) (pixels 8 []) [] refl (λ k d lt. absurd (omega arith))),
+)
+
+pub one_line_differs : OneLineDiffers
+one_line_differs = record {
+  encoding = refl;
+  lenient = refl;
+  before = refl;
+  behind = refl;
+  body = body_of 3 (true ∷ false ∷ false ∷ false ∷ []) (eights _ refl)
+      (EncodesLine2D.horizontal 0 (false ∷ false ∷ true ∷ []) (omega arith) (inr (inl (refl, refl)))
+      (Spells.terminating 3 (true ∷ false ∷ false ∷ false ∷ []) (inr (inr (inr (inl (refl, refl))))) (omega arith))
+      (Spells.terminating 2 (true ∷ true ∷ []) (inr (inr (inl (refl, refl)))) (omega arith))
+      (EncodesLine2D.vertical 6 (true ∷ []) (pos 0) (omega arith) (inr (inr (inl (refl, refl)))) refl EncodesLine2D.over));
+  other = body_of 4 (true ∷ false ∷ true ∷ true ∷ []) (eights _ refl)
+      (EncodesLine2D.horizontal 0 (false ∷ false ∷ true ∷ []) (omega arith) (inr (inl (refl, refl)))
+      (Spells.terminating 4 (true ∷ false ∷ true ∷ true ∷ []) (inr (inr (inr (inr (inl (refl, refl)))))) (omega arith))
+      (Spells.terminating 2 (true ∷ true ∷ []) (inr (inr (inl (refl, refl)))) (omega arith))
+      (EncodesLine2D.vertical 7 (true ∷ []) (pos 0) (omega arith) (inr (inr (inl (refl, refl)))) refl EncodesLine2D.over));
+  sought = inl refl;
+  follow = one_line_follows;
+}
 
 pub damage_by_k_read : ReadsDamageByK
 damage_by_k_read = (refl, refl, refl)

@@ -11,7 +11,7 @@ use Rattle.hayro_ccitt.specs.Damage.{Damaged, damage_of, repairs_of}
 use Rattle.hayro_ccitt.specs.Rows.{Row, changes, pixels, white_row}
 use Rattle.hayro_ccitt.specs.Encodings.{EncodesRows, PictureT4}
 use Rattle.hayro_ccitt.specs.Locality.{IsLocal, EndAlike}
-use Rattle.hayro_ccitt.specs.LocalityByK.{ComeBefore1D}
+use Rattle.hayro_ccitt.specs.LocalityByK.{ComeBefore1D, DifferInOneLine}
 use Rattle.hayro_ccitt.specs.PlainReading.{plain}
 
 -- the value of a hexadecimal digit, a capital letter or a figure
@@ -158,6 +158,10 @@ mode_broken = "001CC00407800B800073"
 -- rows
 abbrev pub OneLineFollows : Type 0
 OneLineFollows = ComeBefore1D with_tags 1 (drop 41 (bits_of (hex four_rows)))
+
+-- `LocalityByK` applies to these two
+abbrev pub OneLineDiffers : Type 0
+OneLineDiffers = DifferInOneLine with_tags (bits_of (hex four_rows)) (bits_of (hex change_moved)) 30 41 41 1
 
 -- The line and the one after it differ, and not the last. Against the white row of the broken line the next one is full
 -- after its first word, and the rest of its words is passed over.

@@ -7,7 +7,7 @@
 ghost use Rattle.std.specs.Prelude.{◌≡◌, [], ◌∷◌, Ok, Err};
 ghost use Rattle.worked_rows.specs.Examples.{damage_in, repairs_in, reading_of, low_first_reading_of, group4, group3_1d, group3_2d};
 ghost use Rattle.worked_rows.specs.Examples.{EncodesTwoLines, EncodesTaggedRows, HaveLocalBodies, ReadsDamage, LimitBehindTheBody};
-ghost use Rattle.worked_rows.specs.Examples.{OneLineFollows, ReadsDamageByK};
+ghost use Rattle.worked_rows.specs.Examples.{OneLineFollows, OneLineDiffers, ReadsDamageByK};
 
 use hayro_ccitt::DecodeError;
 
@@ -151,5 +151,6 @@ pub fn locality_examples()
 /// Locality in two dimensions: a damaged line, one that is read against its row, and the one-dimensional line after them.
 pub fn locality_by_k_examples()
     ensures follows { OneLineFollows }
+    ensures applies { OneLineDiffers }
     ensures damage { ReadsDamageByK }
 {}

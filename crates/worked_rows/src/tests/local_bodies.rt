@@ -85,6 +85,90 @@ fn local_bodies_change_one_row(rt: HostRuntime) -> std::result::Result<(), Fail>
     Ok(())
 }
 
+/// Two-dimensional data, each followed by the same with one line changed: the rows differ from that line up to the next
+/// one-dimensional one.
+#[test]
+fn damage_ends_at_a_one_dimensional_line(rt: HostRuntime) -> std::result::Result<(), Fail> {
+    for (columns, flags, digits, rows, count) in [
+        (
+            8,
+            "l",
+            "001CC00463800B800073",
+            &[&[][..], &[3, 5], &[3, 5], &[]][..],
+            10,
+        ),
+        (
+            8,
+            "l",
+            "001CC0046F800B800073",
+            &[&[], &[4, 6], &[4, 6], &[]],
+            10,
+        ),
+        (8, "l", "001CC00407800B800073", &[&[], &[], &[], &[]], 10),
+        (
+            3,
+            "bl",
+            "0002301B80000DD0000082800CD6",
+            &[&[], &[0], &[0], &[0]],
+            14,
+        ),
+        (
+            3,
+            "bl",
+            "0002301B80000CD0000082800CD6",
+            &[&[], &[], &[0], &[0]],
+            14,
+        ),
+        (
+            5,
+            "l",
+            "0000500044746037000914E50E001BC000DE",
+            &[&[], &[0, 1], &[0, 1, 2, 3], &[0], &[0]],
+            18,
+        ),
+        (
+            5,
+            "l",
+            "0000500045746027000914E50E001BC000DE",
+            &[&[], &[], &[0], &[0], &[0]],
+            18,
+        ),
+        (
+            2,
+            "l",
+            "00001135C00019AA1C000002B00041800037",
+            &[&[0], &[0, 1], &[0], &[], &[]],
+            18,
+        ),
+        (
+            2,
+            "l",
+            "00001135C00019BA1C000002B00041800037",
+            &[&[0], &[], &[], &[], &[]],
+            18,
+        ),
+        (
+            2,
+            "l",
+            "00066B8002A80002C8E1B80037",
+            &[&[0], &[0, 1], &[0, 1], &[]],
+            13,
+        ),
+        (
+            2,
+            "l",
+            "0006638002A80002C8E1B80037",
+            &[&[], &[], &[], &[]],
+            13,
+        ),
+    ] {
+        let mut ctx = DecoderContext::new(rt.alloc(), settings_by("2d", columns, flags))?;
+        let data = bytes_of(rt.alloc(), digits)?;
+        decodes_in(&rt, &mut ctx, &data, rows, Ok(count));
+    }
+    Ok(())
+}
+
 /// Random lines with EOLs between them, and random offsets.
 #[test]
 fn bodies_of_random_lines(rt: HostRuntime) -> std::result::Result<(), Fail> {
