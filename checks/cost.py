@@ -257,8 +257,8 @@ def slow_shapes():
 # An encoding, how many bits a row of a number of alternate pixels has with what is around it, and the measured instructions a
 # byte. In Group 4 the last four pixels are vertical modes, since b1 is the row's end: 7, 6, 3 and 1 bits.
 DENSE_ROWS = [
-    ("Group 4", GROUP_4, lambda columns: 12 * (columns - 4) // 2 + 17 + 24, 915),
-    ("Group 3", ONE_DIMENSIONAL, lambda columns: 12 + 9 * columns // 2 + 72, 625),
+    ("Group 4", GROUP_4, lambda columns: 12 * (columns - 4) // 2 + 17 + 24, 575),
+    ("Group 3", ONE_DIMENSIONAL, lambda columns: 12 + 9 * columns // 2 + 72, 300),
 ]
 WIDTHS = (1 << 15, 1 << 17)
 

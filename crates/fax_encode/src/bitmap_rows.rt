@@ -81,6 +81,7 @@ fn push_ones(list: &mut Vec<u32>, first: u32, count: u32, word: u64) -> Result<(
     requires within { first + count < 2 ^ 32 }
     ensures { OnOk result (list.new.items ≡ list.old.items ++ ones_from first (take count (low_bits 64 word))) }
 {
+    let last = u64::from(first) + 63;
     let mut ones = word;
     while ones != 0 {
         let ahead = ones.leading_zeros();
@@ -90,7 +91,7 @@ fn push_ones(list: &mut Vec<u32>, first: u32, count: u32, word: u64) -> Result<(
         if list.len() >= list.capacity() {
             return push_ones_growing(list, first, count, ones);
         }
-        list.push_reserved(first + ahead);
+        list.push_reserved((last - u64::from(63 - ahead)) as u32);
         ones ^= 1 << (63 - ahead);
     }
     Ok(())

@@ -55,9 +55,10 @@ fn find_above(columns: u32, reference: &[u32], at: Coding) -> Above
     ensures near { IsNear columns reference.now (place_of at) result.index }
     ensures within { result.index ≤ length reference.now + 1 }
 {
+    let from = at.from as u32;
     let mut index = at.above;
     let mut b1 = change_or_end(reference, index, columns);
-    'twos: while u64::from(b1) < at.from {
+    'twos: while b1 < from {
         index += 2;
         b1 = change_or_end(reference, index, columns);
     }

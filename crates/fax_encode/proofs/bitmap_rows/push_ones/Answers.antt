@@ -22,9 +22,10 @@ loop-ones-preserved c =
     let fits : c.loop-ones.ones < 2 ^ 64 = omega (arith, c.loop-ones.auto.ones-fits) in
     let turned = one_turned c.loop-ones.ones ahead c.args.count fits refl (omega (arith, c.requires.few, c.if-ahead-count.false)) in
     let rest : List ℕ = ones_from c.args.first (take c.args.count (low_bits 64 left)) in
+    let place : c.from-last.result + 63 - c.from.result ≡ c.args.first + ahead = omega (arith, c.from-last.ensures, c.from.ensures, c.requires.few, c.if-ahead-count.false) in
     let one = one_taken c.loop-ones.ones ahead c.args.count fits refl c.args.first left (omega (arith, c.if-ahead-count.false)) c.requires.few refl in
     ap (λ (n : ℕ). c.push_reserved.new.self.items ++ ones_from c.args.first (take c.args.count (low_bits 64 n))) turned
-    ∙ ap (λ (l : List ℕ). l ++ rest) c.push_reserved.ensures.items ∙ append_assoc c.loop-ones.list.items ((c.args.first + ahead) ∷ []) rest
+    ∙ ap (λ (l : List ℕ). l ++ rest) (c.push_reserved.ensures.items ∙ ap (λ (n : ℕ). c.loop-ones.list.items ++ n ∷ []) place) ∙ append_assoc c.loop-ones.list.items ((c.args.first + ahead) ∷ []) rest
     ∙ ap (λ (l : List ℕ). c.loop-ones.list.items ++ l) (sym one) ∙ c.loop-ones.invariant
 
 pub loop-ones-smaller : goal.loop-ones-smaller

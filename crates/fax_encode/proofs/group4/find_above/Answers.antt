@@ -7,18 +7,18 @@ use Rattle.fax_encode.proofs.group4.find_above.Goals as goal
 pub twos-preserved : goal.twos-preserved
 twos-preserved c = record {
   near = near_up c.args.columns c.args.reference.now c.requires.lawful (place_of c.args.at) c.twos.index c.twos.invariant.near
-      (omega (arith, c.twos-test.true, c.from.ensures, c.twos.invariant.here));
+      (omega (arith, c.twos-test.true, c.twos.invariant.here));
   here = c.change_or_end-b1-in-twos.ensures;
 }
 
 pub returns-clause-b1 : goal.returns-clause-b1
 returns-clause-b1 c = b1_reached c.args.columns c.args.reference.now c.requires.lawful (place_of c.args.at) c.twos.index c.twos.invariant.near c.requires.inside
-    (omega (arith, c.twos-test.false, c.from.ensures, c.twos.invariant.here)) ∙ sym c.twos.invariant.here
+    (omega (arith, c.twos-test.false, c.twos.invariant.here)) ∙ sym c.twos.invariant.here
 
 pub returns-clause-b2 : goal.returns-clause-b2
 returns-clause-b2 c = b2_after_b1 c.args.columns c.args.reference.now c.args.at.from c.twos.index (color_after c.args.at.next) c.requires.lawful
     (b1_reached c.args.columns c.args.reference.now c.requires.lawful (place_of c.args.at) c.twos.index c.twos.invariant.near c.requires.inside
-    (omega (arith, c.twos-test.false, c.from.ensures, c.twos.invariant.here)))
+    (omega (arith, c.twos-test.false, c.twos.invariant.here)))
 
 pub returns-clause-within : goal.returns-clause-within
 returns-clause-within c = near_within c.args.columns c.args.reference.now c.requires.lawful (place_of c.args.at) c.twos.index c.twos.invariant.near c.requires.inside

@@ -4,7 +4,7 @@ use Rattle.fax_encode.proofs.group4.find_above.Given as goal
 
 abbrev pub invariant-twos : goal.invariant-twos
 invariant-twos l = record {
-  near : IsNear l.columns l.reference (place_of l.at) l.index;
+  near : IsNear l.columns l.reference (place_of l.fn.at) l.index;
   here : l.b1 ≡ get_or l.reference l.index l.columns;
 }
 
