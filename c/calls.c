@@ -18,6 +18,11 @@ uint32_t proved_hayro_ccitt_next_changes(const uint8_t *, size_t, hayro_ccitt_re
 uint32_t proved_hayro_ccitt_next_packed(const uint8_t *, size_t, hayro_ccitt_reader *, uint8_t *, size_t, hayro_ccitt_row *);
 uint32_t proved_hayro_ccitt_close(hayro_ccitt_reader *);
 uint32_t proved_fax_encode_bitmap(const uint8_t *, size_t, const fax_encode_settings *, uint8_t *, size_t, fax_encode_outcome *);
+uint32_t proved_fax_encode_open(const fax_encode_settings *, fax_encode_writer *);
+uint32_t proved_fax_encode_row_packed(fax_encode_writer *, const uint8_t *, size_t);
+uint32_t proved_fax_encode_row_changes(fax_encode_writer *, const uint32_t *, size_t);
+uint32_t proved_fax_encode_finish(fax_encode_writer *, uint8_t *, size_t, fax_encode_outcome *);
+uint32_t proved_fax_encode_close(fax_encode_writer *);
 
 #ifdef __cplusplus
 }
@@ -26,6 +31,7 @@ uint32_t proved_fax_encode_bitmap(const uint8_t *, size_t, const fax_encode_sett
 /* What replaces a pointer of length 0, which may be null. None of its bytes are read or written, and no two pointers of a call
  * that may be written through are the same. */
 static const uint8_t no_data = 0;
+static const uint32_t no_changes = 0;
 static uint8_t no_bytes;
 static uint32_t no_numbers;
 
@@ -81,4 +87,29 @@ uint32_t fax_encode_bitmap(const uint8_t *bitmap, size_t bitmap_length, const fa
 {
     return proved_fax_encode_bitmap(OR_NONE(bitmap, bitmap_length, no_data), bitmap_length, settings,
                                     OR_NONE(data, data_length, no_bytes), data_length, outcome);
+}
+
+uint32_t fax_encode_open(const fax_encode_settings *settings, fax_encode_writer *writer)
+{
+    return proved_fax_encode_open(settings, writer);
+}
+
+uint32_t fax_encode_row_packed(fax_encode_writer *writer, const uint8_t *row, size_t row_length)
+{
+    return proved_fax_encode_row_packed(writer, OR_NONE(row, row_length, no_data), row_length);
+}
+
+uint32_t fax_encode_row_changes(fax_encode_writer *writer, const uint32_t *changes, size_t changes_length)
+{
+    return proved_fax_encode_row_changes(writer, OR_NONE(changes, changes_length, no_changes), changes_length);
+}
+
+uint32_t fax_encode_finish(fax_encode_writer *writer, uint8_t *data, size_t data_length, fax_encode_outcome *outcome)
+{
+    return proved_fax_encode_finish(writer, OR_NONE(data, data_length, no_bytes), data_length, outcome);
+}
+
+uint32_t fax_encode_close(fax_encode_writer *writer)
+{
+    return proved_fax_encode_close(writer);
 }

@@ -36,19 +36,21 @@ typedef struct {
                         * section 4.2.1); the other encodings ignore it */
 } fax_encode_settings;
 
-/* What the call fills in, whatever it returns: zeros unless it returns FAX_ENCODE_OK or FAX_ENCODE_REFUSED. */
+/* What fax_encode_bitmap and fax_encode_finish fill in, whatever they return: zeros unless it is FAX_ENCODE_OK or
+ * FAX_ENCODE_REFUSED. */
 typedef struct {
-    uint64_t rows;  /* the number of rows of the bitmap */
+    uint64_t rows;  /* the number of rows of the picture */
     uint64_t bytes; /* the length of the encoded data in bytes */
 } fax_encode_outcome;
 
-/* What the call returns. Unless it is FAX_ENCODE_OK, the data keeps its values. */
+/* What a call returns. Unless it is FAX_ENCODE_OK, the data keeps its values. */
 enum {
     FAX_ENCODE_OK = 0,
     FAX_ENCODE_OUT_OF_MEMORY = 4, /* an allocation failed */
     FAX_ENCODE_REFUSED = 5,       /* there is no room for the number of bytes in the outcome */
     FAX_ENCODE_NOT_TAKEN = 6      /* the settings name no encoding, there are no columns, the bitmap isn't whole rows, or it is
-                                   * empty: only Group 4 with FAX_ENCODE_END_OF_BLOCK has a picture without rows */
+                                   * empty: only Group 4 with FAX_ENCODE_END_OF_BLOCK has a picture without rows. Calls of a
+                                   * writer say below what it means. */
 };
 
 /* Encodes a bitmap. A row of it has (columns + 7) / 8 bytes: one bit a pixel, 1 for black, the leftmost pixel in a byte's
@@ -56,6 +58,39 @@ enum {
  * their values. A call with a data_length of 0 returns in outcome.bytes how much room is needed. */
 uint32_t fax_encode_bitmap(const uint8_t *bitmap, size_t bitmap_length, const fax_encode_settings *settings,
                            uint8_t *data, size_t data_length, fax_encode_outcome *outcome);
+
+/* Rows one at a time, in memory for two rows and the encoded data: open a writer, add rows, finish the strip, and close the
+ * writer. The bytes are those of fax_encode_bitmap for a bitmap of the rows. examples/rows_to_strip.c is a program that does so.
+ *
+ * Several writers may be open at a time. Each belongs to one thread at a time. A writer that isn't closed leaks its memory. After
+ * FAX_ENCODE_OUT_OF_MEMORY of a writer that is open, it returns that again until it is closed. */
+typedef struct {
+    void *strip;           /* the fields are the library's own: set all to zero before fax_encode_open, change none after it, */
+    void *nowhere;         /* and don't copy an open writer */
+    unsigned char is_open;
+} fax_encode_writer;
+
+/* Opens a writer before the first row. Unless it returns FAX_ENCODE_OK, the writer stays as it is. FAX_ENCODE_NOT_TAKEN means
+ * that the settings name no encoding, there are no columns, or the writer is open. */
+uint32_t fax_encode_open(const fax_encode_settings *settings, fax_encode_writer *writer);
+
+/* Adds a row of (columns + 7) / 8 bytes, packed as in a bitmap; more bytes are ignored. FAX_ENCODE_NOT_TAKEN means that there are
+ * fewer, the strip is finished, or the writer isn't open; then nothing changes. */
+uint32_t fax_encode_row_packed(fax_encode_writer *writer, const uint8_t *row, size_t row_length);
+
+/* Adds a row, given by its changes: the positions of the pixels at which its colour changes, strictly ascending and below
+ * `columns`; it starts white. FAX_ENCODE_NOT_TAKEN means that the changes aren't those of a row, the strip is finished, or the
+ * writer isn't open; then nothing changes. */
+uint32_t fax_encode_row_changes(fax_encode_writer *writer, const uint32_t *changes, size_t changes_length);
+
+/* Finishes the strip, and writes it into `data`, whose bytes after it keep their values. No row can be added afterwards. After
+ * FAX_ENCODE_REFUSED, as from a call with a data_length of 0, outcome.bytes is how much room is needed; each further call gives
+ * the same bytes. FAX_ENCODE_NOT_TAKEN means that there are no rows, which only Group 4 with FAX_ENCODE_END_OF_BLOCK has a
+ * picture of, or that the writer isn't open; then nothing changes. */
+uint32_t fax_encode_finish(fax_encode_writer *writer, uint8_t *data, size_t data_length, fax_encode_outcome *outcome);
+
+/* Closes a writer, and frees its memory. Returns FAX_ENCODE_OK, or FAX_ENCODE_NOT_TAKEN if it isn't open: then it does nothing. */
+uint32_t fax_encode_close(fax_encode_writer *writer);
 
 #ifdef __cplusplus
 }

@@ -25,8 +25,8 @@
  * Threads. Calls share no state, so several threads may call at the same time. Don't call from a signal handler, nor after fork
  * in the child of a process with threads.
  *
- * Memory. The library allocates by malloc, and frees all of it before a call returns, except what an open reader holds.
- * hayro_ccitt_heap.h says how a program gives it another allocator. */
+ * Memory. The library allocates by malloc, and frees all of it before a call returns, except what an open reader or writer
+ * holds. hayro_ccitt_heap.h says how a program gives it another allocator. */
 #ifndef HAYRO_CCITT_H
 #define HAYRO_CCITT_H
 

@@ -39,6 +39,17 @@ static uint32_t by_rows(const uint8_t *data, size_t length, const hayro_ccitt_se
     return opened + 10 * listed + 100 * packed + 1000 * hayro_ccitt_close(&reader);
 }
 
+static uint32_t strip_by_rows(const fax_encode_settings *settings, const uint8_t *row, const uint32_t *changes, uint8_t *data,
+                              fax_encode_outcome *outcome)
+{
+    fax_encode_writer writer = {0, 0, 0};
+    uint32_t opened = fax_encode_open(settings, &writer);
+    uint32_t listed = fax_encode_row_changes(&writer, changes, 0);
+    uint32_t packed = fax_encode_row_packed(&writer, row, 0);
+    uint32_t finished = fax_encode_finish(&writer, data, 0, outcome);
+    return opened + 10 * listed + 100 * packed + 1000 * finished + 10000 * fax_encode_close(&writer);
+}
+
 int main(void)
 {
     static const uint32_t widths[4] = {0, 1, 8, 1728};
@@ -79,7 +90,10 @@ int main(void)
                 one = fax_encode_bitmap(NULL, 0, &encoded, NULL, 0, &told);
                 two = fax_encode_bitmap(&none, 0, &encoded, &none, 0, &other);
                 all += one != two || told.bytes != other.bytes;
-                seen++;
+                one = strip_by_rows(&encoded, NULL, NULL, NULL, &told);
+                two = strip_by_rows(&encoded, &none, &number, &none, &other);
+                all += one != two || told.bytes != other.bytes;
+                seen += 2;
             }
     printf("%d calls, %d others\n", seen, (int)all);
     return all != 0 || none != 0 || number != 0;

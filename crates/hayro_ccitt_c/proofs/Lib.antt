@@ -3,3 +3,4 @@ pub mod ListedMemory
 pub mod PackedMemory
 pub mod PointersHeld
 pub mod Reporting
+pub mod TakenRows

@@ -29,6 +29,15 @@ abbrev pub encoder_of : EncodeSettings → Option EncoderSettings
 encoder_of s =
     if nat_lt s.flags 64 && not (has_flag s.flags 8) then option_map (encoder_with s) (encoding_of s.encoding) else None
 
+-- settings, if they are valid and name an encoding of rows of at least one column
+abbrev pub naming : ℕ → Option EncoderSettings → Option EncoderSettings
+naming columns None = None
+naming columns (Some s) = if nat_lt 0 columns && names_encoding s then Some s else None
+
+-- the settings of the encoder that C passes for rows, if they name an encoding of them
+abbrev pub of_rows : EncodeSettings → Option EncoderSettings
+of_rows s = naming s.columns (encoder_of s)
+
 -- whether settings have an encoding of a bitmap's rows: they name an encoding, and there is a row if one is needed
 abbrev pub can_encode : ℕ → List ℕ → EncoderSettings → Bool
 can_encode columns bitmap s =

@@ -1,7 +1,9 @@
 pub mod Encoding
 pub mod Handles
 pub mod Listing
+pub mod Owned
 pub mod Packing
 pub mod Reports
 pub mod RowsGiven
+pub mod RowsTaken
 pub mod Settings

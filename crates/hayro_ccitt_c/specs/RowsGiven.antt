@@ -1,5 +1,5 @@
 -- Rows that C reads one at a time.
-use Rattle.std.specs.Prelude.{◌≡◌, ◌≤◌, ◌⊎◌, ◌+◌, ◌/◌, ℕ, Bool, true, false, List, length, take, drop, Option, None, Some, IfSome, Result, Ok, Err}
+use Rattle.std.specs.Prelude.{◌≡◌, ◌≤◌, ◌⊎◌, ◌+◌, ◌/◌, ℕ, Bool, true, false, List, length, take, drop, Option, None, Some, Result, Ok, Err}
 use Rattle.hayro_ccitt.specs.declared.bit_reader.BitOrder.{BitOrder}
 use Rattle.hayro_ccitt.specs.declared.error.DecodeError.{DecodeError}
 use Rattle.hayro_ccitt.specs.declared.error.DecodeError.TheVariants.{UnexpectedEof, InvalidCode, Overflow, OutOfMemory, Refused}
@@ -96,7 +96,3 @@ pub record IsOpened (settings : DecodeSettings) (bits : Bits) (order : BitOrder)
   pub order_is : opened.rows.order ≡ order
   pub none_read : opened.rows.held.taken ≡ 0
   pub none_kept : opened.is_kept ≡ false
-
--- a statement about what two handles own
-abbrev pub OnReadings : Option Reading → Option Reading → (Reading → Reading → Type 0) → Type 0
-OnReadings old new P = IfSome old (λ before. IfSome new (λ after. P before after))

@@ -3,10 +3,10 @@
 ghost use Rattle.std.specs.Prelude.{◌≡◌, ◌<◌, ◌↔◌, ◌%◌, ◌==◌, ◌&&◌, false, nat_lt, IfOk, IfSome};
 ghost use Rattle.hayro_ccitt.specs.Bits.{bits_in};
 ghost use Rattle.fax_encode.specs.Packed.{bytes_of_row};
-ghost use Rattle.hayro_ccitt_c.specs.Encoding.{asked, bits_asked, can_encode, encoder_of};
+ghost use Rattle.hayro_ccitt_c.specs.Encoding.{asked, bits_asked, can_encode, encoder_of, of_rows};
 
 use crate::settings::encoding_of;
-use fax_encode::{EncodeError, encode_bitmap};
+use fax_encode::{EncodeError, encode_bitmap, names_encoding};
 use hayro_ccitt::bit_reader::BitOrder;
 use std::alloc::Global;
 
@@ -66,6 +66,18 @@ fn encoder_of(settings: &EncodeSettings) -> Option<fax_encode::EncodeSettings>
             BitOrder::HighestFirst
         },
     })
+}
+
+/// Returns the settings of the encoder that C means, or `None` if they are invalid, name no encoding, or there are no columns.
+pub(crate) fn encoder_of_rows(settings: &EncodeSettings) -> Option<fax_encode::EncodeSettings>
+    ensures meant { result ≡ of_rows settings.now }
+{
+    let meant = encoder_of(settings)?;
+    if settings.columns > 0 && names_encoding(meant) {
+        Some(meant)
+    } else {
+        None
+    }
 }
 
 /// Encodes a bitmap's rows.

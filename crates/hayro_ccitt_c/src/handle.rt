@@ -1,11 +1,11 @@
-//! A reading behind an opaque pointer.
+//! A value behind an opaque pointer.
 
 ghost use Rattle.std.specs.Prelude.{◌≡◌, Option, Some, None, IsSome};
 ghost use Rattle.std_alloc.specs.Box.Ownership.{box_owns};
-ghost use Rattle.hayro_ccitt_c.specs.declared.reading.Reading.{Reading};
-ghost use Rattle.hayro_ccitt_c.specs.Handles.{reading_owned, reading_coded};
+ghost use Rattle.hayro_ccitt_c.specs.declared.owned.Owned.{Owned};
+ghost use Rattle.hayro_ccitt_c.specs.Handles.{value_coded, value_owned};
 
-use crate::reading::Reading;
+use crate::owned::Owned;
 use std::alloc::{Allocator, Global};
 use std::marker::Model;
 
@@ -38,18 +38,18 @@ impl<T: Drop, A: Allocator> Unboxed<T, A> {
     }
 }
 
-/// A pointer that owns a reading, or nothing: its type doesn't say what it points to, so that C can hold it. Dropping a
-/// handle frees nothing: a reading is freed by the box that [`Handle::into_box`] makes.
+/// A pointer that owns a value, or nothing: its type doesn't say what it points to, so that C can hold it. Dropping a
+/// handle frees nothing: a value is freed by the box that [`Handle::into_box`] makes.
 #[repr(C)]
 #[derive(Drop)]
 pub struct Handle {
     pub(crate) at: *mut u8,
     alloc: Global,
-    pub(crate) ghost value: { Option Reading } by { reading_coded },
+    pub(crate) ghost value: { Option Owned } by { value_coded },
 }
 
 impl Model for Handle {
-    ghost also_owns = { λ h. reading_owned h.alloc h.at h.value };
+    ghost also_owns = { λ h. value_owned h.alloc h.at h.value };
 }
 
 impl Handle {
@@ -61,7 +61,7 @@ impl Handle {
     }
 
     /// Changes the type to one that doesn't say what the pointer points to.
-    fn from_unboxed(unboxed: Unboxed<Reading, Global>) -> Handle
+    fn from_unboxed(unboxed: Unboxed<Owned, Global>) -> Handle
         ensures { result.value ≡ Some unboxed.value }
     {
         let Unboxed { at, alloc } = unboxed;
@@ -72,26 +72,26 @@ impl Handle {
     }
 
     /// Changes the type back to one that says what the pointer points to.
-    fn into_unboxed(self) -> Unboxed<Reading, Global>
+    fn into_unboxed(self) -> Unboxed<Owned, Global>
         requires { IsSome self.value }
         ensures { Some result.value ≡ self.value }
     {
         let Handle { at, alloc } = self;
         Unboxed {
-            at: at.cast::<Reading>(),
+            at: at.cast::<Owned>(),
             alloc,
         }
     }
 
-    /// Creates a handle of the reading in a box.
-    pub(crate) fn of(value: Box<Reading>) -> Handle
+    /// Creates a handle of the value in a box.
+    pub(crate) fn of(value: Box<Owned>) -> Handle
         ensures { result.value ≡ Some value.value }
     {
         Handle::from_unboxed(Unboxed::from_box(value))
     }
 
-    /// Returns the box of the reading.
-    pub(crate) fn into_box(self) -> Box<Reading>
+    /// Returns the box of the value.
+    pub(crate) fn into_box(self) -> Box<Owned>
         requires { IsSome self.value }
         ensures { Some result.value ≡ self.value }
     {

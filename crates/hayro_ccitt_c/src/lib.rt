@@ -2,43 +2,49 @@
 //! `c/fax_encode.h` declare what is exported here.
 //!
 //! A call never reads or writes outside the memory that it is passed, whatever the data is, and frees all that it has
-//! allocated before it returns.
+//! allocated before it returns, except what an open reader or writer holds.
 #![tactic(auto)]
 
-ghost use Rattle.std.specs.Prelude.{◌≡◌, ◌≢◌, ◌<◌, ◌≤◌, ◌+◌, ◌*◌, ◌⊎◌, ◌↔◌, None, IfSome, length, get_or, [], false, true};
+ghost use Rattle.std.specs.Prelude.{◌≡◌, ◌≢◌, ◌<◌, ◌≤◌, ◌+◌, ◌*◌, ◌⊎◌, ◌↔◌, None, IfSome, length, get_or, take, [], false, true};
 ghost use Rattle.hayro_ccitt.specs.PlainReading.{plain};
-ghost use Rattle.hayro_ccitt.specs.Rows.{changes};
-ghost use Rattle.hayro_ccitt.specs.Bits.{BitsFit};
+ghost use Rattle.hayro_ccitt.specs.Rows.{AreChanges, changes, pixels};
+ghost use Rattle.hayro_ccitt.specs.Bits.{BitsFit, bits_of};
 ghost use Rattle.fax_encode.specs.Packed.{shown};
-ghost use Rattle.hayro_ccitt_c.specs.Encoding.{asked, bits_asked, AreEncoded, HaveNoRoom};
+ghost use Rattle.fax_encode.specs.RowByRow.{no_rows};
+ghost use Rattle.hayro_ccitt_c.specs.Encoding.{asked, bits_asked, of_rows, AreEncoded, HaveNoRoom};
+ghost use Rattle.hayro_ccitt_c.specs.Owned.{OnReading, OnReadings, OnStrip, OnStrips};
 ghost use Rattle.hayro_ccitt_c.specs.Packing.{bytes_of_row};
 ghost use Rattle.hayro_ccitt_c.specs.Reports.{OnSettings, IsReport, changes_taken, damaged_taken, outcome_of, ArePacked, AreListed, numbers_taken};
-ghost use Rattle.hayro_ccitt_c.specs.RowsGiven.{GivesRow, IsListed, IsOpened, IsPacked, OnReadings, TellsOf, told_nothing};
+ghost use Rattle.hayro_ccitt_c.specs.RowsGiven.{GivesRow, IsListed, IsOpened, IsPacked, TellsOf, told_nothing};
+ghost use Rattle.hayro_ccitt_c.specs.RowsTaken.{Finishes, IfFinished, IsGiven, TakesRow, strip_told};
 ghost use Rattle.hayro_ccitt_c.specs.Settings.{order_of, settings_of};
+ghost use Rattle.hayro_ccitt_c.specs.declared.strip.Strip.TheVariants.{Rows};
 
 mod change_count;
 mod encoding;
 mod handle;
 mod listed_rows;
+mod owned;
 mod packed_rows;
 mod reading;
 mod report;
 mod row_handle;
 mod row_outcome;
 mod settings;
+mod strip;
 
 use change_count::ChangeCount;
-use encoding::{Unencoded, encoded};
+use encoding::{Unencoded, encoded, encoder_of_rows};
 pub use encoding::{EncodeOutcome, EncodeSettings};
 use hayro_ccitt::bits_fit;
 use listed_rows::ListedRows;
+use owned::Owned;
 use packed_rows::PackedRows;
-use reading::Reading;
 pub use report::Outcome;
 use report::{decoded, told, untaken};
-pub use row_handle::Reader;
+pub use row_handle::{Reader, Writer};
 pub use row_outcome::RowOutcome;
-use row_outcome::{nothing_told, told_of};
+use row_outcome::nothing_told;
 pub use settings::Settings;
 use settings::{order_of, settings_for};
 use std::alloc::Global;
@@ -161,7 +167,7 @@ pub extern "C" fn hayro_ccitt_open(
 ) -> u32
     ensures statuses { (result ≡ 0) ⊎ (result ≡ 4) ⊎ (result ≡ 6) }
     ensures opened { result ≡ 0 → OnSettings settings.now «data».now (λ s bits.
-        IfSome reader.new.handle.value (IsOpened s bits (order_of settings.now))) }
+        OnReading reader.new.handle.value (IsOpened s bits (order_of settings.now))) }
     ensures is_open { result ≡ 0 → reader.new.is_open ≡ true }
     ensures unchanged { result ≢ 0 → reader.new ≡ reader.old }
     ensures untaken { (settings_of settings.now ≡ None) ⊎ ((¬ (BitsFit «data».now)) ⊎ (reader.old.is_open ≡ true)) → result ≡ 6 }
@@ -172,7 +178,7 @@ pub extern "C" fn hayro_ccitt_open(
     let Some(meant) = settings_for(data, settings) else {
         return 6;
     };
-    let Ok(reading) = Reading::new(alloc, data, order_of(settings), meant) else {
+    let Ok(reading) = Owned::reading(alloc, data, order_of(settings), meant) else {
         return 4;
     };
     reader.hold(reading);
@@ -195,12 +201,12 @@ pub extern "C" fn hayro_ccitt_next_changes(
 ) -> u32
     ensures gives { reader.old.is_open ≡ true → BitsFit «data».now → OnReadings reader.old.handle.value reader.new.handle.value
         (λ old new. GivesRow «data».now old new result) }
-    ensures listed { result ≡ 0 → IfSome reader.new.handle.value (λ reading.
+    ensures listed { result ≡ 0 → OnReading reader.new.handle.value (λ reading.
         IsListed reading.rows.held.reference list.old list.new) }
-    ensures refused { result ≡ 5 → IfSome reader.new.handle.value (λ reading.
+    ensures refused { result ≡ 5 → OnReading reader.new.handle.value (λ reading.
         length list.new < length (changes reading.rows.held.reference)) }
     ensures unwritten { result ≢ 0 → list.new ≡ list.old }
-    ensures told { reader.old.is_open ≡ true → BitsFit «data».now → IfSome reader.new.handle.value (λ reading.
+    ensures told { reader.old.is_open ≡ true → BitsFit «data».now → OnReading reader.new.handle.value (λ reading.
         TellsOf reading.rows outcome.new) }
     ensures is_open { reader.new.is_open ≡ reader.old.is_open }
     ensures untaken { (reader.old.is_open ≡ false) ⊎ (¬ (BitsFit «data».now))
@@ -211,8 +217,7 @@ pub extern "C" fn hayro_ccitt_next_changes(
         return 6;
     }
     let mut reading = reader.take(alloc);
-    let status = reading.list_next(data, list);
-    *outcome = told_of(&reading);
+    let status = reading.list_next(data, list, outcome);
     reader.hold(reading);
     status
 }
@@ -234,12 +239,12 @@ pub extern "C" fn hayro_ccitt_next_packed(
 ) -> u32
     ensures gives { reader.old.is_open ≡ true → BitsFit «data».now → OnReadings reader.old.handle.value reader.new.handle.value
         (λ old new. GivesRow «data».now old new result) }
-    ensures packed { result ≡ 0 → IfSome reader.new.handle.value (λ reading.
+    ensures packed { result ≡ 0 → OnReading reader.new.handle.value (λ reading.
         IsPacked reading.rows.held.settings.columns reading.rows.held.reference bytes.old bytes.new) }
-    ensures refused { result ≡ 5 → IfSome reader.new.handle.value (λ reading.
+    ensures refused { result ≡ 5 → OnReading reader.new.handle.value (λ reading.
         length bytes.new < bytes_of_row reading.rows.held.settings.columns) }
     ensures unwritten { result ≢ 0 → bytes.new ≡ bytes.old }
-    ensures told { reader.old.is_open ≡ true → BitsFit «data».now → IfSome reader.new.handle.value (λ reading.
+    ensures told { reader.old.is_open ≡ true → BitsFit «data».now → OnReading reader.new.handle.value (λ reading.
         TellsOf reading.rows outcome.new) }
     ensures is_open { reader.new.is_open ≡ reader.old.is_open }
     ensures untaken { (reader.old.is_open ≡ false) ⊎ (¬ (BitsFit «data».now))
@@ -250,8 +255,7 @@ pub extern "C" fn hayro_ccitt_next_packed(
         return 6;
     }
     let mut reading = reader.take(alloc);
-    let status = reading.pack_next(data, bytes);
-    *outcome = told_of(&reading);
+    let status = reading.pack_next(data, bytes, outcome);
     reader.hold(reading);
     status
 }
@@ -310,5 +314,130 @@ pub extern "C" fn fax_encode_bitmap(
         return 5;
     }
     data[..length].copy_from_slice(bytes.as_slice());
+    0
+}
+
+/// Opens a writer of rows before the first row. The writer must be closed: all zeros, or as [`fax_encode_close`] left it. The
+/// rows are added by [`fax_encode_row_packed`] and [`fax_encode_row_changes`], and [`fax_encode_finish`] gives the strip.
+///
+/// A status of 4 says that an allocation failed; 6, that the settings name no encoding, there are no columns or the writer is
+/// open. With all but 0 the writer is unchanged.
+#[unsafe(no_mangle)]
+pub extern "C" fn fax_encode_open(
+    alloc: Global,
+    settings: &EncodeSettings,
+    writer: &mut Writer,
+) -> u32
+    ensures statuses { (result ≡ 0) ⊎ (result ≡ 4) ⊎ (result ≡ 6) }
+    ensures opened { result ≡ 0 → IfSome (of_rows settings.now) (λ meant.
+        OnStrip writer.new.handle.value (λ strip. strip ≡ Rows (no_rows meant settings.now.columns))) }
+    ensures is_open { result ≡ 0 → writer.new.is_open ≡ true }
+    ensures unchanged { result ≢ 0 → writer.new ≡ writer.old }
+    ensures untaken { (result ≡ 6) ↔ ((of_rows settings.now ≡ None) ⊎ (writer.old.is_open ≡ true)) }
+{
+    if writer.is_open {
+        return 6;
+    }
+    let Some(meant) = encoder_of_rows(settings) else {
+        return 6;
+    };
+    let Ok(strip) = Owned::strip(alloc, settings.columns, meant) else {
+        return 4;
+    };
+    writer.hold(strip);
+    0
+}
+
+/// Adds a row, given by its changes: the positions at which its colour changes, white first, strictly ascending and below the
+/// number of columns.
+///
+/// A status of 4 says that an allocation failed, and each further call of this writer but [`fax_encode_close`] returns it; 6, that
+/// the writer isn't open, the strip is finished, or the changes aren't those of a row. With 6 nothing is changed.
+#[unsafe(no_mangle)]
+pub extern "C" fn fax_encode_row_changes(alloc: Global, writer: &mut Writer, changes: &[u32]) -> u32
+    ensures takes { writer.old.is_open ≡ true → OnStrips writer.old.handle.value writer.new.handle.value (λ old new.
+        TakesRow old new (λ columns. AreChanges columns changes.now) (λ columns. pixels columns changes.now) result) }
+    ensures is_open { writer.new.is_open ≡ writer.old.is_open }
+    ensures untaken { writer.old.is_open ≡ false → (result ≡ 6) × (writer.new ≡ writer.old) }
+{
+    if !writer.is_open {
+        return 6;
+    }
+    let mut strip = writer.take(alloc);
+    let status = strip.add_changes(changes);
+    writer.hold(strip);
+    status
+}
+
+/// Adds a row of packed pixels: (columns + 7) / 8 bytes, the leftmost pixel in a byte's highest bit, 1 for black. Bits after
+/// the last pixel, and bytes after the row, are ignored.
+///
+/// A status of 4 says that an allocation failed, and each further call of this writer but [`fax_encode_close`] returns it; 6, that
+/// the writer isn't open, the strip is finished, or there are too few bytes. With 6 nothing is changed.
+#[unsafe(no_mangle)]
+pub extern "C" fn fax_encode_row_packed(alloc: Global, writer: &mut Writer, row: &[u8]) -> u32
+    ensures takes { writer.old.is_open ≡ true → OnStrips writer.old.handle.value writer.new.handle.value (λ old new.
+        TakesRow old new (λ columns. bytes_of_row columns ≤ length row.now) (λ columns. take columns (bits_of row.now)) result) }
+    ensures is_open { writer.new.is_open ≡ writer.old.is_open }
+    ensures untaken { writer.old.is_open ≡ false → (result ≡ 6) × (writer.new ≡ writer.old) }
+{
+    if !writer.is_open {
+        return 6;
+    }
+    let mut strip = writer.take(alloc);
+    let status = strip.add_packed(row);
+    writer.hold(strip);
+    status
+}
+
+/// Finishes the strip, unless it is finished, and writes its bytes into `data`: the lines of all rows, EOFB or RTC, and zeros up
+/// to a whole byte. The bytes after them keep their values. No row may be added after a status of 0 or 5, and each further call
+/// returns the same bytes.
+///
+/// `outcome` has the number of rows and of bytes if the status is 0 or 5, else 0. A status of 4 says that an allocation failed,
+/// and each further call of this writer but [`fax_encode_close`] returns it; 5, that `data` has no room for that many bytes; 6,
+/// that the writer isn't open, or there are no rows, other than in Group 4 with EOFB: then nothing is changed. With all but 0
+/// `data` keeps its values.
+#[unsafe(no_mangle)]
+pub extern "C" fn fax_encode_finish(
+    alloc: Global,
+    writer: &mut Writer,
+    data: &mut [u8],
+    outcome: &mut EncodeOutcome,
+) -> u32
+    ensures finishes { writer.old.is_open ≡ true
+        → OnStrips writer.old.handle.value writer.new.handle.value (λ old new. Finishes old new result) }
+    ensures given { result ≡ 0 → OnStrip writer.new.handle.value (λ strip.
+        IfFinished strip (λ bytes. IsGiven bytes «data».old «data».new)) }
+    ensures refused { result ≡ 5 → OnStrip writer.new.handle.value (λ strip.
+        IfFinished strip (λ bytes. length «data».new < length bytes)) }
+    ensures unwritten { result ≢ 0 → «data».new ≡ «data».old }
+    ensures told { writer.old.is_open ≡ true
+        → OnStrip writer.new.handle.value (λ strip. outcome.new ≡ strip_told strip) }
+    ensures is_open { writer.new.is_open ≡ writer.old.is_open }
+    ensures untaken { writer.old.is_open ≡ false
+        → (result ≡ 6) × (writer.new ≡ writer.old) × (outcome.new ≡ record { rows = 0; bytes = 0 }) }
+{
+    if !writer.is_open {
+        *outcome = EncodeOutcome { rows: 0, bytes: 0 };
+        return 6;
+    }
+    let mut strip = writer.take(alloc);
+    let status = strip.give_bytes(data, outcome);
+    writer.hold(strip);
+    status
+}
+
+/// Closes a writer, and frees what it holds. A status of 6 says that it isn't open; then nothing is done.
+#[unsafe(no_mangle)]
+pub extern "C" fn fax_encode_close(alloc: Global, writer: &mut Writer) -> u32
+    ensures closed { writer.new.is_open ≡ false }
+    ensures was_open { writer.old.is_open ≡ true → result ≡ 0 }
+    ensures was_closed { writer.old.is_open ≡ false → (result ≡ 6) × (writer.new ≡ writer.old) }
+{
+    if !writer.is_open {
+        return 6;
+    }
+    drop(writer.take(alloc));
     0
 }

@@ -53,19 +53,15 @@ impl Reading {
         data: &[u8],
         order: BitOrder,
         settings: DecodeSettings,
-    ) -> Result<Box<Reading>>
+    ) -> Result<Reading>
         requires fit { BitsFit «data».now }
-        ensures opened { IfOk result (λ reading. IsOpened settings (bits_in order «data».now) order reading.value) }
+        ensures opened { IfOk result (IsOpened settings (bits_in order «data».now) order) }
     {
         let rows = RowCursor::new(alloc, data, order, settings)?;
-        Box::new(
-            alloc,
-            Reading {
-                rows,
-                is_kept: false,
-            },
-        )
-        .map_err(|_| DecodeError::OutOfMemory)
+        Ok(Reading {
+            rows,
+            is_kept: false,
+        })
     }
 
     /// Reads the row that is to be returned next, unless it was read before.

@@ -1,9 +1,10 @@
-//! What C holds of a reading of rows.
+//! What C holds of rows that it reads or writes one at a time.
 
-ghost use Rattle.std.specs.Prelude.{◌≡◌, IsSome, None, Some, false, true};
+ghost use Rattle.std.specs.Prelude.{◌≡◌, Some, false, true};
+ghost use Rattle.hayro_ccitt_c.specs.Owned.{holds_reading, holds_strip, is_reading, is_strip};
 
 use crate::handle::Handle;
-use crate::reading::Reading;
+use crate::owned::Owned;
 use std::alloc::Global;
 use std::mem;
 
@@ -16,14 +17,15 @@ pub struct Reader {
     nowhere: *mut u8,
     /// Whether the handle holds a reading.
     pub(crate) is_open: bool,
-    pub(crate) ghost tied: { is_open ≡ true → IsSome handle.value },
+    pub(crate) ghost tied: { is_open ≡ true → holds_reading handle.value ≡ true },
 }
 
 impl Reader {
     /// Takes the reading out. The reader is closed.
-    pub(crate) fn take(&mut self, alloc: Global) -> Box<Reading>
+    pub(crate) fn take(&mut self, alloc: Global) -> Box<Owned>
         requires { self.old.is_open ≡ true }
         ensures reading { Some result.value ≡ self.old.handle.value }
+        ensures kind { is_reading result.value ≡ true }
         ensures closed { self.new.is_open ≡ false }
     {
         self.is_open = false;
@@ -32,13 +34,54 @@ impl Reader {
     }
 
     /// Holds a reading. The reader is open.
-    pub(crate) fn hold(&mut self, reading: Box<Reading>)
+    pub(crate) fn hold(&mut self, reading: Box<Owned>)
+        requires { is_reading reading.value ≡ true }
         ensures reading { self.new.handle.value ≡ Some reading.value }
         ensures open { self.new.is_open ≡ true }
     {
         let nowhere = self.nowhere;
         *self = Reader {
             handle: Handle::of(reading),
+            nowhere,
+            is_open: true,
+        };
+    }
+}
+
+/// A writer of rows as C holds it: all zeros, or as a call left it.
+#[repr(C)]
+#[derive(Drop)]
+pub struct Writer {
+    pub(crate) handle: Handle,
+    /// A pointer that a handle of nothing has; nothing is read or written there.
+    nowhere: *mut u8,
+    /// Whether the handle holds a strip.
+    pub(crate) is_open: bool,
+    pub(crate) ghost tied: { is_open ≡ true → holds_strip handle.value ≡ true },
+}
+
+impl Writer {
+    /// Takes the strip out. The writer is closed.
+    pub(crate) fn take(&mut self, alloc: Global) -> Box<Owned>
+        requires { self.old.is_open ≡ true }
+        ensures strip { Some result.value ≡ self.old.handle.value }
+        ensures kind { is_strip result.value ≡ true }
+        ensures closed { self.new.is_open ≡ false }
+    {
+        self.is_open = false;
+        let handle = mem::replace(&mut self.handle, Handle::nowhere(self.nowhere, alloc));
+        handle.into_box()
+    }
+
+    /// Holds a strip. The writer is open.
+    pub(crate) fn hold(&mut self, strip: Box<Owned>)
+        requires { is_strip strip.value ≡ true }
+        ensures strip { self.new.handle.value ≡ Some strip.value }
+        ensures open { self.new.is_open ≡ true }
+    {
+        let nowhere = self.nowhere;
+        *self = Writer {
+            handle: Handle::of(strip),
             nowhere,
             is_open: true,
         };

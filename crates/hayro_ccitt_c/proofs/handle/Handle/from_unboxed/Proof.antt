@@ -22,7 +22,7 @@ use Rattle.std.specs.contracts.alloc.Global as heap
 use Rattle.std.proofs.alloc.Global.TheLaws as heap_laws
 use Rattle.std.specs.contracts.impls.GlobalAllocator.TheImpl.{ghosts}
 use Rattle.hayro_ccitt_c.proofs.PointersHeld.{beside, beside_good, open_fields, close_fields}
-use Rattle.hayro_ccitt_c.specs.contracts.reading.Reading as reading
+use Rattle.hayro_ccitt_c.specs.contracts.owned.Owned as owned_value
 use Rattle.hayro_ccitt_c.specs.contracts.handle.Unboxed as unboxed
 use Rattle.hayro_ccitt_c.specs.contracts.handle.Handle.from_unboxed.{ended, clauses}
 use Rattle.hayro_ccitt_c.specs.contracts.handle.Handle.from_unboxed.Key.{name as key}
@@ -30,7 +30,7 @@ use Rattle.hayro_ccitt_c.proofs.handle.Handle.from_unboxed.Statement.{statement}
 use Rattle.hayro_ccitt_c.proofs.handle.Handle.from_unboxed.Code as code
 
 abbrev taken : RattleType
-taken = unboxed.the_row reading.the_row heap.the_row ghosts
+taken = unboxed.the_row owned_value.the_row heap.the_row ghosts
 
 abbrev stayed : Stays ended.signature.params ended.kept
 stayed = (stay_dropped (plain (λ _. taken)) ended.kept.0, tt)
@@ -50,7 +50,7 @@ from_unboxed_spec 𝓤 𝓛 𝓜 𝓡 wired =
     let result = type_at ended.signature.result κs in
     let made : result.Denot = record { at = p; alloc = a; value = Some given.value } in
     let goal : List Val → SProp 𝓤 = λ ws. WpFn 𝓤 𝓛.H 𝓣.C 𝓣.Λ code.function ws ((walk_of 𝓛 ended stayed c).post z) in
-    let owned = box_owns (ghosts.dealloc_token a) reading.the_row p given.value in
+    let owned = box_owns (ghosts.dealloc_token a) owned_value.the_row p given.value in
     qed 𝓛 ((‵ ftrue ⊛ ‵ (owns (types_at ended.signature.params κs) z.0.3 z.0.4)) ∷ raw ((c κs z.0.3).requires z.1) ∷ []) ∵
     split ! $ move ! (1 ∷ []) $ fsplit ! $ use1 𝓛 (‵ (taken.own_val given z.0.4.0)) (id⊢ 𝓤 _) $ fsplit ! $
     open_fields A L ghosts ! p a z.0.4.0 (λ h is fits.

@@ -22,7 +22,7 @@ use Rattle.std.specs.contracts.alloc.Global as heap
 use Rattle.std.proofs.alloc.Global.TheLaws as heap_laws
 use Rattle.std.specs.contracts.impls.GlobalAllocator.TheImpl.{ghosts}
 use Rattle.hayro_ccitt_c.proofs.PointersHeld.{beside, beside_good, open_fields, close_fields}
-use Rattle.hayro_ccitt_c.specs.contracts.reading.Reading as reading
+use Rattle.hayro_ccitt_c.specs.contracts.owned.Owned as owned_value
 use Rattle.hayro_ccitt_c.specs.contracts.handle.Handle as handle
 use Rattle.hayro_ccitt_c.specs.contracts.handle.Unboxed as unboxed
 use Rattle.hayro_ccitt_c.specs.contracts.handle.Handle.into_unboxed.{ended, clauses}
@@ -31,7 +31,7 @@ use Rattle.hayro_ccitt_c.proofs.handle.Handle.into_unboxed.Statement.{statement}
 use Rattle.hayro_ccitt_c.proofs.handle.Handle.into_unboxed.Code as code
 
 abbrev given_back : RattleType
-given_back = unboxed.the_row reading.the_row heap.the_row ghosts
+given_back = unboxed.the_row owned_value.the_row heap.the_row ghosts
 
 abbrev stayed : Stays ended.signature.params ended.kept
 stayed = (stay_dropped (plain (λ _. handle.the_row)) yes, tt)
@@ -57,7 +57,7 @@ into_unboxed_spec 𝓤 𝓛 𝓜 𝓡 wired =
     move ! (1 ∷ []) $ heard ! (IsSome given.value) (λ there.
     let found = some_of given.value there in
     let same : given ≡ record { at = p; alloc = a; value = Some found.0 }
-    = ap (λ (held : Option reading.the_row.Denot). record { at = p; alloc = a; value = held }) found.1 in
+    = ap (λ (held : Option owned_value.the_row.Denot). record { at = p; alloc = a; value = held }) found.1 in
     let made : given_back.Denot = record { at = p; alloc = a; value = found.0 } in
     split ! $ move ! (1 ∷ []) $ fsplit ! $
     rewrite ! 0 (λ (d : handle.the_row.Denot). ‵ (handle.the_row.own_val d z.0.4.0)) same refl $
@@ -74,8 +74,8 @@ into_unboxed_spec 𝓤 𝓛 𝓜 𝓡 wired =
     sets ! (agg ! (and_then ! (get ! refl) (and_then ! (get ! refl) (no_more !)))) refl good $
     -- what is returned
     close_fields A L ghosts ! p a h $ move ! (0 ∷ 1 ∷ []) $ fjoin ! $ use1 𝓛 (‵ (given_back.own_val made (w ∷ []))) (id⊢ 𝓤 _) $
-    use0 𝓛 (raw (fact 𝓤 (◌≡◌ {A = Option reading.the_row.Denot} (Some made.value) given.value)))
-    (fact_i 𝓤 (◌≡◌ {A = Option reading.the_row.Denot} (Some made.value) given.value) (emp 𝓤) (sym found.1)) $
+    use0 𝓛 (raw (fact 𝓤 (◌≡◌ {A = Option owned_value.the_row.Denot} (Some made.value) given.value)))
+    (fact_i 𝓤 (◌≡◌ {A = Option owned_value.the_row.Denot} (Some made.value) given.value) (emp 𝓤) (sym found.1)) $
     nothing ! $ nothing ! $ fjoin ! $
     returns ! (look_at ! 0 refl) $ free_all ! refl $
     keep ! (4 ∷ 0 ∷ 2 ∷ 1 ∷ []) $ by ! (leaves 𝓛 ended stayed c z w made (tt, tt) (tt, tt))))))

@@ -1,0 +1,157 @@
+//! What a handle for C owns.
+
+ghost use Rattle.std.specs.Prelude.{◌≡◌, ◌≢◌, ◌<◌, ◌≤◌, IfOk, length, take, true};
+ghost use Rattle.hayro_ccitt.specs.Bits.{BitsFit, bits_in, bits_of};
+ghost use Rattle.hayro_ccitt.specs.Rows.{AreChanges, changes, pixels};
+ghost use Rattle.fax_encode.specs.RowByRow.{no_rows};
+ghost use Rattle.hayro_ccitt_c.specs.declared.strip.Strip.TheVariants.{Rows};
+ghost use Rattle.hayro_ccitt_c.specs.Owned.{IfReading, IfReadings, IfStrip, IfStrips, is_reading, is_strip};
+ghost use Rattle.hayro_ccitt_c.specs.Packing.{bytes_of_row};
+ghost use Rattle.hayro_ccitt_c.specs.RowsGiven.{GivesRow, IsListed, IsOpened, IsPacked, TellsOf};
+ghost use Rattle.hayro_ccitt_c.specs.RowsTaken.{Finishes, IfFinished, IsGiven, TakesRow, strip_told};
+
+use crate::encoding::EncodeOutcome;
+use crate::reading::Reading;
+use crate::row_outcome::{RowOutcome, told_of};
+use crate::strip::Strip;
+use fax_encode::{EncodeError, EncodeSettings, Encoder};
+use hayro_ccitt::bit_reader::BitOrder;
+use hayro_ccitt::{DecodeError, DecodeSettings};
+use std::alloc::Global;
+
+/// What a handle owns: a reading of rows, or a strip to which rows are added.
+#[derive(Drop)]
+pub enum Owned {
+    Reading(Reading),
+    Strip(Strip),
+}
+
+impl Owned {
+    /// Creates a reading of data before the first row. Its only error is `OutOfMemory`.
+    pub(crate) fn reading(
+        alloc: Global,
+        data: &[u8],
+        order: BitOrder,
+        settings: DecodeSettings,
+    ) -> hayro_ccitt::Result<Box<Owned>>
+        requires fit { BitsFit «data».now }
+        ensures opened { IfOk result (λ made. IfReading made.value (IsOpened settings (bits_in order «data».now) order)) }
+        ensures kind { IfOk result (λ made. is_reading made.value ≡ true) }
+    {
+        let reading = Reading::new(alloc, data, order, settings)?;
+        Box::new(alloc, Owned::Reading(reading)).map_err(|_| DecodeError::OutOfMemory)
+    }
+
+    /// Creates a strip without rows.
+    pub(crate) fn strip(
+        alloc: Global,
+        columns: u32,
+        settings: EncodeSettings,
+    ) -> Result<Box<Owned>, EncodeError>
+        ensures opened { IfOk result (λ made. IfStrip made.value (λ strip. strip ≡ Rows (no_rows settings columns))) }
+        ensures kind { IfOk result (λ made. is_strip made.value ≡ true) }
+    {
+        let encoder = Encoder::new(alloc, columns, settings)?;
+        Box::new(alloc, Owned::Strip(Strip::Rows(encoder))).map_err(|_| EncodeError::OutOfMemory)
+    }
+
+    /// Writes the next row of a reading as a list of its changes, and returns the status.
+    pub(crate) fn list_next(
+        &mut self,
+        data: &[u8],
+        list: &mut [u32],
+        outcome: &mut RowOutcome,
+    ) -> u32
+        requires fit { BitsFit «data».now }
+        requires reads { is_reading self.old ≡ true }
+        ensures gives { IfReadings self.old self.new (λ old new. GivesRow «data».now old new result) }
+        ensures listed { result ≡ 0 → IfReading self.new (λ reading.
+            IsListed reading.rows.held.reference list.old list.new) }
+        ensures refused { result ≡ 5 → IfReading self.new (λ reading.
+            length list.new < length (changes reading.rows.held.reference)) }
+        ensures unwritten { result ≢ 0 → list.new ≡ list.old }
+        ensures told { IfReading self.new (λ reading. TellsOf reading.rows outcome.new) }
+        ensures reads { is_reading self.new ≡ true }
+    {
+        match self {
+            Owned::Reading(reading) => {
+                let status = reading.list_next(data, list);
+                *outcome = told_of(reading);
+                status
+            }
+            Owned::Strip(_) => 6,
+        }
+    }
+
+    /// Writes the next row of a reading packed, and returns the status.
+    pub(crate) fn pack_next(
+        &mut self,
+        data: &[u8],
+        bytes: &mut [u8],
+        outcome: &mut RowOutcome,
+    ) -> u32
+        requires fit { BitsFit «data».now }
+        requires reads { is_reading self.old ≡ true }
+        ensures gives { IfReadings self.old self.new (λ old new. GivesRow «data».now old new result) }
+        ensures packed { result ≡ 0 → IfReading self.new (λ reading.
+            IsPacked reading.rows.held.settings.columns reading.rows.held.reference bytes.old bytes.new) }
+        ensures refused { result ≡ 5 → IfReading self.new (λ reading.
+            length bytes.new < bytes_of_row reading.rows.held.settings.columns) }
+        ensures unwritten { result ≢ 0 → bytes.new ≡ bytes.old }
+        ensures told { IfReading self.new (λ reading. TellsOf reading.rows outcome.new) }
+        ensures reads { is_reading self.new ≡ true }
+    {
+        match self {
+            Owned::Reading(reading) => {
+                let status = reading.pack_next(data, bytes);
+                *outcome = told_of(reading);
+                status
+            }
+            Owned::Strip(_) => 6,
+        }
+    }
+
+    /// Adds a row to a strip, given by its changes, and returns the status.
+    pub(crate) fn add_changes(&mut self, changes: &[u32]) -> u32
+        requires strip { is_strip self.old ≡ true }
+        ensures takes { IfStrips self.old self.new (λ old new. TakesRow old new
+            (λ columns. AreChanges columns changes.now) (λ columns. pixels columns changes.now) result) }
+        ensures strip { is_strip self.new ≡ true }
+    {
+        match self {
+            Owned::Strip(strip) => strip.add_changes(changes),
+            Owned::Reading(_) => 6,
+        }
+    }
+
+    /// Adds a row of packed pixels to a strip, and returns the status.
+    pub(crate) fn add_packed(&mut self, row: &[u8]) -> u32
+        requires strip { is_strip self.old ≡ true }
+        ensures takes { IfStrips self.old self.new (λ old new. TakesRow old new
+            (λ columns. bytes_of_row columns ≤ length row.now) (λ columns. take columns (bits_of row.now)) result) }
+        ensures strip { is_strip self.new ≡ true }
+    {
+        match self {
+            Owned::Strip(strip) => strip.add_packed(row),
+            Owned::Reading(_) => 6,
+        }
+    }
+
+    /// Finishes a strip, unless it is, writes its bytes if there is room for them, and returns the status.
+    pub(crate) fn give_bytes(&mut self, data: &mut [u8], outcome: &mut EncodeOutcome) -> u32
+        requires strip { is_strip self.old ≡ true }
+        ensures finishes { IfStrips self.old self.new (λ old new. Finishes old new result) }
+        ensures given { result ≡ 0 → IfStrip self.new (λ strip.
+            IfFinished strip (λ bytes. IsGiven bytes «data».old «data».new)) }
+        ensures refused { result ≡ 5 → IfStrip self.new (λ strip.
+            IfFinished strip (λ bytes. length «data».new < length bytes)) }
+        ensures unwritten { result ≢ 0 → «data».new ≡ «data».old }
+        ensures told { IfStrip self.new (λ strip. outcome.new ≡ strip_told strip) }
+        ensures strip { is_strip self.new ≡ true }
+    {
+        match self {
+            Owned::Strip(strip) => strip.give_bytes(data, outcome),
+            Owned::Reading(_) => 6,
+        }
+    }
+}

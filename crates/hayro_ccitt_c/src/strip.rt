@@ -1,0 +1,132 @@
+//! A strip that C writes, one row at a time.
+
+ghost use Rattle.std.specs.Prelude.{◌≡◌, ◌≢◌, ◌<◌, ◌≤◌, ◌⊎◌, length, take};
+ghost use Rattle.hayro_ccitt.specs.Bits.{bits_of};
+ghost use Rattle.hayro_ccitt.specs.Rows.{AreChanges, pixels};
+ghost use Rattle.fax_encode.specs.Packed.{bytes_of_row};
+ghost use Rattle.hayro_ccitt_c.specs.RowsTaken.{Finishes, IfFinished, IsGiven, TakesRow, status_of_row, strip_told};
+
+use crate::encoding::EncodeOutcome;
+use fax_encode::{EncodeError, Encoder};
+use std::mem;
+
+/// The bytes of a picture, and the number of its rows.
+#[derive(Drop)]
+pub struct Finished {
+    pub(crate) bytes: Vec<u8>,
+    pub(crate) rows: u64,
+}
+
+impl Finished {
+    /// Writes the bytes if there is room for them, and returns the status.
+    fn give(&self, data: &mut [u8], outcome: &mut EncodeOutcome) -> u32
+        ensures statuses { (result ≡ 0) ⊎ (result ≡ 5) }
+        ensures given { result ≡ 0 → IsGiven self.now.bytes.items «data».old «data».new }
+        ensures refused { result ≡ 5 → length «data».new < length self.now.bytes.items }
+        ensures unwritten { result ≢ 0 → «data».new ≡ «data».old }
+        ensures told { outcome.new ≡ record { rows = self.now.rows; bytes = length self.now.bytes.items } }
+    {
+        let count = self.bytes.len();
+        *outcome = EncodeOutcome {
+            rows: self.rows,
+            bytes: count as u64,
+        };
+        if count > data.len() {
+            return 5;
+        }
+        data[..count].copy_from_slice(self.bytes.as_slice());
+        0
+    }
+}
+
+/// What a handle owns: the rows so far, or the picture once it is finished.
+#[derive(Drop)]
+pub enum Strip {
+    /// Rows may be added.
+    Rows(Encoder),
+    /// The picture.
+    Whole(Finished),
+    /// An allocation failed when the picture was finished.
+    OutOfMemory,
+}
+
+/// Returns the status of adding a row.
+fn status_of(answer: Result<(), EncodeError>) -> u32
+    ensures { result ≡ status_of_row answer }
+{
+    match answer {
+        Ok(()) => 0,
+        Err(EncodeError::OutOfMemory) => 4,
+        Err(_) => 6,
+    }
+}
+
+impl Strip {
+    /// Adds a row, given by its changes, and returns the status.
+    pub(crate) fn add_changes(&mut self, changes: &[u32]) -> u32
+        ensures { TakesRow self.old self.new (λ columns. AreChanges columns changes.now)
+            (λ columns. pixels columns changes.now) result }
+    {
+        match self {
+            Strip::Rows(encoder) => status_of(encoder.push_changes(changes)),
+            Strip::Whole(_) => 6,
+            Strip::OutOfMemory => 4,
+        }
+    }
+
+    /// Adds a row of packed pixels, and returns the status.
+    pub(crate) fn add_packed(&mut self, row: &[u8]) -> u32
+        ensures { TakesRow self.old self.new (λ columns. bytes_of_row columns ≤ length row.now)
+            (λ columns. take columns (bits_of row.now)) result }
+    {
+        match self {
+            Strip::Rows(encoder) => status_of(encoder.push_packed_row(row)),
+            Strip::Whole(_) => 6,
+            Strip::OutOfMemory => 4,
+        }
+    }
+
+    /// Finishes the picture, unless it is, and returns the status.
+    fn finish(&mut self) -> u32
+        ensures { Finishes self.old self.new result }
+    {
+        if let Strip::Rows(encoder) = self {
+            if encoder.needs_row() {
+                return 6;
+            }
+        }
+        match mem::replace(self, Strip::OutOfMemory) {
+            Strip::Rows(encoder) => {
+                let rows = encoder.rows() as u64;
+                match encoder.finish() {
+                    Ok(bytes) => {
+                        *self = Strip::Whole(Finished { bytes, rows });
+                        0
+                    }
+                    Err(_) => 4,
+                }
+            }
+            Strip::Whole(finished) => {
+                *self = Strip::Whole(finished);
+                0
+            }
+            Strip::OutOfMemory => 4,
+        }
+    }
+
+    /// Finishes the picture, unless it is, writes its bytes if there is room for them, and returns the status.
+    pub(crate) fn give_bytes(&mut self, data: &mut [u8], outcome: &mut EncodeOutcome) -> u32
+        ensures finishes { Finishes self.old self.new result }
+        ensures given { result ≡ 0 → IfFinished self.new (λ bytes. IsGiven bytes «data».old «data».new) }
+        ensures refused { result ≡ 5 → IfFinished self.new (λ bytes. length «data».new < length bytes) }
+        ensures unwritten { result ≢ 0 → «data».new ≡ «data».old }
+        ensures told { outcome.new ≡ strip_told self.new }
+    {
+        *outcome = EncodeOutcome { rows: 0, bytes: 0 };
+        let status = self.finish();
+        match self {
+            Strip::Whole(finished) => finished.give(data, outcome),
+            _ => status,
+        }
+    }
+}
