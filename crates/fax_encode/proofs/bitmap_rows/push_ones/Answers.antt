@@ -1,9 +1,9 @@
-use Rattle.std.proofs.Common.{◌≡◌, ◌+◌, ◌-◌, ◌*◌, ◌%◌, ◌^◌, ◌<◌, ◌++◌, ◌∷◌, [], List, ℕ, take, refl, OnOk, sym, ap, subst, ◌∙◌, arith, append_assoc}
+use Rattle.std.proofs.Common.{◌≡◌, ◌+◌, ◌-◌, ◌*◌, ◌%◌, ◌^◌, ◌<◌, ◌++◌, ◌∷◌, [], List, ℕ, take, refl, sym, ap, ◌∙◌, arith, append_assoc}
 use lib.Count.{count_leading_zeros}
 use Rattle.std.proofs.lemmas.List.{append-nil}
 use Rattle.hayro_ccitt.specs.Bits.{low_bits}
 use Rattle.fax_encode.specs.Scanning.{ones_from}
-use Rattle.fax_encode.proofs.ScannedWords.{one_there, one_taken, one_less, one_turned, no_ones, ones-none}
+use Rattle.fax_encode.proofs.ScannedWords.{one_taken, one_less, one_turned, no_ones, ones-none}
 use Rattle.fax_encode.proofs.bitmap_rows.push_ones.Goals as goal
 
 -- nothing is left to add

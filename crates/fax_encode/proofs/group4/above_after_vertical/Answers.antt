@@ -1,4 +1,4 @@
-use Rattle.std.proofs.Common.{◌≡◌, ◌+◌, ◌-◌, ℕ, refl, arith}
+use Rattle.std.proofs.Common.{◌≡◌, ◌+◌, ◌-◌, ℕ, arith}
 use Rattle.fax_encode.specs.Coding.{place_of}
 use Rattle.fax_encode.proofs.StepsToB1.{near_next, near_first, near_back}
 use Rattle.fax_encode.proofs.group4.above_after_vertical.Goals as goal

@@ -1,4 +1,4 @@
-use Rattle.std.proofs.Common.{◌+◌, ◌<◌, ◌≤◌, ℕ, get_or, sym, ◌∙◌, arith}
+use Rattle.std.proofs.Common.{sym, ◌∙◌, arith}
 use Rattle.hayro_ccitt.proofs.PixelRows.ReferencePlaces.{b2_after_b1}
 use Rattle.fax_encode.specs.Coding.{color_after, place_of}
 use Rattle.fax_encode.proofs.StepsToB1.{b1_reached, near_up, near_within}

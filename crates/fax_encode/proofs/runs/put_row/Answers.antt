@@ -1,8 +1,7 @@
-use Rattle.std.proofs.Common.{◌≡◌, ◌-◌, ◌++◌, ℕ, List, [], OnOk, sym, ap, subst, length, ◌∙◌, arith}
+use Rattle.std.proofs.Common.{◌≡◌, ◌-◌, ◌++◌, ℕ, List, [], OnOk, sym, subst, length, ◌∙◌, arith}
 use Rattle.std.proofs.lemmas.Bool.{eqb-true}
 use Rattle.std.proofs.lemmas.List.{nil_from_length}
 use Rattle.hayro_ccitt.specs.declared.codes.Color.TheVariants.{White}
-use Rattle.hayro_ccitt.specs.Bits.{Bits}
 use Rattle.fax_encode.specs.Chosen.{chosen_run, chosen_runs}
 use Rattle.fax_encode.specs.Writing.{all_bits}
 use Rattle.fax_encode.proofs.runs.put_row.Goals as goal

@@ -1,5 +1,4 @@
-use Rattle.std.proofs.Common.{◌≡◌, ◌++◌, OnOk, sym, ap, subst, ◌∙◌, append_assoc, arith}
-use Rattle.hayro_ccitt.specs.Rows.{opposite}
+use Rattle.std.proofs.Common.{◌≡◌, ◌++◌, OnOk, ap, subst, ◌∙◌, arith}
 use Rattle.hayro_ccitt.specs.declared.codes.Color.{Color}
 use Rattle.hayro_ccitt.specs.Bits.{Bits, low_bits}
 use Rattle.fax_encode.specs.Chosen.{chosen_run}

@@ -1,4 +1,4 @@
-use Rattle.std.proofs.Common.{◌-◌, ◌≤◌, ◌*◌, ◌%◌, ◌^◌, ◌++◌, ℕ, List, length, ap, ◌∙◌, arith}
+use Rattle.std.proofs.Common.{◌-◌, ◌≤◌, ◌*◌, ◌%◌, ◌^◌, ◌++◌, ℕ, length, ap, ◌∙◌, arith}
 use Rattle.std.specs.Int.RustNames.{bit_or}
 use Rattle.hayro_ccitt.specs.Bits.{bits_of, low_bits}
 use Rattle.hayro_ccitt.proofs.BitReading.BitLists.{length-low_bits}
