@@ -41,8 +41,10 @@ def assert_damage(words, data, lines, status):
     done = run(["-d", *words], data)
     *damaged, last = done.stdout.decode().splitlines()
     rows, (end, _, told) = len(lines) - 1, lines[-1].partition(" ")
-    expected = f"ok {rows} {len(damaged)} {told}" if end == "ok" else f"error {rows} {told}"
+    place = last.split()[2]
+    expected = f"ok {rows} {len(damaged)} {told}" if end == "ok" else f"error {rows} {place} {told}"
     assert (done.returncode, last, done.stderr) == (status, expected, b""), ("-d", words, done)
+    assert int(place) <= 8 * len(data), ("-d", words, done)
     numbers = [int(line.split()[1]) for line in damaged]
     assert numbers == sorted(set(numbers)) and all(number < rows for number in numbers), ("-d", words, damaged)
     assert not damaged or (words[0] != "g4" and "s" not in words[3]), ("-d", words, damaged)
@@ -185,20 +187,21 @@ def bitmaps():
 
 INVALID, CUT = "invalid CCITT code sequence", "unexpected end of input"
 # Arguments after `-d` and data, the lines that the program writes, and its status: data without damage, an EOL that is missed,
-# a damaged second line, which begins after its EOL at 17 to 29, the same in a strict reading, a tag that is missing, a fault
-# where nothing is repaired, and a thousand EOLs with a line of four ones after each, the last of which is cut and read again.
+# in a strict reading too, where it is missing at 17, a damaged second line, which begins after its EOL at 17 to 29, the same in a
+# strict reading, a tag that is missing, a fault where nothing is repaired, and a thousand EOLs with a line of four ones after each, the last of which is cut and read again.
 DAMAGE = [
     ("g4 8 1 -", "31C0", ["ok 1 0 2"], 0),
     ("g4 8 1 r", "8C03", ["ok 1 0 2"], 0),
     ("1d 8 2 l", "0019F800CC", ["ok 2 0 5"], 0),
+    ("1d 8 0 sl", "0019CC", [f"error 1 17 {INVALID}"], 1),
     ("1d 8 0 l", "0019800C400033", [f"damaged 1 29 {INVALID}", "ok 3 1 7"], 0),
-    ("1d 8 0 sl", "0019800C400033", [f"error 1 {INVALID}"], 1),
+    ("1d 8 0 sl", "0019800C400033", [f"error 1 29 {INVALID}"], 1),
     ("2d 8 0 l", "", [f"damaged 0 0 {CUT}", "ok 1 1 0"], 0),
-    ("g4 8 0 -", "31C000", [f"error 1 {INVALID}"], 1),
+    ("g4 8 0 -", "31C000", [f"error 1 10 {INVALID}"], 1),
     (
         "1d 8 0 l",
         "001F" * 1000,
-        [*[f"damaged {row} {12 + 16 * row} {INVALID}" for row in range(999)], f"damaged 999 15996 {CUT}", f"error 1000 {CUT}"],
+        [*[f"damaged {row} {12 + 16 * row} {INVALID}" for row in range(999)], f"damaged 999 15996 {CUT}", f"error 1000 15996 {CUT}"],
         1,
     ),
 ]

@@ -107,16 +107,18 @@ def text_of(rows, last):
     return "".join("r" + "".join(f" {change}" for change in row) + "\n" for row in rows).encode() + last.encode() + b"\n"
 
 
-# Of data that are damaged the indices of the rows, and where their lines begin.
-DAMAGED = {"1d 8 0 l": [(1, 29)]}
+# Where lines begin, and of data that are damaged the indices of the rows; the others have one line, which begins at 0.
+STARTS = {"g4 8 2 -": [0, 10], "2d 8 0 b": [12, 35, 51], "1d 8 0 l": [12, 29, 51]}
+DAMAGED = {"1d 8 0 l": [1]}
 
 
 def damage_of(words, count, last):
     """The damage of the first rows, and the last line: of a good reading, or the error after these rows."""
-    damaged = [place for place in DAMAGED.get(words, []) if place[0] < count]
-    lines = [f"damaged {row} {start} invalid CCITT code sequence" for row, start in damaged]
+    starts = STARTS.get(words, [0])
+    damaged = [row for row in DAMAGED.get(words, []) if row < count]
+    lines = [f"damaged {row} {starts[row]} invalid CCITT code sequence" for row in damaged]
     end, _, told = last.partition(" ")
-    lines.append(f"ok {count} {len(damaged)} {told}" if end == "ok" else f"error {count} {told}")
+    lines.append(f"ok {count} {len(damaged)} {told}" if end == "ok" else f"error {count} {starts[count]} {told}")
     return "".join(line + "\n" for line in lines).encode()
 
 

@@ -1,11 +1,12 @@
 -- What a run writes of the damage, from how the reading ended.
-use Rattle.std.proofs.Common.{◌≡◌, ◌≤◌, ◌+◌, ◌-◌, ℕ, zero, suc, List, [], ◌++◌, refl, true, inl, inr, sym, ap, subst, ◌∙◌, Ok, Err, length, get_or, append_assoc, append-nil, arith, Option}
+use Rattle.std.proofs.Common.{◌≡◌, ◌≢◌, ◌≤◌, ◌+◌, ◌-◌, ℕ, zero, suc, Bool, List, [], ◌++◌, refl, true, inl, inr, sym, ap, subst, ◌∙◌, Result, Ok, Err, length, get_or, append_assoc, append-nil, arith, Option, None, Some}
 use Rattle.std.specs.Prelude.{IsOk, IsErr}
 use Rattle.hayro_ccitt.specs.declared.error.DecodeError.{DecodeError}
 use Rattle.hayro_ccitt.specs.declared.error.DecodeError.TheVariants.{UnexpectedEof, InvalidCode, Overflow, OutOfMemory, Refused}
 use Rattle.hayro_ccitt.specs.declared.settings.DecodeSettings.{DecodeSettings}
 use Rattle.hayro_ccitt.specs.Bits.{Bits}
-use Rattle.hayro_ccitt.specs.RowsRead.{RowsRead, ReadsNext, line_starts}
+use Rattle.hayro_ccitt.specs.PlainReading.{failed_at, line_starts}
+use Rattle.hayro_ccitt.specs.RowsRead.{RowsRead, ReadsNext, at_end_of_rows}
 use Rattle.fax_program.specs.Devices.{AppendsFront}
 use Rattle.faxrows.specs.declared.program.Done.TheVariants.{Good, Faulty, Memory}
 use Rattle.faxrows.specs.DamageText.{IsDamageText, IsDamageWithoutMemory, damage_after, damage_lines, damage_of_row, line_of_damage, whole_damage}
@@ -64,6 +65,25 @@ damage_more settings bits old new of_settings of_bits reads =
     subst (λ (b : Bits). damage_lines settings b old.taken ++ line ≡ damage_lines settings b new.taken) of_bits
     (subst (λ (s : DecodeSettings). damage_lines s old.bits old.taken ++ line
     ≡ damage_lines s old.bits new.taken) of_settings here)
+
+-- ---- The place of a fault
+
+-- a reading that first fails at a call hasn't ended before it
+pub unended_before : (before : Option (Result (Unit {0}) DecodeError)) (error : DecodeError) (result : Result Bool DecodeError)
+    → result ≡ Err error → ((e : DecodeError) → before ≢ Some (Err e))
+    → ((end : Result (Unit {0}) DecodeError) → before ≡ Some end → result ≡ at_end_of_rows end) → before ≡ None
+unended_before None error result is unfailed ended = refl
+unended_before (Some (Ok x)) error result is unfailed ended = let never = sym is ∙ ended (Ok x) refl in absurd cc
+unended_before (Some (Err e)) error result is unfailed ended = absurd (unfailed e refl)
+
+-- and it tells where it fails
+pub failed_there : (old new : RowsRead) (error : DecodeError) → ReadsNext old new (Err error) → old.end ≡ None
+    → new.line_start ≡ failed_at new.settings new.bits new.taken
+failed_there old new error reads unended =
+    reads.fault_start unended
+    ∙ ap (λ (s : DecodeSettings). failed_at s old.bits old.taken) (sym reads.settings)
+    ∙ ap (λ (b : Bits). failed_at new.settings b old.taken) (sym reads.bits)
+    ∙ ap (failed_at new.settings new.bits) (sym reads.error.1)
 
 -- ---- The whole text
 

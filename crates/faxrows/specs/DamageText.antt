@@ -5,7 +5,7 @@ use Rattle.hayro_ccitt.specs.declared.error.DecodeError.TheVariants.{OutOfMemory
 use Rattle.hayro_ccitt.specs.declared.settings.DecodeSettings.{DecodeSettings}
 use Rattle.hayro_ccitt.specs.Bits.{Bits}
 use Rattle.hayro_ccitt.specs.Damage.{fault_in, repairs_by_line}
-use Rattle.hayro_ccitt.specs.RowsRead.{line_starts}
+use Rattle.hayro_ccitt.specs.PlainReading.{failed_at, line_starts}
 use Rattle.hayro_ccitt.specs.Texts as library
 use Rattle.faxrows.specs.Runs.{Outcome, EndsAfter, rows_of, outcome_of}
 
@@ -42,11 +42,12 @@ abbrev pub damaged_among : DecodeSettings → Bits → ℕ → ℕ
 damaged_among settings bits rows = sum_by length (take rows (repairs_by_line settings bits))
 
 -- The last line: `ok`, the rows, the number of them that were repaired, and the byte count; or `error`, the index of the row
--- that can't be read, and the error.
+-- that can't be read, the offset in bits at which its line begins, or at which its EOL is missing, and the error (T.4, 4.1.2).
 abbrev pub last_line_of_damage : DecodeSettings → Bits → ℕ → Outcome → List ℕ
 last_line_of_damage settings bits rows (Ok count) =
     numbered (codes "ok ") rows (damaged_among settings bits rows) ++ number_and count 10
-last_line_of_damage settings bits rows (Err error) = codes "error " ++ (number_and rows 32 ++ end_with_fault error)
+last_line_of_damage settings bits rows (Err error) =
+    numbered (codes "error ") rows (failed_at settings bits rows) ++ end_with_fault error
 
 -- what is written of the damage after this number of rows, and how the reading ended
 abbrev pub damage_after : DecodeSettings → Bits → ℕ → Outcome → List ℕ

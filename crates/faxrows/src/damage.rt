@@ -1,8 +1,9 @@
 //! A run of the program that writes the damage of the data instead of its rows.
 
-ghost use Rattle.std.specs.Prelude.{◌≡◌, ◌<◌, ◌-◌, ◌↔◌, ◌≢◌, ◌++◌, [], IfOk, IfErr, OnOk, OnErr, IfSome, IsOk, IsErr, true, false, map, string_bytes, length, None, Ok, Err, List, ℕ};
+ghost use Rattle.std.specs.Prelude.{◌≡◌, ◌<◌, ◌-◌, ◌↔◌, ◌≢◌, ◌++◌, [], IfOk, IfErr, OnOk, OnErr, IfSome, IsOk, IsErr, true, false, map, string_bytes, length, None, Some, Ok, Err, List, ℕ};
 ghost use Rattle.std.specs.Io.KnownBytes.{Appends, IsAtEnd};
 ghost use Rattle.hayro_ccitt.specs.Bits.{BitsFit};
+ghost use Rattle.hayro_ccitt.specs.PlainReading.{failed_at};
 ghost use Rattle.fax_program.specs.Devices.{AppendsFront, WasRead};
 ghost use Rattle.faxrows.specs.Arguments.{arguments_of_words};
 ghost use Rattle.faxrows.specs.DamageText.{IsDamageText, IsDamageWithoutMemory, damage_after, damage_lines, last_line_of_damage, line_of_damage, whole_damage};
@@ -11,18 +12,18 @@ ghost use Rattle.faxrows.specs.Runs.{Outcome, OnKnown, rows_of, outcome_of, done
 ghost use Rattle.faxrows.specs.RunsByRow.{EndsByRow};
 
 use crate::arguments::arguments_of;
-use crate::damage_lines::{put_bad_end, put_damaged_row, put_good_end};
+use crate::damage_lines::{put_fault, put_good_end};
 use crate::output::flush;
 use crate::program::{Done, done_of};
 use fax_program::{Device, RunFault, read_all};
-use hayro_ccitt::RowReader;
+use hayro_ccitt::{DecodeError, RowReader};
 use std::alloc::Global;
 use std::io::{Read, Write};
 
 /// Reads all that the reader has, decodes it row by row as the arguments mean, and writes the damage instead of the rows:
 /// for each row that was repaired a line of `damaged`, the row's index, the offset in bits at which its line begins, and
 /// the fault; and then `ok`, the rows, the number of them that were repaired, and the byte count, or `error`, the index of
-/// the row that can't be read, and the error.
+/// the row that can't be read, the offset in bits at which its line begins or its EOL is missing, and the error.
 ///
 /// # Errors
 ///
@@ -86,6 +87,7 @@ fn write_damage<W: Write>(
     writer: &mut Device<W>,
 ) -> std::result::Result<Done, RunFault>
     requires none_read { rows.old.taken ≡ 0 }
+    requires unfailed { (error : DecodeError) → rows.old.end ≢ Some (Err error) }
     ensures written { IfOk result (λ done. (outcome : Outcome)
         × EndsByRow rows.old.settings rows.old.bits rows.new.taken outcome
         × (done ≡ done_of outcome)
@@ -112,9 +114,12 @@ fn put_damage<W: Write>(
 ) -> std::result::Result<hayro_ccitt::Result<usize>, RunFault>
     requires none_read { rows.old.taken ≡ 0 }
     requires none_waits { waiting.old.items ≡ [] }
+    requires unfailed { (error : DecodeError) → rows.old.end ≢ Some (Err error) }
     ensures settings { OnOk result (rows.new.settings ≡ rows.old.settings) }
     ensures bits { OnOk result (rows.new.bits ≡ rows.old.bits) }
     ensures ends { IfOk result (λ outcome. EndsByRow rows.old.settings rows.old.bits rows.new.taken outcome) }
+    ensures fails { IfOk result (λ outcome. OnErr outcome
+        (rows.new.line_start ≡ failed_at rows.new.settings rows.new.bits rows.new.taken)) }
     ensures lines { OnOk result (PassesOn (W.contents writer.old.0) (W.contents writer.new.0)
         [] (damage_lines rows.old.settings rows.old.bits rows.new.taken) waiting.new.items) }
     ensures front { OnErr result (AppendsFront (W.contents writer.old.0) (W.contents writer.new.0)
@@ -149,8 +154,9 @@ fn put_last_row<W: Write>(
 {
     match rows.damage() {
         Some(fault) => {
+            let row = rows.rows_read() - 1;
             let start = rows.line_start() as u64;
-            put_damaged_row(rows.rows_read() - 1, start, fault, waiting, writer)
+            put_fault(b"damaged ", row, start, fault, waiting, writer)
         }
         None => Ok(()),
     }
@@ -163,6 +169,7 @@ fn put_end<W: Write>(
     waiting: &mut Vec<u8>,
     writer: &mut Device<W>,
 ) -> std::result::Result<(), RunFault>
+    requires fails { OnErr outcome.now (rows.now.line_start ≡ failed_at rows.now.settings rows.now.bits rows.now.taken) }
     ensures ok { OnOk result (PassesOn (W.contents writer.old.0) (W.contents writer.new.0)
         waiting.old.items (last_line_of_damage rows.now.settings rows.now.bits rows.now.taken outcome.now) waiting.new.items) }
     ensures front { OnErr result (AppendsFront (W.contents writer.old.0) (W.contents writer.new.0)
@@ -179,6 +186,9 @@ fn put_end<W: Write>(
             waiting,
             writer,
         ),
-        Err(error) => put_bad_end(rows.rows_read(), *error, waiting, writer),
+        Err(error) => {
+            let start = rows.line_start() as u64;
+            put_fault(b"error ", rows.rows_read(), start, *error, waiting, writer)
+        }
     }
 }

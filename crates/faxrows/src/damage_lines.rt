@@ -2,7 +2,7 @@
 
 ghost use Rattle.std.specs.Prelude.{◌≡◌, ◌≤◌, ◌++◌, ◌∷◌, [], OnOk, OnErr, IfErr, Some, Ok, Err, drop, codes, true, ℕ};
 ghost use Rattle.fax_program.specs.Devices.{AppendsFront};
-ghost use Rattle.faxrows.specs.DamageText.{end_with_fault, line_of_damage, number_and, numbered};
+ghost use Rattle.faxrows.specs.DamageText.{end_with_fault, number_and, numbered};
 ghost use Rattle.faxrows.specs.Output.{PassesOn};
 
 use crate::digits::{MOST_DIGITS, put_decimal};
@@ -77,8 +77,9 @@ pub(crate) fn fault_and_end(fault: DecodeError) -> &'static [u8]
     }
 }
 
-/// Puts the line of a damaged row: its index, the offset in bits at which its line begins, and the fault.
-pub(crate) fn put_damaged_row<W: Write>(
+/// Puts the line of a row that is damaged or can't be read: a word, the row's index, an offset in bits, and the fault.
+pub(crate) fn put_fault<W: Write>(
+    word: &[u8],
     row: u64,
     start: u64,
     fault: DecodeError,
@@ -86,14 +87,14 @@ pub(crate) fn put_damaged_row<W: Write>(
     writer: &mut Device<W>,
 ) -> std::result::Result<(), RunFault>
     ensures ok { OnOk result (PassesOn (W.contents writer.old.0) (W.contents writer.new.0)
-        waiting.old.items (line_of_damage row start (Some fault)) waiting.new.items) }
+        waiting.old.items (numbered word.now row start ++ end_with_fault fault) waiting.new.items) }
     ensures front { OnErr result (AppendsFront (W.contents writer.old.0) (W.contents writer.new.0)
-        (waiting.old.items ++ line_of_damage row start (Some fault))) }
+        (waiting.old.items ++ (numbered word.now row start ++ end_with_fault fault))) }
     ensures flag { OnOk result (writer.new.1 ≡ writer.old.1) }
     ensures failed { OnErr result (writer.new.1 ≡ true) }
     ensures only { IfErr result (λ fault. fault ≡ RunFault.Write) }
 {
-    put_numbers(b"damaged ", row, start, waiting, writer)?;
+    put_numbers(word, row, start, waiting, writer)?;
     put(fault_and_end(fault), waiting, writer)
 }
 
@@ -115,24 +116,4 @@ pub(crate) fn put_good_end<W: Write>(
 {
     put_numbers(b"ok ", rows, damaged, waiting, writer)?;
     put_number(count, b'\n', waiting, writer)
-}
-
-/// Puts the last line of a reading that failed: the index of the row that can't be read, and the error.
-pub(crate) fn put_bad_end<W: Write>(
-    row: u64,
-    error: DecodeError,
-    waiting: &mut Vec<u8>,
-    writer: &mut Device<W>,
-) -> std::result::Result<(), RunFault>
-    ensures ok { OnOk result (PassesOn (W.contents writer.old.0) (W.contents writer.new.0)
-        waiting.old.items (codes "error " ++ (number_and row 32 ++ end_with_fault error)) waiting.new.items) }
-    ensures front { OnErr result (AppendsFront (W.contents writer.old.0) (W.contents writer.new.0)
-        (waiting.old.items ++ (codes "error " ++ (number_and row 32 ++ end_with_fault error)))) }
-    ensures flag { OnOk result (writer.new.1 ≡ writer.old.1) }
-    ensures failed { OnErr result (writer.new.1 ≡ true) }
-    ensures only { IfErr result (λ fault. fault ≡ RunFault.Write) }
-{
-    put(b"error ", waiting, writer)?;
-    put_number(row, b' ', waiting, writer)?;
-    put(fault_and_end(error), waiting, writer)
 }

@@ -181,7 +181,13 @@ fn writes_damage(rt: HostRuntime) -> Result<(), Fail> {
             "1d 8 0 ls",
             DAMAGED_ROWS.as_slice(),
             Done::Faulty,
-            "error 1 invalid CCITT code sequence\n",
+            "error 1 29 invalid CCITT code sequence\n",
+        ),
+        (
+            "1d 8 0 ls",
+            [0x00, 0x19, 0xCC].as_slice(),
+            Done::Faulty,
+            "error 1 17 invalid CCITT code sequence\n",
         ),
         (
             "1d 8 1 l",
@@ -205,7 +211,7 @@ fn writes_damage(rt: HostRuntime) -> Result<(), Fail> {
             "2d 8 0 -",
             [].as_slice(),
             Done::Faulty,
-            "error 0 unexpected end of input\n",
+            "error 0 0 unexpected end of input\n",
         ),
     ] {
         let (answer, written) = ran_for_damage(rt.alloc(), line, input)?;
@@ -590,7 +596,7 @@ fn refused_memory_of_damage(rt: HostRuntime) -> Result<(), Fail> {
     let words = words_of(rt.alloc(), "1d 8 0 l")?;
     for number in 1..20usize {
         let mut is_known = false;
-        for text in [DAMAGE, "error 1 out of memory\n"] {
+        for text in [DAMAGE, "error 1 29 out of memory\n"] {
             let mut reader = Device::new(DAMAGED_ROWS.as_slice());
             let mut writer = Device::new(Comparing {
                 wanted: text.as_bytes(),

@@ -1,5 +1,5 @@
 -- The plain reading of whole data: rows, and how it ends.
-use Rattle.std.specs.Prelude.{ℕ, suc, ◌+◌, ◌-◌, ◌/◌, ◌%◌, Bool, true, false, not, ◌&&◌, ◌||◌, List, [], ◌∷◌, ◌++◌, length, drop, nat_le, nat_lt, ◌==◌, Option, Some, None, Result, Ok, Err, if◌then◌else◌}
+use Rattle.std.specs.Prelude.{ℕ, suc, ◌+◌, ◌-◌, ◌/◌, ◌%◌, Bool, true, false, not, ◌&&◌, ◌||◌, List, [], ◌∷◌, ◌++◌, length, drop, get_or, nat_le, nat_lt, ◌==◌, Option, Some, None, Result, Ok, Err, if◌then◌else◌}
 use Rattle.hayro_ccitt.specs.declared.error.DecodeError.{DecodeError}
 use Rattle.hayro_ccitt.specs.declared.error.DecodeError.TheVariants.{UnexpectedEof, InvalidCode}
 use Rattle.hayro_ccitt.specs.declared.settings.EncodingMode.{EncodingMode}
@@ -252,3 +252,33 @@ line_of_turn settings so_far = line_here settings (row_before settings.columns s
 -- The lines that the plain reading reads, in order. The line with index n is read after n rows.
 abbrev pub lines_of : DecodeSettings → Bits → List Line
 lines_of settings bits = if settings.columns == 0 then [] else gathered_of settings (line_of_turn settings) bits
+
+-- ---- Where lines begin, and where a reading fails
+
+-- auxiliary: the offset of the bits from a turn on, and of those after its row; without a row it is the same
+abbrev pub start_of_turn : Bits → Progress → ℕ
+start_of_turn bits so_far = length bits - length so_far.rest
+
+abbrev pub end_of_row : Bits → Progress → Result (Row × Bits) DecodeError → ℕ
+end_of_row bits so_far (Ok (row, rest)) = length bits - length rest
+end_of_row bits so_far (Err fault) = start_of_turn bits so_far
+
+abbrev pub end_of_turn : DecodeSettings → Bits → Progress → ℕ
+end_of_turn settings bits so_far = end_of_row bits so_far (row_of_line settings so_far.has_eols so_far.rest (line_of_turn settings so_far))
+
+-- where the lines of the plain reading begin: the offset of each one's first bit (T.4, 4.1.1 and 4.2.2)
+abbrev pub line_starts : DecodeSettings → Bits → List ℕ
+line_starts settings bits = gathered_of settings (start_of_turn bits) bits
+
+-- where the gaps after its rows begin: the offset of the first bit after each row (T.4, 4.1.2)
+abbrev pub row_ends : DecodeSettings → Bits → List ℕ
+row_ends settings bits = gathered_of settings (end_of_turn settings bits) bits
+
+-- auxiliary: where a reading fails after this number of rows, if its lines begin and its rows end here
+abbrev pub failing_at : List ℕ → List ℕ → ℕ → ℕ
+failing_at starts ends taken = get_or starts taken (get_or ends (taken - 1) 0)
+
+-- Where a reading fails after this number of rows: the offset of the first bit of the line there; or, if none begins there,
+-- that of the first bit after the last row, where strict data lack an EOL (T.4, 4.1.2).
+abbrev pub failed_at : DecodeSettings → Bits → ℕ → ℕ
+failed_at settings bits taken = failing_at (line_starts settings bits) (row_ends settings bits) taken

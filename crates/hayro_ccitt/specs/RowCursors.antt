@@ -32,7 +32,8 @@ paused_of r = record {
 
 -- what was read of these bits
 abbrev pub rows_over : Bits → Paused → RowsRead
-rows_over bits paused = read_so_far paused.held paused.ticks (record { bits = bits; place = paused.place }) paused.line_start paused.damage paused.stand
+rows_over bits paused = read_so_far paused.held paused.ticks (record { bits = bits; place = paused.place }) paused.line_start
+    paused.damage paused.stand
 
 -- It is a reading of these bits: its rows so far are those of the plain reading.
 pub record IsReadingOf (bits : Bits) (paused : Paused) : Type 0 where

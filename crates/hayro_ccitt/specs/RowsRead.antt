@@ -12,16 +12,12 @@ use Rattle.hayro_ccitt.specs.Answers.{IsFault, PaintsBlack}
 use Rattle.hayro_ccitt.specs.Bits.{Bits, BitsAt}
 use Rattle.hayro_ccitt.specs.Context.{Held, Repairs}
 use Rattle.hayro_ccitt.specs.Damage.{fault_in, repairs_by_line}
-use Rattle.hayro_ccitt.specs.PlainReading.{Progress, row_before, with_row, first_gap, move_on, row_of_line, line_here, line_of_turn, gathered_of, plain, lines_of}
+use Rattle.hayro_ccitt.specs.PlainReading.{Progress, row_before, with_row, first_gap, move_on, row_of_line, line_here, line_of_turn, plain, lines_of, line_starts, failed_at}
 use Rattle.hayro_ccitt.specs.Repetition.{Turn, Reaches}
 use Rattle.hayro_ccitt.specs.Rows.{Row, changes}
 use Rattle.hayro_ccitt.specs.Work.{IsPaidUpTo, found_here, most_counted, words_of}
 
 -- ---- What is visible of a reader of rows
-
--- where the lines of the plain reading begin: the offset of each one's first bit (T.4, 4.1.1 and 4.2.2)
-abbrev pub line_starts : DecodeSettings → Bits → List ℕ
-line_starts settings bits = gathered_of settings (λ so_far. length bits - length so_far.rest) bits
 
 -- how a reading has ended, if it has: well, or with an error
 abbrev pub ended : Stand → Option (Result (Unit {0}) DecodeError)
@@ -123,7 +119,7 @@ pub record ReadsNext (old new : RowsRead) (result : Result Bool DecodeError) : T
   pub end : result ≡ Ok false → (new.end ≡ Some (Ok tt)) × (new.taken ≡ old.taken) × HasEnded old.settings old.bits new.taken new.place
   pub error : IfErr result (λ e. (new.end ≡ Some (Err e)) × (new.taken ≡ old.taken) × HasFailed old.settings old.bits new.taken e)
   -- the offset of the fault: the first bit of the line that couldn't be read, or where its EOL is missing (T.4, 4.1.2)
-  pub fault_start : old.end ≡ None → OnErr result (new.line_start ≡ get_or (line_starts old.settings old.bits) old.taken new.place)
+  pub fault_start : old.end ≡ None → OnErr result (new.line_start ≡ failed_at old.settings old.bits old.taken)
   -- no row was read: the last row and its fault are unchanged, and at the end so is the offset of its line
   pub last : result ≢ Ok true → (new.row ≡ old.row) × (new.damage ≡ old.damage)
   pub last_start : result ≡ Ok false → new.line_start ≡ old.line_start
@@ -138,7 +134,7 @@ pub record ComesToLine (old new : RowsRead) (result : Result Bool DecodeError) :
   pub unended : result ≡ Ok true → new.end ≡ None
   pub end : result ≡ Ok false → (new.end ≡ Some (Ok tt)) × HasEnded old.settings old.bits new.taken new.place
   pub error : IfErr result (λ e. (new.end ≡ Some (Err e)) × HasFailed old.settings old.bits new.taken e)
-  pub fault_start : OnErr result (new.line_start ≡ get_or (line_starts old.settings old.bits) old.taken new.place)
+  pub fault_start : OnErr result (new.line_start ≡ failed_at old.settings old.bits old.taken)
   -- the last row and its fault are unchanged, and so is the offset of its line if the gap has no fault
   pub last : (new.row ≡ old.row) × (new.damage ≡ old.damage)
   pub last_start : IfOk result (λ line. new.line_start ≡ old.line_start)
@@ -215,7 +211,8 @@ pub record PaidBehindRow (settings : DecodeSettings) (bits : Bits) (held : Held)
   pub at_line : PaidAtLine settings bits before start ticks_before
   pub kept : held.has_eols ≡ before.has_eols
   pub row_is : row_of_line settings before.has_eols start (line_here settings before.reference start) ≡ Ok (held.reference, rest)
-  pub line : ticks ≤ ticks_before + 4 * length (found_here settings before.reference start) + 2 + length (changes before.reference)
+  pub line : ticks ≤ ticks_before + 4 * length (found_here settings before.reference start) + 2
+      + length (changes before.reference)
   pub stored : length (changes held.reference) ≤ length (found_here settings before.reference start) + 1
 
 -- the account of a reader of rows

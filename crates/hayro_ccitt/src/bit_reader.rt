@@ -159,9 +159,9 @@ impl<'a> BitReader<'a> {
         BitReader::at_place(data, BitOrder::HighestFirst, place)
     }
 
-    /// Creates a reader at a bit offset.
-    #[inline(never)]
-    pub(crate) fn at_place(data: &'a [u8], order: BitOrder, place: usize) -> BitReader<'a>
+    /// Creates a reader at a bit offset, as `at_place` does, without a call.
+    #[inline(always)]
+    pub(crate) fn placed_at(data: &'a [u8], order: BitOrder, place: usize) -> BitReader<'a>
         requires fit { BitsFit «data».now }
         requires within { place ≤ 8 * length «data».now }
         ensures { result ≡ record { bits = bits_in order «data».now; place = place } }
@@ -177,6 +177,16 @@ impl<'a> BitReader<'a> {
             edge,
             order,
         }
+    }
+
+    /// Creates a reader at a bit offset.
+    #[inline(never)]
+    pub(crate) fn at_place(data: &'a [u8], order: BitOrder, place: usize) -> BitReader<'a>
+        requires fit { BitsFit «data».now }
+        requires within { place ≤ 8 * length «data».now }
+        ensures { result ≡ record { bits = bits_in order «data».now; place = place } }
+    {
+        BitReader::placed_at(data, order, place)
     }
 
     /// Reads the next bit.

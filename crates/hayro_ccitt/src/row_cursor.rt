@@ -83,7 +83,7 @@ impl RowCursor {
         if self.place > data.len() * 8 {
             return Err(DecodeError::UnexpectedEof);
         }
-        let mut reader = BitReader::at_place(data, self.order, self.place);
+        let mut reader = BitReader::placed_at(data, self.order, self.place);
         let answer = self.rows.next_row(&mut reader);
         self.place = reader.bit_pos();
         answer

@@ -1,6 +1,6 @@
 //! Rows one at a time.
 
-ghost use Rattle.std.specs.Prelude.{sum_by, take, length, ◌≡◌, ◌≤◌, ◌+◌, ◌/◌, true, None, Some, IfOk, IsOkUnless, Result};
+ghost use Rattle.std.specs.Prelude.{sum_by, take, length, ◌≡◌, ◌≢◌, ◌≤◌, ◌+◌, ◌/◌, true, None, Some, Err, IfOk, IsOkUnless, Result};
 ghost use Rattle.hayro_ccitt.specs.Bits.{BitsFit, bits_in};
 ghost use Rattle.hayro_ccitt.specs.Context.{fresh};
 ghost use Rattle.hayro_ccitt.specs.Rows.{changes};
@@ -114,6 +114,7 @@ pub(crate) fn first_stand(ctx: &mut DecoderContext, reader: &mut BitReader<'_>) 
     ensures settings { ctx.new.held.settings ≡ ctx.old.held.settings }
     ensures same_bits { reader.new.bits ≡ reader.old.bits }
     ensures stands { Stands result ctx.old.held.settings reader.old.bits ctx.new.held reader.new.place }
+    ensures unfailed { (error : DecodeError) → ended result ≢ Some (Err error) }
     ensures paid { IsPaid result ctx.old.held.settings reader.old.bits ctx.new.held reader.new.place ctx.new.ticks }
 {
     if ctx.settings().columns == 0 {
@@ -154,10 +155,11 @@ impl RowState {
         if is_at_line(self.stand) {
             return Ok(true);
         }
+        let gap_start = reader.bit_pos();
         let over = pass_gap(&mut self.ctx, reader);
         // An offset is known to be within the data once it is read.
-        let place = reader.bit_pos();
-        self.started_at = start_after_gap(over, place, self.started_at);
+        let _place = reader.bit_pos();
+        self.started_at = start_after_gap(over, gap_start, self.started_at);
         self.stand = stand_after_gap(over);
         line_after_gap(over)
     }
@@ -270,6 +272,7 @@ impl<'a> RowReader<'a> {
         ensures settings { IfOk result (λ rows. rows.settings ≡ settings) }
         ensures bits { IfOk result (λ rows. rows.bits ≡ bits_in order «data».now) }
         ensures none_read { IfOk result (λ rows. rows.taken ≡ 0) }
+        ensures unfailed { IfOk result (λ rows. (error : DecodeError) → rows.end ≢ Some (Err error)) }
         ensures work { IfOk result (λ rows. CountsWork rows.settings rows.bits rows.taken rows.ticks) }
         ensures only_memory { IsOkUnless result DecodeError.OutOfMemory }
     {

@@ -2,7 +2,7 @@
 use Rattle.std.proofs.Common.{◌≡◌, ◌+◌, ◌-◌, ◌<◌, ◌≤◌, ℕ, zero, suc, Bool, true, false, eqb, List, [], ◌∷◌, ◌++◌, length, drop, get_or, Some, Result, Ok, Err, refl, sym, ap, ◌∙◌, subst, arith}
 use Rattle.std.proofs.lemmas.Bool.{cond-true, cond-false, eq-eqb, ne_eqb, false≢true}
 use Rattle.std.proofs.lemmas.List.{length-append, length-drop}
-use Rattle.std.proofs.Common.{cond, take, not, ◌||◌, None, Option}
+use Rattle.std.proofs.Common.{cond, take, not, ◌&&◌, ◌||◌, None, Option}
 use Rattle.std.specs.Prelude.{OnErr, IfOk, IfErr, sum_by, slice_get, IsOkUnless, ◌≢◌}
 use Rattle.hayro_ccitt.specs.declared.error.DecodeError.{DecodeError}
 use Rattle.hayro_ccitt.specs.declared.error.DecodeError.TheVariants.{InvalidCode, OutOfMemory, Refused}
@@ -13,7 +13,7 @@ use Rattle.hayro_ccitt.specs.Context.{Held, Repairs, fresh}
 use Rattle.hayro_ccitt.specs.Damage.{Damaged, fault_in, repaired_in, repaired_by_turn, repairs_by_line}
 use Rattle.hayro_ccitt.specs.Decoding.{SinkState, TakesOneRow, repairs_with, gap_said}
 use Rattle.hayro_ccitt.specs.Lines.{Line}
-use Rattle.hayro_ccitt.specs.PlainReading.{Progress, Ending, Reading, Move, Gap, row_before, with_row, at_gap, gap_behind_row, row_of_line, add_row, line_here, line_of_turn, move_on, first_gap, first_line, at_front, ending_from, ending_behind, one_each, gathered_from, gathered_behind, gathered_of, bytes_before, whole_reading, plain, lines_of}
+use Rattle.hayro_ccitt.specs.PlainReading.{Progress, Ending, Reading, Move, Gap, row_before, with_row, at_gap, gap_behind_row, misses_eol, eols_here, is_over, limit_met, at_end, row_of_line, add_row, line_here, line_of_turn, move_on, first_gap, first_line, at_front, ending_from, ending_behind, one_each, gathered_from, gathered_behind, gathered_of, bytes_before, whole_reading, plain, lines_of, line_starts, row_ends, end_of_row, end_of_turn, failed_at}
 use Rattle.hayro_ccitt.specs.Repetition.{Turn, Reaches}
 use Rattle.hayro_ccitt.specs.Rows.{Row}
 use Rattle.hayro_ccitt.specs.Work.{found_here, words_of, words_of_turn}
@@ -24,7 +24,7 @@ use Rattle.hayro_ccitt.specs.declared.settings.EncodingMode.TheVariants.{Group4}
 use Rattle.hayro_ccitt.proofs.Readings.Gathered.{gathered_after}
 use Rattle.hayro_ccitt.proofs.Readings.GapsAndRows.{first_gap_t4}
 use Rattle.hayro_ccitt.proofs.Readings.Repeated.{reaches_on}
-use Rattle.hayro_ccitt.specs.RowsRead.{RowsRead, ReadsNext, damage_since, start_after, ComesToLine, read_so_far, line_after, RepairsAreCounted, Stands, ended, stand_after, is_at_line, StandsAtLine, StandsBehindRow, HasEnded, HasFailed, context_at, line_starts}
+use Rattle.hayro_ccitt.specs.RowsRead.{RowsRead, ReadsNext, damage_since, start_after, ComesToLine, read_so_far, line_after, RepairsAreCounted, Stands, ended, stand_after, is_at_line, StandsAtLine, StandsBehindRow, HasEnded, HasFailed, context_at}
 use Rattle.hayro_ccitt.proofs.Readings.PlainAnswers.{some_columns, bytes_before-place}
 use Rattle.hayro_ccitt.proofs.Readings.TurnsAddRows.{Keeps, first_gap_keeps}
 use Rattle.hayro_ccitt.proofs.Readings.TurnsMoveOn.{left_to_read, left_below, next_is, not_next}
@@ -123,6 +123,25 @@ module _ (settings : DecodeSettings) (wide : 0 < settings.columns) (bits : Bits)
         ap (λ (n : ℕ). get_or (line_starts settings bits) n other) next
         ∙ get_or-behind_all (line_starts settings bits) (suc (length so_far.rows)) other (drop-suc_cons (line_starts settings bits) (length so_far.rows) (gives so_far) [] last)
 
+    -- the offset of the bits after its row
+    row_end_is : (other : ℕ) → get_or (row_ends settings bits) (length so_far.rows) other ≡ end_of_turn settings bits so_far
+    row_end_is other =
+        let gives = end_of_turn settings bits in
+        get_or-there (row_ends settings bits) (length so_far.rows) (gives so_far) other
+        (ap (λ (xs : List ℕ). slice_get xs (length so_far.rows)) (gathered_is gives)
+        ∙ comes_line (move_on settings) (one_each gives) left_to_read (by_rows_left settings wide) first none_first so_far
+        (comes gives)
+        (gives so_far) refl)
+
+    -- where its turn is the last, a reading fails there
+    pub fails_behind : (end : Ending) → move_on settings so_far ≡ Turn.done end → (row : Row) (rest : Bits)
+        → row_of_turn settings so_far ≡ Ok (row, rest)
+        → failed_at settings bits (length so_far.rows + 1) ≡ length bits - length rest
+    fails_behind end ends row rest is =
+        let index : (length so_far.rows + 1) - 1 ≡ length so_far.rows = omega arith in
+        no_line_behind end ends (get_or (row_ends settings bits) ((length so_far.rows + 1) - 1) 0)
+        ∙ ap (λ (n : ℕ). get_or (row_ends settings bits) n 0) index ∙ row_end_is 0 ∙ ap (end_of_row bits so_far) is
+
     module _ (row : Row) (rest : Bits) (is : row_of_turn settings so_far ≡ Ok (row, rest)) where
       prefix : IsPrefix (so_far.rows ++ row ∷ []) (plain settings bits).rows
       prefix =
@@ -157,11 +176,13 @@ module _ (settings : DecodeSettings) (wide : 0 < settings.columns) (bits : Bits)
           ∙ comes_line (move_on settings) (one_each (repaired_by_turn settings bits)) left_to_read (by_rows_left settings wide) first none_first so_far (comes (repaired_by_turn settings bits)) repaired refl)
 
       -- what is counted of each line, with that of its line
-      gathered_more : {A : Type 0} (counted : List (List A)) (gives : Progress → List A) → counted ≡ gathered_from (move_on settings) (one_each gives) first
+      gathered_more : {A : Type 0} (counted : List (List A)) (gives : Progress → List A)
+          → counted ≡ gathered_from (move_on settings) (one_each gives) first
           → sum_by length (take (rows + 1) counted) ≡ sum_by length (take rows counted) + length (gives so_far)
       gathered_more {A = A} counted gives are =
           let on = ap (λ (n : ℕ). drop n counted) taken ∙ ap (λ (xs : List (List A)). drop (length so_far.rows) xs) are
-          ∙ lines_on (move_on settings) (one_each gives) left_to_read (by_rows_left settings wide) first none_first so_far (comes gives) (gives so_far) refl in
+          ∙ lines_on (move_on settings) (one_each gives) left_to_read (by_rows_left settings wide) first none_first so_far
+          (comes gives) (gives so_far) refl in
           let next : rows + 1 ≡ suc rows = omega arith in
           ap (λ (n : ℕ). sum_by length (take n counted)) next ∙ sum_more counted rows (gives so_far) _ on
 
@@ -310,12 +331,13 @@ is_read settings bits held here stands new left_over takes =
       );
     }
 
--- its line begins there
-pub starts_there : (settings : DecodeSettings) (bits : Bits) (held : Held) (here : Bits) → StandsAtLine settings bits held here → (other : ℕ)
-    → length bits - length here ≡ get_or (line_starts settings bits) held.taken other
-starts_there settings bits held here stands other =
+-- if it has no row, the reading fails there
+pub fails_at_line : (settings : DecodeSettings) (bits : Bits) (held : Held) (here : Bits) → StandsAtLine settings bits held here
+    → length bits - length here ≡ failed_at settings bits held.taken
+fails_at_line settings bits held here stands =
     ap (λ (x : Bits). length bits - length x) stands.rest_is
-    ∙ sym (ap (λ (n : ℕ). get_or (line_starts settings bits) n other) (ap (λ (h : Held). h.taken) stands.held_is) ∙ line_start_is settings stands.wide bits stands.first stands.begins stands.so_far stands.reaches other)
+    ∙ sym (ap (λ (n : ℕ). failed_at settings bits n) (ap (λ (h : Held). h.taken) stands.held_is)
+    ∙ line_start_is settings stands.wide bits stands.first stands.begins stands.so_far stands.reaches _)
 
 -- no row was read there
 pub isnt_read : (settings : DecodeSettings) (bits : Bits) (held : Held) (here : Bits) → StandsAtLine settings bits held here → (new : Held) (left_over : Bits) (e : DecodeError)
@@ -386,19 +408,23 @@ module _ (settings : DecodeSettings) (bits : Bits) (held : Held) (here_now : Bit
   last_taken : last.taken ≡ length next.rows
   last_taken = ap (λ (h : Held). h.taken) frame ∙ ap (λ (h : Held). h.taken) stands.held_is
 
-  -- no line begins after a faulty gap
-  pub no_start_behind : (e : DecodeError) → gap_behind_row held.settings held.taken held.has_eols here_now ≡ gap_said (Err e) last.has_eols (drop place bits)
-      → (other : ℕ) → get_or (line_starts settings bits) held.taken other ≡ other
-  no_start_behind e said other =
+  -- with a faulty gap the reading fails where it begins
+  fails_there : (e : DecodeError) → gap_behind_row held.settings held.taken held.has_eols here_now
+      ≡ gap_said (Err e) last.has_eols (drop place bits)
+      → failed_at settings bits held.taken ≡ length bits - length here_now
+  fails_there e said =
       let more : held.taken ≡ length stands.so_far.rows + 1
       = ap (λ (h : Held). h.taken) stands.held_is ∙ length-append stands.so_far.rows (stands.row ∷ []) in
-      ap (λ (n : ℕ). get_or (line_starts settings bits) n other) more
-      ∙ no_line_behind settings stands.wide bits stands.first stands.begins stands.so_far stands.reaches _ (turn_said (Err e) said) other
+      ap (failed_at settings bits) more
+      ∙ fails_behind settings stands.wide bits stands.first stands.begins stands.so_far stands.reaches _
+      (turn_said (Err e) said) stands.row
+      here_now stands.row_is
 
   pub starts_behind : (answer : Result Bool DecodeError) → gap_behind_row held.settings held.taken held.has_eols here_now ≡ gap_said answer last.has_eols (drop place bits)
-      → (offset before : ℕ) → offset ≡ place → OnErr answer (start_after answer offset before ≡ get_or (line_starts settings bits) held.taken place)
+      → (offset before : ℕ) → offset ≡ length bits - length here_now
+      → OnErr answer (start_after answer offset before ≡ failed_at settings bits held.taken)
   starts_behind (Ok over) said offset before is = tt
-  starts_behind (Err e) said offset before is = is ∙ sym (no_start_behind e said place)
+  starts_behind (Err e) said offset before is = is ∙ sym (fails_there e said)
 
   pub gap_stands : (answer : Result Bool DecodeError) → gap_behind_row held.settings held.taken held.has_eols here_now ≡ gap_said answer last.has_eols (drop place bits)
       → IsOkUnless answer InvalidCode → Stands (stand_after answer) settings bits last place
@@ -450,6 +476,29 @@ module _ (settings : DecodeSettings) (wide : 0 < settings.columns) (bits : Bits)
   }
   first_gap_stands (Err e) said code = ended_badly settings bits [] last place within none false e code (first_ended _ (first_said (Err e) said))
 
+-- where no EOLs are sought, no gap is faulty
+pub no_fault : (settings : DecodeSettings) (taken : ℕ) (here : Bits) (answer : Result Bool DecodeError) (has_eols : Bool)
+    (rest : Bits)
+    → gap_behind_row settings taken false here ≡ gap_said answer has_eols rest → (error : DecodeError)
+    → ended (stand_after answer) ≡ Some (Err error) → ⊥
+no_fault settings taken here (Ok true) has_eols rest said error is = cc
+no_fault settings taken here (Ok false) has_eols rest said error is = cc
+no_fault settings taken here (Err e) has_eols rest said error is =
+    by (is_over settings taken (eols_here settings here)) (sym (cond-false (misses_eol settings taken false here) _ _ unmissed)
+    ∙ said)
+  where
+    unmissed : misses_eol settings taken false here ≡ false
+    unmissed = by_count (eqb (eols_here settings here).0 0)
+      where
+        by_count : (b : Bool) → (((b && false) && not (limit_met settings taken)) && not (at_end here)) ≡ false
+        by_count true = refl
+        by_count false = refl
+
+    by : (over : Bool) → cond {A = Gap} over (Gap.over (Ok (eols_here settings here).1))
+        (Gap.line_at false (eols_here settings here).1) ≡ Gap.over (Err e) → ⊥
+    by true never = cc
+    by false never = cc
+
 -- data of Group 3 begin at a line
 pub first_line_stands : (settings : DecodeSettings) → 0 < settings.columns → (bits : Bits) → settings.encoding ≢ Group4 → (last : Held) (rest : Bits)
     → last ≡ record (fresh settings) { has_eols = (first_line settings bits).has_eols } → rest ≡ (first_line settings bits).rest → length rest ≤ length bits
@@ -476,10 +525,12 @@ repairs_stay settings given bits read held last same are taken repairs counted =
 }
 
 -- the result of a call that passes a gap
-pub comes_to_line : (old : RowsRead) (last : Held) (ticks : ℕ) (at : BitsAt) (n : ℕ) (damage : Option DecodeError) (answer : Result Bool DecodeError)
+pub comes_to_line : (old : RowsRead) (last : Held) (ticks : ℕ) (at : BitsAt) (n : ℕ) (damage : Option DecodeError)
+    (answer : Result Bool DecodeError)
     → last.settings ≡ old.settings → at.bits ≡ old.bits → last.taken ≡ old.taken → old.ticks ≤ ticks
     → (last.reference ≡ old.row) × (damage ≡ old.damage) → IfOk answer (λ over. n ≡ old.line_start)
-    → Stands (stand_after answer) old.settings old.bits last at.place → OnErr answer (n ≡ get_or (line_starts old.settings old.bits) old.taken at.place)
+    → Stands (stand_after answer) old.settings old.bits last at.place
+    → OnErr answer (n ≡ failed_at old.settings old.bits old.taken)
     → ComesToLine old (read_so_far last ticks at n damage (stand_after answer)) (line_after answer)
 comes_to_line old last ticks at n damage (Ok true) settings bits taken counts row begun stands start =
     record {
@@ -549,7 +600,7 @@ reads_on old mid new result comes reads =
           → (new.end ≡ Some (Ok tt)) × (new.taken ≡ n) × HasEnded s b new.taken new.place) reads.end;
       error = at (λ s b n. IfErr result (λ e.
           (new.end ≡ Some (Err e)) × (new.taken ≡ n) × HasFailed s b new.taken e)) reads.error;
-      fault_start = λ unended. at (λ s b n. OnErr result (new.line_start ≡ get_or (line_starts s b) n new.place))
+      fault_start = λ unended. at (λ s b n. OnErr result (new.line_start ≡ failed_at s b n))
           (reads.fault_start (comes.unended refl));
       last = λ none. ((reads.last none).0 ∙ comes.last.0, (reads.last none).1 ∙ comes.last.1);
       last_start = λ none. reads.last_start none ∙ comes.last_start;

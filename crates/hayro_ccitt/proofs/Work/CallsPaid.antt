@@ -27,7 +27,8 @@ use Rattle.hayro_ccitt.proofs.Work.TurnsPaid.{line_ends, missing_ends, gap_ends,
 module _ (settings : DecodeSettings) (wide : 0 < settings.columns) (bits : Bits) (held : Held) (rest : Bits) (ticks : ℕ)
     (at : PaidAtLine settings bits held rest ticks) where
   -- there is enough for a line that fails
-  pub failed_most : (now : ℕ) → now ≤ ticks + 4 * length (found_here settings held.reference rest) + 2 + length (changes held.reference)
+  pub failed_most : (now : ℕ) → now ≤ ticks + 4 * length (found_here settings held.reference rest) + 2
+      + length (changes held.reference)
       → now ≤ most_counted settings.encoding (length bits)
   failed_most now line =
       omega (
@@ -47,7 +48,8 @@ module _ (settings : DecodeSettings) (wide : 0 < settings.columns) (bits : Bits)
   row_most = failed_most settings wide bits behind.before behind.start behind.ticks_before behind.at_line ticks behind.line
 
 -- if a line is here, the account says so
-pub at_line_paid : (stand : Stand) (settings : DecodeSettings) (bits : Bits) (held : Held) (place ticks : ℕ) → is_at_line stand ≡ true
+pub at_line_paid : (stand : Stand) (settings : DecodeSettings) (bits : Bits) (held : Held) (place ticks : ℕ)
+    → is_at_line stand ≡ true
     → IsPaid stand settings bits held place ticks → PaidAtLine settings bits held (drop place bits) ticks
 at_line_paid AtLine settings bits held place ticks is paid = paid
 at_line_paid BehindRow settings bits held place ticks is paid = absurd (false≢true is)
@@ -55,8 +57,10 @@ at_line_paid AtEnd settings bits held place ticks is paid = absurd (false≢true
 at_line_paid (AtFault error) settings bits held place ticks is paid = absurd (false≢true is)
 
 -- so it does after a row
-pub behind_row_paid : (stand : Stand) (settings : DecodeSettings) (bits : Bits) (held : Held) (place ticks : ℕ) → ended stand ≡ None
-    → is_at_line stand ≡ false → IsPaid stand settings bits held place ticks → PaidBehindRow settings bits held (drop place bits) ticks
+pub behind_row_paid : (stand : Stand) (settings : DecodeSettings) (bits : Bits) (held : Held) (place ticks : ℕ)
+    → ended stand ≡ None
+    → is_at_line stand ≡ false → IsPaid stand settings bits held place ticks
+    → PaidBehindRow settings bits held (drop place bits) ticks
 behind_row_paid AtLine settings bits held place ticks unended no_line paid = absurd (false≢true (sym no_line))
 behind_row_paid BehindRow settings bits held place ticks unended no_line paid = paid
 behind_row_paid AtEnd settings bits held place ticks unended no_line paid = absurd cc
@@ -71,7 +75,8 @@ module _ (settings : DecodeSettings) (wide : 0 < settings.columns) (bits : Bits)
   next = drop place bits
 
   -- EOLs are sought only where they were sought before
-  still_sought : gap_behind_row settings held.taken held.has_eols rest ≡ Gap.line_at last.has_eols next → last.has_eols ≡ true → held.has_eols ≡ true
+  still_sought : gap_behind_row settings held.taken held.has_eols rest ≡ Gap.line_at last.has_eols next → last.has_eols ≡ true
+      → held.has_eols ≡ true
   still_sought said is = by held.has_eols refl
     where
       by : (b : Bool) → held.has_eols ≡ b → held.has_eols ≡ true
@@ -81,7 +86,8 @@ module _ (settings : DecodeSettings) (wide : 0 < settings.columns) (bits : Bits)
           = ap (λ (b : Bool). gap_behind_row settings held.taken b rest) (sym h_is) ∙ said in
           absurd (false≢true (sym (line_without_eols settings held.taken last.has_eols rest next stands).0 ∙ is))
 
-  pub gap_paid : (answer : Result Bool DecodeError) → gap_behind_row settings held.taken held.has_eols rest ≡ gap_said answer last.has_eols next
+  pub gap_paid : (answer : Result Bool DecodeError) → gap_behind_row settings held.taken held.has_eols rest
+      ≡ gap_said answer last.has_eols next
       → IfOk answer (λ over. over ≡ true → last.has_eols ≡ held.has_eols)
       → OnOk answer (last.has_eols ≡ held.has_eols
       → now + 4 * length next ≤ ticks + 4 * length rest + tag_tests settings.encoding + looked_ahead settings.encoding next)
@@ -92,8 +98,9 @@ module _ (settings : DecodeSettings) (wide : 0 < settings.columns) (bits : Bits)
       omega (
         arith,
         at.enough,
-        gap_ends settings wide at.begun (length bits) at.giving_up behind.before.reference behind.before.has_eols behind.start at.within
-            behind.ticks_before (length (changes behind.before.reference)) at.paid ticks behind.line held.reference rest behind.row_is now next
+        gap_ends settings wide at.begun (length bits) at.giving_up behind.before.reference behind.before.has_eols behind.start
+            at.within behind.ticks_before (length (changes behind.before.reference)) at.paid ticks behind.line held.reference rest
+            behind.row_is now next
             (omega (arith, kept (over refl), few_tag_tests settings.encoding)),
       )
   gap_paid (Ok false) said over kept given_up refused =
@@ -106,7 +113,8 @@ module _ (settings : DecodeSettings) (wide : 0 < settings.columns) (bits : Bits)
         enough = at.enough;
         sought = λ is. at.sought (sym behind.kept ∙ still_sought said is);
         within = omega (arith, length-drop place bits);
-        paid = turn_goes_on settings wide at.begun (length bits) at.giving_up behind.before.reference behind.before.has_eols behind.start
+        paid = turn_goes_on settings wide at.begun (length bits) at.giving_up behind.before.reference behind.before.has_eols
+            behind.start
             at.within behind.ticks_before (length (changes behind.before.reference)) at.paid ticks behind.line held.reference rest
             behind.row_is held.taken last.has_eols next now (length (changes last.reference)) line
             (omega (arith, behind.stored, ap (λ (h : Held). length (changes h.reference)) frame))
@@ -118,8 +126,10 @@ module _ (settings : DecodeSettings) (wide : 0 < settings.columns) (bits : Bits)
       omega (
         arith,
         at.enough,
-        missing_ends settings wide at.begun (length bits) at.giving_up behind.before.reference behind.before.has_eols behind.start at.within
-            behind.ticks_before (length (changes behind.before.reference)) at.paid ticks behind.line held.reference rest behind.row_is now
+        missing_ends settings wide at.begun (length bits) at.giving_up behind.before.reference behind.before.has_eols
+            behind.start at.within behind.ticks_before (length (changes behind.before.reference)) at.paid ticks behind.line
+            held.reference rest
+            behind.row_is now
             (omega (arith, refused, looked_most rest)),
       )
 
@@ -134,7 +144,8 @@ module _ (settings : DecodeSettings) (is : settings.encoding ≡ Group4) (bits :
   most_t6 : most_counted settings.encoding (length bits) ≡ 22 * length bits + 1
   most_t6 = ap (λ (e : EncodingMode). most_counted e (length bits)) is
 
-  pub first_gap_paid : (answer : Result Bool DecodeError) → gap_behind_row settings 0 false bits ≡ gap_said answer last.has_eols line
+  pub first_gap_paid : (answer : Result Bool DecodeError) → gap_behind_row settings 0 false bits
+      ≡ gap_said answer last.has_eols line
       → IfOk answer (λ over. over ≡ true → last.has_eols ≡ false)
       → OnOk answer (last.has_eols ≡ false
       → now + 4 * length line ≤ 4 * length bits + tag_tests settings.encoding + looked_ahead settings.encoding line)
@@ -169,7 +180,8 @@ module _ (settings : DecodeSettings) (is : settings.encoding ≡ Group4) (bits :
   first_gap_paid (Err e) said over kept refused = omega (arith, most_t6, refused, looked_most bits)
 
 -- in Group 3 the EOLs there (T.4, 4.1.2)
-pub first_line_paid : (settings : DecodeSettings) → settings.encoding ≢ Group4 → (bits : Bits) (last : Held) (rest : Bits) (now : ℕ)
+pub first_line_paid : (settings : DecodeSettings) → settings.encoding ≢ Group4
+    → (bits : Bits) (last : Held) (rest : Bits) (now : ℕ)
     → length (changes last.reference) ≡ 0 → length rest ≤ length bits → now + length rest ≤ length bits + looked rest
     → PaidAtLine settings bits last rest now
 first_line_paid settings other bits last rest now white within work = record {
@@ -189,22 +201,27 @@ most_below Group3_1D bits = omega arith
 most_below Group3_2D bits = omega arith
 
 within_most : (stand : Stand) (settings : DecodeSettings) (bits : Bits) (held : Held) (place ticks : ℕ)
-    → Stands stand settings bits held place → IsPaid stand settings bits held place ticks → ticks ≤ most_counted settings.encoding (length bits)
-within_most AtLine settings bits held place ticks stands paid = line_most settings stands.wide bits held (drop place bits) ticks paid
-within_most BehindRow settings bits held place ticks stands paid = row_most settings stands.wide bits held (drop place bits) ticks paid
+    → Stands stand settings bits held place → IsPaid stand settings bits held place ticks
+    → ticks ≤ most_counted settings.encoding (length bits)
+within_most AtLine settings bits held place ticks stands paid = line_most settings stands.wide bits held (drop place bits)
+    ticks paid
+within_most BehindRow settings bits held place ticks stands paid = row_most settings stands.wide bits held (drop place bits)
+    ticks paid
 within_most AtEnd settings bits held place ticks stands paid = paid
 within_most (AtFault error) settings bits held place ticks stands paid = paid
 
 -- what is paid is within the bound
 pub work_is_counted : (stand : Stand) (settings : DecodeSettings) (bits : Bits) (held : Held) (place ticks : ℕ)
-    → Stands stand settings bits held place → WorkIsPaid stand settings bits held place ticks → CountsWork settings bits held.taken ticks
+    → Stands stand settings bits held place → WorkIsPaid stand settings bits held place ticks
+    → CountsWork settings bits held.taken ticks
 work_is_counted stand settings bits held place ticks stands work =
     let most = within_most stand settings bits held place ticks stands work.paid in
     record { words = work.words; bound = omega (arith, most, most_below settings.encoding (length bits)); closer = most }
 
 -- so it is before the first row
 pub begun_is_counted : (stand : Stand) (settings : DecodeSettings) (bits : Bits) (held : Held) (place ticks : ℕ) → held.taken ≡ 0
-    → Stands stand settings bits held place → IsPaid stand settings bits held place ticks → CountsWork settings bits held.taken ticks
+    → Stands stand settings bits held place → IsPaid stand settings bits held place ticks
+    → CountsWork settings bits held.taken ticks
 begun_is_counted stand settings bits held place ticks none stands paid =
     work_is_counted stand settings bits held place ticks stands (record {
       words = omega (arith, ap (λ (n : ℕ). sum_by length (take n (words_of settings bits))) none);

@@ -1,11 +1,11 @@
-use Rattle.std.proofs.Common.{rules, ◌≡◌, ◌++◌, ◌-◌, ◌∙◌, [], true, length, Ok, Result, Bool, ap, subst}
+use Rattle.std.proofs.Common.{rules, ◌≡◌, ◌++◌, ◌-◌, ◌∙◌, [], true, length, refl, sym, Ok, Result, Bool, ap, subst}
 use Rattle.hayro_ccitt.specs.declared.error.DecodeError.{DecodeError}
 use Rattle.hayro_ccitt.specs.RowsRead.{ReadsNext}
 use Rattle.fax_program.specs.Devices.{AppendsFront}
 use Rattle.faxrows.specs.DamageText.{damage_lines, line_of_damage}
 use Rattle.faxrows.specs.Output.{PassesOn}
 use Rattle.faxrows.specs.Runs.{rows_of}
-use Rattle.faxrows.proofs.DamageTexts.{damage_more, front_of_damage}
+use Rattle.faxrows.proofs.DamageTexts.{damage_more, failed_there, front_of_damage, unended_before}
 use Rattle.faxrows.proofs.Outputs.{passes_both, front_behind}
 use Rattle.faxrows.proofs.RowsInTurn.{Came, came}
 use Rattle.faxrows.proofs.damage.put_damage.Given.{Over}
@@ -50,7 +50,16 @@ loop-rows-preserved g c =
           (passes_both _ _ _ [] _ c.loop-rows.waiting.items _ c.put_last_row.new.waiting.items c.loop-rows.invariant.lines
           c.in_ok-put_last_row-in-Ok-true.ensures.ok);
       flag = search rules;
+      unfailed = λ error is. let never = sym ((reads g at).more refl).0 ∙ is in cc;
     }
+
+pub returns-in-Err-clause-fails : goal.returns-in-Err-clause-fails
+returns-in-Err-clause-fails g c =
+    let old = c.loop-rows.rows in
+    let unended = unended_before old.end c.in-Err.error c.next_row.result c.in-Err.is c.loop-rows.invariant.unfailed
+    (λ end is. (c.next_row.ensures.ended end is).1) in
+    failed_there old c.next_row.new.self c.in-Err.error
+    (subst (λ (r : Result Bool DecodeError). ReadsNext old c.next_row.new.self r) c.in-Err.is c.next_row.ensures.reads) unended
 
 pub returns-in_err-put_last_row-in-Ok-true-clause-front : goal.returns-in_err-put_last_row-in-Ok-true-clause-front
 returns-in_err-put_last_row-in-Ok-true-clause-front g c =

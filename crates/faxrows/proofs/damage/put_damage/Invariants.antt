@@ -1,4 +1,5 @@
-use Rattle.std.proofs.Common.{◌≡◌, ◌≤◌, ◌-◌, [], length}
+use Rattle.std.proofs.Common.{◌≡◌, ◌≢◌, ◌≤◌, ◌-◌, [], length, Some, Err}
+use Rattle.hayro_ccitt.specs.declared.error.DecodeError.{DecodeError}
 use Rattle.faxrows.specs.DamageText.{damage_lines}
 use Rattle.faxrows.specs.Output.{PassesOn}
 use Rattle.faxrows.specs.Runs.{rows_of}
@@ -13,6 +14,7 @@ invariant-loop-rows g l = record {
   lines : PassesOn (g.W.Write.contents l.fn.writer.0) (g.W.Write.contents l.writer.0) []
       (damage_lines l.fn.rows.settings l.fn.rows.bits l.rows.taken) l.waiting.items;
   flag : l.writer.1 ≡ l.fn.writer.1;
+  unfailed : (error : DecodeError) → l.rows.end ≢ Some (Err error);
 }
 
 -- the rows that are left

@@ -1,4 +1,6 @@
-use Rattle.std.proofs.Common.{rules, ◌≡◌, ◌++◌, [], List, ℕ, refl, inl, length, subst}
+use Rattle.std.proofs.Common.{rules, ◌≡◌, ◌++◌, [], List, ℕ, refl, inl, length, subst, sym}
+use Rattle.std.specs.Io.KnownBytes.{Appends}
+use Rattle.std.proofs.KnownBytes.{Appends-trans}
 use Rattle.hayro_ccitt.specs.declared.settings.DecodeSettings.{DecodeSettings}
 use Rattle.hayro_ccitt.specs.Bits.{Bits}
 use Rattle.fax_program.specs.Devices.{AppendsFront}
@@ -83,3 +85,27 @@ returns-in_err-flush-clause-front g c =
       front_of_waiting _ _ _ [] (damage_after settings bits read outcome) waiting text c.in_err-flush.ensures.front,
     ) in
     search rules
+
+pub returns-clause-written : goal.returns-clause-written
+returns-clause-written g c =
+    let settings = c.args.rows.now.settings in
+    let bits = c.args.rows.now.bits in
+    let read = c.put_damage.new.rows.taken in
+    let outcome = c.in_ok-outcome.outcome in
+    let waits = c.put_damage.new.waiting.items in
+    let waiting = c.put_end.new.waiting.items in
+    let end : PassesOn (g.W.Write.contents c.put_damage.new.writer.0) (g.W.Write.contents c.put_end.new.writer.0) waits
+    (last_line_of_damage settings bits read outcome) waiting
+    = subst (λ (l : List ℕ). PassesOn (g.W.Write.contents c.put_damage.new.writer.0)
+    (g.W.Write.contents c.put_end.new.writer.0) waits l waiting)
+    (last_line g (goal.at.returns-clause-written g c).After-put_end) c.in_ok-put_end.ensures.ok in
+    let text : PassesOn (g.W.Write.contents c.args.writer.now.0) (g.W.Write.contents c.put_end.new.writer.0) []
+    (damage_after settings bits read outcome) waiting
+    = passes_both _ _ _ [] (damage_lines settings bits read) waits (last_line_of_damage settings bits read outcome) waiting
+    c.in_ok-outcome.ensures.lines end in (
+      outcome,
+      c.in_ok-outcome.ensures.ends,
+      c.done_of.ensures,
+      subst (Appends (g.W.Write.contents c.args.writer.now.0) (g.W.Write.contents c.flush.new.writer.0)) (sym text.2)
+          (Appends-trans _ _ _ text.0 waiting text.1 c.in_ok-flush.ensures.ok),
+    )

@@ -1,4 +1,4 @@
-use Rattle.std.proofs.Common.{◌≡◌, ◌≢◌, ◌∙◌, ◌<◌, ℕ, false, inl, inr, length, drop, ap, sym, subst, arith}
+use Rattle.std.proofs.Common.{◌≡◌, ◌≢◌, ◌∙◌, ◌<◌, ℕ, Bool, false, inl, inr, length, drop, ap, sym, subst, arith}
 use Rattle.std.proofs.lemmas.List.{length-drop}
 use Rattle.std.proofs.lemmas.Result.{IfOk-weaker, on_err_weaker, on_ok_weaker}
 use Rattle.hayro_ccitt.specs.declared.row_reader.Stand.{Stand}
@@ -10,9 +10,9 @@ use Rattle.hayro_ccitt.specs.Decoding.{gap_said}
 use Rattle.hayro_ccitt.specs.EndOfLine.{all_eols}
 use Rattle.hayro_ccitt.specs.PlainReading.{gap_behind_row, first_line}
 use Rattle.hayro_ccitt.specs.Rows.{changes}
-use Rattle.hayro_ccitt.specs.RowsRead.{IsPaid, Stands}
+use Rattle.hayro_ccitt.specs.RowsRead.{IsPaid, Stands, ended}
 use Rattle.hayro_ccitt.specs.Ticks.{looked, looked_ahead}
-use Rattle.hayro_ccitt.proofs.Readings.RowByRow.{first_gap_stands, first_line_stands}
+use Rattle.hayro_ccitt.proofs.Readings.RowByRow.{first_gap_stands, first_line_stands, no_fault}
 use Rattle.hayro_ccitt.proofs.Work.CallsPaid.{first_gap_paid, first_line_paid}
 use Rattle.hayro_ccitt.proofs.Work.ChangesStored.{changes_white}
 use Rattle.hayro_ccitt.proofs.row_reader.first_stand.Goals as goal
@@ -29,11 +29,25 @@ returns-in-Group4-clause-stands c =
     let said : gap_behind_row settings 0 false bits ≡ gap_said c.pass_gap-over.result last.has_eols (drop at.place bits)
     = ap (λ (h : Held). gap_behind_row settings h.taken h.has_eols bits) (sym c.requires.fresh)
     ∙ ap (λ (x : Bits). gap_behind_row settings held.taken held.has_eols x) (sym begins)
-    ∙ c.pass_gap-over.ensures.gap ∙ ap (λ (b : Bits). gap_said c.pass_gap-over.result last.has_eols (drop at.place b)) c.pass_gap-over.ensures.same_bits in
+    ∙ c.pass_gap-over.ensures.gap ∙ ap (λ (b : Bits). gap_said c.pass_gap-over.result last.has_eols (drop at.place b))
+    c.pass_gap-over.ensures.same_bits in
     let frame = c.pass_gap-over.ensures.held ∙ ap (λ (h : Held). record h { has_eols = last.has_eols }) c.requires.fresh in
     subst (λ (s : Stand). Stands s settings bits last at.place) (sym c.stand_after_gap.ensures)
     (first_gap_stands settings wide bits (ap (λ (s : DecodeSettings). s.encoding) (sym c.settings-2.ensures.value) ∙ c.in-Group4.is) last at.place
     (omega (arith, c.bit_pos-place.ensures.place, c.bit_pos-place.ensures.within, ap length c.pass_gap-over.ensures.same_bits)) frame c.pass_gap-over.result said c.pass_gap-over.ensures.only_code)
+
+pub returns-in-Group4-clause-unfailed : goal.returns-in-Group4-clause-unfailed
+returns-in-Group4-clause-unfailed c error is =
+    let held = c.args.ctx.now.held in
+    let last = c.pass_gap-over.new.ctx.held in
+    let rest = here c.pass_gap-over.new.reader in
+    let unsought : held.has_eols ≡ false = ap (λ (h : Held). h.has_eols) c.requires.fresh in
+    let said : gap_behind_row held.settings held.taken false (here c.args.reader.now)
+    ≡ gap_said c.pass_gap-over.result last.has_eols rest
+    = ap (λ (b : Bool). gap_behind_row held.settings held.taken b (here c.args.reader.now)) (sym unsought)
+    ∙ c.pass_gap-over.ensures.gap in
+    no_fault held.settings held.taken (here c.args.reader.now) c.pass_gap-over.result last.has_eols rest said error
+    (ap ended (sym c.stand_after_gap.ensures) ∙ is)
 
 pub returns-in-Group4-clause-paid : goal.returns-in-Group4-clause-paid
 returns-in-Group4-clause-paid c =
@@ -48,10 +62,12 @@ returns-in-Group4-clause-paid c =
     let said : gap_behind_row settings 0 false bits ≡ gap_said c.pass_gap-over.result last.has_eols (drop at.place bits)
     = ap (λ (h : Held). gap_behind_row settings h.taken h.has_eols bits) (sym c.requires.fresh)
     ∙ ap (λ (x : Bits). gap_behind_row settings held.taken held.has_eols x) (sym begins)
-    ∙ c.pass_gap-over.ensures.gap ∙ ap (λ (b : Bits). gap_said c.pass_gap-over.result last.has_eols (drop at.place b)) c.pass_gap-over.ensures.same_bits in
+    ∙ c.pass_gap-over.ensures.gap ∙ ap (λ (b : Bits). gap_said c.pass_gap-over.result last.has_eols (drop at.place b))
+    c.pass_gap-over.ensures.same_bits in
     let frame = c.pass_gap-over.ensures.held ∙ ap (λ (h : Held). record h { has_eols = last.has_eols }) c.requires.fresh in
     subst (λ (s : Stand). IsPaid s settings bits last at.place now) (sym c.stand_after_gap.ensures)
-    (first_gap_paid settings (ap (λ (s : DecodeSettings). s.encoding) (sym c.settings-2.ensures.value) ∙ c.in-Group4.is) bits last at.place now
+    (first_gap_paid settings (ap (λ (s : DecodeSettings). s.encoding) (sym c.settings-2.ensures.value)
+    ∙ c.in-Group4.is) bits last at.place now
     frame c.pass_gap-over.result said
     (IfOk-weaker c.pass_gap-over.result _ _ (λ over kept is. kept is ∙ unsought) c.pass_gap-over.ensures.given_up)
     (on_ok_weaker c.pass_gap-over.result (λ work unsought_on. omega (
@@ -62,7 +78,8 @@ returns-in-Group4-clause-paid c =
       ap (λ (b : Bits). length (drop at.place b)) c.pass_gap-over.ensures.same_bits,
       ap (λ (b : Bits). looked_ahead settings.encoding (drop at.place b)) c.pass_gap-over.ensures.same_bits,
     )) c.pass_gap-over.ensures.work)
-    (on_err_weaker c.pass_gap-over.result (λ refused. omega (arith, c.requires.uncounted, refused, ap looked begins)) c.pass_gap-over.ensures.work_refused))
+    (on_err_weaker c.pass_gap-over.result (λ refused. omega (arith, c.requires.uncounted, refused, ap looked begins))
+    c.pass_gap-over.ensures.work_refused))
 
 pub returns-in-Group3_1D : goal.returns-in-Group3_1D
 returns-in-Group3_1D c =
@@ -88,8 +105,10 @@ returns-in-Group3_1D c =
       settings = ap (λ (h : Held). h.settings) frame;
       same_bits = c.read_leading_eols.ensures.same_bits;
       stands = first_line_stands settings wide bits other last (drop at.place bits) frame rest (omega (arith, length-drop at.place bits));
+      unfailed = λ error is. cc;
       paid = first_line_paid settings other bits last (drop at.place bits) c.read_leading_eols.new.ctx.ticks
-          (ap (λ (h : Held). length (changes h.reference)) frame ∙ changes_white settings.columns) (omega (arith, length-drop at.place bits))
+          (ap (λ (h : Held). length (changes h.reference)) frame ∙ changes_white settings.columns)
+          (omega (arith, length-drop at.place bits))
           (omega (
             arith,
             c.requires.uncounted,

@@ -14,6 +14,7 @@ returns-clause-work c =
     let held = first.new.ctx.held in
     let ticks = first.new.ctx.ticks in
     subst (λ (b : Bits). CountsWork c.args.settings b held.taken ticks) (ap (λ (r : BitsAt). r.bits) c.at_place-reader.ensures)
-    (subst (λ (s : DecodeSettings). CountsWork s bits held.taken ticks) (ap (λ (x : Context). x.held.settings) c.in_ok-ctx.ensures.made)
+    (subst (λ (s : DecodeSettings). CountsWork s bits held.taken ticks)
+    (ap (λ (x : Context). x.held.settings) c.in_ok-ctx.ensures.made)
     (begun_is_counted first.result c.in_ok-ctx.ctx.held.settings bits held first.new.reader.place ticks first.ensures.none_taken
     first.ensures.stands first.ensures.paid))

@@ -15,4 +15,5 @@ returns-clause-work c =
     let ticks = first.new.ctx.ticks in
     subst (λ (s : DecodeSettings). CountsWork s first.new.reader.bits held.taken ticks) (sym first.ensures.settings)
     (subst (λ (b : Bits). CountsWork settings b held.taken ticks) (sym first.ensures.same_bits)
-    (begun_is_counted first.result settings bits held first.new.reader.place ticks first.ensures.none_taken first.ensures.stands first.ensures.paid))
+    (begun_is_counted first.result settings bits held first.new.reader.place ticks first.ensures.none_taken
+    first.ensures.stands first.ensures.paid))

@@ -1,13 +1,13 @@
 use Rattle.std.specs.Prelude.{OnErr, OnOk, IfOk, Ok, Err, sum_by}
-use Rattle.std.proofs.Common.{ℕ, ◌+◌, ◌*◌, ◌≤◌, take, get_or, ◌≡◌, ◌∙◌, Bool, Result, length, drop, ap, sym, subst, arith, refl}
+use Rattle.std.proofs.Common.{ℕ, ◌+◌, ◌-◌, ◌*◌, ◌≤◌, take, length-drop, ◌≡◌, ◌∙◌, Bool, Result, length, drop, ap, sym, subst, arith, refl}
 use Rattle.hayro_ccitt.specs.declared.error.DecodeError.{DecodeError}
 use Rattle.hayro_ccitt.specs.declared.row_reader.Stand.{Stand}
 use Rattle.hayro_ccitt.specs.declared.settings.DecodeSettings.{DecodeSettings}
 use Rattle.hayro_ccitt.specs.Bits.{Bits, here}
 use Rattle.hayro_ccitt.specs.Context.{Held}
 use Rattle.hayro_ccitt.specs.Decoding.{gap_said}
-use Rattle.hayro_ccitt.specs.PlainReading.{gap_behind_row}
-use Rattle.hayro_ccitt.specs.RowsRead.{ComesToLine, Stands, line_starts, read_so_far, start_after, stand_after}
+use Rattle.hayro_ccitt.specs.PlainReading.{failed_at, gap_behind_row}
+use Rattle.hayro_ccitt.specs.RowsRead.{ComesToLine, Stands, read_so_far, start_after, stand_after}
 use Rattle.hayro_ccitt.specs.RowsRead.{IsStanding, WorkIsPaid, seen}
 use Rattle.hayro_ccitt.specs.Ticks.{looked_ahead, tag_tests}
 use Rattle.hayro_ccitt.specs.Work.{words_of}
@@ -36,8 +36,7 @@ passed c stands =
 -- the offset of its fault, if it has one
 started : (c : After-line_after_gap) → IsStanding c.args.self.now c.args.reader.now
     → OnErr c.pass_gap-over.result (c.start_after_gap-self.result
-    ≡ get_or (line_starts c.args.self.now.ctx.held.settings c.args.reader.now.bits) c.args.self.now.ctx.held.taken
-    c.pass_gap-over.new.reader.place)
+    ≡ failed_at c.args.self.now.ctx.held.settings c.args.reader.now.bits c.args.self.now.ctx.held.taken)
 started c stands =
     let rows = c.args.self.now in
     let held = rows.ctx.held in
@@ -49,12 +48,19 @@ started c stands =
     let said = subst (λ (b : Bits). gap_behind_row held.settings held.taken held.has_eols (here c.args.reader.now)
     ≡ gap_said c.pass_gap-over.result last.has_eols (drop at.place b)) c.pass_gap-over.ensures.same_bits
     c.pass_gap-over.ensures.gap in
-    subst (λ (n : ℕ). OnErr c.pass_gap-over.result (n ≡ get_or (line_starts held.settings bits) held.taken at.place))
+    let gap_start : c.bit_pos-gap_start.result ≡ length bits - length (here c.args.reader.now)
+    = omega (
+      arith,
+      c.bit_pos-gap_start.ensures.place,
+      c.bit_pos-gap_start.ensures.within,
+      length-drop c.args.reader.now.place bits,
+    ) in
+    subst (λ (n : ℕ). OnErr c.pass_gap-over.result (n ≡ failed_at held.settings bits held.taken))
     (sym c.start_after_gap-self.ensures)
     (starts_behind held.settings bits held (here c.args.reader.now) behind last at.place
     (omega (arith, c.bit_pos-place.ensures.place, c.bit_pos-place.ensures.within, ap length c.pass_gap-over.ensures.same_bits))
     c.pass_gap-over.ensures.held c.pass_gap-over.result said
-    c.bit_pos-place.result _ c.bit_pos-place.ensures.place)
+    c.bit_pos-gap_start.result _ gap_start)
 
 -- if it has none, the offset of the last row's line is unchanged
 kept : (over : Result Bool DecodeError) (place before : ℕ) → IfOk over (λ b. start_after over place before ≡ before)
@@ -66,11 +72,12 @@ start_stays : (c : After-line_after_gap)
 start_stays c =
     let before = c.args.self.now.started_at in
     subst (λ (n : ℕ). IfOk c.pass_gap-over.result (λ over. n ≡ before)) (sym c.start_after_gap-self.ensures)
-    (kept c.pass_gap-over.result c.bit_pos-place.result _)
+    (kept c.pass_gap-over.result c.bit_pos-gap_start.result _)
 
 -- what was counted is paid
 paid : (c : After-line_after_gap) → IsStanding c.args.self.now c.args.reader.now
-    → WorkIsPaid (stand_after c.pass_gap-over.result) c.args.self.now.ctx.held.settings c.args.reader.now.bits c.pass_gap-over.new.ctx.held
+    → WorkIsPaid (stand_after c.pass_gap-over.result) c.args.self.now.ctx.held.settings c.args.reader.now.bits
+    c.pass_gap-over.new.ctx.held
     c.pass_gap-over.new.reader.place c.pass_gap-over.new.ctx.ticks
 paid c stands =
     let rows = c.args.self.now in
@@ -93,11 +100,13 @@ paid c stands =
         c.pass_gap-over.ensures.counts,
         ap (λ (h : Held). sum_by length (take h.taken (words_of held.settings bits))) c.pass_gap-over.ensures.held,
       );
-      paid = gap_paid held.settings behind.wide bits held (here c.args.reader.now) rows.ctx.ticks row last at.place c.pass_gap-over.new.ctx.ticks
+      paid = gap_paid held.settings behind.wide bits held (here c.args.reader.now) rows.ctx.ticks row last at.place
+          c.pass_gap-over.new.ctx.ticks
           c.pass_gap-over.ensures.held c.pass_gap-over.result said c.pass_gap-over.ensures.given_up
           (subst (λ (b : Bits). OnOk c.pass_gap-over.result (last.has_eols ≡ held.has_eols
           → c.pass_gap-over.new.ctx.ticks + 4 * length (drop at.place b) ≤ rows.ctx.ticks + 4 * length (here c.args.reader.now)
-          + tag_tests held.settings.encoding + looked_ahead held.settings.encoding (drop at.place b))) same c.pass_gap-over.ensures.work)
+          + tag_tests held.settings.encoding + looked_ahead held.settings.encoding (drop at.place b))) same
+          c.pass_gap-over.ensures.work)
           c.pass_gap-over.ensures.work_given_up c.pass_gap-over.ensures.work_refused;
     }
 
@@ -114,9 +123,12 @@ returns-clause-stands c stands =
           (subst (λ (s : DecodeSettings). Stands (stand_after c.pass_gap-over.result) s at.bits last at.place) (sym same)
           (subst (λ (b : Bits). Stands (stand_after c.pass_gap-over.result) settings b last at.place) (sym c.pass_gap-over.ensures.same_bits) (passed c stands))),
       counted,
-      subst (λ (s : Stand). WorkIsPaid s last.settings at.bits last at.place c.pass_gap-over.new.ctx.ticks) (sym c.stand_after_gap-self.ensures)
-          (subst (λ (s : DecodeSettings). WorkIsPaid (stand_after c.pass_gap-over.result) s at.bits last at.place c.pass_gap-over.new.ctx.ticks) (sym same)
-          (subst (λ (b : Bits). WorkIsPaid (stand_after c.pass_gap-over.result) settings b last at.place c.pass_gap-over.new.ctx.ticks)
+      subst (λ (s : Stand). WorkIsPaid s last.settings at.bits last at.place c.pass_gap-over.new.ctx.ticks)
+          (sym c.stand_after_gap-self.ensures)
+          (subst (λ (s : DecodeSettings). WorkIsPaid (stand_after c.pass_gap-over.result) s at.bits last at.place
+          c.pass_gap-over.new.ctx.ticks) (sym same)
+          (subst (λ (b : Bits). WorkIsPaid (stand_after c.pass_gap-over.result) settings b last at.place
+          c.pass_gap-over.new.ctx.ticks)
           (sym c.pass_gap-over.ensures.same_bits) (paid c stands))),
     )
 
@@ -129,10 +141,12 @@ returns-clause-comes c stands =
     let settings : last.settings ≡ rows.ctx.held.settings = ap (λ (h : Held). h.settings) c.pass_gap-over.ensures.held in
     let taken : last.taken ≡ rows.ctx.held.taken = ap (λ (h : Held). h.taken) c.pass_gap-over.ensures.held in
     let start = c.start_after_gap-self.result in
-    subst (λ (s : Stand). ComesToLine old (read_so_far last c.pass_gap-over.new.ctx.ticks at start rows.damage s) c.line_after_gap.result)
+    subst (λ (s : Stand). ComesToLine old (read_so_far last c.pass_gap-over.new.ctx.ticks at start rows.damage s)
+    c.line_after_gap.result)
     (sym c.stand_after_gap-self.ensures)
     (subst (λ (r : Result Bool DecodeError). ComesToLine old (read_so_far last c.pass_gap-over.new.ctx.ticks at start rows.damage
     (stand_after c.pass_gap-over.result)) r) (sym c.line_after_gap.ensures)
     (comes_to_line old last c.pass_gap-over.new.ctx.ticks at start rows.damage c.pass_gap-over.result settings
-    c.pass_gap-over.ensures.same_bits taken c.pass_gap-over.ensures.counts (ap (λ (h : Held). h.reference) c.pass_gap-over.ensures.held, refl) (start_stays c)
+    c.pass_gap-over.ensures.same_bits taken c.pass_gap-over.ensures.counts
+    (ap (λ (h : Held). h.reference) c.pass_gap-over.ensures.held, refl) (start_stays c)
     (passed c stands) (started c stands)))

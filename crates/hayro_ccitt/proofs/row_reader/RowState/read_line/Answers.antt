@@ -12,7 +12,7 @@ use Rattle.hayro_ccitt.specs.RowsRead.{StandsAtLine, StandsBehindRow, HasFailed,
 use Rattle.hayro_ccitt.specs.RowsRead.{IsStandingAtLine, WorkIsPaid}
 use Rattle.hayro_ccitt.specs.Work.{found_here, words_of}
 use Rattle.hayro_ccitt.specs.declared.row_reader.Stand.TheVariants.{BehindRow, AtFault}
-use Rattle.hayro_ccitt.proofs.Readings.RowByRow.{IsRead, at_line_stands, starts_there, repairs_stay, is_read, isnt_read}
+use Rattle.hayro_ccitt.proofs.Readings.RowByRow.{IsRead, at_line_stands, fails_at_line, repairs_stay, is_read, isnt_read}
 use Rattle.hayro_ccitt.proofs.Work.CallsPaid.{at_line_paid, failed_most}
 use Rattle.hayro_ccitt.proofs.row_reader.RowState.read_line.Goals as goal
 use Rattle.hayro_ccitt.proofs.row_reader.RowState.read_line.Goals.{After-self-in-Ok-2-1, After-self-in-Err-1}
@@ -73,7 +73,8 @@ repairs_left c = ap (λ (h : Held). h.repairs) c.in-Err.ensures.row.held ∙ ap 
 
 -- what was counted is paid
 row_is_paid : (c : After-self-in-Ok-2-1) → IsStandingAtLine c.args.self.now c.args.reader.now
-    → WorkIsPaid BehindRow c.args.self.now.ctx.held.settings c.args.reader.now.bits c.read_row.new.ctx.held c.read_row.new.reader.place
+    → WorkIsPaid BehindRow c.args.self.now.ctx.held.settings c.args.reader.now.bits c.read_row.new.ctx.held
+    c.read_row.new.reader.place
     c.read_row.new.ctx.ticks
 row_is_paid c at =
     let held = c.args.self.now.ctx.held in
@@ -91,11 +92,15 @@ row_is_paid c at =
         before = held;
         start = start;
         ticks_before = c.args.self.now.ctx.ticks;
-        at_line = at_line_paid c.args.self.now.stand held.settings bits held c.args.reader.now.place c.args.self.now.ctx.ticks at.0 work.paid;
+        at_line = at_line_paid c.args.self.now.stand held.settings bits held c.args.reader.now.place c.args.self.now.ctx.ticks
+            at.0 work.paid;
         kept = ap (λ (h : Held). h.has_eols) taken.held ∙ ap (λ (h : Held). h.has_eols) begun;
-        row_is = sym (ap (λ (h : Held). row_of_line h.settings h.has_eols start (line_here h.settings h.reference start)) begun) ∙ taken.is
-            ∙ ap {B = Result (Row × Bits) DecodeError} (λ (r : Row). Ok (r, here c.read_row.new.reader)) (sym (ap (λ (h : Held). h.reference) taken.held))
-            ∙ ap {B = Result (Row × Bits) DecodeError} (λ (b : Bits). Ok (new.reference, drop c.read_row.new.reader.place b)) c.read_row.ensures.same_bits;
+        row_is = sym (ap (λ (h : Held). row_of_line h.settings h.has_eols start (line_here h.settings h.reference start))
+            begun) ∙ taken.is
+            ∙ ap {B = Result (Row × Bits) DecodeError} (λ (r : Row). Ok (r, here c.read_row.new.reader))
+            (sym (ap (λ (h : Held). h.reference) taken.held))
+            ∙ ap {B = Result (Row × Bits) DecodeError} (λ (b : Bits). Ok (new.reference, drop c.read_row.new.reader.place b))
+            c.read_row.ensures.same_bits;
         line = omega (arith, c.read_row.ensures.at_most, ticks, found, ap (λ (h : Held). length (changes h.reference)) begun);
         stored = omega (arith, c.in-Ok.ensures.stored, found);
       };
@@ -122,7 +127,8 @@ fault_is_paid c at =
         ap (λ (n : ℕ). sum_by length (take n (words_of held.settings bits))) (taken_left c),
       );
       paid = failed_most held.settings stands.wide bits held rest c.args.self.now.ctx.ticks
-          (at_line_paid c.args.self.now.stand held.settings bits held place c.args.self.now.ctx.ticks at.0 work.paid) c.read_row.new.ctx.ticks
+          (at_line_paid c.args.self.now.stand held.settings bits held place c.args.self.now.ctx.ticks at.0 work.paid)
+          c.read_row.new.ctx.ticks
           (omega (
             arith,
             c.read_row.ensures.at_most,
@@ -144,7 +150,8 @@ returns-in-Ok-clause-stands c at =
           (subst (λ (b : Bits). StandsBehindRow settings b new (here c.read_row.new.reader)) (sym c.read_row.ensures.same_bits) read.stands),
       repairs_stay settings new.settings bits read_bits new new read.settings_are c.read_row.ensures.same_bits refl refl
           (record { few = read.few counted.few; counted = read.counted counted.counted }),
-      subst (λ (s : DecodeSettings). WorkIsPaid BehindRow s read_bits new c.read_row.new.reader.place c.read_row.new.ctx.ticks) (sym read.settings_are)
+      subst (λ (s : DecodeSettings). WorkIsPaid BehindRow s read_bits new c.read_row.new.reader.place c.read_row.new.ctx.ticks)
+          (sym read.settings_are)
           (subst (λ (b : Bits). WorkIsPaid BehindRow settings b new c.read_row.new.reader.place c.read_row.new.ctx.ticks)
           (sym c.read_row.ensures.same_bits) (row_is_paid c at)),
     )
@@ -158,8 +165,10 @@ returns-in-Err-clause-stands c at =
       subst (λ (s : DecodeSettings). HasFailed s read_bits new.taken c.in-Err.error) (sym (settings_left c))
           (subst (λ (b : Bits). HasFailed held.settings b new.taken c.in-Err.error) (sym c.read_row.ensures.same_bits) (row_was_not_read c at)),
       repairs_stay held.settings new.settings bits read_bits held new (settings_left c) c.read_row.ensures.same_bits (taken_left c) (repairs_left c) at.1.1,
-      subst (λ (s : DecodeSettings). WorkIsPaid (AtFault c.in-Err.error) s read_bits new c.read_row.new.reader.place c.read_row.new.ctx.ticks) (sym (settings_left c))
-          (subst (λ (b : Bits). WorkIsPaid (AtFault c.in-Err.error) held.settings b new c.read_row.new.reader.place c.read_row.new.ctx.ticks)
+      subst (λ (s : DecodeSettings). WorkIsPaid (AtFault c.in-Err.error) s read_bits new c.read_row.new.reader.place
+          c.read_row.new.ctx.ticks) (sym (settings_left c))
+          (subst (λ (b : Bits). WorkIsPaid (AtFault c.in-Err.error) held.settings b new c.read_row.new.reader.place
+          c.read_row.new.ctx.ticks)
           (sym c.read_row.ensures.same_bits) (fault_is_paid c at)),
     )
 
@@ -202,7 +211,7 @@ returns-in-Err-clause-reads c at =
       error = (refl, taken_left c, row_was_not_read c at);
       fault_start = λ unended. line_start_of reader.place reader.bits c.bit_pos-self.result c.bit_pos-self.ensures.place
           c.bit_pos-self.ensures.within
-          ∙ starts_there held.settings reader.bits held (here reader) stands c.read_row.new.reader.place;
+          ∙ fails_at_line held.settings reader.bits held (here reader) stands;
       last = λ none. (row_left c, refl);
       last_start = λ e. cc;
     }

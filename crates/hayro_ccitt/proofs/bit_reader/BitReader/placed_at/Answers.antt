@@ -1,6 +1,6 @@
 use Rattle.std.proofs.Common.{arith}
 use Rattle.hayro_ccitt.proofs.BitReading.WindowWords.{filled, filled_behind}
-use Rattle.hayro_ccitt.proofs.bit_reader.BitReader.at_place.Goals as goal
+use Rattle.hayro_ccitt.proofs.bit_reader.BitReader.placed_at.Goals as goal
 
 pub invariant_of-result : goal.invariant_of-result
 invariant_of-result c =

@@ -1,17 +1,17 @@
 use Rattle.std.proofs.Common.{rules, ◌++◌, List, ℕ, subst}
-use Rattle.std.specs.Prelude.{OnErr, OnOk, codes}
+use Rattle.std.specs.Prelude.{OnErr, OnOk}
 use Rattle.std.proofs.lemmas.Result.{on_err_weaker, on_ok_weaker}
 use Rattle.fax_program.specs.Devices.{AppendsFront}
 use Rattle.faxrows.specs.DamageText.{numbered, end_with_fault}
 use Rattle.faxrows.specs.Output.{PassesOn}
 use Rattle.faxrows.proofs.Outputs.{passes_both, front_behind, front_of_longer}
-use Rattle.faxrows.proofs.damage_lines.put_damaged_row.Goals as goal
+use Rattle.faxrows.proofs.damage_lines.put_fault.Goals as goal
 
 pub returns-in_err-put_numbers-clause-front : goal.returns-in_err-put_numbers-clause-front
 returns-in_err-put_numbers-clause-front g c =
     let front : AppendsFront (g.W.Write.contents c.args.writer.now.0) (g.W.Write.contents c.put_numbers.new.writer.0)
-    (c.args.waiting.now.items ++ (numbered (codes "damaged ") c.args.row c.args.start ++ end_with_fault c.args.fault))
-    = front_of_longer _ _ c.args.waiting.now.items (numbered (codes "damaged ") c.args.row c.args.start)
+    (c.args.waiting.now.items ++ (numbered c.args.word.now c.args.row c.args.start ++ end_with_fault c.args.fault))
+    = front_of_longer _ _ c.args.waiting.now.items (numbered c.args.word.now c.args.row c.args.start)
     (end_with_fault c.args.fault) c.in_err-put_numbers.ensures.front in
     search rules
 
@@ -19,7 +19,7 @@ pub returns-clause-ok : goal.returns-clause-ok
 returns-clause-ok g c =
     on_ok_weaker c.put.result
     (passes_both _ _ _ c.args.waiting.now.items
-    (numbered (codes "damaged ") c.args.row c.args.start) c.put_numbers.new.waiting.items
+    (numbered c.args.word.now c.args.row c.args.start) c.put_numbers.new.waiting.items
     (end_with_fault c.args.fault) _ c.in_ok-put_numbers.ensures.ok)
     (subst (λ (text : List ℕ). OnOk c.put.result (PassesOn (g.W.Write.contents c.put_numbers.new.writer.0)
     (g.W.Write.contents c.put.new.writer.0) c.put_numbers.new.waiting.items text c.put.new.waiting.items))
@@ -29,7 +29,7 @@ pub returns-clause-front : goal.returns-clause-front
 returns-clause-front g c =
     on_err_weaker c.put.result
     (front_behind _ _ _ c.args.waiting.now.items
-    (numbered (codes "damaged ") c.args.row c.args.start) c.put_numbers.new.waiting.items
+    (numbered c.args.word.now c.args.row c.args.start) c.put_numbers.new.waiting.items
     (end_with_fault c.args.fault) c.in_ok-put_numbers.ensures.ok)
     (subst (λ (text : List ℕ). OnErr c.put.result (AppendsFront (g.W.Write.contents c.put_numbers.new.writer.0)
     (g.W.Write.contents c.put.new.writer.0) (c.put_numbers.new.waiting.items ++ text)))
