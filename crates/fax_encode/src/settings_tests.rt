@@ -162,6 +162,34 @@ fn by_k(rt: HostRuntime) -> Result<(), Fail> {
     encodes(&rt, closed, &with_rtc)
 }
 
+/// A bit of the second line is wrong, and the third is one-dimensional: one row changes.
+#[test]
+fn damage_ends_after_k_rows(rt: HostRuntime) -> Result<(), Fail> {
+    let damaged = [
+        0x00, 0x1C, 0x63, 0x00, 0x05, 0x40, 0x07, 0x75, 0x60, 0x02, 0x18, 0x00, 0xCD, 0x44, 0xD4,
+        0x00, 0x60, 0x03, 0x00, 0x18, 0x00, 0xC0, 0x06, 0x00, 0x30,
+    ];
+    let lenient = DecodeSettings {
+        columns: 24,
+        rows: 0,
+        end_of_block: true,
+        end_of_line: true,
+        rows_are_byte_aligned: false,
+        encoding: EncodingMode::Group3_2D,
+        strict: false,
+    };
+    let mut ctx = DecoderContext::new(rt.alloc(), lenient)?;
+    assert!(&rt; bits_fit(&damaged));
+    let mut sink = BitmapSink::new(rt.alloc(), 24);
+    let read = decode_in(BitOrder::HighestFirst, &damaged, &mut sink, &mut ctx);
+    let rows = [
+        0x18, 0x00, 0x00, 0x10, 0x00, 0x00, 0x0E, 0x00, 0x00, 0x00, 0x00, 0x00, 0xFF, 0x80, 0x00,
+    ];
+    assert_eq!(&rt; (read, sink.bytes()), (Ok(25), rows.as_slice()));
+    assert_eq!(&rt; ctx.damaged_rows(), 1);
+    Ok(())
+}
+
 #[test]
 fn shorter_line(rt: HostRuntime) -> Result<(), Fail> {
     // The second row takes five pass modes and V0, or seven bits: it is one-dimensional, and the third is V0 after it.
