@@ -16,6 +16,7 @@ import built_tests  # noqa: E402
 import c_library  # noqa: E402
 import cost  # noqa: E402
 import cuts  # noqa: E402
+import damage_by_k  # noqa: E402
 import devices  # noqa: E402
 import encoder  # noqa: E402
 import files  # noqa: E402
@@ -50,7 +51,7 @@ def build(name, path):
 def main():
     passed = failed = 0
     all_files = [
-        repository, program, built_tests, packing, c_library, row_by_row, encoder, refusals, devices, cuts, hostile, memory, large, installed, users, files, cost,
+        repository, program, built_tests, packing, c_library, row_by_row, encoder, refusals, devices, cuts, damage_by_k, hostile, memory, large, installed, users, files, cost,
     ]
     words = sys.argv[1:]
     chosen = [it for it in all_files if not words or (it.__name__ in words) != (words[0] == "--without")]
