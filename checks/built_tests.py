@@ -12,7 +12,7 @@ NAMED = {
         "settings_tests::refused_memory": (10, 8),
         "settings_tests::refused_memory_row_by_row": (11, 9),
         "settings_tests::wanting_memory_stays": (1, 1),
-        "tests::refused_memory": (36, 30),
+        "tests::refused_memory": (37, 31),
         "tests::sink_without_memory": (1, 0),
     },
     "faxrows": {
