@@ -45,9 +45,14 @@ other_checks() {
     done
     python3 "$copy/checks/run.py" --without built_tests
 }
-part ci rt ci &
+# As many tasks of `rt ci` at a time as there are processors, if there is memory: each takes up to 4 GB. Without RT_JOBS it counts
+# 12 GB for the library, and so tries the library's edits last, alone.
+available=$(awk '/^MemAvailable/ { print $2 }' /proc/meminfo)
+jobs=
+[ "${available:-0}" -ge 16000000 ] && jobs=$(nproc)
+part ci env RT_JOBS="$jobs" rt ci &
 ci=$!
-part edits nice -n 5 python3 "$copy/checks/edits.py" --ready "$said/ready" &
+part edits nice -n 15 python3 "$copy/checks/edits.py" --ready "$said/ready" &
 edits=$!
 part run other_checks &
 run=$!
