@@ -431,7 +431,7 @@ def stamps(folder):
     return found
 
 
-def prepare(crates, chosen, kept):
+def prepare(crates, chosen, kept, jobs):
     """Checks the crates without edits, lowest first, and keeps what each check stored. This builds their libraries too.
 
     Returns the names of each crate's functions.
@@ -441,7 +441,7 @@ def prepare(crates, chosen, kept):
         if crate.name in chosen:
             began = time.time()
             how = {"cwd": crate.folder, "stdout": subprocess.PIPE, "stderr": subprocess.STDOUT, "errors": "replace"}
-            ran = subprocess.run(["rt", "check"], check=False, **how)
+            ran = subprocess.run(["rt", "check", "--jobs", str(jobs)], check=False, **how)
             if ran.returncode:
                 print(ran.stdout[-3000:])
                 sys.exit(f"{crate.name} isn't proved without edits")
@@ -476,7 +476,8 @@ def main():
         sys.exit("no edit has such a name")
     with tempfile.TemporaryDirectory(prefix="edits-") as room, ThreadPoolExecutor(words.lanes) as pool:
         os.mkdir(f"{room}/kept")
-        functions = prepare(crates, {edit.crate.name for edit in edits}, f"{room}/kept")
+        # One processor is left to what runs beside.
+        functions = prepare(crates, {edit.crate.name for edit in edits}, f"{room}/kept", max(words.lanes - 1, 1))
         if words.ready:
             with open(words.ready, "w", encoding="utf-8"):
                 pass
