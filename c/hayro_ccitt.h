@@ -72,7 +72,8 @@ typedef struct {
     uint64_t damaged_rows; /* the number of rows among them whose line was damaged and repaired */
     uint64_t fault_start;  /* on an error, the offset in bits at which the line after these rows begins, or strict data lacks an
                             * EOL; else 0, and also if HAYRO_CCITT_OUT_OF_MEMORY came before the data was read */
-    uint64_t reserved;     /* 0 */
+    uint64_t missed_eols;  /* the number of rows among them, not repaired, after which other bits were passed up to the next EOL,
+                            * or none was left */
 } hayro_ccitt_outcome;
 
 /* What a call returns. Unless it is HAYRO_CCITT_NOT_TAKEN, the outcome's rows were decoded: on an error, those before it. */

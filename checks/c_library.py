@@ -2,6 +2,7 @@
 import ctypes
 import functools
 import os
+import random
 import subprocess
 import tempfile
 
@@ -21,16 +22,24 @@ ANSWERS = {
     "error: arithmetic overflow in position calculation": 3,
 }
 
+# An EOL, a white line of eight columns, other bits, an EOL, a white line; two columns, and no EOL; a black run that isn't whole.
+MISSED = [
+    ("1d 8 2 l", "0019F800CC", 1),
+    ("1d 8 1 l", "0019F800CC", 0),
+    ("1d 8 2 sl", "0019F800CC", 0),
+    ("1d 2 0 l", "7770", 1),
+    ("1d 8 0 l", "0019800C400033", 0),
+]
+
 
 class Settings(ctypes.Structure):
     _fields_ = [(name, ctypes.c_uint32) for name in ("columns", "rows", "encoding", "flags")]
 
 
 class Outcome(ctypes.Structure):
-    _fields_ = [(name, ctypes.c_uint64) for name in ("rows", "changes", "bytes_read", "damaged_rows", "fault_start", "reserved")]
+    _fields_ = [(name, ctypes.c_uint64) for name in ("rows", "changes", "bytes_read", "damaged_rows", "fault_start", "missed_eols")]
 
     def told(self):
-        assert self.reserved == 0, self.reserved
         return self.rows, self.changes, self.bytes_read
 
 
@@ -173,6 +182,56 @@ def calls_on_known_cases():
     print(f"  {cases} cases measured, {seen} calls that write, {refused} with too little room")
 
 
+def missed_eols_are_told():
+    """After a whole line other bits stand before the EOL, or none is left: once its gap is read, not in a strict run, and not behind
+    a damaged line."""
+    build()
+    with tempfile.TemporaryDirectory() as folder:
+        measure = loaded(folder).hayro_ccitt_measure
+        for words, text, missed in MISSED:
+            data, outcome = program.bytes_of(text), Outcome()
+            measure(data, ctypes.c_size_t(len(data)), ctypes.byref(settings_of(*words.split())), ctypes.byref(outcome))
+            assert outcome.missed_eols == missed, (words, text, outcome.missed_eols)
+    print(f"  {len(MISSED)} counts of missed EOLs")
+
+
+def flips_are_told():
+    """A bit of a large strip of Group 3 with EOLs is flipped, at 400 places. Where a strict run ends well, a lenient one repairs no
+    row and misses no EOL. How often either tells of a picture that differs is printed."""
+    build()
+    with open("corpus/manifest.tsv", encoding="utf-8") as file:
+        lines = [line.rstrip("\n").split("\t") for line in file if not line.startswith("#")]
+    strips = {line[1]: line[2:5] for line in lines if line[2] == "1d" and f"{line[4]}:l" in line[5].split(",")}
+    largest = sorted(strips, key=lambda name: (os.path.getsize(f"corpus/{name}"), name))[-4:]
+    changed = strictly = repaired = told = 0
+    chosen = random.Random(4)
+    with tempfile.TemporaryDirectory() as folder:
+        decode = loaded(folder).hayro_ccitt_decode_packed
+        for name in largest:
+            with open(f"corpus/{name}", "rb") as file:
+                data = file.read()
+            size = (int(strips[name][1]) + 7) // 8 * int(strips[name][2])
+            pictures = {}
+            for bit in [None, *(chosen.randrange(8 * len(data)) for _ in range(100))]:
+                flipped = bytearray(data)
+                if bit is not None:
+                    flipped[bit // 8] ^= 128 >> bit % 8
+                for flags in ("l", "ls"):
+                    memory, outcome = (ctypes.c_uint8 * size)(), Outcome()
+                    words = (bytes(flipped), ctypes.c_size_t(len(data)), ctypes.byref(settings_of(*strips[name], flags)))
+                    answer = decode(*words, memory, ctypes.c_size_t(size), ctypes.byref(outcome))
+                    pictures[bit, flags] = (answer, bytes(memory), outcome.damaged_rows, outcome.missed_eols)
+                whole, lenient, strict = pictures[None, "l"], pictures[bit, "l"], pictures[bit, "ls"]
+                assert strict[0] != 0 or (lenient[:2] == strict[:2] and lenient[2:] == (0, 0)), (name, bit)
+                if lenient[1] != whole[1]:
+                    changed += 1
+                    strictly += strict[0] != 0
+                    repaired += lenient[2] > 0
+                    told += any(lenient[2:])
+    assert 0 < repaired <= told <= strictly <= changed
+    print(f"  of {changed} pictures that differ a strict run tells {strictly}, repaired rows {repaired}, missed EOLs too {told}")
+
+
 def example_without_memory():
     """Each allocation of the example refused in turn: it says so, and the picture is that of the rows before. A refused buffer of the
     C library is harmless."""
@@ -199,4 +258,4 @@ def example_without_memory():
     print(f"  {seen} allocations refused in turn")
 
 
-CHECKS = [example_on_strips, calls_on_known_cases, example_without_memory]
+CHECKS = [example_on_strips, calls_on_known_cases, missed_eols_are_told, flips_are_told, example_without_memory]

@@ -5,7 +5,7 @@ use Rattle.hayro_ccitt.specs.declared.error.DecodeError.TheVariants.{UnexpectedE
 use Rattle.hayro_ccitt.specs.declared.settings.DecodeSettings.{DecodeSettings}
 use Rattle.hayro_ccitt.specs.Answers.{PaintsBlack}
 use Rattle.hayro_ccitt.specs.Bits.{Bits, BitsFit, bits_of, bits_in}
-use Rattle.hayro_ccitt.specs.Damage.{repairs_by_line}
+use Rattle.hayro_ccitt.specs.Damage.{repairs_by_line, misses_by_line}
 use Rattle.hayro_ccitt.specs.PlainReading.{plain, lines_of, failed_at}
 use Rattle.hayro_ccitt.specs.Rows.{changes}
 use Rattle.fax_encode.specs.Packed.{packed}
@@ -61,10 +61,20 @@ changes_taken settings bits taken = min (sum (map (λ row. length (changes row))
 abbrev pub damaged_taken : DecodeSettings → Bits → ℕ → ℕ
 damaged_taken settings bits taken = sum_by length (take taken (repairs_by_line settings bits))
 
--- what C gets, with its field that means nothing yet
-abbrev pub outcome_of : ℕ → ℕ → ℕ → ℕ → ℕ → Outcome
-outcome_of rows changes bytes_read damaged_rows fault_start =
-    record { rows = rows; changes = changes; bytes_read = bytes_read; damaged_rows = damaged_rows; fault_start = fault_start; reserved = 0 }
+-- the number of those after which the EOL was missed (T.4, 4.1.2)
+abbrev pub missed_taken : DecodeSettings → Bits → ℕ → ℕ
+missed_taken settings bits taken = sum_by length (take taken (misses_by_line settings bits))
+
+-- what C gets
+abbrev pub outcome_of : ℕ → ℕ → ℕ → ℕ → ℕ → ℕ → Outcome
+outcome_of rows changes bytes_read damaged_rows fault_start missed_eols = record {
+  rows = rows;
+  changes = changes;
+  bytes_read = bytes_read;
+  damaged_rows = damaged_rows;
+  fault_start = fault_start;
+  missed_eols = missed_eols;
+}
 
 -- a statement about the settings that C passes, if they are valid, and about the bits of the data in the order that C
 -- passes, if the data isn't too long
