@@ -1,5 +1,5 @@
 -- Rows one at a time: what a reader of rows has read, and what a call leaves that reads the next row.
-use Rattle.std.specs.Prelude.{sum_by, take, ◌==◌, if◌then◌else◌, ◌≡◌, ◌≢◌, ◌≤◌, ◌<◌, ◌+◌, ◌*◌, ◌/◌, ℕ, Bool, true, false, not, drop, [], length, get_or, Option, None, Some, Result, Ok, Err, OnErr, IfOk, IfErr}
+use Rattle.std.specs.Prelude.{sum_by, slice_get, take, ◌==◌, if◌then◌else◌, ◌≡◌, ◌≢◌, ◌≤◌, ◌<◌, ◌+◌, ◌-◌, ◌*◌, ◌/◌, ℕ, Bool, true, false, not, drop, [], length, get_or, Option, None, Some, Result, Ok, Err, OnErr, IfOk, IfErr}
 use Rattle.hayro_ccitt.specs.declared.codes.Color.TheVariants.{White}
 use Rattle.hayro_ccitt.specs.declared.error.DecodeError.{DecodeError}
 use Rattle.hayro_ccitt.specs.declared.error.DecodeError.TheVariants.{OutOfMemory, Refused}
@@ -11,7 +11,9 @@ use Rattle.hayro_ccitt.specs.declared.settings.DecodeSettings.{DecodeSettings}
 use Rattle.hayro_ccitt.specs.Answers.{IsFault, PaintsBlack}
 use Rattle.hayro_ccitt.specs.Bits.{Bits, BitsAt}
 use Rattle.hayro_ccitt.specs.Context.{Held, Repairs}
-use Rattle.hayro_ccitt.specs.Damage.{fault_in, repairs_by_line}
+use Rattle.hayro_ccitt.specs.Damage.{fault_in, repairs_by_line, misses_by_line}
+use Rattle.hayro_ccitt.specs.Decoding.{repairs_with}
+use Rattle.hayro_ccitt.specs.Lines.{Line}
 use Rattle.hayro_ccitt.specs.PlainReading.{Progress, row_before, with_row, first_gap, move_on, row_of_line, line_here, line_of_turn, plain, lines_of, line_starts, failed_at}
 use Rattle.hayro_ccitt.specs.Repetition.{Turn, Reaches}
 use Rattle.hayro_ccitt.specs.Rows.{Row, changes}
@@ -87,6 +89,15 @@ damage_since repairs before = if repairs.rows == before then None else Some repa
 abbrev pub start_after : Result Bool DecodeError → ℕ → ℕ → ℕ
 start_after (Ok over) place before = before
 start_after (Err error) place before = place
+
+-- the number of rows whose gap was passed: that behind the last row is passed with the next call, unless the reading has ended
+abbrev pub gaps_before : Option (Result (Unit {0}) DecodeError) → Bool → ℕ → ℕ
+gaps_before (Some end) at_line taken = taken
+gaps_before None true taken = taken
+gaps_before None false taken = taken - 1
+
+abbrev pub gaps_passed : RowsRead → ℕ
+gaps_passed rows = gaps_before rows.end rows.at_line rows.taken
 
 -- ---- The contract
 
@@ -189,10 +200,31 @@ Stands BehindRow settings bits held place = StandsBehindRow settings bits held (
 Stands AtEnd settings bits held place = HasEnded settings bits held.taken place
 Stands (AtFault error) settings bits held place = HasFailed settings bits held.taken error
 
--- the repaired rows among those read were counted (T.4, 4.1.2)
-pub record RepairsAreCounted (settings : DecodeSettings) (bits : Bits) (held : Held) : Type 0 where
+-- the EOLs missed in this number of gaps were counted, and the last repaired row is before one of them (T.4, 4.1.2)
+pub record MissesAreCounted (settings : DecodeSettings) (bits : Bits) (repairs : Repairs) (gaps : ℕ) : Type 0 where
+  pub few : repairs.missed ≤ gaps
+  pub last : repairs.last ≤ gaps
+  pub counted : repairs.missed ≡ sum_by length (take gaps (misses_by_line settings bits))
+
+-- behind a row they were counted up to its line
+pub record MissesBehindRow (settings : DecodeSettings) (bits : Bits) (held : Held) : Type 0 where
+  pub line : Line
+  pub before : Repairs
+  pub line_is : slice_get (lines_of settings bits) (held.taken - 1) ≡ Some line
+  pub repairs_are : held.repairs ≡ repairs_with line (held.taken - 1) before
+  pub counted : MissesAreCounted settings bits before (held.taken - 1)
+
+abbrev pub Misses : Stand → DecodeSettings → Bits → Held → Type 0
+Misses AtLine settings bits held = MissesAreCounted settings bits held.repairs held.taken
+Misses BehindRow settings bits held = MissesBehindRow settings bits held
+Misses AtEnd settings bits held = MissesAreCounted settings bits held.repairs held.taken
+Misses (AtFault error) settings bits held = MissesAreCounted settings bits held.repairs held.taken
+
+-- the repaired rows among those read were counted, and the EOLs that were missed (T.4, 4.1.2)
+pub record DamageIsCounted (stand : Stand) (settings : DecodeSettings) (bits : Bits) (held : Held) : Type 0 where
   pub few : held.repairs.rows ≤ held.taken
   pub counted : held.repairs.rows ≡ sum_by length (take held.taken (repairs_by_line settings bits))
+  pub misses : Misses stand settings bits held
 
 -- What was counted up to a line is paid, from a first line before which this much was counted; where EOLs are sought, what
 -- ceasing to seek them costs is left.
@@ -232,7 +264,7 @@ pub record WorkIsPaid (stand : Stand) (settings : DecodeSettings) (bits : Bits) 
 abbrev pub IsStanding : RowState → BitsAt → Type 0
 IsStanding rows reader =
     Stands rows.stand rows.ctx.held.settings reader.bits rows.ctx.held reader.place
-    × RepairsAreCounted rows.ctx.held.settings reader.bits rows.ctx.held
+    × DamageIsCounted rows.stand rows.ctx.held.settings reader.bits rows.ctx.held
     × WorkIsPaid rows.stand rows.ctx.held.settings reader.bits rows.ctx.held reader.place rows.ctx.ticks
 
 -- at the first bit of a line

@@ -163,6 +163,14 @@ impl RowCursor {
         self.rows.ctx.damaged_rows()
     }
 
+    /// Returns the number of rows read after which the EOL was missed (T.4 section 4.1.2): of the last row it is known when
+    /// the next call of [`next_row`](RowCursor::next_row) returns.
+    pub fn missed_eols(&self) -> u64
+        ensures { result ≡ self.now.held.repairs.missed }
+    {
+        self.rows.ctx.missed_eols()
+    }
+
     /// Returns the number of bytes consumed so far, the last one rounded up.
     pub fn bytes_read(&self) -> usize
         ensures { result ≡ (self.now.place + 7) / 8 }

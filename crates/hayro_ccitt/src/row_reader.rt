@@ -4,9 +4,9 @@ ghost use Rattle.std.specs.Prelude.{sum_by, take, length, ◌≡◌, ◌≢◌, 
 ghost use Rattle.hayro_ccitt.specs.Bits.{BitsFit, bits_in};
 ghost use Rattle.hayro_ccitt.specs.Context.{fresh};
 ghost use Rattle.hayro_ccitt.specs.Rows.{changes};
-ghost use Rattle.hayro_ccitt.specs.Damage.{repairs_by_line};
+ghost use Rattle.hayro_ccitt.specs.Damage.{repairs_by_line, misses_by_line};
 ghost use Rattle.hayro_ccitt.specs.Work.{CountsWork};
-ghost use Rattle.hayro_ccitt.specs.RowsRead.{damage_since, start_after, Stands, IsPaid, ComesToLine, ReadsNext, stand_after, line_after, is_at_line, at_end_of_rows, ended, seen, IsStanding, IsStandingAtLine};
+ghost use Rattle.hayro_ccitt.specs.RowsRead.{damage_since, start_after, Stands, IsPaid, ComesToLine, ReadsNext, stand_after, line_after, is_at_line, at_end_of_rows, ended, seen, IsStanding, IsStandingAtLine, DamageIsCounted, gaps_passed};
 
 use crate::bit_reader::{BitOrder, BitReader};
 use crate::context::DecoderContext;
@@ -110,7 +110,7 @@ pub(crate) fn first_stand(ctx: &mut DecoderContext, reader: &mut BitReader<'_>) 
     requires start { reader.old.place ≡ 0 }
     requires uncounted { ctx.old.ticks ≡ 0 }
     ensures none_taken { ctx.new.held.taken ≡ 0 }
-    ensures none_repaired { ctx.new.held.repairs.rows ≡ 0 }
+    ensures damage { DamageIsCounted result ctx.old.held.settings reader.old.bits ctx.new.held }
     ensures settings { ctx.new.held.settings ≡ ctx.old.held.settings }
     ensures same_bits { reader.new.bits ≡ reader.old.bits }
     ensures stands { Stands result ctx.old.held.settings reader.old.bits ctx.new.held reader.new.place }
@@ -350,6 +350,15 @@ impl<'a> RowReader<'a> {
         ensures { result ≡ sum_by length (take self.now.taken (repairs_by_line self.now.settings self.now.bits)) }
     {
         self.rows.ctx.damaged_rows()
+    }
+
+    /// Returns the number of rows read after which the EOL was missed (T.4 section 4.1.2), as
+    /// [`DecoderContext::missed_eols`] does: of the last row it is known when the next call of
+    /// [`next_row`](RowReader::next_row) returns.
+    pub fn missed_eols(&self) -> u64
+        ensures { result ≡ sum_by length (take (gaps_passed self.now) (misses_by_line self.now.settings self.now.bits)) }
+    {
+        self.rows.ctx.missed_eols()
     }
 
     /// Returns the number of bytes consumed so far, the last one rounded up.

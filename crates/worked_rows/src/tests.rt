@@ -758,6 +758,30 @@ fn tells_missed(
     assert_eq!(rt; ctx.missed_eols(), 0);
 }
 
+/// How many EOLs a reader and a cursor say were missed, after each row and at the end.
+fn tells_missed_of_rows(
+    rt: &(impl Abort + AllocGlobal),
+    data: &[u8],
+    settings: DecodeSettings,
+    missed: &[u64],
+) {
+    assert!(rt; bits_fit(data));
+    let mut reader = RowReader::new(rt.alloc(), data, BitOrder::HighestFirst, settings).expect(
+        rt, "memory",
+    );
+    let mut cursor = RowCursor::new(rt.alloc(), data, BitOrder::HighestFirst, settings).expect(
+        rt, "memory",
+    );
+    for count in missed {
+        let _ = reader.next_row();
+        let _ = cursor.next_row(data);
+        assert_eq!(rt;
+            (reader.missed_eols(), cursor.missed_eols()),
+            (*count, *count)
+        );
+    }
+}
+
 #[test]
 fn missed_eols_are_told(rt: HostRuntime) {
     // Bits behind a whole line, and then an EOL: missed once the second line is read.
@@ -767,14 +791,10 @@ fn missed_eols_are_told(rt: HostRuntime) {
     tells_missed(&rt, &whole, group_3_1d(8, 2, "ls"), usize::MAX, 0);
     tells_missed(&rt, &whole, group_3_1d(8, 2, "l"), 1, 1);
     tells_missed(&rt, &whole, group_3_1d(8, 2, "l"), 0, 0);
+    tells_missed_of_rows(&rt, &whole, group_3_1d(8, 2, "l"), &[0, 1, 1]);
+    tells_missed_of_rows(&rt, &[0x77, 0x70], group_3_1d(2, 0, "l"), &[0, 1, 1, 1]);
     // No EOL is left.
-    tells_missed(
-        &rt,
-        &[0x77, 0x70],
-        group_3_1d(2, 0, "l"),
-        usize::MAX,
-        1,
-    );
+    tells_missed(&rt, &[0x77, 0x70], group_3_1d(2, 0, "l"), usize::MAX, 1);
     // The search for an EOL is the repair of the damaged line.
     let cut = [0x00, 0x19, 0x80, 0x0C, 0x40, 0x00, 0x33];
     tells_missed(&rt, &cut, group_3_1d(8, 0, "l"), usize::MAX, 0);

@@ -9,9 +9,9 @@ use Rattle.hayro_ccitt.specs.declared.error.DecodeError.TheVariants.{InvalidCode
 use Rattle.hayro_ccitt.specs.declared.settings.DecodeSettings.{DecodeSettings}
 use Rattle.hayro_ccitt.specs.Answers.{PaintsBlack}
 use Rattle.hayro_ccitt.specs.Bits.{Bits, BitsAt, IsPrefix, here}
-use Rattle.hayro_ccitt.specs.Context.{Held, Repairs, fresh}
-use Rattle.hayro_ccitt.specs.Damage.{Damaged, fault_in, repaired_in, repaired_by_turn, repairs_by_line}
-use Rattle.hayro_ccitt.specs.Decoding.{SinkState, TakesOneRow, repairs_with, gap_said}
+use Rattle.hayro_ccitt.specs.Context.{Held, Repairs, fresh, no_repairs}
+use Rattle.hayro_ccitt.specs.Damage.{Damaged, fault_in, repaired_in, repaired_by_turn, repairs_by_line, missed_by_turn, misses_by_line}
+use Rattle.hayro_ccitt.specs.Decoding.{SinkState, TakesOneRow, repairs_with, repairs_behind, gap_said}
 use Rattle.hayro_ccitt.specs.Lines.{Line}
 use Rattle.hayro_ccitt.specs.PlainReading.{Progress, Ending, Reading, Move, row_before, with_row, at_gap, gap_behind_row, row_of_line, line_here, line_of_turn, move_on, first_gap, first_line, at_front, ending_from, ending_behind, one_each, gathered_from, gathered_behind, gathered_of, bytes_before, whole_reading, plain, lines_of, line_starts, start_of_turn, Gap, misses_eol, eols_here, is_over, limit_met, at_end, row_ends, end_of_row, end_of_turn, failed_at}
 use Rattle.hayro_ccitt.specs.Repetition.{Turn, Reaches}
@@ -23,11 +23,11 @@ use Rattle.hayro_ccitt.specs.declared.settings.EncodingMode.{EncodingMode}
 use Rattle.hayro_ccitt.specs.declared.settings.EncodingMode.TheVariants.{Group4}
 use Rattle.hayro_ccitt.proofs.Readings.GapsAndRows.{first_gap_t4}
 use Rattle.hayro_ccitt.proofs.Readings.Repeated.{reaches_on}
-use Rattle.hayro_ccitt.specs.RowsRead.{RowsRead, ReadsNext, damage_since, start_after, ComesToLine, read_so_far, line_after, RepairsAreCounted, Stands, ended, stand_after, is_at_line, StandsAtLine, StandsBehindRow, HasEnded, HasFailed, context_at}
+use Rattle.hayro_ccitt.specs.RowsRead.{RowsRead, ReadsNext, gaps_before, damage_since, start_after, ComesToLine, read_so_far, line_after, DamageIsCounted, MissesAreCounted, MissesBehindRow, Misses, Stands, ended, stand_after, is_at_line, StandsAtLine, StandsBehindRow, HasEnded, HasFailed, context_at}
 use Rattle.hayro_ccitt.proofs.Readings.PlainAnswers.{some_columns, bytes_before-place}
 use Rattle.hayro_ccitt.proofs.Readings.TurnsAddRows.{Keeps, first_gap_keeps}
 use Rattle.hayro_ccitt.proofs.Readings.TurnsMoveOn.{left_to_read, left_below}
-use Rattle.hayro_ccitt.proofs.Readings.DamageCounted.{repaired_counts}
+use Rattle.hayro_ccitt.proofs.Readings.DamageCounted.{repaired_counts, missed_counts, few_behind, last_behind}
 use Rattle.hayro_ccitt.proofs.Work.RunsCount.{sum_more}
 use Rattle.hayro_ccitt.proofs.Readings.RunsOverRows.{lines_on, Comes, Between, Leaves, held_between-more, comes_done, comes_more, comes_line, get_or-behind, row_fails}
 use Rattle.hayro_ccitt.proofs.Readings.RunsReach.{get_or-there, comes_there, value_is, no_value_behind}
@@ -71,6 +71,12 @@ module _ (settings : DecodeSettings) (wide : 0 < settings.columns) (bits : Bits)
     pub ends_with_turn : (end : Ending) → move_on settings so_far ≡ Turn.done end → plain settings bits ≡ whole_reading bits end
     ends_with_turn end is =
         plain_is ∙ ap (whole_reading bits) (comes_done (move_on settings) (one_each (line_of_turn settings)) left_to_read (by_rows_left settings wide) first none_first so_far (comes (line_of_turn settings)) end is)
+
+    -- its line
+    pub line_is : slice_get (lines_of settings bits) (length so_far.rows) ≡ Some (line_of_turn settings so_far)
+    line_is =
+        ap (λ (xs : List Line). slice_get xs (length so_far.rows)) lines_are
+        ∙ comes_line (move_on settings) (one_each (line_of_turn settings)) left_to_read (by_rows_left settings wide) first none_first so_far (comes (line_of_turn settings)) (line_of_turn settings so_far) refl
 
     -- the offset of its line
     pub line_start_is : (other : ℕ) → get_or (line_starts settings bits) (length so_far.rows) other ≡ length bits - length so_far.rest
@@ -150,6 +156,16 @@ module _ (settings : DecodeSettings) (wide : 0 < settings.columns) (bits : Bits)
       -- with it one more line is counted
       pub repaired_more : sum_by length (take (rows + 1) by_line) ≡ sum_by length (take rows by_line) + length repaired
       repaired_more = gathered_more by_line (repaired_by_turn settings bits) repairs_are
+
+      -- so is the gap after it
+      misses_are : misses_by_line settings bits ≡ gathered_from (move_on settings) (one_each (missed_by_turn settings bits)) first
+      misses_are =
+          cond-false (eqb settings.columns 0) _ _ (some_columns settings.columns (λ none. absurd (omega (arith, wide, none))))
+          ∙ gathered_is (missed_by_turn settings bits)
+
+      pub missed_more : sum_by length (take (rows + 1) (misses_by_line settings bits))
+          ≡ sum_by length (take rows (misses_by_line settings bits)) + length (missed_by_turn settings bits so_far)
+      missed_more = gathered_more (misses_by_line settings bits) (missed_by_turn settings bits) misses_are
 
       -- its words
       words_are : words_of settings bits ≡ gathered_from (move_on settings) (one_each (words_of_turn settings)) first
@@ -237,6 +253,7 @@ pub record IsRead (settings : DecodeSettings) (bits : Bits) (held new : Held) (h
   pub words : sum_by length (take new.taken (words_of settings bits))
       ≡ sum_by length (take held.taken (words_of settings bits)) + length (found_here settings held.reference here)
   pub counted : held.repairs.rows ≡ sum_by length (take held.taken (repairs_by_line settings bits)) → new.repairs.rows ≡ sum_by length (take new.taken (repairs_by_line settings bits))
+  pub misses : MissesAreCounted settings bits held.repairs held.taken → MissesBehindRow settings bits new
 
 pub is_read : (settings : DecodeSettings) (bits : Bits) (held : Held) (here : Bits) → StandsAtLine settings bits held here → (new : Held) (left_over : Bits)
     → TakesOneRow (line_here held.settings held.reference here) (row_of_line held.settings held.has_eols here (line_here held.settings held.reference here))
@@ -290,6 +307,15 @@ is_read settings bits held here stands new left_over takes =
         repaired_more settings stands.wide bits stands.first stands.begins so_far stands.reaches held.taken before,
         ap (λ (n : ℕ). sum_by length (take n (repairs_by_line settings bits))) (after ∙ ap (λ (n : ℕ). n + 1) (sym before)),
       );
+      misses = λ so.
+          let here : new.taken - 1 ≡ length so_far.rows = omega (arith, after) in
+          record {
+            line = line;
+            before = held.repairs;
+            line_is = ap (slice_get (lines_of settings bits)) here ∙ line_is settings stands.wide bits stands.first stands.begins so_far stands.reaches;
+            repairs_are = repaired ∙ ap (λ (n : ℕ). repairs_with line n held.repairs) (sym here);
+            counted = subst (MissesAreCounted settings bits held.repairs) (before ∙ sym here) so;
+          };
     }
 
 -- if it has no row, the reading fails there
@@ -474,14 +500,84 @@ first_line_stands settings wide bits other last rest frame is room = record {
   rest_is = is;
 }
 
+-- the gap behind a row tells of its EOL
+pub misses_passed : (settings : DecodeSettings) (bits : Bits) (held : Held) (here : Bits) → StandsBehindRow settings bits held here → MissesBehindRow settings bits held
+    → (last : Held) → last.repairs ≡ repairs_behind held here → last.taken ≡ held.taken → MissesAreCounted settings bits last.repairs last.taken
+misses_passed settings bits held here stands misses last counts taken =
+    let so_far = stands.so_far in
+    let n = length so_far.rows in
+    let line = line_of_turn settings so_far in
+    let more : held.taken ≡ n + 1 = ap (λ (h : Held). h.taken) stands.held_is ∙ length-append so_far.rows (stands.row ∷ []) in
+    let index : held.taken - 1 ≡ n = omega (arith, more) in
+    let found : ◌≡◌ {A = Option Line} (Some misses.line) (Some line)
+    = sym misses.line_is ∙ ap (slice_get (lines_of settings bits)) index ∙ line_is settings stands.wide bits stands.first stands.begins so_far stands.reaches in
+    let same : misses.line ≡ line = cc in
+    let before = misses.before in
+    let known : MissesAreCounted settings bits before n = subst (MissesAreCounted settings bits before) index misses.counted in
+    let repairs : held.repairs ≡ repairs_with line n before
+    = misses.repairs_are ∙ ap (λ (k : ℕ). repairs_with misses.line k before) index ∙ ap (λ (l : Line). repairs_with l n before) same in
+    let then : last.repairs ≡ repairs_behind (context_at settings (with_row so_far stands.row here) (repairs_with line n before)) here
+    = counts ∙ ap (λ (h : Held). repairs_behind h here) (stands.held_is ∙ ap (context_at settings (with_row so_far stands.row here)) repairs) in
+    let one = missed_counts settings bits so_far line stands.row here before stands.row_is known.last known.few in
+    record {
+      few = omega (arith, taken, more, ap (λ (r : Repairs). r.missed) then, few_behind settings bits so_far line stands.row here before stands.row_is known.last known.few);
+      last = omega (arith, taken, more, ap (λ (r : Repairs). r.last) then, last_behind settings bits so_far line stands.row here before stands.row_is known.last known.few);
+      counted = omega (
+        arith,
+        ap (λ (r : Repairs). r.missed) then,
+        one,
+        known.counted,
+        missed_more settings stands.wide bits stands.first stands.begins so_far stands.reaches n refl,
+        ap (λ (k : ℕ). sum_by length (take k (misses_by_line settings bits))) (taken ∙ more),
+      );
+    }
+
+-- the count of missed EOLs at a line, behind a row, and after a gap
+pub misses_at_line : (stand : Stand) (settings : DecodeSettings) (bits : Bits) (held : Held) → is_at_line stand ≡ true → Misses stand settings bits held
+    → MissesAreCounted settings bits held.repairs held.taken
+misses_at_line AtLine settings bits held is misses = misses
+misses_at_line BehindRow settings bits held is misses = absurd (false≢true is)
+misses_at_line AtEnd settings bits held is misses = misses
+misses_at_line (AtFault error) settings bits held is misses = misses
+
+pub misses_behind_row : (stand : Stand) (settings : DecodeSettings) (bits : Bits) (held : Held) → ended stand ≡ None → is_at_line stand ≡ false → Misses stand settings bits held
+    → MissesBehindRow settings bits held
+misses_behind_row AtLine settings bits held unended no_line misses = absurd (false≢true (sym no_line))
+misses_behind_row BehindRow settings bits held unended no_line misses = misses
+misses_behind_row AtEnd settings bits held unended no_line misses = absurd cc
+misses_behind_row (AtFault error) settings bits held unended no_line misses = absurd cc
+
+pub misses_after : (answer : Result Bool DecodeError) (settings : DecodeSettings) (bits : Bits) (held : Held) → MissesAreCounted settings bits held.repairs held.taken
+    → Misses (stand_after answer) settings bits held
+misses_after (Ok true) settings bits held misses = misses
+misses_after (Ok false) settings bits held misses = misses
+misses_after (Err error) settings bits held misses = misses
+
+-- before the first row there are none
+pub none_damaged : (stand : Stand) (settings : DecodeSettings) (bits : Bits) (held : Held) → ((misses : MissesAreCounted settings bits held.repairs held.taken) → Misses stand settings bits held)
+    → held.taken ≡ 0 → held.repairs ≡ no_repairs → DamageIsCounted stand settings bits held
+none_damaged stand settings bits held stands none no_damage =
+    let rows : held.repairs.rows ≡ 0 = ap (λ (r : Repairs). r.rows) no_damage in
+    let missed : held.repairs.missed ≡ 0 = ap (λ (r : Repairs). r.missed) no_damage in
+    record {
+      few = omega (arith, rows);
+      counted = rows ∙ sym (ap (λ (n : ℕ). sum_by length (take n (repairs_by_line settings bits))) none);
+      misses = stands (record {
+        few = omega (arith, missed);
+        last = omega (arith, ap (λ (r : Repairs). r.last) no_damage);
+        counted = missed ∙ sym (ap (λ (n : ℕ). sum_by length (take n (misses_by_line settings bits))) none);
+      });
+    }
+
 -- what was counted is unchanged where no row is read
-pub repairs_stay : (settings given : DecodeSettings) (bits read : Bits) (held last : Held) → given ≡ settings → read ≡ bits → last.taken ≡ held.taken → last.repairs.rows ≡ held.repairs.rows
-    → RepairsAreCounted settings bits held → RepairsAreCounted given read last
-repairs_stay settings given bits read held last same are taken repairs counted = record {
+pub damage_stays : (before stand : Stand) (settings given : DecodeSettings) (bits read : Bits) (held last : Held) → given ≡ settings → read ≡ bits → last.taken ≡ held.taken
+    → last.repairs.rows ≡ held.repairs.rows → DamageIsCounted before settings bits held → Misses stand settings bits last → DamageIsCounted stand given read last
+damage_stays before stand settings given bits read held last same are taken repairs counted misses = record {
   few = omega (arith, counted.few, taken, repairs);
   counted = repairs ∙ counted.counted ∙ ap (λ (n : ℕ). sum_by length (take n (repairs_by_line settings bits))) (sym taken)
       ∙ ap (λ (s : DecodeSettings). sum_by length (take last.taken (repairs_by_line s bits))) (sym same)
       ∙ ap (λ (b : Bits). sum_by length (take last.taken (repairs_by_line given b))) (sym are);
+  misses = subst (λ (s : DecodeSettings). Misses stand s read last) (sym same) (subst (λ (b : Bits). Misses stand settings b last) (sym are) misses);
 }
 
 -- the result of a call that passes a gap
@@ -565,3 +661,16 @@ reads_on old mid new result comes reads =
       last = λ none. ((reads.last none).0 ∙ comes.last.0, (reads.last none).1 ∙ comes.last.1);
       last_start = λ none. reads.last_start none ∙ comes.last_start;
     }
+
+-- the count of missed EOLs is that of the gaps that were passed
+repairs_with_missed : (line : Line) (taken : ℕ) (before : Repairs) → (repairs_with line taken before).missed ≡ before.missed
+repairs_with_missed (Line.whole row rest) taken before = refl
+repairs_with_missed (Line.broken front fault) taken before = refl
+
+pub missed_told : (stand : Stand) (settings : DecodeSettings) (bits : Bits) (held : Held) → Misses stand settings bits held
+    → held.repairs.missed ≡ sum_by length (take (gaps_before (ended stand) (is_at_line stand) held.taken) (misses_by_line settings bits))
+missed_told AtLine settings bits held misses = misses.counted
+missed_told BehindRow settings bits held misses =
+    ap (λ (r : Repairs). r.missed) misses.repairs_are ∙ repairs_with_missed misses.line (held.taken - 1) misses.before ∙ misses.counted.counted
+missed_told AtEnd settings bits held misses = misses.counted
+missed_told (AtFault error) settings bits held misses = misses.counted

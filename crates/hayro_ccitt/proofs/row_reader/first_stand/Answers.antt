@@ -10,10 +10,11 @@ use Rattle.hayro_ccitt.specs.Decoding.{gap_said}
 use Rattle.hayro_ccitt.specs.EndOfLine.{all_eols}
 use Rattle.hayro_ccitt.specs.PlainReading.{gap_behind_row, first_line}
 use Rattle.hayro_ccitt.specs.Rows.{changes}
-use Rattle.hayro_ccitt.specs.RowsRead.{IsPaid, Stands, ended}
+use Rattle.hayro_ccitt.specs.RowsRead.{DamageIsCounted, IsPaid, Stands, ended, stand_after}
+use Rattle.hayro_ccitt.specs.declared.row_reader.Stand.TheVariants.{AtLine, AtEnd}
 use Rattle.hayro_ccitt.specs.Ticks.{looked, looked_ahead}
 use Rattle.hayro_ccitt.proofs.Readings.DamageCounted.{first_gap_left}
-use Rattle.hayro_ccitt.proofs.Readings.RowByRow.{first_gap_stands, first_line_stands, no_fault}
+use Rattle.hayro_ccitt.proofs.Readings.RowByRow.{none_damaged, misses_after, first_gap_stands, first_line_stands, no_fault}
 use Rattle.hayro_ccitt.proofs.Work.CallsPaid.{first_gap_paid, first_line_paid}
 use Rattle.hayro_ccitt.proofs.Work.ChangesStored.{changes_white}
 use Rattle.hayro_ccitt.proofs.row_reader.first_stand.Goals as goal
@@ -38,10 +39,21 @@ returns-in-Group4-clause-stands c =
     (omega (arith, c.bit_pos-place.ensures.place, c.bit_pos-place.ensures.within, ap length c.pass_gap-over.ensures.same_bits)) frame c.pass_gap-over.result said
     (IfErr-weaker c.pass_gap-over.result _ _ (λ error code. code.0) c.pass_gap-over.ensures.only_code))
 
-pub returns-in-Group4-clause-none_repaired : goal.returns-in-Group4-clause-none_repaired
-returns-in-Group4-clause-none_repaired c =
-    ap (λ (h : Held). h.repairs.rows) (first_gap_left c.args.ctx.now.held c.pass_gap-over.new.ctx.held (here c.args.reader.now)
-    c.requires.fresh c.pass_gap-over.ensures.held c.pass_gap-over.ensures.missed)
+pub returns-in-Group4-clause-damage : goal.returns-in-Group4-clause-damage
+returns-in-Group4-clause-damage c =
+    let held = c.args.ctx.now.held in
+    let bits = c.args.reader.now.bits in
+    let last = c.pass_gap-over.new.ctx.held in
+    let left = first_gap_left held last (here c.args.reader.now) c.requires.fresh c.pass_gap-over.ensures.held c.pass_gap-over.ensures.missed in
+    subst (λ (s : Stand). DamageIsCounted s held.settings bits last) (sym c.stand_after_gap.ensures)
+    (none_damaged (stand_after c.pass_gap-over.result) held.settings bits last (misses_after c.pass_gap-over.result held.settings bits last)
+    (ap (λ (h : Held). h.taken) left) (ap (λ (h : Held). h.repairs) left))
+
+pub returns-then-settings-eq0-clause-damage : goal.returns-then-settings-eq0-clause-damage
+returns-then-settings-eq0-clause-damage c =
+    let held = c.args.ctx.now.held in
+    none_damaged AtEnd held.settings c.args.reader.now.bits held (λ misses. misses) (ap (λ (h : Held). h.taken) c.requires.fresh)
+    (ap (λ (h : Held). h.repairs) c.requires.fresh)
 
 pub returns-in-Group4-clause-unfailed : goal.returns-in-Group4-clause-unfailed
 returns-in-Group4-clause-unfailed c error is =
@@ -108,7 +120,7 @@ returns-in-Group3_1D c =
     = ap (λ (b : Bits). drop at.place b) (sym c.read_leading_eols.ensures.same_bits) ∙ c.read_leading_eols.ensures.rest ∙ ap (λ (x : Bits). (all_eols x).1) begins in
     record {
       none_taken = ap (λ (h : Held). h.taken) frame;
-      none_repaired = ap (λ (h : Held). h.repairs.rows) frame;
+      damage = none_damaged AtLine settings bits last (λ misses. misses) (ap (λ (h : Held). h.taken) frame) (ap (λ (h : Held). h.repairs) frame);
       settings = ap (λ (h : Held). h.settings) frame;
       same_bits = c.read_leading_eols.ensures.same_bits;
       stands = first_line_stands settings wide bits other last (drop at.place bits) frame rest (omega (arith, length-drop at.place bits));

@@ -9,11 +9,11 @@ use Rattle.hayro_ccitt.specs.Context.{Held, Repairs}
 use Rattle.hayro_ccitt.specs.Decoding.{gap_said}
 use Rattle.hayro_ccitt.specs.PlainReading.{gap_behind_row, failed_at}
 use Rattle.hayro_ccitt.specs.RowsRead.{ComesToLine, Stands, read_so_far, start_after, stand_after}
-use Rattle.hayro_ccitt.specs.RowsRead.{IsStanding, WorkIsPaid, seen}
+use Rattle.hayro_ccitt.specs.RowsRead.{IsStanding, DamageIsCounted, WorkIsPaid, seen}
 use Rattle.hayro_ccitt.specs.Ticks.{looked_ahead, tag_tests}
 use Rattle.hayro_ccitt.specs.Work.{words_of}
 use Rattle.hayro_ccitt.proofs.Readings.DamageCounted.{repaired_behind}
-use Rattle.hayro_ccitt.proofs.Readings.RowByRow.{starts_behind, behind_row_stands, repairs_stay, gap_stands, comes_to_line}
+use Rattle.hayro_ccitt.proofs.Readings.RowByRow.{starts_behind, behind_row_stands, damage_stays, misses_behind_row, misses_passed, misses_after, gap_stands, comes_to_line}
 use Rattle.hayro_ccitt.proofs.Work.CallsPaid.{behind_row_paid, gap_paid}
 use Rattle.hayro_ccitt.proofs.row_reader.RowState.come_to_line.Goals as goal
 use Rattle.hayro_ccitt.proofs.row_reader.RowState.come_to_line.Goals.{After-line_after_gap}
@@ -120,13 +120,19 @@ returns-clause-stands c stands =
     let at = c.pass_gap-over.new.reader in
     let same : last.settings ≡ settings = ap (λ (h : Held). h.settings) c.pass_gap-over.ensures.held in
     let held = c.args.self.now.ctx.held in
-    let counted = repairs_stay settings last.settings c.args.reader.now.bits at.bits held last same c.pass_gap-over.ensures.same_bits
-    (ap (λ (h : Held). h.taken) c.pass_gap-over.ensures.held)
-    (ap (λ (r : Repairs). r.rows) c.pass_gap-over.ensures.missed ∙ (repaired_behind held (here c.args.reader.now)).0) stands.1 in (
+    let bits = c.args.reader.now.bits in
+    let stand = c.args.self.now.stand in
+    let taken = ap (λ (h : Held). h.taken) c.pass_gap-over.ensures.held in
+    let no_line = sym c.is_at_line.ensures ∙ c.if-is_at_line.false in
+    let missed = misses_passed settings bits held (here c.args.reader.now) (behind_row_stands stand settings bits held c.args.reader.now.place c.requires no_line stands.0)
+    (misses_behind_row stand settings bits held c.requires no_line stands.1.misses) last c.pass_gap-over.ensures.missed taken in
+    let counted = damage_stays stand (stand_after c.pass_gap-over.result) settings last.settings bits at.bits held last same c.pass_gap-over.ensures.same_bits taken
+    (ap (λ (r : Repairs). r.rows) c.pass_gap-over.ensures.missed ∙ (repaired_behind held (here c.args.reader.now)).0) stands.1
+    (misses_after c.pass_gap-over.result settings bits last missed) in (
       subst (λ (s : Stand). Stands s last.settings at.bits last at.place) (sym c.stand_after_gap-self.ensures)
           (subst (λ (s : DecodeSettings). Stands (stand_after c.pass_gap-over.result) s at.bits last at.place) (sym same)
           (subst (λ (b : Bits). Stands (stand_after c.pass_gap-over.result) settings b last at.place) (sym c.pass_gap-over.ensures.same_bits) (passed c stands))),
-      counted,
+      subst (λ (s : Stand). DamageIsCounted s last.settings at.bits last) (sym c.stand_after_gap-self.ensures) counted,
       subst (λ (s : Stand). WorkIsPaid s last.settings at.bits last at.place c.pass_gap-over.new.ctx.ticks)
           (sym c.stand_after_gap-self.ensures)
           (subst (λ (s : DecodeSettings). WorkIsPaid (stand_after c.pass_gap-over.result) s at.bits last at.place

@@ -4,15 +4,15 @@ use Rattle.std.proofs.lemmas.List.{length-drop}
 use Rattle.hayro_ccitt.specs.declared.codes.Color.TheVariants.{White}
 use Rattle.hayro_ccitt.specs.declared.settings.DecodeSettings.{DecodeSettings}
 use Rattle.hayro_ccitt.specs.Bits.{Bits, here}
-use Rattle.hayro_ccitt.specs.Context.{Context, Held, redrawn}
+use Rattle.hayro_ccitt.specs.Context.{Context, Held, Repairs, redrawn}
 use Rattle.hayro_ccitt.specs.declared.error.DecodeError.{DecodeError}
 use Rattle.hayro_ccitt.specs.PlainReading.{line_here, row_of_line}
 use Rattle.hayro_ccitt.specs.Rows.{Row, changes}
 use Rattle.hayro_ccitt.specs.RowsRead.{StandsAtLine, StandsBehindRow, HasFailed, damage_since}
-use Rattle.hayro_ccitt.specs.RowsRead.{IsStandingAtLine, WorkIsPaid}
+use Rattle.hayro_ccitt.specs.RowsRead.{IsStandingAtLine, MissesAreCounted, WorkIsPaid}
 use Rattle.hayro_ccitt.specs.Work.{found_here, words_of}
 use Rattle.hayro_ccitt.specs.declared.row_reader.Stand.TheVariants.{BehindRow, AtFault}
-use Rattle.hayro_ccitt.proofs.Readings.RowByRow.{IsRead, at_line_stands, fails_at_line, repairs_stay, is_read, isnt_read}
+use Rattle.hayro_ccitt.proofs.Readings.RowByRow.{IsRead, at_line_stands, fails_at_line, damage_stays, misses_at_line, is_read, isnt_read}
 use Rattle.hayro_ccitt.proofs.Work.CallsPaid.{at_line_paid, failed_most}
 use Rattle.hayro_ccitt.proofs.row_reader.RowState.read_line.Goals as goal
 use Rattle.hayro_ccitt.proofs.row_reader.RowState.read_line.Goals.{After-self-in-Ok-2-1, After-self-in-Err-1}
@@ -68,8 +68,8 @@ row_left c = ap (λ (h : Held). h.reference) c.in-Err.ensures.row.held
     ∙ ap (λ (x : Context). x.held.reference) c.begin_line.ensures.frame
 
 -- what it leaves in the count of repairs
-repairs_left : (c : After-self-in-Err-1) → c.read_row.new.ctx.held.repairs.rows ≡ c.args.self.now.ctx.held.repairs.rows
-repairs_left c = ap (λ (h : Held). h.repairs.rows) c.in-Err.ensures.row.held ∙ ap (λ (x : Context). x.held.repairs.rows) c.begin_line.ensures.frame
+repairs_left : (c : After-self-in-Err-1) → c.read_row.new.ctx.held.repairs ≡ c.args.self.now.ctx.held.repairs
+repairs_left c = ap (λ (h : Held). h.repairs) c.in-Err.ensures.row.held ∙ ap (λ (x : Context). x.held.repairs) c.begin_line.ensures.frame
 
 -- what was counted is paid
 row_is_paid : (c : After-self-in-Ok-2-1) → IsStandingAtLine c.args.self.now c.args.reader.now
@@ -145,11 +145,12 @@ returns-in-Ok-clause-stands c at =
     let bits = c.args.reader.now.bits in
     let new = c.read_row.new.ctx.held in
     let read_bits = c.read_row.new.reader.bits in
-    let counted = at.1.1 in (
+    let counted = at.1.1 in
+    let missed = read.misses (misses_at_line c.args.self.now.stand settings bits c.args.self.now.ctx.held at.0 counted.misses) in (
       subst (λ (s : DecodeSettings). StandsBehindRow s read_bits new (here c.read_row.new.reader)) (sym read.settings_are)
           (subst (λ (b : Bits). StandsBehindRow settings b new (here c.read_row.new.reader)) (sym c.read_row.ensures.same_bits) read.stands),
-      repairs_stay settings new.settings bits read_bits new new read.settings_are c.read_row.ensures.same_bits refl refl
-          (record { few = read.few counted.few; counted = read.counted counted.counted }),
+      damage_stays BehindRow BehindRow settings new.settings bits read_bits new new read.settings_are c.read_row.ensures.same_bits refl refl
+          (record { few = read.few counted.few; counted = read.counted counted.counted; misses = missed }) missed,
       subst (λ (s : DecodeSettings). WorkIsPaid BehindRow s read_bits new c.read_row.new.reader.place c.read_row.new.ctx.ticks)
           (sym read.settings_are)
           (subst (λ (b : Bits). WorkIsPaid BehindRow settings b new c.read_row.new.reader.place c.read_row.new.ctx.ticks)
@@ -164,7 +165,10 @@ returns-in-Err-clause-stands c at =
     let read_bits = c.read_row.new.reader.bits in (
       subst (λ (s : DecodeSettings). HasFailed s read_bits new.taken c.in-Err.error) (sym (settings_left c))
           (subst (λ (b : Bits). HasFailed held.settings b new.taken c.in-Err.error) (sym c.read_row.ensures.same_bits) (row_was_not_read c at)),
-      repairs_stay held.settings new.settings bits read_bits held new (settings_left c) c.read_row.ensures.same_bits (taken_left c) (repairs_left c) at.1.1,
+      damage_stays c.args.self.now.stand (AtFault c.in-Err.error) held.settings new.settings bits read_bits held new (settings_left c) c.read_row.ensures.same_bits (taken_left c)
+          (ap (λ (r : Repairs). r.rows) (repairs_left c)) at.1.1
+          (subst (MissesAreCounted held.settings bits new.repairs) (sym (taken_left c))
+          (subst (λ (r : Repairs). MissesAreCounted held.settings bits r held.taken) (sym (repairs_left c)) (misses_at_line c.args.self.now.stand held.settings bits held at.0 at.1.1.misses))),
       subst (λ (s : DecodeSettings). WorkIsPaid (AtFault c.in-Err.error) s read_bits new c.read_row.new.reader.place
           c.read_row.new.ctx.ticks) (sym (settings_left c))
           (subst (λ (b : Bits). WorkIsPaid (AtFault c.in-Err.error) held.settings b new c.read_row.new.reader.place
