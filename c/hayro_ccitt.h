@@ -128,8 +128,9 @@ typedef struct {
     uint64_t bytes_read;   /* the bytes consumed so far; after HAYRO_CCITT_NO_ROW, those of the image */
     uint64_t damaged_rows; /* the number of rows read so far whose line was damaged and repaired */
     uint64_t damage;       /* the status of the fault of the last row if its line was damaged and repaired; else 0 */
-    uint64_t reserved_1;   /* 0 */
-    uint64_t reserved_2;   /* 0 */
+    uint64_t missed_eols;  /* the number of rows read so far, not repaired, after which other bits were passed up to the next EOL, or
+                            * none was left: of the last row it is known after the next call */
+    uint64_t reserved;     /* 0 */
 } hayro_ccitt_row;
 
 /* Opens a reader before the first row. Unless it returns HAYRO_CCITT_OK, the reader stays as it is. HAYRO_CCITT_NOT_TAKEN also

@@ -20,7 +20,7 @@ class Reader(ctypes.Structure):
 class Row(ctypes.Structure):
     _fields_ = [
         (name, ctypes.c_uint64)
-        for name in ("rows", "changes", "line_start", "bytes_read", "damaged_rows", "damage", "reserved_1", "reserved_2")
+        for name in ("rows", "changes", "line_start", "bytes_read", "damaged_rows", "damage", "missed_eols", "reserved")
     ]
 
 

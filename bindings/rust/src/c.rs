@@ -88,7 +88,8 @@ pub(crate) struct Row {
     pub(crate) bytes_read: u64,
     pub(crate) damaged_rows: u64,
     pub(crate) damage: u64,
-    reserved: [u64; 2],
+    pub(crate) missed_eols: u64,
+    reserved: u64,
 }
 
 /// `hayro_ccitt_reader`.

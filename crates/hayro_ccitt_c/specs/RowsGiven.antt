@@ -70,8 +70,8 @@ told_nothing = record {
   bytes_read = 0;
   damaged_rows = 0;
   damage = 0;
-  reserved_1 = 0;
-  reserved_2 = 0;
+  missed_eols = 0;
+  reserved = 0;
 }
 
 -- the status of the fault of a row that was repaired, 0 for one that was whole
@@ -80,7 +80,7 @@ damage_told None = 0
 damage_told (Some error) = status_of_row (Err error)
 
 -- What C gets of a reading: the number of rows read, the number of changes of the last one, the offset of its line, the bytes
--- consumed so far, the number of repaired rows, and the fault of the last one.
+-- consumed so far, the number of repaired rows, the fault of the last one, and the number of missed EOLs.
 pub record TellsOf (paused : Paused) (told : RowOutcome) : Type 0 where
   pub rows : told.rows ≡ paused.held.taken
   pub changes : told.changes ≡ length (changes paused.held.reference)
@@ -88,6 +88,7 @@ pub record TellsOf (paused : Paused) (told : RowOutcome) : Type 0 where
   pub bytes_read : told.bytes_read ≡ (paused.place + 7) / 8
   pub damaged_rows : told.damaged_rows ≡ paused.held.repairs.rows
   pub damage : told.damage ≡ damage_told paused.damage
+  pub missed_eols : told.missed_eols ≡ paused.held.repairs.missed
 
 -- A reading of these bits by these settings before the first row.
 pub record IsOpened (settings : DecodeSettings) (bits : Bits) (order : BitOrder) (opened : Reading) : Type 0 where

@@ -23,10 +23,10 @@ pub struct RowOutcome {
     pub damaged_rows: u64,
     /// The status of the fault of the last row if it was damaged and repaired, else 0.
     pub damage: u64,
+    /// The number of rows read so far after which the EOL was missed: of the last one it is known after the next call.
+    pub missed_eols: u64,
     /// Zero.
-    pub reserved_1: u64,
-    /// Zero.
-    pub reserved_2: u64,
+    pub reserved: u64,
 }
 
 /// Returns an outcome of zeros.
@@ -40,8 +40,8 @@ pub(crate) fn nothing_told() -> RowOutcome
         bytes_read: 0,
         damaged_rows: 0,
         damage: 0,
-        reserved_1: 0,
-        reserved_2: 0,
+        missed_eols: 0,
+        reserved: 0,
     }
 }
 
@@ -66,7 +66,7 @@ pub(crate) fn told_of(reading: &Reading) -> RowOutcome
         bytes_read: reading.rows.bytes_read() as u64,
         damaged_rows: reading.rows.damaged_rows(),
         damage: damage_told(reading.rows.damage()),
-        reserved_1: 0,
-        reserved_2: 0,
+        missed_eols: reading.rows.missed_eols(),
+        reserved: 0,
     }
 }
