@@ -16,7 +16,7 @@ use Rattle.hayro_ccitt.specs.Locality.{IsEolAt, EndAlike}
 use Rattle.hayro_ccitt.specs.LocalityByK.{IsTaggedBody, ComeBefore1D, RowsDiffer, SameBut}
 use Rattle.hayro_ccitt.specs.PlainReading.{plain}
 use Rattle.hayro_ccitt.specs.Settings.{AreSettings}
-use Rattle.hayro_ccitt.proofs.DamagedLines.DamageByK.{locality_by_k, eol_before as eol_here}
+use Rattle.hayro_ccitt.proofs.DamagedLines.DamageByK.{locality_by_k, encoded_follows, eol_before as eol_here}
 use Rattle.hayro_ccitt.proofs.DamagedLines.EncodedBodies.{encoded_lines_are_bodies}
 use Rattle.hayro_ccitt.proofs.DamagedLines.LineTails.{drop_at}
 use Rattle.hayro_ccitt.proofs.EncodedPictures.PicturesT4.{eol_stands, eols_here_two, six_tagged, eol_before}
@@ -99,7 +99,8 @@ module _ (d : DecodeSettings) (columns k : ℕ) (wide : 0 < columns) (small : co
   two_dimensional : (fill n : ℕ) (reference row : Row) (next : Bits) → length reference ≡ length row → ComeBefore1D d n next
       → ComeBefore1D d (suc n) (eol fill ++ ((false ∷ chosen_line_2d reference row) ++ next))
   two_dimensional fill n reference row next same given =
-      (reference, row, chosen_line_2d reference row, next, line_2d_encodes reference row same, eol_stands fill _, given)
+      encoded_follows d encoding n reference row (chosen_line_2d reference row) next
+      (eol fill ++ ((false ∷ chosen_line_2d reference row) ++ next)) (line_2d_encodes reference row same) given (eol_stands fill _)
 
   -- a line is two-dimensional only if one may be
   may_be : (left : ℕ) (reference row : Row) → is_two_dimensional left reference row ≡ true → 0 < left
@@ -298,7 +299,7 @@ module _ (k : ℕ) (fills aligned : Bool) (order : BitOrder) (columns : ℕ) (be
       (encoded_lines_are_bodies d (white_row columns) so_far.last row before so_far.lines line next fill are refl refl
       (picture.0, All-cons (λ row. length row ≡ columns) row before width widths.0) lines_before
       (line_encodes Group3_2D so_far.left so_far.last row (last_is_wide ∙ sym width) (omega (arith, width, picture.0)))
-      (eol_here d refl refl follow.0 next follow.2)))
+      (eol_here d refl follow.0 next follow.2)))
 
   next_on : drop (line_end settings columns before row) one ≡ next
   next_on = drop_at one ((so_far.lines ++ eol fill) ++ line) next (line_end settings columns before row)

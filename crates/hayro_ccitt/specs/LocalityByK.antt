@@ -1,17 +1,22 @@
 -- Two-dimensional lenient data of Group 3 with EOLs: damage ends at the next one-dimensional line.
-use Rattle.std.specs.Prelude.{◌≡◌, ℕ, zero, suc, ◌+◌, ◌<◌, ◌≤◌, ◌⊎◌, Some, Result, true, false, List, [], ◌∷◌, ◌++◌, length, take, drop}
+use Rattle.std.specs.Prelude.{◌≡◌, ℕ, ℤ, zero, suc, ◌+◌, ◌<◌, ◌≤◌, ◌⊎◌, Some, None, Result, Ok, true, false, List, [], ◌∷◌, ◌++◌, length, take, drop}
+use Rattle.hayro_ccitt.specs.declared.codes.Color.{Color}
 use Rattle.hayro_ccitt.specs.declared.codes.Color.TheVariants.{White}
+use Rattle.hayro_ccitt.specs.declared.codes.Mode.TheVariants.{Pass, Horizontal, Vertical}
 use Rattle.hayro_ccitt.specs.declared.error.DecodeError.{DecodeError}
 use Rattle.hayro_ccitt.specs.declared.settings.EncodingMode.TheVariants.{Group3_2D}
 use Rattle.hayro_ccitt.specs.declared.settings.DecodeSettings.{DecodeSettings}
 use Rattle.hayro_ccitt.specs.Bits.{Bits, AreWholeBytes, IsPrefix}
-use Rattle.hayro_ccitt.specs.Encodings.{EncodesLine, EncodesLine2D, EncodesRowsWithEols, IsPicture, eol}
-use Rattle.hayro_ccitt.specs.EndOfLine.{after_eol, eols_with_tags, tagged_eols}
+use Rattle.hayro_ccitt.specs.CodeLists.{mode_codes}
+use Rattle.hayro_ccitt.specs.CodeReading.{read_code}
+use Rattle.hayro_ccitt.specs.Encodings.{EncodesLine, EncodesRowsWithEols, IsPicture, eol}
+use Rattle.hayro_ccitt.specs.EndOfLine.{after_eol, next_eol, eols_with_tags, tagged_eols}
 use Rattle.hayro_ccitt.specs.Lines.{Line}
 use Rattle.hayro_ccitt.specs.Locality.{IsEol, IsEolAt, ComesToLine, EndAlike}
 use Rattle.hayro_ccitt.specs.PlainReading.{Progress, first_line, move_on, line_of_turn, plain}
 use Rattle.hayro_ccitt.specs.Repetition.{Reaches}
-use Rattle.hayro_ccitt.specs.Rows.{Row}
+use Rattle.hayro_ccitt.specs.Rows.{Row, opposite}
+use Rattle.hayro_ccitt.specs.Runs.{read_run}
 use Rattle.hayro_ccitt.specs.Settings.{AreSettings}
 
 -- ---- the line that may be damaged
@@ -49,12 +54,36 @@ ComesBefore1D settings here = IsEolAt here
     × (((settings.end_of_block ≡ true) × (6 ≤ (tagged_eols here).0))
     ⊎ (((line : Bits) × ((tagged_eols here).1 ≡ true ∷ line)) ⊎ ((tagged_eols here).1 ≡ [])))
 
--- here are as many two-dimensional lines of an encoding, an EOL before each and behind the last, which comes before a
--- one-dimensional line, RTC or the end (T.4, 4.2)
+-- modes that are read in a line of this colour, each with the runs of a horizontal one, and what follows them; none needs
+-- the reference row (T.4, 4.2.1.3)
+pub data ReadsModes : Color → Bits → Bits → Type 0 where
+  over : {color : Color} {here : Bits} → ReadsModes color here here
+  pass : (rest : Bits) {color : Color} {here last : Bits} → read_code mode_codes here ≡ Ok (Pass, rest)
+      → ReadsModes color rest last → ReadsModes color here last
+  vertical : (k : ℤ) (rest : Bits) {color : Color} {here last : Bits} → read_code mode_codes here ≡ Ok (Vertical k, rest)
+      → ReadsModes (opposite color) rest last → ReadsModes color here last
+  horizontal : (n m : ℕ) (first second rest : Bits) {color : Color} {here last : Bits}
+      → read_code mode_codes here ≡ Ok (Horizontal, first) → read_run color first ≡ Ok (n, second)
+      → read_run (opposite color) second ≡ Ok (m, rest) → ReadsModes color rest last → ReadsModes color here last
+
+-- the modes of a line, with their runs, as many as can be read, end before the last twelve bits of an EOL; `after` is what
+-- follows that EOL (T.4, 4.1.2 and 4.2.1.3)
+abbrev pub ModesEndBefore : Bits → Bits → Type 0
+ModesEndBefore after line = (rest : Bits) → ReadsModes White line rest → length after + 12 ≤ length rest
+
+-- Here is a two-dimensional line, behind its tag of zero: no EOL is at the tag, and the modes of the line end before the
+-- last twelve bits of the next EOL, so that it ends there whatever row it is read against (T.4, 4.1.2 and 4.2).
+pub record IsLine2D (line next : Bits) : Type 0 where
+  pub no_eol : after_eol 0 (false ∷ line) ≡ None
+  pub next_is : next_eol (false ∷ line) ≡ Some next
+  pub ends : (after : Bits) × (after_eol 0 next ≡ Some after) × ModesEndBefore after line
+
+-- here are as many two-dimensional lines, an EOL before each and behind the last, which comes before a one-dimensional
+-- line, RTC or the end (T.4, 4.2)
 abbrev pub ComeBefore1D : DecodeSettings → ℕ → Bits → Type 0
 ComeBefore1D settings zero here = ComesBefore1D settings here
-ComeBefore1D settings (suc lines) here = (reference row : Row) × (line next : Bits) × EncodesLine2D reference row 0 White line
-    × (after_eol 0 here ≡ Some (false ∷ line ++ next)) × ComeBefore1D settings lines next
+ComeBefore1D settings (suc lines) here = (line next : Bits) × (after_eol 0 here ≡ Some (false ∷ line)) × IsLine2D line next
+    × ComeBefore1D settings lines next
 
 -- ---- damage ends at the next one-dimensional line
 

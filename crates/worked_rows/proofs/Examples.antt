@@ -9,6 +9,7 @@ use Rattle.hayro_ccitt.specs.Rows.{Row, pixels, white_row}
 use Rattle.hayro_ccitt.specs.Lines.{Line}
 use Rattle.hayro_ccitt.specs.Encodings.{Spells, EncodesLine1D, EncodesLine2D, IsPicture, eol}
 use Rattle.hayro_ccitt.specs.LocalityByK.{IsTaggedBody}
+use Rattle.hayro_ccitt.proofs.DamagedLines.DamageByK.{encoded_follows}
 use Rattle.hayro_ccitt.proofs.DamagedLines.EncodedBodies.{encoded_lines_are_bodies}
 use Rattle.worked_rows.specs.Examples.{hex, EncodesTwoLines, EncodesTaggedRows, with_eols, three_rows, bits_changed, bits_added, words_added, group3_1d, HaveLocalBodies, ReadsDamage, LimitBehindTheBody, OneLineFollows, OneLineDiffers, ReadsDamageByK, with_tags, four_rows}
 use Rattle.hayro_ccitt.specs.Locality.{IsLocal, IsLocalByTests, ComesToLine, EndAlike}
@@ -216,17 +217,13 @@ limit_behind rows count count2 (EndAlike.at_limit index place place2 n n2 comes 
 -- ---- Locality in two dimensions
 
 pub one_line_follows : OneLineFollows
-one_line_follows = (
-  pixels 8 (3 ∷ 5 ∷ []),
-  pixels 8 (3 ∷ 5 ∷ []),
-  true ∷ true ∷ true ∷ [],
-  _,
-  EncodesLine2D.vertical 0 (true ∷ []) (pos 0) (omega arith) (inr (inr (inl (refl, refl)))) refl
-      (EncodesLine2D.vertical 4 (true ∷ []) (pos 0) (omega arith) (inr (inr (inl (refl, refl)))) refl
-      (EncodesLine2D.vertical 6 (true ∷ []) (pos 0) (omega arith) (inr (inr (inl (refl, refl)))) refl EncodesLine2D.over)),
-  refl,
-  ((_, refl), inr (inl (_, refl))),
-)
+one_line_follows =
+    encoded_follows with_tags refl 0 (pixels 8 (3 ∷ 5 ∷ [])) (pixels 8 (3 ∷ 5 ∷ [])) (true ∷ true ∷ true ∷ [])
+    (drop 57 (bits_of (hex four_rows))) (drop 41 (bits_of (hex four_rows)))
+    (EncodesLine2D.vertical 0 (true ∷ []) (pos 0) (omega arith) (inr (inr (inl (refl, refl)))) refl
+    (EncodesLine2D.vertical 4 (true ∷ []) (pos 0) (omega arith) (inr (inr (inl (refl, refl)))) refl
+    (EncodesLine2D.vertical 6 (true ∷ []) (pos 0) (omega arith) (inr (inr (inl (refl, refl)))) refl EncodesLine2D.over)))
+    ((_, refl), inr (inl (_, refl))) refl
 
 -- the first line with its EOL, and the bits from the third one's EOL on
 abbrev first_line_of : Bits

@@ -1,8 +1,7 @@
--- A two-dimensional line of an encoding, read against any reference row: it ends at a word or is broken, and the next EOL
--- is the one behind it.
-use Rattle.std.proofs.Common.{◌≡◌, ℕ, suc, ◌+◌, ◌-◌, ◌≤◌, Bool, true, false, cond, leb, [], ◌∷◌, ◌++◌, length, replicate}
+-- A two-dimensional line, read against any reference row: it ends behind one of its modes or is broken, so that the next
+-- EOL is the one behind it.
+use Rattle.std.proofs.Common.{◌≡◌, ℕ, suc, ◌+◌, ◌-◌, ◌≤◌, Bool, true, false, [], ◌∷◌, ◌++◌, length, replicate}
 use Rattle.std.proofs.Common.{Some, None, Result, Ok, Err, refl, sym, ap, subst, ◌∙◌, append_assoc, arith, ◌⊎◌, inl, inr}
-use Rattle.std.specs.Prelude.{pos, ◌+ℤ◌}
 use Rattle.std.proofs.lemmas.Bool.{cases_lt, lt-ltb, le-ltb, lt-leb}
 use Rattle.std.proofs.lemmas.List.{length-append, replicate-append-replicate}
 use Rattle.hayro_ccitt.specs.declared.codes.Color.{Color}
@@ -10,14 +9,14 @@ use Rattle.hayro_ccitt.specs.declared.codes.Color.TheVariants.{White}
 use Rattle.hayro_ccitt.specs.declared.codes.Mode.{Mode}
 use Rattle.hayro_ccitt.specs.declared.codes.Mode.TheVariants.{Pass, Horizontal, Vertical}
 use Rattle.hayro_ccitt.specs.declared.error.DecodeError.{DecodeError}
-use Rattle.hayro_ccitt.specs.declared.error.DecodeError.TheVariants.{Overflow}
+use Rattle.hayro_ccitt.specs.declared.error.DecodeError.TheVariants.{UnexpectedEof, InvalidCode, Overflow}
 use Rattle.hayro_ccitt.specs.Bits.{Bits}
 use Rattle.hayro_ccitt.specs.CodeLists.{mode_codes}
 use Rattle.hayro_ccitt.specs.CodeReading.{Has, read_code}
 use Rattle.hayro_ccitt.specs.Repetition.{Turn}
-use Rattle.hayro_ccitt.specs.Rows.{Row, opposite, right_of, b1, paint}
-use Rattle.hayro_ccitt.specs.Runs.{codes_of, run_from}
-use Rattle.hayro_ccitt.specs.Lines.{Line, Pen, line_2d, place_from}
+use Rattle.hayro_ccitt.specs.Rows.{Row, opposite, paint}
+use Rattle.hayro_ccitt.specs.Runs.{codes_of, run_from, read_run}
+use Rattle.hayro_ccitt.specs.Lines.{Line, Pen, start, line_2d}
 use Rattle.hayro_ccitt.specs.PlainReading.{line_by, line_here}
 use Rattle.hayro_ccitt.specs.declared.settings.EncodingMode.{EncodingMode}
 use Rattle.hayro_ccitt.specs.declared.settings.EncodingMode.TheVariants.{Group3_2D}
@@ -25,15 +24,15 @@ use Rattle.hayro_ccitt.specs.declared.settings.DecodeSettings.{DecodeSettings}
 use Rattle.hayro_ccitt.specs.Answers.{Step}
 use Rattle.hayro_ccitt.specs.Encodings.{Spells, EncodesLine2D}
 use Rattle.hayro_ccitt.specs.EndOfLine.{after_eol}
-use Rattle.hayro_ccitt.proofs.Readings.Repeated.{after_turn}
-use Rattle.hayro_ccitt.proofs.DrawingLines.Drawings.{try, run_then, mode_step, drawn_by, step_2d, step_2d_is, horizontal_is}
-use Rattle.hayro_ccitt.proofs.DrawingLines.ReadLines.{drawn2}
+use Rattle.hayro_ccitt.specs.LocalityByK.{ReadsModes}
+use Rattle.hayro_ccitt.proofs.Readings.Repeated.{repeated_keeps}
+use Rattle.hayro_ccitt.proofs.DrawingLines.Drawings.{try, run_then, mode_step, step_2d, step_2d_is, horizontal_is}
+use Rattle.hayro_ccitt.proofs.DrawingLines.ReadLines.{next_is, try_next, unless_full_next, try_goes_on, draw_mode_goes_on, full_by}
 use Rattle.hayro_ccitt.proofs.CodeWords.ReadCodes.{read_code_again}
 use Rattle.hayro_ccitt.proofs.CodeWords.ReadRuns.{run_passes, run_ends, run_goes_on}
 use Rattle.hayro_ccitt.proofs.BitReading.ZerosInWords.{scan, is_quiet, scan_below, scan-append, quiet_is, word_quiet, codes_free, modes_free}
 use Rattle.hayro_ccitt.proofs.DamagedLines.PastEol.{past}
-use Rattle.hayro_ccitt.proofs.DamagedLines.LineTails.{past_before, after_eol_is}
-use Rattle.hayro_ccitt.proofs.DamagedLines.SoughtTurns.{rest_of}
+use Rattle.hayro_ccitt.proofs.DamagedLines.LineTails.{after_eol_is}
 use Rattle.std.proofs.lemmas.Grind.{common_steps}
 
 -- ---- Words contain no EOL
@@ -110,157 +109,210 @@ spelled color n bits total more (Spells.makeup m word {n = k} {bits = next} has 
 twice : (color : Color) → opposite (opposite color) ≡ color
 twice color = grind (arith, common_steps)
 
--- ---- The line
-module _ (columns : ℕ) (other : Row) (after : Bits) where
-  -- the EOL behind the line, from its zeros on
-  abbrev tail : Bits
-  tail = replicate 11 false ++ after
+not_both : {A : Type 0} (r : Result A DecodeError) (x : A) (fault : DecodeError) → r ≡ Ok x → r ≡ Err fault → ⊥
+not_both {A} r x fault e f = let both : ◌≡◌ {A = Result A DecodeError} (Ok x) (Err fault) = sym e ∙ f in cc
 
-  -- a whole line ends among its words
-  abbrev Ahead : Line → Type 0
-  Ahead (Line.whole row rest) = (more : Bits) × Quiet more × (rest ≡ more ++ tail)
-  Ahead (Line.broken front fault) = Unit {0}
+same_rest : (r : Result (ℕ × Bits) DecodeError) (m n : ℕ) (rest more : Bits) → r ≡ Ok (m, rest) → r ≡ Ok (n, more) → rest ≡ more
+same_rest r m n rest more e f =
+    let both : ◌≡◌ {A = Result (ℕ × Bits) DecodeError} (Ok (m, rest)) (Ok (n, more)) = sym e ∙ f in
+    let found : (m, rest) ≡ (n, more) = cc in
+    ap (λ (x : ℕ × Bits). x.1) found
 
-  abbrev goes : Step → Line
-  goes = after_turn (drawn_by (step_2d false columns other))
+-- so what follows it is what is read behind a run
+run_behind : (color : Color) (n m : ℕ) (word more rest : Bits) → Spells color n word → read_run color (word ++ more) ≡ Ok (m, rest)
+    → rest ≡ more
+run_behind color n m word more rest spells e = elim (spelled color n word 0 more spells) [
+  | inl f ↦ same_rest _ m (0 + n) rest more e f
+  | inr f ↦ absurd (not_both _ (m, rest) f.0 e f.1)
+]
 
-  abbrev pen_at : Row → Color → Bits → Pen
-  pen_at front color rest = record { front = front; color = color; rest = rest }
+-- ---- Modes that are read
 
-  -- a mode is read and drawn
-  abbrev mode_read : Row → Color → Bits → Step
-  mode_read front color here = try front (read_code mode_codes here)
-      (λ mode. mode_step false columns other (pen_at front color mode.1) mode.0)
+-- what is read behind a mode
+abbrev pub Behind : Color → Bits → Bits → Mode → Type 0
+Behind color rest last Pass = ReadsModes color rest last
+Behind color rest last (Vertical k) = ReadsModes (opposite color) rest last
+Behind color rest last Horizontal = (n m : ℕ) × (second more : Bits) × (read_run color rest ≡ Ok (n, second))
+    × (read_run (opposite color) second ≡ Ok (m, more)) × ReadsModes color more last
 
-  -- unless the row is full
-  by_step : (front : Row) (color : Color) (bits : Bits) → Quiet bits → Ahead (goes (mode_read front color (bits ++ tail)))
-      → Ahead (drawn_by (step_2d false columns other) (pen_at front color (bits ++ tail)))
-  by_step front color bits quiet on =
-      rw (
-        drawn2 false columns other (pen_at front color (bits ++ tail)),
-        step_2d_is false columns other
-            (pen_at front color (bits ++ tail)),
-      )
-      (by (leb columns (length front)))
-    where
-      by : (full : Bool) → Ahead (goes (cond full (Turn.done (Line.whole front (bits ++ tail)))
-          (mode_read front color (bits ++ tail))))
-      by true = (bits, quiet, refl)
-      by false = on
+same_mode : (color : Color) (here last : Bits) (one two : Mode × Bits) → read_code mode_codes here ≡ Ok one
+    → read_code mode_codes here ≡ Ok two → Behind color one.1 last one.0 → Behind color two.1 last two.0
+same_mode color here last one two e f =
+    let both : ◌≡◌ {A = Result (Mode × Bits) DecodeError} (Ok one) (Ok two) = sym e ∙ f in
+    let same : one ≡ two = cc in
+    λ behind. subst (λ (x : Mode × Bits). Behind color x.1 last x.0) same behind
 
-  mode_is : (front : Row) (color : Color) (mode : Mode) (word next : Bits) → Has mode_codes mode word
-      → mode_read front color ((word ++ next) ++ tail) ≡ mode_step false columns other (pen_at front color (next ++ tail)) mode
-  mode_is front color mode word next has =
-      ap (λ (r : Result (Mode × Bits) DecodeError). try front r
-      (λ mode. mode_step false columns other (pen_at front color mode.1) mode.0))
-      (ap (read_code mode_codes) (append_assoc word next tail)
-      ∙ read_code_again mode_codes mode word (next ++ tail) modes_free has)
+-- none is read, or the one that is here
+pub behind_mode : (color : Color) (here last : Bits) (mode : Mode) (rest : Bits) → ReadsModes color here last
+    → read_code mode_codes here ≡ Ok (mode, rest) → (last ≡ here) ⊎ Behind color rest last mode
+behind_mode color here last mode rest ReadsModes.over e = inl refl
+behind_mode color here last mode rest (ReadsModes.pass after read more) e =
+    inr (same_mode color here last (Pass, after) (mode, rest) read e more)
+behind_mode color here last mode rest (ReadsModes.vertical k after read more) e =
+    inr (same_mode color here last (Vertical k, after) (mode, rest) read e more)
+behind_mode color here last mode rest (ReadsModes.horizontal n m first second after read run1 run2 more) e =
+    inr (same_mode color here last (Horizontal, first) (mode, rest) read e (n, m, second, after, run1, run2, more))
 
-  -- a run is read and painted, or broken
-  run_ahead : (front : Row) (color : Color) (n : ℕ) (word rest : Bits) (behind : Pen → Step) → Spells color n word
-      → ((more : Row) → Ahead (goes (behind (pen_at more (opposite color) rest))))
-      → Ahead (goes (run_then false columns (pen_at front color (word ++ rest)) behind))
-  run_ahead front color n word rest behind spells on = elim (spelled color n word 0 rest spells) [
-    | inl e ↦ rw e (on _)
-    | inr e ↦ rw e.1 tt
-  ]
+-- where there is no mode none is read
+pub no_mode : (color : Color) (here last : Bits) (fault : DecodeError) → ReadsModes color here last
+    → read_code mode_codes here ≡ Err fault → last ≡ here
+no_mode color here last fault ReadsModes.over e = refl
+no_mode color here last fault (ReadsModes.pass after read more) e = absurd (not_both _ _ fault read e)
+no_mode color here last fault (ReadsModes.vertical k after read more) e = absurd (not_both _ _ fault read e)
+no_mode color here last fault (ReadsModes.horizontal n m first second after read run1 run2 more) e = absurd
+    (not_both _ _ fault read e)
 
-  -- so are the two of a horizontal mode
-  two_runs : (front : Row) (color : Color) (n m : ℕ) (run1 run2 rest : Bits) → Spells color n run1
-      → Spells (opposite color) m run2
-      → ((more : Row) → Ahead (drawn_by (step_2d false columns other) (pen_at more color rest)))
-      → Ahead (goes (mode_step false columns other (pen_at front color (run1 ++ (run2 ++ rest))) Horizontal))
-  two_runs front color n m run1 run2 rest spells1 spells2 on =
-      subst (λ (step : Step). Ahead (goes step)) (horizontal_is false columns other (pen_at front color (run1 ++ (run2 ++ rest))))
-      (run_ahead front color n run1 (run2 ++ rest) (λ p. run_then false columns p Turn.next) spells1 (λ more.
-      run_ahead more (opposite color) m run2 rest Turn.next spells2 (λ last.
-      subst (λ (c : Color). Ahead (drawn_by (step_2d false columns other) (pen_at last c rest))) (sym (twice color)) (on last))))
+-- ---- A whole line ends behind modes that are read
+abbrev pen_at : Row → Color → Bits → Pen
+pen_at front color rest = record { front = front; color = color; rest = rest }
 
-  -- a position is painted up to, or the line is broken
-  placed : (front : Row) (color : Color) (rest : Bits) (r : Result ℕ DecodeError)
-      → ((more : Row) → Ahead (drawn_by (step_2d false columns other) (pen_at more (opposite color) rest)))
-      → Ahead (goes (try front r (λ place. try front (paint false columns front color (place - length front))
-      (λ more. Turn.next (pen_at more (opposite color) rest)))))
-  placed front color rest (Ok place) on = on _
-  placed front color rest (Err fault) on = tt
+-- a run that was drawn was read
+run_on : (strict : Bool) (columns : ℕ) (pen : Pen) (f : Pen → Step) (t : Pen) → run_then strict columns pen f ≡ Turn.next t
+    → (n : ℕ) × (front : Row) × (rest : Bits) × (read_run pen.color pen.rest ≡ Ok (n, rest))
+    × (f (pen_at front (opposite pen.color) rest) ≡ Turn.next t)
+run_on strict columns pen f t e =
+    let a = try_next pen.front (run_from pen.color (0, pen.rest))
+    (λ run. try pen.front (paint strict columns pen.front pen.color run.0)
+    (λ front. f (pen_at front (opposite pen.color) run.1))) t e in
+    let b = try_next pen.front (paint strict columns pen.front pen.color a.0.0)
+    (λ front. f (pen_at front (opposite pen.color) a.0.1)) t a.2 in
+    (a.0.0, b.0, a.0.1, a.1, b.2)
 
-  -- from any front on
-  line_from : (reference row : Row) (from : ℕ) (front : Row) (color : Color) (bits : Bits)
-      → EncodesLine2D reference row from color bits
-      → Ahead (drawn_by (step_2d false columns other) (pen_at front color (bits ++ tail)))
-  line_from reference row from front color bits EncodesLine2D.over = by_step front color []
-      (quiet_line reference row from color [] EncodesLine2D.over) tt
-  line_from reference row from front color bits (EncodesLine2D.pass from2 word {bits = next} inside has left_of steps) =
-      by_step front color (word ++ next) (quiet_line reference row from color bits
-      (EncodesLine2D.pass from2 word {bits = next} inside has left_of steps))
-      (rw (mode_is front color Pass word next has) (line_from reference row _ _ color next steps))
-  line_from reference row from front color bits (EncodesLine2D.vertical from2 word k {bits = next} inside has exact steps) =
-      by_step front color (word ++ next) (quiet_line reference row from color bits
-      (EncodesLine2D.vertical from2 word k {bits = next} inside has exact steps))
-      (rw (mode_is front color (Vertical k) word next has)
-      (placed front color (next ++ tail) (place_from (length front) (pos (b1 other (right_of front) color) +ℤ k))
-      (λ more. line_from reference row _ more (opposite color) next steps)))
-  line_from reference row from front color bits
-      (EncodesLine2D.horizontal from2 word {first = run1} {second = run2} {bits = next} inside has spells1 spells2 steps) =
-      by_step front color (word ++ (run1 ++ (run2 ++ next)))
-      (quiet_line reference row from color bits
-      (EncodesLine2D.horizontal from2 word {first = run1} {second = run2} {bits = next} inside has spells1 spells2 steps))
-      (rw (mode_is front color Horizontal word (run1 ++ (run2 ++ next)) has)
-      (subst (λ (b : Bits). Ahead (goes (mode_step false columns other (pen_at front color b) Horizontal)))
-      (sym (append_assoc run1 (run2 ++ next) tail ∙ ap (λ (b : Bits). run1 ++ b) (append_assoc run2 next tail)))
-      (two_runs front color _ _ run1 run2 (next ++ tail) spells1 spells2
-      (λ more. line_from reference row _ more color next steps))))
+module _ (strict : Bool) (columns : ℕ) (other : Row) where
+  abbrev reads_at : Pen → Bits → Type 0
+  reads_at pen last = ReadsModes pen.color pen.rest last
 
--- Whatever row it is read against, it ends at a word or is broken.
-line_ahead : (columns : ℕ) (other reference row : Row) (bits after : Bits) → EncodesLine2D reference row 0 White bits
-    → Ahead columns other after (line_2d false columns other (bits ++ (replicate 11 false ++ after)))
-line_ahead columns other reference row bits after encodes = line_from columns other after reference row 0 [] White bits encodes
+  -- a mode that was drawn was read
+  mode_on : (front : Row) (color : Color) (here last : Bits) (mode : Mode) (rest : Bits) (t : Pen)
+      → read_code mode_codes here ≡ Ok (mode, rest)
+      → mode_step strict columns other (pen_at front color rest) mode ≡ Turn.next t → reads_at t last → ReadsModes color here last
+  mode_on front color here last Pass rest t read e reads =
+      let a = try_next front _ (λ more. Turn.next (pen_at more color rest)) t e in
+      ReadsModes.pass rest read (subst (λ (p : Pen). reads_at p last) {y = pen_at a.0 color rest} (sym (next_is _ t a.2)) reads)
+  mode_on front color here last (Vertical k) rest t read e reads =
+      let a = try_next front _ (λ place. try front (paint strict columns front color (place - length front))
+      (λ more. Turn.next (pen_at more (opposite color) rest))) t e in
+      let b = try_next front _ (λ more. Turn.next (pen_at more (opposite color) rest)) t a.2 in
+      ReadsModes.vertical k rest read (subst (λ (p : Pen). reads_at p last) {y = pen_at b.0 (opposite color) rest} (sym (next_is _ t b.2)) reads)
+  mode_on front color here last Horizontal rest t read e reads =
+      let one = run_on strict columns (pen_at front color rest) (λ p. run_then strict columns p Turn.next) t
+      (horizontal_is strict columns other (pen_at front color rest) ∙ e) in
+      let two = run_on strict columns (pen_at one.1 (opposite color) one.2) Turn.next t one.4 in
+      ReadsModes.horizontal one.0 two.0 rest one.2 two.2 read one.3 two.3
+      (subst (λ (c : Color). ReadsModes c two.2 last) (twice color)
+      (subst (λ (p : Pen). reads_at p last) {y = pen_at two.1 (opposite (opposite color)) two.2} (sym (next_is _ t two.4)) reads))
 
--- an EOL begins with eleven zeros
-zeros_first : (next after : Bits) → after_eol 0 next ≡ Some after → (more : Bits) × (next ≡ replicate 11 false ++ more)
-zeros_first next after e =
+  abbrev Keeps : Bits → Pen → Type 0
+  Keeps here pen = (last : Bits) → reads_at pen last → ReadsModes White here last
+
+  abbrev EndsBehind : Bits → Line → Type 0
+  EndsBehind here (Line.whole row rest) = ReadsModes White here rest
+  EndsBehind here (Line.broken front fault) = Unit {0}
+
+  abbrev mode_here : Pen → Step
+  mode_here pen = try pen.front (read_code mode_codes pen.rest)
+      (λ mode. mode_step strict columns other (pen_at pen.front pen.color mode.1) mode.0)
+
+  keeps : (here : Bits) (s t : Pen) → Keeps here s → step_2d strict columns other s ≡ Turn.next t → Keeps here t
+  keeps here s t kept e last reads =
+      let a = try_next s.front (read_code mode_codes s.rest)
+      (λ mode. mode_step strict columns other (pen_at s.front s.color mode.1) mode.0) t
+      (unless_full_next columns s (mode_here s) t (sym (step_2d_is strict columns other s) ∙ e)) in
+      kept last (mode_on s.front s.color s.rest last a.0.0 a.0.1 t a.1 a.2 reads)
+
+  ends : (here : Bits) (s : Pen) (line : Line) → Keeps here s → step_2d strict columns other s ≡ Turn.done line
+      → EndsBehind here line
+  ends here s (Line.broken front fault) kept e = tt
+  ends here s (Line.whole row rest) kept e =
+      let f = full_by columns s (mode_here s) row rest
+      (try_goes_on s.front (read_code mode_codes s.rest) _
+      (λ mode. draw_mode_goes_on strict columns other (pen_at s.front s.color mode.1) mode.0))
+      (sym (step_2d_is strict columns other s) ∙ e) in
+      let there : s.rest ≡ rest = let w = f.1 in cc in
+      subst (ReadsModes White here) there (kept s.rest ReadsModes.over)
+
+  -- Whatever row it is read against, its modes were read up to where it ends.
+  pub modes_read : (here : Bits) (row : Row) (rest : Bits) → line_2d strict columns other here ≡ Line.whole row rest
+      → ReadsModes White here rest
+  modes_read here row rest e =
+      subst (EndsBehind here) e
+      (repeated_keeps (step_2d strict columns other) (Line.broken [] UnexpectedEof) (Keeps here) (EndsBehind here) tt (keeps here)
+      (ends here) (suc (length here)) (start here) (λ last reads. reads))
+
+-- ---- A line of an encoding
+
+-- a mode of an encoding is read
+mode_is : (mode : Mode) (word next tail : Bits) → Has mode_codes mode word
+    → read_code mode_codes ((word ++ next) ++ tail) ≡ Ok (mode, next ++ tail)
+mode_is mode word next tail has =
+    ap (read_code mode_codes) (append_assoc word next tail) ∙ read_code_again mode_codes mode word (next ++ tail) modes_free has
+
+long : (bits tail rest : Bits) → rest ≡ bits ++ tail → length tail ≤ length rest
+long bits tail rest e = omega (arith, ap length e, length-append bits tail)
+
+-- what is read behind its two runs
+runs_behind : (color : Color) (n m : ℕ) (run1 run2 more there rest : Bits) → Spells color n run1 → Spells (opposite color) m run2
+    → there ≡ run1 ++ (run2 ++ more) → Behind color there rest Horizontal → ReadsModes color more rest
+runs_behind color n m run1 run2 more there rest spells1 spells2 split (k, l, second, after, e, f, reads) =
+    let first_read : second ≡ run2 ++ more
+    = run_behind color n k run1 (run2 ++ more) second spells1 (ap (read_run color) (sym split) ∙ e) in
+    let second_read : after ≡ more
+    = run_behind (opposite color) m l run2 more after spells2 (ap (read_run (opposite color)) (sym first_read) ∙ f) in
+    subst (λ (b : Bits). ReadsModes color b rest) second_read reads
+
+-- what its words leave, from the zeros of an EOL on, is left by the modes that are read
+encoded_from : (reference row : Row) (from : ℕ) (color : Color) (bits tail rest : Bits) → EncodesLine2D reference row from color bits
+    → read_code mode_codes tail ≡ Err InvalidCode → ReadsModes color (bits ++ tail) rest → length tail ≤ length rest
+encoded_from reference row from color bits tail rest EncodesLine2D.over none reads =
+    omega (arith, ap length (no_mode color tail rest InvalidCode reads none))
+encoded_from reference row from color bits tail rest (EncodesLine2D.pass from2 word {bits = next} inside has left_of steps) none
+    reads =
+    elim (behind_mode color ((word ++ next) ++ tail) rest Pass (next ++ tail) reads (mode_is Pass word next tail has)) [
+      | inl e ↦ long (word ++ next) tail rest e
+      | inr more ↦ encoded_from reference row _ color next tail rest steps none more
+    ]
+encoded_from reference row from color bits tail rest
+    (EncodesLine2D.vertical from2 word k {bits = next} inside has exact steps) none reads =
+    elim (behind_mode color ((word ++ next) ++ tail) rest (Vertical k) (next ++ tail) reads
+    (mode_is (Vertical k) word next tail has)) [
+      | inl e ↦ long (word ++ next) tail rest e
+      | inr more ↦ encoded_from reference row _ (opposite color) next tail rest steps none more
+    ]
+encoded_from reference row from color bits tail rest
+    (EncodesLine2D.horizontal from2 word {first = run1} {second = run2} {bits = next} inside has spells1 spells2 steps) none reads =
+    elim (behind_mode color ((word ++ (run1 ++ (run2 ++ next))) ++ tail) rest Horizontal ((run1 ++ (run2 ++ next)) ++ tail) reads
+    (mode_is Horizontal word (run1 ++ (run2 ++ next)) tail has)) [
+      | inl e ↦ long (word ++ (run1 ++ (run2 ++ next))) tail rest e
+      | inr behind ↦ encoded_from reference row _ color next tail rest steps none
+          (runs_behind color _ _ run1 run2 (next ++ tail) ((run1 ++ (run2 ++ next)) ++ tail) rest spells1 spells2
+          (append_assoc run1 (run2 ++ next) tail ∙ ap (λ (b : Bits). run1 ++ b) (append_assoc run2 next tail)) behind)
+    ]
+
+-- an EOL begins with eleven zeros, which are no mode
+no_mode_at_eol : (next after : Bits) → after_eol 0 next ≡ Some after → read_code mode_codes next ≡ Err InvalidCode
+no_mode_at_eol next after e =
     let eol = after_eol_is 0 next after e in
-    let more = replicate (eol.0 - 11) false ++ true ∷ after in
-    let sum : 11 + (eol.0 - 11) ≡ eol.0 = omega (arith, eol.2) in (
-      more,
-      eol.1 ∙ ap (λ (n : ℕ). replicate n false ++ true ∷ after) (sym sum)
-          ∙ ap (λ (b : Bits). b ++ true ∷ after) (sym (replicate-append-replicate 11 (eol.0 - 11) false))
-          ∙ append_assoc (replicate 11 false) (replicate (eol.0 - 11) false) (true ∷ after),
+    let sum : 11 + (eol.0 - 11) ≡ eol.0 = omega (arith, eol.2) in
+    ap (read_code mode_codes) (
+    eol.1 ∙ ap (λ (n : ℕ). replicate n false ++ true ∷ after) (sym sum)
+    ∙ ap (λ (b : Bits). b ++ true ∷ after) (sym (replicate-append-replicate 11 (eol.0 - 11) false))
+    ∙ append_assoc (replicate 11 false) (replicate (eol.0 - 11) false) (true ∷ after)
     )
 
-module _ (settings : DecodeSettings) (encoding : settings.encoding ≡ Group3_2D) (lenient : settings.strict ≡ false)
-    (other reference row : Row) (line next after : Bits) (encodes : EncodesLine2D reference row 0 White line)
-    (eol : after_eol 0 next ≡ Some after) where
-  -- the bits that follow, from the zeros of the EOL on
-  abbrev zeros : (more : Bits) × (next ≡ replicate 11 false ++ more)
-  zeros = zeros_first next after eol
+-- its modes end before the EOL behind it
+pub encoded_ends : (reference row : Row) (line next after rest : Bits) → EncodesLine2D reference row 0 White line
+    → after_eol 0 next ≡ Some after
+    → ReadsModes White (line ++ next) rest → length next ≤ length rest
+encoded_ends reference row line next after rest encodes eol reads =
+    encoded_from reference row 0 White line next rest encodes (no_mode_at_eol next after eol) reads
 
-  is : line_here settings other (false ∷ line ++ next) ≡ line_2d false settings.columns other
-      (line ++ (replicate 11 false ++ zeros.0))
-  is = ap (λ (e : EncodingMode). line_by e settings.strict settings.columns other (false ∷ line ++ next)) encoding
-      ∙ ap (λ (s : Bool). line_2d s settings.columns other (line ++ next)) lenient
-      ∙ ap (λ (b : Bits). line_2d false settings.columns other (line ++ b)) zeros.1
-
-  ahead : Ahead settings.columns other zeros.0 (line_here settings other (false ∷ line ++ next))
-  ahead = subst (Ahead settings.columns other zeros.0) (sym is)
-      (line_ahead settings.columns other reference row line zeros.0 encodes)
-
-  -- the next EOL from where it ended, or from its tag if it is broken, is the one behind it
-  pub next_behind : past 0 (rest_of (line_here settings other (false ∷ line ++ next)) (false ∷ line ++ next)) ≡ Some after
-  next_behind = by (line_here settings other (false ∷ line ++ next)) ahead
-    where
-      by : (read : Line) → Ahead settings.columns other zeros.0 read → past 0 (rest_of read (false ∷ line ++ next)) ≡ Some after
-      by (Line.whole front rest) (suffix, quiet, rest_is) =
-          let q = quiet 0 (omega arith) in
-          let rest_next : rest ≡ suffix ++ next = rest_is ∙ ap (λ (b : Bits). suffix ++ b) (sym zeros.1) in
-          ap (past 0) rest_next ∙ past_before 0 suffix next after (scan_past 0 q.0 suffix (omega arith) q.1) eol
-      by (Line.broken front fault) broken =
-          let q = quiet_line reference row 0 White line encodes 1 (omega arith) in
-          past_before 0 (false ∷ line) next after (scan_past 1 q.0 line (omega arith) q.1) eol
-
-  -- a whole line leaves it all
-  pub leaves_next : (read : Row) (rest : Bits) → line_here settings other (false ∷ line ++ next) ≡ Line.whole read rest
-      → length next ≤ length rest
-  leaves_next read rest e =
-      let left = subst (Ahead settings.columns other zeros.0) e ahead in
-      omega (arith, ap length left.2, ap length zeros.1, length-append left.0 (replicate 11 false ++ zeros.0))
+-- a whole line leaves that EOL, whatever row it is read against
+pub leaves_next : (settings : DecodeSettings) → settings.encoding ≡ Group3_2D
+    → (other reference row : Row) (line next after : Bits) → EncodesLine2D reference row 0 White line
+    → after_eol 0 next ≡ Some after
+    → (read : Row) (rest : Bits) → line_here settings other (false ∷ line ++ next) ≡ Line.whole read rest
+    → length next ≤ length rest
+leaves_next settings encoding other reference row line next after encodes eol read rest e =
+    encoded_ends reference row line next after rest encodes eol
+    (modes_read settings.strict settings.columns other (line ++ next) read rest
+    (sym (ap (λ (e : EncodingMode). line_by e settings.strict settings.columns other (false ∷ line ++ next)) encoding) ∙ e))

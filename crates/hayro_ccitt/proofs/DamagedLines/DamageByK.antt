@@ -1,8 +1,8 @@
 -- Damage to a line of two-dimensional data ends at the next one-dimensional line.
-use Rattle.std.proofs.Common.{◌≡◌, ℕ, zero, suc, ◌+◌, ◌-◌, ◌<◌, ◌≤◌, eqb, true, false, List, [], ◌∷◌, ◌++◌, length, take, drop, Option, Some, None, Result, Ok}
+use Rattle.std.proofs.Common.{◌≡◌, ℕ, zero, suc, ◌+◌, ◌-◌, ◌<◌, ◌≤◌, eqb, true, false, List, [], ◌∷◌, ◌++◌, length, take, drop, replicate, Option, Some, None, Result, Ok}
 use Rattle.std.proofs.Common.{refl, sym, ap, subst, ◌∙◌, append_assoc, arith, ◌⊎◌, inl, inr}
 use Rattle.std.proofs.lemmas.Bool.{cases_lt, cases_eq, cond-true, eq-eqb, le-leb}
-use Rattle.std.proofs.lemmas.List.{length-append}
+use Rattle.std.proofs.lemmas.List.{length-append, length-replicate}
 use Rattle.hayro_ccitt.specs.declared.codes.Color.TheVariants.{White}
 use Rattle.hayro_ccitt.specs.declared.error.DecodeError.{DecodeError}
 use Rattle.hayro_ccitt.specs.declared.settings.EncodingMode.{EncodingMode}
@@ -13,26 +13,32 @@ use Rattle.hayro_ccitt.specs.Settings.{AreSettings}
 use Rattle.hayro_ccitt.specs.Repetition.{Reaches}
 use Rattle.hayro_ccitt.specs.Rows.{Row}
 use Rattle.hayro_ccitt.specs.Encodings.{EncodesLine2D}
-use Rattle.hayro_ccitt.specs.EndOfLine.{after_eol, one_more, pass_last_tag}
+use Rattle.hayro_ccitt.specs.EndOfLine.{after_eol, one_more, pass_last_tag, tagged_eols}
 use Rattle.hayro_ccitt.specs.PlainReading.{first_line, move_on, line_by, eols_by, line_here, eols_here, plain, Reading, nothing_read, whole_reading, end_of}
 use Rattle.hayro_ccitt.specs.Locality.{IsEolAt, EndAlike}
-use Rattle.hayro_ccitt.specs.LocalityByK.{IsTaggedBody, ComesBefore1D, ComeBefore1D, RowsDiffer, DamageEndsAt1D, LocalityByK}
-use Rattle.hayro_ccitt.proofs.Readings.TurnsMoveOn.{after_eol_shorter}
+use Rattle.hayro_ccitt.specs.LocalityByK.{IsTaggedBody, ComesBefore1D, IsLine2D, ComeBefore1D, RowsDiffer, DamageEndsAt1D, LocalityByK}
+use Rattle.hayro_ccitt.proofs.Readings.TurnsMoveOn.{after_eol_shorter, next_eol_found}
 use Rattle.hayro_ccitt.proofs.EncodedPictures.PicturesT4.{line_2d_after_tag}
-use Rattle.hayro_ccitt.proofs.DamagedLines.PastEol.{all_tagged-some, all_tagged-none}
-use Rattle.hayro_ccitt.proofs.DamagedLines.SoughtTurns.{sought, eols_here_same}
+use Rattle.hayro_ccitt.proofs.DamagedLines.PastEol.{past, past_is, then_after, all_tagged-some, all_tagged-none}
+use Rattle.hayro_ccitt.proofs.DamagedLines.SoughtTurns.{sought, rest_of, found_next, eols_here_same}
 use Rattle.hayro_ccitt.proofs.DamagedLines.RunsAlike.{RowsAlike, Settles, Unreferred, IsTail}
-use Rattle.hayro_ccitt.proofs.DamagedLines.LineTails.{is_tagged_tail, stays_2d}
-use Rattle.hayro_ccitt.proofs.DamagedLines.AnyReference.{next_behind}
+use Rattle.hayro_ccitt.proofs.DamagedLines.LineTails.{after_eol_is, past_before, line_past_by, is_tagged_tail, stays_2d}
+use Rattle.hayro_ccitt.proofs.DamagedLines.AnyReference.{quiet_line, scan_past, modes_read, encoded_ends}
 use Rattle.hayro_ccitt.proofs.DamagedLines.Damage.{LinesDiffer, damage}
 
 -- ---- The lines that follow
 
-module _ (settings : DecodeSettings) (encoding : settings.encoding ≡ Group3_2D) (lenient : settings.strict ≡ false) where
+-- an EOL is twelve bits at least
+eol_longer : (next after : Bits) → after_eol 0 next ≡ Some after → length after + 12 ≤ length next
+eol_longer next after e =
+    let eol = after_eol_is 0 next after e in
+    omega (arith, eol.2, ap length eol.1, length-append (replicate eol.0 false) (true ∷ after), length-replicate eol.0 false)
+
+module _ (settings : DecodeSettings) (encoding : settings.encoding ≡ Group3_2D) where
   -- the EOL before the lines that follow
   pub eol_before : (lines : ℕ) (here : Bits) → ComeBefore1D settings lines here → IsEolAt here
   eol_before zero here (eol, ends) = eol
-  eol_before (suc lines) here (reference, row, line, next, encodes, e, more) = (false ∷ line ++ next, e)
+  eol_before (suc lines) here (line, next, e, is, more) = (false ∷ line, e)
 
   -- a one-dimensional line has no reference row
   unreferred : (here : Bits) → ComesBefore1D settings here → Unreferred settings (eols_here settings here)
@@ -55,34 +61,77 @@ module _ (settings : DecodeSettings) (encoding : settings.encoding ≡ Group3_2D
       by (inr (inl (line, e))) = inr (rw e (same (true ∷ line) (λ reference other. refl)))
       by (inr (inr e)) = inr (rw e (same [] (λ reference other. refl)))
 
-  -- no EOL stands at a two-dimensional line
-  no_eol_at : (reference row : Row) (line next : Bits) → EncodesLine2D reference row 0 White line
-      → after_eol 0 (false ∷ line ++ next) ≡ None
-  no_eol_at reference row line next encodes = line_2d_after_tag reference row 0 White line next encodes (omega arith)
-
-  -- so one EOL is counted before it
-  one_before : (reference row : Row) (line next found : Bits) → EncodesLine2D reference row 0 White line
-      → after_eol 0 found ≡ Some (false ∷ line ++ next)
-      → eols_here settings found ≡ (1, false ∷ line ++ next)
-  one_before reference row line next found encodes e =
+  -- one EOL is counted before a two-dimensional line
+  one_before : (line found : Bits) → after_eol 0 (false ∷ line) ≡ None → after_eol 0 found ≡ Some (false ∷ line)
+      → eols_here settings found ≡ (1, false ∷ line)
+  one_before line found none e =
       ap (λ (e : EncodingMode). eols_by e settings.end_of_block found) encoding
-      ∙ ap pass_last_tag (all_tagged-some found (false ∷ line ++ next) e
-      ∙ ap one_more (all_tagged-none (false ∷ line ++ next) (no_eol_at reference row line next encodes)))
+      ∙ ap pass_last_tag (all_tagged-some found (false ∷ line) e ∙ ap one_more (all_tagged-none (false ∷ line) none))
+
+  -- the next EOL is the one behind it, whatever it is read against
+  next_behind : (other : Row) (line next : Bits) (is : IsLine2D line next)
+      → past 0 (rest_of (line_here settings other (false ∷ line)) (false ∷ line)) ≡ Some is.ends.0
+  next_behind other line next is =
+      line_past_by settings other (false ∷ line) is.ends.0
+      (past_is (false ∷ line) ∙ ap then_after is.next_is ∙ is.ends.1)
+      (λ row rest e. is.ends.2 rest (modes_read settings.strict settings.columns other line row rest
+      (sym (ap (λ (e : EncodingMode). line_by e settings.strict settings.columns other (false ∷ line)) encoding) ∙ e)))
 
   -- the lines that follow are read with the same EOLs behind them, whatever they are read against
   settles : (lines : ℕ) (here after : Bits) → ComeBefore1D settings lines here → after_eol 0 here ≡ Some after
       → Settles settings lines after
   settles zero here after comes e = λ found f. rw (eols_here_same settings found here after f e) (unreferred here comes)
-  settles (suc lines) here after (reference, row, line, next, encodes, f, more) e =
-      let eol = eol_before lines next more in
-      let same : ◌≡◌ {A = Option Bits} (Some (false ∷ line ++ next)) (Some after) = sym f ∙ e in
-      let after_is : false ∷ line ++ next ≡ after = cc in
+  settles (suc lines) here after (line, next, f, is, more) e =
+      let same : ◌≡◌ {A = Option Bits} (Some (false ∷ line)) (Some after) = sym f ∙ e in
+      let after_is : false ∷ line ≡ after = cc in
       subst (Settles settings (suc lines)) after_is (
-        eol.0,
-        omega (arith, after_eol_shorter 0 next eol.0 eol.1, length-append line next),
-        λ found g. one_before reference row line next found encodes g,
-        λ other. next_behind settings encoding lenient other reference row line next eol.0 encodes eol.1,
-        settles lines next eol.0 more eol.1,
+        is.ends.0,
+        omega (arith, after_eol_shorter 0 next is.ends.0 is.ends.1, (next_eol_found (false ∷ line) next is.next_is).0),
+        λ found g. one_before line found is.no_eol g,
+        λ other. next_behind other line next is,
+        settles lines next is.ends.0 more is.ends.1,
+      )
+
+  -- what follows an EOL decides
+  comes_same : (lines : ℕ) (here there after : Bits) → after_eol 0 here ≡ Some after → after_eol 0 there ≡ Some after
+      → ComeBefore1D settings lines here → ComeBefore1D settings lines there
+  comes_same zero here there after e f (eol, ends) =
+      let same : tagged_eols here ≡ tagged_eols there
+      = ap pass_last_tag (all_tagged-some here after e ∙ sym (all_tagged-some there after f)) in (
+        (after, f),
+        subst (λ (c : ℕ × Bits). ((settings.end_of_block ≡ true) × (6 ≤ c.0))
+            ⊎ (((line : Bits) × (c.1 ≡ true ∷ line)) ⊎ (c.1 ≡ []))) same ends,
+      )
+  comes_same (suc lines) here there after e f (line, next, g, is, more) =
+      (line, next, f ∙ sym e ∙ g, is, more)
+
+  -- a two-dimensional line of an encoding is such a line
+  pub encoded_follows : (lines : ℕ) (reference row : Row) (line next here : Bits) → EncodesLine2D reference row 0 White line
+      → ComeBefore1D settings lines next → after_eol 0 here ≡ Some (false ∷ line ++ next)
+      → ComeBefore1D settings (suc lines) here
+  encoded_follows lines reference row line next here encodes more e =
+      let eol = eol_before lines next more in
+      let after = eol.0 in
+      let q = quiet_line reference row 0 White line encodes 1 (omega arith) in
+      let found = found_next (false ∷ line ++ next) after
+      (past_before 0 (false ∷ line) next after (scan_past 1 q.0 line (omega arith) q.1) eol.1) in (
+        line ++ next,
+        found.0,
+        e,
+        record {
+          no_eol = line_2d_after_tag reference row 0 White line next encodes (omega arith);
+          next_is = found.1;
+          ends = (
+            after,
+            found.2,
+            λ rest reads. omega (
+              arith,
+              eol_longer next after eol.1,
+              encoded_ends reference row line next after rest encodes eol.1 reads,
+            ),
+          );
+        },
+        comes_same lines next found.0 after eol.1 found.2 more,
       )
 
 -- ---- Rows of which some may differ
@@ -166,7 +215,7 @@ locality_by_k settings one are whole_one two from to to2 lines whole_two differ 
       few_two = λ e. other.tag;
       stays_one = λ rows reached. stays_2d settings one from to body rows reached;
       stays_two = λ rows reached. stays_2d settings two from to2 other rows reached ∙ ap Some same_after;
-      settles = settles settings differ.encoding differ.lenient lines (drop to one) body.closes.0 differ.follow body.closes.1;
+      settles = settles settings differ.encoding lines (drop to one) body.closes.0 differ.follow body.closes.1;
     }
 
     by : (settings.columns ≡ 0) ⊎ (settings.columns ≡ 0 → ⊥)

@@ -407,7 +407,7 @@ module _ (settings : DecodeSettings) (encoding : settings.encoding ≡ Group3_2D
           omega (
             arith,
             longer,
-            leaves_next settings encoding lenient other above row words next after encodes eol_next read rest
+            leaves_next settings encoding other above row words next after encodes eol_next read rest
                 (ap (λ (b : Bits). line_here settings other (b ++ next)) (sym line_is) ∙ e),
           )
 

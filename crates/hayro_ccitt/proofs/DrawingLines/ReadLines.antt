@@ -32,7 +32,7 @@ pub try_next : {A : Type 0} (front : Row) (r : Result A DecodeError) (f : A → 
 try_next front (Ok x) f t e = (x, refl, e)
 try_next front (Err fault) f t e = absurd (not_next _ t e)
 
-unless_full_next : (columns : ℕ) (pen : Pen) (step : Step) (t : Pen) → step_unless_full columns pen step ≡ Turn.next t → step ≡ Turn.next t
+pub unless_full_next : (columns : ℕ) (pen : Pen) (step : Step) (t : Pen) → step_unless_full columns pen step ≡ Turn.next t → step ≡ Turn.next t
 unless_full_next columns pen step t e = elim (chosen (leb columns (length pen.front)) _ _ _ e) [
   | inl a ↦ absurd (not_next _ t a.1)
   | inr a ↦ a.1
