@@ -9,6 +9,7 @@ pub mod LineStarts
 pub mod LineTails
 pub mod LinesBeforeEol
 pub mod LinesByEols
+pub mod LinesPassed
 pub mod LocalByTests
 pub mod PastEol
 pub mod RunsAlike

@@ -1,7 +1,8 @@
 -- Two-dimensional lenient data of Group 3 with EOLs: damage ends at the next one-dimensional line.
-use Rattle.std.specs.Prelude.{◌≡◌, ℕ, ℤ, zero, suc, ◌+◌, ◌<◌, ◌≤◌, ◌⊎◌, Some, None, Result, Ok, true, false, List, [], ◌∷◌, ◌++◌, length, take, drop}
+use Rattle.std.specs.Prelude.{◌≡◌, ℕ, zero, suc, ◌+◌, ◌<◌, ◌≤◌, ◌⊎◌, Option, Some, None, Result, Ok, Err, true, false, List, [], ◌∷◌, ◌++◌, length, take, drop}
 use Rattle.hayro_ccitt.specs.declared.codes.Color.{Color}
 use Rattle.hayro_ccitt.specs.declared.codes.Color.TheVariants.{White}
+use Rattle.hayro_ccitt.specs.declared.codes.Mode.{Mode}
 use Rattle.hayro_ccitt.specs.declared.codes.Mode.TheVariants.{Pass, Horizontal, Vertical}
 use Rattle.hayro_ccitt.specs.declared.error.DecodeError.{DecodeError}
 use Rattle.hayro_ccitt.specs.declared.settings.EncodingMode.TheVariants.{Group3_2D}
@@ -54,17 +55,37 @@ ComesBefore1D settings here = IsEolAt here
     × (((settings.end_of_block ≡ true) × (6 ≤ (tagged_eols here).0))
     ⊎ (((line : Bits) × ((tagged_eols here).1 ≡ true ∷ line)) ⊎ ((tagged_eols here).1 ≡ [])))
 
--- modes that are read in a line of this colour, each with the runs of a horizontal one, and what follows them; none needs
--- the reference row (T.4, 4.2.1.3)
+-- auxiliary: what follows the second run of a horizontal mode, if it is read (T.4, 4.2.1.3)
+abbrev pub behind_second_run : Color → Result (ℕ × Bits) DecodeError → Option (Color × Bits)
+behind_second_run color (Ok run) = Some (color, run.1)
+behind_second_run color (Err fault) = None
+
+-- auxiliary: the same, from the first run on
+abbrev pub behind_first_run : Color → Result (ℕ × Bits) DecodeError → Option (Color × Bits)
+behind_first_run color (Ok run) = behind_second_run color (read_run (opposite color) run.1)
+behind_first_run color (Err fault) = None
+
+-- auxiliary: the same, behind the word of any mode: a vertical one turns the colour (T.4, 4.2.1.3)
+abbrev pub behind_word : Color → Mode → Bits → Option (Color × Bits)
+behind_word color Pass rest = Some (color, rest)
+behind_word color (Vertical k) rest = Some (opposite color, rest)
+behind_word color Horizontal rest = behind_first_run color (read_run color rest)
+
+-- auxiliary: the same, if the word is read
+abbrev pub behind_read : Color → Result (Mode × Bits) DecodeError → Option (Color × Bits)
+behind_read color (Ok mode) = behind_word color mode.0 mode.1
+behind_read color (Err fault) = None
+
+-- the mode here is read in a line of this colour, with the runs of a horizontal one: the colour behind it, and what follows;
+-- this doesn't need the reference row (T.4, 4.2.1.3)
+abbrev pub behind_mode : Color → Bits → Option (Color × Bits)
+behind_mode color here = behind_read color (read_code mode_codes here)
+
+-- modes that are read in a line of this colour, and what follows them (T.4, 4.2.1.3)
 pub data ReadsModes : Color → Bits → Bits → Type 0 where
   over : {color : Color} {here : Bits} → ReadsModes color here here
-  pass : (rest : Bits) {color : Color} {here last : Bits} → read_code mode_codes here ≡ Ok (Pass, rest)
-      → ReadsModes color rest last → ReadsModes color here last
-  vertical : (k : ℤ) (rest : Bits) {color : Color} {here last : Bits} → read_code mode_codes here ≡ Ok (Vertical k, rest)
-      → ReadsModes (opposite color) rest last → ReadsModes color here last
-  horizontal : (n m : ℕ) (first second rest : Bits) {color : Color} {here last : Bits}
-      → read_code mode_codes here ≡ Ok (Horizontal, first) → read_run color first ≡ Ok (n, second)
-      → read_run (opposite color) second ≡ Ok (m, rest) → ReadsModes color rest last → ReadsModes color here last
+  mode : (next : Color) (rest : Bits) {color : Color} {here last : Bits} → behind_mode color here ≡ Some (next, rest)
+      → ReadsModes next rest last → ReadsModes color here last
 
 -- the modes of a line, with their runs, as many as can be read, end before the last twelve bits of an EOL; `after` is what
 -- follows that EOL (T.4, 4.1.2 and 4.2.1.3)
@@ -84,6 +105,14 @@ abbrev pub ComeBefore1D : DecodeSettings → ℕ → Bits → Type 0
 ComeBefore1D settings zero here = ComesBefore1D settings here
 ComeBefore1D settings (suc lines) here = (line next : Bits) × (after_eol 0 here ≡ Some (false ∷ line)) × IsLine2D line next
     × ComeBefore1D settings lines next
+
+-- At a position of lenient two-dimensional data is an EOL, and this number of two-dimensional lines follows it before the
+-- next one-dimensional line, RTC or the end (T.4, 4.2).
+pub record IsFollowedBy (settings : DecodeSettings) (bits : Bits) (to lines : ℕ) : Type 0 where
+  pub encoding : settings.encoding ≡ Group3_2D
+  pub lenient : settings.strict ≡ false
+  pub within : to ≤ length bits
+  pub follow : ComeBefore1D settings lines (drop to bits)
 
 -- ---- damage ends at the next one-dimensional line
 

@@ -335,7 +335,7 @@ impl<'a> BitReader<'a> {
     /// Consumes an EOL here, with its fill (T.4 sections 4.1.2 and 4.1.3), and returns whether there is one. Each bit
     /// that is examined is a tick.
     #[inline(never)]
-    fn pass_eol(&mut self, ticks: &mut Ticks) -> bool
+    pub(crate) fn pass_eol(&mut self, ticks: &mut Ticks) -> bool
         ensures eol { after_eol 0 (here self.old) ≡ (if result then Some (here self.new) else None) }
         ensures unchanged { result ≡ false → self.new ≡ self.old }
         ensures same_bits { self.new.bits ≡ self.old.bits }

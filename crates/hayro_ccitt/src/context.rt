@@ -1,6 +1,8 @@
 //! What a decoder keeps from line to line, and the lines themselves.
 
-ghost use Rattle.std.specs.Prelude.{◌≡◌, ◌+◌, ◌*◌, ◌^◌, ◌<◌, ◌≤◌, ◌⊎◌, ◌↔◌, Ok, Err, OnOk, OnErr, IfOk, IfErr, true, false, IsOkUnless, IsTrue, length, get_or, []};
+ghost use Rattle.std.specs.Prelude.{◌≡◌, ◌+◌, ◌*◌, ◌^◌, ◌<◌, ◌≤◌, ◌⊎◌, ◌↔◌, ℕ, Ok, Err, OnOk, OnErr, IfOk, IfErr, true, false, IsOkUnless, IsTrue, option_map, length, get_or, []};
+ghost use Rattle.hayro_ccitt.specs.LocalityByK.{behind_mode};
+ghost use Rattle.hayro_ccitt.specs.Runs.{read_run};
 ghost use Rattle.hayro_ccitt.specs.Rows.{AreChanges, right_of, b1, b2, changes, opposite};
 ghost use Rattle.hayro_ccitt.specs.Bits.{here};
 ghost use Rattle.hayro_ccitt.specs.Context.{redrawn, painted_front, taken_row, after_repair, passed_changes, with_missed};
@@ -471,6 +473,45 @@ impl DecoderContext {
         self.begin_line();
         self.decoded_rows += 1;
         Ok(())
+    }
+
+    /// Passes a run of a colour without drawing it, and returns whether one is here. If there is none, the offset is
+    /// unspecified.
+    fn pass_run(&mut self, color: Color, reader: &mut BitReader<'_>) -> bool
+        ensures run { result ≡ true → (n : ℕ) × (read_run color (here reader.old) ≡ Ok (n, here reader.new)) }
+        ensures none { result ≡ false → (fault : DecodeError) × (read_run color (here reader.old) ≡ Err fault) }
+        ensures same_bits { reader.new.bits ≡ reader.old.bits }
+        ensures held { self.new.held ≡ self.old.held }
+        ensures counts { self.old.ticks ≤ self.new.ticks }
+    {
+        match reader.decode_run(color, &self.tables, &mut self.ticks) {
+            Ok(_) => true,
+            Err(_) => false,
+        }
+    }
+
+    /// Passes the mode here, in a line of this colour, with the runs of a horizontal one, without drawing it, and
+    /// returns the colour after it. If there is none, or one of its runs is broken, it returns `None`, and the offset is
+    /// unspecified (T.4 section 4.2.1.3).
+    pub(crate) fn pass_mode(&mut self, color: Color, reader: &mut BitReader<'_>) -> Option<Color>
+        ensures behind { option_map (λ behind. (behind, here reader.new)) result ≡ behind_mode color (here reader.old) }
+        ensures same_bits { reader.new.bits ≡ reader.old.bits }
+        ensures held { self.new.held ≡ self.old.held }
+        ensures counts { self.old.ticks ≤ self.new.ticks }
+    {
+        let Ok(mode) = reader.decode_mode(&mut self.ticks) else {
+            return None;
+        };
+        match mode {
+            Mode::Pass => Some(color),
+            Mode::Vertical(_) => Some(color.opposite()),
+            Mode::Horizontal => {
+                if !self.pass_run(color, reader) || !self.pass_run(color.opposite(), reader) {
+                    return None;
+                }
+                Some(color)
+            }
+        }
     }
 
     /// Reads a run of the present colour, paints it and turns the colour.

@@ -1,7 +1,7 @@
 -- A two-dimensional line, read against any reference row: it ends behind one of its modes or is broken, so that the next
 -- EOL is the one behind it.
 use Rattle.std.proofs.Common.{◌≡◌, ℕ, suc, ◌+◌, ◌-◌, ◌≤◌, Bool, true, false, [], ◌∷◌, ◌++◌, length, replicate}
-use Rattle.std.proofs.Common.{Some, None, Result, Ok, Err, refl, sym, ap, subst, ◌∙◌, append_assoc, arith, ◌⊎◌, inl, inr}
+use Rattle.std.proofs.Common.{Option, Some, None, Ok, Err, refl, sym, ap, subst, ◌∙◌, append_assoc, arith, ◌⊎◌, inl, inr}
 use Rattle.std.proofs.lemmas.Bool.{cases_lt, lt-ltb, le-ltb, lt-leb}
 use Rattle.std.proofs.lemmas.List.{length-append, replicate-append-replicate}
 use Rattle.hayro_ccitt.specs.declared.codes.Color.{Color}
@@ -24,7 +24,7 @@ use Rattle.hayro_ccitt.specs.declared.settings.DecodeSettings.{DecodeSettings}
 use Rattle.hayro_ccitt.specs.Answers.{Step}
 use Rattle.hayro_ccitt.specs.Encodings.{Spells, EncodesLine2D}
 use Rattle.hayro_ccitt.specs.EndOfLine.{after_eol}
-use Rattle.hayro_ccitt.specs.LocalityByK.{ReadsModes}
+use Rattle.hayro_ccitt.specs.LocalityByK.{ReadsModes, behind_mode, behind_read, behind_first_run, behind_second_run}
 use Rattle.hayro_ccitt.proofs.Readings.Repeated.{repeated_keeps}
 use Rattle.hayro_ccitt.proofs.DrawingLines.Drawings.{try, run_then, mode_step, step_2d, step_2d_is, horizontal_is}
 use Rattle.hayro_ccitt.proofs.DrawingLines.ReadLines.{next_is, try_next, unless_full_next, try_goes_on, draw_mode_goes_on, full_by}
@@ -109,58 +109,22 @@ spelled color n bits total more (Spells.makeup m word {n = k} {bits = next} has 
 twice : (color : Color) → opposite (opposite color) ≡ color
 twice color = grind (arith, common_steps)
 
-not_both : {A : Type 0} (r : Result A DecodeError) (x : A) (fault : DecodeError) → r ≡ Ok x → r ≡ Err fault → ⊥
-not_both {A} r x fault e f = let both : ◌≡◌ {A = Result A DecodeError} (Ok x) (Err fault) = sym e ∙ f in cc
-
-same_rest : (r : Result (ℕ × Bits) DecodeError) (m n : ℕ) (rest more : Bits) → r ≡ Ok (m, rest) → r ≡ Ok (n, more) → rest ≡ more
-same_rest r m n rest more e f =
-    let both : ◌≡◌ {A = Result (ℕ × Bits) DecodeError} (Ok (m, rest)) (Ok (n, more)) = sym e ∙ f in
-    let found : (m, rest) ≡ (n, more) = cc in
-    ap (λ (x : ℕ × Bits). x.1) found
-
--- so what follows it is what is read behind a run
-run_behind : (color : Color) (n m : ℕ) (word more rest : Bits) → Spells color n word → read_run color (word ++ more) ≡ Ok (m, rest)
-    → rest ≡ more
-run_behind color n m word more rest spells e = elim (spelled color n word 0 more spells) [
-  | inl f ↦ same_rest _ m (0 + n) rest more e f
-  | inr f ↦ absurd (not_both _ (m, rest) f.0 e f.1)
-]
-
 -- ---- Modes that are read
 
--- what is read behind a mode
-abbrev pub Behind : Color → Bits → Bits → Mode → Type 0
-Behind color rest last Pass = ReadsModes color rest last
-Behind color rest last (Vertical k) = ReadsModes (opposite color) rest last
-Behind color rest last Horizontal = (n m : ℕ) × (second more : Bits) × (read_run color rest ≡ Ok (n, second))
-    × (read_run (opposite color) second ≡ Ok (m, more)) × ReadsModes color more last
-
-same_mode : (color : Color) (here last : Bits) (one two : Mode × Bits) → read_code mode_codes here ≡ Ok one
-    → read_code mode_codes here ≡ Ok two → Behind color one.1 last one.0 → Behind color two.1 last two.0
-same_mode color here last one two e f =
-    let both : ◌≡◌ {A = Result (Mode × Bits) DecodeError} (Ok one) (Ok two) = sym e ∙ f in
-    let same : one ≡ two = cc in
-    λ behind. subst (λ (x : Mode × Bits). Behind color x.1 last x.0) same behind
+-- what is left after modes that are read, if this stands behind the first
+abbrev pub LeftBehind : Bits → Bits → Option (Color × Bits) → Type 0
+LeftBehind here last (Some (next, rest)) = (last ≡ here) ⊎ ReadsModes next rest last
+LeftBehind here last None = last ≡ here
 
 -- none is read, or the one that is here
-pub behind_mode : (color : Color) (here last : Bits) (mode : Mode) (rest : Bits) → ReadsModes color here last
-    → read_code mode_codes here ≡ Ok (mode, rest) → (last ≡ here) ⊎ Behind color rest last mode
-behind_mode color here last mode rest ReadsModes.over e = inl refl
-behind_mode color here last mode rest (ReadsModes.pass after read more) e =
-    inr (same_mode color here last (Pass, after) (mode, rest) read e more)
-behind_mode color here last mode rest (ReadsModes.vertical k after read more) e =
-    inr (same_mode color here last (Vertical k, after) (mode, rest) read e more)
-behind_mode color here last mode rest (ReadsModes.horizontal n m first second after read run1 run2 more) e =
-    inr (same_mode color here last (Horizontal, first) (mode, rest) read e (n, m, second, after, run1, run2, more))
-
--- where there is no mode none is read
-pub no_mode : (color : Color) (here last : Bits) (fault : DecodeError) → ReadsModes color here last
-    → read_code mode_codes here ≡ Err fault → last ≡ here
-no_mode color here last fault ReadsModes.over e = refl
-no_mode color here last fault (ReadsModes.pass after read more) e = absurd (not_both _ _ fault read e)
-no_mode color here last fault (ReadsModes.vertical k after read more) e = absurd (not_both _ _ fault read e)
-no_mode color here last fault (ReadsModes.horizontal n m first second after read run1 run2 more) e = absurd
-    (not_both _ _ fault read e)
+pub left_behind : (color : Color) (here last : Bits) → ReadsModes color here last → LeftBehind here last (behind_mode color here)
+left_behind color here last ReadsModes.over = by (behind_mode color here)
+  where
+    by : (found : Option (Color × Bits)) → LeftBehind here here found
+    by (Some (next, rest)) = inl refl
+    by None = refl
+left_behind color here last (ReadsModes.mode next rest found more) =
+    subst (LeftBehind here last) (sym found) (inr more)
 
 -- ---- A whole line ends behind modes that are read
 abbrev pen_at : Row → Color → Bits → Pen
@@ -188,17 +152,18 @@ module _ (strict : Bool) (columns : ℕ) (other : Row) where
       → mode_step strict columns other (pen_at front color rest) mode ≡ Turn.next t → reads_at t last → ReadsModes color here last
   mode_on front color here last Pass rest t read e reads =
       let a = try_next front _ (λ more. Turn.next (pen_at more color rest)) t e in
-      ReadsModes.pass rest read (subst (λ (p : Pen). reads_at p last) {y = pen_at a.0 color rest} (sym (next_is _ t a.2)) reads)
+      ReadsModes.mode color rest (ap (behind_read color) read) (subst (λ (p : Pen). reads_at p last) {y = pen_at a.0 color rest} (sym (next_is _ t a.2)) reads)
   mode_on front color here last (Vertical k) rest t read e reads =
       let a = try_next front _ (λ place. try front (paint strict columns front color (place - length front))
       (λ more. Turn.next (pen_at more (opposite color) rest))) t e in
       let b = try_next front _ (λ more. Turn.next (pen_at more (opposite color) rest)) t a.2 in
-      ReadsModes.vertical k rest read (subst (λ (p : Pen). reads_at p last) {y = pen_at b.0 (opposite color) rest} (sym (next_is _ t b.2)) reads)
+      ReadsModes.mode (opposite color) rest (ap (behind_read color) read) (subst (λ (p : Pen). reads_at p last) {y = pen_at b.0 (opposite color) rest} (sym (next_is _ t b.2)) reads)
   mode_on front color here last Horizontal rest t read e reads =
       let one = run_on strict columns (pen_at front color rest) (λ p. run_then strict columns p Turn.next) t
       (horizontal_is strict columns other (pen_at front color rest) ∙ e) in
       let two = run_on strict columns (pen_at one.1 (opposite color) one.2) Turn.next t one.4 in
-      ReadsModes.horizontal one.0 two.0 rest one.2 two.2 read one.3 two.3
+      ReadsModes.mode color two.2
+      (ap (behind_read color) read ∙ ap (behind_first_run color) one.3 ∙ ap (behind_second_run color) two.3)
       (subst (λ (c : Color). ReadsModes c two.2 last) (twice color)
       (subst (λ (p : Pen). reads_at p last) {y = pen_at two.1 (opposite (opposite color)) two.2} (sym (next_is _ t two.4)) reads))
 
@@ -250,42 +215,52 @@ mode_is mode word next tail has =
 long : (bits tail rest : Bits) → rest ≡ bits ++ tail → length tail ≤ length rest
 long bits tail rest e = omega (arith, ap length e, length-append bits tail)
 
--- what is read behind its two runs
-runs_behind : (color : Color) (n m : ℕ) (run1 run2 more there rest : Bits) → Spells color n run1 → Spells (opposite color) m run2
-    → there ≡ run1 ++ (run2 ++ more) → Behind color there rest Horizontal → ReadsModes color more rest
-runs_behind color n m run1 run2 more there rest spells1 spells2 split (k, l, second, after, e, f, reads) =
-    let first_read : second ≡ run2 ++ more
-    = run_behind color n k run1 (run2 ++ more) second spells1 (ap (read_run color) (sym split) ∙ e) in
-    let second_read : after ≡ more
-    = run_behind (opposite color) m l run2 more after spells2 (ap (read_run (opposite color)) (sym first_read) ∙ f) in
-    subst (λ (b : Bits). ReadsModes color b rest) second_read reads
+-- the two runs of a horizontal one, unless they sum to too much
+runs_are : (color : Color) (n m : ℕ) (run1 run2 more : Bits) → Spells color n run1 → Spells (opposite color) m run2
+    → (behind_first_run color (read_run color (run1 ++ (run2 ++ more))) ≡ Some (color, more))
+    ⊎ (behind_first_run color (read_run color (run1 ++ (run2 ++ more))) ≡ None)
+runs_are color n m run1 run2 more spells1 spells2 = elim (spelled color n run1 0 (run2 ++ more) spells1) [
+  | inl e ↦ elim (spelled (opposite color) m run2 0 more spells2) [
+    | inl f ↦ inl (ap (behind_first_run color) e ∙ ap (behind_second_run color) f)
+    | inr f ↦ inr (ap (behind_first_run color) e ∙ ap (behind_second_run color) f.1)
+  ]
+  | inr e ↦ inr (ap (behind_first_run color) e.1)
+]
 
 -- what its words leave, from the zeros of an EOL on, is left by the modes that are read
 encoded_from : (reference row : Row) (from : ℕ) (color : Color) (bits tail rest : Bits) → EncodesLine2D reference row from color bits
     → read_code mode_codes tail ≡ Err InvalidCode → ReadsModes color (bits ++ tail) rest → length tail ≤ length rest
 encoded_from reference row from color bits tail rest EncodesLine2D.over none reads =
-    omega (arith, ap length (no_mode color tail rest InvalidCode reads none))
+    omega (arith, ap length (subst (LeftBehind tail rest) (ap (behind_read color) none) (left_behind color tail rest reads)))
 encoded_from reference row from color bits tail rest (EncodesLine2D.pass from2 word {bits = next} inside has left_of steps) none
     reads =
-    elim (behind_mode color ((word ++ next) ++ tail) rest Pass (next ++ tail) reads (mode_is Pass word next tail has)) [
+    elim (subst (LeftBehind ((word ++ next) ++ tail) rest) (ap (behind_read color) (mode_is Pass word next tail has))
+    (left_behind color ((word ++ next) ++ tail) rest reads)) [
       | inl e ↦ long (word ++ next) tail rest e
       | inr more ↦ encoded_from reference row _ color next tail rest steps none more
     ]
 encoded_from reference row from color bits tail rest
     (EncodesLine2D.vertical from2 word k {bits = next} inside has exact steps) none reads =
-    elim (behind_mode color ((word ++ next) ++ tail) rest (Vertical k) (next ++ tail) reads
-    (mode_is (Vertical k) word next tail has)) [
+    elim (subst (LeftBehind ((word ++ next) ++ tail) rest) (ap (behind_read color) (mode_is (Vertical k) word next tail has))
+    (left_behind color ((word ++ next) ++ tail) rest reads)) [
       | inl e ↦ long (word ++ next) tail rest e
       | inr more ↦ encoded_from reference row _ (opposite color) next tail rest steps none more
     ]
 encoded_from reference row from color bits tail rest
     (EncodesLine2D.horizontal from2 word {first = run1} {second = run2} {bits = next} inside has spells1 spells2 steps) none reads =
-    elim (behind_mode color ((word ++ (run1 ++ (run2 ++ next))) ++ tail) rest Horizontal ((run1 ++ (run2 ++ next)) ++ tail) reads
-    (mode_is Horizontal word (run1 ++ (run2 ++ next)) tail has)) [
-      | inl e ↦ long (word ++ (run1 ++ (run2 ++ next))) tail rest e
-      | inr behind ↦ encoded_from reference row _ color next tail rest steps none
-          (runs_behind color _ _ run1 run2 (next ++ tail) ((run1 ++ (run2 ++ next)) ++ tail) rest spells1 spells2
-          (append_assoc run1 (run2 ++ next) tail ∙ ap (λ (b : Bits). run1 ++ b) (append_assoc run2 next tail)) behind)
+    let whole = (word ++ (run1 ++ (run2 ++ next))) ++ tail in
+    let split : (run1 ++ (run2 ++ next)) ++ tail ≡ run1 ++ (run2 ++ (next ++ tail))
+    = append_assoc run1 (run2 ++ next) tail ∙ ap (λ (b : Bits). run1 ++ b) (append_assoc run2 next tail) in
+    let found : behind_mode color whole ≡ behind_first_run color (read_run color (run1 ++ (run2 ++ (next ++ tail))))
+    = ap (behind_read color) (mode_is Horizontal word (run1 ++ (run2 ++ next)) tail has)
+    ∙ ap (λ (b : Bits). behind_first_run color (read_run color b)) split in
+    let left = left_behind color whole rest reads in
+    elim (runs_are color _ _ run1 run2 (next ++ tail) spells1 spells2) [
+      | inl e ↦ elim (subst (LeftBehind whole rest) (found ∙ e) left) [
+        | inl f ↦ long (word ++ (run1 ++ (run2 ++ next))) tail rest f
+        | inr more ↦ encoded_from reference row _ color next tail rest steps none more
+      ]
+      | inr e ↦ long (word ++ (run1 ++ (run2 ++ next))) tail rest (subst (LeftBehind whole rest) (found ∙ e) left)
     ]
 
 -- an EOL begins with eleven zeros, which are no mode

@@ -3,7 +3,9 @@
 ghost use Rattle.std.specs.Prelude.{◌≡◌};
 
 use super::{bytes_of, decodes_in, settings_of};
-use hayro_ccitt::{DecodeSettings, DecoderContext, EncodingMode, bits_fit, body_is_local};
+use hayro_ccitt::{
+    DecodeSettings, DecoderContext, EncodingMode, bits_fit, body_is_local, rows_reached,
+};
 use std::alloc::AllocGlobal;
 use std::process::Abort;
 use std::test::Fail;
@@ -244,6 +246,36 @@ fn bodies_of_random_lines(rt: HostRuntime) -> std::result::Result<(), Fail> {
         let settings = settings_by(encoding, columns, flags);
         let mut ctx = DecoderContext::new(rt.alloc(), settings)?;
         is_local(&rt, &mut ctx, digits, from, to, local);
+    }
+    Ok(())
+}
+
+/// The EOL behind a line, and how many rows damage to that line may change: its own, and those of the two-dimensional lines
+/// up to the next one-dimensional one.
+#[test]
+fn rows_that_damage_reaches(rt: HostRuntime) -> std::result::Result<(), Fail> {
+    let four_rows = "001CC00463800B800073";
+    let ends_in_its_eol = "001CC005400730";
+    for (encoding, flags, digits, to, rows) in [
+        ("2d", "l", four_rows, 0, Some(1)),
+        ("2d", "l", four_rows, 18, Some(3)),
+        ("2d", "l", four_rows, 41, Some(2)),
+        ("2d", "l", four_rows, 57, Some(1)),
+        ("2d", "l", four_rows, 40, None),
+        ("2d", "l", four_rows, 42, None),
+        ("2d", "l", four_rows, 80, None),
+        ("2d", "l", four_rows, 81, None),
+        ("2d", "ls", four_rows, 41, None),
+        ("1d", "l", four_rows, 41, None),
+        // The last word, 010, takes a zero of the EOL, unless there is fill.
+        ("2d", "l", ends_in_its_eol, 18, None),
+        ("2d", "l", "001CC005400398", 18, Some(2)),
+    ] {
+        let mut ctx = DecoderContext::new(rt.alloc(), settings_by(encoding, 8, flags))?;
+        let data = bytes_of(rt.alloc(), digits)?;
+        assert!(rt; bits_fit(&data));
+        let found = rows_reached(&data, &mut ctx, to);
+        assert_eq!(rt; (digits, to, found), (digits, to, rows));
     }
     Ok(())
 }

@@ -8,7 +8,7 @@ use hayro_ccitt::DecodeError::{OutOfMemory, Refused};
 use hayro_ccitt::bit_reader::BitReader;
 use hayro_ccitt::context::decode_2d_line;
 use hayro_ccitt::{
-    DecodeSettings, Decoder, DecoderContext, Result, bits_fit, body_is_local, decode,
+    DecodeSettings, Decoder, DecoderContext, Result, bits_fit, body_is_local, decode, rows_reached,
 };
 use named_requests::{refuse_request, was_refused};
 use std::alloc::AllocGlobal;
@@ -234,6 +234,10 @@ fn calls_without_memory(rt: HostRuntime) -> std::result::Result<(), Fail> {
     assert_eq!(rt; ctx.next_line(&mut sink), Err(Refused));
     ctx.reset();
     assert_eq!(rt; (ctx.decoded_rows(), ctx.has_eols()), (0, false));
+    let mut two_dimensional = DecoderContext::new(rt.alloc(), group_3_2d(8, 0, "l"))?;
+    let lines = [0x00, 0x1C, 0xC0, 0x05, 0x40, 0x03, 0x98];
+    assert!(rt; bits_fit(&lines));
+    assert_eq!(rt; rows_reached(&lines, &mut two_dimensional, 18), Some(2));
     assert!(rt; !was_refused(rt.alloc()));
     Ok(())
 }

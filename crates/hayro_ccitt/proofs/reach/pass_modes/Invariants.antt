@@ -1,0 +1,13 @@
+use Rattle.std.proofs.Common.{◌≡◌, ◌≤◌, length}
+use Rattle.hayro_ccitt.specs.Bits.{here}
+use Rattle.hayro_ccitt.proofs.DamagedLines.LinesPassed.{ReadFurther}
+use Rattle.hayro_ccitt.proofs.reach.pass_modes.Given as goal
+
+-- what is read from here on is read from the start, and the other way round unless it ends before
+abbrev pub invariant-modes : goal.invariant-modes
+invariant-modes l =
+    (l.reader.bits ≡ l.fn.reader.bits) × (l.ctx.held ≡ l.fn.ctx.held) × (l.fn.ctx.ticks ≤ l.ctx.ticks)
+    × ReadFurther (here l.fn.reader) l.color (here l.reader)
+
+abbrev pub decreases-modes : goal.decreases-modes
+decreases-modes l = length (here l.reader)

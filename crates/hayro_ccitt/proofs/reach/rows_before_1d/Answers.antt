@@ -1,0 +1,113 @@
+use Rattle.std.proofs.Common.{◌≡◌, ℕ, ◌≤◌, ◌⊎◌, true, [], ◌∷◌, length, Some, None, sym, ap, subst, ◌∙◌, arith}
+use Rattle.hayro_ccitt.specs.declared.settings.DecodeSettings.{DecodeSettings}
+use Rattle.hayro_ccitt.specs.Bits.{Bits, BitsAt, here}
+use Rattle.hayro_ccitt.specs.Context.{Held}
+use Rattle.hayro_ccitt.specs.EndOfLine.{after_eol, tagged_eols}
+use Rattle.hayro_ccitt.proofs.EncodedPictures.PicturesT4.{eols_here_two}
+use Rattle.hayro_ccitt.proofs.Readings.TurnsMoveOn.{after_eol_shorter, eols_here_counted}
+use Rattle.hayro_ccitt.proofs.DamagedLines.LinesPassed.{before_1d, not_before_1d, counted_on, counted_last, counted_none, no_eol_no_end, no_eol_no_line, no_line_there}
+use Rattle.hayro_ccitt.proofs.reach.rows_before_1d.Goals.{After-read_tagged_eols-count}
+use Rattle.hayro_ccitt.proofs.reach.rows_before_1d.Goals as goal
+
+pub returns-then-not-pass_eol-clause-rows : goal.returns-then-not-pass_eol-clause-rows
+returns-then-not-pass_eol-clause-rows c =
+    let settings = c.args.ctx.now.held.settings in
+    let now = here c.lines.reader in
+    let none : after_eol 0 now ≡ None
+    = ap (λ (at : BitsAt). after_eol 0 (here at)) (sym c.copy-line.ensures.value) ∙ c.if-not-pass_eol.ensures.eol in
+    counted_none settings (here c.args.reader.now) now c.lines.rows c.lines.invariant.4 (no_eol_no_end settings now none)
+    (no_eol_no_line now none)
+
+pub returns-then-is_before_1d-clause-rows : goal.returns-then-is_before_1d-clause-rows
+returns-then-is_before_1d-clause-rows c =
+    let settings = c.args.ctx.now.held.settings in
+    let now = here c.lines.reader in
+    let rest = here c.read_tagged_eols-count.new.self in
+    let count = c.read_tagged_eols-count.result in
+    let eol : after_eol 0 now ≡ Some (here c.pass_eol.new.self)
+    = ap (λ (at : BitsAt). after_eol 0 (here at)) (sym c.copy-line.ensures.value) ∙ c.if-not-pass_eol.ensures.eol in
+    let counted : tagged_eols now ≡ (count, rest)
+    = ap (λ (at : BitsAt). tagged_eols (here at)) (sym c.copy-behind.ensures.value) ∙ c.read_tagged_eols-count.ensures.eols in
+    let same : c.settings.result ≡ settings = c.settings.ensures.value ∙ ap (λ (h : Held). h.settings) c.lines.invariant.1 in
+    counted_last settings (here c.args.reader.now) now c.lines.rows c.lines.invariant.4
+    (before_1d settings now (here c.pass_eol.new.self) rest count eol counted
+    (subst (λ (s : DecodeSettings). ((s.end_of_block ≡ true) × (6 ≤ count))
+    ⊎ (((line : Bits) × (rest ≡ true ∷ line)) ⊎ (rest ≡ []))) same (c.is_before_1d.ensures.ends c.if-is_before_1d.true)))
+
+pub returns-then-not-pass_line-clause-rows : goal.returns-then-not-pass_line-clause-rows
+returns-then-not-pass_line-clause-rows c =
+    let settings = c.args.ctx.now.held.settings in
+    let now = here c.lines.reader in
+    let rest = here c.read_tagged_eols-count.new.self in
+    let count = c.read_tagged_eols-count.result in
+    let eol : after_eol 0 now ≡ Some (here c.pass_eol.new.self)
+    = ap (λ (at : BitsAt). after_eol 0 (here at)) (sym c.copy-line.ensures.value) ∙ c.if-not-pass_eol.ensures.eol in
+    let counted : tagged_eols now ≡ (count, rest)
+    = ap (λ (at : BitsAt). tagged_eols (here at)) (sym c.copy-behind.ensures.value) ∙ c.read_tagged_eols-count.ensures.eols in
+    let same : c.settings.result ≡ settings = c.settings.ensures.value ∙ ap (λ (h : Held). h.settings) c.lines.invariant.1 in
+    let tag = c.is_before_1d.ensures.zero c.if-is_before_1d.false in
+    counted_none settings (here c.args.reader.now) now c.lines.rows c.lines.invariant.4
+    (not_before_1d settings now rest tag.0 count counted
+    (λ block six. c.is_before_1d.ensures.no_rtc c.if-is_before_1d.false (ap (λ (s : DecodeSettings). s.end_of_block) same ∙ block) six)
+    tag.1)
+    (no_line_there now (here c.pass_eol.new.self) eol (c.pass_line.ensures.no_line c.if-not-pass_line.true))
+
+-- what is counted until the tag of the next line
+counted : (c : After-read_tagged_eols-count) → c.args.ctx.now.ticks ≤ c.read_tagged_eols-count.new.ticks
+counted c =
+    let settings = c.args.ctx.now.held.settings in
+    let now = here c.lines.reader in
+    let same = ap (λ (at : BitsAt). tagged_eols (here at)) (sym c.copy-behind.ensures.value) ∙ c.read_tagged_eols-count.ensures.eols
+    in
+    omega (
+      arith,
+      c.lines.invariant.2,
+      c.ticks.ensures.value,
+      c.pass_eol.ensures.ticks,
+      c.ticks-in-lines.ensures.value,
+      c.read_tagged_eols-count.ensures.at_least,
+      ap (λ (at : BitsAt). length (here at)) c.copy-behind.ensures.value,
+      (eols_here_counted settings now).0,
+      ap (λ (e : ℕ × Bits). length e.1) (eols_here_two settings now c.requires.encoding ∙ same),
+    )
+
+pub returns-then-is_before_1d-clause-counts : goal.returns-then-is_before_1d-clause-counts
+returns-then-is_before_1d-clause-counts c =
+    counted (goal.at.returns-then-is_before_1d-clause-counts c).After-read_tagged_eols-count
+
+pub returns-then-not-pass_line-clause-counts : goal.returns-then-not-pass_line-clause-counts
+returns-then-not-pass_line-clause-counts c =
+    omega (
+      arith,
+      counted (goal.at.returns-then-not-pass_line-clause-counts c).After-read_tagged_eols-count,
+      c.pass_line.ensures.counts,
+    )
+
+pub lines-smaller : goal.lines-smaller
+lines-smaller c =
+    let eol = ap (λ (at : BitsAt). after_eol 0 (here at)) (sym c.copy-line.ensures.value) ∙ c.if-not-pass_eol.ensures.eol in
+    omega (
+      arith,
+      c.pass_line.ensures.onward,
+      after_eol_shorter 0 (here c.lines.reader) (here c.pass_eol.new.self) eol,
+    )
+
+pub lines-preserved : goal.lines-preserved
+lines-preserved c =
+    let now = here c.lines.reader in
+    let eol : after_eol 0 now ≡ Some (here c.pass_eol.new.self)
+    = ap (λ (at : BitsAt). after_eol 0 (here at)) (sym c.copy-line.ensures.value) ∙ c.if-not-pass_eol.ensures.eol in
+    let line = c.pass_line.ensures.line c.if-not-pass_line.false in (
+      c.pass_line.ensures.same_bits ∙ c.pass_eol.ensures.same_bits ∙ ap (λ (at : BitsAt). at.bits) c.copy-line.ensures.value
+          ∙ c.lines.invariant.0,
+      c.pass_line.ensures.held ∙ c.lines.invariant.1,
+      omega (arith, counted (goal.at.lines-preserved c).After-read_tagged_eols-count, c.pass_line.ensures.counts),
+      omega (
+        arith,
+        c.lines.invariant.3,
+        c.pass_line.ensures.onward,
+        after_eol_shorter 0 now (here c.pass_eol.new.self) eol,
+      ),
+      counted_on c.args.ctx.now.held.settings (here c.args.reader.now) now line.0 (here c.pass_line.new.reader) c.lines.rows
+          c.lines.invariant.4 (eol ∙ ap (λ (b : Bits). Some b) line.1) line.2,
+    )

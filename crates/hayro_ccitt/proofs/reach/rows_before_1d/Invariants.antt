@@ -1,0 +1,14 @@
+use Rattle.std.proofs.Common.{◌≡◌, ◌+◌, ◌≤◌, length}
+use Rattle.hayro_ccitt.specs.Bits.{here}
+use Rattle.hayro_ccitt.proofs.DamagedLines.LinesPassed.{Counted}
+use Rattle.hayro_ccitt.proofs.reach.rows_before_1d.Given as goal
+
+-- the lines so far are counted; each took a bit or more
+abbrev pub invariant-lines : goal.invariant-lines
+invariant-lines l =
+    (l.reader.bits ≡ l.fn.reader.bits) × (l.ctx.held ≡ l.fn.ctx.held) × (l.fn.ctx.ticks ≤ l.ctx.ticks)
+    × (l.rows + length (here l.reader) ≤ 1 + length (here l.fn.reader))
+    × Counted l.fn.ctx.held.settings (here l.fn.reader) l.rows (here l.reader)
+
+abbrev pub decreases-lines : goal.decreases-lines
+decreases-lines l = length (here l.reader)

@@ -1,0 +1,144 @@
+//! How many rows damage to a line of two-dimensional data may change.
+
+ghost use Rattle.std.specs.Prelude.{◌≡◌, ◌+◌, ◌*◌, ◌<◌, ◌≤◌, ◌⊎◌, ◌↔◌, [], ◌∷◌, ℕ, suc, Some, IfSome, IsTrue, true, false, length, drop};
+ghost use Rattle.hayro_ccitt.specs.Bits.{Bits, BitsFit, bits_of, here};
+ghost use Rattle.hayro_ccitt.specs.LocalityByK.{ComeBefore1D, IsFollowedBy, IsLine2D, ReadsModes};
+
+use crate::bit_reader::BitReader;
+use crate::codes::Color;
+use crate::context::DecoderContext;
+use crate::{DecodeSettings, EncodingMode};
+
+/// Passes the modes of a line, with their runs, as many as can be read.
+fn pass_modes(ctx: &mut DecoderContext, reader: &mut BitReader<'_>)
+    ensures read { ReadsModes Color.White (here reader.old) (here reader.new) }
+    ensures last { (last : Bits) → ReadsModes Color.White (here reader.old) last → length (here reader.new) ≤ length last }
+    ensures same_bits { reader.new.bits ≡ reader.old.bits }
+    ensures held { ctx.new.held ≡ ctx.old.held }
+    ensures counts { ctx.old.ticks ≤ ctx.new.ticks }
+{
+    let mut color = Color::White;
+    'modes: loop {
+        let mut next = reader.copy();
+        match ctx.pass_mode(color, &mut next) {
+            Some(behind) => {
+                color = behind;
+                *reader = next;
+            }
+            None => return,
+        }
+    }
+}
+
+/// Returns whether the line of two-dimensional modes after the tag of zero here ends before the next EOL whatever row it is
+/// read against, and then moves to that EOL.
+fn pass_line(ctx: &mut DecoderContext, reader: &mut BitReader<'_>) -> bool
+    ensures line { result ≡ true → (line : Bits) × (here reader.old ≡ false ∷ line) × IsLine2D line (here reader.new) }
+    ensures no_line { result ≡ false → (line next : Bits) → here reader.old ≡ false ∷ line → IsLine2D line next → ⊥ }
+    ensures onward { length (here reader.new) ≤ length (here reader.old) }
+    ensures same_bits { reader.new.bits ≡ reader.old.bits }
+    ensures held { ctx.new.held ≡ ctx.old.held }
+    ensures counts { ctx.old.ticks ≤ ctx.new.ticks }
+{
+    let mut modes = reader.copy();
+    match modes.read_bit() {
+        Ok(0) => {}
+        _ => return false,
+    }
+    let mut end = reader.copy();
+    if end.pass_eol(ctx.ticks()) {
+        return false;
+    }
+    if !reader.skip_to_eol(ctx.ticks()) {
+        return false;
+    }
+    end = reader.copy();
+    let _ = end.pass_eol(ctx.ticks());
+    pass_modes(ctx, &mut modes);
+    modes.bit_pos() + 12 <= end.bit_pos()
+}
+
+/// Returns whether a two-dimensional line follows EOLs, by its tag.
+fn is_at_zero(reader: &BitReader<'_>) -> bool
+    ensures zero { result ≡ true → (line : Bits) × (here reader.now ≡ false ∷ line) }
+    ensures other { result ≡ false → ((line : Bits) × (here reader.now ≡ true ∷ line)) ⊎ (here reader.now ≡ []) }
+{
+    matches!(reader.copy().read_bit(), Ok(0))
+}
+
+/// Returns whether a one-dimensional line, RTC or the end follows EOLs that were counted; else a two-dimensional line does.
+fn is_before_1d(settings: DecodeSettings, count: usize, behind: &BitReader<'_>) -> bool
+    ensures ends { result ≡ true → ((settings.end_of_block ≡ true) × (6 ≤ count))
+        ⊎ (((line : Bits) × (here behind.now ≡ true ∷ line)) ⊎ (here behind.now ≡ [])) }
+    ensures no_rtc { result ≡ false → settings.end_of_block ≡ true → 6 ≤ count → ⊥ }
+    ensures zero { result ≡ false → (line : Bits) × (here behind.now ≡ false ∷ line) }
+{
+    if settings.end_of_block {
+        if count >= 6 {
+            return true;
+        }
+    }
+    !is_at_zero(behind)
+}
+
+/// Returns one more than the number of two-dimensional lines that follow here up to a one-dimensional line, RTC or the end.
+fn rows_before_1d(ctx: &mut DecoderContext, reader: &mut BitReader<'_>) -> Option<u64>
+    requires encoding { ctx.old.held.settings.encoding ≡ EncodingMode.Group3_2D }
+    ensures rows { (lines : ℕ) → (result ≡ Some (suc lines))
+        ↔ ComeBefore1D ctx.old.held.settings lines (here reader.old) }
+    ensures some { IfSome result (λ rows. 0 < rows) }
+    ensures held { ctx.new.held ≡ ctx.old.held }
+    ensures counts { ctx.old.ticks ≤ ctx.new.ticks }
+{
+    let mut rows: u64 = 1;
+    'lines: loop {
+        let mut line = reader.copy();
+        if !line.pass_eol(ctx.ticks()) {
+            return None;
+        }
+        let mut behind = reader.copy();
+        let count = behind.read_tagged_eols(ctx.ticks());
+        if is_before_1d(ctx.settings(), count, &behind) {
+            return Some(rows);
+        }
+        if !pass_line(ctx, &mut line) {
+            return None;
+        }
+        *reader = line;
+        rows += 1;
+    }
+}
+
+/// Returns whether these settings are those of lenient two-dimensional data of Group 3.
+fn is_lenient_2d(settings: DecodeSettings) -> bool
+    ensures { IsTrue result ↔ ((settings.encoding ≡ EncodingMode.Group3_2D) × (settings.strict ≡ false)) }
+{
+    matches!(settings.encoding, EncodingMode::Group3_2D) && !settings.strict
+}
+
+/// Returns how many rows damage to the line whose body ends at `to`, where its EOL begins, may change in lenient
+/// two-dimensional data of Group 3 (T.4 section 4.2): its own, and one for each two-dimensional line that follows up to
+/// the next one-dimensional line, RTC with `end_of_block`, or the end of the data. It is `None`, and nothing is said, with
+/// other settings, if no EOL begins at `to`, and if one of the lines that follow has no EOL behind it, or reaches into it
+/// with its modes and their runs.
+///
+/// [`laws::locality_by_k`](crate::laws::locality_by_k) says which damage it is: an EOL or the start of the data is before
+/// the line's tag and that EOL behind its body, both before and after the damage. `to` is counted in bits. It allocates
+/// nothing, and no row is read.
+pub fn rows_reached(data: &[u8], ctx: &mut DecoderContext, to: usize) -> Option<u64>
+    requires fit { BitsFit «data».now }
+    ensures rows { (lines : ℕ) → (result ≡ Some (suc lines))
+        ↔ IsFollowedBy ctx.old.held.settings (bits_of «data».now) to lines }
+    ensures some { IfSome result (λ rows. 0 < rows) }
+    ensures held { ctx.new.held ≡ ctx.old.held }
+    ensures counts { ctx.old.ticks ≤ ctx.new.ticks }
+{
+    if !is_lenient_2d(ctx.settings()) {
+        return None;
+    }
+    if to > data.len() * 8 {
+        return None;
+    }
+    let mut reader = BitReader::starting_at(data, to);
+    rows_before_1d(ctx, &mut reader)
+}
