@@ -1,6 +1,6 @@
 -- What decoding one image leaves, in the terms of the callers.
 use Rattle.std.proofs.Common.{◌≡◌, inl, inr, ℕ, List, refl, Ok, Err, arith}
-use Rattle.std.specs.Prelude.{Result}
+use Rattle.std.specs.Prelude.{Result, IsOk}
 use Rattle.hayro_ccitt.specs.declared.error.DecodeError.{DecodeError}
 use Rattle.hayro_ccitt.specs.declared.error.DecodeError.TheVariants.{OutOfMemory}
 use Rattle.hayro_ccitt.specs.declared.settings.DecodeSettings.{DecodeSettings}
@@ -14,10 +14,10 @@ use Rattle.hayro_ccitt.specs.PlainReading.{plain}
 use Rattle.hayro_ccitt.specs.Rows.{Row}
 use Rattle.fax_callers.specs.Readings.{TakesFirst}
 
--- what is true whatever the result is
-on_all : {P : Type 0} (answer : Result ℕ DecodeError) → P → OnAnswer answer P
-on_all (Ok n) holds = holds
-on_all (Err error) holds = λ fault. holds
+-- with what is true of some results, what is true whatever the result is
+and_all : (P Q : Type 0) (answer : Result ℕ DecodeError) → OnAnswer answer P → Q → OnAnswer answer (P × Q)
+and_all P Q (Ok n) answered holds = (answered, holds)
+and_all P Q (Err error) answered holds = λ fault. (answered fault, holds)
 
 -- if the context can't be allocated, no row is accepted
 pub none_taken : {M : Type 0} (settings : DecodeSettings) (bits : Bits) (step : M → List ℕ → M) (meaning : M) (refuses : List ℕ → Type 0)
@@ -36,10 +36,12 @@ module _ {M : Type 0} (settings : DecodeSettings) (bits : Bits) (step : M → Li
         refused = λ e. (left.short.refused e, left.short.refused_row e);
       }
 
-  -- the rows of the reading are those of a closed picture
-  pub closed_rows : (rows : List Row) (count : ℕ) → IsClosedPicture settings rows count bits → OnAnswer answer ((plain settings bits).rows ≡ rows)
-  closed_rows rows count is = on_all answer (left.closed_rows rows count is)
+  -- a closed picture is read as its rows
+  pub closed : (rows : List Row) (count : ℕ) → IsClosedPicture settings rows count bits
+      → OnAnswer answer ((answer ≡ Ok count) × ((plain settings bits).rows ≡ rows))
+  closed rows count is = and_all _ _ answer (left.closed rows count is) (left.closed_rows rows count is)
 
-  -- and those of as many lines as the limit
-  pub limited_rows : (rows : List Row) → IsLimitedPicture settings rows bits → OnAnswer answer ((plain settings bits).rows ≡ rows)
-  limited_rows rows is = on_all answer (left.limited_rows rows is)
+  -- and so are as many lines as the limit
+  pub limited : (rows : List Row) → IsLimitedPicture settings rows bits
+      → OnAnswer answer (IsOk answer × ((plain settings bits).rows ≡ rows))
+  limited rows is = and_all _ _ answer (left.limited rows is) (left.limited_rows rows is)

@@ -39,23 +39,18 @@ pub fn decode_once<D: Decoder>(
     ensures rows { OnAnswer result (D.meaning sink.new
         ≡ meaning_after (D.step (D.width sink.old)) (D.meaning sink.old) (reading_of settings order «data».now).rows) }
     ensures widths { OnAnswer result (HaveWidth settings.columns (reading_of settings order «data».now).rows) }
-    ensures count { IfOk result (λ n. (reading_of settings order «data».now).outcome ≡ Ok n) }
+    ensures count { IfOk result (λ n. ((reading_of settings order «data».now).outcome ≡ Ok n) × (n ≤ length «data».now)) }
     ensures ended { EndsAs result (reading_of settings order «data».now).outcome }
-    ensures within { IfOk result (λ n. n ≤ length «data».now) }
     ensures refused { result ≡ Err DecodeError.Refused → D.has_refused sink.new ≡ true }
     ensures not_refused { result ≢ Err DecodeError.Refused → D.has_refused sink.new ≡ D.has_refused sink.old }
 
     // A closed picture is read as its rows, and the result is its number of bytes, whatever follows it.
     ensures closed { (rows : List Row) (count : ℕ) → IsClosedPicture settings rows count (bits_in order «data».now)
-        → OnAnswer result (result ≡ Ok count) }
-    ensures picture { (rows : List Row) (count : ℕ) → IsClosedPicture settings rows count (bits_in order «data».now)
-        → OnAnswer result ((reading_of settings order «data».now).rows ≡ rows) }
+        → OnAnswer result ((result ≡ Ok count) × ((reading_of settings order «data».now).rows ≡ rows)) }
 
     // So are as many lines as the row limit.
     ensures limited { (rows : List Row) → IsLimitedPicture settings rows (bits_in order «data».now)
-        → OnAnswer result (IsOk result) }
-    ensures limited_picture { (rows : List Row) → IsLimitedPicture settings rows (bits_in order «data».now)
-        → OnAnswer result ((reading_of settings order «data».now).rows ≡ rows) }
+        → OnAnswer result (IsOk result × ((reading_of settings order «data».now).rows ≡ rows)) }
 {
     let mut ctx = DecoderContext::new(alloc, settings)?;
     decode_in(order, data, sink, &mut ctx)

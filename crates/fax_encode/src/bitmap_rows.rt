@@ -176,6 +176,7 @@ fn plain_words(bytes: &[u8], most: usize, is_black: bool) -> usize
 
 /// Replaces a list by the changes of the first row of a bitmap. Words of one colour are skipped at once at the row's
 /// start and after each word without a change.
+#[inline(always)]
 pub fn scan_row(list: &mut Vec<u32>, columns: u32, bitmap: &[u8]) -> Result<(), AllocError>
     requires { bytes_of_row columns ≤ length bitmap.now }
     ensures lawful { OnOk result (AreChanges columns list.new.items) }

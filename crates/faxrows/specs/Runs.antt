@@ -1,5 +1,5 @@
 -- What a run writes.
-use Rattle.std.specs.Prelude.{◌≡◌, ◌<◌, ◌≤◌, ℕ, List, length, map, take, Option, IfSome, Result, Ok, Err}
+use Rattle.std.specs.Prelude.{◌≡◌, ◌<◌, ◌≤◌, ℕ, List, length, map, take, Option, IfSome, Result, Ok, Err, IsOk, IsErr}
 use Rattle.hayro_ccitt.specs.declared.error.DecodeError.{DecodeError}
 use Rattle.hayro_ccitt.specs.declared.error.DecodeError.TheVariants.{UnexpectedEof, InvalidCode, Overflow, OutOfMemory, Refused}
 use Rattle.hayro_ccitt.specs.declared.settings.DecodeSettings.{DecodeSettings}
@@ -56,6 +56,13 @@ EndsAfter settings bits taken (Err Refused) = taken < length (rows_of settings b
 abbrev pub IsTextOfWant : DecodeSettings → Bits → List ℕ → Type 0
 IsTextOfWant settings bits text =
     (taken : ℕ) × (outcome : Outcome) × EndsAfter settings bits taken outcome × (done_of outcome ≡ Memory) × (text ≡ text_after settings bits taken outcome)
+
+-- How a run ended that wrote its text: with all of it, after a reading that ended well or at a fault, or with one that is cut short
+-- by an allocation failure or a refusal.
+abbrev pub IsEndOfRun : Done → Outcome → List ℕ → (List ℕ → Type 0) → (List ℕ → Type 0) → Type 0
+IsEndOfRun Good outcome whole IsCut Wrote = IsOk outcome × Wrote whole
+IsEndOfRun Faulty outcome whole IsCut Wrote = IsErr outcome × Wrote whole
+IsEndOfRun Memory outcome whole IsCut Wrote = (text : List ℕ) × IsCut text × Wrote text
 
 -- a statement about the settings that the arguments mean, and about the bits, in the order that the arguments select, of
 -- the bytes that a reader supplies

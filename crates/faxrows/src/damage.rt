@@ -8,7 +8,7 @@ ghost use Rattle.fax_program.specs.Devices.{AppendsFront, WasRead};
 ghost use Rattle.faxrows.specs.Arguments.{arguments_of_words};
 ghost use Rattle.faxrows.specs.DamageText.{IsDamageText, IsDamageWithoutMemory, damage_after, damage_lines, last_line_of_damage, line_of_damage, whole_damage};
 ghost use Rattle.faxrows.specs.Output.{PassesOn};
-ghost use Rattle.faxrows.specs.Runs.{Outcome, OnKnown, rows_of, outcome_of, done_of};
+ghost use Rattle.faxrows.specs.Runs.{Outcome, OnKnown, rows_of, outcome_of, done_of, IsEndOfRun};
 ghost use Rattle.faxrows.specs.RunsByRow.{EndsByRow};
 
 use crate::arguments::arguments_of;
@@ -38,22 +38,10 @@ pub fn run_damage<R: Read, W: Write>(
         ↔ (arguments_of_words (map string_bytes words.now) ≡ None) }
     ensures unread { result ≡ Err RunFault.BadArguments → reader.new ≡ reader.old }
     ensures unwritten { IfErr result (λ fault. fault ≢ RunFault.Write → writer.new ≡ writer.old) }
-    ensures good { result ≡ Ok Done.Good
-        → OnKnown (arguments_of_words (map string_bytes words.now)) (R.remaining reader.old.0) (λ settings bits.
-        Appends (W.contents writer.old.0) (W.contents writer.new.0) (whole_damage settings bits)) }
-    ensures good_outcome { result ≡ Ok Done.Good
-        → OnKnown (arguments_of_words (map string_bytes words.now)) (R.remaining reader.old.0) (λ settings bits.
-        IsOk (outcome_of settings bits)) }
-    ensures faulty { result ≡ Ok Done.Faulty
-        → OnKnown (arguments_of_words (map string_bytes words.now)) (R.remaining reader.old.0) (λ settings bits.
-        Appends (W.contents writer.old.0) (W.contents writer.new.0) (whole_damage settings bits)) }
-    ensures faulty_outcome { result ≡ Ok Done.Faulty
-        → OnKnown (arguments_of_words (map string_bytes words.now)) (R.remaining reader.old.0) (λ settings bits.
-        IsErr (outcome_of settings bits)) }
-    ensures memory { result ≡ Ok Done.Memory
-        → OnKnown (arguments_of_words (map string_bytes words.now)) (R.remaining reader.old.0) (λ settings bits.
-        (text : List ℕ) × IsDamageWithoutMemory settings bits text
-        × Appends (W.contents writer.old.0) (W.contents writer.new.0) text) }
+    ensures ended { IfOk result (λ done.
+        OnKnown (arguments_of_words (map string_bytes words.now)) (R.remaining reader.old.0) (λ settings bits.
+        IsEndOfRun done (outcome_of settings bits) (whole_damage settings bits) (IsDamageWithoutMemory settings bits) (λ text.
+        Appends (W.contents writer.old.0) (W.contents writer.new.0) text))) }
     ensures front { result ≡ Err RunFault.Write
         → OnKnown (arguments_of_words (map string_bytes words.now)) (R.remaining reader.old.0) (λ settings bits.
         (text : List ℕ) × IsDamageText settings bits text

@@ -6,7 +6,7 @@ ghost use Rattle.hayro_ccitt.specs.Bits.{BitsFit, bits_in};
 ghost use Rattle.fax_program.specs.Devices.{WasRead};
 ghost use Rattle.faxrows.specs.Arguments.{arguments_of_words};
 ghost use Rattle.faxrows.specs.Text.{line_of_outcome};
-ghost use Rattle.faxrows.specs.Runs.{Outcome, OnKnown, EndsAfter, IsTextOfWant, whole_text, text_after, outcome_of, done_of};
+ghost use Rattle.faxrows.specs.Runs.{Outcome, OnKnown, EndsAfter, IsTextOfWant, whole_text, text_after, outcome_of, done_of, IsEndOfRun};
 
 use crate::arguments::arguments_of;
 use crate::last_line::{ROOM, error_line, put_ok};
@@ -44,22 +44,10 @@ pub fn run<R: Read, W: Write>(
         ↔ (arguments_of_words (map string_bytes words.now) ≡ None) }
     ensures unread { result ≡ Err RunFault.BadArguments → reader.new ≡ reader.old }
     ensures unwritten { IfErr result (λ fault. fault ≢ RunFault.Write → writer.new ≡ writer.old) }
-    ensures good { result ≡ Ok Done.Good
-        → OnKnown (arguments_of_words (map string_bytes words.now)) (R.remaining reader.old.0) (λ settings bits.
-        Appends (W.contents writer.old.0) (W.contents writer.new.0) (whole_text settings bits)) }
-    ensures good_outcome { result ≡ Ok Done.Good
-        → OnKnown (arguments_of_words (map string_bytes words.now)) (R.remaining reader.old.0) (λ settings bits.
-        IsOk (outcome_of settings bits)) }
-    ensures faulty { result ≡ Ok Done.Faulty
-        → OnKnown (arguments_of_words (map string_bytes words.now)) (R.remaining reader.old.0) (λ settings bits.
-        Appends (W.contents writer.old.0) (W.contents writer.new.0) (whole_text settings bits)) }
-    ensures faulty_outcome { result ≡ Ok Done.Faulty
-        → OnKnown (arguments_of_words (map string_bytes words.now)) (R.remaining reader.old.0) (λ settings bits.
-        IsErr (outcome_of settings bits)) }
-    ensures memory { result ≡ Ok Done.Memory
-        → OnKnown (arguments_of_words (map string_bytes words.now)) (R.remaining reader.old.0) (λ settings bits.
-        (text : List ℕ) × IsTextOfWant settings bits text
-        × Appends (W.contents writer.old.0) (W.contents writer.new.0) text) }
+    ensures ended { IfOk result (λ done.
+        OnKnown (arguments_of_words (map string_bytes words.now)) (R.remaining reader.old.0) (λ settings bits.
+        IsEndOfRun done (outcome_of settings bits) (whole_text settings bits) (IsTextOfWant settings bits) (λ text.
+        Appends (W.contents writer.old.0) (W.contents writer.new.0) text))) }
     ensures drained { IfOk result (λ _. IsAtEnd (R.remaining reader.new.0)) }
     ensures fit { IfOk result (λ _. IfSome (R.remaining reader.old.0) BitsFit) }
     ensures fit_write { result ≡ Err RunFault.Write → IfSome (R.remaining reader.old.0) BitsFit }

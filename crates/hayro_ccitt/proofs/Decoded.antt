@@ -1,5 +1,5 @@
 -- The contract of `decode`, from the accepted rows and the result.
-use Rattle.std.proofs.Common.{◌≡◌, ◌⊎◌, ℕ, Bool, List, take, take_all, Option, None, Some, Result, Ok, Err, false, sym, ap, subst, ◌∙◌, arith}
+use Rattle.std.proofs.Common.{◌≡◌, ◌⊎◌, ℕ, Bool, List, take, take_all, Option, None, Some, Result, Ok, Err, true, false, sym, ap, subst, ◌∙◌, arith}
 use Rattle.std.specs.Prelude.{IsOk, OnErr, OnOk}
 use Rattle.std.proofs.lemmas.List.Concat.{length-flat_map}
 use Rattle.hayro_ccitt.specs.declared.error.DecodeError.{DecodeError}
@@ -9,8 +9,8 @@ use Rattle.hayro_ccitt.specs.Answers.{OnAnswer, meaning_after}
 use Rattle.hayro_ccitt.specs.Bits.{Bits, AreWholeBytes}
 use Rattle.hayro_ccitt.specs.Context.{Held}
 use Rattle.hayro_ccitt.specs.Contract.{Decodes}
-use Rattle.hayro_ccitt.specs.Damage.{Damaged, repairs_by_line}
-use Rattle.hayro_ccitt.specs.Decoding.{SinkState, TakesRows, StopsShort, CountsRepairs}
+use Rattle.hayro_ccitt.specs.Damage.{Damaged, repairs_by_line, misses_by_line}
+use Rattle.hayro_ccitt.specs.Decoding.{SinkState, TakesRows, StopsShort, CountsDamage}
 use Rattle.hayro_ccitt.specs.Lines.{Line}
 use Rattle.hayro_ccitt.specs.PlainReading.{plain, lines_of, failed_at}
 use Rattle.hayro_ccitt.specs.Rows.{Row}
@@ -21,7 +21,7 @@ use Rattle.hayro_ccitt.proofs.DamagedLines.DamageByK.{damage_ends}
 use Rattle.hayro_ccitt.proofs.EncodedPictures.PicturesOfEachKind.{closed_pictures, limited_pictures}
 use Rattle.hayro_ccitt.proofs.Readings.PlainAnswers.{LeavesRows}
 use Rattle.hayro_ccitt.proofs.Readings.RowWidths.{plain_width}
-use Rattle.hayro_ccitt.proofs.Readings.Undamaged.{no_repairs, closed_strict, limited_strict}
+use Rattle.hayro_ccitt.proofs.Readings.Undamaged.{no_repairs, no_misses, closed_strict, limited_strict}
 
 -- what follows is true of the same results
 on_answer : {P Q : Type 0} (answer : Result ℕ DecodeError) → (P → Q) → OnAnswer answer P → OnAnswer answer Q
@@ -49,10 +49,10 @@ short_still rows lines before after held place answer short =
 pub decodes : {M : Type 0} (settings : DecodeSettings) (bits : Bits) (step : M → List ℕ → M) (before after : SinkState M) (held : Held) (place : Option ℕ) (ticks : ℕ) (answer : Result ℕ DecodeError)
     → AreSettings settings → AreWholeBytes bits → LeavesRows settings bits step before after held answer
     → ((settings.encoding ≡ Group4) ⊎ (settings.columns ≡ 0) → held.has_eols ≡ false) → CountsWork settings bits held.taken ticks
-    → CountsRepairs (repairs_by_line settings bits) held answer
+    → CountsDamage (repairs_by_line settings bits) held.taken held.repairs.rows answer → CountsDamage (misses_by_line settings bits) held.taken held.repairs.missed answer
     → OnErr answer (place ≡ Some (failed_at settings bits held.taken)) → OnOk answer (place ≡ None)
     → Decodes settings bits step before after (record held { fault_start = place }) ticks answer
-decodes settings bits step before after held place ticks answer are whole (takes, short) no_eols work repaired fails no_fault =
+decodes settings bits step before after held place ticks answer are whole (takes, short) no_eols work repaired missed fails no_fault =
     let end = to_the_end (plain settings bits).rows (plain settings bits).outcome step before after held answer takes in
     record {
       work = work;
@@ -69,14 +69,25 @@ decodes settings bits step before after held place ticks answer are whole (takes
       limited_rows = λ rows picture. (limited_pictures settings rows bits are whole picture).0;
       limited = λ rows picture. on_answer answer (λ e. subst IsOk (sym e.1) (limited_pictures settings rows bits are whole picture).1) end;
       limited_picture = λ rows picture. on_answer answer (λ e. means rows (e.0 ∙ (limited_pictures settings rows bits are whole picture).0)) end;
-      damaged_taken = repaired.taken;
+      damaged_taken = repaired.of_taken;
       damaged = on_answer answer (λ e. e ∙ sym (length-flat_map (λ (row : List Damaged). row) (repairs_by_line settings bits))) repaired.all;
-      closed_whole = λ rows count picture. repaired.taken ∙ no_repairs settings bits held.taken (closed_strict settings rows count bits are whole picture);
-      limited_whole = λ rows picture. repaired.taken ∙ no_repairs settings bits held.taken (limited_strict settings rows bits are whole picture);
+      closed_whole = λ rows count picture. unrepaired (closed_strict settings rows count bits are whole picture);
+      limited_whole = λ rows picture. unrepaired (limited_strict settings rows bits are whole picture);
+      missed_taken = missed.of_taken;
+      missed = on_answer answer (λ e. e ∙ sym (length-flat_map (λ (eol : List Damaged). eol) (misses_by_line settings bits))) missed.all;
+      closed_eols = λ rows count picture. unmissed (closed_strict settings rows count bits are whole picture);
+      limited_eols = λ rows picture. unmissed (limited_strict settings rows bits are whole picture);
+      undamaged = λ ok. (unrepaired ok, unmissed ok);
       damage = on_answer answer (λ e. damage_stays settings bits (take held.taken (plain settings bits).rows) answer are whole e.0 e.1) end;
       damage_by_k = on_answer answer (λ e. damage_ends settings bits
           (take held.taken (plain settings bits).rows) answer are whole e.0 e.1) end;
     }
   where
+    unrepaired : IsOk (plain (record settings { strict = true }) bits).outcome → held.repairs.rows ≡ 0
+    unrepaired ok = repaired.of_taken ∙ no_repairs settings bits held.taken ok
+
+    unmissed : IsOk (plain (record settings { strict = true }) bits).outcome → held.repairs.missed ≡ 0
+    unmissed ok = missed.of_taken ∙ no_misses settings bits held.taken ok
+
     means : (rows : List Row) → take held.taken (plain settings bits).rows ≡ rows → after.meaning ≡ meaning_after step before.meaning rows
     means rows same = takes.meaning ∙ ap (meaning_after step before.meaning) same

@@ -5,7 +5,7 @@ pub mod PlainAnswers
 pub mod Repeated
 pub mod RowWidths
 pub mod RowsAndGaps
-pub mod RepairsCounted
+pub mod DamageCounted
 pub mod RowByRow
 pub mod RowsTaken
 pub mod RunsOverRows

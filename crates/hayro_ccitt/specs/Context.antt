@@ -1,5 +1,5 @@
 -- What a context holds between its calls.
-use Rattle.std.specs.Prelude.{ℕ, zero, suc, ◌+◌, ◌-◌, [], ◌++◌, Bool, false, length, replicate, Result, ◌≡◌, ◌≤◌, ◌<◌, List, get_or, filter, nat_le, Option, None}
+use Rattle.std.specs.Prelude.{ℕ, zero, suc, ◌+◌, ◌-◌, [], ◌++◌, Bool, false, ◌||◌, ◌==◌, if◌then◌else◌, length, replicate, Result, ◌≡◌, ◌≤◌, ◌<◌, List, get_or, filter, nat_le, Option, None}
 use Rattle.hayro_ccitt.specs.declared.codes.Color.{Color}
 use Rattle.hayro_ccitt.specs.declared.codes.Color.TheVariants.{White}
 use Rattle.hayro_ccitt.specs.declared.settings.DecodeSettings.{DecodeSettings}
@@ -7,14 +7,23 @@ use Rattle.hayro_ccitt.specs.declared.error.DecodeError.{DecodeError}
 use Rattle.hayro_ccitt.specs.declared.error.DecodeError.TheVariants.{UnexpectedEof}
 use Rattle.hayro_ccitt.specs.Rows.{Row, white_row, repaired, paint, last_pixel}
 
--- how many of the accepted rows were repaired, and the fault of the last of these (T.4, 4.1.2)
+-- Of the accepted rows: how many were repaired, the fault of the last of these, the number of rows with it, and after how many
+-- rows an EOL was missed (T.4, 4.1.2).
 pub record Repairs : Type 0 where
   pub rows : ℕ
   pub fault : DecodeError
+  pub last : ℕ
+  pub missed : ℕ
 
 -- none was; the fault means nothing then (auxiliary)
 abbrev pub no_repairs : Repairs
-no_repairs = record { rows = 0; fault = UnexpectedEof }
+no_repairs = record { rows = 0; fault = UnexpectedEof; last = 0; missed = 0 }
+
+-- An EOL is missed after this number of rows, unless the last of them was repaired: then the search for the next EOL is part of
+-- its repair. There is at most one EOL a row (T.4, 4.1.2).
+abbrev pub with_missed : ℕ → Repairs → Repairs
+with_missed taken before =
+    if (before.last == taken) || nat_le taken before.missed then before else record before { missed = before.missed + 1 }
 
 -- the reference row, the front of the coding row, the present colour, the number of rows that were accepted, what was
 -- repaired of them, whether EOLs are sought, where the last decoding failed, and the settings (T.4, 4.1.2 and 4.2.1.1)

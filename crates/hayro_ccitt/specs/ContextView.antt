@@ -14,7 +14,7 @@ context_of c =
         front = pixels c.pixels_decoded c.coding_changes.items;
         color = c.color;
         taken = c.decoded_rows;
-        repairs = record { rows = c.damaged_rows; fault = c.last_fault };
+        repairs = record { rows = c.damaged_rows; fault = c.last_fault; last = c.last_damaged; missed = c.missed_eols };
         has_eols = c.has_eols;
         fault_start = c.fault_start;
         settings = c.settings;

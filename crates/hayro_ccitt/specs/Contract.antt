@@ -1,12 +1,12 @@
 -- The contract of `decode` and of `decode_low_first`, over the bits of their data.
-use Rattle.std.specs.Prelude.{◌≡◌, ◌⊎◌, ℕ, false, List, length, take, sum_by, None, Some, Result, Ok, IsOk, OnOk, OnErr}
+use Rattle.std.specs.Prelude.{◌≡◌, ◌⊎◌, ℕ, true, false, List, length, take, sum_by, None, Some, Result, Ok, IsOk, OnOk, OnErr}
 use Rattle.hayro_ccitt.specs.declared.error.DecodeError.{DecodeError}
 use Rattle.hayro_ccitt.specs.declared.settings.DecodeSettings.{DecodeSettings}
 use Rattle.hayro_ccitt.specs.declared.settings.EncodingMode.TheVariants.{Group4}
 use Rattle.hayro_ccitt.specs.Answers.{OnAnswer, meaning_after}
 use Rattle.hayro_ccitt.specs.Bits.{Bits}
 use Rattle.hayro_ccitt.specs.Context.{Held}
-use Rattle.hayro_ccitt.specs.Damage.{repairs_by_line, repairs_of}
+use Rattle.hayro_ccitt.specs.Damage.{repairs_by_line, repairs_of, misses_by_line, misses_of}
 use Rattle.hayro_ccitt.specs.Decoding.{SinkState, TakesRows, StopsShort}
 use Rattle.hayro_ccitt.specs.Locality.{DamageStaysInRow}
 use Rattle.hayro_ccitt.specs.LocalityByK.{DamageEndsAt1D}
@@ -54,6 +54,14 @@ pub record Decodes {M : Type 0} (settings : DecodeSettings) (bits : Bits) (step 
   -- In a picture no row is repaired (T.4, 4.1.2).
   pub closed_whole : (rows : List Row) (count : ℕ) → IsClosedPicture settings rows count bits → held.repairs.rows ≡ 0
   pub limited_whole : (rows : List Row) → IsLimitedPicture settings rows bits → held.repairs.rows ≡ 0
+  -- It counts the accepted rows after which the EOL was missed; after a repaired row none is (T.4, 4.1.2).
+  pub missed_taken : held.repairs.missed ≡ sum_by length (take held.taken (misses_by_line settings bits))
+  pub missed : OnAnswer answer (held.repairs.missed ≡ length (misses_of settings bits))
+  -- In a picture none is (T.4, 4.1.2).
+  pub closed_eols : (rows : List Row) (count : ℕ) → IsClosedPicture settings rows count bits → held.repairs.missed ≡ 0
+  pub limited_eols : (rows : List Row) → IsLimitedPicture settings rows bits → held.repairs.missed ≡ 0
+  -- Where the strict reading ends without a fault, no row is repaired and no EOL missed (T.4, 4.1.2).
+  pub undamaged : IsOk (plain (record settings { strict = true }) bits).outcome → (held.repairs.rows ≡ 0) × (held.repairs.missed ≡ 0)
   -- In lenient one-dimensional data with EOLs a change inside one line's body changes that row alone (T.4, 4.1.2).
   pub damage : OnAnswer answer (DamageStaysInRow settings bits (take held.taken (plain settings bits).rows) answer)
   -- In two-dimensional ones a change inside one line changes no row from the next one-dimensional line on, if the lines in

@@ -50,11 +50,23 @@ missed_behind settings bits so_far (Line.whole row rest) =
     else []
 missed_behind settings bits so_far (Line.broken front fault) = []
 
+-- auxiliary: after the line of a turn
+abbrev pub missed_by_turn : DecodeSettings → Bits → Progress → List Damaged
+missed_by_turn settings bits so_far = missed_behind settings bits so_far (line_of_turn settings so_far)
+
+-- What is missed after each line of the plain reading, in the order of `lines_of`: one EOL or none.
+abbrev pub misses_by_line : DecodeSettings → Bits → List (List Damaged)
+misses_by_line settings bits = if settings.columns == 0 then [] else gathered_of settings (missed_by_turn settings bits) bits
+
+-- The EOLs that the plain reading misses, in order (T.4, 4.1.2).
+abbrev pub misses_of : DecodeSettings → Bits → List Damaged
+misses_of settings bits = flat_map (λ missed. missed) (misses_by_line settings bits)
+
 -- ---- All damage
 
 -- auxiliary: of a turn
 abbrev pub damaged_by_turn : DecodeSettings → Bits → Progress → List Damaged
-damaged_by_turn settings bits so_far = repaired_by_turn settings bits so_far ++ missed_behind settings bits so_far (line_of_turn settings so_far)
+damaged_by_turn settings bits so_far = repaired_by_turn settings bits so_far ++ missed_by_turn settings bits so_far
 
 -- All damage that the plain reading passes, in order: each row that it repairs, and each row after which it misses the EOL
 -- (T.4, 4.1.2).

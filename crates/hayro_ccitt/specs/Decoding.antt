@@ -1,15 +1,15 @@
 -- What decoding leaves: in the sink, in the context, and of the reading.
-use Rattle.std.specs.Prelude.{sum_by, ◌≡◌, ◌≢◌, ◌≤◌, ◌<◌, ℕ, ◌+◌, ◌-◌, Bool, true, false, List, [], length, take, get_or, Result, Ok, Err, OnOk, OnErr, IfOk, IfErr}
+use Rattle.std.specs.Prelude.{sum_by, ◌≡◌, ◌≢◌, ◌≤◌, ◌<◌, ℕ, ◌+◌, ◌-◌, Bool, true, false, not, ◌&&◌, if◌then◌else◌, List, [], length, take, get_or, Result, Ok, Err, OnOk, OnErr, IfOk, IfErr}
 use Rattle.hayro_ccitt.specs.declared.codes.Color.TheVariants.{White}
 use Rattle.hayro_ccitt.specs.declared.error.DecodeError.{DecodeError}
 use Rattle.hayro_ccitt.specs.declared.error.DecodeError.TheVariants.{OutOfMemory, Refused}
 use Rattle.hayro_ccitt.specs.Answers.{IsFault, OnAnswer, HasBlack, PaintsBlack, front_of, meaning_after}
 use Rattle.hayro_ccitt.specs.Bits.{Bits}
-use Rattle.hayro_ccitt.specs.Context.{Context, Held, Repairs, redrawn}
-use Rattle.hayro_ccitt.specs.Damage.{Damaged, repaired_by_turn}
+use Rattle.hayro_ccitt.specs.Context.{Context, Held, Repairs, redrawn, with_missed}
+use Rattle.hayro_ccitt.specs.Damage.{Damaged, repaired_by_turn, missed_by_turn}
 use Rattle.hayro_ccitt.specs.declared.settings.DecodeSettings.{DecodeSettings}
 use Rattle.hayro_ccitt.specs.Lines.{Line}
-use Rattle.hayro_ccitt.specs.PlainReading.{Progress, Ending, Gap, move_on, one_each, end_of, ending_from, gathered_of, gathered_from, line_of_turn, start_of_turn, end_of_turn, failing_at, failed_at}
+use Rattle.hayro_ccitt.specs.PlainReading.{Progress, Ending, Gap, move_on, one_each, end_of, ending_from, gathered_of, gathered_from, line_of_turn, start_of_turn, end_of_turn, failing_at, failed_at, misses_eol}
 use Rattle.hayro_ccitt.specs.Rows.{Row, changes}
 use Rattle.hayro_ccitt.specs.Work.{CountsRun, words_of_turn, most_counted}
 
@@ -40,21 +40,22 @@ pub record StopsShort {M A : Type 0} (rows : List Row) (lines : List Line) (befo
   pub flag : answer ≡ Err Refused → after.refused ≡ true
   pub no_flag : answer ≢ Err Refused → after.refused ≡ before.refused
 
--- How many rows are repaired, if the lines of a reading yield these repairs: those of the accepted rows, and all of them unless
--- an allocation failed or a row was refused (T.4, 4.1.2).
-pub record CountsRepairs {A : Type 0} (repairs : List (List Damaged)) (held : Held) (answer : Result A DecodeError) : Type 0 where
-  pub taken : held.repairs.rows ≡ sum_by length (take held.taken repairs)
-  pub all : OnAnswer answer (held.repairs.rows ≡ sum_by length repairs)
+-- How much damage was counted after this number of rows, if the lines of a reading yield this damage: that of the accepted rows,
+-- and all of it unless an allocation failed or a row was refused (T.4, 4.1.2).
+pub record CountsDamage {A : Type 0} (by_line : List (List Damaged)) (taken counted : ℕ) (answer : Result A DecodeError) : Type 0 where
+  pub of_taken : counted ≡ sum_by length (take taken by_line)
+  pub all : OnAnswer answer (counted ≡ sum_by length by_line)
 
 -- ---- All rows of some bits: the contract of the drivers
 
--- What a run over rows leaves, from the end of its reading, its lines, their words and repairs: the accepted rows, why there
--- are fewer if there are, how many were repaired, and at most this much work.
-pub record TakesAll {M : Type 0} (end : Ending) (lines : List Line) (words : List (List Bits)) (repairs : List (List Damaged)) (most : ℕ) (step : M → List ℕ → M) (before after : SinkState M) (old new : Context) (answer : Result Bits DecodeError) : Type 0 where
+-- What a run over rows leaves, from the end of its reading, its lines, their words, repairs and missed EOLs: the accepted rows,
+-- why there are fewer if there are, how many were repaired, how many EOLs were missed, and at most this much work.
+pub record TakesAll {M : Type 0} (end : Ending) (lines : List Line) (words : List (List Bits)) (repairs misses : List (List Damaged)) (most : ℕ) (step : M → List ℕ → M) (before after : SinkState M) (old new : Context) (answer : Result Bits DecodeError) : Type 0 where
   pub settings : new.held.settings ≡ old.held.settings
   pub reading : TakesRows end.rows end.outcome end.has_eols step before after new.held answer
   pub short : StopsShort end.rows lines before after new.held answer
-  pub repaired : CountsRepairs repairs new.held answer
+  pub repaired : CountsDamage repairs new.held.taken new.held.repairs.rows answer
+  pub missed : CountsDamage misses new.held.taken new.held.repairs.missed answer
   pub work : CountsRun words new.held.taken old.ticks new.ticks most
 
 -- a run over the rows of some bits, read by the settings (T.4, 4.1 and 4.2; T.6, 2.2 and 2.4.1)
@@ -62,7 +63,8 @@ abbrev pub DecodesRows : {M : Type 0} → Bits → (M → List ℕ → M) → Si
 DecodesRows bits step before after old new answer =
     TakesAll (end_of old.held.settings bits) (gathered_of old.held.settings (line_of_turn old.held.settings) bits)
     (gathered_of old.held.settings (words_of_turn old.held.settings) bits)
-    (gathered_of old.held.settings (repaired_by_turn old.held.settings bits) bits) (most_counted old.held.settings.encoding (length bits))
+    (gathered_of old.held.settings (repaired_by_turn old.held.settings bits) bits)
+    (gathered_of old.held.settings (missed_by_turn old.held.settings bits) bits) (most_counted old.held.settings.encoding (length bits))
     step before after old new answer
 
 -- a run over the rows of some bits that took this number of rows and left these bits failed where the reading does (T.4, 4.1.2)
@@ -86,16 +88,21 @@ abbrev pub with_row_taken : Held → Row → Held
 with_row_taken h row =
     record { reference = row; front = []; color = White; taken = h.taken + 1; repairs = h.repairs; has_eols = h.has_eols; fault_start = h.fault_start; settings = h.settings }
 
--- what is repaired of the accepted rows, with the row of one more line: a broken line was repaired (T.4, 4.1.2)
-abbrev pub repairs_with : Line → Repairs → Repairs
-repairs_with (Line.whole row rest) before = before
-repairs_with (Line.broken front fault) before = record { rows = before.rows + 1; fault = fault }
+-- what is repaired of this number of accepted rows, with the row of one more line: a broken line was repaired (T.4, 4.1.2)
+abbrev pub repairs_with : Line → ℕ → Repairs → Repairs
+repairs_with (Line.whole row rest) taken before = before
+repairs_with (Line.broken front fault) taken before = record before { rows = before.rows + 1; fault = fault; last = taken + 1 }
+
+-- what is counted after the gap behind the accepted rows, which begins here: a missed EOL, in lenient data (T.4, 4.1.2)
+abbrev pub repairs_behind : Held → Bits → Repairs
+repairs_behind held here =
+    if misses_eol held.settings held.taken held.has_eols here && not held.settings.strict then with_missed held.taken held.repairs else held.repairs
 
 -- the row of a line was accepted, and these bits follow it
 pub record RowIsTaken {M : Type 0} (line : Line) (row : Result (Row × Bits) DecodeError) (step : M → List ℕ → M) (before after : SinkState M) (old new : Held) (rest : Bits) : Type 0 where
   pub taken : Row
   pub is : row ≡ Ok (taken, rest)
-  pub held : new ≡ record (with_row_taken old taken) { repairs = repairs_with line old.repairs }
+  pub held : new ≡ record (with_row_taken old taken) { repairs = repairs_with line old.taken old.repairs }
   pub meaning : after.meaning ≡ step before.meaning (changes taken)
 
 -- the row here is refused
@@ -119,7 +126,8 @@ abbrev pub DecodesFrom : {M : Type 0} → Bits → Progress → ℕ → (M → L
 DecodesFrom bits first most step before after old new answer =
     TakesAll (ending_from (move_on old.held.settings) first) (gathered_from (move_on old.held.settings) (one_each (line_of_turn old.held.settings)) first)
     (gathered_from (move_on old.held.settings) (one_each (words_of_turn old.held.settings)) first)
-    (gathered_from (move_on old.held.settings) (one_each (repaired_by_turn old.held.settings bits)) first) most step before after old new answer
+    (gathered_from (move_on old.held.settings) (one_each (repaired_by_turn old.held.settings bits)) first)
+    (gathered_from (move_on old.held.settings) (one_each (missed_by_turn old.held.settings bits)) first) most step before after old new answer
 
 -- a run over rows that begins at a line among some bits failed where the reading from there does
 abbrev pub FailsFrom : DecodeSettings → Bits → Progress → ℕ → Bits → Type 0

@@ -5,7 +5,7 @@ ghost use Rattle.hayro_ccitt.specs.LocalityByK.{behind_mode};
 ghost use Rattle.hayro_ccitt.specs.Runs.{read_run};
 ghost use Rattle.hayro_ccitt.specs.Rows.{AreChanges, right_of, b1, b2, changes, opposite};
 ghost use Rattle.hayro_ccitt.specs.Bits.{here};
-ghost use Rattle.hayro_ccitt.specs.Context.{redrawn, painted_front, taken_row, after_repair, passed_changes};
+ghost use Rattle.hayro_ccitt.specs.Context.{redrawn, painted_front, taken_row, after_repair, passed_changes, with_missed};
 ghost use Rattle.hayro_ccitt.specs.UsualModes.{GoesOn2d};
 ghost use Rattle.hayro_ccitt.specs.UsualRuns.{GoesOn};
 ghost use Rattle.hayro_ccitt.specs.Answers.{DrawsLine, DrawsStep, OnAnswer, words_of_run, words_of_mode, words_from_1d, words_from_2d, StoresChange, RepairStoresChange, pen_of, step_of_run, step_of_mode, line_from_1d, line_from_2d};
@@ -52,6 +52,9 @@ pub struct DecoderContext {
     damaged_rows: u64,
     /// The fault of the last row that was repaired; it means nothing before the first.
     last_fault: DecodeError,
+    /// The number of rows decoded with the last one that was repaired.
+    last_damaged: u64,
+    missed_eols: u64,
     has_eols: bool,
     fault_start: Option<usize>,
     settings: DecodeSettings,
@@ -100,6 +103,8 @@ impl DecoderContext {
             decoded_rows: 0,
             damaged_rows: 0,
             last_fault: DecodeError::UnexpectedEof,
+            last_damaged: 0,
+            missed_eols: 0,
             has_eols: false,
             fault_start: None,
             settings,
@@ -136,6 +141,15 @@ impl DecoderContext {
         self.damaged_rows
     }
 
+    /// The number of rows among them after which a lenient reading of Group 3 passed other bits up to the next EOL, or found
+    /// none (T.4 section 4.1.2): after [`decode`](crate::decode), which resets it, those of that image. After a repaired row
+    /// none is missed: there the search for the EOL is the repair.
+    pub fn missed_eols(&self) -> u64
+        ensures { result ≡ self.now.held.repairs.missed }
+    {
+        self.missed_eols
+    }
+
     /// The fault of the last line that was repaired.
     pub(crate) fn last_fault(&self) -> DecodeError
         ensures { result ≡ self.now.held.repairs.fault }
@@ -148,12 +162,31 @@ impl DecoderContext {
         requires { self.old.held.repairs.rows + 1 < 2 ^ 64 }
         ensures frame { self.new ≡ record self.old {
           held = record self.old.held {
-            repairs = record { rows = self.old.held.repairs.rows + 1; fault = fault };
+            repairs = record self.old.held.repairs {
+              rows = self.old.held.repairs.rows + 1;
+              fault = fault;
+              last = self.old.held.taken;
+            };
           };
         } }
     {
         self.damaged_rows += 1;
         self.last_fault = fault;
+        self.last_damaged = self.decoded_rows;
+    }
+
+    /// Counts an EOL that is missed after the rows so far, unless the last of them was repaired.
+    #[cold]
+    #[inline(never)]
+    pub(crate) fn count_missed_eol(&mut self)
+        ensures frame { self.new ≡ record self.old {
+          held = record self.old.held { repairs = with_missed self.old.held.taken self.old.held.repairs };
+        } }
+    {
+        // At most one EOL is missed a row.
+        if self.last_damaged != self.decoded_rows && self.missed_eols < self.decoded_rows {
+            self.missed_eols += 1;
+        }
     }
 
     /// Returns the offset of the fault in bits if the last [`decode`](crate::decode) returned an error, or `None`: that at which
@@ -215,6 +248,8 @@ impl DecoderContext {
         self.decoded_rows = 0;
         self.damaged_rows = 0;
         self.last_fault = DecodeError::UnexpectedEof;
+        self.last_damaged = 0;
+        self.missed_eols = 0;
         self.has_eols = false;
         self.fault_start = None;
     }

@@ -1,11 +1,11 @@
 //! Group 3: EOLs at the start of the data, between the lines and at the end, and repair of damaged lines (T.4).
 
-ghost use Rattle.std.specs.Prelude.{◌≡◌, ◌≢◌, ◌↔◌, ◌<◌, ◌≤◌, ◌+◌, ◌*◌, Err, OnOk, OnErr, IfOk, IsOkUnless, IsTrue, true, nat_lt, ◌||◌, length};
+ghost use Rattle.std.specs.Prelude.{◌≡◌, ◌≢◌, ◌↔◌, ◌<◌, ◌≤◌, ◌+◌, ◌*◌, Err, OnOk, OnErr, IfOk, IfErr, IsOkUnless, IsTrue, true, nat_lt, ◌||◌, length};
 ghost use Rattle.hayro_ccitt.specs.Answers.{IsFault, IsRepairable, RepairStoresChange};
 ghost use Rattle.hayro_ccitt.specs.Bits.{here};
 ghost use Rattle.hayro_ccitt.specs.Context.{after_repair, fresh};
 ghost use Rattle.hayro_ccitt.specs.EndOfLine.{all_eols};
-ghost use Rattle.hayro_ccitt.specs.Decoding.{DecodesRows, FailsHere, leaving, gap_said};
+ghost use Rattle.hayro_ccitt.specs.Decoding.{DecodesRows, FailsHere, leaving, gap_said, repairs_behind};
 ghost use Rattle.hayro_ccitt.specs.PlainReading.{gap_behind_row};
 ghost use Rattle.hayro_ccitt.specs.Ticks.{looked, looked_ahead};
 
@@ -57,8 +57,8 @@ pub fn recover<'a>(
 
 /// Returns whether the image ends after a row (T.4 sections 4.1.2 and 4.1.4): true at RTC, the row limit or the end of
 /// the data. It counts the EOLs there. If there are none although the data has EOLs, the next one is looked for, and if
-/// none is left EOLs are no longer sought. It allocates nothing. Each bit that is examined is a tick: one that is
-/// consumed at most four times.
+/// none is left EOLs are no longer sought; in lenient data an EOL is counted as missed then, unless the last row was
+/// repaired. It allocates nothing. Each bit that is examined is a tick: one that is consumed at most four times.
 ///
 /// # Errors
 ///
@@ -68,12 +68,11 @@ pub fn check_eob(ctx: &mut DecoderContext, reader: &mut BitReader<'_>) -> Result
     requires some { 0 < ctx.old.held.taken }
     ensures gap { gap_behind_row ctx.old.held.settings ctx.old.held.taken ctx.old.held.has_eols (here reader.old)
         ≡ gap_said result ctx.new.held.has_eols (here reader.new) }
-    ensures held { ctx.new.held ≡ record ctx.old.held { has_eols = ctx.new.held.has_eols } }
+    ensures held { ctx.new.held ≡ record ctx.old.held { has_eols = ctx.new.held.has_eols; repairs = ctx.new.held.repairs } }
+    ensures missed { ctx.new.held.repairs ≡ repairs_behind ctx.old.held (here reader.old) }
     ensures given_up { IfOk result (λ over. over ≡ true → ctx.new.held.has_eols ≡ ctx.old.held.has_eols) }
-    ensures kept { OnErr result (ctx.new.held.has_eols ≡ ctx.old.held.has_eols) }
-    ensures only_code { IsOkUnless result DecodeError.InvalidCode }
-    ensures only_strict { OnErr result (ctx.old.held.settings.strict ≡ true) }
-    ensures stays { OnErr result (here reader.new ≡ here reader.old) }
+    ensures only_code { IfErr result (λ e. (e ≡ DecodeError.InvalidCode) × (ctx.old.held.settings.strict ≡ true)) }
+    ensures unchanged { OnErr result ((ctx.new.held ≡ ctx.old.held) × (here reader.new ≡ here reader.old)) }
     ensures same_bits { reader.new.bits ≡ reader.old.bits }
     ensures counts { ctx.old.ticks ≤ ctx.new.ticks }
     ensures at_least { OnOk result (ctx.old.ticks + length (here reader.old) ≤ ctx.new.ticks + length (here reader.new)) }

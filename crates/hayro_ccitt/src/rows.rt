@@ -1,10 +1,10 @@
 //! The loop over rows that all encodings share: a row, and the gap after it (T.4 section 4.1, T.6 section 2).
 
-ghost use Rattle.std.specs.Prelude.{false, ◌≡◌, ◌≢◌, ◌<◌, ◌≤◌, ◌+◌, ◌*◌, Err, OnOk, OnErr, IfOk, IsOkUnless, true, ◌||◌, [], length, ◌^◌};
+ghost use Rattle.std.specs.Prelude.{false, ◌≡◌, ◌≢◌, ◌<◌, ◌≤◌, ◌+◌, ◌*◌, Err, OnOk, OnErr, IfOk, IfErr, IsOkUnless, true, ◌||◌, [], length, ◌^◌};
 ghost use Rattle.hayro_ccitt.specs.Answers.{DrawsLine, OnAnswer, IsRepairable, RepairStoresChange};
 ghost use Rattle.hayro_ccitt.specs.Bits.{here};
 ghost use Rattle.hayro_ccitt.specs.Context.{fresh, redrawn, after_repair};
-ghost use Rattle.hayro_ccitt.specs.Decoding.{DecodesFrom, FailsFrom, TakesOneRow, leaving, gap_said, with_row_taken};
+ghost use Rattle.hayro_ccitt.specs.Decoding.{DecodesFrom, FailsFrom, TakesOneRow, leaving, gap_said, repairs_behind, with_row_taken};
 ghost use Rattle.hayro_ccitt.specs.PlainReading.{eols_by, eols_here, is_over, gap_behind_row, row_of_line, line_by, line_here, behind_row, limit_met};
 ghost use Rattle.hayro_ccitt.specs.Lines.{line_found};
 ghost use Rattle.hayro_ccitt.specs.Rows.{changes};
@@ -53,7 +53,6 @@ fn take_row<D: Decoder>(
         ≡ behind_row ctx.old.held.settings ctx.old.held.has_eols (here reader.old)) }
     ensures flag { OnOk result (D.has_refused decoder.new ≡ D.has_refused decoder.old) }
     ensures kept { OnErr result (D.meaning decoder.new ≡ D.meaning decoder.old) }
-    ensures held { OnErr result (ctx.new.held ≡ ctx.old.held) }
     ensures unchanged { OnErr result ((ctx.new ≡ ctx.old) × (reader.new ≡ reader.old)) }
     ensures refused { OnErr result (D.has_refused decoder.new ≡ true) }
     ensures refused_row { OnErr result (D.refuses decoder.new (changes ctx.old.held.front)) }
@@ -82,13 +81,16 @@ fn take_damaged_row<D: Decoder>(
     ensures meaning { OnOk result (D.meaning decoder.new
         ≡ D.step (D.width decoder.old) (D.meaning decoder.old) (changes ctx.old.held.front)) }
     ensures taken { OnOk result (ctx.new.held ≡ record (with_row_taken ctx.old.held ctx.old.held.front) {
-      repairs = record { rows = ctx.old.held.repairs.rows + 1; fault = fault };
+      repairs = record ctx.old.held.repairs {
+        rows = ctx.old.held.repairs.rows + 1;
+        fault = fault;
+        last = ctx.old.held.taken + 1;
+      };
     }) }
     ensures rest { OnOk result (here reader.new
         ≡ behind_row ctx.old.held.settings ctx.old.held.has_eols (here reader.old)) }
     ensures flag { OnOk result (D.has_refused decoder.new ≡ D.has_refused decoder.old) }
     ensures kept { OnErr result (D.meaning decoder.new ≡ D.meaning decoder.old) }
-    ensures held { OnErr result (ctx.new.held ≡ ctx.old.held) }
     ensures unchanged { OnErr result ((ctx.new ≡ ctx.old) × (reader.new ≡ reader.old)) }
     ensures refused { OnErr result (D.has_refused decoder.new ≡ true) }
     ensures refused_row { OnErr result (D.refuses decoder.new (changes ctx.old.held.front)) }
@@ -160,19 +162,18 @@ fn is_over(ctx: &DecoderContext, reader: &BitReader<'_>, count: usize) -> bool
 
 /// Passes the gap before a line, and returns whether the image ends there: at EOFB or RTC with `end_of_block`, at the row
 /// limit or at the end of the data (T.4 sections 4.1.2 and 4.1.4, T.6 section 2.4.1.1). It counts the EOLs there. If there
-/// are none, although the data has EOLs, it searches for the next one; if none is left, it no longer expects EOLs, and
-/// strict data fails with `InvalidCode`. It allocates nothing. Each bit that is looked at is a tick: a bit that is passed
-/// counts at most four times.
+/// are none, although the data has EOLs, strict data fails with `InvalidCode`; otherwise it searches for the next one, and
+/// counts it as missed unless the last row was repaired. If none is left, it no longer expects EOLs. It allocates nothing.
+/// Each bit that is looked at is a tick: a bit that is passed counts at most four times.
 #[inline(always)]
 pub(crate) fn pass_gap(ctx: &mut DecoderContext, reader: &mut BitReader<'_>) -> Result<bool>
     ensures gap { gap_behind_row ctx.old.held.settings ctx.old.held.taken ctx.old.held.has_eols (here reader.old)
         ≡ gap_said result ctx.new.held.has_eols (here reader.new) }
-    ensures held { ctx.new.held ≡ record ctx.old.held { has_eols = ctx.new.held.has_eols } }
+    ensures held { ctx.new.held ≡ record ctx.old.held { has_eols = ctx.new.held.has_eols; repairs = ctx.new.held.repairs } }
+    ensures missed { ctx.new.held.repairs ≡ repairs_behind ctx.old.held (here reader.old) }
     ensures given_up { IfOk result (λ over. over ≡ true → ctx.new.held.has_eols ≡ ctx.old.held.has_eols) }
-    ensures kept { OnErr result (ctx.new.held.has_eols ≡ ctx.old.held.has_eols) }
-    ensures only_code { IsOkUnless result DecodeError.InvalidCode }
-    ensures only_strict { OnErr result (ctx.old.held.settings.strict ≡ true) }
-    ensures stays { OnErr result (here reader.new ≡ here reader.old) }
+    ensures only_code { IfErr result (λ e. (e ≡ DecodeError.InvalidCode) × (ctx.old.held.settings.strict ≡ true)) }
+    ensures unchanged { OnErr result ((ctx.new.held ≡ ctx.old.held) × (here reader.new ≡ here reader.old)) }
     ensures same_bits { reader.new.bits ≡ reader.old.bits }
     ensures counts { ctx.old.ticks ≤ ctx.new.ticks }
     ensures at_least { OnOk result (ctx.old.ticks + length (here reader.old) ≤ ctx.new.ticks + length (here reader.new)) }
@@ -190,6 +191,7 @@ pub(crate) fn pass_gap(ctx: &mut DecoderContext, reader: &mut BitReader<'_>) -> 
     if ctx.settings().strict {
         return Err(DecodeError::InvalidCode);
     }
+    ctx.count_missed_eol();
     if !reader.skip_to_eol(ctx.ticks()) {
         ctx.set_has_eols(false);
         return Ok(false);

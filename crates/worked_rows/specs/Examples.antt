@@ -7,7 +7,7 @@ use Rattle.hayro_ccitt.specs.declared.settings.EncodingMode.{EncodingMode}
 use Rattle.hayro_ccitt.specs.declared.settings.EncodingMode.TheVariants.{Group4, Group3_1D, Group3_2D}
 use Rattle.hayro_ccitt.specs.declared.settings.DecodeSettings.{DecodeSettings}
 use Rattle.hayro_ccitt.specs.Bits.{bits_of, low_first_bits_of}
-use Rattle.hayro_ccitt.specs.Damage.{Damaged, damage_of, repairs_of}
+use Rattle.hayro_ccitt.specs.Damage.{Damaged, damage_of, repairs_of, misses_of}
 use Rattle.hayro_ccitt.specs.Rows.{Row, changes, pixels, white_row}
 use Rattle.hayro_ccitt.specs.Encodings.{EncodesRows, PictureT4}
 use Rattle.hayro_ccitt.specs.Locality.{IsLocal, EndAlike}
@@ -73,6 +73,10 @@ damage_in settings text = damage_of settings (bits_of (hex text))
 -- the rows among it that are repaired
 abbrev pub repairs_in : DecodeSettings → String → List Damaged
 repairs_in settings text = repairs_of settings (bits_of (hex text))
+
+-- and the EOLs that are missed
+abbrev pub misses_in : DecodeSettings → String → List Damaged
+misses_in settings text = misses_of settings (bits_of (hex text))
 
 -- ---- Encodings
 

@@ -5,7 +5,7 @@
 #![tactic(auto)]
 
 ghost use Rattle.std.specs.Prelude.{◌≡◌, [], ◌∷◌, Ok, Err};
-ghost use Rattle.worked_rows.specs.Examples.{damage_in, repairs_in, reading_of, low_first_reading_of, group4, group3_1d, group3_2d};
+ghost use Rattle.worked_rows.specs.Examples.{damage_in, repairs_in, misses_in, reading_of, low_first_reading_of, group4, group3_1d, group3_2d};
 ghost use Rattle.worked_rows.specs.Examples.{EncodesTwoLines, EncodesTaggedRows, HaveLocalBodies, ReadsDamage, LimitBehindTheBody};
 ghost use Rattle.worked_rows.specs.Examples.{OneLineFollows, OneLineDiffers, ReadsDamageByK};
 
@@ -132,6 +132,9 @@ pub fn damage_examples()
     ensures given_up { damage_in (group3_1d 2 0 "l") "7770" ≡ record { row = 0; start = 4; fault = DecodeError.InvalidCode } ∷ [] }
     ensures strict { damage_in (group3_1d 8 0 "ls") "0019800C400033" ≡ [] }
     ensures without_eols { damage_in (group3_1d 8 1 "") "01" ≡ [] }
+    ensures a_missed_eol { misses_in (group3_1d 8 2 "l") "0019F800CC" ≡ record { row = 0; start = 17; fault = DecodeError.InvalidCode } ∷ [] }
+    ensures no_eol_is_left { misses_in (group3_1d 2 0 "l") "7770" ≡ record { row = 0; start = 4; fault = DecodeError.InvalidCode } ∷ [] }
+    ensures none_behind_a_repair { misses_in (group3_1d 8 0 "l") "0019800C400033" ≡ [] }
 {}
 
 /// Encodings: two lines of T.6, and two of T.4 closed by RTC.

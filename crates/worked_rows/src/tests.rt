@@ -737,6 +737,50 @@ fn damage_is_told(rt: HostRuntime) {
     tells_damage(&rt, &[0x31, 0xC0], group_4(8, 0, ""), &[None]);
 }
 
+/// How many EOLs a context says were missed, where the sink accepts this number of rows.
+fn tells_missed(
+    rt: &(impl Abort + AllocGlobal),
+    data: &[u8],
+    settings: DecodeSettings,
+    room: usize,
+    missed: u64,
+) {
+    assert!(rt; bits_fit(data));
+    let Ok(mut ctx) = DecoderContext::new(rt.alloc(), settings) else {
+        panic!(rt; "no memory");
+    };
+    for _ in 0..2 {
+        let mut sink = sink_of(rt.alloc(), ctx.settings().columns, room);
+        let _ = decode(data, &mut sink, &mut ctx);
+        assert_eq!(rt; ctx.missed_eols(), missed, "of each image alone");
+    }
+    ctx.reset();
+    assert_eq!(rt; ctx.missed_eols(), 0);
+}
+
+#[test]
+fn missed_eols_are_told(rt: HostRuntime) {
+    // Bits behind a whole line, and then an EOL: missed once the second line is read.
+    let whole = [0x00, 0x19, 0xF8, 0x00, 0xCC];
+    tells_missed(&rt, &whole, group_3_1d(8, 2, "l"), usize::MAX, 1);
+    tells_missed(&rt, &whole, group_3_1d(8, 1, "l"), usize::MAX, 0);
+    tells_missed(&rt, &whole, group_3_1d(8, 2, "ls"), usize::MAX, 0);
+    tells_missed(&rt, &whole, group_3_1d(8, 2, "l"), 1, 1);
+    tells_missed(&rt, &whole, group_3_1d(8, 2, "l"), 0, 0);
+    // No EOL is left.
+    tells_missed(
+        &rt,
+        &[0x77, 0x70],
+        group_3_1d(2, 0, "l"),
+        usize::MAX,
+        1,
+    );
+    // The search for an EOL is the repair of the damaged line.
+    let cut = [0x00, 0x19, 0x80, 0x0C, 0x40, 0x00, 0x33];
+    tells_missed(&rt, &cut, group_3_1d(8, 0, "l"), usize::MAX, 0);
+    tells_missed(&rt, &[0x31, 0xC0], group_4(8, 0, ""), usize::MAX, 0);
+}
+
 /// Where a reader of rows stands after an error.
 fn fails_at(
     rt: &(impl Abort + AllocGlobal),

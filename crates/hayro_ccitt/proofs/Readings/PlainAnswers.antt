@@ -1,5 +1,5 @@
 -- What decoding leaves of whole data, given what a driver leaves of its bits.
-use Rattle.std.proofs.Common.{◌≡◌, ◌≢◌, ℕ, ◌+◌, ◌-◌, ◌*◌, ◌/◌, ◌≤◌, IfOk, Bool, true, false, eqb, List, length, drop, Option, Some, Result, Ok, Err, refl, sym, ap, subst, ◌∙◌, arith}
+use Rattle.std.proofs.Common.{◌≡◌, ◌≢◌, ℕ, ◌+◌, ◌-◌, ◌*◌, ◌/◌, ◌≤◌, IfOk, Bool, true, false, cond, eqb, List, [], length, drop, Option, Some, Result, Ok, Err, refl, sym, ap, subst, ◌∙◌, arith}
 use Rattle.std.proofs.lemmas.Bool.{cond-false, eqb-true}
 use Rattle.std.proofs.lemmas.List.{length-drop}
 use Rattle.hayro_ccitt.specs.declared.error.DecodeError.{DecodeError}
@@ -8,10 +8,10 @@ use Rattle.hayro_ccitt.specs.declared.settings.DecodeSettings.{DecodeSettings}
 use Rattle.hayro_ccitt.specs.Bits.{Bits}
 use Rattle.hayro_ccitt.specs.Context.{Held}
 use Rattle.hayro_ccitt.specs.Answers.{OnAnswer}
-use Rattle.hayro_ccitt.specs.Damage.{Damaged, repaired_by_turn, repairs_by_line}
-use Rattle.hayro_ccitt.specs.Decoding.{SinkState, TakesRows, StopsShort, CountsRepairs, FailsHere}
+use Rattle.hayro_ccitt.specs.Damage.{Damaged}
+use Rattle.hayro_ccitt.specs.Decoding.{SinkState, TakesRows, StopsShort, CountsDamage, FailsHere}
 use Rattle.hayro_ccitt.specs.Lines.{Line}
-use Rattle.hayro_ccitt.specs.PlainReading.{Ending, Reading, plain, end_of, lines_of, gathered_of, line_of_turn, bytes_before, whole_reading, failed_at}
+use Rattle.hayro_ccitt.specs.PlainReading.{Progress, Ending, Reading, plain, end_of, lines_of, gathered_of, line_of_turn, bytes_before, whole_reading, failed_at}
 
 -- a number of columns that isn't 0
 pub some_columns : (n : ℕ) → n ≢ 0 → eqb n 0 ≡ false
@@ -115,15 +115,16 @@ driver_left given settings read whole step before after held answer same same_bi
 
 -- ---- What a driver left, as what `decode` leaves
 
--- how many rows were repaired
-pub repairs_left : (given settings : DecodeSettings) (read whole : Bits) → given ≡ settings → read ≡ whole → given.columns ≢ 0 → (held : Held) (answer : Result Bits DecodeError) (said : Result ℕ DecodeError)
-    → ((P : Type 0) → OnAnswer answer P → OnAnswer said P) → CountsRepairs (gathered_of given (repaired_by_turn given read) read) held answer
-    → CountsRepairs (repairs_by_line settings whole) held said
-repairs_left given settings read whole same same_bits some held answer said alike counted =
-    let all : repairs_by_line given read ≡ gathered_of given (repaired_by_turn given read) read = cond-false (eqb given.columns 0) _ _ (some_columns given.columns some) in
-    let known : CountsRepairs (repairs_by_line given read) held answer = subst (λ (x : List (List Damaged)). CountsRepairs x held answer) (sym all) counted in
-    let there = subst (λ (b : Bits). CountsRepairs (repairs_by_line settings b) held answer) same_bits (subst (λ (s : DecodeSettings). CountsRepairs (repairs_by_line s read) held answer) same known) in
-    record { taken = there.taken; all = alike _ there.all }
+-- how much damage of one kind was counted
+pub damage_left : (told : DecodeSettings → Bits → Progress → List Damaged) (given settings : DecodeSettings) (read whole : Bits) → given ≡ settings → read ≡ whole → given.columns ≢ 0
+    → (taken count : ℕ) (answer : Result Bits DecodeError) (said : Result ℕ DecodeError) → ((P : Type 0) → OnAnswer answer P → OnAnswer said P)
+    → CountsDamage (gathered_of given (told given read) read) taken count answer → CountsDamage (cond (eqb settings.columns 0) [] (gathered_of settings (told settings whole) whole)) taken count said
+damage_left told given settings read whole same same_bits some taken count answer said alike counted =
+    let by_line : DecodeSettings → Bits → List (List Damaged) = λ s b. cond (eqb s.columns 0) [] (gathered_of s (told s b) b) in
+    let all : by_line given read ≡ gathered_of given (told given read) read = cond-false (eqb given.columns 0) _ _ (some_columns given.columns some) in
+    let known : CountsDamage (by_line given read) taken count answer = subst (λ (x : List (List Damaged)). CountsDamage x taken count answer) (sym all) counted in
+    let there = subst (λ (b : Bits). CountsDamage (by_line settings b) taken count answer) same_bits (subst (λ (s : DecodeSettings). CountsDamage (by_line s read) taken count answer) same known) in
+    record { of_taken = there.of_taken; all = alike _ there.all }
 
 -- where it failed
 pub fault_left : (given settings : DecodeSettings) (bits read rest : Bits) → given ≡ settings → read ≡ bits → (taken : ℕ) → FailsHere given bits taken rest

@@ -13,7 +13,7 @@ use Rattle.hayro_ccitt.specs.Context.{Held, Repairs, fresh}
 use Rattle.hayro_ccitt.specs.Damage.{Damaged, fault_in, repaired_in, repaired_by_turn, repairs_by_line}
 use Rattle.hayro_ccitt.specs.Decoding.{SinkState, TakesOneRow, repairs_with, gap_said}
 use Rattle.hayro_ccitt.specs.Lines.{Line}
-use Rattle.hayro_ccitt.specs.PlainReading.{Progress, Ending, Reading, Move, row_before, with_row, at_gap, gap_behind_row, row_of_line, line_here, line_of_turn, move_on, first_gap, first_line, at_front, ending_from, ending_behind, one_each, gathered_from, gathered_behind, gathered_of, bytes_before, whole_reading, plain, lines_of, line_starts, start_of_turn, Gap, misses_eol, eols_here, is_over, limit_met, at_end, add_row, row_ends, end_of_row, end_of_turn, failed_at}
+use Rattle.hayro_ccitt.specs.PlainReading.{Progress, Ending, Reading, Move, row_before, with_row, at_gap, gap_behind_row, row_of_line, line_here, line_of_turn, move_on, first_gap, first_line, at_front, ending_from, ending_behind, one_each, gathered_from, gathered_behind, gathered_of, bytes_before, whole_reading, plain, lines_of, line_starts, start_of_turn, Gap, misses_eol, eols_here, is_over, limit_met, at_end, row_ends, end_of_row, end_of_turn, failed_at}
 use Rattle.hayro_ccitt.specs.Repetition.{Turn, Reaches}
 use Rattle.hayro_ccitt.specs.Rows.{Row}
 use Rattle.hayro_ccitt.specs.Work.{found_here, words_of, words_of_turn}
@@ -27,7 +27,7 @@ use Rattle.hayro_ccitt.specs.RowsRead.{RowsRead, ReadsNext, damage_since, start_
 use Rattle.hayro_ccitt.proofs.Readings.PlainAnswers.{some_columns, bytes_before-place}
 use Rattle.hayro_ccitt.proofs.Readings.TurnsAddRows.{Keeps, first_gap_keeps}
 use Rattle.hayro_ccitt.proofs.Readings.TurnsMoveOn.{left_to_read, left_below}
-use Rattle.hayro_ccitt.proofs.Readings.RepairsCounted.{repaired_counts}
+use Rattle.hayro_ccitt.proofs.Readings.DamageCounted.{repaired_counts}
 use Rattle.hayro_ccitt.proofs.Work.RunsCount.{sum_more}
 use Rattle.hayro_ccitt.proofs.Readings.RunsOverRows.{lines_on, Comes, Between, Leaves, held_between-more, comes_done, comes_more, comes_line, get_or-behind, row_fails}
 use Rattle.hayro_ccitt.proofs.Readings.RunsReach.{get_or-there, comes_there, value_is, no_value_behind}
@@ -202,14 +202,14 @@ module _ (settings : DecodeSettings) (bits : Bits) (held : Held) (here : Bits) (
         (row_of_line settings so_far.has_eols x (line_here settings (row_before settings.columns so_far.rows) x)) no_step nothing_kept nothing_kept (context_at settings so_far held.repairs) new answer left_over) stands.rest_is known
 
 -- what is repaired of a line is reported
-repaired_told : (settings : DecodeSettings) (has_eols : Bool) (index offset : ℕ) (start : Bits) (line : Line) (row : Row) (rest : Bits) (before : Repairs)
+repaired_told : (settings : DecodeSettings) (has_eols : Bool) (index offset : ℕ) (start : Bits) (line : Line) (row : Row) (rest : Bits) (taken : ℕ) (before : Repairs)
     → row_of_line settings has_eols start line ≡ Ok (row, rest)
-    → damage_since (repairs_with line before) before.rows ≡ fault_in (repaired_in settings has_eols index offset line)
-repaired_told settings has_eols index offset start (Line.whole pixels behind) row rest before is = cond-true (eqb before.rows before.rows) None (Some before.fault) (eq-eqb before.rows before.rows refl)
-repaired_told settings has_eols index offset start (Line.broken front fault) row rest before is = by (settings.strict || not has_eols) refl
+    → damage_since (repairs_with line taken before) before.rows ≡ fault_in (repaired_in settings has_eols index offset line)
+repaired_told settings has_eols index offset start (Line.whole pixels behind) row rest taken before is = cond-true (eqb before.rows before.rows) None (Some before.fault) (eq-eqb before.rows before.rows refl)
+repaired_told settings has_eols index offset start (Line.broken front fault) row rest taken before is = by (settings.strict || not has_eols) refl
   where
     by : (b : Bool) → (settings.strict || not has_eols) ≡ b
-        → damage_since (record { rows = before.rows + 1; fault = fault }) before.rows ≡ fault_in (repaired_in settings has_eols index offset (Line.broken front fault))
+        → damage_since (repairs_with (Line.broken front fault) taken before) before.rows ≡ fault_in (repaired_in settings has_eols index offset (Line.broken front fault))
     by true e = let never = sym (cond-true (settings.strict || not has_eols) _ _ e) ∙ is in cc
     by false e =
         cond-false (eqb (before.rows + 1) before.rows) None (Some fault) (ne_eqb (before.rows + 1) before.rows (λ same. absurd (omega (arith, same))))
@@ -247,10 +247,10 @@ is_read settings bits held here stands new left_over takes =
     let before : held.taken ≡ length so_far.rows = ap (λ (h : Held). h.taken) stands.held_is in
     let after : new.taken ≡ length so_far.rows + 1 = ap (λ (h : Held). h.taken) taken.held in
     let line = line_of_turn settings so_far in
-    let with_line : Repairs = repairs_with line held.repairs in
+    let with_line : Repairs = repairs_with line (length so_far.rows) held.repairs in
     let repaired : new.repairs ≡ with_line = ap (λ (h : Held). h.repairs) taken.held in
     let offset = length bits - length so_far.rest in
-    let one = repaired_counts settings so_far.has_eols (length so_far.rows) offset so_far.rest line taken.taken left_over held.repairs taken.is in
+    let one = repaired_counts settings so_far.has_eols (length so_far.rows) offset so_far.rest line taken.taken left_over (length so_far.rows) held.repairs taken.is in
     let there = row_is_there settings stands.wide bits stands.first stands.begins so_far stands.reaches taken.taken left_over taken.is in
     let found : length (found_here settings held.reference here) ≡ length (words_of_turn settings so_far)
     = ap (λ (h : Held). length (found_here settings h.reference here)) stands.held_is
@@ -276,7 +276,7 @@ is_read settings bits held here stands new left_over takes =
       line_start = ap (λ (x : Bits). length bits - length x) stands.rest_is
           ∙ sym (ap (λ (n : ℕ). get_or (line_starts settings bits) n 0) before ∙ line_start_is settings stands.wide bits stands.first stands.begins so_far stands.reaches 0);
       damage = ap (λ (r : Repairs). damage_since r held.repairs.rows) repaired
-          ∙ repaired_told settings so_far.has_eols (length so_far.rows) offset so_far.rest line taken.taken left_over held.repairs taken.is
+          ∙ repaired_told settings so_far.has_eols (length so_far.rows) offset so_far.rest line taken.taken left_over (length so_far.rows) held.repairs taken.is
           ∙ sym (ap fault_in (repaired_is settings stands.wide bits stands.first stands.begins so_far stands.reaches held.taken before));
       few = λ so. omega (arith, so, before, after, one, ap (λ (r : Repairs). r.rows) repaired, repaired_once settings so_far.has_eols (length so_far.rows) offset line);
       words = ap (λ (n : ℕ). sum_by length (take n (words_of settings bits))) (after ∙ ap (λ (n : ℕ). n + 1) (sym before))
@@ -356,7 +356,7 @@ module _ (settings : DecodeSettings) (bits : Bits) (rows : List Row) (last : Hel
 
 -- the gap after a row leads to a line, or to the end
 module _ (settings : DecodeSettings) (bits : Bits) (held : Held) (here_now : Bits) (stands : StandsBehindRow settings bits held here_now) (last : Held) (place : ℕ) (within : place ≤ length bits)
-    (frame : last ≡ record held { has_eols = last.has_eols }) where
+    (frame : last ≡ record held { has_eols = last.has_eols; repairs = last.repairs }) where
   abbrev next : Progress
   next = with_row stands.so_far stands.row here_now
 
@@ -399,8 +399,7 @@ module _ (settings : DecodeSettings) (bits : Bits) (held : Held) (here_now : Bit
     begins = stands.begins;
     room = stands.room;
     reaches = reaches_on (move_on settings) stands.first stands.so_far (record next { has_eols = last.has_eols; rest = drop place bits }) stands.reaches (turn_said (Ok false) said);
-    held_is = frame ∙ ap (λ (h : Held). record h { has_eols = last.has_eols }) stands.held_is
-        ∙ ap (context_at settings (record next { has_eols = last.has_eols; rest = drop place bits })) (sym (ap (λ (h : Held). h.repairs) frame));
+    held_is = frame ∙ ap (λ (h : Held). record h { has_eols = last.has_eols; repairs = last.repairs }) stands.held_is;
     rest_is = refl;
   }
   gap_stands (Err e) said code =
@@ -476,11 +475,11 @@ first_line_stands settings wide bits other last rest frame is room = record {
 }
 
 -- what was counted is unchanged where no row is read
-pub repairs_stay : (settings given : DecodeSettings) (bits read : Bits) (held last : Held) → given ≡ settings → read ≡ bits → last.taken ≡ held.taken → last.repairs ≡ held.repairs
+pub repairs_stay : (settings given : DecodeSettings) (bits read : Bits) (held last : Held) → given ≡ settings → read ≡ bits → last.taken ≡ held.taken → last.repairs.rows ≡ held.repairs.rows
     → RepairsAreCounted settings bits held → RepairsAreCounted given read last
 repairs_stay settings given bits read held last same are taken repairs counted = record {
-  few = omega (arith, counted.few, taken, ap (λ (r : Repairs). r.rows) repairs);
-  counted = ap (λ (r : Repairs). r.rows) repairs ∙ counted.counted ∙ ap (λ (n : ℕ). sum_by length (take n (repairs_by_line settings bits))) (sym taken)
+  few = omega (arith, counted.few, taken, repairs);
+  counted = repairs ∙ counted.counted ∙ ap (λ (n : ℕ). sum_by length (take n (repairs_by_line settings bits))) (sym taken)
       ∙ ap (λ (s : DecodeSettings). sum_by length (take last.taken (repairs_by_line s bits))) (sym same)
       ∙ ap (λ (b : Bits). sum_by length (take last.taken (repairs_by_line given b))) (sym are);
 }

@@ -7,8 +7,8 @@ use Rattle.hayro_ccitt.specs.declared.settings.DecodeSettings.{DecodeSettings}
 use Rattle.hayro_ccitt.specs.Bits.{Bits}
 use Rattle.hayro_ccitt.specs.Answers.{IsFault, meaning_after}
 use Rattle.hayro_ccitt.specs.Context.{Held, Repairs}
-use Rattle.hayro_ccitt.specs.Damage.{repaired_by_turn}
-use Rattle.hayro_ccitt.specs.Decoding.{SinkState, TakesOneRow, RowIsTaken, CountsRepairs, repairs_with, with_row_taken, gap_said}
+use Rattle.hayro_ccitt.specs.Damage.{repaired_by_turn, missed_by_turn}
+use Rattle.hayro_ccitt.specs.Decoding.{SinkState, TakesOneRow, RowIsTaken, CountsDamage, repairs_with, repairs_behind, with_row_taken, gap_said}
 use Rattle.hayro_ccitt.specs.PlainReading.{Progress, Ending, Gap, gap_behind_row, line_here, line_of_turn, row_of_line, row_before, at_gap, add_row, pass_gap, ends_with, with_row, move_on, one_each, ending_from, gathered_from}
 use Rattle.hayro_ccitt.specs.Repetition.{Turn}
 use Rattle.hayro_ccitt.specs.Rows.{Row, changes}
@@ -21,7 +21,7 @@ use Rattle.hayro_ccitt.proofs.Work.RunsCount.{WordsCounted, counted_next, counte
 use Rattle.hayro_ccitt.proofs.Readings.TurnsAddRows.{Adds, Keeps, after_row_keeps, keeps_adds, move_adds}
 use Rattle.hayro_ccitt.proofs.Readings.TurnsMoveOn.{left_to_read, left_below, move_shrinks}
 use Rattle.hayro_ccitt.proofs.Readings.RowsAndGaps.{after_row, pass_gap-is}
-use Rattle.hayro_ccitt.proofs.Readings.RepairsCounted.{RepairsCounted, all_repairs, repaired_counts, repaired_none, repairs_next, repairs_end, repairs_end_behind}
+use Rattle.hayro_ccitt.proofs.Readings.DamageCounted.{DamageTold, all_damage, repaired_counts, repaired_none, repaired_behind, missed_counts, missed_none, few_behind, last_behind, damage_next, damage_end, damage_end_behind}
 use Rattle.hayro_ccitt.proofs.Readings.RunsOverRows.{RowByRow, ReadsRow, Leaves, Between, comes_done, comes_next, row_fails, ends_well, ends_at_fault, held_between, held_between-more, meaning_after-more}
 
 -- where a run over rows begins at a line
@@ -122,18 +122,25 @@ module _ {M : Type 0} (settings : DecodeSettings) (wide : 0 < settings.columns) 
       row_fails (move_on settings) (one_each (line_of_turn settings)) left_to_read (by_rows_left settings wide) (from_line sought rest0) refl settings step before now held here between
       (line_of_turn settings so_far) (row_of_turn settings so_far) (reads_row settings so_far) after new rest e (takes_is (Err e) takes)
 
-  -- what was repaired until then is counted
-  pub fails_repaired : {A : Type 0} (e : DecodeError) → TakesRow (step_of now_width) now after held here new (Err e) rest
-      → RepairsCounted settings bits (from_line sought rest0) so_far held.repairs.rows → CountsRepairs {A = A} (all_repairs settings bits (from_line sought rest0)) new (Err e)
-  fails_repaired e takes counted =
+  -- the damage that was passed until then is counted
+  pub fails_told : {A : Type 0} (e : DecodeError) → TakesRow (step_of now_width) now after held here new (Err e) rest → DamageTold settings bits (from_line sought rest0) so_far held.repairs
+      → CountsDamage {A = A} (all_damage settings (repaired_by_turn settings bits) (from_line sought rest0)) new.taken new.repairs.rows (Err e)
+      × CountsDamage {A = A} (all_damage settings (missed_by_turn settings bits) (from_line sought rest0)) new.taken new.repairs.missed (Err e)
+  fails_told e takes told =
       let known = takes_is (Err e) takes in
-      repairs_end settings bits (from_line sought rest0) (by_rows_left settings wide) refl so_far held.repairs.rows counted e new
-      (ap (λ (h : Held). h.taken) known.held ∙ ap (λ (h : Held). h.taken) between.held) (ap (λ (h : Held). h.repairs.rows) known.held)
-      (λ fault. (
-        repaired_none settings so_far.has_eols (length so_far.rows) (length bits - length so_far.rest) so_far.rest (line_of_turn settings so_far) e (known.fault fault),
-        _,
-        (reads_row settings so_far).fails e (known.fault fault),
-      ))
+      let taken = ap (λ (h : Held). h.taken) known.held ∙ ap (λ (h : Held). h.taken) between.held in
+      let line = line_of_turn settings so_far in (
+        damage_end settings (repaired_by_turn settings bits) (from_line sought rest0) (by_rows_left settings wide) refl so_far held.repairs.rows told.repaired e new.taken new.repairs.rows taken
+            (ap (λ (h : Held). h.repairs.rows) known.held)
+            (λ fault. (
+              repaired_none settings so_far.has_eols (length so_far.rows) (length bits - length so_far.rest) so_far.rest line e (known.fault fault),
+              _,
+              (reads_row settings so_far).fails e (known.fault fault),
+            )),
+        damage_end settings (missed_by_turn settings bits) (from_line sought rest0) (by_rows_left settings wide) refl so_far held.repairs.missed told.missed e new.taken new.repairs.missed taken
+            (ap (λ (h : Held). h.repairs.missed) known.held)
+            (λ fault. (missed_none settings bits so_far line e (known.fault fault), _, (reads_row settings so_far).fails e (known.fault fault))),
+      )
 
   -- the words as the settings of the run say
   words_here : length (found_here held.settings held.reference here) ≡ length (found_here settings held.reference here)
@@ -183,7 +190,7 @@ module _ {M : Type 0} (settings : DecodeSettings) (wide : 0 < settings.columns) 
 
       -- and what leads to the next row
       pub next_paid : (last_ticks : ℕ) (last : Held) (left_over : Bits) → gap_behind_row new.settings new.taken new.has_eols rest ≡ Gap.line_at last.has_eols left_over
-          → last ≡ record new { has_eols = last.has_eols } → length (changes new.reference) ≤ length (found_here held.settings held.reference here) + 1
+          → last ≡ record new { has_eols = last.has_eols; repairs = last.repairs } → length (changes new.reference) ≤ length (found_here held.settings held.reference here) + 1
           → (last.has_eols ≡ new.has_eols → last_ticks + 4 * length left_over ≤ then + 4 * length rest + 3 + looked_ahead new.settings.encoding left_over)
           → (last.has_eols ≢ new.has_eols → last_ticks ≤ then + 2 * length rest) → (held.has_eols ≡ true → 8 * length bits + 8 ≤ giving_up)
           → IsPaidUpTo begun (length bits) giving_up settings.encoding last.has_eols last_ticks (length (changes last.reference)) left_over
@@ -209,7 +216,7 @@ module _ {M : Type 0} (settings : DecodeSettings) (wide : 0 < settings.columns) 
 
     -- what was repaired, with its line
     abbrev next_repairs : Repairs
-    next_repairs = repairs_with (line_of_turn settings so_far) held.repairs
+    next_repairs = repairs_with (line_of_turn settings so_far) held.taken held.repairs
 
     pub next_held : new ≡ held_between settings next new.repairs
     next_held =
@@ -221,7 +228,7 @@ module _ {M : Type 0} (settings : DecodeSettings) (wide : 0 < settings.columns) 
     one_repaired : new.repairs.rows ≡ held.repairs.rows + length (repaired_by_turn settings bits so_far)
     one_repaired =
         ap (λ (h : Held). h.repairs.rows) taken.held
-        ∙ repaired_counts settings so_far.has_eols (length so_far.rows) (length bits - length so_far.rest) so_far.rest (line_of_turn settings so_far) taken.taken rest held.repairs taken.is
+        ∙ repaired_counts settings so_far.has_eols (length so_far.rows) (length bits - length so_far.rest) so_far.rest (line_of_turn settings so_far) taken.taken rest held.taken held.repairs taken.is
 
     pub next_meaning : after.meaning ≡ meaning_after step before.meaning next.rows
     next_meaning = taken.meaning ∙ ap (λ (m : M). step m (changes taken.taken)) between.meaning ∙ sym (meaning_after-more step before.meaning so_far.rows taken.taken)
@@ -231,7 +238,7 @@ module _ {M : Type 0} (settings : DecodeSettings) (wide : 0 < settings.columns) 
 
     module _ (last : Held) (left_over : Bits) (answer : Result Bool DecodeError)
         (said : gap_behind_row new.settings new.taken new.has_eols rest ≡ gap_said answer last.has_eols left_over)
-        (frame : last ≡ record new { has_eols = last.has_eols }) where
+        (frame : last ≡ record new { has_eols = last.has_eols; repairs = last.repairs }) where
       pub gap_is : gap_behind_row settings (length next.rows) so_far.has_eols rest ≡ gap_said answer last.has_eols left_over
       gap_is = ap (λ (h : Held). gap_behind_row h.settings h.taken h.has_eols rest) (sym next_held) ∙ said
 
@@ -239,7 +246,7 @@ module _ {M : Type 0} (settings : DecodeSettings) (wide : 0 < settings.columns) 
       turn = turn_is settings so_far taken.taken rest (gap_said answer last.has_eols left_over) taken.is gap_is
 
       pub last_taken : last.taken ≡ length next.rows
-      last_taken = ap (λ (h : Held). h.taken) (frame ∙ ap (λ (h : Held). record h { has_eols = last.has_eols }) next_held)
+      last_taken = ap (λ (h : Held). h.taken) (frame ∙ ap (λ (h : Held). record h { has_eols = last.has_eols; repairs = last.repairs }) next_held)
 
       -- a gap that ends the reading makes the turn the last one
       pub turn_over : (outcome : Result Bits DecodeError) → gap_said answer last.has_eols left_over ≡ Gap.over outcome → move_on settings so_far ≡ ends_with next outcome
@@ -278,28 +285,52 @@ module _ {M : Type 0} (settings : DecodeSettings) (wide : 0 < settings.columns) 
         so_far = on;
         comes = comes_next (move_on settings) (one_each (line_of_turn settings)) left_to_read (by_rows_left settings wide) (from_line sought rest0) refl so_far between.comes
             (line_of_turn settings so_far) refl on (goes_on is) (omega (arith, length-append so_far.rows (taken.taken ∷ [])));
-        held = frame ∙ ap (λ (h : Held). record h { has_eols = last.has_eols }) next_held ∙ ap (held_between settings on) (sym (ap (λ (h : Held). h.repairs) frame));
+        held = frame ∙ ap (λ (h : Held). record h { has_eols = last.has_eols; repairs = last.repairs }) next_held;
         here = refl;
         meaning = next_meaning;
         refused = next_refused;
       }
 
-      last_repaired : last.repairs.rows ≡ held.repairs.rows + length (repaired_by_turn settings bits so_far)
-      last_repaired = ap (λ (h : Held). h.repairs.rows) frame ∙ one_repaired
+      module _ (counts : last.repairs ≡ repairs_behind new rest) (told : DamageTold settings bits (from_line sought rest0) so_far held.repairs) where
+        last_repaired : last.repairs.rows ≡ held.repairs.rows + length (repaired_by_turn settings bits so_far)
+        last_repaired = ap (λ (r : Repairs). r.rows) counts ∙ (repaired_behind new rest).0 ∙ one_repaired
 
-      -- what is repaired is counted
-      pub next_repaired : answer ≡ Ok false → RepairsCounted settings bits (from_line sought rest0) so_far held.repairs.rows
-          → RepairsCounted settings bits (from_line sought rest0) on last.repairs.rows
-      next_repaired is counted =
-          repairs_next settings bits (from_line sought rest0) (by_rows_left settings wide) refl so_far held.repairs.rows counted on last.repairs.rows (goes_on is)
-          (omega (arith, length-append so_far.rows (taken.taken ∷ []))) last_repaired
+        -- what the gap leaves, as what the reading says there
+        counts_here : last.repairs ≡ repairs_behind (held_between settings next (repairs_with (line_of_turn settings so_far) (length so_far.rows) held.repairs)) rest
+        counts_here =
+            counts ∙ ap (λ (h : Held). repairs_behind h rest) next_held
+            ∙ ap (λ (r : Repairs). repairs_behind (held_between settings next r) rest)
+            (ap (λ (h : Held). h.repairs) taken.held ∙ ap (λ (n : ℕ). repairs_with (line_of_turn settings so_far) n held.repairs) (ap (λ (h : Held). h.taken) between.held))
 
-      -- also where the row is the last one
-      pub last_repairs : {A : Type 0} (outcome : Result Bits DecodeError) → gap_said answer last.has_eols left_over ≡ Gap.over outcome → (said : Result A DecodeError)
-          → RepairsCounted settings bits (from_line sought rest0) so_far held.repairs.rows → CountsRepairs (all_repairs settings bits (from_line sought rest0)) last said
-      last_repairs outcome over said counted =
-          repairs_end_behind settings bits (from_line sought rest0) (by_rows_left settings wide) refl so_far held.repairs.rows counted _ (turn ∙ ap (at_gap next) over) last said
-          (omega (arith, last_taken, length-append so_far.rows (taken.taken ∷ []))) last_repaired
+        last_missed : last.repairs.missed ≡ held.repairs.missed + length (missed_by_turn settings bits so_far)
+        last_missed = ap (λ (r : Repairs). r.missed) counts_here
+            ∙ missed_counts settings bits so_far (line_of_turn settings so_far) taken.taken rest held.repairs taken.is told.last told.few
+
+        -- the damage that is passed is counted
+        pub next_told : answer ≡ Ok false → DamageTold settings bits (from_line sought rest0) on last.repairs
+        next_told is =
+            let more = length-append so_far.rows (taken.taken ∷ []) in
+            let line = line_of_turn settings so_far in
+            record {
+              repaired = damage_next settings (repaired_by_turn settings bits) (from_line sought rest0) (by_rows_left settings wide) refl so_far held.repairs.rows told.repaired on last.repairs.rows
+                  (goes_on is) (omega (arith, more)) last_repaired;
+              missed = damage_next settings (missed_by_turn settings bits) (from_line sought rest0) (by_rows_left settings wide) refl so_far held.repairs.missed told.missed on last.repairs.missed
+                  (goes_on is) (omega (arith, more)) last_missed;
+              few = omega (arith, more, ap (λ (r : Repairs). r.missed) counts_here, few_behind settings bits so_far line taken.taken rest held.repairs taken.is told.last told.few);
+              last = omega (arith, more, ap (λ (r : Repairs). r.last) counts_here, last_behind settings bits so_far line taken.taken rest held.repairs taken.is told.last told.few);
+            }
+
+        -- also where the row is the last one
+        pub last_told : {A : Type 0} (outcome : Result Bits DecodeError) → gap_said answer last.has_eols left_over ≡ Gap.over outcome → (said : Result A DecodeError)
+            → CountsDamage (all_damage settings (repaired_by_turn settings bits) (from_line sought rest0)) last.taken last.repairs.rows said
+            × CountsDamage (all_damage settings (missed_by_turn settings bits) (from_line sought rest0)) last.taken last.repairs.missed said
+        last_told outcome over said =
+            let more : last.taken ≡ suc (length so_far.rows) = omega (arith, last_taken, length-append so_far.rows (taken.taken ∷ [])) in (
+              damage_end_behind settings (repaired_by_turn settings bits) (from_line sought rest0) (by_rows_left settings wide) refl so_far held.repairs.rows told.repaired _ (turn ∙ ap (at_gap next) over)
+                  last.taken last.repairs.rows said more last_repaired,
+              damage_end_behind settings (missed_by_turn settings bits) (from_line sought rest0) (by_rows_left settings wide) refl so_far held.repairs.missed told.missed _ (turn ∙ ap (at_gap next) over)
+                  last.taken last.repairs.missed said more last_missed,
+            )
 
       -- and where the line's words are counted, those of all rows are
       pub next_counted : answer ≡ Ok false → (begun ticks then : ℕ)

@@ -12,7 +12,7 @@ use Rattle.hayro_ccitt.specs.declared.settings.EncodingMode.{EncodingMode}
 use Rattle.hayro_ccitt.specs.declared.settings.EncodingMode.TheVariants.{Group4, Group3_1D, Group3_2D}
 use Rattle.hayro_ccitt.specs.Bits.{Bits, AreWholeBytes}
 use Rattle.hayro_ccitt.specs.Settings.{AreSettings}
-use Rattle.hayro_ccitt.specs.Damage.{Damaged, repaired_in, repaired_by_turn, missed_behind, damaged_by_turn, damage_of, repairs_by_line}
+use Rattle.hayro_ccitt.specs.Damage.{Damaged, repaired_in, repaired_by_turn, missed_behind, missed_by_turn, damaged_by_turn, damage_of, repairs_by_line, misses_by_line}
 use Rattle.hayro_ccitt.specs.Laws.{StrictIsUndamaged, PicturesAreUndamaged}
 use Rattle.hayro_ccitt.specs.Lines.{Line}
 use Rattle.hayro_ccitt.specs.Pictures.{IsClosedPicture, IsLimitedPicture}
@@ -41,6 +41,10 @@ sum_empty xs are = omega (arith, length-flat_map (λ (x : List _). x) xs, ap len
 front_empty : {A : Type 0} (xs ys : List A) → xs ++ ys ≡ [] → xs ≡ []
 front_empty [] ys is = refl
 front_empty (x ∷ xs) ys is = absurd cc
+
+back_empty : {A : Type 0} (xs ys : List A) → xs ++ ys ≡ [] → ys ≡ []
+back_empty [] ys is = is
+back_empty (x ∷ xs) ys is = absurd cc
 
 module _ (settings : DecodeSettings) (bits : Bits) where
   abbrev strictly : DecodeSettings
@@ -197,6 +201,12 @@ pub no_repairs : (settings : DecodeSettings) (bits : Bits) (taken : ℕ) → IsO
 no_repairs settings bits taken ok =
     let are = nothing_given settings bits (λ given. repaired_by_turn given bits) (λ given s none. front_empty (repaired_by_turn given bits s) _ none) ok in
     omega (arith, sum_by-take-le length (repairs_by_line settings bits) taken, sum_empty (repairs_by_line settings bits) are)
+
+-- nor EOL that is missed
+pub no_misses : (settings : DecodeSettings) (bits : Bits) (taken : ℕ) → IsOk (plain (record settings { strict = true }) bits).outcome → sum_by length (take taken (misses_by_line settings bits)) ≡ 0
+no_misses settings bits taken ok =
+    let are = nothing_given settings bits (λ given. missed_by_turn given bits) (λ given s none. back_empty (repaired_by_turn given bits s) _ none) ok in
+    omega (arith, sum_by-take-le length (misses_by_line settings bits) taken, sum_empty (misses_by_line settings bits) are)
 
 -- the law
 pub strict_is_undamaged : StrictIsUndamaged

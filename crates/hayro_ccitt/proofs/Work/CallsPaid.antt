@@ -70,7 +70,7 @@ behind_row_paid (AtFault error) settings bits held place ticks unended no_line p
 
 module _ (settings : DecodeSettings) (wide : 0 < settings.columns) (bits : Bits) (held : Held) (rest : Bits) (ticks : ℕ)
     (behind : PaidBehindRow settings bits held rest ticks) (last : Held) (place now : ℕ)
-    (frame : last ≡ record held { has_eols = last.has_eols }) where
+    (frame : last ≡ record held { has_eols = last.has_eols; repairs = last.repairs }) where
   abbrev next : Bits
   next = drop place bits
 

@@ -18,17 +18,17 @@ returns-clause-counted c =
 pub returns-in_err-decode_once-clause-closed : goal.returns-in_err-decode_once-clause-closed
 returns-in_err-decode_once-clause-closed c = λ rows count is.
     let answer = err_from_is_err_and c.from_residual.result c.from_residual.ensures.1 in
-    rw (answer.1, answer.2) (λ fault. let never = c.in_err-decode_once.ensures.closed rows count is fault in cc)
+    rw (answer.1, answer.2) (λ fault. let never = (c.in_err-decode_once.ensures.closed rows count is fault).0 in cc)
 
 pub returns-clause-closed : goal.returns-clause-closed
 returns-clause-closed c = λ rows count is.
-    ap Ok (returns-clause-counted c ∙ ap (λ rows. in_64_bits (black_in rows)) (c.in_ok-decode_once.ensures.picture rows count is))
+    ap Ok (returns-clause-counted c ∙ ap (λ rows. in_64_bits (black_in rows)) ((c.in_ok-decode_once.ensures.closed rows count is).1))
 
 pub returns-in_err-decode_once-clause-limited : goal.returns-in_err-decode_once-clause-limited
 returns-in_err-decode_once-clause-limited c = λ rows is.
     let answer = err_from_is_err_and c.from_residual.result c.from_residual.ensures.1 in
-    rw (answer.1, answer.2) (λ fault. let never = c.in_err-decode_once.ensures.limited rows is fault in cc)
+    rw (answer.1, answer.2) (λ fault. let never = (c.in_err-decode_once.ensures.limited rows is fault).0 in cc)
 
 pub returns-clause-limited : goal.returns-clause-limited
 returns-clause-limited c = λ rows is.
-    ap Ok (returns-clause-counted c ∙ ap (λ rows. in_64_bits (black_in rows)) (c.in_ok-decode_once.ensures.limited_picture rows is))
+    ap Ok (returns-clause-counted c ∙ ap (λ rows. in_64_bits (black_in rows)) ((c.in_ok-decode_once.ensures.limited rows is).1))

@@ -1,14 +1,14 @@
-use Rattle.std.proofs.Common.{rules, ◌≡◌, List, ℕ, subst, sym, Ok}
+use Rattle.std.proofs.Common.{rules, ◌≡◌, List, ℕ, subst, sym}
 use Rattle.std.specs.Prelude.{IsOk, IsErr, map, string_bytes}
 use Rattle.std.specs.Io.KnownBytes.{Appends}
-use Rattle.std.proofs.lemmas.Result.{IfOk-at_ok, IfErr-at_err}
+use Rattle.std.proofs.lemmas.Result.{IfOk-weaker, IfErr-at_err}
 use Rattle.hayro_ccitt.specs.declared.settings.DecodeSettings.{DecodeSettings}
 use Rattle.hayro_ccitt.specs.Bits.{Bits}
 use Rattle.fax_program.specs.Devices.{AppendsFront}
 use Rattle.faxrows.specs.declared.program.Done.{Done}
 use Rattle.faxrows.specs.declared.program.Done.TheVariants.{Good, Faulty, Memory}
 use Rattle.faxrows.specs.Arguments.{arguments_of_words}
-use Rattle.faxrows.specs.Runs.{Outcome, EndsAfter, OnKnown, done_of, outcome_of}
+use Rattle.faxrows.specs.Runs.{Outcome, EndsAfter, OnKnown, done_of, outcome_of, IsEndOfRun}
 use Rattle.faxrows.specs.DamageText.{IsDamageText, IsDamageWithoutMemory, damage_after, whole_damage}
 use Rattle.faxrows.specs.RunsByRow.{EndsByRow}
 use Rattle.faxrows.proofs.DamageTexts.{damage_of_good, damage_of_faulty, damage_without_memory}
@@ -41,9 +41,6 @@ module _ (g : Over) (c : goal.After-drop-input-2 g) where
       × (done ≡ done_of outcome)
       × Grew (damage_after settings bits read outcome)
 
-  written : (done : Done) → c.write_damage.result ≡ Ok done → Written done
-  written done e = IfOk-at_ok Written e c.write_damage.ensures.written
-
   -- a statement about what was read is one about what is known
   abbrev Known : (DecodeSettings → Bits → Type 0) → Type 0
   Known = OnKnown (arguments_of_words (map string_bytes c.args.words.now)) (g.R.Read.remaining c.args.reader.now.0)
@@ -53,37 +50,19 @@ module _ (g : Over) (c : goal.After-drop-input-2 g) where
       on_known _ c.in-Some.arguments settings _ c.as_slice.result.now P (search rules) (search rules) (search rules)
       (subst (P settings) (search rules) holds)
 
-  -- all the text was written, and what the run's end says of the result is true
-  whole : (done : Done) (P : DecodeSettings → Bits → Type 0)
-      → ((outcome : Outcome) → EndsAfter settings bits read outcome → done_of outcome ≡ done
-      → (damage_after settings bits read outcome ≡ whole_damage settings bits) × P settings bits)
-      → c.write_damage.result ≡ Ok done → Known (λ s b. Grew (whole_damage s b)) × Known P
-  whole done P said e =
-      let (outcome, ends, same, grew) = written done e in
-      let (all, holds) = said outcome ends.0 (sym same) in
-      (known (λ s b. Grew (whole_damage s b)) (subst Grew all grew), known P holds)
+  -- what is written for each way to end
+  ended : (done : Done) → Written done → Known (λ s b. IsEndOfRun done (outcome_of s b) (whole_damage s b) (IsDamageWithoutMemory s b) Grew)
+  ended Good (outcome, ends, same, grew) =
+      let (all, holds) = damage_of_good settings bits read outcome ends.0 (sym same) in
+      known (λ s b. IsOk (outcome_of s b) × Grew (whole_damage s b)) (holds, subst Grew all grew)
+  ended Faulty (outcome, ends, same, grew) =
+      let (all, holds) = damage_of_faulty settings bits read outcome ends.0 (sym same) in
+      known (λ s b. IsErr (outcome_of s b) × Grew (whole_damage s b)) (holds, subst Grew all grew)
+  ended Memory (outcome, ends, same, grew) =
+      known (λ s b. (text : List ℕ) × IsDamageWithoutMemory s b text × Grew text) (_, damage_without_memory settings bits read outcome ends (sym same), grew)
 
-pub returns-clause-good : goal.returns-clause-good
-returns-clause-good g c = λ e. (whole g c Good (λ s b. IsOk (outcome_of s b)) (damage_of_good (settings g c) (bits g c)
-    (read g c)) e).0
-
-pub returns-clause-good_outcome : goal.returns-clause-good_outcome
-returns-clause-good_outcome g c = λ e. (whole g c Good (λ s b. IsOk (outcome_of s b)) (damage_of_good (settings g c)
-    (bits g c) (read g c)) e).1
-
-pub returns-clause-faulty : goal.returns-clause-faulty
-returns-clause-faulty g c = λ e. (whole g c Faulty (λ s b. IsErr (outcome_of s b)) (damage_of_faulty (settings g c)
-    (bits g c) (read g c)) e).0
-
-pub returns-clause-faulty_outcome : goal.returns-clause-faulty_outcome
-returns-clause-faulty_outcome g c = λ e. (whole g c Faulty (λ s b. IsErr (outcome_of s b)) (damage_of_faulty
-    (settings g c) (bits g c) (read g c)) e).1
-
-pub returns-clause-memory : goal.returns-clause-memory
-returns-clause-memory g c = λ e.
-    let (outcome, ends, same, grew) = written g c Memory e in
-    known g c (λ s b. (text : List ℕ) × IsDamageWithoutMemory s b text × Grew g c text)
-    (_, damage_without_memory (settings g c) (bits g c) (read g c) outcome ends (sym same), grew)
+pub returns-clause-ended : goal.returns-clause-ended
+returns-clause-ended g c = IfOk-weaker c.write_damage.result _ _ (ended g c) c.write_damage.ensures.written
 
 pub returns-clause-front : goal.returns-clause-front
 returns-clause-front g c = λ e.

@@ -2,14 +2,16 @@ use Rattle.std.proofs.Common.{◌≡◌, ℕ, Bool, true, false, [], drop, lengt
 use Rattle.std.proofs.lemmas.Result.{err_from_is_err_and, on_err_weaker}
 use Rattle.hayro_ccitt.specs.declared.error.DecodeError.{DecodeError}
 use Rattle.hayro_ccitt.specs.declared.error.DecodeError.TheVariants.{InvalidCode}
+use Rattle.hayro_ccitt.specs.declared.settings.DecodeSettings.{DecodeSettings}
 use Rattle.hayro_ccitt.specs.declared.settings.EncodingMode.{EncodingMode}
 use Rattle.hayro_ccitt.specs.Answers.{IsFault}
 use Rattle.hayro_ccitt.specs.Bits.{here}
-use Rattle.hayro_ccitt.specs.Context.{Held}
+use Rattle.hayro_ccitt.specs.Context.{Held, fresh}
 use Rattle.hayro_ccitt.specs.Decoding.{SinkState, leaving, gap_said}
 use Rattle.hayro_ccitt.specs.PlainReading.{Ending, gap_behind_row, at_gap, at_front, first_gap}
 use Rattle.hayro_ccitt.specs.Ticks.{tag_tests}
 use Rattle.hayro_ccitt.specs.Work.{most_counted, most_from_line}
+use Rattle.hayro_ccitt.proofs.Readings.DamageCounted.{first_gap_left}
 use Rattle.hayro_ccitt.proofs.Readings.RunsOverRows.{ends_well, ends_at_fault}
 use Rattle.hayro_ccitt.proofs.Readings.RunsReach.{fails_at_front, fails_whole}
 use Rattle.hayro_ccitt.proofs.Readings.WholeRuns.{decodes_from, decodes_none}
@@ -34,6 +36,18 @@ first_is g c =
     let bits = c.args.reader.now.bits in
     ap (λ (e : EncodingMode). first_gap e c.args.ctx.now.held.settings bits) c.requires.encoding ∙ ap (at_gap (at_front bits)) (gap_is g c)
 
+-- no EOL is sought there, so none is missed
+left : (g : Over) (c : After-pass_gap g) → c.pass_gap.new.ctx.held ≡ record (fresh c.args.ctx.now.held.settings) { has_eols = c.pass_gap.new.ctx.held.has_eols }
+left g c =
+    first_gap_left c.args.ctx.now.held c.pass_gap.new.ctx.held (here c.args.reader.now) c.requires.fresh c.pass_gap.ensures.held
+    c.pass_gap.ensures.missed
+
+pub read_rows-requires-clause-first : goal.read_rows-requires-clause-first
+read_rows-requires-clause-first g c =
+    let new = c.pass_gap.new.ctx.held in
+    left g (goal.at.read_rows-requires-clause-first g c).After-pass_gap
+    ∙ ap (λ (s : DecodeSettings). record (fresh s) { has_eols = new.has_eols }) (sym (ap (λ (h : Held). h.settings) c.pass_gap.ensures.held))
+
 pub returns-in_err-pass_gap-clause-rows : goal.returns-in_err-pass_gap-clause-rows
 returns-in_err-pass_gap-clause-rows g c =
     let at = (goal.at.returns-in_err-pass_gap-clause-rows g c).After-pass_gap in
@@ -42,19 +56,19 @@ returns-in_err-pass_gap-clause-rows g c =
     let held = c.args.ctx.now.held in
     let rest = here c.pass_gap.new.reader in
     let new = c.pass_gap.new.ctx.held in
-    let code : c.in_err-pass_gap.field-0.0 ≡ InvalidCode = c.in_err-pass_gap.ensures.only_code in
+    let code : c.in_err-pass_gap.field-0.0 ≡ InvalidCode = c.in_err-pass_gap.ensures.only_code.0 in
     let sink : SinkState g.D.Decoder.Meaning = record { meaning = g.D.Decoder.meaning c.args.decoder.now; refused = g.D.Decoder.has_refused c.args.decoder.now; refuses = g.D.Decoder.refuses c.args.decoder.now } in
     let end : Ending = record { rows = []; has_eols = false; outcome = Err c.in_err-pass_gap.field-0.0 } in
     let step = g.D.Decoder.step (g.D.Decoder.width c.args.decoder.now) in
-    let unrepaired : new.repairs.rows ≡ 0 = ap (λ (h : Held). h.repairs.rows) (c.pass_gap.ensures.held ∙ ap (λ (h : Held). record h { has_eols = new.has_eols }) c.requires.fresh) in
-    let taken : new.taken ≡ 0 = ap (λ (h : Held). h.taken) (c.pass_gap.ensures.held ∙ ap (λ (h : Held). record h { has_eols = new.has_eols }) c.requires.fresh) in
+    let undamaged : (new.repairs.rows ≡ 0) × (new.repairs.missed ≡ 0) = (ap (λ (h : Held). h.repairs.rows) (left g at), ap (λ (h : Held). h.repairs.missed) (left g at)) in
+    let taken : new.taken ≡ 0 = ap (λ (h : Held). h.taken) (left g at) in
     let first = first_is g at ∙ ap (λ (a : Result Bool DecodeError). at_gap (at_front bits) (gap_said a new.has_eols rest)) c.in_err-pass_gap.was in
     rw (answer.1, answer.2)
     (decodes_none bits step sink sink c.args.ctx.now c.pass_gap.new.ctx (Err c.in_err-pass_gap.field-0.0)
     (omega (arith, ap (λ (e : EncodingMode). most_counted e (length bits)) c.requires.encoding, c.in_err-pass_gap.ensures.work_refused, looked_most (here c.args.reader.now), ap (λ (n : ℕ). length (drop n bits)) c.requires.start))
-    end first (ap (λ (h : Held). h.settings) c.pass_gap.ensures.held) taken c.pass_gap.ensures.counts unrepaired
+    end first (ap (λ (h : Held). h.settings) c.pass_gap.ensures.held) taken c.pass_gap.ensures.counts undamaged
     (ends_at_fault step sink sink new end [] taken refl
-    (c.in_err-pass_gap.ensures.kept ∙ ap (λ (h : Held). h.has_eols) c.requires.fresh) refl c.in_err-pass_gap.field-0.0 (subst IsFault (sym code) tt) refl))
+    (ap (λ (h : Held). h.has_eols) c.in_err-pass_gap.ensures.unchanged.0 ∙ ap (λ (h : Held). h.has_eols) c.requires.fresh) refl c.in_err-pass_gap.field-0.0 (subst IsFault (sym code) tt) refl))
 
 pub returns-then-branch-clause-rows : goal.returns-then-branch-clause-rows
 returns-then-branch-clause-rows g c =
@@ -66,8 +80,8 @@ returns-then-branch-clause-rows g c =
     let sink : SinkState g.D.Decoder.Meaning = record { meaning = g.D.Decoder.meaning c.args.decoder.now; refused = g.D.Decoder.has_refused c.args.decoder.now; refuses = g.D.Decoder.refuses c.args.decoder.now } in
     let end : Ending = record { rows = []; has_eols = false; outcome = Ok rest } in
     let step = g.D.Decoder.step (g.D.Decoder.width c.args.decoder.now) in
-    let unrepaired : new.repairs.rows ≡ 0 = ap (λ (h : Held). h.repairs.rows) (c.pass_gap.ensures.held ∙ ap (λ (h : Held). record h { has_eols = new.has_eols }) c.requires.fresh) in
-    let taken : new.taken ≡ 0 = ap (λ (h : Held). h.taken) (c.pass_gap.ensures.held ∙ ap (λ (h : Held). record h { has_eols = new.has_eols }) c.requires.fresh) in
+    let undamaged : (new.repairs.rows ≡ 0) × (new.repairs.missed ≡ 0) = (ap (λ (h : Held). h.repairs.rows) (left g at), ap (λ (h : Held). h.repairs.missed) (left g at)) in
+    let taken : new.taken ≡ 0 = ap (λ (h : Held). h.taken) (left g at) in
     let kept = c.in_ok-pass_gap.ensures.given_up c.if-branch.true in
     let first = first_is g at ∙ ap (λ (a : Result Bool DecodeError). at_gap (at_front bits) (gap_said a new.has_eols rest)) is in
     decodes_none bits step sink sink c.args.ctx.now c.pass_gap.new.ctx (Ok rest)
@@ -79,7 +93,7 @@ returns-then-branch-clause-rows g c =
       looked_ahead_most c.args.ctx.now.held.settings.encoding rest,
       ap (λ (n : ℕ). length (drop n bits)) c.requires.start,
     ))
-    end first (ap (λ (h : Held). h.settings) c.pass_gap.ensures.held) taken c.pass_gap.ensures.counts unrepaired
+    end first (ap (λ (h : Held). h.settings) c.pass_gap.ensures.held) taken c.pass_gap.ensures.counts undamaged
     (ends_well step sink sink new end [] taken refl (kept ∙ ap (λ (h : Held). h.has_eols) c.requires.fresh) refl rest refl)
 
 pub returns-clause-rows : goal.returns-clause-rows
@@ -121,7 +135,7 @@ returns-in_err-pass_gap-clause-fails g c =
     let rest = here c.pass_gap.new.reader in
     let ends = first_is g at ∙ ap (λ (a : Result Bool DecodeError). at_gap (at_front bits) (gap_said a new.has_eols rest)) c.in_err-pass_gap.was in
     rw ((err_from_is_err_and c.from_residual.result c.from_residual.ensures.1).1)
-    (fails_at_front c.args.ctx.now.held.settings bits _ ends new.taken rest (c.in_err-pass_gap.ensures.stays ∙ ap (λ (n : ℕ). drop n bits) c.requires.start))
+    (fails_at_front c.args.ctx.now.held.settings bits _ ends new.taken rest (c.in_err-pass_gap.ensures.unchanged.1 ∙ ap (λ (n : ℕ). drop n bits) c.requires.start))
 
 pub returns-clause-fails : goal.returns-clause-fails
 returns-clause-fails g c =

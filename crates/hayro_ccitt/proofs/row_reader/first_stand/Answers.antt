@@ -1,6 +1,6 @@
 use Rattle.std.proofs.Common.{◌≡◌, ◌≢◌, ◌∙◌, ◌<◌, ℕ, Bool, false, inl, inr, length, drop, ap, sym, subst, arith}
 use Rattle.std.proofs.lemmas.List.{length-drop}
-use Rattle.std.proofs.lemmas.Result.{IfOk-weaker, on_err_weaker, on_ok_weaker}
+use Rattle.std.proofs.lemmas.Result.{IfErr-weaker, IfOk-weaker, on_err_weaker, on_ok_weaker}
 use Rattle.hayro_ccitt.specs.declared.row_reader.Stand.{Stand}
 use Rattle.hayro_ccitt.specs.declared.settings.DecodeSettings.{DecodeSettings}
 use Rattle.hayro_ccitt.specs.declared.settings.EncodingMode.TheVariants.{Group4}
@@ -12,6 +12,7 @@ use Rattle.hayro_ccitt.specs.PlainReading.{gap_behind_row, first_line}
 use Rattle.hayro_ccitt.specs.Rows.{changes}
 use Rattle.hayro_ccitt.specs.RowsRead.{IsPaid, Stands, ended}
 use Rattle.hayro_ccitt.specs.Ticks.{looked, looked_ahead}
+use Rattle.hayro_ccitt.proofs.Readings.DamageCounted.{first_gap_left}
 use Rattle.hayro_ccitt.proofs.Readings.RowByRow.{first_gap_stands, first_line_stands, no_fault}
 use Rattle.hayro_ccitt.proofs.Work.CallsPaid.{first_gap_paid, first_line_paid}
 use Rattle.hayro_ccitt.proofs.Work.ChangesStored.{changes_white}
@@ -31,10 +32,16 @@ returns-in-Group4-clause-stands c =
     ∙ ap (λ (x : Bits). gap_behind_row settings held.taken held.has_eols x) (sym begins)
     ∙ c.pass_gap-over.ensures.gap ∙ ap (λ (b : Bits). gap_said c.pass_gap-over.result last.has_eols (drop at.place b))
     c.pass_gap-over.ensures.same_bits in
-    let frame = c.pass_gap-over.ensures.held ∙ ap (λ (h : Held). record h { has_eols = last.has_eols }) c.requires.fresh in
+    let frame = first_gap_left held last (here c.args.reader.now) c.requires.fresh c.pass_gap-over.ensures.held c.pass_gap-over.ensures.missed in
     subst (λ (s : Stand). Stands s settings bits last at.place) (sym c.stand_after_gap.ensures)
     (first_gap_stands settings wide bits (ap (λ (s : DecodeSettings). s.encoding) (sym c.settings-2.ensures.value) ∙ c.in-Group4.is) last at.place
-    (omega (arith, c.bit_pos-place.ensures.place, c.bit_pos-place.ensures.within, ap length c.pass_gap-over.ensures.same_bits)) frame c.pass_gap-over.result said c.pass_gap-over.ensures.only_code)
+    (omega (arith, c.bit_pos-place.ensures.place, c.bit_pos-place.ensures.within, ap length c.pass_gap-over.ensures.same_bits)) frame c.pass_gap-over.result said
+    (IfErr-weaker c.pass_gap-over.result _ _ (λ error code. code.0) c.pass_gap-over.ensures.only_code))
+
+pub returns-in-Group4-clause-none_repaired : goal.returns-in-Group4-clause-none_repaired
+returns-in-Group4-clause-none_repaired c =
+    ap (λ (h : Held). h.repairs.rows) (first_gap_left c.args.ctx.now.held c.pass_gap-over.new.ctx.held (here c.args.reader.now)
+    c.requires.fresh c.pass_gap-over.ensures.held c.pass_gap-over.ensures.missed)
 
 pub returns-in-Group4-clause-unfailed : goal.returns-in-Group4-clause-unfailed
 returns-in-Group4-clause-unfailed c error is =
@@ -64,7 +71,7 @@ returns-in-Group4-clause-paid c =
     ∙ ap (λ (x : Bits). gap_behind_row settings held.taken held.has_eols x) (sym begins)
     ∙ c.pass_gap-over.ensures.gap ∙ ap (λ (b : Bits). gap_said c.pass_gap-over.result last.has_eols (drop at.place b))
     c.pass_gap-over.ensures.same_bits in
-    let frame = c.pass_gap-over.ensures.held ∙ ap (λ (h : Held). record h { has_eols = last.has_eols }) c.requires.fresh in
+    let frame = first_gap_left held last (here c.args.reader.now) c.requires.fresh c.pass_gap-over.ensures.held c.pass_gap-over.ensures.missed in
     subst (λ (s : Stand). IsPaid s settings bits last at.place now) (sym c.stand_after_gap.ensures)
     (first_gap_paid settings (ap (λ (s : DecodeSettings). s.encoding) (sym c.settings-2.ensures.value)
     ∙ c.in-Group4.is) bits last at.place now

@@ -1,7 +1,11 @@
-use Rattle.std.proofs.Common.{◌≡◌, ℕ, Bool, cond, length, Option, Some, None, ap, ◌∙◌, arith}
+use Rattle.std.proofs.Common.{rules, ◌≡◌, ℕ, Bool, true, false, cond, length, Option, Some, None, Ok, refl, sym, ap, ◌∙◌, arith}
+use Rattle.std.proofs.lemmas.Bool.{cond-true, cond-false}
+use Rattle.hayro_ccitt.specs.declared.settings.DecodeSettings.{DecodeSettings}
 use Rattle.hayro_ccitt.specs.Bits.{Bits, here}
 use Rattle.hayro_ccitt.specs.Context.{Context, Held}
+use Rattle.hayro_ccitt.specs.Decoding.{gap_said}
 use Rattle.hayro_ccitt.specs.EndOfLine.{next_eol}
+use Rattle.hayro_ccitt.specs.PlainReading.{Gap, eols_here, misses_eol, is_over, behind_eols, from_next_eol}
 use Rattle.hayro_ccitt.specs.Ticks.{looked, looked_ahead, tag_tests}
 use Rattle.hayro_ccitt.proofs.Readings.TurnsMoveOn.{next_eol_found}
 use Rattle.hayro_ccitt.proofs.Work.EolsPassed.{eols_here_shorter, eols_here_stay, looked_most, sought_looks}
@@ -16,12 +20,14 @@ returns-then-count-gt0-clause-work c = λ kept.
       ap (λ (found : ℕ × Bits). length found.1) c.read_eols-count.ensures.eols,
     )
 
-pub returns-then-settings-clause-stays : goal.returns-then-settings-clause-stays
-returns-then-settings-clause-stays c =
+pub returns-then-settings-clause-unchanged : goal.returns-then-settings-clause-unchanged
+returns-then-settings-clause-unchanged c =
     let none : c.read_eols-count.result ≡ 0 = omega (arith, c.if-count-gt0.false) in
-    let now = here c.read_eols-count.new.reader in
-    eols_here_stay c.args.ctx.now.held.settings (here c.args.reader.now) now
-    (c.read_eols-count.ensures.eols ∙ ap (λ (n : ℕ). (n, now)) none)
+    let now = here c.read_eols-count.new.reader in (
+      c.read_eols-count.ensures.held,
+      eols_here_stay c.args.ctx.now.held.settings (here c.args.reader.now) now
+          (c.read_eols-count.ensures.eols ∙ ap (λ (n : ℕ). (n, now)) none),
+    )
 
 pub returns-then-settings-clause-work_refused : goal.returns-then-settings-clause-work_refused
 returns-then-settings-clause-work_refused c =
@@ -38,6 +44,7 @@ returns-then-not-skip_to_eol-clause-work_given_up c = λ given_up.
     omega (
       arith,
       ap (λ (x : Context). x.ticks) c.set_has_eols.ensures.frame,
+      ap (λ (x : Context). x.ticks) c.count_missed_eol.ensures.frame,
       c.read_eols-count.ensures.work_none none,
       looked_most (here c.args.reader.now),
       ap length stays,
@@ -60,6 +67,7 @@ returns-clause-work c = λ kept.
     omega (
       arith,
       c.read_eols-count.ensures.work_none none,
+      ap (λ (x : Context). x.ticks) c.count_missed_eol.ensures.frame,
       ap length stays,
       ap looked stays,
       c.ticks.ensures.value,
@@ -69,15 +77,64 @@ returns-clause-work c = λ kept.
       ap (λ (x : ℕ × Bits). length x.1) c.read_eols-count-2.ensures.eols,
       sought_looks settings now found next,
       (next_eol_found now found next).0,
+      ap (λ (x : Context). looked_ahead x.held.settings.encoding rest) c.count_missed_eol.ensures.frame,
+      ap (λ (x : Context). tag_tests x.held.settings.encoding) c.count_missed_eol.ensures.frame,
+      ap (λ (x : Context). length (eols_here x.held.settings found).1) c.count_missed_eol.ensures.frame,
       ap (λ (held : Held). looked_ahead held.settings.encoding rest) c.read_eols-count.ensures.held,
       ap (λ (held : Held). tag_tests held.settings.encoding) c.read_eols-count.ensures.held,
     )
+
+-- what follows the EOLs that were found, as a choice
+said_of : (over has_eols : Bool) (rest : Bits) → cond over (Gap.over (Ok rest)) (Gap.line_at has_eols rest) ≡ gap_said (Ok over) has_eols rest
+said_of true has_eols rest = refl
+said_of false has_eols rest = refl
+
+pub returns-clause-gap : goal.returns-clause-gap
+returns-clause-gap c =
+    let held = c.args.ctx.now.held in
+    let settings = held.settings in
+    let start = here c.args.reader.now in
+    let none : c.read_eols-count.result ≡ 0 = omega (arith, c.if-count-gt0.false) in
+    let now = here c.read_eols-count.new.reader in
+    let found = here c.skip_to_eol.new.self in
+    let rest = here c.read_eols-count-2.new.reader in
+    let stays = eols_here_stay settings start now (c.read_eols-count.ensures.eols ∙ ap (λ (n : ℕ). (n, now)) none) in
+    let next : next_eol now ≡ Some found
+    = c.skip_to_eol.ensures.next ∙ ap (λ (b : Bool). cond {A = Option Bits} b (Some found) None) c.if-not-skip_to_eol.false in
+    let misses : misses_eol settings held.taken held.has_eols start ≡ true = search rules in
+    let lenient : settings.strict ≡ false = search rules in
+    let sought : held.has_eols ≡ true = search rules in
+    let eols : ℕ × Bits = (c.read_eols-count-2.result, rest) in
+    let same : c.count_missed_eol.new.self.held.settings ≡ settings
+    = ap (λ (x : Context). x.held.settings) c.count_missed_eol.ensures.frame ∙ ap (λ (h : Held). h.settings) c.read_eols-count.ensures.held in
+    let over : is_over settings held.taken eols ≡ c.is_over-2.result
+    = sym (c.is_over-2.ensures.over ∙ ap (λ (h : Held). is_over h.settings h.taken eols) c.read_eols-count-2.ensures.held
+    ∙ ap (λ (x : Context). is_over x.held.settings x.held.taken eols) c.count_missed_eol.ensures.frame
+    ∙ ap (λ (h : Held). is_over h.settings h.taken eols) c.read_eols-count.ensures.held) in
+    let on : c.read_eols-count-2.new.ctx.held.has_eols ≡ true
+    = ap (λ (h : Held). h.has_eols) c.read_eols-count-2.ensures.held ∙ ap (λ (x : Context). x.held.has_eols) c.count_missed_eol.ensures.frame
+    ∙ ap (λ (h : Held). h.has_eols) c.read_eols-count.ensures.held ∙ sought in
+    cond-true (misses_eol settings held.taken held.has_eols start) _ _ misses
+    ∙ cond-false settings.strict _ _ lenient
+    ∙ ap (from_next_eol settings held.taken start) (ap next_eol (sym stays) ∙ next)
+    ∙ ap (behind_eols settings held.taken true) (ap (λ (s : DecodeSettings). eols_here s found) (sym same) ∙ c.read_eols-count-2.ensures.eols)
+    ∙ ap (λ (b : Bool). cond b (Gap.over (Ok rest)) (Gap.line_at true rest)) over
+    ∙ said_of c.is_over-2.result true rest
+    ∙ ap (λ (b : Bool). gap_said (Ok c.is_over-2.result) b rest) (sym on)
 
 pub returns-clause-counts : goal.returns-clause-counts
 returns-clause-counts c =
     let left = (next_eol_found (here c.read_eols-count.new.reader) (here c.skip_to_eol.new.self)
     (c.skip_to_eol.ensures.next ∙ ap (λ (b : Bool). cond {A = Option Bits} b (Some (here c.skip_to_eol.new.self)) None) c.if-not-skip_to_eol.false)).0 in
-    omega (arith, c.read_eols-count.ensures.counts, c.read_eols-count-2.ensures.counts, c.ticks.ensures.value, c.skip_to_eol.ensures.ticks, left)
+    omega (
+      arith,
+      c.read_eols-count.ensures.counts,
+      ap (λ (x : Context). x.ticks) c.count_missed_eol.ensures.frame,
+      c.read_eols-count-2.ensures.counts,
+      c.ticks.ensures.value,
+      c.skip_to_eol.ensures.ticks,
+      left,
+    )
 
 pub returns-clause-at_least : goal.returns-clause-at_least
 returns-clause-at_least c =
@@ -86,6 +143,7 @@ returns-clause-at_least c =
     omega (
       arith,
       c.read_eols-count.ensures.at_least,
+      ap (λ (x : Context). x.ticks) c.count_missed_eol.ensures.frame,
       c.ticks.ensures.value,
       c.skip_to_eol.ensures.ticks,
       ap (λ (b : Bool). cond b (looked found) (length found)) c.if-not-skip_to_eol.false,

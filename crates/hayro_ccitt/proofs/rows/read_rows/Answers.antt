@@ -4,12 +4,13 @@ use Rattle.std.proofs.lemmas.List.{length-append, length-drop}
 use Rattle.hayro_ccitt.specs.declared.error.DecodeError.TheVariants.{InvalidCode}
 use Rattle.hayro_ccitt.specs.Answers.{IsFault}
 use Rattle.hayro_ccitt.specs.Bits.{BitsAt, here}
-use Rattle.hayro_ccitt.specs.Context.{Held}
+use Rattle.hayro_ccitt.specs.Context.{Held, Repairs}
+use Rattle.hayro_ccitt.specs.Damage.{repaired_by_turn, missed_by_turn}
 use Rattle.hayro_ccitt.specs.PlainReading.{move_on, one_each, line_here, line_of_turn, gathered_from, gap_behind_row}
 use Rattle.hayro_ccitt.proofs.Readings.TurnsMoveOn.{left_to_read}
 use Rattle.hayro_ccitt.proofs.Readings.RunsOverRows.{comes_first, held_between}
-use Rattle.hayro_ccitt.proofs.Readings.RepairsCounted.{RepairsCounted, none_repaired, few_repaired}
-use Rattle.hayro_ccitt.proofs.Readings.RowsTaken.{from_line, by_rows_left, left_start, takes_is, goes_on, last_taken, turn_over, turn_fails, turn_misses, turn_ends, next_between, next_counted, next_repaired, last_repairs, fails_repaired, next_paid, next_shorter, counted_last, fails_paid, giving_up_is_paid, misses_paid, ends_paid, words_are}
+use Rattle.hayro_ccitt.proofs.Readings.DamageCounted.{DamageTold, none_counted, repaired_behind, few_repaired}
+use Rattle.hayro_ccitt.proofs.Readings.RowsTaken.{from_line, by_rows_left, left_start, takes_is, goes_on, last_taken, turn_over, turn_fails, turn_misses, turn_ends, next_between, next_counted, next_told, last_told, fails_told, next_paid, next_shorter, counted_last, fails_paid, giving_up_is_paid, misses_paid, ends_paid, words_are}
 use Rattle.hayro_ccitt.specs.Repetition.{Reaches}
 use Rattle.hayro_ccitt.proofs.Readings.Repeated.{reaches_on}
 use Rattle.hayro_ccitt.proofs.Readings.RunsReach.{fails_at_line, fails_behind_row}
@@ -49,15 +50,21 @@ rows-init g c =
         changes_white settings.columns,
         length-drop c.args.reader.now.place c.args.reader.now.bits,
       ),
-      subst (RepairsCounted settings c.args.reader.now.bits first first) (sym (ap (λ (h : Held). h.repairs.rows) c.requires.first))
-          (none_repaired settings c.args.reader.now.bits first (by_rows_left settings c.requires.columns) refl),
+      subst (DamageTold settings c.args.reader.now.bits first first) (sym (ap (λ (h : Held). h.repairs) c.requires.first)) (
+          record {
+            repaired = none_counted settings (repaired_by_turn settings c.args.reader.now.bits) first (by_rows_left settings c.requires.columns) refl;
+            missed = none_counted settings (missed_by_turn settings c.args.reader.now.bits) first (by_rows_left settings c.requires.columns) refl;
+            few = omega arith;
+            last = omega arith;
+          }
+          ),
       omega (arith, ap (λ (h : Held). h.repairs.rows) c.requires.first),
       Reaches.stays first,
     )
 
 pub read_row-requires-clause-rows : goal.read_row-requires-clause-rows
 read_row-requires-clause-rows g c =
-    let (between, unsought, same, width, words, paid, repaired, few, reaches) = c.rows.invariant in
+    let (between, unsought, same, width, words, paid, told, few, reaches) = c.rows.invariant in
     let settings = c.args.ctx.now.held.settings in
     let sought = c.args.ctx.now.held.has_eols in
     let rest0 = here c.args.reader.now in
@@ -67,7 +74,7 @@ read_row-requires-clause-rows g c =
 
 pub rows-smaller : goal.rows-smaller
 rows-smaller g c =
-    let (between, unsought, same, width, words, paid, repaired, few, reaches) = c.rows.invariant in
+    let (between, unsought, same, width, words, paid, told, few, reaches) = c.rows.invariant in
     let settings = c.args.ctx.now.held.settings in
     let sought = c.args.ctx.now.held.has_eols in
     let rest0 = here c.args.reader.now in
@@ -78,7 +85,7 @@ rows-smaller g c =
 
 pub rows-preserved : goal.rows-preserved
 rows-preserved g c =
-    let (between, unsought, same, width, words, paid, repaired, few, reaches) = c.rows.invariant in
+    let (between, unsought, same, width, words, paid, told, few, reaches) = c.rows.invariant in
     let settings = c.args.ctx.now.held.settings in
     let sought = c.args.ctx.now.held.has_eols in
     let rest0 = here c.args.reader.now in
@@ -96,13 +103,14 @@ rows-preserved g c =
     within c.args.ctx.now.ticks (most_given_up sought (length bits)) c.rows.ctx.ticks paid c.read_row.new.ctx.ticks c.in_ok-read_row.ensures.at_most c.in_ok-read_row.ensures.row
     c.pass_gap.new.ctx.ticks c.pass_gap.new.ctx.held (here c.pass_gap.new.reader) gap c.pass_gap.ensures.held c.in_ok-read_row.ensures.stored
     (λ kept. omega (arith, c.in_ok-pass_gap.ensures.work kept, few_tag_tests c.read_row.new.ctx.held.settings.encoding)) c.in_ok-pass_gap.ensures.work_given_up (giving_up_is_paid sought c.rows.ctx.held.has_eols (length bits) unsought) in
-    let told = next_repaired settings c.requires.columns sought rest0 bits g.D.Decoder.step _ _ _ _ _ between _ width _ _ _
-    c.in_ok-read_row.ensures.row c.pass_gap.new.ctx.held (here c.pass_gap.new.reader) c.pass_gap.result c.pass_gap.ensures.gap c.pass_gap.ensures.held is repaired in
+    let told_on = next_told settings c.requires.columns sought rest0 bits g.D.Decoder.step _ _ _ _ _ between _ width _ _ _
+    c.in_ok-read_row.ensures.row c.pass_gap.new.ctx.held (here c.pass_gap.new.reader) c.pass_gap.result c.pass_gap.ensures.gap c.pass_gap.ensures.held c.pass_gap.ensures.missed told is in
     let fewer : c.pass_gap.new.ctx.held.repairs.rows ≤ c.pass_gap.new.ctx.held.taken =
     omega (
       arith,
       few,
-      ap (λ (h : Held). h.repairs.rows) c.pass_gap.ensures.held,
+      ap (λ (r : Repairs). r.rows) c.pass_gap.ensures.missed,
+      (repaired_behind c.read_row.new.ctx.held (here c.read_row.new.reader)).0,
       ap (λ (h : Held). h.taken) c.pass_gap.ensures.held,
       few_repaired (line_here c.rows.ctx.held.settings c.rows.ctx.held.reference (here c.rows.reader)) c.rows.ctx.held c.read_row.new.ctx.held c.in_ok-read_row.ensures.row.taken.taken
           c.in_ok-read_row.ensures.row.taken.held,
@@ -113,11 +121,11 @@ rows-preserved g c =
     let reached = reaches_on (move_on settings) (from_line sought rest0) between.so_far next.so_far reaches
     (goes_on settings c.requires.columns sought rest0 bits g.D.Decoder.step _ _ _ _ _ between _ width _ _ _
     c.in_ok-read_row.ensures.row c.pass_gap.new.ctx.held (here c.pass_gap.new.reader) c.pass_gap.result c.pass_gap.ensures.gap c.pass_gap.ensures.held is) in
-    (next, none, c.pass_gap.ensures.same_bits ∙ c.read_row.ensures.same_bits ∙ same, c.read_row.ensures.width ∙ width, counted, paid_on, told, fewer, reached)
+    (next, none, c.pass_gap.ensures.same_bits ∙ c.read_row.ensures.same_bits ∙ same, c.read_row.ensures.width ∙ width, counted, paid_on, told_on, fewer, reached)
 
 pub returns-in_err-read_row-clause-rows : goal.returns-in_err-read_row-clause-rows
 returns-in_err-read_row-clause-rows g c =
-    let (between, unsought, same, width, words, paid, repaired, few, reaches) = c.rows.invariant in
+    let (between, unsought, same, width, words, paid, told, few, reaches) = c.rows.invariant in
     let settings = c.args.ctx.now.held.settings in
     let sought = c.args.ctx.now.held.has_eols in
     let rest0 = here c.args.reader.now in
@@ -126,14 +134,16 @@ returns-in_err-read_row-clause-rows g c =
     let leaves = turn_fails settings c.requires.columns sought rest0 bits g.D.Decoder.step _ _ _ _ _ between _ width _ _ _ c.in_err-read_row.field-0.0 c.in_err-read_row.ensures.row in
     let within : length (here c.rows.reader) ≤ length bits = omega (arith, length-drop c.rows.reader.place c.rows.reader.bits, ap length same) in
     let taken = ap (λ (h : Held). h.taken) c.in_err-read_row.ensures.row.held in
+    let counted = fails_told settings c.requires.columns sought rest0 bits g.D.Decoder.step _ _ _ _ _ between _ width
+    (record { meaning = g.D.Decoder.meaning c.read_row.new.decoder; refused = g.D.Decoder.has_refused c.read_row.new.decoder; refuses = g.D.Decoder.refuses c.read_row.new.decoder })
+    c.read_row.new.ctx.held (here c.read_row.new.reader) c.in_err-read_row.field-0.0 c.in_err-read_row.ensures.row told in
     rw (answer.1, answer.2) (
     record {
       settings = search rules;
       reading = leaves.0;
       short = leaves.1;
-      repaired = fails_repaired settings c.requires.columns sought rest0 bits g.D.Decoder.step _ _ _ _ _ between _ width
-          (record { meaning = g.D.Decoder.meaning c.read_row.new.decoder; refused = g.D.Decoder.has_refused c.read_row.new.decoder; refuses = g.D.Decoder.refuses c.read_row.new.decoder })
-          c.read_row.new.ctx.held (here c.read_row.new.reader) c.in_err-read_row.field-0.0 c.in_err-read_row.ensures.row repaired;
+      repaired = counted.0;
+      missed = counted.1;
       work = counted_ends (move_on settings) (one_each (words_of_turn settings)) left_to_read (by_rows_left settings c.requires.columns) (from_line sought rest0) refl between.so_far
           c.args.ctx.now.ticks c.rows.ctx.ticks words c.read_row.new.ctx.held.taken c.read_row.new.ctx.ticks (most_from_line sought (length bits))
           (taken ∙ ap (λ (h : Held). h.taken) between.held) c.in_err-read_row.ensures.counts
@@ -148,7 +158,7 @@ last_counted : (g : Over) (c : After-pass_gap g) → c.pass_gap.new.ctx.ticks �
     → CountsRun (gathered_from (move_on c.args.ctx.now.held.settings) (one_each (words_of_turn c.args.ctx.now.held.settings)) (from_line c.args.ctx.now.held.has_eols (here c.args.reader.now))) c.pass_gap.new.ctx.held.taken c.args.ctx.now.ticks c.pass_gap.new.ctx.ticks
     (most_from_line c.args.ctx.now.held.has_eols (length c.args.reader.now.bits))
 last_counted g c most =
-    let (between, unsought, same, width, words, paid, repaired, few, reaches) = c.rows.invariant in
+    let (between, unsought, same, width, words, paid, told, few, reaches) = c.rows.invariant in
     let settings = c.args.ctx.now.held.settings in
     let sought = c.args.ctx.now.held.has_eols in
     let rest0 = here c.args.reader.now in
@@ -160,25 +170,27 @@ last_counted g c most =
 
 pub returns-in_err-pass_gap-clause-rows : goal.returns-in_err-pass_gap-clause-rows
 returns-in_err-pass_gap-clause-rows g c =
-    let (between, unsought, same, width, words, paid, repaired, few, reaches) = c.rows.invariant in
+    let (between, unsought, same, width, words, paid, told, few, reaches) = c.rows.invariant in
     let settings = c.args.ctx.now.held.settings in
     let sought = c.args.ctx.now.held.has_eols in
     let rest0 = here c.args.reader.now in
     let bits = c.args.reader.now.bits in
     let answer = err_from_is_err_and c.from_residual-in_err-pass_gap.result c.from_residual-in_err-pass_gap.ensures.1 in
-    let code : c.in_err-pass_gap.field-0.0 ≡ InvalidCode = c.in_err-pass_gap.ensures.only_code in
+    let code : c.in_err-pass_gap.field-0.0 ≡ InvalidCode = c.in_err-pass_gap.ensures.only_code.0 in
     let leaves = turn_misses settings c.requires.columns sought rest0 bits g.D.Decoder.step _ _ _ _ _ between _ width _ _ _
-    c.in_ok-read_row.ensures.row c.pass_gap.new.ctx.held (here c.pass_gap.new.reader) c.pass_gap.result c.pass_gap.ensures.gap c.pass_gap.ensures.held c.in_err-pass_gap.field-0.0 c.in_err-pass_gap.was (subst IsFault (sym code) tt) c.in_err-pass_gap.ensures.kept in
+    c.in_ok-read_row.ensures.row c.pass_gap.new.ctx.held (here c.pass_gap.new.reader) c.pass_gap.result c.pass_gap.ensures.gap c.pass_gap.ensures.held c.in_err-pass_gap.field-0.0 c.in_err-pass_gap.was (subst IsFault (sym code) tt) (ap (λ (h : Held). h.has_eols) c.in_err-pass_gap.ensures.unchanged.0) in
     let within : length (here c.rows.reader) ≤ length bits = omega (arith, length-drop c.rows.reader.place c.rows.reader.bits, ap length same) in
+    let counted = last_told settings c.requires.columns sought rest0 bits g.D.Decoder.step _ _ _ _ _ between _ width _ _ _
+    c.in_ok-read_row.ensures.row c.pass_gap.new.ctx.held (here c.pass_gap.new.reader) c.pass_gap.result c.pass_gap.ensures.gap c.pass_gap.ensures.held c.pass_gap.ensures.missed told
+    (Err c.in_err-pass_gap.field-0.0) (ap (λ (a : Result Bool DecodeError). gap_said a c.pass_gap.new.ctx.held.has_eols (here c.pass_gap.new.reader)) c.in_err-pass_gap.was)
+    (Err c.in_err-pass_gap.field-0.0) in
     rw (answer.1, answer.2) (
     record {
       settings = search rules;
       reading = leaves.0;
       short = leaves.1;
-      repaired = last_repairs settings c.requires.columns sought rest0 bits g.D.Decoder.step _ _ _ _ _ between _ width _ _ _
-          c.in_ok-read_row.ensures.row c.pass_gap.new.ctx.held (here c.pass_gap.new.reader) c.pass_gap.result c.pass_gap.ensures.gap c.pass_gap.ensures.held
-          (Err c.in_err-pass_gap.field-0.0) (ap (λ (a : Result Bool DecodeError). gap_said a c.pass_gap.new.ctx.held.has_eols (here c.pass_gap.new.reader)) c.in_err-pass_gap.was)
-          (Err c.in_err-pass_gap.field-0.0) repaired;
+      repaired = counted.0;
+      missed = counted.1;
       work = last_counted g (goal.at.returns-in_err-pass_gap-clause-rows g c).After-pass_gap
           (misses_paid settings c.requires.columns sought rest0 bits g.D.Decoder.step _ _ _ _ _ between _ width _ _ _
           within c.args.ctx.now.ticks (most_given_up sought (length bits)) c.rows.ctx.ticks paid c.read_row.new.ctx.ticks c.in_ok-read_row.ensures.at_most c.in_ok-read_row.ensures.row
@@ -188,7 +200,7 @@ returns-in_err-pass_gap-clause-rows g c =
 
 pub returns-then-branch-clause-rows : goal.returns-then-branch-clause-rows
 returns-then-branch-clause-rows g c =
-    let (between, unsought, same, width, words, paid, repaired, few, reaches) = c.rows.invariant in
+    let (between, unsought, same, width, words, paid, told, few, reaches) = c.rows.invariant in
     let settings = c.args.ctx.now.held.settings in
     let sought = c.args.ctx.now.held.has_eols in
     let rest0 = here c.args.reader.now in
@@ -197,14 +209,16 @@ returns-then-branch-clause-rows g c =
     let leaves = turn_ends settings c.requires.columns sought rest0 bits g.D.Decoder.step _ _ _ _ _ between _ width _ _ _
     c.in_ok-read_row.ensures.row c.pass_gap.new.ctx.held (here c.pass_gap.new.reader) c.pass_gap.result c.pass_gap.ensures.gap c.pass_gap.ensures.held is (c.in_ok-pass_gap.ensures.given_up c.if-branch.true) in
     let within : length (here c.rows.reader) ≤ length bits = omega (arith, length-drop c.rows.reader.place c.rows.reader.bits, ap length same) in
+    let counted = last_told settings c.requires.columns sought rest0 bits g.D.Decoder.step _ _ _ _ _ between _ width _ _ _
+    c.in_ok-read_row.ensures.row c.pass_gap.new.ctx.held (here c.pass_gap.new.reader) c.pass_gap.result c.pass_gap.ensures.gap c.pass_gap.ensures.held c.pass_gap.ensures.missed told
+    (Ok (here c.pass_gap.new.reader)) (ap (λ (a : Result Bool DecodeError). gap_said a c.pass_gap.new.ctx.held.has_eols (here c.pass_gap.new.reader)) is)
+    (Ok (here c.pass_gap.new.reader)) in
     record {
       settings = search rules;
       reading = leaves.0;
       short = leaves.1;
-      repaired = last_repairs settings c.requires.columns sought rest0 bits g.D.Decoder.step _ _ _ _ _ between _ width _ _ _
-          c.in_ok-read_row.ensures.row c.pass_gap.new.ctx.held (here c.pass_gap.new.reader) c.pass_gap.result c.pass_gap.ensures.gap c.pass_gap.ensures.held
-          (Ok (here c.pass_gap.new.reader)) (ap (λ (a : Result Bool DecodeError). gap_said a c.pass_gap.new.ctx.held.has_eols (here c.pass_gap.new.reader)) is)
-          (Ok (here c.pass_gap.new.reader)) repaired;
+      repaired = counted.0;
+      missed = counted.1;
       work = last_counted g (goal.at.returns-then-branch-clause-rows g c).After-pass_gap
           (ends_paid settings c.requires.columns sought rest0 bits g.D.Decoder.step _ _ _ _ _ between _ width _ _ _
           within c.args.ctx.now.ticks (most_given_up sought (length bits)) c.rows.ctx.ticks paid c.read_row.new.ctx.ticks c.in_ok-read_row.ensures.at_most c.in_ok-read_row.ensures.row
@@ -215,7 +229,7 @@ returns-then-branch-clause-rows g c =
 -- a row that isn't accepted leaves the reader at its line
 pub returns-in_err-read_row-clause-fails : goal.returns-in_err-read_row-clause-fails
 returns-in_err-read_row-clause-fails g c =
-    let (between, unsought, same, width, words, paid, repaired, few, reaches) = c.rows.invariant in
+    let (between, unsought, same, width, words, paid, told, few, reaches) = c.rows.invariant in
     let settings = c.args.ctx.now.held.settings in
     let left = c.read_row.new.ctx.held in
     let first = from_line c.args.ctx.now.held.has_eols (here c.args.reader.now) in
@@ -227,7 +241,7 @@ returns-in_err-read_row-clause-fails g c =
 -- a missing EOL leaves it behind the row
 pub returns-in_err-pass_gap-clause-fails : goal.returns-in_err-pass_gap-clause-fails
 returns-in_err-pass_gap-clause-fails g c =
-    let (between, unsought, same, width, words, paid, repaired, few, reaches) = c.rows.invariant in
+    let (between, unsought, same, width, words, paid, told, few, reaches) = c.rows.invariant in
     let settings = c.args.ctx.now.held.settings in
     let sought = c.args.ctx.now.held.has_eols in
     let rest0 = here c.args.reader.now in
@@ -240,19 +254,19 @@ returns-in_err-pass_gap-clause-fails g c =
     c.in_ok-read_row.ensures.row c.pass_gap.new.ctx.held (here c.pass_gap.new.reader) c.pass_gap.result c.pass_gap.ensures.gap c.pass_gap.ensures.held in
     rw ((err_from_is_err_and c.from_residual-in_err-pass_gap.result c.from_residual-in_err-pass_gap.ensures.1).1)
     (fails_behind_row settings c.requires.columns (from_line sought rest0) refl between.so_far reaches bits read.taken (here c.read_row.new.reader) (here c.pass_gap.new.reader) read.is _ ends
-    c.pass_gap.new.ctx.held.taken (more ∙ length-append between.so_far.rows (read.taken ∷ [])) c.in_err-pass_gap.ensures.stays)
+    c.pass_gap.new.ctx.held.taken (more ∙ length-append between.so_far.rows (read.taken ∷ [])) c.in_err-pass_gap.ensures.unchanged.1)
 
 pub returns-in_err-read_row-clause-no_eols : goal.returns-in_err-read_row-clause-no_eols
 returns-in_err-read_row-clause-no_eols g c = λ none.
-    let (between, unsought, same, width, words, paid, repaired, few, reaches) = c.rows.invariant in
+    let (between, unsought, same, width, words, paid, told, few, reaches) = c.rows.invariant in
     ap (λ (h : Held). h.has_eols) c.in_err-read_row.ensures.row.held ∙ unsought none
 
 pub returns-in_err-pass_gap-clause-no_eols : goal.returns-in_err-pass_gap-clause-no_eols
 returns-in_err-pass_gap-clause-no_eols g c = λ none.
-    let (between, unsought, same, width, words, paid, repaired, few, reaches) = c.rows.invariant in
-    c.in_err-pass_gap.ensures.kept ∙ ap (λ (h : Held). h.has_eols) c.in_ok-read_row.ensures.row.taken.held ∙ unsought none
+    let (between, unsought, same, width, words, paid, told, few, reaches) = c.rows.invariant in
+    ap (λ (h : Held). h.has_eols) c.in_err-pass_gap.ensures.unchanged.0 ∙ ap (λ (h : Held). h.has_eols) c.in_ok-read_row.ensures.row.taken.held ∙ unsought none
 
 pub returns-then-branch-clause-no_eols : goal.returns-then-branch-clause-no_eols
 returns-then-branch-clause-no_eols g c = λ none.
-    let (between, unsought, same, width, words, paid, repaired, few, reaches) = c.rows.invariant in
+    let (between, unsought, same, width, words, paid, told, few, reaches) = c.rows.invariant in
     c.in_ok-pass_gap.ensures.given_up c.if-branch.true ∙ ap (λ (h : Held). h.has_eols) c.in_ok-read_row.ensures.row.taken.held ∙ unsought none

@@ -7,7 +7,7 @@ use Rattle.hayro_ccitt.specs.Work.{IsPaidUpTo, most_given_up, words_of_turn}
 use Rattle.hayro_ccitt.proofs.Work.RunsCount.{WordsCounted}
 use Rattle.hayro_ccitt.proofs.Readings.TurnsMoveOn.{left_to_read}
 use Rattle.hayro_ccitt.proofs.Readings.RunsOverRows.{Between}
-use Rattle.hayro_ccitt.proofs.Readings.RepairsCounted.{RepairsCounted}
+use Rattle.hayro_ccitt.proofs.Readings.DamageCounted.{DamageTold}
 use Rattle.hayro_ccitt.proofs.Readings.RowsTaken.{from_line}
 use Rattle.hayro_ccitt.proofs.rows.read_rows.Given as goal
 
@@ -24,7 +24,7 @@ invariant-rows g l =
     × WordsCounted (move_on l.fn.ctx.held.settings) (one_each (words_of_turn l.fn.ctx.held.settings)) left_to_read (from_line l.fn.ctx.held.has_eols (here l.fn.reader)) between.so_far
     l.fn.ctx.ticks l.ctx.ticks
     × IsPaidUpTo l.fn.ctx.ticks (length l.fn.reader.bits) (most_given_up l.fn.ctx.held.has_eols (length l.fn.reader.bits)) l.fn.ctx.held.settings.encoding l.ctx.held.has_eols l.ctx.ticks (length (changes l.ctx.held.reference)) (here l.reader)
-    × RepairsCounted l.fn.ctx.held.settings l.fn.reader.bits (from_line l.fn.ctx.held.has_eols (here l.fn.reader)) between.so_far l.ctx.held.repairs.rows
+    × DamageTold l.fn.ctx.held.settings l.fn.reader.bits (from_line l.fn.ctx.held.has_eols (here l.fn.reader)) between.so_far l.ctx.held.repairs
     × (l.ctx.held.repairs.rows ≤ l.ctx.held.taken)
     × Reaches (move_on l.fn.ctx.held.settings) (from_line l.fn.ctx.held.has_eols (here l.fn.reader)) between.so_far
 

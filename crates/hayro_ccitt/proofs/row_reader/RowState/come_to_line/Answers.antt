@@ -1,16 +1,18 @@
 use Rattle.std.specs.Prelude.{OnErr, OnOk, IfOk, Ok, Err, sum_by}
 use Rattle.std.proofs.Common.{ℕ, ◌+◌, ◌-◌, ◌*◌, ◌≤◌, take, length-drop, ◌≡◌, ◌∙◌, Bool, Result, length, drop, ap, sym, subst, arith, refl}
+use Rattle.std.proofs.lemmas.Result.{IfErr-weaker}
 use Rattle.hayro_ccitt.specs.declared.error.DecodeError.{DecodeError}
 use Rattle.hayro_ccitt.specs.declared.row_reader.Stand.{Stand}
 use Rattle.hayro_ccitt.specs.declared.settings.DecodeSettings.{DecodeSettings}
 use Rattle.hayro_ccitt.specs.Bits.{Bits, here}
-use Rattle.hayro_ccitt.specs.Context.{Held}
+use Rattle.hayro_ccitt.specs.Context.{Held, Repairs}
 use Rattle.hayro_ccitt.specs.Decoding.{gap_said}
-use Rattle.hayro_ccitt.specs.PlainReading.{gap_behind_row, line_starts, failed_at}
+use Rattle.hayro_ccitt.specs.PlainReading.{gap_behind_row, failed_at}
 use Rattle.hayro_ccitt.specs.RowsRead.{ComesToLine, Stands, read_so_far, start_after, stand_after}
 use Rattle.hayro_ccitt.specs.RowsRead.{IsStanding, WorkIsPaid, seen}
 use Rattle.hayro_ccitt.specs.Ticks.{looked_ahead, tag_tests}
 use Rattle.hayro_ccitt.specs.Work.{words_of}
+use Rattle.hayro_ccitt.proofs.Readings.DamageCounted.{repaired_behind}
 use Rattle.hayro_ccitt.proofs.Readings.RowByRow.{starts_behind, behind_row_stands, repairs_stay, gap_stands, comes_to_line}
 use Rattle.hayro_ccitt.proofs.Work.CallsPaid.{behind_row_paid, gap_paid}
 use Rattle.hayro_ccitt.proofs.row_reader.RowState.come_to_line.Goals as goal
@@ -31,7 +33,8 @@ passed c stands =
     ≡ gap_said c.pass_gap-over.result last.has_eols (drop at.place b)) c.pass_gap-over.ensures.same_bits c.pass_gap-over.ensures.gap in
     gap_stands held.settings bits held (here c.args.reader.now) behind last at.place
     (omega (arith, c.bit_pos-place.ensures.place, c.bit_pos-place.ensures.within, ap length c.pass_gap-over.ensures.same_bits))
-    c.pass_gap-over.ensures.held c.pass_gap-over.result said c.pass_gap-over.ensures.only_code
+    c.pass_gap-over.ensures.held c.pass_gap-over.result said
+    (IfErr-weaker c.pass_gap-over.result _ _ (λ error code. code.0) c.pass_gap-over.ensures.only_code)
 
 -- the offset of its fault, if it has one
 started : (c : After-line_after_gap) → IsStanding c.args.self.now c.args.reader.now
@@ -118,7 +121,8 @@ returns-clause-stands c stands =
     let same : last.settings ≡ settings = ap (λ (h : Held). h.settings) c.pass_gap-over.ensures.held in
     let held = c.args.self.now.ctx.held in
     let counted = repairs_stay settings last.settings c.args.reader.now.bits at.bits held last same c.pass_gap-over.ensures.same_bits
-    (ap (λ (h : Held). h.taken) c.pass_gap-over.ensures.held) (ap (λ (h : Held). h.repairs) c.pass_gap-over.ensures.held) stands.1 in (
+    (ap (λ (h : Held). h.taken) c.pass_gap-over.ensures.held)
+    (ap (λ (r : Repairs). r.rows) c.pass_gap-over.ensures.missed ∙ (repaired_behind held (here c.args.reader.now)).0) stands.1 in (
       subst (λ (s : Stand). Stands s last.settings at.bits last at.place) (sym c.stand_after_gap-self.ensures)
           (subst (λ (s : DecodeSettings). Stands (stand_after c.pass_gap-over.result) s at.bits last at.place) (sym same)
           (subst (λ (b : Bits). Stands (stand_after c.pass_gap-over.result) settings b last at.place) (sym c.pass_gap-over.ensures.same_bits) (passed c stands))),

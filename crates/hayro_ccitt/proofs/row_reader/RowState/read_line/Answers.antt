@@ -68,8 +68,8 @@ row_left c = ap (λ (h : Held). h.reference) c.in-Err.ensures.row.held
     ∙ ap (λ (x : Context). x.held.reference) c.begin_line.ensures.frame
 
 -- what it leaves in the count of repairs
-repairs_left : (c : After-self-in-Err-1) → c.read_row.new.ctx.held.repairs ≡ c.args.self.now.ctx.held.repairs
-repairs_left c = ap (λ (h : Held). h.repairs) c.in-Err.ensures.row.held ∙ ap (λ (x : Context). x.held.repairs) c.begin_line.ensures.frame
+repairs_left : (c : After-self-in-Err-1) → c.read_row.new.ctx.held.repairs.rows ≡ c.args.self.now.ctx.held.repairs.rows
+repairs_left c = ap (λ (h : Held). h.repairs.rows) c.in-Err.ensures.row.held ∙ ap (λ (x : Context). x.held.repairs.rows) c.begin_line.ensures.frame
 
 -- what was counted is paid
 row_is_paid : (c : After-self-in-Ok-2-1) → IsStandingAtLine c.args.self.now c.args.reader.now
