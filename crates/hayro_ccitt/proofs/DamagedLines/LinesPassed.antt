@@ -155,13 +155,6 @@ Counted settings start rows here = (0 < rows)
     × ((lines : ℕ) → ComeBefore1D settings lines here → ComeBefore1D settings (lines + (rows - 1)) start)
     × ((lines : ℕ) → ComeBefore1D settings lines start → (left : ℕ) × (lines ≡ left + (rows - 1)) × ComeBefore1D settings left here)
 
-pub counted_first : (settings : DecodeSettings) (start : Bits) → Counted settings start 1 start
-counted_first settings start = (
-  omega arith,
-  λ lines comes. subst (λ (n : ℕ). ComeBefore1D settings n start) (let same : lines ≡ lines + (1 - 1) = omega arith in same) comes,
-  λ lines comes. (lines, omega arith, comes),
-)
-
 same_line : (line other : Bits) (o : Option Bits) → o ≡ Some (false ∷ line) → o ≡ Some (false ∷ other) → line ≡ other
 same_line line other o e f =
     let both : ◌≡◌ {A = Option Bits} (Some (false ∷ line)) (Some (false ∷ other)) = sym e ∙ f in
