@@ -68,11 +68,14 @@ pub fn check_eob(ctx: &mut DecoderContext, reader: &mut BitReader<'_>) -> Result
     requires some { 0 < ctx.old.held.taken }
     ensures gap { gap_behind_row ctx.old.held.settings ctx.old.held.taken ctx.old.held.has_eols (here reader.old)
         ≡ gap_said result ctx.new.held.has_eols (here reader.new) }
-    ensures held { ctx.new.held ≡ record ctx.old.held { has_eols = ctx.new.held.has_eols; repairs = ctx.new.held.repairs } }
-    ensures missed { ctx.new.held.repairs ≡ repairs_behind ctx.old.held (here reader.old) }
+    ensures held { ctx.new.held ≡ record ctx.old.held {
+      has_eols = ctx.new.held.has_eols;
+      repairs = repairs_behind ctx.old.held (here reader.old);
+    } }
     ensures given_up { IfOk result (λ over. over ≡ true → ctx.new.held.has_eols ≡ ctx.old.held.has_eols) }
     ensures only_code { IfErr result (λ e. (e ≡ DecodeError.InvalidCode) × (ctx.old.held.settings.strict ≡ true)) }
-    ensures unchanged { OnErr result ((ctx.new.held ≡ ctx.old.held) × (here reader.new ≡ here reader.old)) }
+    ensures unchanged { OnErr result ((ctx.new.held ≡ ctx.old.held) × (here reader.new ≡ here reader.old)
+        × (ctx.new.ticks ≡ ctx.old.ticks + looked (here reader.old))) }
     ensures same_bits { reader.new.bits ≡ reader.old.bits }
     ensures counts { ctx.old.ticks ≤ ctx.new.ticks }
     ensures at_least { OnOk result (ctx.old.ticks + length (here reader.old) ≤ ctx.new.ticks + length (here reader.new)) }

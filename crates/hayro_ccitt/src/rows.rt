@@ -46,17 +46,16 @@ fn take_row<D: Decoder>(
     requires full { ctx.old.held.settings.columns ≤ length ctx.old.held.front }
     requires rows { ctx.old.held.taken + 1 < 2 ^ 64 }
     ensures width { D.width decoder.new ≡ D.width decoder.old }
-    ensures meaning { OnOk result (D.meaning decoder.new
-        ≡ D.step (D.width decoder.old) (D.meaning decoder.old) (changes ctx.old.held.front)) }
+    ensures sink { OnOk result ((D.meaning decoder.new
+        ≡ D.step (D.width decoder.old) (D.meaning decoder.old) (changes ctx.old.held.front))
+        × (D.has_refused decoder.new ≡ D.has_refused decoder.old)) }
     ensures taken { OnOk result (ctx.new.held ≡ with_row_taken ctx.old.held ctx.old.held.front) }
     ensures rest { OnOk result (here reader.new
         ≡ behind_row ctx.old.held.settings ctx.old.held.has_eols (here reader.old)) }
-    ensures flag { OnOk result (D.has_refused decoder.new ≡ D.has_refused decoder.old) }
-    ensures kept { OnErr result (D.meaning decoder.new ≡ D.meaning decoder.old) }
-    ensures unchanged { OnErr result ((ctx.new ≡ ctx.old) × (reader.new ≡ reader.old)) }
-    ensures refused { OnErr result (D.has_refused decoder.new ≡ true) }
-    ensures refused_row { OnErr result (D.refuses decoder.new (changes ctx.old.held.front)) }
-    ensures only_refused { IsOkUnless result DecodeError.Refused }
+    ensures unchanged { OnErr result ((ctx.new ≡ ctx.old) × (reader.new ≡ reader.old)
+        × (D.meaning decoder.new ≡ D.meaning decoder.old)) }
+    ensures refused { IfErr result (λ e. (e ≡ DecodeError.Refused) × (D.has_refused decoder.new ≡ true)
+        × (D.refuses decoder.new (changes ctx.old.held.front))) }
     ensures same_bits { reader.new.bits ≡ reader.old.bits }
     ensures count { ctx.new.ticks ≡ ctx.old.ticks }
 {
@@ -78,8 +77,9 @@ fn take_damaged_row<D: Decoder>(
     requires rows { ctx.old.held.taken + 1 < 2 ^ 64 }
     requires damaged { ctx.old.held.repairs.rows ≤ ctx.old.held.taken }
     ensures width { D.width decoder.new ≡ D.width decoder.old }
-    ensures meaning { OnOk result (D.meaning decoder.new
-        ≡ D.step (D.width decoder.old) (D.meaning decoder.old) (changes ctx.old.held.front)) }
+    ensures sink { OnOk result ((D.meaning decoder.new
+        ≡ D.step (D.width decoder.old) (D.meaning decoder.old) (changes ctx.old.held.front))
+        × (D.has_refused decoder.new ≡ D.has_refused decoder.old)) }
     ensures taken { OnOk result (ctx.new.held ≡ record (with_row_taken ctx.old.held ctx.old.held.front) {
       repairs = record ctx.old.held.repairs {
         rows = ctx.old.held.repairs.rows + 1;
@@ -89,12 +89,10 @@ fn take_damaged_row<D: Decoder>(
     }) }
     ensures rest { OnOk result (here reader.new
         ≡ behind_row ctx.old.held.settings ctx.old.held.has_eols (here reader.old)) }
-    ensures flag { OnOk result (D.has_refused decoder.new ≡ D.has_refused decoder.old) }
-    ensures kept { OnErr result (D.meaning decoder.new ≡ D.meaning decoder.old) }
-    ensures unchanged { OnErr result ((ctx.new ≡ ctx.old) × (reader.new ≡ reader.old)) }
-    ensures refused { OnErr result (D.has_refused decoder.new ≡ true) }
-    ensures refused_row { OnErr result (D.refuses decoder.new (changes ctx.old.held.front)) }
-    ensures only_refused { IsOkUnless result DecodeError.Refused }
+    ensures unchanged { OnErr result ((ctx.new ≡ ctx.old) × (reader.new ≡ reader.old)
+        × (D.meaning decoder.new ≡ D.meaning decoder.old)) }
+    ensures refused { IfErr result (λ e. (e ≡ DecodeError.Refused) × (D.has_refused decoder.new ≡ true)
+        × (D.refuses decoder.new (changes ctx.old.held.front))) }
     ensures same_bits { reader.new.bits ≡ reader.old.bits }
     ensures count { ctx.new.ticks ≡ ctx.old.ticks }
 {
