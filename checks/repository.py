@@ -238,6 +238,53 @@ def each_lemma_is_cited():
     assert not dead, "\n".join(dead)
 
 
+WIDTH = 130
+
+
+def no_line_is_too_long():
+    """No line of a proof, of a definition, or of the imports of contracts has more than 130 columns."""
+    found = []
+    for name in tracked():
+        if name.startswith("crates/") and name.endswith((".antt", ".rt")):
+            with open(name, encoding="utf-8") as file:
+                for number, line in enumerate(file.read().split("\n"), 1):
+                    if len(line) > WIDTH and (name.endswith(".antt") or line.startswith("ghost use ")):
+                        found.append(f"{name}:{number}: {len(line)} columns")
+    assert not found, "\n".join(found)
+
+
+MOST_CLAUSES = 12
+CLAUSE = re.compile(r"\b(?:requires|ensures)\s+(?:\w+\s*)?\{")
+
+
+def clauses_of(text):
+    """How many clauses a function's text has before its body."""
+    count, at = 0, text.index("fn ")
+    while at < len(text) and text[at] not in "{;":
+        found = CLAUSE.match(text, at)
+        if not found:
+            at += 1
+            continue
+        count, at, depth = count + 1, found.end(), 1
+        while depth:
+            depth += {"{": 1, "}": -1}.get(text[at], 0)
+            at += 1
+    return count
+
+
+def no_contract_is_too_long():
+    """No function has more than 12 clauses. A list of examples or laws, which has no body, may have as many as it likes."""
+    found = []
+    for crate in sorted(os.listdir("crates")):
+        source = edits.Source(f"crates/{crate}")
+        for item in source.items:
+            if item.kind == "fn":
+                text = re.sub(r"//.*", "", source.texts[item.path][item.begin : item.end])
+                if clauses_of(text) > MOST_CLAUSES and not re.search(r"\{\s*\}\s*$", text):
+                    found.append(f"{crate}: {item.name}: {clauses_of(text)} clauses")
+    assert not found, "\n".join(found)
+
+
 CHECKS = [
     handles_are_none,
     seven_proofs_by_hand,
@@ -251,4 +298,6 @@ CHECKS = [
     rust_is_unsafe_in_one_file_only,
     each_public_function_has_an_edit,
     each_edit_can_be_applied,
+    no_line_is_too_long,
+    no_contract_is_too_long,
 ]

@@ -20,11 +20,13 @@ and_all P Q (Ok n) answered holds = (answered, holds)
 and_all P Q (Err error) answered holds = λ fault. (answered fault, holds)
 
 -- if the context can't be allocated, no row is accepted
-pub none_taken : {M : Type 0} (settings : DecodeSettings) (bits : Bits) (step : M → List ℕ → M) (meaning : M) (refuses : List ℕ → Type 0)
-    → TakesFirst settings bits step meaning meaning refuses (Err OutOfMemory)
-none_taken settings bits step meaning refuses = record { taken = 0; within = omega arith; meaning = refl; memory = λ e. inl refl; refused = λ e. cc }
+pub none_taken : {M : Type 0} (settings : DecodeSettings) (bits : Bits) (step : M → List ℕ → M) (meaning : M)
+    (refuses : List ℕ → Type 0) → TakesFirst settings bits step meaning meaning refuses (Err OutOfMemory)
+none_taken settings bits step meaning refuses =
+    record { taken = 0; within = omega arith; meaning = refl; memory = λ e. inl refl; refused = λ e. cc }
 
-module _ {M : Type 0} (settings : DecodeSettings) (bits : Bits) (step : M → List ℕ → M) (before after : SinkState M) (held : Held) (ticks : ℕ) (answer : Result ℕ DecodeError) (left : Decodes settings bits step before after held ticks answer) where
+module _ {M : Type 0} (settings : DecodeSettings) (bits : Bits) (step : M → List ℕ → M) (before after : SinkState M) (held : Held)
+    (ticks : ℕ) (answer : Result ℕ DecodeError) (left : Decodes settings bits step before after held ticks answer) where
   -- the first rows are accepted
   pub first_taken : TakesFirst settings bits step before.meaning after.meaning after.refuses answer
   first_taken =

@@ -20,7 +20,8 @@ first_white [] rows same = (refl, same)
 first_white (place ∷ places) rows same = let never : true ≡ false = same ∙ stays_false rows in cc
 
 -- the accepted rows are white
-pub taken_white : (rows : List Row) (n : ℕ) → n ≤ length rows → true ≡ meaning_after keeps_white true (take n rows) → AreWhite rows n
+pub taken_white : (rows : List Row) (n : ℕ) → n ≤ length rows → true ≡ meaning_after keeps_white true (take n rows)
+    → AreWhite rows n
 taken_white [] n within same k lt = absurd (omega (arith, within, lt))
 taken_white (row ∷ rows) zero within same k lt = absurd (omega (arith, lt))
 taken_white (row ∷ rows) (suc n) within same zero lt = (first_white (changes row) (take n rows) same).0

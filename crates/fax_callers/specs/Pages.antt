@@ -29,19 +29,22 @@ page_from columns order bytes place = (reading_of (page_settings columns) order 
 -- a closed page is read up to its end, wherever it begins (T.6, 2.4.1.1)
 abbrev pub ReadsClosedPages : ℕ → BitOrder → Type 0
 ReadsClosedPages columns order = (bytes : List ℕ) (place : ℕ) (rows : List Row) (count : ℕ)
-    → IsClosedPicture (page_settings columns) rows count (bits_in order (drop place bytes)) → page_from columns order bytes place ≡ Ok count
+    → IsClosedPicture (page_settings columns) rows count (bits_in order (drop place bytes))
+    → page_from columns order bytes place ≡ Ok count
 
 -- Pages end at these byte offsets, one after another: the reading that begins where one page ends stops where the next one
 -- ends.
 abbrev pub EndAt : ℕ → BitOrder → List ℕ → ℕ → List ℕ → ℕ → Type 0
 EndAt columns order bytes begin [] last = begin ≡ last
 EndAt columns order bytes begin (end ∷ ends) last =
-    (begin < end) × (end ≤ length bytes) × (page_from columns order bytes begin ≡ Ok (end - begin)) × EndAt columns order bytes end ends last
+    (begin < end) × (end ≤ length bytes) × (page_from columns order bytes begin ≡ Ok (end - begin))
+    × EndAt columns order bytes end ends last
 
 -- Closed pictures of this width follow one another from a byte offset on, end at these, and fill the bytes (T.6,
 -- 2.4.1.1).
 abbrev pub StandAt : ℕ → BitOrder → List ℕ → ℕ → List ℕ → Type 0
 StandAt columns order bytes begin [] = begin ≡ length bytes
 StandAt columns order bytes begin (end ∷ ends) =
-    (begin < end) × (end ≤ length bytes) × ((rows : List Row) × IsClosedPicture (page_settings columns) rows (end - begin) (bits_in order (drop begin bytes)))
+    (begin < end) × (end ≤ length bytes)
+    × ((rows : List Row) × IsClosedPicture (page_settings columns) rows (end - begin) (bits_in order (drop begin bytes)))
     × StandAt columns order bytes end ends

@@ -21,9 +21,11 @@ EndsAs (Err error) outcome = IsFault error → outcome ≡ Err error
 
 -- Which rows a sink accepted: the first rows of the reading. An allocation failed either for the context or in a line that
 -- paints a black pixel; a refused row is the next row, and the sink refuses it.
-pub record TakesFirst {M : Type 0} (settings : DecodeSettings) (bits : Bits) (step : M → List ℕ → M) (before after : M) (refuses : List ℕ → Type 0) (answer : Result ℕ DecodeError) : Type 0 where
+pub record TakesFirst {M : Type 0} (settings : DecodeSettings) (bits : Bits) (step : M → List ℕ → M) (before after : M)
+    (refuses : List ℕ → Type 0) (answer : Result ℕ DecodeError) : Type 0 where
   pub taken : ℕ
   pub within : taken ≤ length (plain settings bits).rows
   pub meaning : after ≡ meaning_after step before (take taken (plain settings bits).rows)
   pub memory : answer ≡ Err OutOfMemory → (taken ≡ 0) ⊎ PaintsBlack (lines_of settings bits) taken
-  pub refused : answer ≡ Err Refused → (taken < length (plain settings bits).rows) × refuses (changes (get_or (plain settings bits).rows taken []))
+  pub refused : answer ≡ Err Refused → (taken < length (plain settings bits).rows)
+      × refuses (changes (get_or (plain settings bits).rows taken []))

@@ -1,13 +1,8 @@
 -- Bytes are told by their bits.
-use Rattle.std.proofs.Common.{◌≡◌, ℕ, ◌+◌, ◌*◌, ◌<◌, Bool, true, cond, eqb, List, [], ◌∷◌, length, take, drop, refl, sym, ap, ◌∙◌, arith}
-use Rattle.std.specs.Prelude.{All}
-use Rattle.std.proofs.lemmas.Bool.{agree_below_at, eqb-true}
-use Rattle.std.proofs.lemmas.List.Elements.{All-head, All-tail}
-use Rattle.std.proofs.Math.Seq.{take-append_seam, drop-append_seam}
-use Rattle.hayro_ccitt.specs.declared.bit_reader.BitOrder.{BitOrder}
-use Rattle.hayro_ccitt.specs.declared.bit_reader.BitOrder.TheVariants.{HighestFirst, LowestFirst}
-use Rattle.hayro_ccitt.specs.Bits.{Bits, bits_in, bits_of_byte}
-use Rattle.hayro_ccitt.proofs.BitReading.BitLists.{length-bits_in}
+use Rattle.fax_encode.proofs.Names.{◌≡◌, ℕ, ◌+◌, ◌*◌, ◌<◌, Bool, true, cond, eqb, List, [], ◌∷◌, length, take, drop, refl, sym}
+use Rattle.fax_encode.proofs.Names.{ap, ◌∙◌, arith, All, agree_below_at, eqb-true, All-head, All-tail, take-append_seam}
+use Rattle.fax_encode.proofs.Names.{drop-append_seam, BitOrder, HighestFirst, LowestFirst, Bits, bits_in, bits_of_byte}
+use Rattle.fax_encode.proofs.Names.{length-bits_in}
 
 -- the number of some bits
 number : BitOrder → ℕ → Bits → ℕ
@@ -28,10 +23,13 @@ eight_bits HighestFirst byte = refl
 eight_bits LowestFirst byte = refl
 
 -- the same bits are of the same bytes
-pub same_bytes : (order : BitOrder) (one two : List ℕ) → All (λ byte. byte < 256) one → All (λ byte. byte < 256) two → bits_in order one ≡ bits_in order two → one ≡ two
+pub same_bytes : (order : BitOrder) (one two : List ℕ) → All (λ byte. byte < 256) one → All (λ byte. byte < 256) two
+    → bits_in order one ≡ bits_in order two → one ≡ two
 same_bytes order [] [] fit fits e = refl
-same_bytes order [] (b ∷ two) fit fits e = absurd (omega (arith, ap length e, length-bits_in order [], length-bits_in order (b ∷ two)))
-same_bytes order (a ∷ one) [] fit fits e = absurd (omega (arith, ap length e, length-bits_in order (a ∷ one), length-bits_in order []))
+same_bytes order [] (b ∷ two) fit fits e =
+    absurd (omega (arith, ap length e, length-bits_in order [], length-bits_in order (b ∷ two)))
+same_bytes order (a ∷ one) [] fit fits e =
+    absurd (omega (arith, ap length e, length-bits_in order (a ∷ one), length-bits_in order []))
 same_bytes order (a ∷ one) (b ∷ two) fit fits e =
     let long : length (bits_of_byte order a) ≡ length (bits_of_byte order b) = eight_bits order a ∙ sym (eight_bits order b) in
     let front : bits_of_byte order a ≡ bits_of_byte order b
@@ -40,6 +38,7 @@ same_bytes order (a ∷ one) (b ∷ two) fit fits e =
     let behind : bits_in order one ≡ bits_in order two
     = sym (drop-append_seam (bits_of_byte order a) (bits_in order one)) ∙ ap (λ (n : ℕ). drop n (bits_in order (a ∷ one))) long
     ∙ ap (drop (length (bits_of_byte order b))) e ∙ drop-append_seam (bits_of_byte order b) (bits_in order two) in
-    let byte : a ≡ b = sym (its_number order a (All-head (λ byte. byte < 256) a one fit)) ∙ ap (number order 0) front ∙ its_number order b (All-head (λ byte. byte < 256) b two fits) in
-    ap (λ (n : ℕ). n ∷ one) byte
-    ∙ ap (λ (l : List ℕ). b ∷ l) (same_bytes order one two (All-tail (λ byte. byte < 256) a one fit) (All-tail (λ byte. byte < 256) b two fits) behind)
+    let byte : a ≡ b = sym (its_number order a (All-head (λ byte. byte < 256) a one fit)) ∙ ap (number order 0) front
+    ∙ its_number order b (All-head (λ byte. byte < 256) b two fits) in
+    ap (λ (n : ℕ). n ∷ one) byte ∙ ap (λ (l : List ℕ). b ∷ l)
+    (same_bytes order one two (All-tail (λ byte. byte < 256) a one fit) (All-tail (λ byte. byte < 256) b two fits) behind)

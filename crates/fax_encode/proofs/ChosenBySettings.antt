@@ -1,27 +1,17 @@
 -- What is chosen by settings is an encoding, and is read again.
-use Rattle.std.proofs.Common.{◌≡◌, ◌≢◌, ℕ, zero, suc, ◌+◌, ◌/◌, ◌^◌, ◌<◌, ◌≤◌, Bool, true, false, cond, leb, List, [], ◌∷◌, ◌++◌, length, refl, sym, ap, subst, ◌∙◌, arith, inl, inr, append_assoc}
-use Rattle.std.specs.Prelude.{Ok}
-use Rattle.std.proofs.lemmas.Bool.{leb-true}
-use Rattle.std.proofs.lemmas.List.{append-nil, length-replicate}
-use Rattle.std.proofs.lemmas.List.Elements.{All-head, All-tail}
-use Rattle.hayro_ccitt.specs.declared.settings.DecodeSettings.{DecodeSettings}
-use Rattle.hayro_ccitt.specs.declared.settings.EncodingMode.{EncodingMode}
-use Rattle.hayro_ccitt.specs.declared.settings.EncodingMode.TheVariants.{Group4, Group3_1D, Group3_2D}
-use Rattle.hayro_ccitt.specs.declared.bit_reader.BitOrder.{BitOrder}
-use Rattle.hayro_ccitt.specs.Bits.{Bits, AreWholeBytes, bits_in}
-use Rattle.hayro_ccitt.specs.Rows.{Row, HaveWidth, white_row}
-use Rattle.hayro_ccitt.specs.Encodings.{IsPicture, EncodesLine, EncodesRows, EncodesRowsWithEols, ClosesWithEols, PictureT6, padding, eol, tag_of}
-use Rattle.hayro_ccitt.specs.Pictures.{IsClosedPicture}
-use Rattle.hayro_ccitt.proofs.BitReading.BitLists.{bits_are_whole}
-use Rattle.hayro_ccitt.proofs.EncodedPictures.PicturesOfEachKind.{closed_pictures}
-use Rattle.fax_encode.specs.Chosen.{chosen_line_1d, chosen_line_2d, chosen_lines_1d, chosen_lines_2d, filled_up, return_to_control}
-use Rattle.fax_encode.specs.Laws.{ChosenBySettings, ChosenComesBack, ChosenIsRead, ChosenLinesEncode, GivesAll, NeverLonger}
-use Rattle.hayro_ccitt.specs.Settings.{AreSettings}
-use Rattle.fax_encode.specs.Settings.{chosen, needs_row, is_closed, decode_settings_for, is_two_dimensional, chosen_line, left_after, chosen_lines, fill_of, chosen_lines_with_eols, chosen_eols, chosen_picture, chosen_with_eols, chosen_group4}
-use Rattle.fax_encode.proofs.BytesOfBits.{same_bytes}
-use Rattle.hayro_ccitt.specs.PlainReading.{eols_here}
+use Rattle.fax_encode.proofs.Names.{◌≡◌, ◌≢◌, ℕ, zero, suc, ◌+◌, ◌/◌, ◌^◌, ◌<◌, ◌≤◌, Bool, true, false, cond, leb, List, [], ◌∷◌}
+use Rattle.fax_encode.proofs.Names.{◌++◌, length, refl, sym, ap, subst, ◌∙◌, arith, inl, inr, append_assoc, Ok, leb-true}
+use Rattle.fax_encode.proofs.Names.{append-nil, length-replicate, All-head, All-tail, DecodeSettings, EncodingMode, Group4}
+use Rattle.fax_encode.proofs.Names.{Group3_1D, Group3_2D, BitOrder, Bits, AreWholeBytes, bits_in, Row, HaveWidth, white_row}
+use Rattle.fax_encode.proofs.Names.{IsPicture, EncodesLine, EncodesRows, EncodesRowsWithEols, ClosesWithEols, PictureT6, padding}
+use Rattle.fax_encode.proofs.Names.{eol, tag_of, IsClosedPicture, bits_are_whole, closed_pictures, chosen_line_1d, chosen_line_2d}
+use Rattle.fax_encode.proofs.Names.{chosen_lines_1d, chosen_lines_2d, filled_up, return_to_control, ChosenBySettings}
+use Rattle.fax_encode.proofs.Names.{ChosenComesBack, ChosenIsRead, ChosenLinesEncode, GivesAll, NeverLonger, AreSettings, chosen}
+use Rattle.fax_encode.proofs.Names.{needs_row, is_closed, decode_settings_for, is_two_dimensional, chosen_line, left_after}
+use Rattle.fax_encode.proofs.Names.{chosen_lines, fill_of, chosen_lines_with_eols, chosen_eols, chosen_picture, chosen_with_eols}
+use Rattle.fax_encode.proofs.Names.{chosen_group4, eols_here}
+use Rattle.fax_encode.proofs.{BytesOfBits.same_bytes, ChosenLines.line_1d_encodes, ChosenLines.line_2d_encodes}
 use Rattle.fax_encode.proofs.ReadToTheEnd.{all_but, rounded_up, rtc_few, few_zeros, all_t6, all_t4, all_t4_with_eols}
-use Rattle.fax_encode.proofs.ChosenLines.{line_1d_encodes, line_2d_encodes}
 
 -- ---- lines
 -- a line is one of an encoding
@@ -29,28 +19,31 @@ pub line_encodes : (encoding : EncodingMode) (left : ℕ) (reference row : Row) 
     → EncodesLine encoding reference row (chosen_line encoding left reference row)
 line_encodes Group4 left reference row same some = line_2d_encodes reference row same
 line_encodes Group3_1D left reference row same some = line_1d_encodes row some
-line_encodes Group3_2D left reference row same some = by (is_two_dimensional left reference row)
+line_encodes Group3_2D left reference row same some = by_two (is_two_dimensional left reference row)
   where
-    by : (two : Bool) → EncodesLine Group3_2D reference row (cond two (false ∷ chosen_line_2d reference row) (true ∷ chosen_line_1d row))
-    by true = (chosen_line_2d reference row, inr (refl, line_2d_encodes reference row same))
-    by false = (chosen_line_1d row, inl (refl, line_1d_encodes row some))
+    by_two : (two : Bool)
+        → EncodesLine Group3_2D reference row (cond two (false ∷ chosen_line_2d reference row) (true ∷ chosen_line_1d row))
+    by_two true = (chosen_line_2d reference row, inr (refl, line_2d_encodes reference row same))
+    by_two false = (chosen_line_1d row, inl (refl, line_1d_encodes row some))
 
-lines_encode : (encoding : EncodingMode) (columns k : ℕ) (aligned : Bool) (left : ℕ) (reference : Row) (rows : List Row) → 0 < columns → length reference ≡ columns
-    → HaveWidth columns rows → EncodesRows encoding aligned reference rows (chosen_lines encoding k aligned left reference rows)
+lines_encode : (encoding : EncodingMode) (columns k : ℕ) (aligned : Bool) (left : ℕ) (reference : Row) (rows : List Row)
+    → 0 < columns → length reference ≡ columns → HaveWidth columns rows
+    → EncodesRows encoding aligned reference rows (chosen_lines encoding k aligned left reference rows)
 lines_encode encoding columns k aligned left reference [] wide same widths = refl
 lines_encode encoding columns k aligned left reference (row ∷ rows) wide same widths =
     let width : length row ≡ columns = All-head (λ row. length row ≡ columns) row rows widths in (
       chosen_line encoding left reference row,
       chosen_lines encoding k aligned (left_after encoding k left reference row) row rows,
       line_encodes encoding left reference row (same ∙ sym width) (omega arith),
-      lines_encode encoding columns k aligned (left_after encoding k left reference row) row rows wide width (All-tail (λ row. length row ≡ columns) row rows widths),
+      lines_encode encoding columns k aligned (left_after encoding k left reference row) row rows wide width
+          (All-tail (λ row. length row ≡ columns) row rows widths),
       refl,
     )
 
 -- the lines are those of an encoding, with EOLs
-pub lines_with_eols_encode : (encoding : EncodingMode) (columns k : ℕ) (fills : Bool) (at left : ℕ) (reference : Row)
-    (rows : List Row) → 0 < columns → length reference ≡ columns
-    → HaveWidth columns rows → EncodesRowsWithEols encoding reference rows (chosen_lines_with_eols encoding k fills at left reference rows)
+pub lines_with_eols_encode : (encoding : EncodingMode) (columns k : ℕ) (fills : Bool)
+    (at left : ℕ) (reference : Row) (rows : List Row) → 0 < columns → length reference ≡ columns → HaveWidth columns rows
+    → EncodesRowsWithEols encoding reference rows (chosen_lines_with_eols encoding k fills at left reference rows)
 lines_with_eols_encode encoding columns k fills at left reference [] wide same widths = refl
 lines_with_eols_encode encoding columns k fills at left reference (row ∷ rows) wide same widths =
     let width : length row ≡ columns = All-head (λ row. length row ≡ columns) row rows widths in
@@ -59,7 +52,8 @@ lines_with_eols_encode encoding columns k fills at left reference (row ∷ rows)
       chosen_line encoding left reference row,
       chosen_lines_with_eols encoding k fills next (left_after encoding k left reference row) row rows,
       line_encodes encoding left reference row (same ∙ sym width) (omega arith),
-      lines_with_eols_encode encoding columns k fills next (left_after encoding k left reference row) row rows wide width (All-tail (λ row. length row ≡ columns) row rows widths),
+      lines_with_eols_encode encoding columns k fills next (left_after encoding k left reference row) row rows wide width
+          (All-tail (λ row. length row ≡ columns) row rows widths),
       refl,
     )
 
@@ -84,11 +78,12 @@ chosen_lines_encode encoding columns k rows is = (
 
 -- the shorter of two lines, after its tag, is no longer than the second
 shorter_one : (one two : Bits) → length (cond (leb (length one) (length two)) (false ∷ one) (true ∷ two)) ≤ suc (length two)
-shorter_one one two = by (leb (length one) (length two)) refl
+shorter_one one two = by_leb (leb (length one) (length two)) refl
   where
-    by : (short : Bool) → leb (length one) (length two) ≡ short → length (cond short (false ∷ one) (true ∷ two)) ≤ suc (length two)
-    by true e = omega (arith, leb-true (length one) (length two) e)
-    by false e = omega arith
+    by_leb : (short : Bool) → leb (length one) (length two) ≡ short
+        → length (cond short (false ∷ one) (true ∷ two)) ≤ suc (length two)
+    by_leb true e = omega (arith, leb-true (length one) (length two) e)
+    by_leb false e = omega arith
 
 tag_alone : (two : Bits) → length (true ∷ two) ≤ suc (length two)
 tag_alone two = omega arith
@@ -109,14 +104,14 @@ record Match (d : DecodeSettings) (encoding : EncodingMode) (eols aligned closed
   limit_is : d.rows ≡ cond closed 0 count
 
 -- a picture that is closed at the end of whole bytes
-closed_gives : (d : DecodeSettings) (rows : List Row) (count bytes : ℕ) (whole : Bits) → AreSettings d → AreWholeBytes whole → count ≡ bytes
-    → IsClosedPicture d rows count whole → GivesAll d whole rows bytes
+closed_gives : (d : DecodeSettings) (rows : List Row) (count bytes : ℕ) (whole : Bits) → AreSettings d → AreWholeBytes whole
+    → count ≡ bytes → IsClosedPicture d rows count whole → GivesAll d whole rows bytes
 closed_gives d rows count bytes whole are all same is =
     let p = closed_pictures d rows count whole are all is in
     (p.0, p.1 ∙ ap (λ (n : ℕ). Ok n) same)
 
-module _ (order : BitOrder) (d : DecodeSettings) (columns : ℕ) (rows : List Row) (bytes : List ℕ) (small : columns < 2 ^ 32) (few : length rows < 2 ^ 32)
-    (is : IsPicture columns rows) where
+module _ (order : BitOrder) (d : DecodeSettings) (columns : ℕ) (rows : List Row) (bytes : List ℕ) (small : columns < 2 ^ 32)
+    (few : length rows < 2 ^ 32) (is : IsPicture columns rows) where
   abbrev whole : Bits
   whole = bits_in order bytes
 
@@ -126,20 +121,20 @@ module _ (order : BitOrder) (d : DecodeSettings) (columns : ℕ) (rows : List Ro
   are_settings : (limit : ℕ) → d.columns ≡ columns → d.rows ≡ limit → limit < 2 ^ 32 → AreSettings d
   are_settings limit c r lt = record { columns = omega (arith, c, small); rows = omega (arith, r, lt) }
 
-  of_group4 : (k : ℕ) (eols aligned closed : Bool) → (needs_row Group4 closed ≡ true → 0 < length rows) → Match d Group4 eols aligned closed columns (length rows) → whole ≡ filled_up (chosen_group4 k aligned closed white rows)
+  of_group4 : (k : ℕ) (eols aligned closed : Bool) → (needs_row Group4 closed ≡ true → 0 < length rows)
+      → Match d Group4 eols aligned closed columns (length rows) → whole ≡ filled_up (chosen_group4 k aligned closed white rows)
       → GivesAll d whole rows (length bytes)
   of_group4 k eols aligned true some m e =
       let body : Bits = chosen_lines Group4 k aligned 0 white rows in
       let bits : Bits = body ++ (eol 0 ++ eol 0) in
       let lines = lines_encode Group4 columns k aligned 0 white rows is.0 (white_is_wide columns) is.1 in
-      closed_gives d rows ((length bits + 7) / 8) (length bytes) whole (are_settings 0 m.columns_are m.limit_is (omega arith)) (bits_are_whole order bytes)
-      (rounded_up order bits bytes e)
-      (IsClosedPicture.by_eofb bits (record {
+      closed_gives d rows ((length bits + 7) / 8) (length bytes) whole (are_settings 0 m.columns_are m.limit_is (omega arith))
+      (bits_are_whole order bytes) (rounded_up order bits bytes e) (IsClosedPicture.by_eofb bits (record {
         encoding = m.encoding_is;
         end_of_block = m.block_is;
         limit = inl m.limit_is;
-        picture = subst (λ (n : ℕ). PictureT6 n d.rows_are_byte_aligned rows bits) (sym m.columns_are)
-            (subst (λ (a : Bool). PictureT6 columns a rows bits) (sym m.aligned_is) (body, is, lines, sym (append_assoc body (eol 0) (eol 0))));
+        picture = subst (λ (n : ℕ). PictureT6 n d.rows_are_byte_aligned rows bits) (sym m.columns_are) (subst (λ (a : Bool).
+            PictureT6 columns a rows bits) (sym m.aligned_is) (body, is, lines, sym (append_assoc body (eol 0) (eol 0))));
         begins = (padding (length bits), e);
       }) refl)
   of_group4 k eols aligned false some m e =
@@ -159,20 +154,21 @@ module _ (order : BitOrder) (d : DecodeSettings) (columns : ℕ) (rows : List Ro
     abbrev lines_there : Bits
     lines_there = chosen_lines_with_eols encoding k fills 0 0 white rows
 
-    encoded_with_eols : d.columns ≡ columns → d.encoding ≡ encoding → EncodesRowsWithEols d.encoding (white_row d.columns) rows lines_there
+    encoded_with_eols : d.columns ≡ columns → d.encoding ≡ encoding
+        → EncodesRowsWithEols d.encoding (white_row d.columns) rows lines_there
     encoded_with_eols c m =
         subst (λ (n : ℕ). EncodesRowsWithEols d.encoding (white_row n) rows lines_there) (sym c)
         (subst (λ (x : EncodingMode). EncodesRowsWithEols x white rows lines_there) (sym m)
         (lines_with_eols_encode encoding columns k fills 0 0 white rows is.0 (white_is_wide columns) is.1))
 
-    of_eols : (aligned closed : Bool) → Match d encoding true aligned closed columns (length rows) → whole ≡ filled_up (chosen_with_eols encoding k fills closed white rows)
-        → GivesAll d whole rows (length bytes)
+    of_eols : (aligned closed : Bool) → Match d encoding true aligned closed columns (length rows)
+        → whole ≡ filled_up (chosen_with_eols encoding k fills closed white rows) → GivesAll d whole rows (length bytes)
     of_eols aligned true m e =
         let closing : Bits = chosen_eols encoding fills (length lines_there) 6 in
         let pad : Bits = padding (length (lines_there ++ closing)) in
-        closed_gives d rows _ (length bytes) whole (are_settings 0 m.columns_are m.limit_is (omega arith)) (bits_are_whole order bytes)
-        (all_but order bytes (eols_here d (closing ++ pad)).1 (rtc_few d encoding fills (length lines_there) (length (lines_there ++ closing)) m.encoding_is not_t6))
-        (IsClosedPicture.by_rtc lines_there (closing ++ pad) (record {
+        closed_gives d rows _ (length bytes) whole (are_settings 0 m.columns_are m.limit_is (omega arith)) (bits_are_whole
+        order bytes) (all_but order bytes (eols_here d (closing ++ pad)).1 (rtc_few d encoding fills (length lines_there)
+        (length (lines_there ++ closing)) m.encoding_is not_t6)) (IsClosedPicture.by_rtc lines_there (closing ++ pad) (record {
           encoding = λ x. not_t6 (sym m.encoding_is ∙ x);
           end_of_block = m.block_is;
           limit = inl m.limit_is;
@@ -181,7 +177,8 @@ module _ (order : BitOrder) (d : DecodeSettings) (columns : ℕ) (rows : List Ro
           lines = encoded_with_eols m.columns_are m.encoding_is;
           closing = (
             closing,
-            subst (λ (x : EncodingMode). ClosesWithEols x 6 closing) (sym m.encoding_is) (eols_close encoding fills (length lines_there) 6),
+            subst (λ (x : EncodingMode). ClosesWithEols x 6 closing) (sym m.encoding_is)
+                (eols_close encoding fills (length lines_there) 6),
             (pad, refl),
           );
           begins = e ∙ append_assoc lines_there closing pad;
@@ -197,7 +194,8 @@ module _ (order : BitOrder) (d : DecodeSettings) (columns : ℕ) (rows : List Ro
           begins = (pad, e ∙ ap (λ (b : Bits). b ++ pad) (append-nil lines_there));
         }) (few_zeros (length (lines_there ++ [])))
 
-    of_lines : (aligned : Bool) → Match d encoding false aligned false columns (length rows) → whole ≡ filled_up (chosen_lines encoding k aligned 0 white rows) → GivesAll d whole rows (length bytes)
+    of_lines : (aligned : Bool) → Match d encoding false aligned false columns (length rows)
+        → whole ≡ filled_up (chosen_lines encoding k aligned 0 white rows) → GivesAll d whole rows (length bytes)
     of_lines aligned m e =
         let body : Bits = chosen_lines encoding k aligned 0 white rows in
         let lines = lines_encode encoding columns k aligned 0 white rows is.0 (white_is_wide columns) is.1 in
@@ -213,32 +211,38 @@ module _ (order : BitOrder) (d : DecodeSettings) (columns : ℕ) (rows : List Ro
           begins = (padding (length body), e);
         }) (few_zeros (length body))
 
-  by_kind : (encoding : EncodingMode) (eols : Bool) (k : ℕ) (fills aligned closed : Bool) → (needs_row encoding closed ≡ true → 0 < length rows) → Match d encoding eols aligned (is_closed encoding eols closed) columns (length rows)
+  by_kind : (encoding : EncodingMode) (eols : Bool) (k : ℕ) (fills aligned closed : Bool) → (needs_row encoding closed ≡ true
+      → 0 < length rows) → Match d encoding eols aligned (is_closed encoding eols closed) columns (length rows)
       → whole ≡ filled_up (chosen_picture encoding eols k fills aligned closed white rows) → GivesAll d whole rows (length bytes)
   by_kind Group4 eols k fills aligned closed some m e = of_group4 k eols aligned closed some m e
-  by_kind Group3_1D true k fills aligned closed some m e = of_eols Group3_1D k fills (λ x. absurd cc) (some refl) aligned closed m e
+  by_kind Group3_1D true k fills aligned closed some m e =
+      of_eols Group3_1D k fills (λ x. absurd cc) (some refl) aligned closed m e
   by_kind Group3_1D false k fills aligned closed some m e = of_lines Group3_1D k fills (λ x. absurd cc) (some refl) aligned m e
-  by_kind Group3_2D true k fills aligned closed some m e = of_eols Group3_2D k fills (λ x. absurd cc) (some refl) aligned closed m e
+  by_kind Group3_2D true k fills aligned closed some m e =
+      of_eols Group3_2D k fills (λ x. absurd cc) (some refl) aligned closed m e
   by_kind Group3_2D false k fills aligned closed some m e = of_lines Group3_2D k fills (λ x. absurd cc) (some refl) aligned m e
 
 -- the law
 pub chosen_is_read : ChosenIsRead
 chosen_is_read settings columns rows bytes small few some is e =
-    by_kind settings.order (decode_settings_for settings columns (length rows)) columns rows bytes small few is settings.encoding settings.end_of_line settings.k
-    settings.eols_end_at_bytes settings.rows_are_byte_aligned settings.end_of_block some
+    by_kind settings.order (decode_settings_for settings columns (length rows)) columns rows bytes small few is settings.encoding
+    settings.end_of_line settings.k settings.eols_end_at_bytes settings.rows_are_byte_aligned settings.end_of_block some
     (record { columns_are = refl; encoding_is = refl; eols_are = refl; aligned_is = refl; block_is = refl; limit_is = refl }) e
 
 -- ---- the existing encoders
-same_lines_2d : (k left : ℕ) (aligned : Bool) (reference : Row) (rows : List Row) → chosen_lines Group4 k aligned left reference rows ≡ chosen_lines_2d aligned reference rows
+same_lines_2d : (k left : ℕ) (aligned : Bool) (reference : Row) (rows : List Row)
+    → chosen_lines Group4 k aligned left reference rows ≡ chosen_lines_2d aligned reference rows
 same_lines_2d k left aligned reference [] = refl
 same_lines_2d k left aligned reference (row ∷ rows) =
     ap (λ (b : Bits). (chosen_line_2d reference row ++ cond aligned (padding (length (chosen_line_2d reference row))) []) ++ b)
     (same_lines_2d k (left_after Group4 k left reference row) aligned row rows)
 
-same_lines_1d : (k at left : ℕ) (reference : Row) (rows : List Row) → chosen_lines_with_eols Group3_1D k false at left reference rows ≡ chosen_lines_1d rows
+same_lines_1d : (k at left : ℕ) (reference : Row) (rows : List Row)
+    → chosen_lines_with_eols Group3_1D k false at left reference rows ≡ chosen_lines_1d rows
 same_lines_1d k at left reference [] = refl
 same_lines_1d k at left reference (row ∷ rows) =
-    ap (λ (b : Bits). (eol 0 ++ chosen_line_1d row) ++ b) (same_lines_1d k (at + 12 + 0 + length (chosen_line_1d row)) (left_after Group3_1D k left reference row) row rows)
+    ap (λ (b : Bits). (eol 0 ++ chosen_line_1d row) ++ b)
+    (same_lines_1d k (at + 12 + 0 + length (chosen_line_1d row)) (left_after Group3_1D k left reference row) row rows)
 
 same_eols : (at : ℕ) → chosen_eols Group3_1D false at 6 ≡ return_to_control
 same_eols at = refl
@@ -256,4 +260,5 @@ chosen_by_settings columns k rows = (
 pub chosen_comes_back : ChosenComesBack
 chosen_comes_back settings columns rows bytes again small few some is fit fit_again e same =
     let read = chosen_is_read settings columns rows bytes small few some is e in
-    same_bytes settings.order again bytes fit_again fit (same ∙ ap (λ (l : List Row). filled_up (chosen settings columns l)) read.0 ∙ sym e)
+    same_bytes settings.order again bytes fit_again fit
+    (same ∙ ap (λ (l : List Row). filled_up (chosen settings columns l)) read.0 ∙ sym e)

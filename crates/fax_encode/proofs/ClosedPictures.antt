@@ -1,16 +1,9 @@
 -- A closed picture is what its settings choose.
-use Rattle.std.proofs.Common.{◌≡◌, ℕ, Bool, List, IfOk, ap, subst, ◌∙◌}
-use Rattle.std.specs.Prelude.{Result}
-use Rattle.std.proofs.lemmas.Result.{IfOk-weaker}
-use Rattle.hayro_ccitt.specs.Bits.{bits_in, bits_of}
-use Rattle.hayro_ccitt.specs.Rows.{Row}
-use Rattle.fax_encode.specs.Chosen.{chosen_t4, chosen_t6, filled_up}
-use Rattle.fax_encode.specs.Settings.{chosen, group3_settings, group4_settings}
-use Rattle.fax_encode.specs.declared.settings.EncodeSettings.{EncodeSettings}
+use Rattle.fax_encode.proofs.Names.{◌≡◌, ℕ, Bool, List, IfOk, ap, subst, ◌∙◌, Result, IfOk-weaker, bits_in, bits_of, Row}
+use Rattle.fax_encode.proofs.Names.{chosen_t4, chosen_t6, filled_up, chosen, group3_settings, group4_settings, EncodeSettings}
 use Rattle.fax_encode.proofs.ChosenBySettings.{chosen_by_settings}
 
-module _ {X E : Type 0} (items : X → List ℕ) (result : Result X E) (settings : EncodeSettings) (columns : ℕ)
-    (rows : List Row)
+module _ {X E : Type 0} (items : X → List ℕ) (result : Result X E) (settings : EncodeSettings) (columns : ℕ) (rows : List Row)
     (encoded : IfOk result (λ x. bits_in settings.order (items x) ≡ filled_up (chosen settings columns rows))) where
   abbrev IsBy : EncodeSettings → Type 0
   IsBy s = IfOk result (λ x. bits_in s.order (items x) ≡ filled_up (chosen s columns rows))

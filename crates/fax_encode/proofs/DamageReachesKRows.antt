@@ -1,34 +1,19 @@
 -- Damage within one line of what is chosen as two-dimensional Group 3 changes at most K rows.
-use Rattle.std.proofs.Common.{◌≡◌, ℕ, zero, suc, ◌+◌, ◌-◌, ◌%◌, ◌^◌, ◌<◌, ◌≤◌, Bool, true, false, cond, List, [], ◌∷◌, ◌++◌, length, drop}
-use Rattle.std.proofs.Common.{Result, refl, sym, ap, subst, ◌∙◌, append_assoc, arith, inl, inr}
-use Rattle.std.proofs.lemmas.List.{length-append, length-replicate, drop-drop}
-use Rattle.std.proofs.lemmas.List.Elements.{All-head, All-tail, All-cons}
-use Rattle.hayro_ccitt.specs.declared.error.DecodeError.{DecodeError}
-use Rattle.hayro_ccitt.specs.declared.settings.DecodeSettings.{DecodeSettings}
-use Rattle.hayro_ccitt.specs.declared.settings.EncodingMode.{EncodingMode}
-use Rattle.hayro_ccitt.specs.declared.settings.EncodingMode.TheVariants.{Group3_2D}
-use Rattle.hayro_ccitt.specs.declared.bit_reader.BitOrder.{BitOrder}
-use Rattle.hayro_ccitt.specs.Bits.{Bits, AreWholeBytes}
-use Rattle.hayro_ccitt.specs.Rows.{Row, HaveWidth, white_row}
-use Rattle.hayro_ccitt.specs.EndOfLine.{after_eol, tagged_eols}
-use Rattle.hayro_ccitt.specs.Encodings.{EncodesRowsWithEols, ClosesWithEols, IsPicture, padding, eol, tag_of}
-use Rattle.hayro_ccitt.specs.Locality.{IsEolAt, EndAlike}
-use Rattle.hayro_ccitt.specs.LocalityByK.{IsTaggedBody, ComeBefore1D, RowsDiffer, SameBut}
-use Rattle.hayro_ccitt.specs.PlainReading.{plain}
-use Rattle.hayro_ccitt.specs.Settings.{AreSettings}
-use Rattle.hayro_ccitt.proofs.DamagedLines.DamageByK.{locality_by_k, encoded_follows, eol_before as eol_here}
-use Rattle.hayro_ccitt.proofs.DamagedLines.EncodedBodies.{encoded_lines_are_bodies}
-use Rattle.hayro_ccitt.proofs.DamagedLines.LineTails.{drop_at}
-use Rattle.hayro_ccitt.proofs.EncodedPictures.PicturesT4.{eol_stands, eols_here_two, six_tagged, eol_before}
-use Rattle.fax_encode.specs.declared.settings.EncodeSettings.{EncodeSettings}
-use Rattle.fax_encode.specs.Chosen.{chosen_line_1d, chosen_line_2d, filled_up}
-use Rattle.fax_encode.specs.Laws.{DamageReachesKRows, lenient_settings_for, tag_after, line_end, ChangesAtMost, DamagedLine}
-use Rattle.fax_encode.specs.RowByRow.{RowsEncoded, no_rows, with_row, with_rows}
-use Rattle.fax_encode.specs.Settings.{chosen, is_two_dimensional, chosen_line, left_after, fill_of, chosen_lines_with_eols, chosen_eols, with_end}
+use Rattle.fax_encode.proofs.Names.{◌≡◌, ℕ, zero, suc, ◌+◌, ◌-◌, ◌%◌, ◌^◌, ◌<◌, ◌≤◌, Bool, true, false, cond, List, [], ◌∷◌, ◌++◌}
+use Rattle.fax_encode.proofs.Names.{length, drop, Result, refl, sym, ap, subst, ◌∙◌, append_assoc, arith, inl, inr, length-append}
+use Rattle.fax_encode.proofs.Names.{length-replicate, drop-drop, All-head, All-tail, All-cons, DecodeError, DecodeSettings}
+use Rattle.fax_encode.proofs.Names.{EncodingMode, Group3_2D, BitOrder, Bits, AreWholeBytes, Row, HaveWidth, white_row, after_eol}
+use Rattle.fax_encode.proofs.Names.{tagged_eols, EncodesRowsWithEols, ClosesWithEols, IsPicture, padding, eol, tag_of, IsEolAt}
+use Rattle.fax_encode.proofs.Names.{EndAlike, IsTaggedBody, ComeBefore1D, RowsDiffer, SameBut, plain, AreSettings, locality_by_k}
+use Rattle.fax_encode.proofs.Names.{encoded_follows, encoded_lines_are_bodies, drop_at, eol_stands, eols_here_two, six_tagged}
+use Rattle.fax_encode.proofs.Names.{eol_before, EncodeSettings, chosen_line_1d, chosen_line_2d, filled_up, DamageReachesKRows}
+use Rattle.fax_encode.proofs.Names.{lenient_settings_for, tag_after, line_end, ChangesAtMost, DamagedLine, RowsEncoded, no_rows}
+use Rattle.fax_encode.proofs.Names.{with_row, with_rows, chosen, is_two_dimensional, chosen_line, left_after, fill_of}
+use Rattle.fax_encode.proofs.Names.{chosen_lines_with_eols, chosen_eols, with_end}
+use Rattle.fax_encode.proofs.{ChosenLines.line_1d_encodes, ChosenLines.line_2d_encodes, FilledEols.length-eol}
 use Rattle.fax_encode.proofs.ChosenBySettings.{line_encodes, lines_with_eols_encode, eols_close, white_is_wide}
-use Rattle.fax_encode.proofs.ChosenLines.{line_1d_encodes, line_2d_encodes}
-use Rattle.fax_encode.proofs.FilledEols.{length-eol}
 use Rattle.fax_encode.proofs.LinesOfPictures.{lines_left, lines_pushed, rows_are_chosen}
+use Rattle.hayro_ccitt.proofs.DamagedLines.DamageByK.{eol_before as eol_here}
 
 -- ---- Fewer rows
 
@@ -76,8 +61,7 @@ module _ (d : DecodeSettings) (columns k : ℕ) (wide : 0 < columns) (small : co
       stands : ClosesWithEols Group3_2D 6 closing → IsEolAt (closing ++ more)
       stands (fill, next, then, is) = (
         tag_of Group3_2D ++ (next ++ more),
-        ap (λ (b : Bits). after_eol 0 (b ++ more)) is ∙ ap (after_eol 0) split
-            ∙ eol_stands fill _,
+        ap (λ (b : Bits). after_eol 0 (b ++ more)) is ∙ ap (after_eol 0) split ∙ eol_stands fill _,
       )
         where
           split : (eol fill ++ tag_of Group3_2D ++ next) ++ more ≡ eol fill ++ (tag_of Group3_2D ++ (next ++ more))
@@ -99,8 +83,8 @@ module _ (d : DecodeSettings) (columns k : ℕ) (wide : 0 < columns) (small : co
   two_dimensional : (fill n : ℕ) (reference row : Row) (next : Bits) → length reference ≡ length row → ComeBefore1D d n next
       → ComeBefore1D d (suc n) (eol fill ++ ((false ∷ chosen_line_2d reference row) ++ next))
   two_dimensional fill n reference row next same given =
-      encoded_follows d encoding n reference row (chosen_line_2d reference row) next
-      (eol fill ++ ((false ∷ chosen_line_2d reference row) ++ next)) (line_2d_encodes reference row same) given (eol_stands fill _)
+      encoded_follows d encoding n reference row (chosen_line_2d reference row) next (eol fill
+      ++ ((false ∷ chosen_line_2d reference row) ++ next)) (line_2d_encodes reference row same) given (eol_stands fill _)
 
   -- a line is two-dimensional only if one may be
   may_be : (left : ℕ) (reference row : Row) → is_two_dimensional left reference row ≡ true → 0 < left
@@ -112,7 +96,7 @@ module _ (d : DecodeSettings) (columns k : ℕ) (wide : 0 < columns) (small : co
   comes at left reference [] width widths = (0, omega arith, closed)
   comes at left reference (row ∷ rows) width widths =
       subst (Comes left) (sym split)
-      (by (is_two_dimensional left reference row) (may_be left reference row)
+      (by_two (is_two_dimensional left reference row) (may_be left reference row)
       (comes next (left_after Group3_2D k left reference row) row rows row_width
       (All-tail (λ row. length row ≡ columns) row rows widths)))
     where
@@ -135,16 +119,15 @@ module _ (d : DecodeSettings) (columns k : ℕ) (wide : 0 < columns) (small : co
       split = append_assoc (eol fill ++ line) others (closing ++ more)
           ∙ append_assoc (eol fill) line (others ++ (closing ++ more))
 
-      by : (two : Bool) → (two ≡ true → 0 < left) → Comes (cond two (left - 1) (k - 1)) (others ++ (closing ++ more))
+      by_two : (two : Bool) → (two ≡ true → 0 < left) → Comes (cond two (left - 1) (k - 1)) (others ++ (closing ++ more))
           → Comes left (eol fill ++ (cond two (false ∷ chosen_line_2d reference row) (true ∷ chosen_line_1d row)
           ++ (others ++ (closing ++ more))))
-      by true some (n, le, given) = (
+      by_two true some (n, le, given) = (
         suc n,
         omega (arith, le, some refl),
-        two_dimensional fill n reference row (others ++ (closing ++ more))
-            (width ∙ sym row_width) given,
+        two_dimensional fill n reference row (others ++ (closing ++ more)) (width ∙ sym row_width) given,
       )
-      by false some given = (0, omega arith, one_dimensional fill reference row (others ++ (closing ++ more)) row_width)
+      by_two false some given = (0, omega arith, one_dimensional fill reference row (others ++ (closing ++ more)) row_width)
 
 -- ---- The rows so far
 
@@ -169,15 +152,14 @@ last_width columns rows (row ∷ more) width widths =
 
 -- at most K - 1 more lines may be two-dimensional
 left_below : (k left : ℕ) (reference row : Row) → left ≤ k - 1 → left_after Group3_2D k left reference row ≤ k - 1
-left_below k left reference row le = by (is_two_dimensional left reference row)
+left_below k left reference row le = by_two (is_two_dimensional left reference row)
   where
-    by : (two : Bool) → cond two (left - 1) (k - 1) ≤ k - 1
-    by true = omega arith
-    by false = omega arith
+    by_two : (two : Bool) → cond two (left - 1) (k - 1) ≤ k - 1
+    by_two true = omega arith
+    by_two false = omega arith
 
 left_most : (settings : EncodeSettings) → settings.encoding ≡ Group3_2D → (rows : RowsEncoded) (more : List Row)
-    → rows.settings ≡ settings
-    → rows.left ≤ settings.k - 1 → (with_rows rows more).left ≤ settings.k - 1
+    → rows.settings ≡ settings → rows.left ≤ settings.k - 1 → (with_rows rows more).left ≤ settings.k - 1
 left_most settings encoding rows [] same le = le
 left_most settings encoding rows (row ∷ more) same le =
     left_most settings encoding (with_row rows row) more same
@@ -200,14 +182,12 @@ filled_is_whole : (bits : Bits) → AreWholeBytes (filled_up bits)
 filled_is_whole bits = omega (
   arith,
   length-append bits (padding (length bits)),
-  length-replicate
-      ((8 - length bits % 8) % 8) false,
+  length-replicate ((8 - length bits % 8) % 8) false,
 )
 
 -- ---- The law
 module _ (k : ℕ) (fills aligned : Bool) (order : BitOrder) (columns : ℕ) (before later : List Row) (row : Row) (some : 0 < k)
-    (small : columns < 2 ^ 32)
-    (picture : IsPicture columns (before ++ row ∷ later)) where
+    (small : columns < 2 ^ 32) (picture : IsPicture columns (before ++ row ∷ later)) where
   abbrev settings : EncodeSettings
   settings = record {
     encoding = Group3_2D;
@@ -258,8 +238,7 @@ module _ (k : ℕ) (fills aligned : Bool) (order : BitOrder) (columns : ℕ) (be
 
   one_is : one ≡ (so_far.lines ++ eol fill) ++ (line ++ next)
   one_is =
-      ap filled_up (sym (rows_are_chosen settings columns (before ++ row ∷ later)) ∙ ap (with_end settings) lines_are)
-      ∙ assoc
+      ap filled_up (sym (rows_are_chosen settings columns (before ++ row ∷ later)) ∙ ap (with_end settings) lines_are) ∙ assoc
     where
       assoc : (all ++ closing) ++ more ≡ (so_far.lines ++ eol fill) ++ (line ++ next)
       assoc = simp append_assoc
@@ -313,8 +292,7 @@ module _ (k : ℕ) (fills aligned : Bool) (order : BitOrder) (columns : ℕ) (be
       let le = left_below k so_far.left so_far.last row
       (left_most settings refl (no_rows settings columns) before refl (omega arith)) in
       let both = locality_by_k d one are (filled_is_whole (chosen settings columns (before ++ row ∷ later))) two
-      (tag_after settings columns before)
-      (line_end settings columns before row) to2 follow.0 whole_two (record {
+      (tag_after settings columns before) (line_end settings columns before row) to2 follow.0 whole_two (record {
         encoding = refl;
         lenient = refl;
         before = same_before;

@@ -1,8 +1,7 @@
 -- The changing elements as an encoder finds them, by how many changes are left of the position right of a0.
-use Rattle.std.proofs.Common.{◌≡◌, ℕ, zero, suc, ◌+◌, ◌<◌, ◌≤◌, ltb, ◌&&◌, List, [], ◌∷◌, length, get_or, refl, ap, ◌∙◌, arith}
-use Rattle.hayro_ccitt.specs.Rows.{AreChanges, AscendFrom, pixels, is_change, least_below, a1, a2}
-use Rattle.hayro_ccitt.proofs.PixelRows.ReferencePlaces.{IsSplit, a1_is, next_change}
-use Rattle.fax_encode.specs.Coding.{AreLeft, AreAllLeft}
+use Rattle.fax_encode.proofs.Names.{◌≡◌, ℕ, zero, suc, ◌+◌, ◌<◌, ◌≤◌, ltb, ◌&&◌, List, [], ◌∷◌, length, get_or, refl, ap, ◌∙◌}
+use Rattle.fax_encode.proofs.Names.{arith, AreChanges, AscendFrom, pixels, is_change, least_below, a1, a2, IsSplit, a1_is}
+use Rattle.fax_encode.proofs.Names.{next_change, AreLeft, AreAllLeft}
 
 -- the changes that are left, and no others
 pub split_of : (changes : List ℕ) (from left : ℕ) → AreAllLeft changes from left → IsSplit changes from left
@@ -12,18 +11,20 @@ split_of changes from left are = record { within = are.left.within; before = are
 pub AreLeft-right : (changes : List ℕ) (from to left : ℕ) → from ≤ to → AreLeft changes from left → AreLeft changes to left
 AreLeft-right changes from to left le are = record { within = are.within; left = λ k lt. omega (arith, are.left k lt) }
 
-module _ (columns : ℕ) (changes : List ℕ) (lawful : AreChanges columns changes) (from left : ℕ) (are : AreAllLeft changes from left) where
+module _ (columns : ℕ) (changes : List ℕ) (lawful : AreChanges columns changes) (from left : ℕ)
+    (are : AreAllLeft changes from left) where
   pub a1_found : a1 (pixels columns changes) from ≡ get_or changes left columns
   a1_found = a1_is columns changes lawful from left (split_of changes from left are)
 
   pub a2_found : a2 (pixels columns changes) from ≡ get_or changes (left + 1) columns
   a2_found =
-      ap (λ (a : ℕ). least_below (length (pixels columns changes)) (λ p. ltb a p && is_change (pixels columns changes) p)) a1_found
-      ∙ next_change columns changes lawful left
+      ap (λ (a : ℕ). least_below (length (pixels columns changes)) (λ p. ltb a p && is_change (pixels columns changes) p))
+      a1_found ∙ next_change columns changes lawful left
       ∙ ap (λ (n : ℕ). get_or changes n columns) (let s : suc left ≡ left + 1 = omega arith in s)
 
 -- a change is not left of the one before it, and the row's end is right of them all
-pub next_is_right : (first width : ℕ) (places : List ℕ) (i j : ℕ) → j ≡ i + 1 → AscendFrom first width places → get_or places i width ≤ get_or places j width
+pub next_is_right : (first width : ℕ) (places : List ℕ) (i j : ℕ) → j ≡ i + 1 → AscendFrom first width places
+    → get_or places i width ≤ get_or places j width
 next_is_right first width [] i j is ascend = omega arith
 next_is_right first width (p ∷ []) zero j is ascend =
     let within : p < width = ascend.1 in
@@ -43,8 +44,8 @@ same_change (p ∷ places) zero a b lt = refl
 same_change (p ∷ places) (suc i) a b lt = same_change places i a b (omega arith)
 
 -- right of a change the changes up to it are left, and no others
-pub left_of_next : (first width : ℕ) (places : List ℕ) (i j place : ℕ) → j ≡ i + 1 → AscendFrom first width places → place ≡ get_or places i width → place < width
-    → AreAllLeft places (place + 1) j
+pub left_of_next : (first width : ℕ) (places : List ℕ) (i j place : ℕ) → j ≡ i + 1 → AscendFrom first width places
+    → place ≡ get_or places i width → place < width → AreAllLeft places (place + 1) j
 left_of_next first width [] i j place is ascend here lt = absurd (omega arith)
 left_of_next first width (p ∷ places) i zero place is ascend here lt = absurd (omega arith)
 left_of_next first width (p ∷ places) zero (suc (suc j)) place is ascend here lt = absurd (omega arith)
@@ -67,7 +68,8 @@ left_of_next first width (p ∷ q ∷ places) (suc i) (suc j) place is ascend he
     let behind = left_of_next (suc p) width (q ∷ places) i j place (omega arith) ascend.2 here lt in
     one_more p q places place j (omega arith) next behind
   where
-    one_more : (p q : ℕ) (places : List ℕ) (place j : ℕ) → 0 < j → suc p ≤ q → AreAllLeft (q ∷ places) (place + 1) j → AreAllLeft (p ∷ q ∷ places) (place + 1) (suc j)
+    one_more : (p q : ℕ) (places : List ℕ) (place j : ℕ) → 0 < j → suc p ≤ q → AreAllLeft (q ∷ places) (place + 1) j
+        → AreAllLeft (p ∷ q ∷ places) (place + 1) (suc j)
     one_more p q places place j some next behind =
         let within : j ≤ length (q ∷ places) = behind.left.within in
         record { left = record { within = omega arith; left = earlier }; right = λ l. behind.right (omega arith) }
@@ -79,7 +81,8 @@ left_of_next first width (p ∷ q ∷ places) (suc i) (suc j) place is ascend he
         earlier (suc k) l = behind.left.left k (omega arith)
 
 -- further right, where the next change isn't passed
-pub still_left : (columns : ℕ) (changes : List ℕ) (from to left : ℕ) → from ≤ to → AreAllLeft changes from left → to ≤ get_or changes left columns → AreAllLeft changes to left
+pub still_left : (columns : ℕ) (changes : List ℕ) (from to left : ℕ) → from ≤ to → AreAllLeft changes from left
+    → to ≤ get_or changes left columns → AreAllLeft changes to left
 still_left columns changes from to left le are right = record {
   left = AreLeft-right changes from to left le are.left;
   right = λ lt. (let same = same_change changes left columns 0 lt in omega (arith, same));

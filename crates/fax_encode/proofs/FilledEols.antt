@@ -1,11 +1,7 @@
 -- EOLs with fill, and tags behind them.
-use Rattle.std.proofs.Common.{◌≡◌, ℕ, suc, ◌+◌, ◌^◌, ◌<◌, Bool, true, false, ◌∷◌, [], ◌++◌, length, replicate, ap, ◌∙◌, arith, append_assoc}
-use Rattle.std.proofs.lemmas.List.{length-append, length-replicate}
-use Rattle.std.proofs.lemmas.Nat.{pow-add}
-use Rattle.hayro_ccitt.specs.declared.settings.EncodingMode.{EncodingMode}
-use Rattle.hayro_ccitt.specs.Bits.{Bits, low_bits}
-use Rattle.hayro_ccitt.specs.Encodings.{eol, tag_of}
-use Rattle.fax_encode.specs.Settings.{fill_of, chosen_eols}
+use Rattle.fax_encode.proofs.Names.{◌≡◌, ℕ, suc, ◌+◌, ◌^◌, ◌<◌, Bool, true, false, ◌∷◌, [], ◌++◌, length, replicate, ap, ◌∙◌}
+use Rattle.fax_encode.proofs.Names.{arith, append_assoc, length-append, length-replicate, pow-add, EncodingMode, Bits, low_bits}
+use Rattle.fax_encode.proofs.Names.{eol, tag_of, fill_of, chosen_eols}
 use Rattle.fax_encode.proofs.WrittenBits.{low_bits_split, zero_bits, power_positive}
 
 -- an EOL is the number 1 in twelve bits and its fill
@@ -21,7 +17,8 @@ pub length-eol : (fill : ℕ) → length (eol fill) ≡ 12 + fill
 length-eol fill = omega (arith, length-append (replicate (11 + fill) false) (true ∷ []), length-replicate (11 + fill) false)
 
 -- one of several EOLs
-pub eol_more : (encoding : EncodingMode) (fills : Bool) (before after : Bits) (n : ℕ) → after ≡ before ++ (eol (fill_of fills (length before)) ++ tag_of encoding)
+pub eol_more : (encoding : EncodingMode) (fills : Bool) (before after : Bits) (n : ℕ)
+    → after ≡ before ++ (eol (fill_of fills (length before)) ++ tag_of encoding)
     → after ++ chosen_eols encoding fills (length after) n ≡ before ++ chosen_eols encoding fills (length before) (suc n)
 eol_more encoding fills before after n e =
     let fill : ℕ = fill_of fills (length before) in
@@ -29,5 +26,4 @@ eol_more encoding fills before after n e =
     let at : length after ≡ length before + 12 + fill + length tag
     = omega (arith, ap length e, length-append before (eol fill ++ tag), length-append (eol fill) tag, length-eol fill) in
     ap (λ (m : ℕ). after ++ chosen_eols encoding fills m n) at
-    ∙ ap (λ (b : Bits). b ++ chosen_eols encoding fills (length before + 12 + fill + length tag) n) e
-    ∙ simp append_assoc
+    ∙ ap (λ (b : Bits). b ++ chosen_eols encoding fills (length before + 12 + fill + length tag) n) e ∙ simp append_assoc

@@ -11,6 +11,7 @@ pub mod FilledEols
 pub mod LinesByK
 pub mod LinesOfPictures
 pub mod ModesWritten
+pub mod Names
 pub mod PackedRows
 pub mod PaintedRows
 pub mod PaintedWords

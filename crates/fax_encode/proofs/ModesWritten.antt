@@ -1,36 +1,33 @@
 -- The bits of one mode, by what an encoder finds.
-use Rattle.std.proofs.Common.{◌≡◌, ℕ, suc, ◌+◌, ◌-◌, ◌%◌, ◌<◌, ◌≤◌, Bool, true, false, cond, ltb, leb, List, [], ◌∷◌, ◌++◌, length, get_or, drop, map, replicate, refl, sym, ap, ◌∙◌, arith, append_assoc}
-use Rattle.std.proofs.lemmas.Bool.{lt-ltb, le-ltb, false≢true}
-use Rattle.std.proofs.lemmas.List.{append-nil, length-append, length-replicate}
-use Rattle.hayro_ccitt.specs.declared.codes.Mode.{Mode}
-use Rattle.hayro_ccitt.specs.declared.codes.Mode.TheVariants.{Pass, Horizontal}
-use Rattle.hayro_ccitt.specs.Bits.{Bits}
-use Rattle.hayro_ccitt.specs.Rows.{Row, AreChanges, pixels, opposite, a1, a2, b1, b2}
-use Rattle.hayro_ccitt.specs.Encodings.{padding}
-use Rattle.hayro_ccitt.proofs.PixelRows.ChangesAndPixels.{length-pixels}
-use Rattle.hayro_ccitt.proofs.PixelRows.ChangePlaces.{a1_next, a2_least}
-use Rattle.fax_encode.specs.Chosen.{Place, word_of_mode, vertical_mode, is_near, is_coded, chosen_mode, runs_of_mode, place_after, bits_at, chosen_run, chosen_from, chosen_line_2d, chosen_lines_2d, rows_of}
+use Rattle.fax_encode.proofs.Names.{◌≡◌, ℕ, suc, ◌+◌, ◌-◌, ◌%◌, ◌<◌, ◌≤◌, Bool, true, false, cond, ltb, leb, List, [], ◌∷◌, ◌++◌}
+use Rattle.fax_encode.proofs.Names.{length, get_or, drop, map, replicate, refl, sym, ap, ◌∙◌, arith, append_assoc, lt-ltb, le-ltb}
+use Rattle.fax_encode.proofs.Names.{false≢true, append-nil, length-append, length-replicate, Mode, Pass, Horizontal, Bits, Row}
+use Rattle.fax_encode.proofs.Names.{AreChanges, pixels, opposite, a1, a2, b1, b2, padding, length-pixels, a1_next, a2_least}
+use Rattle.fax_encode.proofs.Names.{Place, word_of_mode, vertical_mode, is_near, is_coded, chosen_mode, runs_of_mode, place_after}
+use Rattle.fax_encode.proofs.Names.{bits_at, chosen_run, chosen_from, chosen_line_2d, chosen_lines_2d, rows_of}
 use Rattle.fax_encode.proofs.ChosenLines.{goes_right, chooses, chosen_more, chosen_over}
 use Rattle.fax_encode.proofs.RowLists.{item_next}
 
 module _ (reference row : Row) (at : Place) (inside : at.from ≤ length row) where
-  open_bits : (mode : Mode) → chosen_mode reference row at ≡ mode → bits_at reference row at ≡ word_of_mode mode ++ runs_of_mode row at mode
+  open_bits : (mode : Mode) → chosen_mode reference row at ≡ mode
+      → bits_at reference row at ≡ word_of_mode mode ++ runs_of_mode row at mode
   open_bits mode e =
       let going : is_coded row at ≡ false = le-ltb (length row) at.from inside in
-      ap (λ (coded : Bool). cond coded [] (word_of_mode (chosen_mode reference row at) ++ runs_of_mode row at (chosen_mode reference row at))) going
-      ∙ ap (λ (m : Mode). word_of_mode m ++ runs_of_mode row at m) e
+      ap (λ (coded : Bool). cond coded [] (word_of_mode (chosen_mode reference row at)
+      ++ runs_of_mode row at (chosen_mode reference row at))) going ∙ ap (λ (m : Mode). word_of_mode m ++ runs_of_mode row at m) e
 
   pub pass_bits : b2 reference at.from at.color < a1 row at.from → bits_at reference row at ≡ word_of_mode Pass
   pass_bits lt =
-      let left : ltb (b2 reference at.from at.color) (a1 row at.from) ≡ true = lt-ltb (b2 reference at.from at.color) (a1 row at.from) lt in
+      let left : ltb (b2 reference at.from at.color) (a1 row at.from) ≡ true =
+      lt-ltb (b2 reference at.from at.color) (a1 row at.from) lt in
       open_bits Pass (rw left refl) ∙ append-nil (word_of_mode Pass)
 
   no_runs : (start to : ℕ) → runs_of_mode row at (vertical_mode start to) ≡ []
-  no_runs start to = by (leb start to) refl
+  no_runs start to = by_leb (leb start to) refl
     where
-      by : (t : Bool) → leb start to ≡ t → runs_of_mode row at (vertical_mode start to) ≡ []
-      by true e = rw e refl
-      by false e = rw e refl
+      by_leb : (t : Bool) → leb start to ≡ t → runs_of_mode row at (vertical_mode start to) ≡ []
+      by_leb true e = rw e refl
+      by_leb false e = rw e refl
 
   module _ (right : a1 row at.from ≤ b2 reference at.from at.color) where
     not_left : ltb (b2 reference at.from at.color) (a1 row at.from) ≡ false
@@ -40,33 +37,37 @@ module _ (reference row : Row) (at : Place) (inside : at.from ≤ length row) wh
         → bits_at reference row at ≡ word_of_mode (vertical_mode (b1 reference at.from at.color) (a1 row at.from))
     vertical_bits near =
         let mode : Mode = vertical_mode (b1 reference at.from at.color) (a1 row at.from) in
-        open_bits mode (rw (not_left, near) refl)
-        ∙ ap (λ (b : Bits). word_of_mode mode ++ b) (no_runs (b1 reference at.from at.color) (a1 row at.from)) ∙ append-nil (word_of_mode mode)
+        open_bits mode (rw (not_left, near) refl) ∙ ap (λ (b : Bits). word_of_mode mode ++ b)
+        (no_runs (b1 reference at.from at.color) (a1 row at.from)) ∙ append-nil (word_of_mode mode)
 
     pub horizontal_bits : is_near (b1 reference at.from at.color) (a1 row at.from) ≡ false
-        → bits_at reference row at ≡ word_of_mode Horizontal
-        ++ (chosen_run at.color (a1 row at.from - (at.from - 1)) ++ chosen_run (opposite at.color) (a2 row at.from - a1 row at.from))
+        → bits_at reference row at ≡ word_of_mode Horizontal ++
+        (chosen_run at.color (a1 row at.from - (at.from - 1)) ++ chosen_run (opposite at.color) (a2 row at.from - a1 row at.from))
     horizontal_bits near = open_bits Horizontal (rw (not_left, near) refl)
 
   pub pass_place : b2 reference at.from at.color < a1 row at.from
       → place_after reference row at (chosen_mode reference row at) ≡ record at { from = suc (b2 reference at.from at.color) }
   pass_place lt =
-      let left : ltb (b2 reference at.from at.color) (a1 row at.from) ≡ true = lt-ltb (b2 reference at.from at.color) (a1 row at.from) lt in
+      let left : ltb (b2 reference at.from at.color) (a1 row at.from) ≡ true =
+      lt-ltb (b2 reference at.from at.color) (a1 row at.from) lt in
       rw left refl
 
-  turned_place : (start to : ℕ) → place_after reference row at (vertical_mode start to) ≡ record { from = suc (a1 row at.from); color = opposite at.color }
-  turned_place start to = by (leb start to) refl
+  turned_place : (start to : ℕ)
+      → place_after reference row at (vertical_mode start to) ≡ record { from = suc (a1 row at.from); color = opposite at.color }
+  turned_place start to = by_leb (leb start to) refl
     where
-      by : (t : Bool) → leb start to ≡ t → place_after reference row at (vertical_mode start to) ≡ record { from = suc (a1 row at.from); color = opposite at.color }
-      by true e = rw e refl
-      by false e = rw e refl
+      by_leb : (t : Bool) → leb start to ≡ t → place_after reference row at (vertical_mode start to)
+          ≡ record { from = suc (a1 row at.from); color = opposite at.color }
+      by_leb true e = rw e refl
+      by_leb false e = rw e refl
 
-  pub vertical_place : a1 row at.from ≤ b2 reference at.from at.color → is_near (b1 reference at.from at.color) (a1 row at.from) ≡ true
-      → place_after reference row at (chosen_mode reference row at) ≡ record { from = suc (a1 row at.from); color = opposite at.color }
+  pub vertical_place : a1 row at.from ≤ b2 reference at.from at.color
+      → is_near (b1 reference at.from at.color) (a1 row at.from) ≡ true → place_after reference row at
+      (chosen_mode reference row at) ≡ record { from = suc (a1 row at.from); color = opposite at.color }
   vertical_place right near = rw (not_left right, near) (turned_place (b1 reference at.from at.color) (a1 row at.from))
 
-  pub horizontal_place : a1 row at.from ≤ b2 reference at.from at.color → is_near (b1 reference at.from at.color) (a1 row at.from) ≡ false
-      → place_after reference row at (chosen_mode reference row at) ≡ record at { from = suc (a2 row at.from) }
+  pub horizontal_place : a1 row at.from ≤ b2 reference at.from at.color → is_near (b1 reference at.from at.color) (a1 row at.from)
+      ≡ false → place_after reference row at (chosen_mode reference row at) ≡ record at { from = suc (a2 row at.from) }
   horizontal_place right near = rw (not_left right, near) refl
 
 -- the runs of horizontal mode are not negative
@@ -81,73 +82,82 @@ pub near_same : (b x a y : ℕ) (t : Bool) → b ≡ x → a ≡ y → is_near b
 near_same b x a y t e f near = cc
 
 -- a mode's word and its runs, as they are written one after another
-pub three_written : (old one two three word first second : Bits) → one ≡ old ++ word → two ≡ one ++ first → three ≡ two ++ second → three ≡ old ++ (word ++ (first ++ second))
+pub three_written : (old one two three word first second : Bits) → one ≡ old ++ word → two ≡ one ++ first → three ≡ two ++ second
+    → three ≡ old ++ (word ++ (first ++ second))
 three_written old one two three word first second a b c =
     c ∙ ap (λ (x : Bits). x ++ second) (b ∙ ap (λ (x : Bits). x ++ first) a) ∙ simp append_assoc
 
 -- ---- From mode to mode, and from line to line.
-module _ (columns : ℕ) (reference changes : List ℕ) (lawful : AreChanges columns reference) (are : AreChanges columns changes) where
+module _ (columns : ℕ) (reference changes : List ℕ) (lawful : AreChanges columns reference)
+    (are : AreChanges columns changes) where
   one_width : length (pixels columns reference) ≡ length (pixels columns changes)
   one_width = length-pixels columns reference lawful ∙ sym (length-pixels columns changes are)
 
-  module _ (at after : Place) (inside : at.from ≤ columns)
-      (moves : after ≡ place_after (pixels columns reference) (pixels columns changes) at (chosen_mode (pixels columns reference) (pixels columns changes) at)) where
+  module _ (at after : Place) (inside : at.from ≤ columns) (moves : after ≡ place_after (pixels columns reference)
+      (pixels columns changes) at (chosen_mode (pixels columns reference) (pixels columns changes) at)) where
     in_row : at.from ≤ length (pixels columns changes)
     in_row = omega (arith, inside, length-pixels columns changes are)
 
     pub step_right : (at.from < after.from) × (after.from ≤ columns + 1)
     step_right =
-        let right = goes_right (pixels columns reference) (pixels columns changes) one_width at (chosen_mode (pixels columns reference) (pixels columns changes) at) in_row
+        let right = goes_right (pixels columns reference)
+        (pixels columns changes) one_width at (chosen_mode (pixels columns reference) (pixels columns changes) at) in_row
         (chooses (pixels columns reference) (pixels columns changes) one_width at in_row) in
         let to = ap (λ (p : Place). p.from) moves in
         (omega (arith, right.0, to), omega (arith, right.1, to, length-pixels columns changes are))
 
-    pub step_bits : chosen_from (pixels columns reference) (pixels columns changes) at
-        ≡ bits_at (pixels columns reference) (pixels columns changes) at ++ chosen_from (pixels columns reference) (pixels columns changes) after
+    pub step_bits : chosen_from (pixels columns reference) (pixels columns changes) at ≡ bits_at (pixels columns reference)
+        (pixels columns changes) at ++ chosen_from (pixels columns reference) (pixels columns changes) after
     step_bits =
-        chosen_more (pixels columns reference) (pixels columns changes) one_width at in_row
-        ∙ ap (λ (b : Bits). b ++ chosen_from (pixels columns reference) (pixels columns changes)
-        (place_after (pixels columns reference) (pixels columns changes) at (chosen_mode (pixels columns reference) (pixels columns changes) at)))
-        (sym (open_bits (pixels columns reference) (pixels columns changes) at in_row (chosen_mode (pixels columns reference) (pixels columns changes) at) refl))
-        ∙ ap (λ (p : Place). bits_at (pixels columns reference) (pixels columns changes) at ++ chosen_from (pixels columns reference) (pixels columns changes) p) (sym moves)
+        chosen_more (pixels columns reference) (pixels columns changes) one_width at in_row ∙ ap (λ (b : Bits). b ++ chosen_from
+        (pixels columns reference) (pixels columns changes) (place_after (pixels columns reference) (pixels columns changes) at
+        (chosen_mode (pixels columns reference) (pixels columns changes) at))) (sym (open_bits (pixels columns reference)
+        (pixels columns changes) at in_row (chosen_mode (pixels columns reference) (pixels columns changes) at) refl))
+        ∙ ap (λ (p : Place). bits_at (pixels columns reference) (pixels columns changes) at
+        ++ chosen_from (pixels columns reference) (pixels columns changes) p) (sym moves)
 
   pub no_more : (at : Place) (now whole : Bits) → columns < at.from
       → now ++ chosen_from (pixels columns reference) (pixels columns changes) at ≡ whole → now ≡ whole
   no_more at now whole past e =
-      sym (append-nil now)
-      ∙ ap (λ (b : Bits). now ++ b) (sym (chosen_over (pixels columns reference) (pixels columns changes) one_width at (omega (arith, length-pixels columns changes are)))) ∙ e
+      sym (append-nil now) ∙ ap (λ (b : Bits). now ++ b) (sym (chosen_over (pixels columns reference)
+      (pixels columns changes) one_width at (omega (arith, length-pixels columns changes are)))) ∙ e
 
 -- zeros up to a whole byte are the same number after whole bytes
 same_padding : (aligned : Bool) (before line : Bits) → (aligned ≡ true → length before % 8 ≡ 0)
     → cond aligned (padding (length (before ++ line))) [] ≡ cond aligned (padding (length line)) []
 same_padding false before line whole = refl
-same_padding true before line whole = ap (λ (n : ℕ). replicate n false)
-    (let e : (8 - length (before ++ line) % 8) % 8 ≡ (8 - length line % 8) % 8 = omega (arith, length-append before line, whole refl) in e)
+same_padding true before line whole = ap (λ (n : ℕ). replicate n false) (let e : (8 - length (before ++ line) % 8) % 8
+    ≡ (8 - length line % 8) % 8 = omega (arith, length-append before line, whole refl) in e)
 
 -- a line and its padding
 pub padded_line : (aligned : Bool) (before drawn after line : Bits) → (aligned ≡ true → length before % 8 ≡ 0)
-    → drawn ≡ before ++ line → after ≡ drawn ++ cond aligned (padding (length drawn)) [] → after ≡ before ++ (line ++ cond aligned (padding (length line)) [])
+    → drawn ≡ before ++ line → after ≡ drawn ++ cond aligned (padding (length drawn)) []
+    → after ≡ before ++ (line ++ cond aligned (padding (length line)) [])
 padded_line aligned before drawn after line whole a b =
-    b ∙ ap (λ (x : Bits). x ++ cond aligned (padding (length x)) []) a
-    ∙ ap (λ (p : Bits). (before ++ line) ++ p) (same_padding aligned before line whole) ∙ append_assoc before line (cond aligned (padding (length line)) [])
+    b ∙ ap (λ (x : Bits). x ++ cond aligned (padding (length x)) []) a ∙ ap (λ (p : Bits). (before ++ line) ++ p)
+    (same_padding aligned before line whole) ∙ append_assoc before line (cond aligned (padding (length line)) [])
 
 -- ends at a whole byte
-pub padded_whole : (aligned : Bool) (drawn after : Bits) → after ≡ drawn ++ cond aligned (padding (length drawn)) [] → aligned ≡ true → length after % 8 ≡ 0
-padded_whole true drawn after a is = omega (arith, ap length a, length-append drawn (padding (length drawn)), length-replicate ((8 - length drawn % 8) % 8) false)
+pub padded_whole : (aligned : Bool) (drawn after : Bits) → after ≡ drawn ++ cond aligned (padding (length drawn)) []
+    → aligned ≡ true → length after % 8 ≡ 0
+padded_whole true drawn after a is =
+    omega (arith, ap length a, length-append drawn (padding (length drawn)), length-replicate ((8 - length drawn % 8) % 8) false)
 padded_whole false drawn after a is = absurd (false≢true is)
 
 pub lines_first : (aligned : Bool) (reference row : Row) (rows : List Row) → chosen_lines_2d aligned reference (row ∷ rows)
-    ≡ (chosen_line_2d reference row ++ cond aligned (padding (length (chosen_line_2d reference row))) []) ++ chosen_lines_2d aligned row rows
+    ≡ (chosen_line_2d reference row ++ cond aligned (padding (length (chosen_line_2d reference row))) [])
+    ++ chosen_lines_2d aligned row rows
 lines_first aligned reference row rows = refl
 
 -- and precedes the lines that are left
-pub line_next : {X : Type 0} (columns : ℕ) (aligned : Bool) (reference : Row) (list_of : X → List ℕ) (items : List X) (i : ℕ) (item : X) → i < length items
-    → item ≡ get_or items i item
-    → chosen_lines_2d aligned reference (rows_of columns (drop i (map list_of items)))
-    ≡ (chosen_line_2d reference (pixels columns (list_of item)) ++ cond aligned (padding (length (chosen_line_2d reference (pixels columns (list_of item))))) [])
+pub line_next : {X : Type 0} (columns : ℕ) (aligned : Bool) (reference : Row) (list_of : X → List ℕ)
+    (items : List X) (i : ℕ) (item : X) → i < length items → item ≡ get_or items i item → chosen_lines_2d aligned reference
+    (rows_of columns (drop i (map list_of items))) ≡ (chosen_line_2d reference (pixels columns (list_of item))
+    ++ cond aligned (padding (length (chosen_line_2d reference (pixels columns (list_of item))))) [])
     ++ chosen_lines_2d aligned (pixels columns (list_of item)) (rows_of columns (drop (i + 1) (map list_of items)))
 line_next columns aligned reference list_of items i item lt is =
     let row : Row = pixels columns (list_of item) in
     let rows : List Row = rows_of columns (drop (i + 1) (map list_of items)) in
-    let lists : rows_of columns (drop i (map list_of items)) ≡ row ∷ rows = ap (rows_of columns) (item_next list_of items i item lt is) in
+    let lists : rows_of columns (drop i (map list_of items)) ≡ row ∷ rows =
+    ap (rows_of columns) (item_next list_of items i item lt is) in
     ap (chosen_lines_2d aligned reference) lists ∙ lines_first aligned reference row rows

@@ -1,16 +1,8 @@
 -- What a bitmap's sink means after the rows of lists.
-use Rattle.std.proofs.Common.{◌≡◌, ◌↔◌, ℕ, Result, Err, false, List, [], ◌∷◌, ◌++◌, sym, ap, ◌∙◌, append_assoc}
-use Rattle.std.proofs.lemmas.List.{append-nil}
-use Rattle.std.specs.List.{fold}
-use Rattle.hayro_ccitt.specs.Bits.{Bits, bits_of}
-use Rattle.hayro_ccitt.specs.Rows.{Row}
-use Rattle.hayro_ccitt.specs.Answers.{meaning_after}
-use Rattle.hayro_ccitt.proofs.PixelRows.StepsOnRows.{over_rows}
-use Rattle.fax_encode.specs.Chosen.{filled_up, rows_of}
-use Rattle.fax_encode.specs.Packed.{packed, with_packed_row, Bitmap}
-use Rattle.fax_encode.specs.Laws.{RowsArePacked}
+use Rattle.fax_encode.proofs.Names.{◌≡◌, ◌↔◌, ℕ, Result, Err, false, List, [], ◌∷◌, ◌++◌, sym, ap, ◌∙◌, append_assoc, append-nil}
+use Rattle.fax_encode.proofs.Names.{fold, Bits, bits_of, Row, meaning_after, over_rows, filled_up, rows_of, packed}
+use Rattle.fax_encode.proofs.Names.{with_packed_row, Bitmap, RowsArePacked, AreRows}
 use Rattle.fax_encode.proofs.RoundTrip.{widths_of}
-use Rattle.fax_encode.specs.Refusals.{AreRows}
 
 -- rows are packed one after the other
 packs_all : (bits : Bits) (rows : List Row) → fold (λ before row. before ++ filled_up row) bits rows ≡ bits ++ packed rows
@@ -19,19 +11,20 @@ packs_all bits (row ∷ rows) = packs_all (bits ++ filled_up row) rows ∙ appen
 
 -- and so are those of the changes that a sink accepts
 pub rows_are_packed : RowsArePacked
-rows_are_packed columns bits rows have = over_rows columns (λ before row. before ++ filled_up row) bits rows have ∙ packs_all bits rows
+rows_are_packed columns bits rows have =
+    over_rows columns (λ before row. before ++ filled_up row) bits rows have ∙ packs_all bits rows
 
 -- a bitmap that began empty
 pub packed_from : (columns : ℕ) (lists : List (List ℕ)) (empty : Bitmap) (now : Bits) → AreRows columns lists
-    → empty ≡ record { bytes = []; columns = columns; has_refused = false }
-    → now ≡ meaning_after (with_packed_row empty.columns) (bits_of empty.bytes) (rows_of columns lists) → now ≡ packed (rows_of columns lists)
+    → empty ≡ record { bytes = []; columns = columns; has_refused = false } → now ≡ meaning_after (with_packed_row empty.columns)
+    (bits_of empty.bytes) (rows_of columns lists) → now ≡ packed (rows_of columns lists)
 packed_from columns lists empty now are is e =
     e ∙ ap (λ (b : Bitmap). meaning_after (with_packed_row b.columns) (bits_of b.bytes) (rows_of columns lists)) is
     ∙ rows_are_packed columns [] (rows_of columns lists) (widths_of columns lists are)
 
 -- The refusals are the same whatever is asked for.
-pub same_refusals : {A B E : Type 0} (error : E) (refusal : ℕ → E) (Is : ℕ → Type 0) → ((k : ℕ) → ◌≡◌ {A = Result A E} (Err error) (Err (refusal k)) ↔ Is k)
-    → (k : ℕ) → ◌≡◌ {A = Result B E} (Err error) (Err (refusal k)) ↔ Is k
+pub same_refusals : {A B E : Type 0} (error : E) (refusal : ℕ → E) (Is : ℕ → Type 0) → ((k : ℕ) → ◌≡◌ {A = Result A E} (Err error)
+    (Err (refusal k)) ↔ Is k) → (k : ℕ) → ◌≡◌ {A = Result B E} (Err error) (Err (refusal k)) ↔ Is k
 same_refusals error refusal Is refused k = (
   λ is. (refused k).0 (let same : error ≡ refusal k = cc in ap Err same),
   λ is. let before = (refused k).1 is in let same : error ≡ refusal k = cc in ap Err same,

@@ -1,25 +1,17 @@
 -- A row that is being painted: what is written, and what is left to paint.
-use Rattle.std.proofs.Common.{◌≡◌, ℕ, zero, suc, ◌+◌, ◌-◌, ◌*◌, ◌/◌, ◌%◌, ◌<◌, ◌≤◌, Bool, true, false, not, List, [], ◌++◌, length, get_or, take, drop, replicate, refl, sym, ap, ◌∙◌, arith, append_assoc, take_all, ◌∷◌}
-use Rattle.std.proofs.lemmas.Grind.{flat_map-append}
-use Rattle.std.proofs.lemmas.List.{append-nil, length-append, length-replicate, length-take, length-drop, drop_all, replicate-append-replicate, take-replicate}
-use Rattle.std.proofs.Math.Seq.{take-append-add}
-use Rattle.std.proofs.lemmas.Slice.{take-put_mid}
-use borrow.Rule.Slice.PartMut.{put_mid}
-use Rattle.hayro_ccitt.specs.declared.bit_reader.BitOrder.TheVariants.{HighestFirst}
-use Rattle.hayro_ccitt.specs.Bits.{Bits, bits_of, bits_of_byte, low_bits}
-use Rattle.hayro_ccitt.specs.Rows.{Row, AscendFrom, AreChanges, pixels, pixels_from}
-use Rattle.hayro_ccitt.proofs.BitReading.BitLists.{length-bits_of}
-use Rattle.hayro_ccitt.proofs.PixelRows.ChangesAndPixels.{length-pixels}
-use Rattle.fax_encode.specs.Chosen.{filled_up}
-use Rattle.fax_encode.specs.Painting.{under, StandsAt}
-use Rattle.fax_encode.specs.declared.painting.Brush.{Brush}
+use Rattle.fax_encode.proofs.Names.{◌≡◌, ℕ, zero, suc, ◌+◌, ◌-◌, ◌*◌, ◌/◌, ◌%◌, ◌<◌, ◌≤◌, Bool, true, false, not, List, [], ◌++◌}
+use Rattle.fax_encode.proofs.Names.{length, get_or, take, drop, replicate, refl, sym, ap, ◌∙◌, arith, append_assoc, take_all, ◌∷◌}
+use Rattle.fax_encode.proofs.Names.{flat_map-append, append-nil, length-append, length-replicate, length-take, length-drop}
+use Rattle.fax_encode.proofs.Names.{drop_all, replicate-append-replicate, take-replicate, take-append-add, take-put_mid, put_mid}
+use Rattle.fax_encode.proofs.Names.{HighestFirst, Bits, bits_of, bits_of_byte, low_bits, Row, AscendFrom, AreChanges, pixels}
+use Rattle.fax_encode.proofs.Names.{pixels_from, length-bits_of, length-pixels, filled_up, under, StandsAt, Brush, White}
 use Rattle.fax_encode.proofs.PaintedWords.{bits_of-take, turned_under}
 use Rattle.fax_encode.proofs.RunsWritten.{next_is, next_right, next_within, next_ascends, one_part}
-use Rattle.hayro_ccitt.specs.declared.codes.Color.TheVariants.{White}
 
 -- ---- moving to another word
 -- what is written over a part leaves the length
-length-put_mid : (start count : ℕ) (row part : List ℕ) → start + count ≤ length row → length part ≡ count → length (put_mid start count row part) ≡ length row
+length-put_mid : (start count : ℕ) (row part : List ℕ) → start + count ≤ length row → length part ≡ count
+    → length (put_mid start count row part) ≡ length row
 length-put_mid start count row part within long =
     omega (
       arith,
@@ -31,23 +23,27 @@ length-put_mid start count row part within long =
     )
 
 -- the word goes to the row, and one of the colour is begun
-pub word_written : (start count word word' : ℕ) (old now bytes : List ℕ) (color : Bool) → length bytes ≡ 8 → bits_of bytes ≡ low_bits 64 word → count ≡ 8 → start + 8 ≤ length old
-    → now ≡ put_mid start count old bytes → low_bits 64 word' ≡ replicate 64 color
+pub word_written : (start count word word' : ℕ) (old now bytes : List ℕ) (color : Bool)
+    → length bytes ≡ 8 → bits_of bytes ≡ low_bits 64 word
+    → count ≡ 8 → start + 8 ≤ length old → now ≡ put_mid start count old bytes → low_bits 64 word' ≡ replicate 64 color
     → bits_of (take (start + 8) now) ++ low_bits 64 word' ≡ (bits_of (take start old) ++ low_bits 64 word) ++ replicate 64 color
 word_written start count word word' old now bytes color eight spelled is_eight within put plain =
     let behind : start + 8 ≡ start + length bytes = omega arith in
-    let written : bits_of (take (start + 8) now) ≡ bits_of (take start old) ++ low_bits 64 word
-    = ap (λ (row : List ℕ). bits_of (take (start + 8) row)) put ∙ ap bits_of (take-put_mid start count old bytes (start + 8) behind (omega arith))
-    ∙ flat_map-append (bits_of_byte HighestFirst) (take start old) bytes ∙ ap (λ (b : Bits). bits_of (take start old) ++ b) spelled in
-    ap (λ (b : Bits). b ++ low_bits 64 word') written ∙ ap (λ (b : Bits). (bits_of (take start old) ++ low_bits 64 word) ++ b) plain
+    let written : bits_of (take (start + 8) now) ≡ bits_of (take start old) ++ low_bits 64 word =
+    ap (λ (row : List ℕ). bits_of (take (start + 8) row)) put
+    ∙ ap bits_of (take-put_mid start count old bytes (start + 8) behind (omega arith)) ∙ flat_map-append
+    (bits_of_byte HighestFirst) (take start old) bytes ∙ ap (λ (b : Bits). bits_of (take start old) ++ b) spelled in
+    ap (λ (b : Bits). b ++ low_bits 64 word') written
+    ∙ ap (λ (b : Bits). (bits_of (take start old) ++ low_bits 64 word) ++ b) plain
 
 -- some words of the colour, and one more
-pub word_more : (before now new : Bits) (start at : ℕ) (color : Bool) → start ≤ at → now ≡ before ++ replicate (8 * (at - start)) color
-    → new ≡ now ++ replicate 64 color → new ≡ before ++ replicate (8 * (at + 8 - start)) color
+pub word_more : (before now new : Bits) (start at : ℕ) (color : Bool) → start ≤ at → now ≡ before ++ replicate
+    (8 * (at - start)) color → new ≡ now ++ replicate 64 color → new ≡ before ++ replicate (8 * (at + 8 - start)) color
 word_more before now new start at color forward done more =
     let sum : 8 * (at - start) + 64 ≡ 8 * (at + 8 - start) = omega arith in
-    more ∙ ap (λ (b : Bits). b ++ replicate 64 color) done ∙ append_assoc before (replicate (8 * (at - start)) color) (replicate 64 color)
-    ∙ ap (λ (b : Bits). before ++ b) (replicate-append-replicate (8 * (at - start)) 64 color ∙ ap (λ (n : ℕ). replicate n color) sum)
+    more ∙ ap (λ (b : Bits). b ++ replicate 64 color) done
+    ∙ append_assoc before (replicate (8 * (at - start)) color) (replicate 64 color) ∙ ap (λ (b : Bits). before ++ b)
+    (replicate-append-replicate (8 * (at - start)) 64 color ∙ ap (λ (n : ℕ). replicate n color) sum)
 
 -- no words of the colour
 pub no_word : (before : Bits) (start : ℕ) (color : Bool) → before ≡ before ++ replicate (8 * (start - start)) color
@@ -82,15 +78,16 @@ unpainted columns changes row lawful = record {
 }
 
 -- the row up to a position right of it is painted in the present colour
-module _ (row row' : List ℕ) (brush at : Brush) (place next : ℕ) (front : Bits) (right : place ≤ next) (stands : StandsAt brush place) (there : StandsAt at next)
-    (forward : brush.start ≤ at.start) (long : length front ≡ place)
-    (painted : under brush row ≡ front ++ replicate (8 * brush.start + 64 - place) brush.is_black)
+module _ (row row' : List ℕ) (brush at : Brush) (place next : ℕ) (front : Bits)
+    (right : place ≤ next) (stands : StandsAt brush place) (there : StandsAt at next) (forward : brush.start ≤ at.start)
+    (long : length front ≡ place) (painted : under brush row ≡ front ++ replicate (8 * brush.start + 64 - place) brush.is_black)
     (moved : under at row' ≡ under brush row ++ replicate (8 * (at.start - brush.start)) brush.is_black) where
   abbrev pub front_to : Bits
   front_to = front ++ replicate (next - place) brush.is_black
 
   pub long_to : length front_to ≡ next
-  long_to = omega (arith, length-append front (replicate (next - place) brush.is_black), length-replicate (next - place) brush.is_black)
+  long_to =
+      omega (arith, length-append front (replicate (next - place) brush.is_black), length-replicate (next - place) brush.is_black)
 
   pub painted_to : under at row' ≡ front_to ++ replicate (8 * at.start + 64 - next) brush.is_black
   painted_to =
@@ -102,16 +99,16 @@ module _ (row row' : List ℕ) (brush at : Brush) (place next : ℕ) (front : Bi
       let from' = there.from in
       let below' = there.below in
       let sum : before + moving ≡ (next - place) + behind = omega arith in
-      moved ∙ ap (λ (b : Bits). b ++ replicate moving brush.is_black) painted
-      ∙ append_assoc front (replicate before brush.is_black) (replicate moving brush.is_black)
-      ∙ ap (λ (b : Bits). front ++ b) (replicate-append-replicate before moving brush.is_black ∙ ap (λ (n : ℕ). replicate n brush.is_black) sum
-      ∙ sym (replicate-append-replicate (next - place) behind brush.is_black))
-      ∙ sym (append_assoc front (replicate (next - place) brush.is_black) (replicate behind brush.is_black))
+      moved ∙ ap (λ (b : Bits). b ++ replicate moving brush.is_black) painted ∙ append_assoc front (replicate before
+      brush.is_black) (replicate moving brush.is_black) ∙ ap (λ (b : Bits). front ++ b) (replicate-append-replicate before moving
+      brush.is_black ∙ ap (λ (n : ℕ). replicate n brush.is_black) sum ∙ sym (replicate-append-replicate (next - place) behind
+      brush.is_black)) ∙ sym (append_assoc front (replicate (next - place) brush.is_black) (replicate behind brush.is_black))
 
 -- the colour turns at the position
-pub turned_there : (row : List ℕ) (at new : Brush) (place : ℕ) (front : Bits) (color : Bool) → StandsAt at place → at.start ≤ length row → length front ≡ place → new.start ≡ at.start
-    → under at row ≡ front ++ replicate (8 * at.start + 64 - place) color
-    → ((f : Bits) → length f ≡ place - 8 * at.start → low_bits 64 at.word ≡ f ++ replicate (64 - length f) color → low_bits 64 new.word ≡ f ++ replicate (64 - length f) (not color))
+pub turned_there : (row : List ℕ) (at new : Brush) (place : ℕ) (front : Bits) (color : Bool)
+    → StandsAt at place → at.start ≤ length row → length front ≡ place → new.start ≡ at.start → under at row
+    ≡ front ++ replicate (8 * at.start + 64 - place) color → ((f : Bits) → length f ≡ place - 8 * at.start → low_bits 64 at.word
+    ≡ f ++ replicate (64 - length f) color → low_bits 64 new.word ≡ f ++ replicate (64 - length f) (not color))
     → under new row ≡ front ++ replicate (8 * new.start + 64 - place) (not color)
 turned_there row at new place front color stands within long same painted turn =
     let bytes : Bits = bits_of (take at.start row) in
@@ -120,8 +117,7 @@ turned_there row at new place front color stands within long same painted turn =
     let below = stands.below in
     let count : length bytes ≡ 8 * at.start = omega (arith, length-bits_of (take at.start row), length-take at.start row) in
     ap (λ (k : ℕ). bits_of (take k row) ++ low_bits 64 new.word) same
-    ∙ turned_under bytes (low_bits 64 at.word) (low_bits 64 new.word) front n color (not color) painted (omega arith)
-    (λ f len e.
+    ∙ turned_under bytes (low_bits 64 at.word) (low_bits 64 new.word) front n color (not color) painted (omega arith) (λ f len e.
     let left : 64 - length f ≡ n = omega arith in
     let turned = turn f (omega arith) (e ∙ ap (λ (k : ℕ). f ++ replicate k color) (sym left)) in
     turned ∙ ap (λ (k : ℕ). f ++ replicate k (not color)) left)
@@ -134,55 +130,63 @@ TurnsAt at new place =
     → low_bits 64 new.word ≡ f ++ replicate (64 - length f) (not at.is_black)
 
 -- one change more
-pub one_change : (columns : ℕ) (changes : List ℕ) (done : ℕ) (brush at new : Brush) (row row' : List ℕ) → done < length changes → columns ≤ 8 * length row'
-    → IsPainted columns changes done brush row → StandsAt at (get_or changes done 0) → brush.start ≤ at.start → at.is_black ≡ brush.is_black
-    → under at row' ≡ under brush row ++ replicate (8 * (at.start - brush.start)) brush.is_black → new.start ≡ at.start → new.is_black ≡ not at.is_black
-    → TurnsAt at new (get_or changes done 0) → IsPainted columns changes (done + 1) new row'
+pub one_change : (columns : ℕ) (changes : List ℕ) (done : ℕ) (brush at new : Brush) (row row' : List ℕ) → done < length changes
+    → columns ≤ 8 * length row' → IsPainted columns changes done brush row → StandsAt at (get_or changes done 0)
+    → brush.start ≤ at.start → at.is_black ≡ brush.is_black
+    → under at row' ≡ under brush row ++ replicate (8 * (at.start - brush.start)) brush.is_black → new.start ≡ at.start
+    → new.is_black ≡ not at.is_black → TurnsAt at new (get_or changes done 0) → IsPainted columns changes (done + 1) new row'
 one_change columns changes done brush at new row row' lt room is there forward color moved same turned turns =
     let c : ℕ = get_or changes done 0 in
     let black : Bool = brush.is_black in
     let right = next_right columns is.place done White changes lt is.ascend in
     let within = next_within columns is.place done White changes lt is.ascend in
     let front : Bits = front_to row row' brush at is.place c is.front right is.stands there forward is.long is.painted moved in
-    let long : length front ≡ c = long_to row row' brush at is.place c is.front right is.stands there forward is.long is.painted moved in
+    let long : length front ≡ c =
+    long_to row row' brush at is.place c is.front right is.stands there forward is.long is.painted moved in
     let n : ℕ = 8 * at.start + 64 - c in
-    let painted : under at row' ≡ front ++ replicate n at.is_black
-    = painted_to row row' brush at is.place c is.front right is.stands there forward is.long is.painted moved ∙ ap (λ (b : Bool). front ++ replicate n b) (sym color) in
+    let painted : under at row' ≡ front ++ replicate n at.is_black = painted_to row row' brush at is.place c is.front right
+    is.stands there forward is.long is.painted moved ∙ ap (λ (b : Bool). front ++ replicate n b) (sym color) in
     let left : Bits = pixels_from c (not black) columns (drop (done + 1) changes) in
     let inside : at.start ≤ length row' = let from = there.from in omega arith in
     record {
       place = c;
       front = front;
-      stands = record { begun = omega (arith, there.begun); from = omega (arith, there.from); below = omega (arith, there.below) };
+      stands =
+          record { begun = omega (arith, there.begun); from = omega (arith, there.from); below = omega (arith, there.below) };
       within = within;
       ascend = next_ascends columns is.place done White changes lt is.ascend;
       long = long;
       left = ap (λ (b : Bool). front ++ pixels_from c b columns (drop (done + 1) changes)) (turned ∙ ap not color)
-          ∙ one_part front is.front (pixels_from is.place black columns (drop done changes)) (replicate (c - is.place) black) left (pixels columns changes)
-          is.left (ap (pixels_from is.place black columns) (next_is columns is.place done White changes lt is.ascend)) refl;
+          ∙ one_part front is.front (pixels_from is.place black columns (drop done changes))
+          (replicate (c - is.place) black) left (pixels columns changes) is.left
+          (ap (pixels_from is.place black columns) (next_is columns is.place done White changes lt is.ascend)) refl;
       painted = turned_there row' at new c front at.is_black there inside long same painted turns
           ∙ ap (λ (b : Bool). front ++ replicate (8 * new.start + 64 - c) b) (sym turned);
     }
 
 -- one change more, in the word at hand
-pub change_at_hand : (columns : ℕ) (changes : List ℕ) (done : ℕ) (brush new : Brush) (row : List ℕ) → done < length changes → columns ≤ 8 * length row
-    → IsPainted columns changes done brush row → StandsAt brush (get_or changes done 0) → new.start ≡ brush.start → new.is_black ≡ not brush.is_black
-    → TurnsAt brush new (get_or changes done 0) → IsPainted columns changes (done + 1) new row
+pub change_at_hand : (columns : ℕ) (changes : List ℕ) (done : ℕ) (brush new : Brush) (row : List ℕ) → done < length changes
+    → columns ≤ 8 * length row → IsPainted columns changes done brush row → StandsAt brush (get_or changes done 0)
+    → new.start ≡ brush.start → new.is_black ≡ not brush.is_black → TurnsAt brush new (get_or changes done 0)
+    → IsPainted columns changes (done + 1) new row
 change_at_hand columns changes done brush new row lt room is there same turned turns =
-    one_change columns changes done brush brush new row row lt room is there (omega arith) refl (no_word (under brush row) brush.start brush.is_black) same turned turns
+    one_change columns changes done brush brush new row row lt room is there (omega arith) refl
+    (no_word (under brush row) brush.start brush.is_black) same turned turns
 
 -- a black run, or a white one, in the word at hand
-pub run_at_hand : (columns : ℕ) (changes : List ℕ) (done : ℕ) (brush one new : Brush) (row : List ℕ) → done + 1 < length changes → columns ≤ 8 * length row
-    → IsPainted columns changes done brush row → get_or changes (done + 1) 0 < 8 * brush.start + 64
+pub run_at_hand : (columns : ℕ) (changes : List ℕ) (done : ℕ) (brush one new : Brush) (row : List ℕ) → done + 1 < length changes
+    → columns ≤ 8 * length row → IsPainted columns changes done brush row → get_or changes (done + 1) 0 < 8 * brush.start + 64
     → one.start ≡ brush.start → one.is_black ≡ not brush.is_black → TurnsAt brush one (get_or changes done 0)
-    → new.start ≡ one.start → new.is_black ≡ not one.is_black → TurnsAt one new (get_or changes (done + 1) 0) → IsPainted columns changes (done + 2) new row
+    → new.start ≡ one.start → new.is_black ≡ not one.is_black → TurnsAt one new (get_or changes (done + 1) 0)
+    → IsPainted columns changes (done + 2) new row
 run_at_hand columns changes done brush one new row lt room is near same turned turns same' turned' turns' =
     let first : ℕ = get_or changes done 0 in
     let second : ℕ = get_or changes (done + 1) 0 in
     let lt' : done < length changes = omega arith in
     let stands = is.stands in
     let right : is.place ≤ first = next_right columns is.place done White changes lt' is.ascend in
-    let further : first ≤ second = next_right columns first (done + 1) White changes lt (next_ascends columns is.place done White changes lt' is.ascend) in
+    let further : first ≤ second =
+    next_right columns first (done + 1) White changes lt (next_ascends columns is.place done White changes lt' is.ascend) in
     let at_first : StandsAt brush first = record {
       begun = stands.begun;
       from = omega (arith, stands.from, right);
@@ -208,34 +212,37 @@ all_painted columns changes done brush at row row' all is there forward color mo
     let none : drop done changes ≡ [] = drop_all done changes all in
     let whole : is.front ++ replicate (columns - is.place) brush.is_black ≡ pixels columns changes
     = sym (ap (λ (l : List ℕ). is.front ++ pixels_from is.place brush.is_black columns l) none) ∙ is.left in
-    painted_to row row' brush at is.place columns is.front is.within is.stands there forward is.long is.painted moved
-    ∙ ap (λ (b : Bits). b ++ replicate n brush.is_black) whole ∙ ap (λ (b : Bool). pixels columns changes ++ replicate n b) (sym color)
+    painted_to row row' brush at is.place columns is.front is.within is.stands there forward is.long is.painted moved ∙ ap
+    (λ (b : Bits). b ++ replicate n brush.is_black) whole ∙ ap (λ (b : Bool). pixels columns changes ++ replicate n b) (sym color)
 
 -- a row that ends black turns white at its end
-pub ends_white : (columns : ℕ) (changes row : List ℕ) (at new : Brush) → AreChanges columns changes → columns ≤ 8 * length row → StandsAt at columns
-    → under at row ≡ pixels columns changes ++ replicate (8 * at.start + 64 - columns) at.is_black → at.is_black ≡ true → new.start ≡ at.start → TurnsAt at new columns
+pub ends_white : (columns : ℕ) (changes row : List ℕ) (at new : Brush) → AreChanges columns changes → columns ≤ 8 * length row
+    → StandsAt at columns → under at row ≡ pixels columns changes ++ replicate (8 * at.start + 64 - columns) at.is_black
+    → at.is_black ≡ true → new.start ≡ at.start → TurnsAt at new columns
     → under new row ≡ pixels columns changes ++ replicate (8 * at.start + 64 - columns) false
 ends_white columns changes row at new lawful room there painted black same turns =
     let inside : at.start ≤ length row = let from = there.from in omega arith in
-    turned_there row at new columns (pixels columns changes) at.is_black there inside (length-pixels columns changes lawful) same painted turns
-    ∙ ap (λ (k : ℕ). pixels columns changes ++ replicate (8 * k + 64 - columns) (not at.is_black)) same
+    turned_there row at new columns (pixels columns changes) at.is_black there inside (length-pixels columns changes lawful)
+    same painted turns ∙ ap (λ (k : ℕ). pixels columns changes ++ replicate (8 * k + 64 - columns) (not at.is_black)) same
     ∙ ap (λ (b : Bool). pixels columns changes ++ replicate (8 * at.start + 64 - columns) (not b)) black
 
 -- what is written of the last word fills the row up
-pub filled : (columns n : ℕ) (changes row row' : List ℕ) (b : Bits) → AreChanges columns changes → length row ≡ (columns + 7) / 8 → 8 * length row - columns ≤ n
-    → bits_of row' ≡ take (8 * length row) b → b ≡ pixels columns changes ++ replicate n false → bits_of row' ≡ filled_up (pixels columns changes)
+pub filled : (columns n : ℕ) (changes row row' : List ℕ) (b : Bits) → AreChanges columns changes → length row ≡ (columns + 7) / 8
+    → 8 * length row - columns ≤ n → bits_of row' ≡ take (8 * length row) b → b ≡ pixels columns changes ++ replicate n false
+    → bits_of row' ≡ filled_up (pixels columns changes)
 filled columns n changes row row' b lawful room enough cut is =
     let whole : Row = pixels columns changes in
     let long : length whole ≡ columns = length-pixels columns changes lawful in
     let more : ℕ = 8 * length row - columns in
     let split : 8 * length row ≡ length whole + more = omega arith in
     let missing : more ≡ (8 - length whole % 8) % 8 = omega arith in
-    cut ∙ ap (take (8 * length row)) is ∙ ap (λ (k : ℕ). take k (whole ++ replicate n false)) split ∙ take-append-add whole (replicate n false) more
+    cut ∙ ap (take (8 * length row)) is
+    ∙ ap (λ (k : ℕ). take k (whole ++ replicate n false)) split ∙ take-append-add whole (replicate n false) more
     ∙ ap (λ (b : Bits). whole ++ b) (take-replicate more n false enough ∙ ap (λ (k : ℕ). replicate k false) missing)
 
 -- the last word is written as far as the row has room
-pub finished : (start : ℕ) (row row' bytes : List ℕ) (word : ℕ) → start ≤ length row → length row ≤ start + 8 → length bytes ≡ 8 → bits_of bytes ≡ low_bits 64 word
-    → row' ≡ put_mid start (length row - start) row (take (length row - start) bytes)
+pub finished : (start : ℕ) (row row' bytes : List ℕ) (word : ℕ) → start ≤ length row → length row ≤ start + 8 → length bytes ≡ 8
+    → bits_of bytes ≡ low_bits 64 word → row' ≡ put_mid start (length row - start) row (take (length row - start) bytes)
     → bits_of row' ≡ take (8 * length row) (bits_of (take start row) ++ low_bits 64 word)
 finished start row row' bytes word within last eight spelled put =
     let count : ℕ = length row - start in
@@ -245,23 +252,24 @@ finished start row row' bytes word within last eight spelled put =
     let head : List ℕ = take start row in
     let bits : length (bits_of head) ≡ 8 * start = omega (arith, length-bits_of head, length-take start row) in
     let split : 8 * length row ≡ length (bits_of head) + 8 * count = omega arith in
-    let all : row' ≡ head ++ part
-    = sym (take_all (length row) row' (omega arith)) ∙ ap (take (length row)) put ∙ take-put_mid start count row part (length row) (omega arith) within in
+    let all : row' ≡ head ++ part = sym (take_all (length row) row' (omega arith)) ∙ ap (take (length row)) put
+    ∙ take-put_mid start count row part (length row) (omega arith) within in
     ap bits_of all ∙ flat_map-append (bits_of_byte HighestFirst) head part
-    ∙ ap (λ (b : Bits). bits_of head ++ b) (bits_of-take count bytes ∙ ap (take (8 * count)) spelled)
-    ∙ sym (take-append-add (bits_of head) (low_bits 64 word) (8 * count)) ∙ sym (ap (λ (n : ℕ). take n (bits_of head ++ low_bits 64 word)) split)
+    ∙ ap (λ (b : Bits). bits_of head ++ b) (bits_of-take count bytes ∙ ap (take (8 * count)) spelled) ∙ sym (take-append-add
+    (bits_of head) (low_bits 64 word) (8 * count)) ∙ sym (ap (λ (n : ℕ). take n (bits_of head ++ low_bits 64 word)) split)
 
 -- bytes of one colour
-bits_of_plain : (byte n : ℕ) (color : Bool) → bits_of_byte HighestFirst byte ≡ replicate 8 color → bits_of (replicate n byte) ≡ replicate (8 * n) color
+bits_of_plain : (byte n : ℕ) (color : Bool) → bits_of_byte HighestFirst byte ≡ replicate 8 color
+    → bits_of (replicate n byte) ≡ replicate (8 * n) color
 bits_of_plain byte zero color plain = refl
 bits_of_plain byte (suc n) color plain =
     let sum : 8 + 8 * n ≡ 8 * suc n = omega arith in
-    ap (λ (b : Bits). b ++ bits_of (replicate n byte)) plain ∙ ap (λ (b : Bits). replicate 8 color ++ b) (bits_of_plain byte n color plain)
-    ∙ replicate-append-replicate 8 (8 * n) color ∙ ap (λ (m : ℕ). replicate m color) sum
+    ap (λ (b : Bits). b ++ bits_of (replicate n byte)) plain ∙ ap (λ (b : Bits). replicate 8 color ++ b)
+    (bits_of_plain byte n color plain) ∙ replicate-append-replicate 8 (8 * n) color ∙ ap (λ (m : ℕ). replicate m color) sum
 
 -- a row without changes is white
-pub white : (columns : ℕ) (changes row row' : List ℕ) → length changes ≡ 0 → length row ≡ (columns + 7) / 8 → row' ≡ replicate (length row) 0
-    → bits_of row' ≡ filled_up (pixels columns changes)
+pub white : (columns : ℕ) (changes row row' : List ℕ) → length changes ≡ 0 → length row ≡ (columns + 7) / 8
+    → row' ≡ replicate (length row) 0 → bits_of row' ≡ filled_up (pixels columns changes)
 white columns [] row row' none room is =
     let whole : Row = pixels columns [] in
     let long : length whole ≡ columns - 0 = length-replicate (columns - 0) false in

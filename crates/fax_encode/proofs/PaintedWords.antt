@@ -1,18 +1,17 @@
 -- Words of pixels: their bits, their bytes, and turning the colour within one.
-use Rattle.std.proofs.Common.{◌≡◌, ℕ, zero, suc, ◌+◌, ◌-◌, ◌*◌, ◌/◌, ◌%◌, ◌^◌, ◌<◌, ◌≤◌, Bool, not, List, [], ◌∷◌, ◌++◌, length, take, replicate, eqb, refl, sym, ap, ◌∙◌, arith}
-use Rattle.std.specs.Int.{bit_at, to_be_bytes, w64}
-use Rattle.std.specs.Int.RustNames.{bit_xor}
-use Rattle.std.proofs.lemmas.Nat.Bits.{bit_at_xor, bit_at_ones, bit_at_ones_above, bit_at-lt}
-use Rattle.hayro_ccitt.specs.declared.bit_reader.BitOrder.TheVariants.{HighestFirst}
-use Rattle.hayro_ccitt.specs.Bits.{Bits, bit_of, bits_of, bits_of_byte, low_bits}
+use Rattle.fax_encode.proofs.Names.{◌≡◌, ℕ, zero, suc, ◌+◌, ◌-◌, ◌*◌, ◌/◌, ◌%◌, ◌^◌, ◌<◌, ◌≤◌, Bool, not, List, [], ◌∷◌, ◌++◌}
+use Rattle.fax_encode.proofs.Names.{length, take, replicate, eqb, refl, sym, ap, ◌∙◌, arith, bit_at, to_be_bytes, w64, bit_xor}
+use Rattle.fax_encode.proofs.Names.{bit_at_xor, bit_at_ones, bit_at_ones_above, bit_at-lt, HighestFirst, Bits, bit_of, bits_of}
+use Rattle.fax_encode.proofs.Names.{bits_of_byte, low_bits}
 use Rattle.fax_encode.proofs.WrittenBits.{low_bits_split, low_bits_mod}
 
 -- ---- the bytes of a word
 -- one byte of a number, before the bytes below it
-byte_before : (k n byte : ℕ) (bytes : List ℕ) → byte ≡ (n / 2 ^ k) % 256 → bits_of bytes ≡ low_bits k n → bits_of (byte ∷ bytes) ≡ low_bits (8 + k) n
+byte_before : (k n byte : ℕ) (bytes : List ℕ) → byte ≡ (n / 2 ^ k) % 256 → bits_of bytes ≡ low_bits k n
+    → bits_of (byte ∷ bytes) ≡ low_bits (8 + k) n
 byte_before k n byte bytes is e =
-    ap (λ (b : Bits). bits_of_byte HighestFirst byte ++ b) e
-    ∙ ap (λ (b : Bits). b ++ low_bits k n) (ap (low_bits 8) is ∙ low_bits_mod 8 8 (n / 2 ^ k) (omega arith)) ∙ sym (low_bits_split 8 k n)
+    ap (λ (b : Bits). bits_of_byte HighestFirst byte ++ b) e ∙ ap (λ (b : Bits). b ++ low_bits k n)
+    (ap (low_bits 8) is ∙ low_bits_mod 8 8 (n / 2 ^ k) (omega arith)) ∙ sym (low_bits_split 8 k n)
 
 pub bits_of_word : (n : ℕ) → bits_of (to_be_bytes w64 n) ≡ low_bits 64 n
 bits_of_word n =
@@ -21,10 +20,14 @@ bits_of_word n =
     let two = byte_before 8 n (n / 2 ^ 8 % 256) (n % 256 ∷ []) refl one in
     let three = byte_before 16 n (n / 2 ^ 16 % 256) (n / 2 ^ 8 % 256 ∷ n % 256 ∷ []) refl two in
     let four = byte_before 24 n (n / 2 ^ 24 % 256) (n / 2 ^ 16 % 256 ∷ n / 2 ^ 8 % 256 ∷ n % 256 ∷ []) refl three in
-    let five = byte_before 32 n (n / 2 ^ 32 % 256) (n / 2 ^ 24 % 256 ∷ n / 2 ^ 16 % 256 ∷ n / 2 ^ 8 % 256 ∷ n % 256 ∷ []) refl four in
-    let six = byte_before 40 n (n / 2 ^ 40 % 256) (n / 2 ^ 32 % 256 ∷ n / 2 ^ 24 % 256 ∷ n / 2 ^ 16 % 256 ∷ n / 2 ^ 8 % 256 ∷ n % 256 ∷ []) refl five in
-    let seven = byte_before 48 n (n / 2 ^ 48 % 256) (n / 2 ^ 40 % 256 ∷ n / 2 ^ 32 % 256 ∷ n / 2 ^ 24 % 256 ∷ n / 2 ^ 16 % 256 ∷ n / 2 ^ 8 % 256 ∷ n % 256 ∷ []) refl six in
-    byte_before 56 n (n / 2 ^ 56 % 256) (n / 2 ^ 48 % 256 ∷ n / 2 ^ 40 % 256 ∷ n / 2 ^ 32 % 256 ∷ n / 2 ^ 24 % 256 ∷ n / 2 ^ 16 % 256 ∷ n / 2 ^ 8 % 256 ∷ n % 256 ∷ []) refl seven
+    let five =
+    byte_before 32 n (n / 2 ^ 32 % 256) (n / 2 ^ 24 % 256 ∷ n / 2 ^ 16 % 256 ∷ n / 2 ^ 8 % 256 ∷ n % 256 ∷ []) refl four in
+    let six = byte_before 40 n (n / 2 ^ 40 % 256)
+    (n / 2 ^ 32 % 256 ∷ n / 2 ^ 24 % 256 ∷ n / 2 ^ 16 % 256 ∷ n / 2 ^ 8 % 256 ∷ n % 256 ∷ []) refl five in
+    let seven = byte_before 48 n (n / 2 ^ 48 % 256)
+    (n / 2 ^ 40 % 256 ∷ n / 2 ^ 32 % 256 ∷ n / 2 ^ 24 % 256 ∷ n / 2 ^ 16 % 256 ∷ n / 2 ^ 8 % 256 ∷ n % 256 ∷ []) refl six in
+    byte_before 56 n (n / 2 ^ 56 % 256) (n / 2 ^ 48 % 256 ∷ n / 2 ^ 40 % 256 ∷ n / 2 ^ 32 % 256 ∷ n / 2 ^ 24 % 256
+    ∷ n / 2 ^ 16 % 256 ∷ n / 2 ^ 8 % 256 ∷ n % 256 ∷ []) refl seven
 
 take_none : (n : ℕ) → take {A = Bool} n [] ≡ []
 take_none zero = refl
@@ -36,7 +39,8 @@ bits_of-take zero bytes = refl
 bits_of-take (suc k) [] = sym (take_none (8 * suc k))
 bits_of-take (suc k) (byte ∷ bytes) =
     let n : 8 * suc k ≡ suc (suc (suc (suc (suc (suc (suc (suc (8 * k)))))))) = omega arith in
-    ap (λ (b : Bits). bits_of_byte HighestFirst byte ++ b) (bits_of-take k bytes) ∙ sym (ap (λ (m : ℕ). take m (bits_of (byte ∷ bytes))) n)
+    ap (λ (b : Bits). bits_of_byte HighestFirst byte ++ b) (bits_of-take k bytes)
+    ∙ sym (ap (λ (m : ℕ). take m (bits_of (byte ∷ bytes))) n)
 
 -- ---- turning the colour
 -- a bit that is turned
@@ -51,13 +55,16 @@ kept_bit b lt = omega arith
 
 turned_at : (m n k : ℕ) → k < m → bit_of (bit_xor n (2 ^ m - 1)) k ≡ not (bit_of n k)
 turned_at m n k lt =
-    ap (λ (b : ℕ). eqb b 1) (bit_at_xor n (2 ^ m - 1) k ∙ ap (λ (b : ℕ). (bit_at n k + b) % 2) (bit_at_ones m k lt)) ∙ turned_bit (bit_at n k) (bit_at-lt n k)
+    ap (λ (b : ℕ). eqb b 1) (bit_at_xor n (2 ^ m - 1) k ∙ ap (λ (b : ℕ). (bit_at n k + b) % 2) (bit_at_ones m k lt))
+    ∙ turned_bit (bit_at n k) (bit_at-lt n k)
 
 kept_at : (m n k : ℕ) → m ≤ k → bit_of (bit_xor n (2 ^ m - 1)) k ≡ bit_of n k
 kept_at m n k le =
-    ap (λ (b : ℕ). eqb b 1) (bit_at_xor n (2 ^ m - 1) k ∙ ap (λ (b : ℕ). (bit_at n k + b) % 2) (bit_at_ones_above m k le) ∙ kept_bit (bit_at n k) (bit_at-lt n k))
+    ap (λ (b : ℕ). eqb b 1) (bit_at_xor n (2 ^ m - 1) k ∙ ap (λ (b : ℕ). (bit_at n k + b) % 2) (bit_at_ones_above m k le)
+    ∙ kept_bit (bit_at n k) (bit_at-lt n k))
 
-turned_low : (k m n : ℕ) (color : Bool) → k ≤ m → low_bits k n ≡ replicate k color → low_bits k (bit_xor n (2 ^ m - 1)) ≡ replicate k (not color)
+turned_low : (k m n : ℕ) (color : Bool) → k ≤ m → low_bits k n ≡ replicate k color
+    → low_bits k (bit_xor n (2 ^ m - 1)) ≡ replicate k (not color)
 turned_low zero m n color le e = refl
 turned_low (suc k) m n color le e =
     let first : bit_of n k ≡ color = cc in
@@ -67,11 +74,12 @@ turned_low (suc k) m n color le e =
     cc
 
 -- from a position on the colour turns
-pub turned_behind : (front : Bits) (m n total : ℕ) (color : Bool) → total ≡ length front + m → low_bits total n ≡ front ++ replicate m color
-    → low_bits total (bit_xor n (2 ^ m - 1)) ≡ front ++ replicate m (not color)
+pub turned_behind : (front : Bits) (m n total : ℕ) (color : Bool) → total ≡ length front + m
+    → low_bits total n ≡ front ++ replicate m color → low_bits total (bit_xor n (2 ^ m - 1)) ≡ front ++ replicate m (not color)
 turned_behind [] m n total color is e =
     let same : total ≡ m = omega arith in
-    ap (λ (k : ℕ). low_bits k (bit_xor n (2 ^ m - 1))) same ∙ turned_low m m n color (omega arith) (sym (ap (λ (k : ℕ). low_bits k n) same) ∙ e)
+    ap (λ (k : ℕ). low_bits k (bit_xor n (2 ^ m - 1))) same
+    ∙ turned_low m m n color (omega arith) (sym (ap (λ (k : ℕ). low_bits k n) same) ∙ e)
 turned_behind (b ∷ front) m n zero color is e = absurd (omega arith)
 turned_behind (b ∷ front) m n (suc total) color is e =
     let first : bit_of n total ≡ b = cc in
@@ -81,9 +89,9 @@ turned_behind (b ∷ front) m n (suc total) color is e =
     cc
 
 -- the same of bytes and the word after them
-pub turned_under : (bytes word word' front : Bits) (n : ℕ) (color color' : Bool) → bytes ++ word ≡ front ++ replicate n color → length bytes ≤ length front
-    → ((f : Bits) → length f ≡ length front - length bytes → word ≡ f ++ replicate n color → word' ≡ f ++ replicate n color')
-    → bytes ++ word' ≡ front ++ replicate n color'
+pub turned_under : (bytes word word' front : Bits) (n : ℕ) (color color' : Bool) → bytes ++ word ≡ front ++ replicate n color
+    → length bytes ≤ length front → ((f : Bits) → length f ≡ length front - length bytes → word ≡ f ++ replicate n color
+    → word' ≡ f ++ replicate n color') → bytes ++ word' ≡ front ++ replicate n color'
 turned_under [] word word' front n color color' e le turn = turn front (omega arith) e
 turned_under (b ∷ bytes) word word' [] n color color' e le turn = absurd (omega arith)
 turned_under (b ∷ bytes) word word' (f ∷ front) n color color' e le turn =

@@ -1,44 +1,38 @@
 -- The lists of a picture, one after another.
-use Rattle.std.proofs.Common.{◌≡◌, ℕ, ◌+◌, ◌<◌, List, [], ◌∷◌, ◌++◌, length, get_or, drop, map, Some, sym, ap, subst, ◌∙◌, arith}
-use Rattle.std.proofs.lemmas.List.{get_or-map, length-map}
-use Rattle.std.proofs.lemmas.Option.{slice_get-get_or}
-use Rattle.hayro_ccitt.specs.declared.codes.Color.TheVariants.{White}
-use Rattle.hayro_ccitt.specs.Bits.{Bits}
-use Rattle.hayro_ccitt.specs.Rows.{AreChanges, pixels, changes}
-use Rattle.hayro_ccitt.specs.Encodings.{eol}
-use Rattle.hayro_ccitt.proofs.BitReading.BitLists.{drop_some}
-use Rattle.hayro_ccitt.proofs.PixelRows.ChangesAndPixels.{length-pixels, changes-pixels}
-use Rattle.fax_encode.specs.Chosen.{chosen_runs, chosen_line_1d, chosen_lines_1d, rows_of}
-use Rattle.fax_encode.specs.Refusals.{AreRows}
+use Rattle.fax_encode.proofs.Names.{◌≡◌, ℕ, ◌+◌, ◌<◌, List, [], ◌∷◌, ◌++◌, length, get_or, drop, map, Some, sym, ap, subst, ◌∙◌}
+use Rattle.fax_encode.proofs.Names.{arith, get_or-map, length-map, slice_get-get_or, White, Bits, AreChanges, pixels, changes}
+use Rattle.fax_encode.proofs.Names.{eol, drop_some, length-pixels, changes-pixels, chosen_runs, chosen_line_1d, chosen_lines_1d}
+use Rattle.fax_encode.proofs.Names.{rows_of, AreRows}
 
 -- an item that a loop has at hand
-pub item_at : {X : Type 0} (list_of : X → List ℕ) (items : List X) (i : ℕ) (item : X) → i < length items → item ≡ get_or items i item
-    → get_or (map list_of items) i [] ≡ list_of item
+pub item_at : {X : Type 0} (list_of : X → List ℕ) (items : List X) (i : ℕ) (item : X) → i < length items
+    → item ≡ get_or items i item → get_or (map list_of items) i [] ≡ list_of item
 item_at list_of items i item lt is = get_or-map list_of items i item [] lt ∙ ap list_of (sym is)
 
 -- is the first of those that are left
-pub item_next : {X : Type 0} (list_of : X → List ℕ) (items : List X) (i : ℕ) (item : X) → i < length items → item ≡ get_or items i item
-    → drop i (map list_of items) ≡ list_of item ∷ drop (i + 1) (map list_of items)
-item_next list_of items i item lt is = drop_some (map list_of items) i (list_of item)
-    (slice_get-get_or (map list_of items) i [] (omega (arith, length-map items list_of)) ∙ ap Some (item_at list_of items i item lt is))
+pub item_next : {X : Type 0} (list_of : X → List ℕ) (items : List X) (i : ℕ) (item : X) → i < length items
+    → item ≡ get_or items i item → drop i (map list_of items) ≡ list_of item ∷ drop (i + 1) (map list_of items)
+item_next list_of items i item lt is = drop_some (map list_of items) i (list_of item) (slice_get-get_or (map list_of items) i []
+    (omega (arith, length-map items list_of)) ∙ ap Some (item_at list_of items i item lt is))
 
 -- and lawful where all are
-pub item_lawful : {X : Type 0} (columns : ℕ) (list_of : X → List ℕ) (items : List X) (i : ℕ) (item : X) → i < length items → item ≡ get_or items i item
-    → AreRows columns (map list_of items) → AreChanges columns (list_of item)
+pub item_lawful : {X : Type 0} (columns : ℕ) (list_of : X → List ℕ) (items : List X) (i : ℕ) (item : X) → i < length items
+    → item ≡ get_or items i item → AreRows columns (map list_of items) → AreChanges columns (list_of item)
 item_lawful columns list_of items i item lt is are =
     subst (AreChanges columns) (item_at list_of items i item lt is) (are i [] (omega (arith, length-map items list_of)))
 
 -- the runs of a lawful list are those of its row
-pub line_of_list : (columns : ℕ) (list : List ℕ) → AreChanges columns list → chosen_line_1d (pixels columns list) ≡ chosen_runs columns White 0 list
+pub line_of_list : (columns : ℕ) (list : List ℕ) → AreChanges columns list
+    → chosen_line_1d (pixels columns list) ≡ chosen_runs columns White 0 list
 line_of_list columns list lawful =
     ap (λ (n : ℕ). chosen_runs n White 0 (changes (pixels columns list))) (length-pixels columns list lawful)
     ∙ ap (chosen_runs columns White 0) (changes-pixels columns list lawful)
 
 -- a line with its EOL precedes those that are left
-pub line_next : {X : Type 0} (columns : ℕ) (list_of : X → List ℕ) (items : List X) (i : ℕ) (item : X) → i < length items → item ≡ get_or items i item
-    → AreChanges columns (list_of item)
-    → chosen_lines_1d (rows_of columns (drop i (map list_of items)))
-    ≡ (eol 0 ++ chosen_runs columns White 0 (list_of item)) ++ chosen_lines_1d (rows_of columns (drop (i + 1) (map list_of items)))
+pub line_next : {X : Type 0} (columns : ℕ) (list_of : X → List ℕ) (items : List X) (i : ℕ) (item : X) → i < length items → item
+    ≡ get_or items i item → AreChanges columns (list_of item) → chosen_lines_1d (rows_of columns (drop i (map list_of items))) ≡
+    (eol 0 ++ chosen_runs columns White 0 (list_of item)) ++ chosen_lines_1d (rows_of columns (drop (i + 1) (map list_of items)))
 line_next columns list_of items i item lt is lawful =
     ap (λ (lists : List (List ℕ)). chosen_lines_1d (rows_of columns lists)) (item_next list_of items i item lt is)
-    ∙ ap (λ (b : Bits). (eol 0 ++ b) ++ chosen_lines_1d (rows_of columns (drop (i + 1) (map list_of items)))) (line_of_list columns (list_of item) lawful)
+    ∙ ap (λ (b : Bits). (eol 0 ++ b) ++ chosen_lines_1d (rows_of columns (drop (i + 1) (map list_of items))))
+    (line_of_list columns (list_of item) lawful)

@@ -1,16 +1,8 @@
 -- Runs and one-dimensional lines, word by word.
-use Rattle.std.proofs.Common.{◌≡◌, ℕ, suc, ◌+◌, ◌-◌, ◌*◌, ◌/◌, ◌%◌, ◌<◌, ◌≤◌, true, false, ltb, List, ◌∷◌, ◌++◌, length, get_or, drop, replicate, refl, sym, ap, subst, ◌∙◌, arith, append_assoc}
-use Rattle.std.specs.Prelude.{flat_map}
-use Rattle.std.proofs.lemmas.Bool.{lt-ltb, le-ltb}
-use Rattle.std.proofs.lemmas.Option.{slice_get-get_or}
-use Rattle.hayro_ccitt.proofs.BitReading.BitLists.{drop_some}
-use Rattle.hayro_ccitt.proofs.PixelRows.ChangesAndPixels.{AscendFrom-wider}
-use Rattle.hayro_ccitt.specs.Rows.{opposite, AscendFrom}
-use Rattle.hayro_ccitt.specs.declared.codes.Color.{Color}
-use Rattle.hayro_ccitt.specs.Bits.{Bits, low_bits}
-use Rattle.fax_encode.specs.declared.words.Word.{Word}
-use Rattle.fax_encode.specs.Writing.{IsWord}
-use Rattle.fax_encode.specs.Chosen.{word_of_length, chosen_rest, chosen_run, chosen_runs}
+use Rattle.fax_encode.proofs.Names.{◌≡◌, ℕ, suc, ◌+◌, ◌-◌, ◌*◌, ◌/◌, ◌%◌, ◌<◌, ◌≤◌, true, false, ltb, List, ◌∷◌, ◌++◌, length}
+use Rattle.fax_encode.proofs.Names.{get_or, drop, replicate, refl, sym, ap, subst, ◌∙◌, arith, append_assoc, flat_map, lt-ltb}
+use Rattle.fax_encode.proofs.Names.{le-ltb, slice_get-get_or, drop_some, AscendFrom-wider, opposite, AscendFrom, Color, Bits}
+use Rattle.fax_encode.proofs.Names.{low_bits, Word, IsWord, word_of_length, chosen_rest, chosen_run, chosen_runs}
 
 -- a few pixels are a terminating word
 pub rest_few : (color : Color) (n : ℕ) → n < 64 → chosen_rest color n ≡ word_of_length color n
@@ -20,7 +12,8 @@ rest_few color n lt =
     rw (few, same) refl
 
 -- more are two words
-pub rest_more : (color : Color) (n : ℕ) → 64 ≤ n → chosen_rest color n ≡ word_of_length color (64 * (n / 64)) ++ word_of_length color (n % 64)
+pub rest_more : (color : Color) (n : ℕ) → 64 ≤ n
+    → chosen_rest color n ≡ word_of_length color (64 * (n / 64)) ++ word_of_length color (n % 64)
 rest_more color n ge =
     let more : ltb n 64 ≡ false = le-ltb n 64 ge in
     let same : n - n % 64 ≡ 64 * (n / 64) = omega arith in
@@ -31,28 +24,33 @@ pub run_more : (color : Color) (n : ℕ) → 2560 ≤ n → chosen_run color n �
 run_more color n ge =
     let times : n / 2560 ≡ suc ((n - 2560) / 2560) = omega arith in
     let rest : n % 2560 ≡ (n - 2560) % 2560 = omega arith in
-    ap (λ (k : ℕ). flat_map (λ word. word) (replicate k (word_of_length color 2560)) ++ chosen_rest color (n % 2560)) times
-    ∙ ap (λ (k : ℕ). flat_map (λ word. word) (replicate (suc ((n - 2560) / 2560)) (word_of_length color 2560)) ++ chosen_rest color k) rest
-    ∙ append_assoc (word_of_length color 2560) (flat_map (λ word. word) (replicate ((n - 2560) / 2560) (word_of_length color 2560))) (chosen_rest color ((n - 2560) % 2560))
+    ap (λ (k : ℕ). flat_map (λ word. word) (replicate k (word_of_length color 2560)) ++ chosen_rest color (n % 2560)) times ∙ ap
+    (λ (k : ℕ). flat_map (λ word. word) (replicate (suc ((n - 2560) / 2560)) (word_of_length color 2560)) ++ chosen_rest color k)
+    rest ∙ append_assoc (word_of_length color 2560)
+    (flat_map (λ word. word) (replicate ((n - 2560) / 2560) (word_of_length color 2560))) (chosen_rest color ((n - 2560) % 2560))
 
 -- a short one is its rest
 pub run_rest : (color : Color) (n : ℕ) → n < 2560 → chosen_run color n ≡ chosen_rest color n
 run_rest color n lt =
     let none : n / 2560 ≡ 0 = omega arith in
     let all : n % 2560 ≡ n = omega arith in
-    ap (λ (k : ℕ). flat_map (λ word. word) (replicate k (word_of_length color 2560)) ++ chosen_rest color (n % 2560)) none ∙ ap (chosen_rest color) all
+    ap (λ (k : ℕ). flat_map (λ word. word) (replicate k (word_of_length color 2560)) ++ chosen_rest color (n % 2560)) none
+    ∙ ap (chosen_rest color) all
 
 -- a short run is one word
-pub short_run : (color : Color) (n : ℕ) (word : Word) → n < 64 → IsWord (word_of_length color n) word → low_bits word.count word.bits ≡ chosen_run color n
+pub short_run : (color : Color) (n : ℕ) (word : Word) → n < 64 → IsWord (word_of_length color n) word
+    → low_bits word.count word.bits ≡ chosen_run color n
 short_run color n word lt is = is.spells ∙ sym (run_rest color n (omega arith) ∙ rest_few color n lt)
 
 -- what was written, and what is left to write, with one part more
-pub one_part : (old now rest part left whole : Bits) → now ++ rest ≡ whole → rest ≡ part ++ left → old ≡ now ++ part → old ++ left ≡ whole
+pub one_part : (old now rest part left whole : Bits) → now ++ rest ≡ whole → rest ≡ part ++ left → old ≡ now ++ part
+    → old ++ left ≡ whole
 one_part old now rest part left whole e split more =
     ap (λ (b : Bits). b ++ left) more ∙ append_assoc now part left ∙ ap (λ (b : Bits). now ++ b) (sym split) ∙ e
 
 -- ---- One-dimensional lines.
-module _ (columns place i : ℕ) (color : Color) (changes : List ℕ) (lt : i < length changes) (ascend : AscendFrom place columns (drop i changes)) where
+module _ (columns place i : ℕ) (color : Color) (changes : List ℕ) (lt : i < length changes)
+    (ascend : AscendFrom place columns (drop i changes)) where
   -- the next change
   pub next_is : drop i changes ≡ get_or changes i 0 ∷ drop (i + 1) changes
   next_is = drop_some changes i (get_or changes i 0) (slice_get-get_or changes i 0 lt)
@@ -67,22 +65,23 @@ module _ (columns place i : ℕ) (color : Color) (changes : List ℕ) (lt : i < 
   next_right = ascends.0
 
   pub next_ascends : AscendFrom (get_or changes i 0) columns (drop (i + 1) changes)
-  next_ascends = AscendFrom-wider (get_or changes i 0) (suc (get_or changes i 0)) columns columns (drop (i + 1) changes) (omega arith) (omega arith) ascends.2
+  next_ascends = AscendFrom-wider (get_or changes i 0) (suc (get_or changes i 0)) columns columns (drop (i + 1) changes)
+      (omega arith) (omega arith) ascends.2
 
   -- the run up to it
-  pub next_run : chosen_runs columns color place (drop i changes)
-      ≡ chosen_run color (get_or changes i 0 - place) ++ chosen_runs columns (opposite color) (get_or changes i 0) (drop (i + 1) changes)
+  pub next_run : chosen_runs columns color place (drop i changes) ≡ chosen_run color (get_or changes i 0 - place)
+      ++ chosen_runs columns (opposite color) (get_or changes i 0) (drop (i + 1) changes)
   next_run = ap (chosen_runs columns color place) next_is
 
 -- and the one after it
-pub two_runs : (columns place i : ℕ) (color : Color) (changes : List ℕ) → i < length changes → i + 1 < length changes → AscendFrom place columns (drop i changes)
-    → chosen_runs columns color place (drop i changes)
-    ≡ (chosen_run color (get_or changes i 0 - place) ++ chosen_run (opposite color) (get_or changes (i + 1) 0 - get_or changes i 0))
+pub two_runs : (columns place i : ℕ) (color : Color) (changes : List ℕ) → i < length changes
+    → i + 1 < length changes → AscendFrom place columns (drop i changes) → chosen_runs columns color place (drop i changes) ≡
+    (chosen_run color (get_or changes i 0 - place) ++ chosen_run (opposite color) (get_or changes (i + 1) 0 - get_or changes i 0))
     ++ chosen_runs columns (opposite (opposite color)) (get_or changes (i + 1) 0) (drop (i + 1 + 1) changes)
 two_runs columns place i color changes first second ascend =
     let one : Bits = chosen_run color (get_or changes i 0 - place) in
     let two : Bits = chosen_run (opposite color) (get_or changes (i + 1) 0 - get_or changes i 0) in
     let rest : Bits = chosen_runs columns (opposite (opposite color)) (get_or changes (i + 1) 0) (drop (i + 1 + 1) changes) in
-    next_run columns place i color changes first ascend
-    ∙ ap (λ (b : Bits). one ++ b) (next_run columns (get_or changes i 0) (i + 1) (opposite color) changes second (next_ascends columns place i color changes first ascend))
+    next_run columns place i color changes first ascend ∙ ap (λ (b : Bits). one ++ b) (next_run columns
+    (get_or changes i 0) (i + 1) (opposite color) changes second (next_ascends columns place i color changes first ascend))
     ∙ sym (append_assoc one two rest)

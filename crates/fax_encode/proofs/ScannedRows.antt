@@ -1,35 +1,29 @@
 -- Rows of packed pixels, scanned a word at a time.
-use Rattle.std.proofs.Common.{◌≡◌, ℕ, zero, suc, ◌+◌, ◌-◌, ◌*◌, ◌/◌, ◌%◌, ◌<◌, ◌≤◌, Bool, false, List, [], ◌∷◌, ◌++◌, length, take, drop, replicate, refl, sym, ap, subst, ◌∙◌, arith, append_assoc, take_all, map, add-one}
-use Rattle.std.proofs.lemmas.Grind.{flat_map-append}
-use Rattle.std.proofs.lemmas.List.{append-nil, length-append, length-take, length-drop, length-replicate, take-append-drop, take-append-le, take_rest, map-append, replicate-append-replicate}
-use Rattle.std.proofs.lemmas.List.Elements.{All-push, All-head, All-tail}
-use Rattle.std.proofs.Math.Nat.{div-eq-sub-div, div-eq_of_lt}
-use Rattle.std.proofs.Math.Seq.{take-add, take-append-add, take-append_seam}
-use Rattle.hayro_ccitt.specs.declared.bit_reader.BitOrder.TheVariants.{HighestFirst}
-use Rattle.hayro_ccitt.specs.Bits.{Bits, bit_of, bits_of, bits_of_byte, low_bits}
-use Rattle.hayro_ccitt.specs.Rows.{Row, AreChanges, last_pixel, changes, pixels}
-use Rattle.hayro_ccitt.proofs.BitReading.BitLists.{length-bits_of, length-low_bits}
-use Rattle.hayro_ccitt.proofs.PixelRows.ChangesAndPixels.{last_pixel-same, changes-recursive, pixels-changes, AreChanges-changes}
-use Rattle.hayro_ccitt.proofs.PixelRows.RowChanges.{changes_from, changes_from-append, changes_from-same}
-use Rattle.hayro_ccitt.specs.Encodings.{padding}
-use Rattle.fax_encode.specs.Chosen.{rows_of}
-use Rattle.fax_encode.specs.Laws.{PackedIsShown}
-use Rattle.fax_encode.specs.Packed.{bytes_of_row, packed, rows_shown, shown}
-use Rattle.fax_encode.specs.Refusals.{AreRows}
-use Rattle.fax_encode.specs.Scanning.{differences, ones_from}
+use Rattle.fax_encode.proofs.Names.{◌≡◌, ℕ, zero, suc, ◌+◌, ◌-◌, ◌*◌, ◌/◌, ◌%◌, ◌<◌, ◌≤◌, Bool, false, List, [], ◌∷◌, ◌++◌}
+use Rattle.fax_encode.proofs.Names.{length, take, drop, replicate, refl, sym, ap, subst, ◌∙◌, arith, append_assoc, take_all, map}
+use Rattle.fax_encode.proofs.Names.{add-one, flat_map-append, append-nil, length-append, length-take, length-drop}
+use Rattle.fax_encode.proofs.Names.{length-replicate, take-append-drop, take-append-le, take_rest, map-append}
+use Rattle.fax_encode.proofs.Names.{replicate-append-replicate, All-push, All-head, All-tail, div-eq-sub-div, div-eq_of_lt}
+use Rattle.fax_encode.proofs.Names.{take-add, take-append-add, take-append_seam, HighestFirst, Bits, bit_of, bits_of}
+use Rattle.fax_encode.proofs.Names.{bits_of_byte, low_bits, Row, AreChanges, last_pixel, changes, pixels, length-bits_of}
+use Rattle.fax_encode.proofs.Names.{length-low_bits, last_pixel-same, changes-recursive, pixels-changes, AreChanges-changes}
+use Rattle.fax_encode.proofs.Names.{changes_from, changes_from-append, changes_from-same, padding, rows_of, PackedIsShown}
+use Rattle.fax_encode.proofs.Names.{bytes_of_row, packed, rows_shown, shown, AreRows, differences, ones_from}
 use Rattle.fax_encode.proofs.ScannedWords.{changes-ones, differences-take, last_of_word}
 
 -- bytes in two parts
 pub bits_of-parts : (n : ℕ) (bytes : List ℕ) → bits_of bytes ≡ bits_of (take n bytes) ++ bits_of (drop n bytes)
-bits_of-parts n bytes = sym (ap bits_of (take-append-drop n bytes)) ∙ flat_map-append (bits_of_byte HighestFirst) (take n bytes) (drop n bytes)
+bits_of-parts n bytes =
+    sym (ap bits_of (take-append-drop n bytes)) ∙ flat_map-append (bits_of_byte HighestFirst) (take n bytes) (drop n bytes)
 
 -- the bits of the first bytes
 pub length-first : (n : ℕ) (bytes : List ℕ) → n ≤ length bytes → length (bits_of (take n bytes)) ≡ 8 * n
 length-first n bytes within = omega (arith, length-bits_of (take n bytes), length-take n bytes)
 
 -- a whole word of pixels is scanned, and more follow
-module _ (start n before word ones : ℕ) (rest : List ℕ) (some : 64 ≤ n) (room : bytes_of_row n ≤ length rest)
-    (word-is : low_bits 64 word ≡ take 64 (bits_of rest ++ replicate 64 false)) (ones-are : low_bits 64 ones ≡ differences (bit_of before 0) (low_bits 64 word)) where
+module _ (start n before word ones : ℕ) (rest : List ℕ) (some : 64 ≤ n)
+    (room : bytes_of_row n ≤ length rest) (word-is : low_bits 64 word ≡ take 64 (bits_of rest ++ replicate 64 false))
+    (ones-are : low_bits 64 ones ≡ differences (bit_of before 0) (low_bits 64 word)) where
   abbrev here : Bits
   here = bits_of (take 8 rest)
 
@@ -42,8 +36,8 @@ module _ (start n before word ones : ℕ) (rest : List ℕ) (some : 64 ≤ n) (r
   word_here : low_bits 64 word ≡ here
   word_here =
       let e : 64 ≡ length here + 0 = omega (arith, long) in
-      word-is ∙ ap (λ (b : Bits). take 64 (b ++ replicate 64 false)) (bits_of-parts 8 rest) ∙ ap (take 64) (append_assoc here behind (replicate 64 false))
-      ∙ ap (λ (m : ℕ). take m (here ++ (behind ++ replicate 64 false))) e
+      word-is ∙ ap (λ (b : Bits). take 64 (b ++ replicate 64 false)) (bits_of-parts 8 rest) ∙ ap (take 64)
+      (append_assoc here behind (replicate 64 false)) ∙ ap (λ (m : ℕ). take m (here ++ (behind ++ replicate 64 false))) e
       ∙ take-append-add here (behind ++ replicate 64 false) 0 ∙ append-nil here
 
   pub word_scanned : changes_from start (bit_of before 0) (take n (bits_of rest))
@@ -52,20 +46,24 @@ module _ (start n before word ones : ℕ) (rest : List ℕ) (some : 64 ≤ n) (r
       let e : n ≡ length here + (n - 64) = omega (arith, long) in
       let row : take n (bits_of rest) ≡ here ++ take (n - 64) behind
       = ap (take n) (bits_of-parts 8 rest) ∙ ap (λ (m : ℕ). take m (here ++ behind)) e ∙ take-append-add here behind (n - 64) in
-      let whole : take 64 (low_bits 64 ones) ≡ low_bits 64 ones = take_all 64 (low_bits 64 ones) (omega (arith, length-low_bits 64 ones)) in
-      let first : changes_from start (bit_of before 0) here ≡ ones_from start (take 64 (low_bits 64 ones))
-      = changes-ones start (bit_of before 0) here ∙ ap (λ (b : Bits). ones_from start (differences (bit_of before 0) b)) (sym word_here)
-      ∙ ap (ones_from start) (sym ones-are ∙ sym whole) in
-      let last : last_pixel (bit_of before 0) here ≡ bit_of word 0 = ap (last_pixel (bit_of before 0)) (sym word_here) ∙ last_of_word 63 word (bit_of before 0) in
-      ap (changes_from start (bit_of before 0)) row ∙ changes_from-append start (bit_of before 0) here (take (n - 64) behind)
-      ∙ ap (λ (l : List ℕ). l ++ changes_from (start + length here) (last_pixel (bit_of before 0) here) (take (n - 64) behind)) first
-      ∙ ap (λ (m : ℕ). ones_from start (take 64 (low_bits 64 ones)) ++ changes_from (start + m) (last_pixel (bit_of before 0) here) (take (n - 64) behind)) long
+      let whole : take 64 (low_bits 64 ones) ≡ low_bits 64 ones =
+      take_all 64 (low_bits 64 ones) (omega (arith, length-low_bits 64 ones)) in
+      let first : changes_from start (bit_of before 0) here ≡ ones_from start (take 64 (low_bits 64 ones)) =
+      changes-ones start (bit_of before 0) here ∙ ap (λ (b : Bits). ones_from start (differences (bit_of before 0) b))
+      (sym word_here) ∙ ap (ones_from start) (sym ones-are ∙ sym whole) in
+      let last : last_pixel (bit_of before 0) here ≡ bit_of word 0 =
+      ap (last_pixel (bit_of before 0)) (sym word_here) ∙ last_of_word 63 word (bit_of before 0) in
+      ap (changes_from start (bit_of before 0)) row ∙ changes_from-append start (bit_of before 0) here (take (n - 64) behind) ∙ ap
+      (λ (l : List ℕ). l ++ changes_from (start + length here) (last_pixel (bit_of before 0) here) (take (n - 64) behind)) first
+      ∙ ap (λ (m : ℕ). ones_from start (take 64 (low_bits 64 ones))
+      ++ changes_from (start + m) (last_pixel (bit_of before 0) here) (take (n - 64) behind)) long
       ∙ ap (λ (b : Bool). ones_from start (take 64 (low_bits 64 ones)) ++ changes_from (start + 64) b (take (n - 64) behind)) last
 
 -- words of one colour, and one more
-pub plain_more : (count word : ℕ) (color : Bool) (bytes behind : List ℕ) → 8 * count + 8 ≤ length bytes → behind ≡ drop (8 * count) bytes
-    → low_bits 64 word ≡ take 64 (bits_of behind ++ replicate 64 false) → low_bits 64 word ≡ replicate 64 color
-    → bits_of (take (8 * count) bytes) ≡ replicate (64 * count) color → bits_of (take (8 * (count + 1)) bytes) ≡ replicate (64 * (count + 1)) color
+pub plain_more : (count word : ℕ) (color : Bool) (bytes behind : List ℕ) → 8 * count + 8 ≤ length bytes
+    → behind ≡ drop (8 * count) bytes → low_bits 64 word ≡ take 64 (bits_of behind ++ replicate 64 false)
+    → low_bits 64 word ≡ replicate 64 color → bits_of (take (8 * count) bytes) ≡ replicate (64 * count) color
+    → bits_of (take (8 * (count + 1)) bytes) ≡ replicate (64 * (count + 1)) color
 plain_more count word color bytes behind room is word-is plain before =
     let n : ℕ = 8 * count in
     let first : List ℕ = take 8 (drop n bytes) in
@@ -75,32 +73,34 @@ plain_more count word color bytes behind room is word-is plain before =
     let long : length (bits_of first) ≡ 64 = length-first 8 (drop n bytes) (omega (arith, length-drop n bytes)) in
     let rest : Bits = bits_of (drop 8 (drop n bytes)) in
     let here : bits_of first ≡ low_bits 64 word =
-    sym (word-is ∙ ap (λ (l : List ℕ). take 64 (bits_of l ++ replicate 64 false)) is ∙ ap (λ (b : Bits). take 64 (b ++ replicate 64 false)) (bits_of-parts 8 (drop n bytes))
-    ∙ ap (take 64) (append_assoc (bits_of first) rest (replicate 64 false))
-    ∙ ap (λ (m : ℕ). take m (bits_of first ++ (rest ++ replicate 64 false))) (sym long) ∙ take-append_seam (bits_of first) (rest ++ replicate 64 false)) in
-    ap (λ (m : ℕ). bits_of (take m bytes)) sum ∙ ap bits_of parts ∙ flat_map-append (bits_of_byte HighestFirst) (take n bytes) first
-    ∙ ap (λ (b : Bits). b ++ bits_of first) before ∙ ap (λ (b : Bits). replicate (64 * count) color ++ b) (here ∙ plain)
+    sym (word-is ∙ ap (λ (l : List ℕ). take 64 (bits_of l ++ replicate 64 false)) is
+    ∙ ap (λ (b : Bits). take 64 (b ++ replicate 64 false)) (bits_of-parts 8 (drop n bytes)) ∙ ap (take 64) (append_assoc
+    (bits_of first) rest (replicate 64 false)) ∙ ap (λ (m : ℕ). take m (bits_of first ++ (rest ++ replicate 64 false))) (sym long)
+    ∙ take-append_seam (bits_of first) (rest ++ replicate 64 false)) in
+    ap (λ (m : ℕ). bits_of (take m bytes)) sum ∙ ap bits_of parts ∙ flat_map-append (bits_of_byte HighestFirst) (take n bytes)
+    first ∙ ap (λ (b : Bits). b ++ bits_of first) before ∙ ap (λ (b : Bits). replicate (64 * count) color ++ b) (here ∙ plain)
     ∙ replicate-append-replicate (64 * count) 64 color ∙ ap (λ (m : ℕ). replicate m color) more
 
 -- bytes of one colour after bytes of that colour
-pub plain_both : (m n k : ℕ) (color : Bool) (bytes behind : List ℕ) → k ≡ m + n → behind ≡ drop m bytes → bits_of (take m bytes) ≡ replicate (8 * m) color
-    → bits_of (take n behind) ≡ replicate (8 * n) color → bits_of (take k bytes) ≡ replicate (8 * k) color
+pub plain_both : (m n k : ℕ) (color : Bool) (bytes behind : List ℕ) → k ≡ m + n → behind ≡ drop m bytes → bits_of (take m bytes) ≡
+    replicate (8 * m) color → bits_of (take n behind) ≡ replicate (8 * n) color → bits_of (take k bytes) ≡ replicate (8 * k) color
 plain_both m n k color bytes behind sum is front back =
     let more : 8 * m + 8 * n ≡ 8 * k = omega arith in
-    ap (λ (j : ℕ). bits_of (take j bytes)) sum ∙ ap bits_of (take-add m n bytes) ∙ flat_map-append (bits_of_byte HighestFirst) (take m bytes) (take n (drop m bytes))
-    ∙ ap (λ (b : Bits). b ++ bits_of (take n (drop m bytes))) front
+    ap (λ (j : ℕ). bits_of (take j bytes)) sum ∙ ap bits_of (take-add m n bytes) ∙ flat_map-append (bits_of_byte HighestFirst)
+    (take m bytes) (take n (drop m bytes)) ∙ ap (λ (b : Bits). b ++ bits_of (take n (drop m bytes))) front
     ∙ ap (λ (b : Bits). replicate (8 * m) color ++ b) (ap (λ (l : List ℕ). bits_of (take n l)) (sym is) ∙ back)
     ∙ replicate-append-replicate (8 * m) (8 * n) color ∙ ap (λ (j : ℕ). replicate j color) more
 
 -- a word of one colour
-pub plain_word_there : (word : ℕ) (color : Bool) (bytes : List ℕ) → 8 ≤ length bytes → low_bits 64 word ≡ take 64 (bits_of bytes ++ replicate 64 false)
-    → low_bits 64 word ≡ replicate 64 color → bits_of (take 8 bytes) ≡ replicate 64 color
+pub plain_word_there : (word : ℕ) (color : Bool) (bytes : List ℕ) → 8 ≤ length bytes → low_bits 64 word ≡ take 64
+    (bits_of bytes ++ replicate 64 false) → low_bits 64 word ≡ replicate 64 color → bits_of (take 8 bytes) ≡ replicate 64 color
 plain_word_there word color bytes room is plain = plain_more 0 word color bytes bytes (omega arith) refl is plain refl
 
 -- words of the colour before them change nothing
-pub plain_scanned : (start n before words : ℕ) (color : Bool) (rest : List ℕ) → color ≡ bit_of before 0 → 64 * words ≤ n → 8 * words ≤ length rest
-    → bits_of (take (8 * words) rest) ≡ replicate (64 * words) color
-    → changes_from start (bit_of before 0) (take n (bits_of rest)) ≡ changes_from (start + 64 * words) (bit_of before 0) (take (n - 64 * words) (bits_of (drop (8 * words) rest)))
+pub plain_scanned : (start n before words : ℕ) (color : Bool) (rest : List ℕ) → color ≡ bit_of before 0
+    → 64 * words ≤ n → 8 * words ≤ length rest → bits_of (take (8 * words) rest) ≡ replicate (64 * words) color
+    → changes_from start (bit_of before 0) (take n (bits_of rest)) ≡ changes_from (start + 64 * words) (bit_of before 0)
+    (take (n - 64 * words) (bits_of (drop (8 * words) rest)))
 plain_scanned start n before words color rest is within room plain =
     let m : ℕ = 64 * words in
     let b : Bool = bit_of before 0 in
@@ -108,37 +108,41 @@ plain_scanned start n before words color rest is within room plain =
     let behind : Bits = bits_of (drop (8 * words) rest) in
     let long : length front ≡ m = length-replicate m b in
     let split : n ≡ length front + (n - m) = omega arith in
-    let row : take n (bits_of rest) ≡ front ++ take (n - m) behind
-    = ap (take n) (bits_of-parts (8 * words) rest ∙ ap (λ (x : Bits). x ++ behind) (plain ∙ ap (replicate m) is)) ∙ ap (λ (k : ℕ). take k (front ++ behind)) split
-    ∙ take-append-add front behind (n - m) in
+    let row : take n (bits_of rest) ≡ front ++ take (n - m) behind =
+    ap (take n) (bits_of-parts (8 * words) rest ∙ ap (λ (x : Bits). x ++ behind) (plain ∙ ap (replicate m) is))
+    ∙ ap (λ (k : ℕ). take k (front ++ behind)) split ∙ take-append-add front behind (n - m) in
     ap (changes_from start b) row ∙ changes_from-append start b front (take (n - m) behind)
-    ∙ ap (λ (l : List ℕ). l ++ changes_from (start + length front) (last_pixel b front) (take (n - m) behind)) (changes_from-same start m b)
-    ∙ ap (λ (k : ℕ). changes_from (start + k) (last_pixel b front) (take (n - m) behind)) long
+    ∙ ap (λ (l : List ℕ). l ++ changes_from (start + length front) (last_pixel b front) (take (n - m) behind))
+    (changes_from-same start m b) ∙ ap (λ (k : ℕ). changes_from (start + k) (last_pixel b front) (take (n - m) behind)) long
     ∙ ap (λ (c : Bool). changes_from (start + m) c (take (n - m) behind)) (last_pixel-same m b)
 
 -- fewer pixels than a word has are left
-pub last_scanned : (start n before word ones : ℕ) (rest : List ℕ) → n < 64 → bytes_of_row n ≤ length rest
-    → low_bits 64 word ≡ take 64 (bits_of rest ++ replicate 64 false) → low_bits 64 ones ≡ differences (bit_of before 0) (low_bits 64 word)
+pub last_scanned : (start n before word ones : ℕ) (rest : List ℕ) → n < 64 → bytes_of_row n ≤ length rest → low_bits 64 word
+    ≡ take 64 (bits_of rest ++ replicate 64 false) → low_bits 64 ones ≡ differences (bit_of before 0) (low_bits 64 word)
     → changes_from start (bit_of before 0) (take n (bits_of rest)) ≡ ones_from start (take n (low_bits 64 ones))
 last_scanned start n before word ones rest few room word-is ones-are =
     let whole : Bits = bits_of rest ++ replicate 64 false in
-    let enough : 64 ≤ length whole = omega (arith, length-append (bits_of rest) (replicate 64 false), length-replicate 64 false) in
+    let enough : 64 ≤ length whole =
+    omega (arith, length-append (bits_of rest) (replicate 64 false), length-replicate 64 false) in
     let inside : n ≤ length (bits_of rest) = omega (arith, length-bits_of rest) in
     let reached : n ≤ length (take 64 whole) = omega (arith, length-take 64 whole) in
-    let word_front : take n (low_bits 64 word) ≡ take n (bits_of rest)
-    = ap (take n) word-is ∙ sym (take-append-le n (take 64 whole) (drop 64 whole) reached) ∙ ap (take n) (take-append-drop 64 whole)
+    let word_front : take n (low_bits 64 word) ≡ take n (bits_of rest) =
+    ap (take n) word-is ∙ sym (take-append-le n (take 64 whole) (drop 64 whole) reached) ∙ ap (take n) (take-append-drop 64 whole)
     ∙ take-append-le n (bits_of rest) (replicate 64 false) inside in
-    changes-ones start (bit_of before 0) (take n (bits_of rest)) ∙ ap (λ (b : Row). ones_from start (differences (bit_of before 0) b)) (sym word_front)
+    changes-ones start (bit_of before 0) (take n (bits_of rest))
+    ∙ ap (λ (b : Row). ones_from start (differences (bit_of before 0) b)) (sym word_front)
     ∙ ap (ones_from start) (sym (differences-take n (bit_of before 0) (low_bits 64 word)) ∙ ap (take n) (sym ones-are))
 
 -- a row before it is scanned
-pub unscanned : (columns : ℕ) (row : List ℕ) → changes_from 0 false (take (columns - 0) (bits_of row)) ≡ changes (take columns (bits_of row))
+pub unscanned : (columns : ℕ) (row : List ℕ)
+    → changes_from 0 false (take (columns - 0) (bits_of row)) ≡ changes (take columns (bits_of row))
 unscanned columns row =
     let e : columns - 0 ≡ columns = omega arith in
     ap (λ (n : ℕ). changes_from 0 false (take n (bits_of row))) e ∙ sym (changes-recursive (take columns (bits_of row)))
 
 -- ---- the rows of a bitmap
-pub length-row : (columns : ℕ) (bytes : List ℕ) → bytes_of_row columns ≤ length bytes → length (take columns (bits_of bytes)) ≡ columns
+pub length-row : (columns : ℕ) (bytes : List ℕ) → bytes_of_row columns ≤ length bytes
+    → length (take columns (bits_of bytes)) ≡ columns
 length-row columns bytes within = omega (arith, length-take columns (bits_of bytes), length-bits_of bytes)
 
 -- a whole row stands before those below it
@@ -162,21 +166,23 @@ pub lawful_row : (columns : ℕ) (row : Row) → length row ≡ columns → AreC
 lawful_row columns row long = subst (λ (n : ℕ). AreChanges n (changes row)) long (AreChanges-changes row)
 
 -- the rows that were found, those below them, and one more
-pub one_more : {X : Type 0} (list_of : X → List ℕ) (columns : ℕ) (items items' : List X) (item : X) (row : Row) (below below' all : List Row)
-    → items' ≡ items ++ item ∷ [] → pixels columns (list_of item) ≡ row → below ≡ row ∷ below' → rows_of columns (map list_of items) ++ below ≡ all
-    → rows_of columns (map list_of items') ++ below' ≡ all
+pub one_more : {X : Type 0} (list_of : X → List ℕ) (columns : ℕ) (items items' : List X) (item : X) (row : Row)
+    (below below' all : List Row) → items' ≡ items ++ item ∷ [] → pixels columns (list_of item) ≡ row → below ≡ row ∷ below'
+    → rows_of columns (map list_of items) ++ below ≡ all → rows_of columns (map list_of items') ++ below' ≡ all
 one_more list_of columns items items' item row below below' all more is split found =
-    let lists : map list_of items' ≡ map list_of items ++ list_of item ∷ [] = ap (map list_of) more ∙ map-append list_of items (item ∷ []) in
+    let lists : map list_of items' ≡ map list_of items ++ list_of item ∷ [] =
+    ap (map list_of) more ∙ map-append list_of items (item ∷ []) in
     let rows : rows_of columns (map list_of items') ≡ rows_of columns (map list_of items) ++ row ∷ []
     = ap (rows_of columns) lists ∙ map-append (pixels columns) (map list_of items) (list_of item ∷ [])
     ∙ ap (λ (r : Row). rows_of columns (map list_of items) ++ r ∷ []) is in
     ap (λ (l : List Row). l ++ below') rows ∙ append_assoc (rows_of columns (map list_of items)) (row ∷ []) below'
     ∙ ap (λ (l : List Row). rows_of columns (map list_of items) ++ l) (sym split) ∙ found
 
-pub lawful_more : {X : Type 0} (list_of : X → List ℕ) (columns : ℕ) (items items' : List X) (item : X) → items' ≡ items ++ item ∷ []
-    → AreChanges columns (list_of item) → AreRows columns (map list_of items) → AreRows columns (map list_of items')
+pub lawful_more : {X : Type 0} (list_of : X → List ℕ) (columns : ℕ) (items items' : List X) (item : X) → items' ≡ items ++ item
+    ∷ [] → AreChanges columns (list_of item) → AreRows columns (map list_of items) → AreRows columns (map list_of items')
 lawful_more list_of columns items items' item more here before =
-    let lists : map list_of items' ≡ map list_of items ++ list_of item ∷ [] = ap (map list_of) more ∙ map-append list_of items (item ∷ []) in
+    let lists : map list_of items' ≡ map list_of items ++ list_of item ∷ [] =
+    ap (map list_of) more ∙ map-append list_of items (item ∷ []) in
     subst (AreRows columns) (sym lists) (All-push (AreChanges columns) (map list_of items) (list_of item) before here)
 
 -- as many rows as are whole
@@ -188,11 +194,12 @@ length-shown columns bytes = counted (length bytes / bytes_of_row columns) bytes
     counted (suc n) rest = ap suc (counted n (drop (bytes_of_row columns) rest))
 
 -- a row, and those below it
-pub rows_below : (columns width : ℕ) (rest below : List ℕ) → 0 < columns → width ≡ bytes_of_row columns → width ≤ length rest
-    → below ≡ take (length rest - width) (drop width rest) → shown columns rest ≡ take columns (bits_of rest) ∷ shown columns below
+pub rows_below : (columns width : ℕ) (rest below : List ℕ) → 0 < columns → width ≡ bytes_of_row columns → width ≤ length rest →
+    below ≡ take (length rest - width) (drop width rest) → shown columns rest ≡ take columns (bits_of rest) ∷ shown columns below
 rows_below columns width rest below some w le is =
     let same : below ≡ drop (bytes_of_row columns) rest = is ∙ take_rest rest width ∙ ap (λ (n : ℕ). drop n rest) w in
-    shown-row columns rest (omega arith) (omega arith) ∙ ap (λ (l : List ℕ). take columns (bits_of rest) ∷ shown columns l) (sym same)
+    shown-row columns rest (omega arith) (omega arith)
+    ∙ ap (λ (l : List ℕ). take columns (bits_of rest) ∷ shown columns l) (sym same)
 
 -- ---- packed rows
 -- two lists whose prefixes have the same length
@@ -213,11 +220,14 @@ packed_is_shown columns (row ∷ rows) bitmap are e =
     let some : 0 < columns = are.0 in
     let wide : length row ≡ columns = All-head (λ row. length row ≡ columns) row rows are.1 in
     let more : Bits = padding (length row) in
-    let filled : length (row ++ more) ≡ 8 * w = omega (arith, length-append row more, length-replicate ((8 - length row % 8) % 8) false) in
-    let within : w ≤ length bitmap = omega (arith, ap length e, length-bits_of bitmap, length-append (row ++ more) (packed rows)) in
-    let below : bits_of (drop w bitmap) ≡ packed rows
-    = front_same (bits_of (take w bitmap)) (bits_of (drop w bitmap)) (row ++ more) (packed rows) (sym (bits_of-parts w bitmap) ∙ e) (length-first w bitmap within ∙ sym filled) in
-    let first : take columns (bits_of bitmap) ≡ row
-    = ap (take columns) (e ∙ append_assoc row more (packed rows)) ∙ ap (λ (n : ℕ). take n (row ++ (more ++ packed rows))) (sym wide) ∙ take-append_seam row (more ++ packed rows) in
-    shown-row columns bitmap (omega arith) within ∙ ap (λ (r : Row). r ∷ shown columns (drop w bitmap)) first
-    ∙ ap (λ (l : List Row). row ∷ l) (packed_is_shown columns rows (drop w bitmap) (some, All-tail (λ row. length row ≡ columns) row rows are.1) below)
+    let filled : length (row ++ more) ≡ 8 * w =
+    omega (arith, length-append row more, length-replicate ((8 - length row % 8) % 8) false) in
+    let within : w ≤ length bitmap =
+    omega (arith, ap length e, length-bits_of bitmap, length-append (row ++ more) (packed rows)) in
+    let below : bits_of (drop w bitmap) ≡ packed rows = front_same (bits_of (take w bitmap)) (bits_of (drop w bitmap))
+    (row ++ more) (packed rows) (sym (bits_of-parts w bitmap) ∙ e) (length-first w bitmap within ∙ sym filled) in
+    let first : take columns (bits_of bitmap) ≡ row = ap (take columns) (e ∙ append_assoc row more (packed rows))
+    ∙ ap (λ (n : ℕ). take n (row ++ (more ++ packed rows))) (sym wide) ∙ take-append_seam row (more ++ packed rows) in
+    shown-row columns bitmap (omega arith) within
+    ∙ ap (λ (r : Row). r ∷ shown columns (drop w bitmap)) first ∙ ap (λ (l : List Row). row ∷ l)
+    (packed_is_shown columns rows (drop w bitmap) (some, All-tail (λ row. length row ≡ columns) row rows are.1) below)

@@ -1,24 +1,12 @@
 -- Words of pixels, and where their colour turns.
-use Rattle.std.proofs.Common.{◌≡◌, ℕ, zero, suc, ◌+◌, ◌-◌, ◌*◌, ◌/◌, ◌%◌, ◌^◌, ◌<◌, ◌≤◌, Bool, true, false, not, eqb, List, [], ◌∷◌, ◌++◌, get_or, map, take, replicate, refl, sym, ap, ◌∙◌, arith, inl, inr}
-use mathlib.Core.Bool.{beq}
-use lib.Count.{count_leading_zeros}
-use Rattle.std.specs.List.{range_with_len}
-use Rattle.std.specs.Int.{bit_at, from_be_bytes, w64}
-use Rattle.std.specs.Int.Bits.{xor_zero_r}
-use Rattle.std.specs.Int.RustNames.{bit_or, bit_xor}
-use Rattle.std.proofs.lemmas.Bool.{cases_lt}
-use Rattle.std.proofs.lemmas.List.{get_or_past}
-use Rattle.std.proofs.lemmas.List.FromFn.{get_or-map-range_with_len}
-use Rattle.std.proofs.lemmas.Nat.{be_bytes_8, or_shifted, xor_block, leading_top, leading_length, one_shl}
-use Rattle.std.proofs.lemmas.Nat.Bits.{bit_at_xor, bit_at-lt, bit_at-suc, bit_at_above, bit_at_cat_low, bit_at_cat_high}
-use Rattle.std.proofs.Math.Nat.{pow-suc}
-use Rattle.hayro_ccitt.specs.Bits.{Bits, bit_of, bits_of, low_bits}
-use Rattle.hayro_ccitt.specs.Rows.{Row, last_pixel}
-use Rattle.hayro_ccitt.proofs.BitReading.ZerosPassed.{one_times, some_number}
-use Rattle.hayro_ccitt.proofs.PixelRows.RowChanges.{changes_from}
-use Rattle.fax_encode.specs.Scanning.{differences, ones_from}
-use Rattle.fax_encode.proofs.PaintedWords.{bits_of_word}
-use Rattle.fax_encode.proofs.WrittenBits.{low_bits_below, power_positive}
+use Rattle.fax_encode.proofs.Names.{◌≡◌, ℕ, zero, suc, ◌+◌, ◌-◌, ◌*◌, ◌/◌, ◌%◌, ◌^◌, ◌<◌, ◌≤◌, Bool, true, false, not, eqb, List}
+use Rattle.fax_encode.proofs.Names.{[], ◌∷◌, ◌++◌, get_or, map, take, replicate, refl, sym, ap, ◌∙◌, arith, inl, inr, beq}
+use Rattle.fax_encode.proofs.Names.{count_leading_zeros, range_with_len, bit_at, from_be_bytes, w64, xor_zero_r, bit_or, bit_xor}
+use Rattle.fax_encode.proofs.Names.{cases_lt, get_or_past, get_or-map-range_with_len, be_bytes_8, or_shifted, xor_block}
+use Rattle.fax_encode.proofs.Names.{leading_top, leading_length, one_shl, bit_at_xor, bit_at-lt, bit_at-suc, bit_at_above}
+use Rattle.fax_encode.proofs.Names.{bit_at_cat_low, bit_at_cat_high, pow-suc, Bits, bit_of, bits_of, low_bits, Row, last_pixel}
+use Rattle.fax_encode.proofs.Names.{one_times, some_number, changes_from, differences, ones_from}
+use Rattle.fax_encode.proofs.{PaintedWords.bits_of_word, WrittenBits.low_bits_below, WrittenBits.power_positive}
 
 -- ---- the word of eight bytes
 -- the first eight bytes, and zeros past the end
@@ -60,17 +48,19 @@ differ (suc zero) (suc (suc b)) m n = absurd (omega arith)
 differ (suc (suc a)) b m n = absurd (omega arith)
 
 differs_at : (word left k : ℕ) → bit_of (bit_xor word left) k ≡ not (beq (bit_of left k) (bit_of word k))
-differs_at word left k = ap (λ (b : ℕ). eqb b 1) (bit_at_xor word left k) ∙ differ (bit_at word k) (bit_at left k) (bit_at-lt word k) (bit_at-lt left k)
+differs_at word left k = ap (λ (b : ℕ). eqb b 1) (bit_at_xor word left k)
+    ∙ differ (bit_at word k) (bit_at left k) (bit_at-lt word k) (bit_at-lt left k)
 
 -- a word beside the same pixels one position to the right
 differences_of : (n word left : ℕ) → ((k : ℕ) → k < n → bit_of left k ≡ bit_of word (suc k))
     → low_bits (suc n) (bit_xor word left) ≡ differences (bit_of left n) (low_bits (suc n) word)
 differences_of zero word left shifted = ap (λ (b : Bool). b ∷ []) (differs_at word left 0)
 differences_of (suc n) word left shifted =
-    let one : bit_of (bit_xor word left) (suc n) ≡ not (beq (bit_of left (suc n)) (bit_of word (suc n))) = differs_at word left (suc n) in
+    let one : bit_of (bit_xor word left) (suc n) ≡ not (beq (bit_of left (suc n)) (bit_of word (suc n))) =
+    differs_at word left (suc n) in
     let before : bit_of left n ≡ bit_of word (suc n) = shifted n (omega arith) in
-    let rest : low_bits (suc n) (bit_xor word left) ≡ differences (bit_of word (suc n)) (low_bits (suc n) word)
-    = differences_of n word left (λ k lt. shifted k (omega arith)) ∙ ap (λ (b : Bool). differences b (low_bits (suc n) word)) before in
+    let rest : low_bits (suc n) (bit_xor word left) ≡ differences (bit_of word (suc n)) (low_bits (suc n) word) = differences_of n
+    word left (λ k lt. shifted k (omega arith)) ∙ ap (λ (b : Bool). differences b (low_bits (suc n) word)) before in
     cc
 
 -- the last pixel of the word before is the highest bit
@@ -91,9 +81,11 @@ module _ (before word : ℕ) (small : word < 2 ^ 64) where
   below : (k : ℕ) → k < 63 → bit_of left k ≡ bit_of word (suc k)
   below k lt = ap (λ (b : ℕ). eqb b 1) (bit_at_cat_low (before % 2) 63 (word / 2) k lt ∙ sym (bit_at-suc word k))
 
-  pub turns_of : low_bits 64 (bit_xor word (bit_or (before * 2 ^ 63 % 2 ^ 64) (word / 2))) ≡ differences (bit_of before 0) (low_bits 64 word)
+  pub turns_of : low_bits 64 (bit_xor word (bit_or (before * 2 ^ 63 % 2 ^ 64) (word / 2))) ≡ differences (bit_of before 0)
+      (low_bits 64 word)
   turns_of =
-      ap (λ (n : ℕ). low_bits 64 (bit_xor word n)) shifted ∙ differences_of 63 word left below ∙ ap (λ (b : Bool). differences b (low_bits 64 word)) at_top
+      ap (λ (n : ℕ). low_bits 64 (bit_xor word n)) shifted ∙ differences_of 63 word left below
+      ∙ ap (λ (b : Bool). differences b (low_bits 64 word)) at_top
 
 -- ---- the ones of a word
 -- zeros are above a number
@@ -103,7 +95,8 @@ zeros_above (suc z) j n lt =
     let e : suc z + j ≡ suc (z + j) = omega arith in
     let none : bit_of n (z + j) ≡ false = ap (λ (b : ℕ). eqb b 1) (bit_at_above n j (z + j) lt (omega arith)) in
     let rest = zeros_above z j n lt in
-    ap (λ (m : ℕ). low_bits m n) e ∙ (let both : bit_of n (z + j) ∷ low_bits (z + j) n ≡ false ∷ (replicate z false ++ low_bits j n) = cc in both)
+    ap (λ (m : ℕ). low_bits m n) e
+    ∙ (let both : bit_of n (z + j) ∷ low_bits (z + j) n ≡ false ∷ (replicate z false ++ low_bits j n) = cc in both)
 
 -- no ones among zeros
 pub ones-zeros : (first n : ℕ) → ones_from first (replicate n false) ≡ []
@@ -125,13 +118,15 @@ take_zeros (suc count) zero rest le = absurd (omega arith)
 take_zeros (suc count) (suc z) rest le = ap (λ (b : Bits). false ∷ b) (take_zeros count z rest (omega arith))
 
 -- the first one is found after zeros
-first_one : (first count z : ℕ) (rest : Bits) → z < count
-    → ones_from first (take count (replicate z false ++ true ∷ rest)) ≡ (first + z) ∷ ones_from first (take count (replicate (suc z) false ++ rest))
+first_one : (first count z : ℕ) (rest : Bits) → z < count → ones_from first (take count (replicate z false ++ true ∷ rest))
+    ≡ (first + z) ∷ ones_from first (take count (replicate (suc z) false ++ rest))
 first_one first zero z rest lt = absurd (omega arith)
-first_one first (suc count) zero rest lt = let e : first + zero ≡ first = omega arith in ap (λ (n : ℕ). n ∷ ones_from (suc first) (take count rest)) (sym e)
+first_one first (suc count) zero rest lt = let e : first + zero ≡ first = omega arith in
+    ap (λ (n : ℕ). n ∷ ones_from (suc first) (take count rest)) (sym e)
 first_one first (suc count) (suc z) rest lt =
     let e : suc first + z ≡ first + suc z = omega arith in
-    first_one (suc first) count z rest (omega arith) ∙ ap (λ (n : ℕ). n ∷ ones_from (suc first) (take count (replicate (suc z) false ++ rest))) e
+    first_one (suc first) count z rest (omega arith)
+    ∙ ap (λ (n : ℕ). n ∷ ones_from (suc first) (take count (replicate (suc z) false ++ rest))) e
 
 -- the highest one of a word, at a distance from its top, is removed
 module _ (word ahead count : ℕ) (small : word < 2 ^ 64) (is : ahead ≡ count_leading_zeros 64 word) where
@@ -151,7 +146,8 @@ module _ (word ahead count : ℕ) (small : word < 2 ^ 64) (is : ahead ≡ count_
       let top = leading_top 64 word (some_number 64 word small (omega (arith, is))) small in
       let j : ℕ = top.0 in
       let at : 63 - ahead ≡ j = omega (arith, top.1) in
-      let one : 1 * 2 ^ (63 - ahead) % 2 ^ 64 ≡ 2 ^ j = ap (λ (n : ℕ). 1 * 2 ^ n % 2 ^ 64) at ∙ one_shl j 64 (omega (arith, top.1)) in
+      let one : 1 * 2 ^ (63 - ahead) % 2 ^ 64 ≡ 2 ^ j =
+      ap (λ (n : ℕ). 1 * 2 ^ n % 2 ^ 64) at ∙ one_shl j 64 (omega (arith, top.1)) in
       let twice : 2 ^ suc j ≡ 2 ^ j * 2 = pow-suc 2 j in
       let small' : rest < 2 ^ j = omega (arith, top.2, top.3) in
       let whole : word ≡ 1 * 2 ^ j + rest = omega (arith, top.2) in
@@ -160,8 +156,8 @@ module _ (word ahead count : ℕ) (small : word < 2 ^ 64) (is : ahead ≡ count_
       let bit : bit_of word j ≡ true = ap (λ (b : ℕ). eqb (b % 2) 1) (one_times word j top.2 top.3) in
       let low : low_bits j word ≡ low_bits j rest = ap (low_bits j) whole ∙ low_bits_below j 1 j rest (omega arith) in
       let here : low_bits (suc j) word ≡ true ∷ low_bits j rest = cc in
-      let before : low_bits 64 word ≡ replicate ahead false ++ true ∷ low_bits j rest
-      = ap (λ (m : ℕ). low_bits m word) long ∙ zeros_above ahead (suc j) word top.3 ∙ ap (λ (b : Bits). replicate ahead false ++ b) here in
+      let before : low_bits 64 word ≡ replicate ahead false ++ true ∷ low_bits j rest = ap (λ (m : ℕ). low_bits m word) long
+      ∙ zeros_above ahead (suc j) word top.3 ∙ ap (λ (b : Bits). replicate ahead false ++ b) here in
       let after : low_bits 64 rest ≡ replicate (suc ahead) false ++ low_bits j rest
       = ap (λ (m : ℕ). low_bits m rest) long' ∙ zeros_above (suc ahead) j rest small' in
       ap (λ (b : Bits). ones_from first (take count b)) before ∙ first_one first count ahead (low_bits j rest) lt
@@ -172,7 +168,8 @@ module _ (word ahead count : ℕ) (small : word < 2 ^ 64) (is : ahead ≡ count_
   one_there lt =
       let top = leading_top 64 word (some_number 64 word small (omega (arith, is))) small in
       let at : 63 - ahead ≡ top.0 = omega (arith, top.1) in
-      let one : 1 * 2 ^ (63 - ahead) % 2 ^ 64 ≡ 2 ^ top.0 = ap (λ (n : ℕ). 1 * 2 ^ n % 2 ^ 64) at ∙ one_shl top.0 64 (omega (arith, top.1)) in
+      let one : 1 * 2 ^ (63 - ahead) % 2 ^ 64 ≡ 2 ^ top.0 =
+      ap (λ (n : ℕ). 1 * 2 ^ n % 2 ^ 64) at ∙ one_shl top.0 64 (omega (arith, top.1)) in
       omega (arith, one, top.2)
 
   -- and which is turned
@@ -181,7 +178,8 @@ module _ (word ahead count : ℕ) (small : word < 2 ^ 64) (is : ahead ≡ count_
       let top = leading_top 64 word (some_number 64 word small (omega (arith, is))) small in
       let j : ℕ = top.0 in
       let at : 63 - ahead ≡ j = omega (arith, top.1) in
-      let one : 1 * 2 ^ (63 - ahead) % 2 ^ 64 ≡ 2 ^ j = ap (λ (n : ℕ). 1 * 2 ^ n % 2 ^ 64) at ∙ one_shl j 64 (omega (arith, top.1)) in
+      let one : 1 * 2 ^ (63 - ahead) % 2 ^ 64 ≡ 2 ^ j =
+      ap (λ (n : ℕ). 1 * 2 ^ n % 2 ^ 64) at ∙ one_shl j 64 (omega (arith, top.1)) in
       let twice : 2 ^ suc j ≡ 2 ^ j * 2 = pow-suc 2 j in
       let rest : ℕ = word - 2 ^ j in
       let low : rest < 2 ^ j = omega (arith, top.2, top.3, twice) in
@@ -198,12 +196,14 @@ module _ (word ahead count : ℕ) (small : word < 2 ^ 64) (is : ahead ≡ count_
       let top = leading_top 64 word (some_number 64 word small (omega (arith, is))) small in
       let j : ℕ = top.0 in
       let at : 63 - ahead ≡ j = omega (arith, top.1) in
-      let one : 1 * 2 ^ (63 - ahead) % 2 ^ 64 ≡ 2 ^ j = ap (λ (n : ℕ). 1 * 2 ^ n % 2 ^ 64) at ∙ one_shl j 64 (omega (arith, top.1)) in
+      let one : 1 * 2 ^ (63 - ahead) % 2 ^ 64 ≡ 2 ^ j =
+      ap (λ (n : ℕ). 1 * 2 ^ n % 2 ^ 64) at ∙ one_shl j 64 (omega (arith, top.1)) in
       omega (arith, one_turned lt, one, power_positive j, top.2)
 
 -- ---- changes
 -- the changes of a row are the ones among its differences
-pub changes-ones : (place : ℕ) (before : Bool) (row : Row) → changes_from place before row ≡ ones_from place (differences before row)
+pub changes-ones : (place : ℕ) (before : Bool) (row : Row)
+    → changes_from place before row ≡ ones_from place (differences before row)
 changes-ones place before [] = refl
 changes-ones place true (true ∷ row) = changes-ones (suc place) true row
 changes-ones place true (false ∷ row) = ap (λ (l : List ℕ). place ∷ l) (changes-ones (suc place) false row)

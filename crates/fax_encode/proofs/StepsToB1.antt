@@ -1,15 +1,9 @@
 -- b1 is found in steps of two changes, and from near where it was.
-use Rattle.std.proofs.Common.{◌≡◌, ℕ, zero, suc, ◌+◌, ◌-◌, ◌<◌, ◌≤◌, ◌%◌, ◌⊎◌, false, not, List, length, get_or, refl, sym, ap, ◌∙◌, arith, inl, inr}
-use Rattle.std.proofs.lemmas.Bool.{cases_lt}
-use Rattle.std.proofs.lemmas.Grind.{get_or_default_zero}
-use Rattle.hayro_ccitt.specs.declared.codes.Color.{Color}
-use Rattle.hayro_ccitt.specs.declared.codes.Color.TheVariants.{White, Black}
-use Rattle.hayro_ccitt.specs.Rows.{AreChanges, pixels, is_black, opposite, b1}
-use Rattle.hayro_ccitt.specs.UsualModes.{TurnsFrom}
-use Rattle.hayro_ccitt.proofs.PixelRows.ReferencePlaces.{IsSplit, turned, turned-not, turned_by_parity, not_not, in_list_if_below, b1_is}
-use Rattle.hayro_ccitt.proofs.PixelRows.B1ByParity.{rising, turns_next, turns_second, turns_before}
-use Rattle.fax_encode.specs.Chosen.{Place}
-use Rattle.fax_encode.specs.Coding.{IsNear, color_after}
+use Rattle.fax_encode.proofs.Names.{◌≡◌, ℕ, zero, suc, ◌+◌, ◌-◌, ◌<◌, ◌≤◌, ◌%◌, ◌⊎◌, false, not, List, length, get_or, refl, sym}
+use Rattle.fax_encode.proofs.Names.{ap, ◌∙◌, arith, inl, inr, cases_lt, get_or_default_zero, Color, White, Black, AreChanges}
+use Rattle.fax_encode.proofs.Names.{pixels, is_black, opposite, b1, TurnsFrom, IsSplit, turned, turned-not, turned_by_parity}
+use Rattle.fax_encode.proofs.Names.{not_not, in_list_if_below, b1_is, rising, turns_next, turns_second, turns_before, Place}
+use Rattle.fax_encode.proofs.Names.{IsNear, color_after}
 
 turns_by : (index : ℕ) (color : Color) → TurnsFrom index color → turned index false ≡ is_black color
 turns_by index White e = (turned_by_parity index).0 e
@@ -44,7 +38,8 @@ color_second n = elim (even_or_odd n) [
 pub near_start : (columns : ℕ) (places : List ℕ) → IsNear columns places (record { from = 0; color = White }) 0
 near_start columns places = record { turns = refl; left = λ k l. absurd (omega arith) }
 
-module _ (columns : ℕ) (places : List ℕ) (lawful : AreChanges columns places) (at : Place) (index : ℕ) (near : IsNear columns places at index) where
+module _ (columns : ℕ) (places : List ℕ) (lawful : AreChanges columns places) (at : Place) (index : ℕ)
+    (near : IsNear columns places at index) where
   -- the index is the number of changes and one more at most
   pub near_within : at.from ≤ columns → index ≤ length places + 1
   near_within inside = elim (cases_lt index 2) [
@@ -63,26 +58,38 @@ module _ (columns : ℕ) (places : List ℕ) (lawful : AreChanges columns places
   }
 
   -- it is that of b1 where its change isn't left of the position
-  split_at : (j : ℕ) → at.from ≤ columns → ((k : ℕ) → k < j → get_or places k columns < at.from) → at.from ≤ get_or places j columns → IsSplit places at.from j
-  split_at j inside left right = record { within = within j left; before = earlier; here = λ l. omega (arith, right, get_or_default_zero places j columns l) }
+  split_at : (j : ℕ) → at.from ≤ columns → ((k : ℕ) → k < j → get_or places k columns < at.from)
+      → at.from ≤ get_or places j columns → IsSplit places at.from j
+  split_at j inside left right = record {
+    within = within j left;
+    before = earlier;
+    here = λ l. omega (arith, right, get_or_default_zero places j columns l);
+  }
     where
       within : (n : ℕ) → ((k : ℕ) → k < n → get_or places k columns < at.from) → n ≤ length places
       within zero h = omega arith
-      within (suc m) h = let lt : m < length places = in_list_if_below columns places lawful m (omega (arith, inside, h m (omega arith))) in omega arith
+      within (suc m) h = let lt : m < length places =
+          in_list_if_below columns places lawful m (omega (arith, inside, h m (omega arith))) in omega arith
 
       earlier : (k : ℕ) → k < j → get_or places k 0 < at.from
-      earlier k l = omega (arith, left k l, get_or_default_zero places k columns (in_list_if_below columns places lawful k (omega (arith, inside, left k l))))
+      earlier k l = omega (
+        arith,
+        left k l,
+        get_or_default_zero places k columns (in_list_if_below columns places lawful k (omega (arith, inside, left k l))),
+      )
 
-  pub b1_reached : at.from ≤ columns → at.from ≤ get_or places index columns → b1 (pixels columns places) at.from at.color ≡ get_or places index columns
-  b1_reached inside right = by index (turns_by index at.color near.turns) near.left right
+  pub b1_reached : at.from ≤ columns → at.from ≤ get_or places index columns
+      → b1 (pixels columns places) at.from at.color ≡ get_or places index columns
+  b1_reached inside right = by_number index (turns_by index at.color near.turns) near.left right
     where
-      by : (i : ℕ) → turned i false ≡ is_black at.color → ((k : ℕ) → k + 2 ≤ i → get_or places k columns < at.from) → at.from ≤ get_or places i columns
-          → b1 (pixels columns places) at.from at.color ≡ get_or places i columns
-      by zero turns left here = b1_is columns places lawful at.from 0 0 at.color (split_at 0 inside (λ k l. absurd (omega arith)) here) turns (inl refl)
-      by (suc i) turns left here = elim (cases_lt (get_or places i columns) at.from) [
+      by_number : (i : ℕ) → turned i false ≡ is_black at.color → ((k : ℕ) → k + 2 ≤ i → get_or places k columns < at.from)
+          → at.from ≤ get_or places i columns → b1 (pixels columns places) at.from at.color ≡ get_or places i columns
+      by_number zero turns left here =
+          b1_is columns places lawful at.from 0 0 at.color (split_at 0 inside (λ k l. absurd (omega arith)) here) turns (inl refl)
+      by_number (suc i) turns left here = elim (cases_lt (get_or places i columns) at.from) [
         | inl lt ↦
-            b1_is columns places lawful at.from (suc i) (suc i) at.color
-            (split_at (suc i) inside (λ k l. omega (arith, lt, rising columns places lawful k i (omega arith))) here) turns (inl refl)
+            b1_is columns places lawful at.from (suc i) (suc i) at.color (split_at (suc i) inside
+            (λ k l. omega (arith, lt, rising columns places lawful k i (omega arith))) here) turns (inl refl)
         | inr ge ↦
             b1_is columns places lawful at.from i (suc i) at.color (split_at i inside (λ k l. left k (omega arith)) ge) turns
             (inr (refl, turned_before i at.color turns))
@@ -90,7 +97,8 @@ module _ (columns : ℕ) (places : List ℕ) (lawful : AreChanges columns places
 
   -- ---- Where b1 is sought after a mode.
   -- after pass, two further on
-  pub near_pass : (b2 : ℕ) → b2 ≡ get_or places (index + 1) columns → IsNear columns places (record { from = b2 + 1; color = at.color }) (index + 2)
+  pub near_pass : (b2 : ℕ) → b2 ≡ get_or places (index + 1) columns
+      → IsNear columns places (record { from = b2 + 1; color = at.color }) (index + 2)
   near_pass b2 is = record {
     turns = turns_second index at.color near.turns;
     left = λ k l. omega (arith, is, rising columns places lawful k (index + 1) (omega arith));
@@ -101,7 +109,8 @@ module _ (columns : ℕ) (places : List ℕ) (lawful : AreChanges columns places
   near_right from le = record { turns = near.turns; left = λ k l. omega (arith, le, near.left k l) }
 
   -- after vertical modes, from the next change on, where b1 or the change before it isn't right of a1
-  pub near_next : (a1 : ℕ) → get_or places index columns ≤ a1 → IsNear columns places (record { from = a1 + 1; color = opposite at.color }) (index + 1)
+  pub near_next : (a1 : ℕ) → get_or places index columns ≤ a1
+      → IsNear columns places (record { from = a1 + 1; color = opposite at.color }) (index + 1)
   near_next a1 le = record {
     turns = turns_next index at.color near.turns;
     left = λ k l. omega (arith, le, rising columns places lawful k index (omega arith));
@@ -113,7 +122,8 @@ module _ (columns : ℕ) (places : List ℕ) (lawful : AreChanges columns places
       record { turns = rw (← one) (turns_next index at.color near.turns); left = λ k l. absurd (omega arith) }
 
   -- else from the change before it on
-  pub near_back : (before a1 : ℕ) → index ≡ before + 1 → at.from ≤ a1 → IsNear columns places (record { from = a1 + 1; color = opposite at.color }) before
+  pub near_back : (before a1 : ℕ) → index ≡ before + 1 → at.from ≤ a1
+      → IsNear columns places (record { from = a1 + 1; color = opposite at.color }) before
   near_back before a1 is le = record {
     turns = turns_before before at.color (rw (← is) near.turns);
     left = λ k l. omega (arith, le, near.left k (omega arith));

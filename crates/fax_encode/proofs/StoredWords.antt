@@ -1,17 +1,14 @@
 -- Words of 64 bits that are stored as eight bytes.
-use Rattle.std.proofs.Common.{◌≡◌, ℕ, ◌+◌, ◌-◌, ◌*◌, ◌/◌, ◌%◌, ◌^◌, ◌<◌, ◌≤◌, List, ◌++◌, sym, ap, ◌∙◌, arith, append_assoc}
-use Rattle.std.specs.Int.{to_be_bytes, w64}
-use Rattle.std.specs.Int.RustNames.{bit_or}
-use Rattle.std.proofs.lemmas.Grind.{flat_map-append}
-use Rattle.hayro_ccitt.specs.declared.bit_reader.BitOrder.TheVariants.{HighestFirst}
-use Rattle.hayro_ccitt.specs.Bits.{Bits, bits_of, bits_of_byte, low_bits}
+use Rattle.fax_encode.proofs.Names.{◌≡◌, ℕ, ◌+◌, ◌-◌, ◌*◌, ◌/◌, ◌%◌, ◌^◌, ◌<◌, ◌≤◌, List, ◌++◌, sym, ap, ◌∙◌, arith, append_assoc}
+use Rattle.fax_encode.proofs.Names.{to_be_bytes, w64, bit_or, flat_map-append, HighestFirst, Bits, bits_of, bits_of_byte}
+use Rattle.fax_encode.proofs.Names.{low_bits}
 use Rattle.fax_encode.proofs.PaintedWords.{bits_of_word}
 use Rattle.fax_encode.proofs.WrittenBits.{put_behind, front_fits, low_bits_split}
 
 -- 64 bits are full and stored, and the word's other bits are pending
 pub stored : (old new : List ℕ) (waiting room width word full : ℕ) → room ≤ 64 → room ≤ width → width ≤ 64 → word < 2 ^ width
-    → full ≡ bit_or (waiting * 2 ^ room % 2 ^ 64) (word / 2 ^ (width - room)) → new ≡ old ++ to_be_bytes w64 full
-    → bits_of new ++ low_bits (64 - (64 - (width - room))) word ≡ (bits_of old ++ low_bits (64 - room) waiting) ++ low_bits width word
+    → full ≡ bit_or (waiting * 2 ^ room % 2 ^ 64) (word / 2 ^ (width - room)) → new ≡ old ++ to_be_bytes w64 full → bits_of new
+    ++ low_bits (64 - (64 - (width - room))) word ≡ (bits_of old ++ low_bits (64 - room) waiting) ++ low_bits width word
 stored old new waiting room width word full le over short fits is new-is =
     let rest : ℕ = width - room in
     let count : ℕ = 64 - room in
@@ -19,10 +16,11 @@ stored old new waiting room width word full le over short fits is new-is =
     let left : 64 - (64 - rest) ≡ rest = omega arith in
     let all : count + room ≡ 64 = omega arith in
     let fits_both : word < 2 ^ (room + rest) = rw sum fits in
-    let front : low_bits 64 full ≡ low_bits count waiting ++ low_bits room (word / 2 ^ rest)
-    = ap (λ (m : ℕ). low_bits m full) (sym all) ∙ put_behind waiting count room (word / 2 ^ rest) full (omega arith) (front_fits room rest word fits_both) is in
-    let bits : bits_of new ≡ bits_of old ++ (low_bits count waiting ++ low_bits room (word / 2 ^ rest))
-    = ap bits_of new-is ∙ flat_map-append (bits_of_byte HighestFirst) old (to_be_bytes w64 full) ∙ ap (λ (b : Bits). bits_of old ++ b) (bits_of_word full ∙ front) in
+    let front : low_bits 64 full ≡ low_bits count waiting ++ low_bits room (word / 2 ^ rest) = ap (λ (m : ℕ). low_bits m full)
+    (sym all) ∙ put_behind waiting count room (word / 2 ^ rest) full (omega arith) (front_fits room rest word fits_both) is in
+    let bits : bits_of new ≡ bits_of old ++ (low_bits count waiting ++ low_bits room (word / 2 ^ rest)) =
+    ap bits_of new-is ∙ flat_map-append (bits_of_byte HighestFirst) old (to_be_bytes w64 full)
+    ∙ ap (λ (b : Bits). bits_of old ++ b) (bits_of_word full ∙ front) in
     let word_bits : low_bits room (word / 2 ^ rest) ++ low_bits rest word ≡ low_bits width word
     = sym (low_bits_split room rest word) ∙ ap (λ (m : ℕ). low_bits m word) sum in
     ap (λ (m : ℕ). bits_of new ++ low_bits m word) left ∙ ap (λ (b : Bits). b ++ low_bits rest word) bits

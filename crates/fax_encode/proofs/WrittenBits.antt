@@ -1,18 +1,10 @@
 -- Bits of numbers one after another.
-use Rattle.std.proofs.Common.{◌≡◌, ℕ, zero, suc, ◌+◌, ◌-◌, ◌*◌, ◌/◌, ◌%◌, ◌^◌, ◌<◌, ◌≤◌, false, List, [], ◌∷◌, ◌++◌, length, replicate, eqb, refl, sym, ap, ◌∙◌, arith, append_assoc}
-use Rattle.std.specs.Int.{bit_at}
-use Rattle.std.specs.Int.Bits.{or_zero_r}
-use Rattle.std.specs.Int.RustNames.{bit_or}
-use Rattle.std.proofs.Math.Nat.{mul-mod_left}
-use Rattle.std.proofs.lemmas.Grind.{flat_map-append}
-use Rattle.std.proofs.lemmas.List.{append-nil, length-append}
-use Rattle.std.proofs.lemmas.Nat.{mod-pow-add, shl-shr, shl_whole, or_shifted, pow-add, div_below, mul-add-lt}
-use Rattle.std.proofs.lemmas.Nat.Bits.{bit_at_cat_low, bit_at_cat_high, bit_at_above}
-use Rattle.hayro_ccitt.specs.Encodings.{padding}
-use Rattle.fax_encode.specs.Chosen.{filled_up}
-use Rattle.hayro_ccitt.proofs.BitReading.BitLists.{length-bits_of, length-low_bits}
-use Rattle.hayro_ccitt.specs.declared.bit_reader.BitOrder.TheVariants.{HighestFirst}
-use Rattle.hayro_ccitt.specs.Bits.{Bits, bit_of, bits_of, bits_of_byte, low_bits}
+use Rattle.fax_encode.proofs.Names.{◌≡◌, ℕ, zero, suc, ◌+◌, ◌-◌, ◌*◌, ◌/◌, ◌%◌, ◌^◌, ◌<◌, ◌≤◌, false, List, [], ◌∷◌, ◌++◌, length}
+use Rattle.fax_encode.proofs.Names.{replicate, eqb, refl, sym, ap, ◌∙◌, arith, append_assoc, bit_at, or_zero_r, bit_or}
+use Rattle.fax_encode.proofs.Names.{mul-mod_left, flat_map-append, append-nil, length-append, mod-pow-add, shl-shr, shl_whole}
+use Rattle.fax_encode.proofs.Names.{or_shifted, pow-add, div_below, mul-add-lt, bit_at_cat_low, bit_at_cat_high, bit_at_above}
+use Rattle.fax_encode.proofs.Names.{padding, filled_up, length-bits_of, length-low_bits, HighestFirst, Bits, bit_of, bits_of}
+use Rattle.fax_encode.proofs.Names.{bits_of_byte, low_bits}
 
 same_bit : (m n j k : ℕ) → bit_at m j ≡ bit_at n k → bit_of m j ≡ bit_of n k
 same_bit m n j k e = ap (λ (b : ℕ). eqb b 1) e
@@ -21,7 +13,8 @@ same_bit m n j k e = ap (λ (b : ℕ). eqb b 1) e
 pub low_bits_below : (width a k b : ℕ) → width ≤ k → low_bits width (a * 2 ^ k + b) ≡ low_bits width b
 low_bits_below zero a k b le = refl
 low_bits_below (suc width) a k b le =
-    let one : bit_of (a * 2 ^ k + b) width ≡ bit_of b width = same_bit (a * 2 ^ k + b) b width width (bit_at_cat_low a k b width (omega arith)) in
+    let one : bit_of (a * 2 ^ k + b) width ≡ bit_of b width =
+    same_bit (a * 2 ^ k + b) b width width (bit_at_cat_low a k b width (omega arith)) in
     let rest = low_bits_below width a k b (omega arith) in
     cc
 
@@ -31,10 +24,11 @@ low_bits_cat zero k a b lt = let e : zero + k ≡ k = omega arith in rw e (low_b
 low_bits_cat (suc width) k a b lt =
     let n : suc width + k ≡ suc (width + k) = omega arith in
     let down : (width + k) - k ≡ width = omega arith in
-    let one : bit_of (a * 2 ^ k + b) (width + k) ≡ bit_of a width
-    = same_bit (a * 2 ^ k + b) a (width + k) ((width + k) - k) (bit_at_cat_high a k b (width + k) lt (omega arith)) ∙ ap (bit_of a) down in
+    let one : bit_of (a * 2 ^ k + b) (width + k) ≡ bit_of a width = same_bit (a * 2 ^ k + b) a (width + k) ((width + k) - k)
+    (bit_at_cat_high a k b (width + k) lt (omega arith)) ∙ ap (bit_of a) down in
     let rest = low_bits_cat width k a b lt in
-    ap (λ (m : ℕ). low_bits m (a * 2 ^ k + b)) n ∙ (let both : bit_of (a * 2 ^ k + b) (width + k) ∷ low_bits (width + k) (a * 2 ^ k + b) ≡ bit_of a width ∷ (low_bits width a ++ low_bits k b) = cc in both)
+    ap (λ (m : ℕ). low_bits m (a * 2 ^ k + b)) n ∙ (let both : bit_of (a * 2 ^ k + b) (width + k)
+    ∷ low_bits (width + k) (a * 2 ^ k + b) ≡ bit_of a width ∷ (low_bits width a ++ low_bits k b) = cc in both)
 
 pub power_positive : (k : ℕ) → 0 < 2 ^ k
 power_positive zero = omega arith
@@ -48,7 +42,8 @@ remainder n d lt = omega arith
 
 -- the low bits of a number and of its remainder
 pub low_bits_mod : (width k n : ℕ) → width ≤ k → low_bits width (n % 2 ^ k) ≡ low_bits width n
-low_bits_mod width k n le = sym (low_bits_below width (n / 2 ^ k) k (n % 2 ^ k) le) ∙ ap (low_bits width) (divided n (2 ^ k) (power_positive k))
+low_bits_mod width k n le =
+    sym (low_bits_below width (n / 2 ^ k) k (n % 2 ^ k) le) ∙ ap (low_bits width) (divided n (2 ^ k) (power_positive k))
 
 -- the lowest bits taken apart
 pub low_bits_split : (width k n : ℕ) → low_bits (width + k) n ≡ low_bits width (n / 2 ^ k) ++ low_bits k n
@@ -62,13 +57,15 @@ byte_is_low_bits n = refl
 
 -- one byte more
 pub bits_of-push : (bytes : List ℕ) (byte : ℕ) → bits_of (bytes ++ byte ∷ []) ≡ bits_of bytes ++ low_bits 8 byte
-bits_of-push bytes byte = flat_map-append (bits_of_byte HighestFirst) bytes (byte ∷ []) ∙ ap (λ (b : Bits). bits_of bytes ++ b) (append-nil (bits_of_byte HighestFirst byte) ∙ byte_is_low_bits byte)
+bits_of-push bytes byte = flat_map-append (bits_of_byte HighestFirst) bytes (byte ∷ [])
+    ∙ ap (λ (b : Bits). bits_of bytes ++ b) (append-nil (bits_of_byte HighestFirst byte) ∙ byte_is_low_bits byte)
 
 -- the highest eight of some bits go to the bytes
 pub push_byte : (bytes : List ℕ) (count left n byte : ℕ) → count ≡ 8 + left → byte ≡ (n / 2 ^ left) % 256
     → bits_of (bytes ++ byte ∷ []) ++ low_bits left n ≡ bits_of bytes ++ low_bits count n
 push_byte bytes count left n byte split is =
-    let eight : low_bits 8 byte ≡ low_bits 8 (n / 2 ^ left) = ap (low_bits 8) is ∙ low_bits_mod 8 8 (n / 2 ^ left) (omega arith) in
+    let eight : low_bits 8 byte ≡ low_bits 8 (n / 2 ^ left) =
+    ap (low_bits 8) is ∙ low_bits_mod 8 8 (n / 2 ^ left) (omega arith) in
     ap (λ (b : Bits). b ++ low_bits left n) (bits_of-push bytes byte ∙ ap (λ (b : Bits). bits_of bytes ++ b) eight)
     ∙ append_assoc (bits_of bytes) (low_bits 8 (n / 2 ^ left)) (low_bits left n)
     ∙ ap (λ (b : Bits). bits_of bytes ++ b) (sym (low_bits_split 8 left n) ∙ ap (λ (m : ℕ). low_bits m n) (sym split))
@@ -77,12 +74,12 @@ push_byte bytes count left n byte split is =
 -- what is shifted out is lost
 shifted_up : (a j k : ℕ) → a * 2 ^ k % 2 ^ (j + k) ≡ a % 2 ^ j * 2 ^ k
 shifted_up a j k =
-    mod-pow-add (a * 2 ^ k) j k ∙ ap (λ (m : ℕ). m % 2 ^ j * 2 ^ k + a * 2 ^ k % 2 ^ k) (shl-shr a k)
-    ∙ ap (λ (m : ℕ). a % 2 ^ j * 2 ^ k + m) (mul-mod_left a (2 ^ k)) ∙ (let e : a % 2 ^ j * 2 ^ k + 0 ≡ a % 2 ^ j * 2 ^ k = omega arith in e)
+    mod-pow-add (a * 2 ^ k) j k ∙ ap (λ (m : ℕ). m % 2 ^ j * 2 ^ k + a * 2 ^ k % 2 ^ k) (shl-shr a k) ∙ ap (λ (m : ℕ).
+    a % 2 ^ j * 2 ^ k + m) (mul-mod_left a (2 ^ k)) ∙ (let e : a % 2 ^ j * 2 ^ k + 0 ≡ a % 2 ^ j * 2 ^ k = omega arith in e)
 
 -- a word is put after the pending bits
-pub put_behind : (waiting count width word bits : ℕ) → count + width ≤ 64 → word < 2 ^ width → bits ≡ bit_or (waiting * 2 ^ width % 2 ^ 64) word
-    → low_bits (count + width) bits ≡ low_bits count waiting ++ low_bits width word
+pub put_behind : (waiting count width word bits : ℕ) → count + width ≤ 64 → word < 2 ^ width → bits
+    ≡ bit_or (waiting * 2 ^ width % 2 ^ 64) word → low_bits (count + width) bits ≡ low_bits count waiting ++ low_bits width word
 put_behind waiting count width word bits room fits is =
     let above : ℕ = 64 - width in
     let sum : above + width ≡ 64 = omega arith in
@@ -101,7 +98,8 @@ zero_bits (suc n) =
     cc
 
 -- a word is added to the pending bits, for which there is room
-pub put_more : (old : List ℕ) (waiting room width word bits : ℕ) → width < room → room ≤ 64 → word < 2 ^ width → bits ≡ bit_or (waiting * 2 ^ width % 2 ^ 64) word
+pub put_more : (old : List ℕ) (waiting room width word bits : ℕ) → width < room
+    → room ≤ 64 → word < 2 ^ width → bits ≡ bit_or (waiting * 2 ^ width % 2 ^ 64) word
     → bits_of old ++ low_bits (64 - (room - width)) bits ≡ (bits_of old ++ low_bits (64 - room) waiting) ++ low_bits width word
 put_more old waiting room width word bits lt le fits is =
     let n : 64 - (room - width) ≡ (64 - room) + width = omega arith in
@@ -111,39 +109,53 @@ put_more old waiting room width word bits lt le fits is =
 
 -- the first bits of a word fit in what is left of 64 bits
 pub front_fits : (room over word : ℕ) → word < 2 ^ (room + over) → word / 2 ^ over < 2 ^ room
-front_fits room over word fits = div_below word (2 ^ over) (2 ^ room) (power_positive over) (omega (arith, fits, pow-add 2 room over))
+front_fits room over word fits =
+    div_below word (2 ^ over) (2 ^ room) (power_positive over) (omega (arith, fits, pow-add 2 room over))
 
 -- ---- Zeros up to a whole byte.
-pub length-written : (bytes : List ℕ) (count waiting : ℕ) → length (bits_of bytes ++ low_bits count waiting) ≡ 8 * length bytes + count
-length-written bytes count waiting = omega (arith, length-append (bits_of bytes) (low_bits count waiting), length-bits_of bytes, length-low_bits count waiting)
+pub length-written : (bytes : List ℕ) (count waiting : ℕ)
+    → length (bits_of bytes ++ low_bits count waiting) ≡ 8 * length bytes + count
+length-written bytes count waiting =
+    omega (arith, length-append (bits_of bytes) (low_bits count waiting), length-bits_of bytes, length-low_bits count waiting)
 
 -- as many zeros as are missing
 pub missing : (bytes : List ℕ) (room waiting : ℕ) → room ≤ 64
     → low_bits (room % 8) 0 ≡ padding (length (bits_of bytes ++ low_bits (64 - room) waiting))
-missing bytes room waiting le = zero_bits (room % 8) ∙ ap (λ (n : ℕ). replicate n false)
-    (let e : room % 8 ≡ (8 - length (bits_of bytes ++ low_bits (64 - room) waiting) % 8) % 8 = omega (arith, length-written bytes (64 - room) waiting) in e)
+missing bytes room waiting le = zero_bits (room % 8) ∙ ap (λ (n : ℕ). replicate n false) (let e : room % 8 ≡ (8 - length
+    (bits_of bytes ++ low_bits (64 - room) waiting) % 8) % 8 = omega (arith, length-written bytes (64 - room) waiting) in e)
 
 -- whole bytes are taken from the pending bits and the zeros after them
-pub finished : (old new : List ℕ) (waiting room left shifted : ℕ) → room ≤ 64 → shifted ≡ waiting * 2 ^ (room % 8) % 2 ^ 64 → left < 8
-    → left % 8 ≡ ((64 - room) + room % 8) % 8 → bits_of new ++ low_bits left shifted ≡ bits_of old ++ low_bits ((64 - room) + room % 8) shifted
-    → bits_of new ≡ filled_up (bits_of old ++ low_bits (64 - room) waiting)
+pub finished : (old new : List ℕ) (waiting room left shifted : ℕ) → room ≤ 64 → shifted ≡ waiting * 2 ^ (room % 8) % 2 ^ 64
+    → left < 8 → left % 8 ≡ ((64 - room) + room % 8) % 8 → bits_of new ++ low_bits left shifted ≡ bits_of old
+    ++ low_bits ((64 - room) + room % 8) shifted → bits_of new ≡ filled_up (bits_of old ++ low_bits (64 - room) waiting)
 finished old new waiting room left shifted le is few same e =
     let none : left ≡ 0 = omega arith in
     let fits : 0 < 2 ^ (room % 8) = power_positive (room % 8) in
-    let shift : shifted ≡ bit_or (waiting * 2 ^ (room % 8) % 2 ^ 64) 0 = is ∙ sym (or_zero_r (waiting * 2 ^ (room % 8) % 2 ^ 64)) in
+    let shift : shifted ≡ bit_or (waiting * 2 ^ (room % 8) % 2 ^ 64) 0 =
+    is ∙ sym (or_zero_r (waiting * 2 ^ (room % 8) % 2 ^ 64)) in
     sym (append-nil (bits_of new)) ∙ ap (λ (m : ℕ). bits_of new ++ low_bits m shifted) (sym none) ∙ e
     ∙ ap (λ (b : Bits). bits_of old ++ b) (put_behind waiting (64 - room) (room % 8) 0 shifted (omega arith) fits shift)
     ∙ sym (append_assoc (bits_of old) (low_bits (64 - room) waiting) (low_bits (room % 8) 0))
     ∙ ap (λ (b : Bits). (bits_of old ++ low_bits (64 - room) waiting) ++ b) (missing old room waiting le)
 
 -- two words one after another, in 32 bits
-pub two_words : (a m b n bits : ℕ) → m + n ≤ 32 → a < 2 ^ m → b < 2 ^ n → bits ≡ bit_or (a * 2 ^ n % 2 ^ 32) b → bits ≡ a * 2 ^ n + b
-two_words a m b n bits short a-fits b-fits is = is ∙ ap (λ (k : ℕ). bit_or k b) (shl_whole a m n 32 a-fits short) ∙ or_shifted a n b b-fits
+pub two_words : (a m b n bits : ℕ) → m + n ≤ 32 → a < 2 ^ m → b < 2 ^ n → bits ≡ bit_or (a * 2 ^ n % 2 ^ 32) b
+    → bits ≡ a * 2 ^ n + b
+two_words a m b n bits short a-fits b-fits is =
+    is ∙ ap (λ (k : ℕ). bit_or k b) (shl_whole a m n 32 a-fits short) ∙ or_shifted a n b b-fits
 
-pub two_words_fit : (a m b n bits : ℕ) → m + n ≤ 32 → a < 2 ^ m → b < 2 ^ n → bits ≡ bit_or (a * 2 ^ n % 2 ^ 32) b → bits < 2 ^ (m + n)
+pub two_words_fit : (a m b n bits : ℕ) → m + n ≤ 32 → a < 2 ^ m → b < 2 ^ n → bits ≡ bit_or (a * 2 ^ n % 2 ^ 32) b
+    → bits < 2 ^ (m + n)
 two_words_fit a m b n bits short a-fits b-fits is =
-    omega (arith, two_words a m b n bits short a-fits b-fits is, mul-add-lt a (2 ^ n) b (2 ^ m) a-fits b-fits, pow-add 2 n m, ap (λ (k : ℕ). 2 ^ k) (let e : m + n ≡ n + m = omega arith in e))
+    omega (
+      arith,
+      two_words a m b n bits short a-fits b-fits is,
+      mul-add-lt a (2 ^ n) b (2 ^ m) a-fits b-fits,
+      pow-add 2 n m,
+      ap (λ (k : ℕ). 2 ^ k) (let e : m + n ≡ n + m = omega arith in e),
+    )
 
 pub two_words_bits : (a m b n bits : ℕ) → m + n ≤ 32 → a < 2 ^ m → b < 2 ^ n → bits ≡ bit_or (a * 2 ^ n % 2 ^ 32) b
     → low_bits (m + n) bits ≡ low_bits m a ++ low_bits n b
-two_words_bits a m b n bits short a-fits b-fits is = ap (low_bits (m + n)) (two_words a m b n bits short a-fits b-fits is) ∙ low_bits_cat m n a b b-fits
+two_words_bits a m b n bits short a-fits b-fits is =
+    ap (low_bits (m + n)) (two_words a m b n bits short a-fits b-fits is) ∙ low_bits_cat m n a b b-fits

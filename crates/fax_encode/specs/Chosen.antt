@@ -1,5 +1,6 @@
 -- The encoding that an encoder chooses among those of a picture (T.4, 4.1 and 4.2.1.3; T.6, 2.2).
-use Rattle.std.specs.Prelude.{ℕ, suc, ◌+◌, ◌-◌, ◌/◌, ◌%◌, ◌==◌, Bool, true, false, ◌&&◌, nat_le, nat_lt, List, [], ◌∷◌, ◌++◌, length, replicate, flat_map, map, pos, negsuc, if◌then◌else◌}
+use Rattle.std.specs.Prelude.{ℕ, suc, ◌+◌, ◌-◌, ◌/◌, ◌%◌, ◌==◌, Bool, true, false, ◌&&◌, nat_le, nat_lt, List, [], ◌∷◌, ◌++◌}
+use Rattle.std.specs.Prelude.{length, replicate, flat_map, map, pos, negsuc, if◌then◌else◌}
 use Rattle.hayro_ccitt.specs.declared.codes.Color.{Color}
 use Rattle.hayro_ccitt.specs.declared.codes.Color.TheVariants.{White}
 use Rattle.hayro_ccitt.specs.declared.codes.Mode.{Mode}
@@ -49,7 +50,8 @@ chosen_run color n = flat_map (λ word. word) (replicate (n / 2560) (word_of_len
 -- the runs from a position on, up to each change and up to the width
 abbrev pub chosen_runs : ℕ → Color → ℕ → List ℕ → Bits
 chosen_runs width color place [] = chosen_run color (width - place)
-chosen_runs width color place (change ∷ changes) = chosen_run color (change - place) ++ chosen_runs width (opposite color) change changes
+chosen_runs width color place (change ∷ changes) =
+    chosen_run color (change - place) ++ chosen_runs width (opposite color) change changes
 
 -- the runs of a row, white first (T.4, 4.1.1)
 abbrev pub chosen_line_1d : Row → Bits
@@ -74,7 +76,8 @@ is_near b1 a1 = nat_le a1 (b1 + 3) && nat_le b1 (a1 + 3)
 abbrev pub chosen_mode : Row → Row → Place → Mode
 chosen_mode reference row at =
     if nat_lt (b2 reference at.from at.color) (a1 row at.from) then Pass
-    else (if is_near (b1 reference at.from at.color) (a1 row at.from) then vertical_mode (b1 reference at.from at.color) (a1 row at.from)
+    else (if is_near (b1 reference at.from at.color) (a1 row at.from) then vertical_mode (b1 reference at.from at.color)
+    (a1 row at.from)
     else Horizontal)
 
 -- the runs after a mode's word: in horizontal mode from a0 to a1 and from a1 to a2
@@ -120,7 +123,8 @@ chosen_line_2d reference row = chosen_from reference row (record { from = 0; col
 abbrev pub chosen_lines_2d : Bool → Row → List Row → Bits
 chosen_lines_2d aligned reference [] = []
 chosen_lines_2d aligned reference (row ∷ rows) =
-    chosen_line_2d reference row ++ (if aligned then padding (length (chosen_line_2d reference row)) else []) ++ chosen_lines_2d aligned row rows
+    chosen_line_2d reference row ++ (if aligned then padding (length (chosen_line_2d reference row)) else [])
+    ++ chosen_lines_2d aligned row rows
 
 -- A picture of T.6: its lines and EOFB (T.6, 2.4.1.1).
 abbrev pub chosen_t6 : ℕ → Bool → List Row → Bits

@@ -1,5 +1,6 @@
 -- The laws of the chosen encoding.
-use Rattle.std.specs.Prelude.{◌≡◌, ℕ, suc, ◌^◌, ◌<◌, ◌≤◌, Bool, true, false, List, [], ◌∷◌, ◌++◌, length, take, drop, ◌+◌, Ok, All}
+use Rattle.std.specs.Prelude.{◌≡◌, ℕ, suc, ◌^◌, ◌<◌, ◌≤◌, Bool, true, false, List, [], ◌∷◌, ◌++◌, length, take, drop, ◌+◌, Ok}
+use Rattle.std.specs.Prelude.{All}
 use Rattle.hayro_ccitt.specs.declared.settings.EncodingMode.{EncodingMode}
 use Rattle.hayro_ccitt.specs.declared.settings.EncodingMode.TheVariants.{Group4, Group3_1D, Group3_2D}
 use Rattle.hayro_ccitt.specs.declared.settings.DecodeSettings.{DecodeSettings}
@@ -16,7 +17,8 @@ use Rattle.fax_encode.specs.Packed.{packed, shown, with_packed_row}
 use Rattle.fax_encode.specs.Refusals.{AreRows}
 use Rattle.fax_encode.specs.RowByRow.{no_rows, with_rows}
 use Rattle.fax_encode.specs.declared.settings.EncodeSettings.{EncodeSettings}
-use Rattle.fax_encode.specs.Settings.{chosen, chosen_line, chosen_lines, chosen_lines_with_eols, chosen_eols, fill_of, needs_row, with_end, decode_settings_for}
+use Rattle.fax_encode.specs.Settings.{chosen, chosen_line, chosen_lines, chosen_lines_with_eols, chosen_eols, fill_of, needs_row}
+use Rattle.fax_encode.specs.Settings.{with_end, decode_settings_for}
 
 -- what is chosen for a picture is an encoding of it
 abbrev pub ChosenIsAnEncoding : Type 0
@@ -40,7 +42,8 @@ RoundTripT6 = (settings : DecodeSettings) (columns : ℕ) (lists : List (List �
 -- Bytes of the chosen T.4 picture are read as its rows, all of them.
 abbrev pub RoundTripT4 : Type 0
 RoundTripT4 = (settings : DecodeSettings) (columns : ℕ) (lists : List (List ℕ)) (bytes : List ℕ)
-    → 0 < columns → columns < 2 ^ 32 → 0 < length lists → AreRows columns lists → ReadToTheEnd settings columns → settings.encoding ≡ Group3_1D
+    → 0 < columns → columns < 2 ^ 32 → 0 < length lists → AreRows columns lists → ReadToTheEnd settings columns
+    → settings.encoding ≡ Group3_1D
     → bits_of bytes ≡ filled_up (chosen_t4 (rows_of columns lists))
     → plain settings (bits_of bytes) ≡ record { rows = rows_of columns lists; outcome = Ok (length bytes); has_eols = true }
 
@@ -51,7 +54,8 @@ RowsArePacked = (columns : ℕ) (bits : Bits) (rows : List Row) → HaveWidth co
 
 -- A bitmap of packed rows shows those rows.
 abbrev pub PackedIsShown : Type 0
-PackedIsShown = (columns : ℕ) (rows : List Row) (bitmap : List ℕ) → IsPicture columns rows → bits_of bitmap ≡ packed rows → shown columns bitmap ≡ rows
+PackedIsShown = (columns : ℕ) (rows : List Row) (bitmap : List ℕ) → IsPicture columns rows → bits_of bitmap ≡ packed rows
+    → shown columns bitmap ≡ rows
 
 -- Bytes of the chosen T.6 picture of a bitmap are read as the rows that it shows, all of them.
 abbrev pub BitmapRoundTripT6 : Type 0
@@ -63,7 +67,8 @@ BitmapRoundTripT6 = (settings : DecodeSettings) (columns : ℕ) (bitmap bytes : 
 -- Bytes of the chosen T.4 picture of a bitmap are read as the rows that it shows, all of them.
 abbrev pub BitmapRoundTripT4 : Type 0
 BitmapRoundTripT4 = (settings : DecodeSettings) (columns : ℕ) (bitmap bytes : List ℕ)
-    → 0 < columns → columns < 2 ^ 32 → 0 < length (shown columns bitmap) → ReadToTheEnd settings columns → settings.encoding ≡ Group3_1D
+    → 0 < columns → columns < 2 ^ 32 → 0 < length (shown columns bitmap) → ReadToTheEnd settings columns
+    → settings.encoding ≡ Group3_1D
     → bits_of bytes ≡ filled_up (chosen_t4 (shown columns bitmap))
     → plain settings (bits_of bytes) ≡ record { rows = shown columns bitmap; outcome = Ok (length bytes); has_eols = true }
 
@@ -72,13 +77,16 @@ BitmapRoundTripT4 = (settings : DecodeSettings) (columns : ℕ) (bitmap bytes : 
 -- the chosen lines encode the rows, with EOLs and without, and the chosen end is the end of a block
 abbrev pub ChosenLinesEncode : Type 0
 ChosenLinesEncode = (encoding : EncodingMode) (columns k : ℕ) (rows : List Row) → IsPicture columns rows
-    → ((aligned : Bool) → EncodesRows encoding aligned (white_row columns) rows (chosen_lines encoding k aligned 0 (white_row columns) rows))
-    × ((fills : Bool) → EncodesRowsWithEols encoding (white_row columns) rows (chosen_lines_with_eols encoding k fills 0 0 (white_row columns) rows))
+    → ((aligned : Bool)
+    → EncodesRows encoding aligned (white_row columns) rows (chosen_lines encoding k aligned 0 (white_row columns) rows))
+    × ((fills : Bool) → EncodesRowsWithEols encoding (white_row columns) rows
+    (chosen_lines_with_eols encoding k fills 0 0 (white_row columns) rows))
     × ((fills : Bool) (at : ℕ) → ClosesWithEols encoding 6 (chosen_eols encoding fills at 6))
 
 -- a line of two-dimensional Group 3 has no more bits than the one-dimensional line and its tag
 abbrev pub NeverLonger : Type 0
-NeverLonger = (left : ℕ) (reference row : Row) → length (chosen_line Group3_2D left reference row) ≤ suc (length (chosen_line_1d row))
+NeverLonger =
+    (left : ℕ) (reference row : Row) → length (chosen_line Group3_2D left reference row) ≤ suc (length (chosen_line_1d row))
 
 -- auxiliary: the reading of some data yields these rows, without a fault, and this number of bytes is consumed
 abbrev pub GivesAll : DecodeSettings → Bits → List Row → ℕ → Type 0
@@ -87,17 +95,20 @@ GivesAll settings whole rows count = ((plain settings whole).rows ≡ rows) × (
 -- What is chosen for a picture, by any settings, is read as its rows by the matching settings.
 abbrev pub ChosenIsRead : Type 0
 ChosenIsRead = (settings : EncodeSettings) (columns : ℕ) (rows : List Row) (bytes : List ℕ)
-    → columns < 2 ^ 32 → length rows < 2 ^ 32 → (needs_row settings.encoding settings.end_of_block ≡ true → 0 < length rows) → IsPicture columns rows
+    → columns < 2 ^ 32 → length rows < 2 ^ 32 → (needs_row settings.encoding settings.end_of_block ≡ true → 0 < length rows)
+    → IsPicture columns rows
     → bits_in settings.order bytes ≡ filled_up (chosen settings columns rows)
     → GivesAll (decode_settings_for settings columns (length rows)) (bits_in settings.order bytes) rows (length bytes)
 
 -- Bytes of what is chosen for a picture, for all settings, are those of what is chosen for the rows that they are read as.
 abbrev pub ChosenComesBack : Type 0
 ChosenComesBack = (settings : EncodeSettings) (columns : ℕ) (rows : List Row) (bytes again : List ℕ)
-    → columns < 2 ^ 32 → length rows < 2 ^ 32 → (needs_row settings.encoding settings.end_of_block ≡ true → 0 < length rows) → IsPicture columns rows
+    → columns < 2 ^ 32 → length rows < 2 ^ 32 → (needs_row settings.encoding settings.end_of_block ≡ true → 0 < length rows)
+    → IsPicture columns rows
     → All (λ byte. byte < 256) bytes → All (λ byte. byte < 256) again
     → bits_in settings.order bytes ≡ filled_up (chosen settings columns rows)
-    → bits_in settings.order again ≡ filled_up (chosen settings columns (plain (decode_settings_for settings columns (length rows)) (bits_in settings.order bytes)).rows)
+    → bits_in settings.order again ≡ filled_up
+    (chosen settings columns (plain (decode_settings_for settings columns (length rows)) (bits_in settings.order bytes)).rows)
     → again ≡ bytes
 
 -- What is encoded row by row, with what follows the lines, is what is chosen for all rows.

@@ -19,7 +19,15 @@ pub record RowsEncoded : Type 0 where
 -- none: above the first row is a white one (T.4, 4.2.1.1)
 abbrev pub no_rows : EncodeSettings → ℕ → RowsEncoded
 no_rows settings columns =
-    record { settings = settings; columns = columns; lines = []; count = 0; last = white_row columns; left = 0; wants_memory = false }
+    record {
+      settings = settings;
+      columns = columns;
+      lines = [];
+      count = 0;
+      last = white_row columns;
+      left = 0;
+      wants_memory = false;
+    }
 
 -- one more
 abbrev pub with_row : RowsEncoded → Row → RowsEncoded

@@ -1,5 +1,6 @@
 -- The encoding that is chosen, by settings (T.4, 4.1 and 4.2; T.6, 2.2).
-use Rattle.std.specs.Prelude.{ℕ, zero, suc, ◌+◌, ◌-◌, ◌%◌, Bool, true, false, not, ◌&&◌, nat_le, nat_lt, List, [], ◌∷◌, ◌++◌, length, if◌then◌else◌}
+use Rattle.std.specs.Prelude.{ℕ, zero, suc, ◌+◌, ◌-◌, ◌%◌, Bool, true, false, not, ◌&&◌, nat_le, nat_lt, List, [], ◌∷◌, ◌++◌}
+use Rattle.std.specs.Prelude.{length, if◌then◌else◌}
 use Rattle.hayro_ccitt.specs.declared.settings.EncodingMode.{EncodingMode}
 use Rattle.hayro_ccitt.specs.declared.settings.EncodingMode.TheVariants.{Group4, Group3_1D, Group3_2D}
 use Rattle.hayro_ccitt.specs.declared.settings.DecodeSettings.{DecodeSettings}
@@ -28,7 +29,8 @@ is_encoding Group3_2D eols k fills aligned closed = nat_lt 0 k && names_group3 e
 -- whether settings name an encoding
 abbrev pub names_encoding : EncodeSettings → Bool
 names_encoding settings =
-    is_encoding settings.encoding settings.end_of_line settings.k settings.eols_end_at_bytes settings.rows_are_byte_aligned settings.end_of_block
+    is_encoding settings.encoding settings.end_of_line settings.k settings.eols_end_at_bytes settings.rows_are_byte_aligned
+    settings.end_of_block
 
 -- whether a picture needs a row: only EOFB encodes a picture without rows (T.6, 2.4.1.1)
 abbrev pub needs_row : EncodingMode → Bool → Bool
@@ -64,7 +66,8 @@ left_after Group3_2D k left reference row = if is_two_dimensional left reference
 abbrev pub chosen_lines : EncodingMode → ℕ → Bool → ℕ → Row → List Row → Bits
 chosen_lines encoding k aligned left reference [] = []
 chosen_lines encoding k aligned left reference (row ∷ rows) =
-    chosen_line encoding left reference row ++ (if aligned then padding (length (chosen_line encoding left reference row)) else [])
+    chosen_line encoding left reference row
+    ++ (if aligned then padding (length (chosen_line encoding left reference row)) else [])
     ++ chosen_lines encoding k aligned (left_after encoding k left reference row) row rows
 
 -- the number of zeros of fill of an EOL that begins after this number of bits, if it ends at a whole byte (T.4, 4.1.3)
@@ -76,13 +79,15 @@ abbrev pub chosen_lines_with_eols : EncodingMode → ℕ → Bool → ℕ → �
 chosen_lines_with_eols encoding k fills at left reference [] = []
 chosen_lines_with_eols encoding k fills at left reference (row ∷ rows) =
     eol (fill_of fills at) ++ chosen_line encoding left reference row
-    ++ chosen_lines_with_eols encoding k fills (at + 12 + fill_of fills at + length (chosen_line encoding left reference row)) (left_after encoding k left reference row) row rows
+    ++ chosen_lines_with_eols encoding k fills (at + 12 + fill_of fills at + length (chosen_line encoding left reference row))
+    (left_after encoding k left reference row) row rows
 
 -- this number of EOLs after this number of bits, each with its tag: six are RTC (T.4, 4.1.4 and 4.2.4)
 abbrev pub chosen_eols : EncodingMode → Bool → ℕ → ℕ → Bits
 chosen_eols encoding fills at zero = []
 chosen_eols encoding fills at (suc n) =
-    eol (fill_of fills at) ++ tag_of encoding ++ chosen_eols encoding fills (at + 12 + fill_of fills at + length (tag_of encoding)) n
+    eol (fill_of fills at) ++ tag_of encoding ++ chosen_eols encoding fills
+    (at + 12 + fill_of fills at + length (tag_of encoding)) n
 
 -- ---- lines one by one
 
@@ -138,7 +143,8 @@ chosen_picture Group3_2D eols k fills aligned closed white rows = chosen_group3 
 -- What is chosen for a picture, by settings. The first line is one-dimensional in two-dimensional Group 3 (T.4, 4.2.1).
 abbrev pub chosen : EncodeSettings → ℕ → List Row → Bits
 chosen settings columns rows =
-    chosen_picture settings.encoding settings.end_of_line settings.k settings.eols_end_at_bytes settings.rows_are_byte_aligned settings.end_of_block
+    chosen_picture settings.encoding settings.end_of_line settings.k settings.eols_end_at_bytes settings.rows_are_byte_aligned
+    settings.end_of_block
     (white_row columns) rows
 
 -- ---- the settings of closed pictures

@@ -3,7 +3,8 @@
 ghost use Rattle.std.specs.Prelude.{◌≡◌, ◌%◌, ◌++◌, [], false, true, ◌∷◌, length, nat_le, IfOk, OnOk, if◌then◌else◌};
 ghost use Rattle.hayro_ccitt.specs.Rows.{AreChanges, pixels};
 ghost use Rattle.fax_encode.specs.Chosen.{chosen_line_1d, chosen_line_2d};
-ghost use Rattle.fax_encode.specs.Settings.{chosen_line, chosen_part, has_eols, left_after, names_encoding, names_group3, with_end};
+ghost use Rattle.fax_encode.specs.Settings.{chosen_line, chosen_part, has_eols, left_after, names_encoding, names_group3};
+ghost use Rattle.fax_encode.specs.Settings.{with_end};
 ghost use Rattle.fax_encode.specs.Writing.{all_bits};
 
 use crate::EncodeSettings;

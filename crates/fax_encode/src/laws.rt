@@ -1,7 +1,9 @@
 //! Laws of the chosen encoding: each is the contract of a function that does nothing.
 
-ghost use Rattle.fax_encode.specs.Laws.{ChosenBySettings, ChosenComesBack, ChosenIsRead, ChosenLinesEncode, DamageReachesKRows, NeverLonger, WorkedSettings};
-ghost use Rattle.fax_encode.specs.Laws.{RowsAreChosen, BitmapRoundTripT4, BitmapRoundTripT6, ChosenIsAnEncoding, PackedIsShown, RoundTripT6, RoundTripT4, RowsArePacked};
+ghost use Rattle.fax_encode.specs.Laws.{ChosenBySettings, ChosenComesBack, ChosenIsRead, ChosenLinesEncode, DamageReachesKRows};
+ghost use Rattle.fax_encode.specs.Laws.{NeverLonger, WorkedSettings};
+ghost use Rattle.fax_encode.specs.Laws.{RowsAreChosen, BitmapRoundTripT4, BitmapRoundTripT6, ChosenIsAnEncoding, PackedIsShown};
+ghost use Rattle.fax_encode.specs.Laws.{RoundTripT6, RoundTripT4, RowsArePacked};
 
 /// What is chosen for a picture encodes it: as T.6, closed by EOFB, and as one-dimensional T.4 with an EOL before each
 /// line, closed by RTC.

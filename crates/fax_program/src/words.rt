@@ -3,7 +3,8 @@
 ghost use Rattle.std.specs.Prelude.{◌≡◌, ◌<◌, IsTrue, length, map, string_bytes};
 ghost use Rattle.std.specs.Char.{is_ascii_digit};
 ghost use Rattle.std.specs.List.{list_all};
-ghost use Rattle.fax_program.specs.Words.{order_with, mode_of, number_of, are_digits, times, has_flag, is_first_word, is_word_alone};
+ghost use Rattle.fax_program.specs.Words.{order_with, mode_of, number_of, are_digits, times, has_flag, is_first_word};
+ghost use Rattle.fax_program.specs.Words.{is_word_alone};
 
 use hayro_ccitt::EncodingMode;
 use hayro_ccitt::bit_reader::BitOrder;

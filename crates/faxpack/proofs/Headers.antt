@@ -1,5 +1,6 @@
 -- What the bytes of a header begin with.
-use Rattle.std.proofs.Common.{◌≡◌, ◌<◌, ◌≤◌, ◌+◌, ◌==◌, ℕ, zero, suc, Bool, true, false, List, [], ◌∷◌, None, length, drop, get_or, arith, refl, rules}
+use Rattle.std.proofs.Common.{◌≡◌, ◌<◌, ◌≤◌, ◌+◌, ◌==◌, ℕ, zero, suc, Bool, true, false, List, [], ◌∷◌, None, length, drop}
+use Rattle.std.proofs.Common.{get_or, arith, refl, rules}
 use Rattle.std.specs.Prelude.{not}
 use Rattle.std.specs.Char.{is_ascii_digit}
 use Rattle.std.specs.List.{list_all}
@@ -18,10 +19,12 @@ pub digits_more : (bytes : List ℕ) (i : ℕ) → i < length bytes → is_ascii
 unfolding digit_count
 digits_more [] i within digit = absurd (omega (arith, within))
 digits_more (b ∷ bytes) zero within digit = rw digit refl
-digits_more (b ∷ bytes) (suc i) within digit = let e : suc i + 1 ≡ suc (i + 1) = omega arith in rw e (digits_more bytes i (omega (arith, within)) digit)
+digits_more (b ∷ bytes) (suc i) within digit = let e : suc i + 1 ≡ suc (i + 1) = omega arith in
+    rw e (digits_more bytes i (omega (arith, within)) digit)
 
 -- no more digits
-pub digits_end : (bytes : List ℕ) (i : ℕ) → i < length bytes → is_ascii_digit (get_or bytes i 0) ≡ false → digit_count (drop i bytes) ≡ 0
+pub digits_end : (bytes : List ℕ) (i : ℕ) → i < length bytes → is_ascii_digit (get_or bytes i 0) ≡ false
+    → digit_count (drop i bytes) ≡ 0
 unfolding digit_count
 digits_end [] i within digit = absurd (omega (arith, within))
 digits_end (b ∷ bytes) zero within digit = rw digit refl
@@ -41,7 +44,8 @@ pub comment_more : (bytes : List ℕ) (i : ℕ) → i < length bytes
 unfolding gap_length
 comment_more [] i within = absurd (omega (arith, within))
 comment_more (b ∷ bytes) zero within = refl
-comment_more (b ∷ bytes) (suc i) within = let e : suc i + 1 ≡ suc (i + 1) = omega arith in rw e (comment_more bytes i (omega (arith, within)))
+comment_more (b ∷ bytes) (suc i) within = let e : suc i + 1 ≡ suc (i + 1) = omega arith in
+    rw e (comment_more bytes i (omega (arith, within)))
 
 -- a comment begins
 pub comment_begins : (bytes : List ℕ) (i : ℕ) → i < length bytes → (get_or bytes i 0 == 35) ≡ true
@@ -49,15 +53,17 @@ pub comment_begins : (bytes : List ℕ) (i : ℕ) → i < length bytes → (get_
 unfolding gap_length
 comment_begins [] i within sign = absurd (omega (arith, within))
 comment_begins (b ∷ bytes) zero within sign = rw sign refl
-comment_begins (b ∷ bytes) (suc i) within sign = let e : suc i + 1 ≡ suc (i + 1) = omega arith in rw e (comment_begins bytes i (omega (arith, within)) sign)
+comment_begins (b ∷ bytes) (suc i) within sign = let e : suc i + 1 ≡ suc (i + 1) = omega arith in
+    rw e (comment_begins bytes i (omega (arith, within)) sign)
 
 -- a byte of white space
-pub space_more : (bytes : List ℕ) (i : ℕ) → i < length bytes → (get_or bytes i 0 == 35) ≡ false → is_space (get_or bytes i 0) ≡ true
-    → gap_length false (drop i bytes) ≡ suc (gap_length false (drop (i + 1) bytes))
+pub space_more : (bytes : List ℕ) (i : ℕ) → i < length bytes → (get_or bytes i 0 == 35) ≡ false
+    → is_space (get_or bytes i 0) ≡ true → gap_length false (drop i bytes) ≡ suc (gap_length false (drop (i + 1) bytes))
 unfolding gap_length
 space_more [] i within sign space = absurd (omega (arith, within))
 space_more (b ∷ bytes) zero within sign space = rw (sign, space) refl
-space_more (b ∷ bytes) (suc i) within sign space = let e : suc i + 1 ≡ suc (i + 1) = omega arith in rw e (space_more bytes i (omega (arith, within)) sign space)
+space_more (b ∷ bytes) (suc i) within sign space = let e : suc i + 1 ≡ suc (i + 1) = omega arith in
+    rw e (space_more bytes i (omega (arith, within)) sign space)
 
 -- the gap ends
 pub gap_end : (bytes : List ℕ) (i : ℕ) → i < length bytes → (get_or bytes i 0 == 35) ≡ false → is_space (get_or bytes i 0) ≡ false
@@ -87,4 +93,5 @@ no_number word never = go (are_digits word) refl
   where
     go : (b : Bool) → are_digits word ≡ b → None ≡ number_of word
     go false e = rw e refl
-    go true e = absurd (never (IsUtf8-from_ascii word (IsAscii-from_digits word (digits_of_ten word (and_parts _ (list_all is_ascii_digit word) e).1))))
+    go true e = absurd (never
+        (IsUtf8-from_ascii word (IsAscii-from_digits word (digits_of_ten word (and_parts _ (list_all is_ascii_digit word) e).1))))

@@ -1,5 +1,6 @@
 -- Where the bitmap is in the input: a PBM picture (P4) as Netpbm's page pbm(5) describes it, or rows without a header.
-use Rattle.std.specs.Prelude.{ℕ, suc, ◌+◌, ◌-◌, ◌*◌, ◌%◌, Bool, true, false, not, ◌&&◌, ◌||◌, nat_le, nat_lt, ◌==◌, List, [], ◌∷◌, length, take, drop, get_or, Option, Some, None, Result, Ok, Err, if◌then◌else◌}
+use Rattle.std.specs.Prelude.{ℕ, suc, ◌+◌, ◌-◌, ◌*◌, ◌%◌, Bool, true, false, not, ◌&&◌, ◌||◌, nat_le, nat_lt, ◌==◌, List, []}
+use Rattle.std.specs.Prelude.{◌∷◌, length, take, drop, get_or, Option, Some, None, Result, Ok, Err, if◌then◌else◌}
 use Rattle.std.specs.Char.{is_ascii_digit}
 use Rattle.fax_encode.specs.Packed.{bytes_of_row}
 use Rattle.fax_program.specs.Words.{number_of}
@@ -83,7 +84,8 @@ rows_place size bytes =
     then Ok (record {
       columns = size.columns;
       start = 0;
-      length = if nat_lt 0 size.rows && nat_lt (size.rows * bytes_of_row size.columns) bytes then size.rows * bytes_of_row size.columns else bytes;
+      length = if nat_lt 0 size.rows && nat_lt (size.rows * bytes_of_row size.columns) bytes
+          then size.rows * bytes_of_row size.columns else bytes;
     })
     else Err Cut
 

@@ -16,7 +16,8 @@ use Rattle.faxpack.specs.Pictures.{place_of, bytes_at}
 abbrev pub with_a_row : EncodeSettings → Result Place PictureFault → Result Place PictureFault
 with_a_row settings (Err fault) = Err fault
 with_a_row settings (Ok place) =
-    if needs_row settings.encoding settings.end_of_block && nat_lt place.length (bytes_of_row place.columns) then Err NoRows else Ok place
+    if needs_row settings.encoding settings.end_of_block && nat_lt place.length (bytes_of_row place.columns) then Err NoRows
+    else Ok place
 
 -- where the picture is that is encoded, or why there is none
 abbrev pub picture_of : Arguments → List ℕ → Result Place PictureFault
@@ -25,7 +26,8 @@ picture_of arguments input = with_a_row arguments.settings (place_of arguments.s
 -- bytes are the strip of a bitmap: in the order of bits of the settings, what is chosen for the picture that it shows, and
 -- zeros up to a whole byte
 abbrev pub IsStripOf : EncodeSettings → ℕ → List ℕ → List ℕ → Type 0
-IsStripOf settings columns bitmap bytes = bits_in settings.order bytes ≡ filled_up (chosen settings columns (shown columns bitmap))
+IsStripOf settings columns bitmap bytes =
+    bits_in settings.order bytes ≡ filled_up (chosen settings columns (shown columns bitmap))
 
 -- What a run returns for its input, and what its writer took: the strip of the picture; or nothing, and what is wrong.
 abbrev pub IsAnswer : Arguments → List ℕ → Result (Unit {0}) PictureFault → Option (List ℕ) → Option (List ℕ) → Type 0

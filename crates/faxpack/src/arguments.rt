@@ -2,7 +2,8 @@
 
 ghost use Rattle.std.specs.Prelude.{◌≡◌, map, string_bytes};
 ghost use Rattle.std.specs.List.{list_all};
-ghost use Rattle.faxpack.specs.Arguments.{arguments_of_words, picture_words, rows_words, settings_of_words, k_of, are_flags, are_apart, is_flag};
+ghost use Rattle.faxpack.specs.Arguments.{arguments_of_words, picture_words, rows_words, settings_of_words, k_of, are_flags};
+ghost use Rattle.faxpack.specs.Arguments.{are_apart, is_flag};
 
 use fax_encode::{EncodeSettings, names_encoding};
 use fax_program::words::{has_flag, is_first_word, mode_of, number_of, order_with, times};

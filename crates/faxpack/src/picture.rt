@@ -2,7 +2,8 @@
 
 ghost use Rattle.std.specs.Prelude.{◌≡◌, ◌<◌, ◌≤◌, ◌+◌, ◌/◌, IfOk, IfSome, get_or, length, true, false};
 ghost use Rattle.fax_program.specs.Words.{number_of};
-ghost use Rattle.faxpack.specs.Pictures.{digit_count, gap_length, header_of, is_space, number_at, pbm_place, place_of, rows_place};
+ghost use Rattle.faxpack.specs.Pictures.{digit_count, gap_length, header_of, is_space, number_at, pbm_place, place_of};
+ghost use Rattle.faxpack.specs.Pictures.{rows_place};
 
 use crate::arguments::Size;
 use fax_program::words::number_of;

@@ -1,17 +1,11 @@
 -- What a run writes of the damage, from how the reading ended.
-use Rattle.std.proofs.Common.{◌≡◌, ◌≢◌, ◌≤◌, ◌+◌, ◌-◌, ℕ, zero, suc, Bool, List, [], ◌++◌, refl, true, inl, inr, sym, ap, subst, ◌∙◌, Result, Ok, Err, length, get_or, append_assoc, append-nil, arith, Option, None, Some}
-use Rattle.std.specs.Prelude.{IsOk, IsErr}
-use Rattle.hayro_ccitt.specs.declared.error.DecodeError.{DecodeError}
-use Rattle.hayro_ccitt.specs.declared.error.DecodeError.TheVariants.{UnexpectedEof, InvalidCode, Overflow, OutOfMemory, Refused}
-use Rattle.hayro_ccitt.specs.declared.settings.DecodeSettings.{DecodeSettings}
-use Rattle.hayro_ccitt.specs.Bits.{Bits}
-use Rattle.hayro_ccitt.specs.PlainReading.{line_starts, failed_at}
-use Rattle.hayro_ccitt.specs.RowsRead.{RowsRead, ReadsNext, at_end_of_rows}
-use Rattle.fax_program.specs.Devices.{AppendsFront}
-use Rattle.faxrows.specs.declared.program.Done.TheVariants.{Good, Faulty, Memory}
-use Rattle.faxrows.specs.DamageText.{IsDamageText, IsDamageWithoutMemory, damage_after, damage_lines, damage_of_row, line_of_damage, whole_damage}
-use Rattle.faxrows.specs.Runs.{Outcome, EndsAfter, done_of, outcome_of, rows_of}
-use Rattle.faxrows.specs.RunsByRow.{EndsByRow}
+use Rattle.faxrows.proofs.Names.{◌≡◌, ◌≢◌, ◌≤◌, ◌+◌, ◌-◌, ℕ, zero, suc, Bool, List, [], ◌++◌, refl, true, inl, inr, sym, ap}
+use Rattle.faxrows.proofs.Names.{subst, ◌∙◌, Result, Ok, Err, length, get_or, append_assoc, append-nil, arith, Option, None, Some}
+use Rattle.faxrows.proofs.Names.{IsOk, IsErr, DecodeError, UnexpectedEof, InvalidCode, Overflow, OutOfMemory, Refused}
+use Rattle.faxrows.proofs.Names.{DecodeSettings, Bits, line_starts, failed_at, RowsRead, ReadsNext, at_end_of_rows, AppendsFront}
+use Rattle.faxrows.proofs.Names.{Good, Faulty, Memory, IsDamageText, IsDamageWithoutMemory, damage_after, damage_lines}
+use Rattle.faxrows.proofs.Names.{damage_of_row, line_of_damage, whole_damage, Outcome, EndsAfter, done_of, outcome_of, rows_of}
+use Rattle.faxrows.proofs.Names.{EndsByRow}
 use Rattle.faxrows.proofs.Outputs.{front_of_longer}
 
 -- ---- The lines of the rows
@@ -27,9 +21,7 @@ damage_rest settings bits rows (suc more) =
     let line = damage_of_row settings bits (more + rows) in
     let next : suc more + rows ≡ suc (more + rows) = omega arith in (
       rest ++ line,
-      ap (damage_lines settings bits) next
-          ∙ ap (λ l. l ++ line) same
-          ∙ append_assoc (damage_lines settings bits rows) rest line,
+      ap (damage_lines settings bits) next ∙ ap (λ l. l ++ line) same ∙ append_assoc (damage_lines settings bits rows) rest line,
     )
 
 -- so a front of them is one of the lines of all rows
@@ -52,10 +44,9 @@ line_is old new reads =
     (get_or (line_starts old.settings old.bits) old.taken 0) fault) (reads.damage refl)
 
 -- with it there is one more row
-pub damage_more : (settings : DecodeSettings) (bits : Bits) (old new : RowsRead) → old.settings ≡ settings → old.bits
-    ≡ bits → ReadsNext old new (Ok true)
-    → damage_lines settings bits old.taken ++ line_of_damage (new.taken - 1) new.line_start new.damage
-    ≡ damage_lines settings bits new.taken
+pub damage_more : (settings : DecodeSettings) (bits : Bits) (old new : RowsRead) → old.settings ≡ settings
+    → old.bits ≡ bits → ReadsNext old new (Ok true) → damage_lines settings bits old.taken
+    ++ line_of_damage (new.taken - 1) new.line_start new.damage ≡ damage_lines settings bits new.taken
 damage_more settings bits old new of_settings of_bits reads =
     let next : suc old.taken ≡ new.taken = omega (arith, (reads.more refl).1) in
     let line = line_of_damage (new.taken - 1) new.line_start new.damage in
@@ -80,26 +71,23 @@ unended_before (Some (Err e)) error result is unfailed ended = absurd (unfailed 
 pub failed_there : (old new : RowsRead) (error : DecodeError) → ReadsNext old new (Err error) → old.end ≡ None
     → new.line_start ≡ failed_at new.settings new.bits new.taken
 failed_there old new error reads unended =
-    reads.fault_start unended
-    ∙ ap (λ (s : DecodeSettings). failed_at s old.bits old.taken) (sym reads.settings)
+    reads.fault_start unended ∙ ap (λ (s : DecodeSettings). failed_at s old.bits old.taken) (sym reads.settings)
     ∙ ap (λ (b : Bits). failed_at new.settings b old.taken) (sym reads.bits)
     ∙ ap (failed_at new.settings new.bits) (sym reads.error.1)
 
 -- ---- The whole text
 
 -- with all rows and the result of the plain reading, the whole damage is written
-all_damage : (settings : DecodeSettings) (bits : Bits) (read : ℕ) (outcome : Outcome)
-    → read ≡ length (rows_of settings bits) → outcome_of settings bits ≡ outcome
-    → damage_after settings bits read outcome ≡ whole_damage settings bits
+all_damage : (settings : DecodeSettings) (bits : Bits) (read : ℕ) (outcome : Outcome) → read ≡ length (rows_of settings bits)
+    → outcome_of settings bits ≡ outcome → damage_after settings bits read outcome ≡ whole_damage settings bits
 all_damage settings bits read outcome all same =
     ap (λ (n : ℕ). damage_after settings bits n outcome) all
     ∙ ap (damage_after settings bits (length (rows_of settings bits))) (sym same)
 
 -- a good run writes the whole damage
 pub damage_of_good : (settings : DecodeSettings) (bits : Bits) (read : ℕ) (outcome : Outcome)
-    → EndsAfter settings bits read outcome
-    → done_of outcome ≡ Good → (damage_after settings bits read outcome ≡ whole_damage settings bits) × IsOk
-    (outcome_of settings bits)
+    → EndsAfter settings bits read outcome → done_of outcome ≡ Good
+    → (damage_after settings bits read outcome ≡ whole_damage settings bits) × IsOk (outcome_of settings bits)
 damage_of_good settings bits read (Ok n) ends e = (all_damage settings bits read (Ok n) ends.0 ends.1, rw (ends.1) refl)
 damage_of_good settings bits read (Err UnexpectedEof) ends e = cc
 damage_of_good settings bits read (Err InvalidCode) ends e = cc
@@ -109,9 +97,8 @@ damage_of_good settings bits read (Err Refused) ends e = cc
 
 -- a faulty run writes the whole damage
 pub damage_of_faulty : (settings : DecodeSettings) (bits : Bits) (read : ℕ) (outcome : Outcome)
-    → EndsAfter settings bits read outcome
-    → done_of outcome ≡ Faulty → (damage_after settings bits read outcome ≡ whole_damage settings bits) × IsErr
-    (outcome_of settings bits)
+    → EndsAfter settings bits read outcome → done_of outcome ≡ Faulty
+    → (damage_after settings bits read outcome ≡ whole_damage settings bits) × IsErr (outcome_of settings bits)
 damage_of_faulty settings bits read (Ok n) ends e = cc
 damage_of_faulty settings bits read (Err UnexpectedEof) ends e =
     (all_damage settings bits read (Err UnexpectedEof) ends.0 ends.1, rw (ends.1) refl)
@@ -124,13 +111,11 @@ damage_of_faulty settings bits read (Err Refused) ends e = cc
 
 -- the text is the whole damage, or that up to an allocation failure
 pub is_damage_text : (settings : DecodeSettings) (bits : Bits) (read : ℕ) (outcome : Outcome)
-    → EndsByRow settings bits read outcome
-    → IsDamageText settings bits (damage_after settings bits read outcome)
+    → EndsByRow settings bits read outcome → IsDamageText settings bits (damage_after settings bits read outcome)
 is_damage_text settings bits read (Ok n) ends = inl (all_damage settings bits read (Ok n) ends.0.0 ends.0.1)
 is_damage_text settings bits read (Err UnexpectedEof) ends = inl (all_damage settings bits read
     (Err UnexpectedEof) ends.0.0 ends.0.1)
-is_damage_text settings bits read (Err InvalidCode) ends = inl (all_damage settings bits read
-    (Err InvalidCode) ends.0.0 ends.0.1)
+is_damage_text settings bits read (Err InvalidCode) ends = inl (all_damage settings bits read (Err InvalidCode) ends.0.0 ends.0.1)
 is_damage_text settings bits read (Err Overflow) ends = inl (all_damage settings bits read (Err Overflow) ends.0.0 ends.0.1)
 is_damage_text settings bits read (Err OutOfMemory) ends = inr (read, ends.0, refl)
 is_damage_text settings bits read (Err Refused) ends = absurd (ends.1 refl)

@@ -1,50 +1,80 @@
 -- Arguments and lines, worked out.
-use Rattle.std.proofs.Common.{◌≡◌, refl, [], ◌∷◌, true, false, Some, None, Ok, Err}
-use Rattle.std.specs.Prelude.{codes}
+use Rattle.faxrows.proofs.Names.{◌≡◌, refl, [], ◌∷◌, true, false, Some, None, Ok, Err, codes, InvalidCode, Group4, Group3_1D}
+use Rattle.faxrows.proofs.Names.{Group3_2D, HighestFirst, LowestFirst, arguments_of_words, text_of}
 use Rattle.std.specs.Fmt.{digits}
-use Rattle.hayro_ccitt.specs.declared.error.DecodeError.TheVariants.{InvalidCode}
-use Rattle.hayro_ccitt.specs.declared.settings.EncodingMode.TheVariants.{Group4, Group3_1D, Group3_2D}
-use Rattle.hayro_ccitt.specs.declared.bit_reader.BitOrder.TheVariants.{HighestFirst, LowestFirst}
-use Rattle.faxrows.specs.Arguments.{arguments_of_words}
-use Rattle.faxrows.specs.Text.{text_of}
 
 -- leading zeros are allowed, and `-` is no flag
-plain_words : arguments_of_words (codes "g4" ∷ codes "0000000008" ∷ codes "1" ∷ codes "-" ∷ [])
-    ≡ Some (record {
-      settings = record { columns = 8; rows = 1; end_of_block = false; end_of_line = false; rows_are_byte_aligned = false; encoding = Group4; strict = false };
-      order = HighestFirst;
-    })
+plain_words : arguments_of_words (codes "g4" ∷ codes "0000000008" ∷ codes "1" ∷ codes "-" ∷ []) ≡ Some (record {
+  settings = record {
+    columns = 8;
+    rows = 1;
+    end_of_block = false;
+    end_of_line = false;
+    rows_are_byte_aligned = false;
+    encoding = Group4;
+    strict = false;
+  };
+  order = HighestFirst;
+})
 plain_words = refl
 
 -- the greatest number, and flags in any order
-flags : arguments_of_words (codes "g4" ∷ codes "4294967295" ∷ codes "0" ∷ codes "sab" ∷ [])
-    ≡ Some (record {
-      settings = record { columns = 4294967295; rows = 0; end_of_block = true; end_of_line = false; rows_are_byte_aligned = true; encoding = Group4; strict = true };
-      order = HighestFirst;
-    })
+flags : arguments_of_words (codes "g4" ∷ codes "4294967295" ∷ codes "0" ∷ codes "sab" ∷ []) ≡ Some (record {
+  settings = record {
+    columns = 4294967295;
+    rows = 0;
+    end_of_block = true;
+    end_of_line = false;
+    rows_are_byte_aligned = true;
+    encoding = Group4;
+    strict = true;
+  };
+  order = HighestFirst;
+})
 flags = refl
 
 -- a mode of Group 3
-one_dimension : arguments_of_words (codes "1d" ∷ codes "8" ∷ codes "0" ∷ codes "l" ∷ [])
-    ≡ Some (record {
-      settings = record { columns = 8; rows = 0; end_of_block = false; end_of_line = true; rows_are_byte_aligned = false; encoding = Group3_1D; strict = false };
-      order = HighestFirst;
-    })
+one_dimension : arguments_of_words (codes "1d" ∷ codes "8" ∷ codes "0" ∷ codes "l" ∷ []) ≡ Some (record {
+  settings = record {
+    columns = 8;
+    rows = 0;
+    end_of_block = false;
+    end_of_line = true;
+    rows_are_byte_aligned = false;
+    encoding = Group3_1D;
+    strict = false;
+  };
+  order = HighestFirst;
+})
 one_dimension = refl
 
-two_dimensions : arguments_of_words (codes "2d" ∷ codes "8" ∷ codes "1" ∷ codes "sal" ∷ [])
-    ≡ Some (record {
-      settings = record { columns = 8; rows = 1; end_of_block = false; end_of_line = true; rows_are_byte_aligned = true; encoding = Group3_2D; strict = true };
-      order = HighestFirst;
-    })
+two_dimensions : arguments_of_words (codes "2d" ∷ codes "8" ∷ codes "1" ∷ codes "sal" ∷ []) ≡ Some (record {
+  settings = record {
+    columns = 8;
+    rows = 1;
+    end_of_block = false;
+    end_of_line = true;
+    rows_are_byte_aligned = true;
+    encoding = Group3_2D;
+    strict = true;
+  };
+  order = HighestFirst;
+})
 two_dimensions = refl
 
 -- r selects the lowest bit of each byte first, and is no setting
-lowest_first : arguments_of_words (codes "g4" ∷ codes "8" ∷ codes "1" ∷ codes "br" ∷ [])
-    ≡ Some (record {
-      settings = record { columns = 8; rows = 1; end_of_block = true; end_of_line = false; rows_are_byte_aligned = false; encoding = Group4; strict = false };
-      order = LowestFirst;
-    })
+lowest_first : arguments_of_words (codes "g4" ∷ codes "8" ∷ codes "1" ∷ codes "br" ∷ []) ≡ Some (record {
+  settings = record {
+    columns = 8;
+    rows = 1;
+    end_of_block = true;
+    end_of_line = false;
+    rows_are_byte_aligned = false;
+    encoding = Group4;
+    strict = false;
+  };
+  order = LowestFirst;
+})
 lowest_first = refl
 
 -- a number too large, a number too long, a letter twice, r twice, no flag, another mode, an argument too many

@@ -1,5 +1,6 @@
 pub mod DamageTexts
 pub mod Examples
+pub mod Names
 pub mod Outputs
 pub mod PackedRuns
 pub mod RowsInTurn

@@ -1,12 +1,7 @@
 -- What a writer took of texts that come one after another.
-use Rattle.std.proofs.Common.{◌≡◌, ◌<◌, ◌+◌, ℕ, List, [], ◌∷◌, ◌++◌, Option, length, take, drop, get_or, sym, ap, subst, ◌∙◌, append_assoc, append-nil, take-append-drop}
-use Rattle.std.specs.Prelude.{flat_map}
-use Rattle.std.proofs.lemmas.List.{take_more}
-use Rattle.std.proofs.lemmas.Grind.{flat_map-append}
-use Rattle.std.proofs.KnownBytes.{Appends-nil, Appends-trans}
-use Rattle.fax_program.specs.Devices.{AppendsFront}
-use Rattle.faxrows.specs.Output.{PassesOn}
-use Rattle.faxrows.specs.Text.{line_of_row, text_of_change}
+use Rattle.faxrows.proofs.Names.{◌≡◌, ◌<◌, ◌+◌, ℕ, List, [], ◌∷◌, ◌++◌, Option, length, take, drop, get_or, sym, ap, subst, ◌∙◌}
+use Rattle.faxrows.proofs.Names.{append_assoc, append-nil, take-append-drop, flat_map, take_more, flat_map-append, Appends-nil}
+use Rattle.faxrows.proofs.Names.{Appends-trans, AppendsFront, PassesOn, line_of_row, text_of_change}
 
 -- a text after what was written and what waits
 regrouped : (waited text front waits more : List ℕ) → waited ++ text ≡ front ++ waits → waited ++ (text ++ more) ≡ front
@@ -57,8 +52,7 @@ pub pieces_more : {A : Type 0} (piece : A → List ℕ) (xs : List A) (i : ℕ) 
     → flat_map piece (take i xs) ++ piece (get_or xs i d) ≡ flat_map piece (take (i + 1) xs)
 pieces_more piece xs i d inside =
     ap (λ l. flat_map piece (take i xs) ++ l) (sym (append-nil (piece (get_or xs i d))))
-    ∙ sym (flat_map-append piece (take i xs) (get_or xs i d ∷ []))
-    ∙ ap (flat_map piece) (sym (take_more xs i d inside))
+    ∙ sym (flat_map-append piece (take i xs) (get_or xs i d ∷ [])) ∙ ap (flat_map piece) (sym (take_more xs i d inside))
 
 -- the pieces up to an index, and those after it
 pub pieces_rest : {A : Type 0} (piece : A → List ℕ) (xs : List A) (n : ℕ) → flat_map piece (take n xs) ++ flat_map piece

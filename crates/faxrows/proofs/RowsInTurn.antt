@@ -1,13 +1,7 @@
 -- Rows that come one after another, as lines.
-use Rattle.std.proofs.Common.{◌≡◌, ◌<◌, ◌≤◌, ◌+◌, ℕ, List, [], ◌++◌, refl, true, Ok, length, take, get_or, sym, ap, ◌∙◌, arith}
-use Rattle.std.proofs.lemmas.List.{get_or-map, length-map}
-use Rattle.hayro_ccitt.specs.declared.settings.DecodeSettings.{DecodeSettings}
-use Rattle.hayro_ccitt.specs.Bits.{Bits}
-use Rattle.hayro_ccitt.specs.PlainReading.{plain}
-use Rattle.hayro_ccitt.specs.Rows.{changes}
-use Rattle.hayro_ccitt.specs.RowsRead.{RowsRead, ReadsNext}
-use Rattle.faxrows.specs.Runs.{rows_of}
-use Rattle.faxrows.specs.Text.{line_of_row, lines_of_rows}
+use Rattle.faxrows.proofs.Names.{◌≡◌, ◌<◌, ◌≤◌, ◌+◌, ℕ, List, [], ◌++◌, refl, true, Ok, length, take, get_or, sym, ap, ◌∙◌, arith}
+use Rattle.faxrows.proofs.Names.{get_or-map, length-map, DecodeSettings, Bits, plain, changes, RowsRead, ReadsNext, rows_of}
+use Rattle.faxrows.proofs.Names.{line_of_row, lines_of_rows}
 use Rattle.faxrows.proofs.Outputs.{pieces_more}
 
 -- the row of some data with this index came
@@ -25,17 +19,14 @@ same_rows s t b c p q = ap (λ (x : DecodeSettings). rows_of x b) p ∙ ap (rows
 
 -- the lines of the first n rows, and of the next one
 lines_more : (rows : List (List ℕ)) (row : List ℕ) (index taken : ℕ) → index < length rows → row ≡ get_or rows index []
-    → taken ≡ index + 1
-    → lines_of_rows (take index rows) ++ line_of_row row ≡ lines_of_rows (take taken rows)
+    → taken ≡ index + 1 → lines_of_rows (take index rows) ++ line_of_row row ≡ lines_of_rows (take taken rows)
 lines_more rows row index taken inside is next =
-    ap (λ (r : List ℕ). lines_of_rows (take index rows) ++ line_of_row r) is
-    ∙ pieces_more line_of_row rows index [] inside
+    ap (λ (r : List ℕ). lines_of_rows (take index rows) ++ line_of_row r) is ∙ pieces_more line_of_row rows index [] inside
     ∙ ap (λ (n : ℕ). lines_of_rows (take n rows)) (sym next)
 
 -- a call that reads a row reads the next one
 pub came : (settings : DecodeSettings) (bits : Bits) (old new : RowsRead) → old.settings ≡ settings → old.bits ≡ bits
-    → ReadsNext old new (Ok true)
-    → Came settings bits old.taken new
+    → ReadsNext old new (Ok true) → Came settings bits old.taken new
 came settings bits old new of_settings of_bits reads =
     let more = reads.more refl in
     let rows = (plain old.settings old.bits).rows in

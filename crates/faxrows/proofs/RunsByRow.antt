@@ -1,16 +1,11 @@
 -- What a run writes row by row, from how the reading ended.
-use Rattle.std.proofs.Common.{◌≡◌, ℕ, refl, inl, inr, Ok, Err}
-use Rattle.hayro_ccitt.specs.declared.error.DecodeError.TheVariants.{UnexpectedEof, InvalidCode, Overflow, OutOfMemory, Refused}
-use Rattle.hayro_ccitt.specs.declared.settings.DecodeSettings.{DecodeSettings}
-use Rattle.hayro_ccitt.specs.Bits.{Bits}
-use Rattle.faxrows.specs.declared.program.Done.TheVariants.{Memory}
-use Rattle.faxrows.specs.Runs.{Outcome, done_of, text_after}
-use Rattle.faxrows.specs.RunsByRow.{EndsByRow, IsTextByRow, IsTextWithoutMemory}
+use Rattle.faxrows.proofs.Names.{◌≡◌, ℕ, refl, inl, inr, Ok, Err, UnexpectedEof, InvalidCode, Overflow, OutOfMemory, Refused}
+use Rattle.faxrows.proofs.Names.{DecodeSettings, Bits, Memory, Outcome, done_of, text_after, EndsByRow, IsTextByRow}
+use Rattle.faxrows.proofs.Names.{IsTextWithoutMemory}
 use Rattle.faxrows.proofs.Texts.{text_of_good, text_of_faulty}
 
 -- the text is the whole one, or that of an allocation failure
-pub text_by_row : (settings : DecodeSettings) (bits : Bits) (read : ℕ) (outcome : Outcome)
-    → EndsByRow settings bits read outcome
+pub text_by_row : (settings : DecodeSettings) (bits : Bits) (read : ℕ) (outcome : Outcome) → EndsByRow settings bits read outcome
     → IsTextByRow settings bits (text_after settings bits read outcome)
 text_by_row settings bits read (Ok n) ends = inl (text_of_good settings bits read (Ok n) (ends.0.0, ends.0.1) refl).0
 text_by_row settings bits read (Err UnexpectedEof) ends = inl (text_of_faulty settings bits read (Err UnexpectedEof)

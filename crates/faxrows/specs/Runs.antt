@@ -45,19 +45,25 @@ text_after settings bits taken outcome = text_of (take taken (rows_of settings b
 -- failure while a line that paints black is read; or because the next row was refused.
 abbrev pub EndsAfter : DecodeSettings → Bits → ℕ → Outcome → Type 0
 EndsAfter settings bits taken (Ok count) = (taken ≡ length (rows_of settings bits)) × (outcome_of settings bits ≡ Ok count)
-EndsAfter settings bits taken (Err UnexpectedEof) = (taken ≡ length (rows_of settings bits)) × (outcome_of settings bits ≡ Err UnexpectedEof)
-EndsAfter settings bits taken (Err InvalidCode) = (taken ≡ length (rows_of settings bits)) × (outcome_of settings bits ≡ Err InvalidCode)
-EndsAfter settings bits taken (Err Overflow) = (taken ≡ length (rows_of settings bits)) × (outcome_of settings bits ≡ Err Overflow)
-EndsAfter settings bits taken (Err OutOfMemory) = (taken ≤ length (rows_of settings bits)) × PaintsBlack (lines_of settings bits) taken
+EndsAfter settings bits taken (Err UnexpectedEof) =
+    (taken ≡ length (rows_of settings bits)) × (outcome_of settings bits ≡ Err UnexpectedEof)
+EndsAfter settings bits taken (Err InvalidCode) =
+    (taken ≡ length (rows_of settings bits)) × (outcome_of settings bits ≡ Err InvalidCode)
+EndsAfter settings bits taken (Err Overflow) =
+    (taken ≡ length (rows_of settings bits)) × (outcome_of settings bits ≡ Err Overflow)
+EndsAfter settings bits taken (Err OutOfMemory) =
+    (taken ≤ length (rows_of settings bits)) × PaintsBlack (lines_of settings bits) taken
 EndsAfter settings bits taken (Err Refused) = taken < length (rows_of settings bits)
 
 -- the lines of the accepted rows, then the last line, which says whether an allocation failure or a refusal ended the
 -- decoding there
 abbrev pub IsTextOfWant : DecodeSettings → Bits → List ℕ → Type 0
 IsTextOfWant settings bits text =
-    (taken : ℕ) × (outcome : Outcome) × EndsAfter settings bits taken outcome × (done_of outcome ≡ Memory) × (text ≡ text_after settings bits taken outcome)
+    (taken : ℕ) × (outcome : Outcome) × EndsAfter settings bits taken outcome × (done_of outcome ≡ Memory)
+    × (text ≡ text_after settings bits taken outcome)
 
--- How a run ended that wrote its text: with all of it, after a reading that ended well or at a fault, or with one that is cut short
+-- How a run ended that wrote its text: with all of it, after a reading that ended well or at a fault, or with one that is cut
+-- short
 -- by an allocation failure or a refusal.
 abbrev pub IsEndOfRun : Done → Outcome → List ℕ → (List ℕ → Type 0) → (List ℕ → Type 0) → Type 0
 IsEndOfRun Good outcome whole IsCut Wrote = IsOk outcome × Wrote whole

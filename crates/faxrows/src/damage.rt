@@ -1,12 +1,14 @@
 //! A run of the program that writes the damage of the data instead of its rows.
 
-ghost use Rattle.std.specs.Prelude.{◌≡◌, ◌<◌, ◌-◌, ◌↔◌, ◌≢◌, ◌++◌, [], IfOk, IfErr, OnOk, OnErr, IfSome, IsOk, IsErr, true, false, map, string_bytes, length, None, Some, Ok, Err, List, ℕ};
+ghost use Rattle.std.specs.Prelude.{◌≡◌, ◌<◌, ◌-◌, ◌↔◌, ◌≢◌, ◌++◌, [], IfOk, IfErr, OnOk, OnErr, IfSome, IsOk, IsErr, true};
+ghost use Rattle.std.specs.Prelude.{false, map, string_bytes, length, None, Some, Ok, Err, List, ℕ};
 ghost use Rattle.std.specs.Io.KnownBytes.{Appends, IsAtEnd};
 ghost use Rattle.hayro_ccitt.specs.Bits.{BitsFit};
 ghost use Rattle.hayro_ccitt.specs.PlainReading.{failed_at};
 ghost use Rattle.fax_program.specs.Devices.{AppendsFront, WasRead};
 ghost use Rattle.faxrows.specs.Arguments.{arguments_of_words};
-ghost use Rattle.faxrows.specs.DamageText.{IsDamageText, IsDamageWithoutMemory, damage_after, damage_lines, last_line_of_damage, line_of_damage, whole_damage};
+ghost use Rattle.faxrows.specs.DamageText.{IsDamageText, IsDamageWithoutMemory, damage_after, damage_lines, last_line_of_damage};
+ghost use Rattle.faxrows.specs.DamageText.{line_of_damage, whole_damage};
 ghost use Rattle.faxrows.specs.Output.{PassesOn};
 ghost use Rattle.faxrows.specs.Runs.{Outcome, OnKnown, rows_of, outcome_of, done_of, IsEndOfRun};
 ghost use Rattle.faxrows.specs.RunsByRow.{EndsByRow};

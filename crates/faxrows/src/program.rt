@@ -1,12 +1,14 @@
 //! A run of the program: decodes all that a reader has, and writes it as text.
 
-ghost use Rattle.std.specs.Prelude.{◌≡◌, ◌≤◌, ◌↔◌, ◌≢◌, IfOk, IfErr, OnOk, OnErr, IfSome, IsOk, IsErr, true, false, map, string_bytes, None, Ok, Err, List, ℕ};
+ghost use Rattle.std.specs.Prelude.{◌≡◌, ◌≤◌, ◌↔◌, ◌≢◌, IfOk, IfErr, OnOk, OnErr, IfSome, IsOk, IsErr, true, false, map};
+ghost use Rattle.std.specs.Prelude.{string_bytes, None, Ok, Err, List, ℕ};
 ghost use Rattle.std.specs.Io.KnownBytes.{Appends, IsAtEnd};
 ghost use Rattle.hayro_ccitt.specs.Bits.{BitsFit, bits_in};
 ghost use Rattle.fax_program.specs.Devices.{WasRead};
 ghost use Rattle.faxrows.specs.Arguments.{arguments_of_words};
 ghost use Rattle.faxrows.specs.Text.{line_of_outcome};
-ghost use Rattle.faxrows.specs.Runs.{Outcome, OnKnown, EndsAfter, IsTextOfWant, whole_text, text_after, outcome_of, done_of, IsEndOfRun};
+ghost use Rattle.faxrows.specs.Runs.{Outcome, OnKnown, EndsAfter, IsTextOfWant, whole_text, text_after, outcome_of, done_of};
+ghost use Rattle.faxrows.specs.Runs.{IsEndOfRun};
 
 use crate::arguments::arguments_of;
 use crate::last_line::{ROOM, error_line, put_ok};

@@ -1,5 +1,6 @@
 -- What calls return of what a definition says.
-use Rattle.std.specs.Prelude.{◌≡◌, ◌≢◌, ◌<◌, ℕ, Bool, true, false, ◌∷◌, ◌++◌, length, map, slice_get, Some, Result, Ok, Err, Contains, List}
+use Rattle.std.specs.Prelude.{◌≡◌, ◌≢◌, ◌<◌, ℕ, Bool, true, false, ◌∷◌, ◌++◌, length, map, slice_get, Some, Result, Ok, Err}
+use Rattle.std.specs.Prelude.{Contains, List}
 use Rattle.std.specs.List.{fold}
 use Rattle.hayro_ccitt.specs.declared.error.DecodeError.{DecodeError}
 use Rattle.hayro_ccitt.specs.declared.error.DecodeError.TheVariants.{UnexpectedEof, InvalidCode, Overflow, OutOfMemory, Refused}

@@ -17,8 +17,10 @@ bit_of n k = (n / 2 ^ k) % 2 == 1
 -- the eight bits of a byte, its highest or its lowest first: T.4 and T.6 speak of bits alone, and files and modems store
 -- them in bytes in either order
 abbrev pub bits_of_byte : BitOrder → ℕ → Bits
-bits_of_byte HighestFirst n = bit_of n 7 ∷ bit_of n 6 ∷ bit_of n 5 ∷ bit_of n 4 ∷ bit_of n 3 ∷ bit_of n 2 ∷ bit_of n 1 ∷ bit_of n 0 ∷ []
-bits_of_byte LowestFirst n = bit_of n 0 ∷ bit_of n 1 ∷ bit_of n 2 ∷ bit_of n 3 ∷ bit_of n 4 ∷ bit_of n 5 ∷ bit_of n 6 ∷ bit_of n 7 ∷ []
+bits_of_byte HighestFirst n =
+    bit_of n 7 ∷ bit_of n 6 ∷ bit_of n 5 ∷ bit_of n 4 ∷ bit_of n 3 ∷ bit_of n 2 ∷ bit_of n 1 ∷ bit_of n 0 ∷ []
+bits_of_byte LowestFirst n =
+    bit_of n 0 ∷ bit_of n 1 ∷ bit_of n 2 ∷ bit_of n 3 ∷ bit_of n 4 ∷ bit_of n 5 ∷ bit_of n 6 ∷ bit_of n 7 ∷ []
 
 -- the bits of bytes, each byte's in this order
 abbrev pub bits_in : BitOrder → List ℕ → Bits

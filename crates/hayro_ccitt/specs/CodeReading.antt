@@ -1,5 +1,6 @@
 -- Reading a list of code words.
-use Rattle.std.specs.Prelude.{◌≡◌, ℕ, suc, Bool, true, false, not, ◌&&◌, ◌||◌, List, [], ◌∷◌, Option, Some, None, Result, Ok, Err, if◌then◌else◌, is_some, ◌⊎◌, ◌++◌, ◌↔◌}
+use Rattle.std.specs.Prelude.{◌≡◌, ℕ, suc, Bool, true, false, not, ◌&&◌, ◌||◌, List, [], ◌∷◌, Option, Some, None, Result, Ok}
+use Rattle.std.specs.Prelude.{Err, if◌then◌else◌, is_some, ◌⊎◌, ◌++◌, ◌↔◌}
 use mathlib.Core.Bool.{beq}
 use Rattle.std.specs.List.{list_all}
 use Rattle.hayro_ccitt.specs.declared.error.DecodeError.{DecodeError}
@@ -87,7 +88,8 @@ IsCut {V} list here = (v : V) × (w : Bits) × Has list v w × IsPrefix here w
 -- `UnexpectedEof` if the bits up to the end are a prefix of a word, and `InvalidCode` if they aren't.
 pub record ReadsCodes {V : Type 0} (list : List (Code V)) : Type 0 where
   pub found : (here : Bits) (v : V) (rest : Bits) → (read_code list here ≡ Ok (v, rest)) ↔ Stands list here v rest
-  pub alone : (here : Bits) (v : V) (rest more : Bits) → read_code list here ≡ Ok (v, rest) → read_code list (here ++ more) ≡ Ok (v, rest ++ more)
+  pub alone : (here : Bits) (v : V) (rest more : Bits) → read_code list here ≡ Ok (v, rest)
+      → read_code list (here ++ more) ≡ Ok (v, rest ++ more)
   pub cut : (here : Bits) → (read_code list here ≡ Err UnexpectedEof) ↔ (NoneStands list here × IsCut list here)
   pub wrong : (here : Bits) → (read_code list here ≡ Err InvalidCode) ↔ (NoneStands list here × (IsCut list here → ⊥))
 

@@ -1,5 +1,6 @@
 -- What a context holds between its calls.
-use Rattle.std.specs.Prelude.{ℕ, zero, suc, ◌+◌, ◌-◌, [], ◌++◌, Bool, false, ◌||◌, ◌==◌, if◌then◌else◌, length, replicate, Result, ◌≡◌, ◌≤◌, ◌<◌, List, get_or, filter, nat_le, Option, None}
+use Rattle.std.specs.Prelude.{ℕ, zero, suc, ◌+◌, ◌-◌, [], ◌++◌, Bool, false, ◌||◌, ◌==◌, if◌then◌else◌, length, replicate}
+use Rattle.std.specs.Prelude.{Result, ◌≡◌, ◌≤◌, ◌<◌, List, get_or, filter, nat_le, Option, None}
 use Rattle.hayro_ccitt.specs.declared.codes.Color.{Color}
 use Rattle.hayro_ccitt.specs.declared.codes.Color.TheVariants.{White}
 use Rattle.hayro_ccitt.specs.declared.settings.DecodeSettings.{DecodeSettings}
@@ -47,7 +48,16 @@ pub record Context : Type 0 where
 -- what a new context holds: a white reference row, nothing painted, no row accepted (T.4, 4.2.1.1)
 abbrev pub fresh : DecodeSettings → Held
 fresh settings =
-    record { reference = white_row settings.columns; front = []; color = White; taken = 0; repairs = no_repairs; has_eols = false; fault_start = None; settings = settings }
+    record {
+      reference = white_row settings.columns;
+      front = [];
+      color = White;
+      taken = 0;
+      repairs = no_repairs;
+      has_eols = false;
+      fault_start = None;
+      settings = settings;
+    }
 
 -- the row of a list of changes: a front that isn't full is continued in its last colour, and an empty one in white (T.4,
 -- 4.2.1.1)
@@ -65,12 +75,30 @@ painted_front h count = paint h.settings.strict h.settings.columns h.front h.col
 -- the row that was drawn becomes the reference row, and the front is empty (T.4, 4.2.1.1)
 abbrev pub after_taking : Held → Held
 after_taking h =
-    record { reference = taken_row h; front = []; color = White; taken = h.taken + 1; repairs = h.repairs; has_eols = h.has_eols; fault_start = h.fault_start; settings = h.settings }
+    record {
+      reference = taken_row h;
+      front = [];
+      color = White;
+      taken = h.taken + 1;
+      repairs = h.repairs;
+      has_eols = h.has_eols;
+      fault_start = h.fault_start;
+      settings = h.settings;
+    }
 
 -- another front and another colour, and the rest as it was (auxiliary)
 abbrev pub redrawn : Held → Row → Color → Held
 redrawn h front color =
-    record { reference = h.reference; front = front; color = color; taken = h.taken; repairs = h.repairs; has_eols = h.has_eols; fault_start = h.fault_start; settings = h.settings }
+    record {
+      reference = h.reference;
+      front = front;
+      color = color;
+      taken = h.taken;
+      repairs = h.repairs;
+      has_eols = h.has_eols;
+      fault_start = h.fault_start;
+      settings = h.settings;
+    }
 
 -- a damaged line is repaired: its front is continued in white, and the colour is white (T.4, 4.1.2)
 abbrev pub after_repair : Held → Held

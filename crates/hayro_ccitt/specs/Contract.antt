@@ -17,12 +17,14 @@ use Rattle.hayro_ccitt.specs.Work.{CountsWork}
 
 -- What decoding leaves in a sink of this step, in the context, in the count of work and as its result, for data with
 -- these bits.
-pub record Decodes {M : Type 0} (settings : DecodeSettings) (bits : Bits) (step : M → List ℕ → M) (before after : SinkState M) (held : Held) (ticks : ℕ) (answer : Result ℕ DecodeError) : Type 0 where
+pub record Decodes {M : Type 0} (settings : DecodeSettings) (bits : Bits) (step : M → List ℕ → M) (before after : SinkState M)
+    (held : Held) (ticks : ℕ) (answer : Result ℕ DecodeError) : Type 0 where
   -- It counts at least the words of the accepted rows, and at most 128 ticks a bit and 256 more (T.4, 4.1 and 4.2; T.6,
   -- 2.2).
   pub work : CountsWork settings bits held.taken ticks
   -- The rows, the result and the byte count are those of the plain reading (T.4, 4.1 and 4.2; T.6, 2.2 and 2.4.1).
-  pub reading : TakesRows (plain settings bits).rows (plain settings bits).outcome (plain settings bits).has_eols step before after held answer
+  pub reading : TakesRows (plain settings bits).rows (plain settings bits).outcome
+      (plain settings bits).has_eols step before after held answer
   -- Unless an allocation failed or the sink refused a row, the sink means all rows, in order (T.4, 4.2.1.1).
   pub whole : OnAnswer answer (after.meaning ≡ meaning_after step before.meaning (plain settings bits).rows)
   -- Each row has as many pixels as there are columns (T.4, 4.1.1).
@@ -61,7 +63,8 @@ pub record Decodes {M : Type 0} (settings : DecodeSettings) (bits : Bits) (step 
   pub closed_eols : (rows : List Row) (count : ℕ) → IsClosedPicture settings rows count bits → held.repairs.missed ≡ 0
   pub limited_eols : (rows : List Row) → IsLimitedPicture settings rows bits → held.repairs.missed ≡ 0
   -- Where the strict reading ends without a fault, no row is repaired and no EOL missed (T.4, 4.1.2).
-  pub undamaged : IsOk (plain (record settings { strict = true }) bits).outcome → (held.repairs.rows ≡ 0) × (held.repairs.missed ≡ 0)
+  pub undamaged : IsOk (plain (record settings { strict = true }) bits).outcome → (held.repairs.rows ≡ 0)
+      × (held.repairs.missed ≡ 0)
   -- In lenient one-dimensional data with EOLs a change inside one line's body changes that row alone (T.4, 4.1.2).
   pub damage : OnAnswer answer (DamageStaysInRow settings bits (take held.taken (plain settings bits).rows) answer)
   -- In two-dimensional ones a change inside one line changes no row from the next one-dimensional line on, if the lines in

@@ -1,5 +1,6 @@
 -- Damage that a lenient reading of Group 3 data with EOLs passes: rows that it repairs, and EOLs that it misses (T.4, 4.1.2).
-use Rattle.std.specs.Prelude.{ℕ, ◌+◌, ◌-◌, Bool, not, ◌&&◌, ◌||◌, List, [], ◌∷◌, ◌++◌, length, flat_map, ◌==◌, Option, Some, None, if◌then◌else◌}
+use Rattle.std.specs.Prelude.{ℕ, ◌+◌, ◌-◌, Bool, not, ◌&&◌, ◌||◌, List, [], ◌∷◌, ◌++◌, length, flat_map, ◌==◌, Option, Some}
+use Rattle.std.specs.Prelude.{None, if◌then◌else◌}
 use Rattle.hayro_ccitt.specs.declared.error.DecodeError.{DecodeError}
 use Rattle.hayro_ccitt.specs.declared.error.DecodeError.TheVariants.{InvalidCode}
 use Rattle.hayro_ccitt.specs.declared.settings.DecodeSettings.{DecodeSettings}
@@ -45,8 +46,13 @@ repairs_of settings bits = flat_map (λ repaired. repaired) (repairs_by_line set
 -- what is missed after a line: its EOL, if the line is whole and other bits follow, in lenient data with EOLs (T.4, 4.1.2)
 abbrev pub missed_behind : DecodeSettings → Bits → Progress → Line → List Damaged
 missed_behind settings bits so_far (Line.whole row rest) =
-    if misses_eol settings (length so_far.rows + 1) so_far.has_eols (behind_row settings so_far.has_eols rest) && not settings.strict
-    then record { row = length so_far.rows; start = length bits - length (behind_row settings so_far.has_eols rest); fault = InvalidCode } ∷ []
+    if misses_eol settings (length so_far.rows + 1) so_far.has_eols
+    (behind_row settings so_far.has_eols rest) && not settings.strict
+    then record {
+      row = length so_far.rows;
+      start = length bits - length (behind_row settings so_far.has_eols rest);
+      fault = InvalidCode;
+    } ∷ []
     else []
 missed_behind settings bits so_far (Line.broken front fault) = []
 
@@ -72,4 +78,5 @@ damaged_by_turn settings bits so_far = repaired_by_turn settings bits so_far ++ 
 -- (T.4, 4.1.2).
 abbrev pub damage_of : DecodeSettings → Bits → List Damaged
 damage_of settings bits =
-    if settings.columns == 0 then [] else flat_map (λ damaged. damaged) (gathered_of settings (damaged_by_turn settings bits) bits)
+    if settings.columns == 0 then [] else flat_map (λ damaged. damaged)
+    (gathered_of settings (damaged_by_turn settings bits) bits)

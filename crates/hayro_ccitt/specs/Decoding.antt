@@ -1,5 +1,6 @@
 -- What decoding leaves: in the sink, in the context, and of the reading.
-use Rattle.std.specs.Prelude.{sum_by, ◌≡◌, ◌≢◌, ◌≤◌, ◌<◌, ℕ, ◌+◌, ◌-◌, Bool, true, false, not, ◌&&◌, if◌then◌else◌, List, [], length, take, get_or, Result, Ok, Err, OnOk, OnErr, IfOk, IfErr}
+use Rattle.std.specs.Prelude.{sum_by, ◌≡◌, ◌≢◌, ◌≤◌, ◌<◌, ℕ, ◌+◌, ◌-◌, Bool, true, false, not, ◌&&◌, if◌then◌else◌, List, []}
+use Rattle.std.specs.Prelude.{length, take, get_or, Result, Ok, Err, OnOk, OnErr, IfOk, IfErr}
 use Rattle.hayro_ccitt.specs.declared.codes.Color.TheVariants.{White}
 use Rattle.hayro_ccitt.specs.declared.error.DecodeError.{DecodeError}
 use Rattle.hayro_ccitt.specs.declared.error.DecodeError.TheVariants.{OutOfMemory, Refused}
@@ -9,7 +10,9 @@ use Rattle.hayro_ccitt.specs.Context.{Context, Held, Repairs, redrawn, with_miss
 use Rattle.hayro_ccitt.specs.Damage.{Damaged, repaired_by_turn, missed_by_turn}
 use Rattle.hayro_ccitt.specs.declared.settings.DecodeSettings.{DecodeSettings}
 use Rattle.hayro_ccitt.specs.Lines.{Line}
-use Rattle.hayro_ccitt.specs.PlainReading.{Progress, Ending, Gap, move_on, one_each, end_of, ending_from, gathered_of, gathered_from, line_of_turn, start_of_turn, end_of_turn, failing_at, failed_at, misses_eol}
+use Rattle.hayro_ccitt.specs.PlainReading.{Progress, Ending, Gap, move_on, one_each, end_of, ending_from, gathered_of}
+use Rattle.hayro_ccitt.specs.PlainReading.{gathered_from, line_of_turn, start_of_turn, end_of_turn, failing_at, failed_at}
+use Rattle.hayro_ccitt.specs.PlainReading.{misses_eol}
 use Rattle.hayro_ccitt.specs.Rows.{Row, changes}
 use Rattle.hayro_ccitt.specs.Work.{CountsRun, words_of_turn, most_counted}
 
@@ -23,7 +26,8 @@ pub record SinkState (M : Type 0) : Type 1 where
 
 -- Which rows were accepted and what was returned, for a reading with these rows, this end and this state of its EOLs: the
 -- first of its rows were accepted, each as its changes, and all of them unless an allocation failed or a row was refused.
-pub record TakesRows {M A : Type 0} (rows : List Row) (outcome : Result A DecodeError) (sought : Bool) (step : M → List ℕ → M) (before after : SinkState M) (held : Held) (answer : Result A DecodeError) : Type 0 where
+pub record TakesRows {M A : Type 0} (rows : List Row) (outcome : Result A DecodeError) (sought : Bool) (step : M → List ℕ → M)
+    (before after : SinkState M) (held : Held) (answer : Result A DecodeError) : Type 0 where
   pub taken : held.taken ≤ length rows
   pub meaning : after.meaning ≡ meaning_after step before.meaning (take held.taken rows)
   pub all : OnAnswer answer (held.taken ≡ length rows)
@@ -33,7 +37,8 @@ pub record TakesRows {M A : Type 0} (rows : List Row) (outcome : Result A Decode
 
 -- When fewer were accepted: an allocation fails only in a line that paints a black pixel, a row is refused only where
 -- there is one, and only then does the sink say that it has refused.
-pub record StopsShort {M A : Type 0} (rows : List Row) (lines : List Line) (before after : SinkState M) (held : Held) (answer : Result A DecodeError) : Type 0 where
+pub record StopsShort {M A : Type 0} (rows : List Row) (lines : List Line) (before after : SinkState M) (held : Held)
+    (answer : Result A DecodeError) : Type 0 where
   pub memory : answer ≡ Err OutOfMemory → PaintsBlack lines held.taken
   pub refused : answer ≡ Err Refused → held.taken < length rows
   pub refused_row : answer ≡ Err Refused → after.refuses (changes (get_or rows held.taken []))
@@ -42,7 +47,8 @@ pub record StopsShort {M A : Type 0} (rows : List Row) (lines : List Line) (befo
 
 -- How much damage was counted after this number of rows, if the lines of a reading yield this damage: that of the accepted rows,
 -- and all of it unless an allocation failed or a row was refused (T.4, 4.1.2).
-pub record CountsDamage {A : Type 0} (by_line : List (List Damaged)) (taken counted : ℕ) (answer : Result A DecodeError) : Type 0 where
+pub record CountsDamage {A : Type 0} (by_line : List (List Damaged)) (taken counted : ℕ)
+    (answer : Result A DecodeError) : Type 0 where
   pub of_taken : counted ≡ sum_by length (take taken by_line)
   pub all : OnAnswer answer (counted ≡ sum_by length by_line)
 
@@ -50,7 +56,9 @@ pub record CountsDamage {A : Type 0} (by_line : List (List Damaged)) (taken coun
 
 -- What a run over rows leaves, from the end of its reading, its lines, their words, repairs and missed EOLs: the accepted rows,
 -- why there are fewer if there are, how many were repaired, how many EOLs were missed, and at most this much work.
-pub record TakesAll {M : Type 0} (end : Ending) (lines : List Line) (words : List (List Bits)) (repairs misses : List (List Damaged)) (most : ℕ) (step : M → List ℕ → M) (before after : SinkState M) (old new : Context) (answer : Result Bits DecodeError) : Type 0 where
+pub record TakesAll {M : Type 0} (end : Ending) (lines : List Line) (words : List (List Bits))
+    (repairs misses : List (List Damaged)) (most : ℕ) (step : M → List ℕ → M) (before after : SinkState M) (old new : Context)
+    (answer : Result Bits DecodeError) : Type 0 where
   pub settings : new.held.settings ≡ old.held.settings
   pub reading : TakesRows end.rows end.outcome end.has_eols step before after new.held answer
   pub short : StopsShort end.rows lines before after new.held answer
@@ -59,12 +67,14 @@ pub record TakesAll {M : Type 0} (end : Ending) (lines : List Line) (words : Lis
   pub work : CountsRun words new.held.taken old.ticks new.ticks most
 
 -- a run over the rows of some bits, read by the settings (T.4, 4.1 and 4.2; T.6, 2.2 and 2.4.1)
-abbrev pub DecodesRows : {M : Type 0} → Bits → (M → List ℕ → M) → SinkState M → SinkState M → Context → Context → Result Bits DecodeError → Type 0
+abbrev pub DecodesRows : {M : Type 0} → Bits → (M → List ℕ → M) → SinkState M → SinkState M → Context → Context
+    → Result Bits DecodeError → Type 0
 DecodesRows bits step before after old new answer =
     TakesAll (end_of old.held.settings bits) (gathered_of old.held.settings (line_of_turn old.held.settings) bits)
     (gathered_of old.held.settings (words_of_turn old.held.settings) bits)
     (gathered_of old.held.settings (repaired_by_turn old.held.settings bits) bits)
-    (gathered_of old.held.settings (missed_by_turn old.held.settings bits) bits) (most_counted old.held.settings.encoding (length bits))
+    (gathered_of old.held.settings (missed_by_turn old.held.settings bits) bits)
+    (most_counted old.held.settings.encoding (length bits))
     step before after old new answer
 
 -- a run over the rows of some bits that took this number of rows and left these bits failed where the reading does (T.4, 4.1.2)
@@ -86,7 +96,16 @@ gap_said (Err e) has_eols rest = Gap.over (Err e)
 -- the context after one more accepted row
 abbrev pub with_row_taken : Held → Row → Held
 with_row_taken h row =
-    record { reference = row; front = []; color = White; taken = h.taken + 1; repairs = h.repairs; has_eols = h.has_eols; fault_start = h.fault_start; settings = h.settings }
+    record {
+      reference = row;
+      front = [];
+      color = White;
+      taken = h.taken + 1;
+      repairs = h.repairs;
+      has_eols = h.has_eols;
+      fault_start = h.fault_start;
+      settings = h.settings;
+    }
 
 -- what is repaired of this number of accepted rows, with the row of one more line: a broken line was repaired (T.4, 4.1.2)
 abbrev pub repairs_with : Line → ℕ → Repairs → Repairs
@@ -96,10 +115,12 @@ repairs_with (Line.broken front fault) taken before = record before { rows = bef
 -- what is counted after the gap behind the accepted rows, which begins here: a missed EOL, in lenient data (T.4, 4.1.2)
 abbrev pub repairs_behind : Held → Bits → Repairs
 repairs_behind held here =
-    if misses_eol held.settings held.taken held.has_eols here && not held.settings.strict then with_missed held.taken held.repairs else held.repairs
+    if misses_eol held.settings held.taken held.has_eols here && not held.settings.strict then with_missed held.taken held.repairs
+    else held.repairs
 
 -- the row of a line was accepted, and these bits follow it
-pub record RowIsTaken {M : Type 0} (line : Line) (row : Result (Row × Bits) DecodeError) (step : M → List ℕ → M) (before after : SinkState M) (old new : Held) (rest : Bits) : Type 0 where
+pub record RowIsTaken {M : Type 0} (line : Line) (row : Result (Row × Bits) DecodeError) (step : M → List ℕ → M)
+    (before after : SinkState M) (old new : Held) (rest : Bits) : Type 0 where
   pub taken : Row
   pub is : row ≡ Ok (taken, rest)
   pub held : new ≡ record (with_row_taken old taken) { repairs = repairs_with line old.taken old.repairs }
@@ -111,7 +132,8 @@ IsRefusedBy refuses (Ok (row, rest)) = refuses (changes row)
 IsRefusedBy refuses (Err e) = ⊥
 
 -- What a call leaves that reads a line and passes its row to the sink, where the line yields this row.
-pub record TakesOneRow {M : Type 0} (line : Line) (row : Result (Row × Bits) DecodeError) (step : M → List ℕ → M) (before after : SinkState M) (old new : Held) (answer : Result (Unit {0}) DecodeError) (rest : Bits) : Type 0 where
+pub record TakesOneRow {M : Type 0} (line : Line) (row : Result (Row × Bits) DecodeError) (step : M → List ℕ → M)
+    (before after : SinkState M) (old new : Held) (answer : Result (Unit {0}) DecodeError) (rest : Bits) : Type 0 where
   pub taken : OnOk answer (RowIsTaken line row step before after old new rest)
   pub fault : IfErr answer (λ e. IsFault e → row ≡ Err e)
   pub kept : OnErr answer (after.meaning ≡ before.meaning)
@@ -122,15 +144,19 @@ pub record TakesOneRow {M : Type 0} (line : Line) (row : Result (Row × Bits) De
   pub no_flag : answer ≢ Err Refused → after.refused ≡ before.refused
 
 -- a run over rows that begins at a line among some bits, with at most this much work
-abbrev pub DecodesFrom : {M : Type 0} → Bits → Progress → ℕ → (M → List ℕ → M) → SinkState M → SinkState M → Context → Context → Result Bits DecodeError → Type 0
+abbrev pub DecodesFrom : {M : Type 0} → Bits → Progress → ℕ → (M → List ℕ → M) → SinkState M → SinkState M → Context → Context
+    → Result Bits DecodeError → Type 0
 DecodesFrom bits first most step before after old new answer =
-    TakesAll (ending_from (move_on old.held.settings) first) (gathered_from (move_on old.held.settings) (one_each (line_of_turn old.held.settings)) first)
+    TakesAll (ending_from (move_on old.held.settings) first)
+    (gathered_from (move_on old.held.settings) (one_each (line_of_turn old.held.settings)) first)
     (gathered_from (move_on old.held.settings) (one_each (words_of_turn old.held.settings)) first)
     (gathered_from (move_on old.held.settings) (one_each (repaired_by_turn old.held.settings bits)) first)
-    (gathered_from (move_on old.held.settings) (one_each (missed_by_turn old.held.settings bits)) first) most step before after old new answer
+    (gathered_from (move_on old.held.settings) (one_each (missed_by_turn old.held.settings bits)) first) most step before after
+    old new answer
 
 -- a run over rows that begins at a line among some bits failed where the reading from there does
 abbrev pub FailsFrom : DecodeSettings → Bits → Progress → ℕ → Bits → Type 0
 FailsFrom settings bits first taken rest =
     length bits - length rest
-    ≡ failing_at (gathered_from (move_on settings) (one_each (start_of_turn bits)) first) (gathered_from (move_on settings) (one_each (end_of_turn settings bits)) first) taken
+    ≡ failing_at (gathered_from (move_on settings) (one_each (start_of_turn bits)) first)
+    (gathered_from (move_on settings) (one_each (end_of_turn settings bits)) first) taken

@@ -1,5 +1,6 @@
 -- Encodings of pictures, from rows to bits: nothing is read here (T.4, 4.1 and 4.2; T.6, 2).
-use Rattle.std.specs.Prelude.{◌≡◌, ◌≢◌, ℕ, zero, suc, ◌+◌, ◌-◌, ◌%◌, ◌<◌, ◌≤◌, ℤ, pos, ◌+ℤ◌, Bool, true, false, if◌then◌else◌, ◌⊎◌}
+use Rattle.std.specs.Prelude.{◌≡◌, ◌≢◌, ℕ, zero, suc, ◌+◌, ◌-◌, ◌%◌, ◌<◌, ◌≤◌, ℤ, pos, ◌+ℤ◌, Bool, true, false, if◌then◌else◌}
+use Rattle.std.specs.Prelude.{◌⊎◌}
 use Rattle.std.specs.Prelude.{List, [], ◌∷◌, ◌++◌, length, replicate}
 use Rattle.hayro_ccitt.specs.declared.codes.Color.{Color}
 use Rattle.hayro_ccitt.specs.declared.codes.Color.TheVariants.{White}
@@ -34,7 +35,8 @@ pub data EncodesLine2D (reference row : Row) : ℕ → Color → Bits → Type 0
       → b2 reference from color < a1 row from → EncodesLine2D reference row (suc (b2 reference from color)) color bits
       → EncodesLine2D reference row from color (word ++ bits)
   vertical : (from : ℕ) (word : Bits) (k : ℤ) {color : Color} {bits : Bits} → from ≤ length row → Has mode_codes (Vertical k) word
-      → pos (a1 row from) ≡ pos (b1 reference from color) +ℤ k → EncodesLine2D reference row (suc (a1 row from)) (opposite color) bits
+      → pos (a1 row from) ≡ pos (b1 reference from color) +ℤ k
+      → EncodesLine2D reference row (suc (a1 row from)) (opposite color) bits
       → EncodesLine2D reference row from color (word ++ bits)
   horizontal : (from : ℕ) (word : Bits) {first second : Bits} {color : Color} {bits : Bits}
       → from ≤ length row → Has mode_codes Horizontal word
@@ -89,7 +91,8 @@ tag_of Group4 = []
 -- n EOLs, each with its tag (T.4, 4.1.4 and 4.2.4)
 abbrev pub ClosesWithEols : EncodingMode → ℕ → Bits → Type 0
 ClosesWithEols encoding zero bits = bits ≡ []
-ClosesWithEols encoding (suc n) bits = (fill : ℕ) × (next : Bits) × ClosesWithEols encoding n next × (bits ≡ eol fill ++ tag_of encoding ++ next)
+ClosesWithEols encoding (suc n) bits =
+    (fill : ℕ) × (next : Bits) × ClosesWithEols encoding n next × (bits ≡ eol fill ++ tag_of encoding ++ next)
 
 -- a T.4 stream, closed by RTC, which is six EOLs (T.4, 4.1.4 and 4.2.4)
 abbrev pub PictureT4 : EncodingMode → ℕ → List Row → Bits → Type 0

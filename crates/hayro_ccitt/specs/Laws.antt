@@ -1,5 +1,6 @@
 -- The laws of the plain reading.
-use Rattle.std.specs.Prelude.{◌≡◌, ◌≢◌, ℕ, ◌+◌, ◌-◌, ◌*◌, ◌/◌, ◌^◌, ◌<◌, Bool, true, false, not, ◌&&◌, ◌||◌, nat_le, ◌⊎◌, Result, Ok, Err, IsOk}
+use Rattle.std.specs.Prelude.{◌≡◌, ◌≢◌, ℕ, ◌+◌, ◌-◌, ◌*◌, ◌/◌, ◌^◌, ◌<◌, Bool, true, false, not, ◌&&◌, ◌||◌, nat_le, ◌⊎◌, Result}
+use Rattle.std.specs.Prelude.{Ok, Err, IsOk}
 use Rattle.std.specs.Prelude.{List, [], ◌∷◌, ◌++◌, length, take, replicate, reverse, All}
 use Rattle.std.specs.List.{fold, list_all, list_any}
 use Rattle.hayro_ccitt.specs.declared.codes.Color.{Color}
@@ -22,7 +23,8 @@ use Rattle.hayro_ccitt.specs.Encodings.{EncodesRows, IsPicture, PictureT6, Pictu
 use Rattle.hayro_ccitt.specs.Pictures.{Allows, BeginsWithPictureT6, BeginsWithPictureT4, IsClosedPicture}
 use Rattle.hayro_ccitt.specs.Pictures.{BeginsWithRowsT6, BeginsWithRowsT4, BeginsWithRowsAndEolsT4, IsLimitedPicture}
 use Rattle.hayro_ccitt.specs.Repetition.{Turn, Reaches}
-use Rattle.hayro_ccitt.specs.PlainReading.{line_by, Progress, Move, row_of_line, line_of_turn, ends_with, with_row, pass_gap, at_front, eols_here, plain}
+use Rattle.hayro_ccitt.specs.PlainReading.{line_by, Progress, Move, row_of_line, line_of_turn, ends_with, with_row, pass_gap}
+use Rattle.hayro_ccitt.specs.PlainReading.{at_front, eols_here, plain}
 use Rattle.hayro_ccitt.specs.Lines.{Line, tag_at, line_found}
 use Rattle.hayro_ccitt.specs.Settings.{AreSettings}
 
@@ -51,7 +53,8 @@ HoldsZeros n bits = (before after : Bits) × (bits ≡ before ++ replicate n fal
 pub record EndBeforeEol (tag : Bits) (words : List Bits) (here : Bits) : Type 0 where
   pub are : AreWords words
   pub stand : IsPrefix (tag ++ joined words) here
-  pub end : (before after : Bits) → here ≡ before ++ replicate 11 false ++ true ∷ after → length (tag ++ joined words) < length before + 11
+  pub end : (before after : Bits) → here ≡ before ++ replicate 11 false ++ true ∷ after
+      → length (tag ++ joined words) < length before + 11
 
 -- No code word is a prefix of another, and no consecutive words, nor a tag before them, contain the eleven zeros of an
 -- EOL (T.4, 4.1.2). So each word that the reading of a line finds ends before the one of each EOL at or after its
@@ -85,7 +88,8 @@ holds_zeros n (bit ∷ bits) = nat_le n (leading_zeros (bit ∷ bits)) || holds_
 -- a word contains a one, at most n zeros at its start and at its end, and nowhere eight consecutive zeros
 abbrev pub has_few_zeros : ℕ → ℕ → Bits → Bool
 has_few_zeros front end word =
-    list_any (λ bit. bit) word && nat_le (leading_zeros word) front && nat_le (trailing_zeros word) end && not (holds_zeros 8 word)
+    list_any (λ bit. bit) word && nat_le (leading_zeros word) front && nat_le (trailing_zeros word) end && not
+    (holds_zeros 8 word)
 
 -- ---- auxiliary: settings with one field changed
 
@@ -112,7 +116,8 @@ StrictThenLenient = (settings : DecodeSettings) (whole : Bits) → AreSettings s
 
 -- Where the strict reading ends without a fault, the lenient one passes no damage.
 abbrev pub StrictIsUndamaged : Type 0
-StrictIsUndamaged = (settings : DecodeSettings) (whole : Bits) → IsOk (plain (strictly settings) whole).outcome → damage_of (leniently settings) whole ≡ []
+StrictIsUndamaged = (settings : DecodeSettings) (whole : Bits) → IsOk (plain (strictly settings) whole).outcome
+    → damage_of (leniently settings) whole ≡ []
 
 -- With a row limit the rows are the first ones, as many as it allows; with that many rows the reading ends without a
 -- fault.
@@ -147,18 +152,21 @@ ReadsPictureT4 = (settings : DecodeSettings) (rows : List Row) (bits behind whol
 
 -- A closed picture of any kind yields its rows and its count, whatever follows (T.4, 4.1.4 and 4.2.4; T.6, 2.4.1.1).
 abbrev pub ReadsClosedPictures : Type 0
-ReadsClosedPictures = (settings : DecodeSettings) (rows : List Row) (count : ℕ) (whole : Bits) → AreSettings settings → AreWholeBytes whole
+ReadsClosedPictures = (settings : DecodeSettings) (rows : List Row) (count : ℕ) (whole : Bits) → AreSettings settings
+    → AreWholeBytes whole
     → IsClosedPicture settings rows count whole
     → ((plain settings whole).rows ≡ rows) × ((plain settings whole).outcome ≡ Ok count)
 
 -- Lines of T.6 without EOFB are a picture too, if the row limit is their number (T.6, 2.2).
 abbrev pub ReadsLimitedRowsT6 : Type 0
-ReadsLimitedRowsT6 = (settings : DecodeSettings) (rows : List Row) (bits whole : Bits) → AreSettings settings → AreWholeBytes whole
+ReadsLimitedRowsT6 =
+    (settings : DecodeSettings) (rows : List Row) (bits whole : Bits) → AreSettings settings → AreWholeBytes whole
     → BeginsWithRowsT6 settings rows bits whole → Gives settings whole rows
 
 -- So are lines of T.4 without EOLs, if none are looked for (T.4, 4.1.1 and 4.2.1).
 abbrev pub ReadsLimitedRowsT4 : Type 0
-ReadsLimitedRowsT4 = (settings : DecodeSettings) (rows : List Row) (bits whole : Bits) → AreSettings settings → AreWholeBytes whole
+ReadsLimitedRowsT4 =
+    (settings : DecodeSettings) (rows : List Row) (bits whole : Bits) → AreSettings settings → AreWholeBytes whole
     → BeginsWithRowsT4 settings rows bits whole → Gives settings whole rows
 
 -- So are lines of T.4 with EOLs and without RTC (T.4, 4.1.2).
@@ -187,7 +195,8 @@ EveryPictureHasAnEncoding = (columns : ℕ) (rows : List Row) → IsPicture colu
 
 -- auxiliary: any bits are a prefix of the bits of some bytes, in either order
 abbrev pub BytesBeginWithAnyBits : Type 0
-BytesBeginWithAnyBits = (order : BitOrder) (bits : Bits) → (bytes : List ℕ) × All (λ byte. byte < 256) bytes × IsPrefix bits (bits_in order bytes)
+BytesBeginWithAnyBits =
+    (order : BitOrder) (bits : Bits) → (bytes : List ℕ) × All (λ byte. byte < 256) bytes × IsPrefix bits (bits_in order bytes)
 
 -- auxiliary: the bits of bytes fill whole bytes, in either order
 abbrev pub BitsOfBytesAreWhole : Type 0
@@ -206,7 +215,8 @@ OnePictureT6 = (columns : ℕ) (aligned : Bool) (rows others : List Row) (bits m
 
 -- If one T.4 stream is a prefix of another of the same width and kind, their rows are equal (T.4, 4.1.4 and 4.2.4).
 abbrev pub OnePictureT4 : Type 0
-OnePictureT4 = (encoding : EncodingMode) (columns : ℕ) (rows others : List Row) (bits more : Bits) → encoding ≢ Group4 → columns < 2 ^ 32
+OnePictureT4 = (encoding : EncodingMode) (columns : ℕ) (rows others : List Row) (bits more : Bits) → encoding ≢ Group4
+    → columns < 2 ^ 32
     → PictureT4 encoding columns rows bits → PictureT4 encoding columns others (bits ++ more) → rows ≡ others
 
 -- ---- after EOFB
@@ -232,19 +242,23 @@ for_t6 settings = record settings { encoding = Group4 }
 
 -- the reading of T.6 data reaches a position between lines where there are two EOLs (T.6, 2.4.1.1)
 abbrev pub ComesToEofb : DecodeSettings → Bits → Type 0
-ComesToEofb settings bits = (last : Progress) × Reaches (gap_and_row (for_t6 settings)) (at_front bits) last × ((eols 2 last.rest).0 ≡ 2)
+ComesToEofb settings bits =
+    (last : Progress) × Reaches (gap_and_row (for_t6 settings)) (at_front bits) last × ((eols 2 last.rest).0 ≡ 2)
 
 -- If T.6 data were read up to their EOFB, data that begin with the same bytes up to there are read the same (T.6,
 -- 2.4.1.1).
 abbrev pub AfterEofb : Type 0
-AfterEofb = (settings : DecodeSettings) (one two : Bits) (count : ℕ) → AreSettings settings → AreWholeBytes one → AreWholeBytes two
+AfterEofb = (settings : DecodeSettings) (one two : Bits) (count : ℕ) → AreSettings settings → AreWholeBytes one
+    → AreWholeBytes two
     → settings.encoding ≡ Group4 → settings.end_of_block ≡ true → ComesToEofb settings one
-    → (plain settings one).outcome ≡ Ok count → take (8 * count) two ≡ take (8 * count) one → plain settings two ≡ plain settings one
+    → (plain settings one).outcome ≡ Ok count → take (8 * count) two ≡ take (8 * count) one
+    → plain settings two ≡ plain settings one
 
 -- The reading of a T.6 picture reaches its EOFB (T.6, 2.4.1.1).
 abbrev pub PicturesComeToEofb : Type 0
 PicturesComeToEofb = (settings : DecodeSettings) (rows : List Row) (bits more : Bits) → AreSettings settings
-    → AreWholeBytes (bits ++ more) → Allows settings (length rows) → PictureT6 settings.columns settings.rows_are_byte_aligned rows bits
+    → AreWholeBytes (bits ++ more) → Allows settings (length rows)
+    → PictureT6 settings.columns settings.rows_are_byte_aligned rows bits
     → ComesToEofb settings (bits ++ more)
 
 -- ---- rows and their changes

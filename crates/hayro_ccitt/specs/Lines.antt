@@ -1,5 +1,6 @@
 -- One line (T.4, 4.1 and 4.2; T.6, 2.2).
-use Rattle.std.specs.Prelude.{ℕ, suc, ◌-◌, Bool, true, false, ◌&&◌, List, [], ◌∷◌, ◌++◌, length, nat_le, Result, Ok, Err, if◌then◌else◌, ℤ, pos, negsuc, ◌+ℤ◌}
+use Rattle.std.specs.Prelude.{ℕ, suc, ◌-◌, Bool, true, false, ◌&&◌, List, [], ◌∷◌, ◌++◌, length, nat_le, Result, Ok, Err}
+use Rattle.std.specs.Prelude.{if◌then◌else◌, ℤ, pos, negsuc, ◌+ℤ◌}
 use Rattle.hayro_ccitt.specs.declared.codes.Color.{Color}
 use Rattle.hayro_ccitt.specs.declared.codes.Color.TheVariants.{White}
 use Rattle.hayro_ccitt.specs.declared.codes.Mode.{Mode}
@@ -101,7 +102,10 @@ place_by reference pen k = finds pen [] (place_from (length pen.front) (pos (b1 
 -- a line that has all its pixels is whole (T.4, 4.1.1)
 abbrev pub unless_full : ℕ → Pen → Drawing Pen
 unless_full columns pen =
-    record { turn = if nat_le columns (length pen.front) then Turn.done (Line.whole pen.front pen.rest) else Turn.next pen; words = [] }
+    record {
+      turn = if nat_le columns (length pen.front) then Turn.done (Line.whole pen.front pen.rest) else Turn.next pen;
+      words = [];
+    }
 
 -- Reads a run of the pen's colour, paints it and turns the colour (T.4, 4.1.1).
 abbrev pub draw_run : Bool → ℕ → Pen → Drawing Pen

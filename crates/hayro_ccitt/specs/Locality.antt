@@ -65,7 +65,8 @@ first_start bits = length bits - length (all_eols bits).1
 -- none begins (T.4, 4.1.2)
 abbrev pub IsStart : Bits → ℕ → Type 0
 IsStart bits place = (place ≡ first_start bits)
-    ⊎ ((first_start bits < place) × (place < length bits) × ((at : ℕ) × IsEol bits at place) × (after_eol 0 (drop place bits) ≡ None))
+    ⊎ ((first_start bits < place) × (place < length bits) × ((at : ℕ) × IsEol bits at place)
+    × (after_eol 0 (drop place bits) ≡ None))
 
 -- auxiliary: each is longer than all that come after it
 abbrev pub Descends : List Bits → Type 0
@@ -76,7 +77,8 @@ Descends (here ∷ rest) = All (λ other. length other < length here) rest × De
 -- begin after EOLs, in order (T.4, 4.1.2).
 abbrev pub LinesByEols : Type 0
 LinesByEols = (settings : DecodeSettings) (bits : Bits) → AreSettings settings
-    → settings.encoding ≡ Group3_1D → settings.strict ≡ false → settings.end_of_block ≡ false → settings.rows ≡ 0 → 0 < settings.columns
+    → settings.encoding ≡ Group3_1D → settings.strict ≡ false → settings.end_of_block ≡ false → settings.rows ≡ 0
+    → 0 < settings.columns
     → (settings.end_of_line ≡ true) ⊎ IsEolAt bits
     → All (StaysBefore settings.columns) (starts bits)
     → IsPrefix (map (row_at settings.columns) (starts bits)) (plain settings bits).rows
@@ -84,7 +86,8 @@ LinesByEols = (settings : DecodeSettings) (bits : Bits) → AreSettings settings
 -- The starts are these positions, in order (T.4, 4.1.2).
 abbrev pub StartsAre : Type 0
 StartsAre = (bits : Bits)
-    → ((place : ℕ) → place ≤ length bits → (Contains (starts bits) (drop place bits) ↔ IsStart bits place)) × Descends (starts bits)
+    → ((place : ℕ) → place ≤ length bits → (Contains (starts bits) (drop place bits) ↔ IsStart bits place))
+    × Descends (starts bits)
 
 -- ---- locality
 
@@ -150,7 +153,8 @@ pub data EndAlike (settings : DecodeSettings) (one two : Bits) (from differ : �
       → EndAlike settings one two from differ rows outcome other
   -- both after the line's start, at the same number of bytes before the end of their data
   past : (place place2 count count2 : ℕ) → from < place → from < place2
-      → EndsAt settings one outcome place count → EndsAt settings two other place2 count2 → 8 * count + length two ≡ 8 * count2 + length one
+      → EndsAt settings one outcome place count → EndsAt settings two other place2 count2
+      → 8 * count + length two ≡ 8 * count2 + length one
       → EndAlike settings one two from differ rows outcome other
   -- both at the row limit, which one of these very rows meets, wherever its line ends
   at_limit : (index place place2 count count2 : ℕ)
@@ -170,7 +174,8 @@ pub record DifferInOneBody (settings : DecodeSettings) (one two : Bits) (from to
 -- Some data were read as these rows, with this result. Whatever replaces one local body by another, all rows except at
 -- most the one of this body are those of the other data's plain reading, and both end alike (T.4, 4.1.2).
 abbrev pub DamageStaysInRow : DecodeSettings → Bits → List Row → Result ℕ DecodeError → Type 0
-DamageStaysInRow settings one rows outcome = (two : Bits) (from to to2 : ℕ) → AreWholeBytes two → DifferInOneBody settings one two from to to2
+DamageStaysInRow settings one rows outcome =
+    (two : Bits) (from to to2 : ℕ) → AreWholeBytes two → DifferInOneBody settings one two from to to2
     → OneRowDiffers settings one two from rows (plain settings two).rows
     × EndAlike settings one two from 1 rows outcome (plain settings two).outcome
 

@@ -1,5 +1,6 @@
 -- Code words in lookup tables of a fixed number of bits.
-use Rattle.std.specs.Prelude.{ℕ, zero, suc, ◌+◌, ◌-◌, ◌*◌, ◌^◌, ◌<◌, ◌≡◌, max, Bool, false, ◌&&◌, nat_le, nat_lt, if◌then◌else◌, List, [], ◌∷◌, Option, Some, None, option_map, length, get_or}
+use Rattle.std.specs.Prelude.{ℕ, zero, suc, ◌+◌, ◌-◌, ◌*◌, ◌^◌, ◌<◌, ◌≡◌, max, Bool, false, ◌&&◌, nat_le, nat_lt, if◌then◌else◌}
+use Rattle.std.specs.Prelude.{List, [], ◌∷◌, Option, Some, None, option_map, length, get_or}
 use Rattle.hayro_ccitt.specs.Bits.{Bits, low_bits}
 use Rattle.hayro_ccitt.specs.CodeLists.{Code, mode_codes}
 use Rattle.hayro_ccitt.specs.declared.codes.Mode.{Mode}
@@ -62,13 +63,13 @@ abbrev pub is_row : ℕ × ℕ × ℕ → Bool
 is_row row = nat_le row.1 13 && nat_lt row.2 (2 ^ row.1) && nat_lt row.0 4096
 
 -- the entry for these bits after one row
-abbrev pub with_row : ℕ × ℕ × ℕ → Bits → ℕ → ℕ
-with_row row here entry = if is_prefix (low_bits row.1 row.2) here then row.1 * 4096 + row.0 else entry
+abbrev pub with_table_row : ℕ × ℕ × ℕ → Bits → ℕ → ℕ
+with_table_row row here entry = if is_prefix (low_bits row.1 row.2) here then row.1 * 4096 + row.0 else entry
 
 -- the entry after each row in turn
-abbrev pub with_rows : List (ℕ × ℕ × ℕ) → Bits → ℕ → ℕ
-with_rows [] here entry = entry
-with_rows (row ∷ table) here entry = with_rows table here (with_row row here entry)
+abbrev pub with_table_rows : List (ℕ × ℕ × ℕ) → Bits → ℕ → ℕ
+with_table_rows [] here entry = entry
+with_table_rows (row ∷ table) here entry = with_table_rows table here (with_table_row row here entry)
 
 -- ---- auxiliary: the lookup tables of both colours
 

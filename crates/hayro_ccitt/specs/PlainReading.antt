@@ -1,5 +1,6 @@
 -- The plain reading of whole data: rows, and how it ends.
-use Rattle.std.specs.Prelude.{ℕ, suc, ◌+◌, ◌-◌, ◌/◌, ◌%◌, Bool, true, false, not, ◌&&◌, ◌||◌, List, [], ◌∷◌, ◌++◌, length, drop, get_or, nat_le, nat_lt, ◌==◌, Option, Some, None, Result, Ok, Err, if◌then◌else◌}
+use Rattle.std.specs.Prelude.{ℕ, suc, ◌+◌, ◌-◌, ◌/◌, ◌%◌, Bool, true, false, not, ◌&&◌, ◌||◌, List, [], ◌∷◌, ◌++◌, length, drop}
+use Rattle.std.specs.Prelude.{get_or, nat_le, nat_lt, ◌==◌, Option, Some, None, Result, Ok, Err, if◌then◌else◌}
 use Rattle.hayro_ccitt.specs.declared.error.DecodeError.{DecodeError}
 use Rattle.hayro_ccitt.specs.declared.error.DecodeError.TheVariants.{UnexpectedEof, InvalidCode}
 use Rattle.hayro_ccitt.specs.declared.settings.EncodingMode.{EncodingMode}
@@ -264,7 +265,8 @@ end_of_row bits so_far (Ok (row, rest)) = length bits - length rest
 end_of_row bits so_far (Err fault) = start_of_turn bits so_far
 
 abbrev pub end_of_turn : DecodeSettings → Bits → Progress → ℕ
-end_of_turn settings bits so_far = end_of_row bits so_far (row_of_line settings so_far.has_eols so_far.rest (line_of_turn settings so_far))
+end_of_turn settings bits so_far =
+    end_of_row bits so_far (row_of_line settings so_far.has_eols so_far.rest (line_of_turn settings so_far))
 
 -- where the lines of the plain reading begin: the offset of each one's first bit (T.4, 4.1.1 and 4.2.2)
 abbrev pub line_starts : DecodeSettings → Bits → List ℕ

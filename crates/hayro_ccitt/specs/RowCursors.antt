@@ -6,7 +6,7 @@ use Rattle.hayro_ccitt.specs.declared.row_cursor.RowCursor.TheInside.{Inside}
 use Rattle.hayro_ccitt.specs.declared.row_reader.Stand.{Stand}
 use Rattle.hayro_ccitt.specs.Bits.{Bits}
 use Rattle.hayro_ccitt.specs.Context.{Held}
-use Rattle.hayro_ccitt.specs.RowsRead.{RowsRead, Stands, DamageIsCounted, WorkIsPaid, read_so_far}
+use Rattle.hayro_ccitt.specs.RowsRead.{RowsRead, ReaderStands, DamageIsCounted, WorkIsPaid, read_so_far}
 
 -- what is kept of a reading whose data is elsewhere: the context, the order of the bits, the offset of the next bit, that of the
 -- last row's line and its fault where it was repaired, where the reading is, and the work of all calls
@@ -38,6 +38,6 @@ rows_over bits paused = read_so_far paused.held paused.ticks (record { bits = bi
 -- It is a reading of these bits: its rows so far are those of the plain reading.
 pub record IsReadingOf (bits : Bits) (paused : Paused) : Type 0 where
   pub within : paused.place ≤ length bits
-  pub stands : Stands paused.stand paused.held.settings bits paused.held paused.place
+  pub stands : ReaderStands paused.stand paused.held.settings bits paused.held paused.place
   pub damage : DamageIsCounted paused.stand paused.held.settings bits paused.held
   pub work : WorkIsPaid paused.stand paused.held.settings bits paused.held paused.place paused.ticks

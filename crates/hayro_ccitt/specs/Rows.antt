@@ -1,5 +1,7 @@
 -- Rows of pixels (T.4, 4.2.1).
-use Rattle.std.specs.Prelude.{◌≡◌, ℕ, zero, suc, ◌-◌, Bool, true, false, not, ◌&&◌, List, [], ◌∷◌, ◌++◌, length, get_or, replicate, filter, find, unwrap_or, min, nat_le, nat_lt, Result, Ok, Err, if◌then◌else◌, ◌<◌, ◌≤◌, All}
+use Rattle.std.specs.Prelude.{◌≡◌, ℕ, zero, suc, ◌-◌, Bool, true, false, not, ◌&&◌, List, [], ◌∷◌, ◌++◌, length, get_or}
+use Rattle.std.specs.Prelude.{replicate, filter, find, unwrap_or, min, nat_le, nat_lt, Result, Ok, Err, if◌then◌else◌, ◌<◌, ◌≤◌}
+use Rattle.std.specs.Prelude.{All}
 use mathlib.Core.Bool.{beq}
 use Rattle.std.specs.List.{range_with_len}
 use Rattle.hayro_ccitt.specs.declared.codes.Color.{Color}
@@ -89,7 +91,8 @@ right_of (pixel ∷ front) = suc (suc (length front))
 -- end where there is none (T.4, 4.2.1.1)
 abbrev pub b1 : Row → ℕ → Color → ℕ
 b1 reference from color =
-    least_below (length reference) (λ p. nat_le from p && is_change reference p && beq (pixel_before reference p) (is_black color))
+    least_below (length reference)
+    (λ p. nat_le from p && is_change reference p && beq (pixel_before reference p) (is_black color))
 
 -- b2: the next changing element after b1 (T.4, 4.2.1.1)
 abbrev pub b2 : Row → ℕ → Color → ℕ

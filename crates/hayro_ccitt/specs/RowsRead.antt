@@ -1,5 +1,7 @@
 -- Rows one at a time: what a reader of rows has read, and what a call leaves that reads the next row.
-use Rattle.std.specs.Prelude.{sum_by, slice_get, take, ◌==◌, if◌then◌else◌, ◌≡◌, ◌≢◌, ◌≤◌, ◌<◌, ◌+◌, ◌-◌, ◌*◌, ◌/◌, ℕ, Bool, true, false, not, drop, [], length, get_or, Option, None, Some, Result, Ok, Err, OnErr, IfOk, IfErr}
+use Rattle.std.specs.Prelude.{sum_by, slice_get, take, ◌==◌, if◌then◌else◌, ◌≡◌, ◌≢◌, ◌≤◌, ◌<◌, ◌+◌, ◌-◌, ◌*◌, ◌/◌, ℕ, Bool}
+use Rattle.std.specs.Prelude.{true, false, not, drop, [], length, get_or, Option, None, Some, Result, Ok, Err, OnErr, IfOk}
+use Rattle.std.specs.Prelude.{IfErr}
 use Rattle.hayro_ccitt.specs.declared.codes.Color.TheVariants.{White}
 use Rattle.hayro_ccitt.specs.declared.error.DecodeError.{DecodeError}
 use Rattle.hayro_ccitt.specs.declared.error.DecodeError.TheVariants.{OutOfMemory, Refused}
@@ -14,7 +16,8 @@ use Rattle.hayro_ccitt.specs.Context.{Held, Repairs}
 use Rattle.hayro_ccitt.specs.Damage.{fault_in, repairs_by_line, misses_by_line}
 use Rattle.hayro_ccitt.specs.Decoding.{repairs_with}
 use Rattle.hayro_ccitt.specs.Lines.{Line}
-use Rattle.hayro_ccitt.specs.PlainReading.{Progress, row_before, with_row, first_gap, move_on, row_of_line, line_here, line_of_turn, plain, lines_of, line_starts, failed_at}
+use Rattle.hayro_ccitt.specs.PlainReading.{Progress, row_before, with_row, first_gap, move_on, row_of_line, line_here}
+use Rattle.hayro_ccitt.specs.PlainReading.{line_of_turn, plain, lines_of, line_starts, failed_at}
 use Rattle.hayro_ccitt.specs.Repetition.{Turn, Reaches}
 use Rattle.hayro_ccitt.specs.Rows.{Row, changes}
 use Rattle.hayro_ccitt.specs.Work.{IsPaidUpTo, found_here, most_counted, words_of}
@@ -121,13 +124,15 @@ pub record ReadsNext (old new : RowsRead) (result : Result Bool DecodeError) : T
   -- its work is added to that of the calls before
   pub counts : old.ticks ≤ new.ticks
   -- a row was read
-  pub more : result ≡ Ok true → (new.end ≡ None) × (new.taken ≡ old.taken + 1) × (new.taken ≤ length (plain old.settings old.bits).rows)
+  pub more : result ≡ Ok true → (new.end ≡ None) × (new.taken ≡ old.taken + 1)
+      × (new.taken ≤ length (plain old.settings old.bits).rows)
   pub row : result ≡ Ok true → new.row ≡ get_or (plain old.settings old.bits).rows old.taken []
   pub line_start : result ≡ Ok true → new.line_start ≡ get_or (line_starts old.settings old.bits) old.taken 0
   -- its line was whole, or it was repaired after this fault (T.4, 4.1.2)
   pub damage : result ≡ Ok true → new.damage ≡ fault_in (get_or (repairs_by_line old.settings old.bits) old.taken [])
   -- there was none
-  pub end : result ≡ Ok false → (new.end ≡ Some (Ok tt)) × (new.taken ≡ old.taken) × HasEnded old.settings old.bits new.taken new.place
+  pub end : result ≡ Ok false → (new.end ≡ Some (Ok tt)) × (new.taken ≡ old.taken)
+      × HasEnded old.settings old.bits new.taken new.place
   pub error : IfErr result (λ e. (new.end ≡ Some (Err e)) × (new.taken ≡ old.taken) × HasFailed old.settings old.bits new.taken e)
   -- the offset of the fault: the first bit of the line that couldn't be read, or where its EOL is missing (T.4, 4.1.2)
   pub fault_start : old.end ≡ None → OnErr result (new.line_start ≡ failed_at old.settings old.bits old.taken)
@@ -136,7 +141,7 @@ pub record ReadsNext (old new : RowsRead) (result : Result Bool DecodeError) : T
   pub last_start : result ≡ Ok false → new.line_start ≡ old.line_start
 
 -- What a call that passes the gap before the next line leaves: it reaches a line, or the end.
-pub record ComesToLine (old new : RowsRead) (result : Result Bool DecodeError) : Type 0 where
+pub record ReachesNextLine (old new : RowsRead) (result : Result Bool DecodeError) : Type 0 where
   pub settings : new.settings ≡ old.settings
   pub bits : new.bits ≡ old.bits
   pub counts : old.ticks ≤ new.ticks
@@ -194,11 +199,11 @@ pub record StandsBehindRow (settings : DecodeSettings) (bits : Bits) (held : Hel
   pub held_is : held ≡ context_at settings (with_row so_far row rest) held.repairs
 
 -- the state of a reader of rows
-abbrev pub Stands : Stand → DecodeSettings → Bits → Held → ℕ → Type 0
-Stands AtLine settings bits held place = StandsAtLine settings bits held (drop place bits)
-Stands BehindRow settings bits held place = StandsBehindRow settings bits held (drop place bits)
-Stands AtEnd settings bits held place = HasEnded settings bits held.taken place
-Stands (AtFault error) settings bits held place = HasFailed settings bits held.taken error
+abbrev pub ReaderStands : Stand → DecodeSettings → Bits → Held → ℕ → Type 0
+ReaderStands AtLine settings bits held place = StandsAtLine settings bits held (drop place bits)
+ReaderStands BehindRow settings bits held place = StandsBehindRow settings bits held (drop place bits)
+ReaderStands AtEnd settings bits held place = HasEnded settings bits held.taken place
+ReaderStands (AtFault error) settings bits held place = HasFailed settings bits held.taken error
 
 -- the EOLs missed in this number of gaps were counted, and the last repaired row is before one of them (T.4, 4.1.2)
 pub record MissesAreCounted (settings : DecodeSettings) (bits : Bits) (repairs : Repairs) (gaps : ℕ) : Type 0 where
@@ -263,7 +268,7 @@ pub record WorkIsPaid (stand : Stand) (settings : DecodeSettings) (bits : Bits) 
 -- it is there by the plain reading of these bits
 abbrev pub IsStanding : RowState → BitsAt → Type 0
 IsStanding rows reader =
-    Stands rows.stand rows.ctx.held.settings reader.bits rows.ctx.held reader.place
+    ReaderStands rows.stand rows.ctx.held.settings reader.bits rows.ctx.held reader.place
     × DamageIsCounted rows.stand rows.ctx.held.settings reader.bits rows.ctx.held
     × WorkIsPaid rows.stand rows.ctx.held.settings reader.bits rows.ctx.held reader.place rows.ctx.ticks
 

@@ -27,12 +27,16 @@ pub record IsB1 (columns : ℕ) (places : List ℕ) (painted index : ℕ) (color
 
 -- Drawing continues from one pen to another in a two-dimensional line: the line is the same, the words in between were counted,
 -- and besides them no more than the reference changes that were passed and three more for each word.
-pub record GoesOn2d (strict : Bool) (columns : ℕ) (reference : Row) (before after : Pen) (ticks now passed later : ℕ) : Type 0 where
+pub record GoesOn2d (strict : Bool) (columns : ℕ) (reference : Row) (before after : Pen)
+    (ticks now passed later : ℕ) : Type 0 where
   pub line : drawn (draw_2d strict columns reference) after ≡ drawn (draw_2d strict columns reference) before
   pub counts : ticks ≤ now
-  pub at_least : ticks + length (words_drawn (draw_2d strict columns reference) before) ≤ now + length (words_drawn (draw_2d strict columns reference) after)
-  pub at_most : now + 4 * length (words_drawn (draw_2d strict columns reference) after) + passed ≤ ticks + 4 * length (words_drawn (draw_2d strict columns reference) before) + later
-  pub none : length (words_drawn (draw_2d strict columns reference) before) ≡ 0 → (now ≡ ticks) × (length (words_drawn (draw_2d strict columns reference) after) ≡ 0)
+  pub at_least : ticks + length (words_drawn (draw_2d strict columns reference) before) ≤ now
+      + length (words_drawn (draw_2d strict columns reference) after)
+  pub at_most : now + 4 * length (words_drawn (draw_2d strict columns reference) after) + passed ≤ ticks + 4
+      * length (words_drawn (draw_2d strict columns reference) before) + later
+  pub none : length (words_drawn (draw_2d strict columns reference) before) ≡ 0 → (now ≡ ticks)
+      × (length (words_drawn (draw_2d strict columns reference) after) ≡ 0)
 
 -- A row of changes reaches a position, which its last change may equal. While it isn't full its number of changes determines
 -- the colour, and the index is that of b1.

@@ -29,7 +29,8 @@ pen_at place row color at = record { front = pixels place row; color = color; re
 pub record GoesOn (strict : Bool) (columns : ℕ) (before after : Pen) (ticks now : ℕ) : Type 0 where
   pub line : drawn (draw_1d strict columns) after ≡ drawn (draw_1d strict columns) before
   pub counts : ticks ≤ now
-  pub counted : now + length (words_drawn (draw_1d strict columns) after) ≡ ticks + length (words_drawn (draw_1d strict columns) before)
+  pub counted : now + length (words_drawn (draw_1d strict columns) after) ≡ ticks
+      + length (words_drawn (draw_1d strict columns) before)
 
 -- A row of changes reaches a position: if it isn't full it continues in white, and its last change may equal the
 -- position.

@@ -21,7 +21,8 @@ pub record IsFilled (r : Inside) : Type 0 where
   pub within : r.place ≤ r.limit
   pub before_end : r.limit ≤ 8 * length r.«data».now
   pub near : r.limit ≤ r.place + 31
-  pub held : (k : ℕ) → k < r.limit + 33 - r.place → bit_of r.window (63 - k) ≡ get_or (bits_in r.order r.«data».now) (r.place + k) false
+  pub held : (k : ℕ) → k < r.limit + 33 - r.place
+      → bit_of r.window (63 - k) ≡ get_or (bits_in r.order r.«data».now) (r.place + k) false
   pub behind : (k : ℕ) → k < 64 → r.limit + 33 ≤ r.place + k → bit_of r.window (63 - k) ≡ false
   pub ahead : (k : ℕ) → k < 64 → bit_of r.ahead (63 - k) ≡ get_or (bits_in r.order r.«data».now) (8 * r.edge + k) false
   pub reached : 8 * r.edge ≤ r.limit + 33

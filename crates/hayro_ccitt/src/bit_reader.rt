@@ -1,6 +1,7 @@
 //! The bits of a slice of bytes, read from the start.
 
-ghost use Rattle.std.specs.Prelude.{◌≡◌, ◌+◌, ◌-◌, ◌*◌, ◌/◌, ◌%◌, ◌^◌, ◌<◌, ◌≤◌, ◌==◌, ◌↔◌, ◌∷◌, ℕ, length, min, false, slice_get, slice_index, get_or, Some, IfSome, true, IfOk, OnOk, OnErr, IsErr, IsOkUnless};
+ghost use Rattle.std.specs.Prelude.{◌≡◌, ◌+◌, ◌-◌, ◌*◌, ◌/◌, ◌%◌, ◌^◌, ◌<◌, ◌≤◌, ◌==◌, ◌↔◌, ◌∷◌, ℕ, length, min, false};
+ghost use Rattle.std.specs.Prelude.{slice_get, slice_index, get_or, Some, IfSome, true, IfOk, OnOk, OnErr, IsErr, IsOkUnless};
 ghost use Rattle.hayro_ccitt.specs.Bits.{AreWholeBytes, BitsAt, BitsFit, bits_of, low_first_bits_of, bits_in, bit_of, here};
 ghost use Rattle.hayro_ccitt.specs.PlainReading.{at_end, aligned};
 ghost use Rattle.hayro_ccitt.specs.Window.{place_in_word, AtHand, moved};

@@ -1,6 +1,7 @@
 //! Rows as lists of changes: the positions at which a row's colour turns, white at first.
 
-ghost use Rattle.std.specs.Prelude.{vec_len, vec_capacity, ◌≡◌, ◌≢◌, ◌+◌, ◌<◌, ◌≤◌, OnOk, OnErr, Err, IsOkUnless, false, length, get_or, ◌++◌, replicate};
+ghost use Rattle.std.specs.Prelude.{vec_len, vec_capacity, ◌≡◌, ◌≢◌, ◌+◌, ◌<◌, ◌≤◌, OnOk, OnErr, Err, IsOkUnless, false, length};
+ghost use Rattle.std.specs.Prelude.{get_or, ◌++◌, replicate};
 ghost use Rattle.hayro_ccitt.specs.Rows.{AreChanges, pixels, b1, b2, is_black, last_pixel};
 ghost use Rattle.hayro_ccitt.specs.Context.{right_of_painted, ArePassed, passed_changes};
 

@@ -1,12 +1,15 @@
 //! Colours, modes, and the code words and EOLs of the data.
 
-ghost use Rattle.std.specs.Prelude.{◌≡◌, ℕ, ◌+◌, ◌-◌, ◌*◌, ◌^◌, ◌<◌, ◌≤◌, ◌==◌, ◌↔◌, ◌++◌, ◌∷◌, IsTrue, IfSome, IfNone, IfErr, MatchResult, Ok, Err, Some, None, true, false, length, replicate, nat_le, if◌then◌else◌, drop, [], slice_get, is_some, min, pos};
+ghost use Rattle.std.specs.Prelude.{◌≡◌, ℕ, ◌+◌, ◌-◌, ◌*◌, ◌^◌, ◌<◌, ◌≤◌, ◌==◌, ◌↔◌, ◌++◌, ◌∷◌, IsTrue, IfSome, IfNone, IfErr};
+ghost use Rattle.std.specs.Prelude.{MatchResult, Ok, Err, Some, None, true, false, length, replicate, nat_le, if◌then◌else◌};
+ghost use Rattle.std.specs.Prelude.{drop, [], slice_get, is_some, min, pos};
 ghost use Rattle.std.specs.Borrow.{ftrue};
 ghost use Rattle.hayro_ccitt.specs.Answers.{IsFault};
 ghost use Rattle.hayro_ccitt.specs.Bits.{here};
 ghost use Rattle.hayro_ccitt.specs.CodeLists.{mode_codes};
 ghost use Rattle.hayro_ccitt.specs.CodeReading.{read_code, leading_zeros};
-ghost use Rattle.hayro_ccitt.specs.EndOfLine.{after_eol, eols, all_eols, next_eol, past_tag, eols_with_tags, pass_last_tag, tagged_eols};
+ghost use Rattle.hayro_ccitt.specs.EndOfLine.{after_eol, eols, all_eols, next_eol, past_tag, eols_with_tags, pass_last_tag};
+ghost use Rattle.hayro_ccitt.specs.EndOfLine.{tagged_eols};
 ghost use Rattle.hayro_ccitt.specs.LookUps.{entry_of, mode_told, padded, seven_bits};
 ghost use Rattle.hayro_ccitt.specs.Rows.{opposite};
 ghost use Rattle.hayro_ccitt.specs.Runs.{codes_of, read_run};

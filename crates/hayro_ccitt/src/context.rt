@@ -1,6 +1,7 @@
 //! What a decoder keeps from line to line, and the lines themselves.
 
-ghost use Rattle.std.specs.Prelude.{◌≡◌, ◌+◌, ◌*◌, ◌^◌, ◌<◌, ◌≤◌, ◌⊎◌, ◌↔◌, ℕ, Ok, Err, OnOk, OnErr, IfOk, IfErr, true, false, IsOkUnless, IsTrue, option_map, length, get_or, []};
+ghost use Rattle.std.specs.Prelude.{◌≡◌, ◌+◌, ◌*◌, ◌^◌, ◌<◌, ◌≤◌, ◌⊎◌, ◌↔◌, ℕ, Ok, Err, OnOk, OnErr, IfOk, IfErr, true, false};
+ghost use Rattle.std.specs.Prelude.{IsOkUnless, IsTrue, option_map, length, get_or, []};
 ghost use Rattle.hayro_ccitt.specs.LocalityByK.{behind_mode};
 ghost use Rattle.hayro_ccitt.specs.Runs.{read_run};
 ghost use Rattle.hayro_ccitt.specs.Rows.{AreChanges, right_of, b1, b2, changes, opposite};
@@ -8,7 +9,9 @@ ghost use Rattle.hayro_ccitt.specs.Bits.{here};
 ghost use Rattle.hayro_ccitt.specs.Context.{redrawn, painted_front, taken_row, after_repair, passed_changes, with_missed};
 ghost use Rattle.hayro_ccitt.specs.UsualModes.{GoesOn2d};
 ghost use Rattle.hayro_ccitt.specs.UsualRuns.{GoesOn};
-ghost use Rattle.hayro_ccitt.specs.Answers.{DrawsLine, DrawsStep, OnAnswer, words_of_run, words_of_mode, words_from_1d, words_from_2d, StoresChange, RepairStoresChange, pen_of, step_of_run, step_of_mode, line_from_1d, line_from_2d};
+ghost use Rattle.hayro_ccitt.specs.Answers.{DrawsLine, DrawsStep, OnAnswer, words_of_run, words_of_mode, words_from_1d};
+ghost use Rattle.hayro_ccitt.specs.Answers.{words_from_2d, StoresChange, RepairStoresChange, pen_of, step_of_run, step_of_mode};
+ghost use Rattle.hayro_ccitt.specs.Answers.{line_from_1d, line_from_2d};
 
 use crate::bit_reader::{BitOrder, BitReader, BitsAtHand};
 use crate::changes::{append_pixels, b1_index, change_or_end};

@@ -7,9 +7,11 @@ ghost use Rattle.hayro_ccitt.specs.Runs.{codes_of};
 ghost use Rattle.hayro_ccitt.specs.declared.codes.Color.{Color};
 ghost use Rattle.hayro_ccitt.specs.Laws.{each_word, has_few_zeros, Synchronised, StrictThenLenient, RowLimit};
 ghost use Rattle.hayro_ccitt.specs.Laws.{ReadsClosedPictures, ReadsLimitedPictures, StrictIsUndamaged, PicturesAreUndamaged};
-ghost use Rattle.hayro_ccitt.specs.Laws.{ReadsPictureT6, ReadsLimitedRowsT6, ReadsPictureT4, ReadsLimitedPictureT4, ReadsLimitedRowsT4};
+ghost use Rattle.hayro_ccitt.specs.Laws.{ReadsPictureT6, ReadsLimitedRowsT6, ReadsPictureT4, ReadsLimitedPictureT4};
+ghost use Rattle.hayro_ccitt.specs.Laws.{ReadsLimitedRowsT4};
 ghost use Rattle.hayro_ccitt.specs.Laws.{AfterEofb, PicturesComeToEofb, OnePictureT6, OnePictureT4};
-ghost use Rattle.hayro_ccitt.specs.Laws.{EveryPictureHasAnEncoding, BytesBeginWithAnyBits, BitsOfBytesAreWhole, OrdersMirror, RowsOfChanges, ChangesOfRows, StepsOnRows};
+ghost use Rattle.hayro_ccitt.specs.Laws.{EveryPictureHasAnEncoding, BytesBeginWithAnyBits, BitsOfBytesAreWhole, OrdersMirror};
+ghost use Rattle.hayro_ccitt.specs.Laws.{RowsOfChanges, ChangesOfRows, StepsOnRows};
 ghost use Rattle.hayro_ccitt.specs.Locality.{LinesByEols, StartsAre, Locality, LocalByTests};
 ghost use Rattle.hayro_ccitt.specs.LocalityByK.{LocalityByK, EncodedLinesAreBodies};
 

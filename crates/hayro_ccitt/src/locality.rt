@@ -1,6 +1,7 @@
 //! Whether damage to a line stays in that line.
 
-ghost use Rattle.std.specs.Prelude.{◌≡◌, ◌≢◌, ◌+◌, ◌-◌, ◌*◌, ◌≤◌, ◌⊎◌, ◌↔◌, Err, Some, IsTrue, IfOk, IfSome, IsOkUnless, is_some, option_map, false, length, take, drop, replicate};
+ghost use Rattle.std.specs.Prelude.{◌≡◌, ◌≢◌, ◌+◌, ◌-◌, ◌*◌, ◌≤◌, ◌⊎◌, ◌↔◌, Err, Some, IsTrue, IfOk, IfSome, IsOkUnless, is_some};
+ghost use Rattle.std.specs.Prelude.{option_map, false, length, take, drop, replicate};
 ghost use Rattle.hayro_ccitt.specs.Answers.{HasBlack, front_of};
 ghost use Rattle.hayro_ccitt.specs.Bits.{BitsFit, bits_of};
 ghost use Rattle.hayro_ccitt.specs.EndOfLine.{after_eol, next_eol};

@@ -1,7 +1,8 @@
 //! Modes whose code words are all in the window, drawn with the line's own values. The functions of `context` draw the
 //! others.
 
-ghost use Rattle.std.specs.Prelude.{vec_len, vec_capacity, get_or, ◌≡◌, ◌≢◌, ◌+◌, ◌-◌, ◌%◌, ◌<◌, ◌≤◌, ◌⊎◌, ℕ, Ok, Some, IfSome, IfNone, true, false, pos, negsuc, length, ◌++◌, ◌∷◌, []};
+ghost use Rattle.std.specs.Prelude.{vec_len, vec_capacity, get_or, ◌≡◌, ◌≢◌, ◌+◌, ◌-◌, ◌%◌, ◌<◌, ◌≤◌, ◌⊎◌, ℕ, Ok, Some, IfSome};
+ghost use Rattle.std.specs.Prelude.{IfNone, true, false, pos, negsuc, length, ◌++◌, ◌∷◌, []};
 ghost use Rattle.hayro_ccitt.specs.Bits.{here};
 ghost use Rattle.hayro_ccitt.specs.CodeLists.{mode_codes};
 ghost use Rattle.hayro_ccitt.specs.CodeReading.{read_code};

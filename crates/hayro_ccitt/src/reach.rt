@@ -1,6 +1,7 @@
 //! How many rows damage to a line of two-dimensional data may change.
 
-ghost use Rattle.std.specs.Prelude.{◌≡◌, ◌+◌, ◌*◌, ◌<◌, ◌≤◌, ◌⊎◌, ◌↔◌, [], ◌∷◌, ℕ, suc, Some, IfSome, IsTrue, true, false, length, drop};
+ghost use Rattle.std.specs.Prelude.{◌≡◌, ◌+◌, ◌*◌, ◌<◌, ◌≤◌, ◌⊎◌, ◌↔◌, [], ◌∷◌, ℕ, suc, Some, IfSome, IsTrue, true, false};
+ghost use Rattle.std.specs.Prelude.{length, drop};
 ghost use Rattle.hayro_ccitt.specs.Bits.{Bits, BitsFit, bits_of, here};
 ghost use Rattle.hayro_ccitt.specs.LocalityByK.{ComeBefore1D, IsFollowedBy, IsLine2D, ReadsModes};
 

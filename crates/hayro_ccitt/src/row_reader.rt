@@ -1,12 +1,15 @@
 //! Rows one at a time.
 
-ghost use Rattle.std.specs.Prelude.{sum_by, take, length, ◌≡◌, ◌≢◌, ◌≤◌, ◌+◌, ◌/◌, true, None, Some, Err, IfOk, IsOkUnless, Result};
+ghost use Rattle.std.specs.Prelude.{sum_by, take, length, ◌≡◌, ◌≢◌, ◌≤◌, ◌+◌, ◌/◌, true, None, Some, Err, IfOk, IsOkUnless};
+ghost use Rattle.std.specs.Prelude.{Result};
 ghost use Rattle.hayro_ccitt.specs.Bits.{BitsFit, bits_in};
 ghost use Rattle.hayro_ccitt.specs.Context.{fresh};
 ghost use Rattle.hayro_ccitt.specs.Rows.{changes};
 ghost use Rattle.hayro_ccitt.specs.Damage.{repairs_by_line, misses_by_line};
 ghost use Rattle.hayro_ccitt.specs.Work.{CountsWork};
-ghost use Rattle.hayro_ccitt.specs.RowsRead.{damage_since, start_after, Stands, IsPaid, ComesToLine, ReadsNext, stand_after, line_after, is_at_line, at_end_of_rows, ended, seen, IsStanding, IsStandingAtLine, DamageIsCounted, gaps_passed};
+ghost use Rattle.hayro_ccitt.specs.RowsRead.{damage_since, start_after, ReaderStands, IsPaid, ReachesNextLine, ReadsNext};
+ghost use Rattle.hayro_ccitt.specs.RowsRead.{stand_after, line_after, is_at_line, at_end_of_rows, ended, seen, IsStanding};
+ghost use Rattle.hayro_ccitt.specs.RowsRead.{IsStandingAtLine, DamageIsCounted, gaps_passed};
 
 use crate::bit_reader::{BitOrder, BitReader};
 use crate::context::DecoderContext;
@@ -113,7 +116,7 @@ pub(crate) fn first_stand(ctx: &mut DecoderContext, reader: &mut BitReader<'_>) 
     ensures damage { DamageIsCounted result ctx.old.held.settings reader.old.bits ctx.new.held }
     ensures settings { ctx.new.held.settings ≡ ctx.old.held.settings }
     ensures same_bits { reader.new.bits ≡ reader.old.bits }
-    ensures stands { Stands result ctx.old.held.settings reader.old.bits ctx.new.held reader.new.place }
+    ensures stands { ReaderStands result ctx.old.held.settings reader.old.bits ctx.new.held reader.new.place }
     ensures unfailed { (error : DecodeError) → ended result ≢ Some (Err error) }
     ensures paid { IsPaid result ctx.old.held.settings reader.old.bits ctx.new.held reader.new.place ctx.new.ticks }
 {
@@ -147,7 +150,7 @@ impl RowState {
     /// Passes the gap before the next line, and returns whether there is a line after it.
     fn come_to_line(&mut self, reader: &mut BitReader<'_>) -> Result<bool>
         requires { ended self.old.stand ≡ None }
-        ensures comes { IsStanding self.old reader.old → ComesToLine (seen self.old reader.old) (seen self.new reader.new) result }
+        ensures comes { IsStanding self.old reader.old → ReachesNextLine (seen self.old reader.old) (seen self.new reader.new) result }
         ensures stands { IsStanding self.old reader.old → IsStanding self.new reader.new }
         ensures settings { self.new.ctx.held.settings ≡ self.old.ctx.held.settings }
         ensures same_bits { reader.new.bits ≡ reader.old.bits }

@@ -1,11 +1,14 @@
 //! The loop over rows that all encodings share: a row, and the gap after it (T.4 section 4.1, T.6 section 2).
 
-ghost use Rattle.std.specs.Prelude.{false, ◌≡◌, ◌≢◌, ◌<◌, ◌≤◌, ◌+◌, ◌*◌, Err, OnOk, OnErr, IfOk, IfErr, IsOkUnless, true, ◌||◌, [], length, ◌^◌};
+ghost use Rattle.std.specs.Prelude.{false, ◌≡◌, ◌≢◌, ◌<◌, ◌≤◌, ◌+◌, ◌*◌, Err, OnOk, OnErr, IfOk, IfErr, IsOkUnless, true, ◌||◌};
+ghost use Rattle.std.specs.Prelude.{[], length, ◌^◌};
 ghost use Rattle.hayro_ccitt.specs.Answers.{DrawsLine, OnAnswer, IsRepairable, RepairStoresChange};
 ghost use Rattle.hayro_ccitt.specs.Bits.{here};
 ghost use Rattle.hayro_ccitt.specs.Context.{fresh, redrawn, after_repair};
-ghost use Rattle.hayro_ccitt.specs.Decoding.{DecodesFrom, FailsFrom, TakesOneRow, leaving, gap_said, repairs_behind, with_row_taken};
-ghost use Rattle.hayro_ccitt.specs.PlainReading.{eols_by, eols_here, is_over, gap_behind_row, row_of_line, line_by, line_here, behind_row, limit_met};
+ghost use Rattle.hayro_ccitt.specs.Decoding.{DecodesFrom, FailsFrom, TakesOneRow, leaving, gap_said, repairs_behind};
+ghost use Rattle.hayro_ccitt.specs.Decoding.{with_row_taken};
+ghost use Rattle.hayro_ccitt.specs.PlainReading.{eols_by, eols_here, is_over, gap_behind_row, row_of_line, line_by, line_here};
+ghost use Rattle.hayro_ccitt.specs.PlainReading.{behind_row, limit_met};
 ghost use Rattle.hayro_ccitt.specs.Lines.{line_found};
 ghost use Rattle.hayro_ccitt.specs.Rows.{changes};
 ghost use Rattle.hayro_ccitt.specs.Ticks.{looked, looked_ahead, tag_tests};

@@ -1,9 +1,11 @@
 //! The code words of T.4 and T.6 as arrays of (run length or mode, number of bits, word).
 
-ghost use Rattle.std.specs.Prelude.{◌≡◌, ◌++◌, ◌^◌, ◌<◌, ◌≤◌, ◌↔◌, ◌⊎◌, ℕ, IfOk, IsOkUnless, IsNone, IsTrue, nat_lt, length, get_or, slice_get, ◌+◌};
+ghost use Rattle.std.specs.Prelude.{◌≡◌, ◌++◌, ◌^◌, ◌<◌, ◌≤◌, ◌↔◌, ◌⊎◌, ℕ, IfOk, IsOkUnless, IsNone, IsTrue, nat_lt, length};
+ghost use Rattle.std.specs.Prelude.{get_or, slice_get, ◌+◌};
 ghost use Rattle.std.specs.List.{list_all};
 ghost use Rattle.hayro_ccitt.specs.CodeLists.{numbered, white_codes, black_codes, mode_codes};
-ghost use Rattle.hayro_ccitt.specs.LookUps.{AreEntries, AreOfColors, entries_of, is_row, with_row, with_rows, thirteen_bits};
+ghost use Rattle.hayro_ccitt.specs.LookUps.{AreEntries, AreOfColors, entries_of, is_row, with_table_row, with_table_rows};
+ghost use Rattle.hayro_ccitt.specs.LookUps.{thirteen_bits};
 ghost use Rattle.hayro_ccitt.specs.Runs.{codes_of};
 
 use crate::codes::{Color, Mode};
@@ -331,7 +333,7 @@ fn fill(entries: &mut Vec<u16>, first: usize, count: usize, entry: u16)
 fn put_word(entries: &mut Vec<u16>, run: u16, width: u8, word: u16)
     requires count { length entries.old.items ≡ 8192 }
     requires row { IsTrue (is_row (run, width, word)) }
-    ensures each { (k : ℕ) → k < 8192 → get_or entries.new.items k 0 ≡ with_row (run, width, word) (thirteen_bits k) (get_or entries.old.items k 0) }
+    ensures each { (k : ℕ) → k < 8192 → get_or entries.new.items k 0 ≡ with_table_row (run, width, word) (thirteen_bits k) (get_or entries.old.items k 0) }
     ensures count { length entries.new.items ≡ 8192 }
 {
     // the bits after the word may be any
@@ -344,7 +346,7 @@ fn put_word(entries: &mut Vec<u16>, run: u16, width: u8, word: u16)
 fn put_words(entries: &mut Vec<u16>, words: &[(u16, u8, u16)])
     requires count { length entries.old.items ≡ 8192 }
     requires rows { IsTrue (list_all is_row words.now) }
-    ensures each { (k : ℕ) → k < 8192 → get_or entries.new.items k 0 ≡ with_rows words.now (thirteen_bits k) (get_or entries.old.items k 0) }
+    ensures each { (k : ℕ) → k < 8192 → get_or entries.new.items k 0 ≡ with_table_rows words.now (thirteen_bits k) (get_or entries.old.items k 0) }
     ensures count { length entries.new.items ≡ 8192 }
 {
     for (run, width, word) in words {

@@ -1,7 +1,8 @@
 //! Runs whose code words are all in the window, drawn with the line's own values. The functions of `context` draw the
 //! others.
 
-ghost use Rattle.std.specs.Prelude.{vec_len, vec_capacity, get_or, ◌≡◌, ◌≢◌, ◌+◌, ◌-◌, ◌%◌, ◌<◌, ◌≤◌, ◌⊎◌, ℕ, IfSome, IfNone, true, false, length, ◌++◌, ◌∷◌, []};
+ghost use Rattle.std.specs.Prelude.{vec_len, vec_capacity, get_or, ◌≡◌, ◌≢◌, ◌+◌, ◌-◌, ◌%◌, ◌<◌, ◌≤◌, ◌⊎◌, ℕ, IfSome, IfNone};
+ghost use Rattle.std.specs.Prelude.{true, false, length, ◌++◌, ◌∷◌, []};
 ghost use Rattle.hayro_ccitt.specs.Bits.{here};
 ghost use Rattle.hayro_ccitt.specs.LookUps.{AreEntries};
 ghost use Rattle.hayro_ccitt.specs.Rows.{AreChanges, pixels, opposite};

@@ -1,5 +1,6 @@
 -- Lists of rows in the caller's memory, from what the sink leaves.
-use Rattle.std.proofs.Common.{◌≡◌, ℕ, suc, ◌+◌, ◌-◌, ◌≤◌, ◌<◌, List, [], ◌∷◌, ◌++◌, length, take, drop, set, refl, sym, ap, subst, ◌∙◌, arith, append_assoc}
+use Rattle.std.proofs.Common.{◌≡◌, ℕ, suc, ◌+◌, ◌-◌, ◌≤◌, ◌<◌, List, [], ◌∷◌, ◌++◌, length, take, drop, set, refl, sym, ap}
+use Rattle.std.proofs.Common.{subst, ◌∙◌, arith, append_assoc}
 use Rattle.std.proofs.lemmas.List.{append-nil, length-append, drop-drop, length-set, take_more_set, drop-set-lt}
 use Rattle.std.proofs.lemmas.Slice.{take-put_mid, drop-put_mid}
 use borrow.Rule.Slice.PartMut.{put_mid}
@@ -23,15 +24,17 @@ few_changes from width (place ∷ places) le ascend =
     omega arith
 
 -- the same in each part is the same
-pub same_listing : (end end' : ℕ) (numbers numbers' rest rest' : List ℕ) (count count' name : ℕ) → end ≡ end' → numbers ≡ numbers' → rest ≡ rest' → count ≡ count'
+pub same_listing : (end end' : ℕ) (numbers numbers' rest rest' : List ℕ) (count count' name : ℕ)
+    → end ≡ end' → numbers ≡ numbers' → rest ≡ rest' → count ≡ count'
     → ◌≡◌ {A = Listing} (record { end = end; numbers = numbers; rest = rest; changes = count; name = name })
     (record { end = end'; numbers = numbers'; rest = rest'; changes = count'; name = name })
 same_listing end end' numbers numbers' rest rest' count count' name e f g h = cc
 
 -- a row is written after the earlier ones
 pub listed_more : (end : ℕ) (row lists part : List ℕ) → end ≤ length lists → length row < length lists - end → part ≡ row
-    → (take (end + 1 + length row) (put_mid (end + 1) (end + 1 + length row - (end + 1)) (set lists end (length row)) part) ≡ take end lists ++ listed_row row)
-    × (drop (end + 1 + length row) (put_mid (end + 1) (end + 1 + length row - (end + 1)) (set lists end (length row)) part) ≡ drop (length (listed_row row)) (drop end lists))
+    → (take (end + 1 + length row) (put_mid (end + 1) (end + 1 + length row - (end + 1)) (set lists end (length row)) part)
+    ≡ take end lists ++ listed_row row) × (drop (end + 1 + length row) (put_mid (end + 1) (end + 1 + length row - (end + 1))
+    (set lists end (length row)) part) ≡ drop (length (listed_row row)) (drop end lists))
 listed_more end row lists part within room is =
     let count : ℕ = end + 1 + length row - (end + 1) in
     let now : List ℕ = set lists end (length row) in
@@ -43,11 +46,11 @@ listed_more end row lists part within room is =
     let whole : length part ≡ count = omega arith in
     let more : end + 1 + length row ≡ end + length (listed_row row) = omega arith in
     let before : end < end + 1 + length row = omega arith in (
-      take-put_mid (end + 1) count now part (end + 1 + length row) behind begun
-          ∙ ap (λ (l : List ℕ). l ++ part) (take_more_set lists end (length row) inside) ∙ ap (λ (l : List ℕ). (take end lists ++ length row ∷ []) ++ l) is
+      take-put_mid (end + 1) count now part (end + 1 + length row) behind begun ∙ ap (λ (l : List ℕ). l ++ part)
+          (take_more_set lists end (length row) inside) ∙ ap (λ (l : List ℕ). (take end lists ++ length row ∷ []) ++ l) is
           ∙ append_assoc (take end lists) (length row ∷ []) row,
-      drop-put_mid (end + 1) count now part (end + 1 + length row) reach begun whole
-          ∙ drop-set-lt (end + 1 + length row) lists end (length row) before ∙ ap (λ (n : ℕ). drop n lists) more ∙ sym (drop-drop (length (listed_row row)) end lists),
+      drop-put_mid (end + 1) count now part (end + 1 + length row) reach begun whole ∙ drop-set-lt (end + 1 + length row) lists
+          end (length row) before ∙ ap (λ (n : ℕ). drop n lists) more ∙ sym (drop-drop (length (listed_row row)) end lists),
     )
 
 -- ---- all rows
@@ -61,7 +64,8 @@ pub record HasListed (rows : List Row) (before after : Listing) : Type 0 where
 
 -- what the sink means after rows
 pub rows_listed : (before : Listing) (rows : List Row) → HasListed rows before (meaning_after with_listed before rows)
-rows_listed before [] = record { end = omega arith; numbers = sym (append-nil before.numbers); rest = refl; changes = refl; name = refl }
+rows_listed before [] =
+    record { end = omega arith; numbers = sym (append-nil before.numbers); rest = refl; changes = refl; name = refl }
 rows_listed before (row ∷ rows) =
     let next : Listing = with_listed before (changes row) in
     let others : HasListed rows next (meaning_after with_listed next rows) = rows_listed next rows in
@@ -70,21 +74,24 @@ rows_listed before (row ∷ rows) =
     record {
       end = omega (arith, others.end);
       numbers = others.numbers ∙ append_assoc before.numbers one (listed rows);
-      rest = others.rest ∙ drop-drop (length (listed rows)) (length one) before.rest ∙ ap (λ (n : ℕ). drop n before.rest) (sym more);
+      rest =
+          others.rest ∙ drop-drop (length (listed rows)) (length one) before.rest ∙ ap (λ (n : ℕ). drop n before.rest) (sym more);
       changes = others.changes;
       name = others.name;
     }
 
 -- ---- what the caller's memory contains after a sink borrowed it that accepted the first rows
-pub record HoldsLists (settings : DecodeSettings) (bits : Bits) (taken : ℕ) (before after : List ℕ) (start final : Listing) : Type 0 where
+pub record HoldsLists (settings : DecodeSettings) (bits : Bits) (taken : ℕ) (before after : List ℕ)
+    (start final : Listing) : Type 0 where
   pub end : final.end ≡ numbers_taken settings bits taken
   pub changes : final.changes ≡ changes_taken settings bits taken
   pub listed : AreListed settings bits taken before after
   pub name : start.name ≡ final.name
 
-pub holds_lists : (settings : DecodeSettings) (bits : Bits) (taken : ℕ) (start final : Listing) (before after : List ℕ) → start.end ≡ 0 → start.numbers ≡ []
-    → start.rest ≡ before → start.changes ≡ 0 → take final.end after ≡ final.numbers → drop final.end after ≡ final.rest
-    → final ≡ meaning_after with_listed start (take taken (plain settings bits).rows) → HoldsLists settings bits taken before after start final
+pub holds_lists : (settings : DecodeSettings) (bits : Bits) (taken : ℕ) (start final : Listing) (before after : List ℕ)
+    → start.end ≡ 0 → start.numbers ≡ [] → start.rest ≡ before → start.changes ≡ 0 → take final.end after ≡ final.numbers
+    → drop final.end after ≡ final.rest → final ≡ meaning_after with_listed start (take taken (plain settings bits).rows)
+    → HoldsLists settings bits taken before after start final
 holds_lists settings bits taken start final before after begun empty whole uncounted numbers rest meaning =
     let rows : List Row = take taken (plain settings bits).rows in
     let has : HasListed rows start final = subst (HasListed rows start) (sym meaning) (rows_listed start rows) in

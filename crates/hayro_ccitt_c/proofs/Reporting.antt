@@ -1,5 +1,6 @@
 -- What C gets of a decoding, from what decoding returns.
-use Rattle.std.proofs.Common.{◌≡◌, ◌≤◌, ◌+◌, min, ℕ, List, [], ◌∷◌, length, map, refl, ap, subst, ◌∙◌, Ok, Err, Option, Some, None, IfSome, inl, inr, arith}
+use Rattle.std.proofs.Common.{◌≡◌, ◌≤◌, ◌+◌, min, ℕ, List, [], ◌∷◌, length, map, refl, ap, subst, ◌∙◌, Ok, Err, Option, Some}
+use Rattle.std.proofs.Common.{None, IfSome, inl, inr, arith}
 use Rattle.hayro_ccitt.specs.declared.error.DecodeError.TheVariants.{UnexpectedEof, InvalidCode, Overflow, OutOfMemory, Refused}
 use Rattle.hayro_ccitt.specs.declared.error.DecodeError.{DecodeError}
 use Rattle.hayro_ccitt.specs.declared.settings.DecodeSettings.{DecodeSettings}
@@ -18,9 +19,10 @@ use Rattle.hayro_ccitt_c.specs.Settings.{order_of, settings_of}
 use Rattle.hayro_ccitt_c.specs.declared.settings.Settings.{Settings}
 
 -- decoding ends as it may after the accepted rows
-pub ends_after : {M : Type 0} (step : M → List ℕ → M) (settings : DecodeSettings) (bits : Bits) (before after : SinkState M) (held : Held) (answer : Result ℕ DecodeError)
-    → TakesRows (plain settings bits).rows (plain settings bits).outcome (plain settings bits).has_eols step before after held answer
-    → StopsShort (plain settings bits).rows (lines_of settings bits) before after held answer → EndsAfter settings bits held.taken answer
+pub ends_after : {M : Type 0} (step : M → List ℕ → M) (settings : DecodeSettings) (bits : Bits) (before after : SinkState M)
+    (held : Held) (answer : Result ℕ DecodeError) → TakesRows (plain settings bits).rows (plain settings bits).outcome
+    (plain settings bits).has_eols step before after held answer → StopsShort (plain settings bits).rows
+    (lines_of settings bits) before after held answer → EndsAfter settings bits held.taken answer
 ends_after step settings bits before after held (Ok n) takes short = (takes.all, takes.ok)
 ends_after step settings bits before after held (Err UnexpectedEof) takes short = (takes.all tt, takes.fault tt)
 ends_after step settings bits before after held (Err InvalidCode) takes short = (takes.all tt, takes.fault tt)
@@ -31,28 +33,38 @@ ends_after step settings bits before after held (Err Refused) takes short = shor
 -- if the first allocation fails, nothing is accepted
 pub no_memory : (settings : DecodeSettings) (bits : Bits) → IsReport settings bits 4 0 0 0
 no_memory settings bits =
-    record { answer = Err OutOfMemory; ends = (omega arith, inl refl); status_is = refl; bytes_are = refl; fault_is = inr (refl, refl, refl) }
+    record {
+      answer = Err OutOfMemory;
+      ends = (omega arith, inl refl);
+      status_is = refl;
+      bytes_are = refl;
+      fault_is = inr (refl, refl, refl);
+    }
 
 -- the place that the context tells is that of the end
-pub fails_at : (settings : DecodeSettings) (bits : Bits) (taken : ℕ) (answer : Result ℕ DecodeError) (place : Option ℕ) → OnErr answer (place ≡ Some (failed_at settings bits taken))
-    → OnOk answer (place ≡ None) → (told : ℕ) → ((n : ℕ) → place ≡ Some n → told ≡ n) → (place ≡ None → told ≡ 0) → FailsAt settings bits taken answer told
+pub fails_at : (settings : DecodeSettings) (bits : Bits) (taken : ℕ) (answer : Result ℕ DecodeError) (place : Option ℕ)
+    → OnErr answer (place ≡ Some (failed_at settings bits taken)) → OnOk answer (place ≡ None) → (told : ℕ)
+    → ((n : ℕ) → place ≡ Some n → told ≡ n) → (place ≡ None → told ≡ 0) → FailsAt settings bits taken answer told
 fails_at settings bits taken (Ok count) place fails none told is isnt = isnt none
 fails_at settings bits taken (Err error) place fails none told is isnt = inl (is (failed_at settings bits taken) fails)
 
 -- a statement about the settings that C passes
-on_meant : (meant : Option DecodeSettings) (settings : DecodeSettings) (P : DecodeSettings → Type 0) → meant ≡ Some settings → P settings → IfSome meant P
+on_meant : (meant : Option DecodeSettings) (settings : DecodeSettings) (P : DecodeSettings → Type 0) → meant ≡ Some settings
+    → P settings → IfSome meant P
 on_meant None settings P e p = cc
 on_meant (Some s) settings P e p = let same : settings ≡ s = cc in subst P same p
 
 -- and about the bits of data
-pub on_settings : (settings : Settings) (meant : DecodeSettings) (input : List ℕ) (order : BitOrder) (P : DecodeSettings → Bits → Type 0)
-    → settings_of settings ≡ Some meant → order ≡ order_of settings → P meant (bits_in order input) → OnSettings settings input P
+pub on_settings : (settings : Settings) (meant : DecodeSettings) (input : List ℕ)
+    (order : BitOrder) (P : DecodeSettings → Bits → Type 0) → settings_of settings ≡ Some meant → order ≡ order_of settings
+    → P meant (bits_in order input) → OnSettings settings input P
 on_settings settings meant input order P is same p fit =
-    on_meant (settings_of settings) meant (λ s. P s (bits_in (order_of settings) input)) is (subst (λ (o : BitOrder). P meant (bits_in o input)) same p)
+    on_meant (settings_of settings) meant (λ s. P s (bits_in (order_of settings) input)) is
+    (subst (λ (o : BitOrder). P meant (bits_in o input)) same p)
 
 -- there are this many rows
-pub taken_within : (settings : DecodeSettings) (bits : Bits) (taken : ℕ) (answer : Result ℕ DecodeError) → EndsAfter settings bits taken answer
-    → taken ≤ length (plain settings bits).rows
+pub taken_within : (settings : DecodeSettings) (bits : Bits) (taken : ℕ) (answer : Result ℕ DecodeError)
+    → EndsAfter settings bits taken answer → taken ≤ length (plain settings bits).rows
 taken_within settings bits taken (Ok n) ends = omega (arith, ends.0)
 taken_within settings bits taken (Err UnexpectedEof) ends = omega (arith, ends.0)
 taken_within settings bits taken (Err InvalidCode) ends = omega (arith, ends.0)
@@ -73,7 +85,9 @@ counts count row = counted count (length row)
 abbrev pub sum_from : ℕ → List Row → ℕ
 sum_from count rows = fold (λ n m. n + m) count (map (λ row. length (changes row)) rows)
 
-pub changes_counted : (count : ℕ) (rows : List Row) → meaning_after counts (min count 18446744073709551615) rows ≡ min (sum_from count rows) 18446744073709551615
+pub changes_counted : (count : ℕ) (rows : List Row)
+    → meaning_after counts (min count 18446744073709551615) rows ≡ min (sum_from count rows) 18446744073709551615
 changes_counted count [] = refl
 changes_counted count (row ∷ rows) =
-    ap (λ n. meaning_after counts n rows) (at_once count (length (changes row))) ∙ changes_counted (count + length (changes row)) rows
+    ap (λ n. meaning_after counts n rows) (at_once count (length (changes row)))
+    ∙ changes_counted (count + length (changes row)) rows

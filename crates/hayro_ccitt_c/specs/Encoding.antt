@@ -1,5 +1,6 @@
 -- Encoding for callers in C.
-use Rattle.std.specs.Prelude.{◌≡◌, ◌≤◌, ◌<◌, ℕ, ◌%◌, ◌*◌, ◌==◌, ◌&&◌, not, Bool, nat_lt, List, length, take, drop, Option, Some, None, option_map, if◌then◌else◌}
+use Rattle.std.specs.Prelude.{◌≡◌, ◌≤◌, ◌<◌, ℕ, ◌%◌, ◌*◌, ◌==◌, ◌&&◌, not, Bool, nat_lt, List, length, take, drop, Option, Some}
+use Rattle.std.specs.Prelude.{None, option_map, if◌then◌else◌}
 use Rattle.hayro_ccitt.specs.Bits.{Bits, bits_in}
 use Rattle.hayro_ccitt.specs.declared.bit_reader.BitOrder.{BitOrder}
 use Rattle.hayro_ccitt.specs.declared.bit_reader.BitOrder.TheVariants.{HighestFirst, LowestFirst}

@@ -1,5 +1,6 @@
 -- What C gets of a decoding.
-use Rattle.std.specs.Prelude.{sum_by, ◌≡◌, ◌≤◌, ◌<◌, ◌⊎◌, ℕ, ◌*◌, List, length, map, take, drop, sum, min, IfSome, Result, Ok, Err}
+use Rattle.std.specs.Prelude.{sum_by, ◌≡◌, ◌≤◌, ◌<◌, ◌⊎◌, ℕ, ◌*◌, List, length, map, take, drop, sum, min, IfSome, Result, Ok}
+use Rattle.std.specs.Prelude.{Err}
 use Rattle.hayro_ccitt.specs.declared.error.DecodeError.{DecodeError}
 use Rattle.hayro_ccitt.specs.declared.error.DecodeError.TheVariants.{UnexpectedEof, InvalidCode, Overflow, OutOfMemory, Refused}
 use Rattle.hayro_ccitt.specs.declared.settings.DecodeSettings.{DecodeSettings}
@@ -32,18 +33,24 @@ bytes_read_of (Err error) = 0
 -- How decoding may end after this number of rows: after all of them, as the plain reading does; with an allocation
 -- failure, before it begins or while a line that paints black is read; or because the next row was refused.
 abbrev pub EndsAfter : DecodeSettings → Bits → ℕ → Result ℕ DecodeError → Type 0
-EndsAfter settings bits taken (Ok count) = (taken ≡ length (plain settings bits).rows) × ((plain settings bits).outcome ≡ Ok count)
-EndsAfter settings bits taken (Err UnexpectedEof) = (taken ≡ length (plain settings bits).rows) × ((plain settings bits).outcome ≡ Err UnexpectedEof)
-EndsAfter settings bits taken (Err InvalidCode) = (taken ≡ length (plain settings bits).rows) × ((plain settings bits).outcome ≡ Err InvalidCode)
-EndsAfter settings bits taken (Err Overflow) = (taken ≡ length (plain settings bits).rows) × ((plain settings bits).outcome ≡ Err Overflow)
-EndsAfter settings bits taken (Err OutOfMemory) = (taken ≤ length (plain settings bits).rows) × ((taken ≡ 0) ⊎ PaintsBlack (lines_of settings bits) taken)
+EndsAfter settings bits taken (Ok count) =
+    (taken ≡ length (plain settings bits).rows) × ((plain settings bits).outcome ≡ Ok count)
+EndsAfter settings bits taken (Err UnexpectedEof) =
+    (taken ≡ length (plain settings bits).rows) × ((plain settings bits).outcome ≡ Err UnexpectedEof)
+EndsAfter settings bits taken (Err InvalidCode) =
+    (taken ≡ length (plain settings bits).rows) × ((plain settings bits).outcome ≡ Err InvalidCode)
+EndsAfter settings bits taken (Err Overflow) =
+    (taken ≡ length (plain settings bits).rows) × ((plain settings bits).outcome ≡ Err Overflow)
+EndsAfter settings bits taken (Err OutOfMemory) =
+    (taken ≤ length (plain settings bits).rows) × ((taken ≡ 0) ⊎ PaintsBlack (lines_of settings bits) taken)
 EndsAfter settings bits taken (Err Refused) = taken < length (plain settings bits).rows
 
 -- where such an end is: at no offset if there is no fault; else where the reading fails, or at 0 if an allocation failed before
 -- it began
 abbrev pub FailsAt : DecodeSettings → Bits → ℕ → Result ℕ DecodeError → ℕ → Type 0
 FailsAt settings bits taken (Ok count) place = place ≡ 0
-FailsAt settings bits taken (Err error) place = (place ≡ failed_at settings bits taken) ⊎ ((error ≡ OutOfMemory) × (taken ≡ 0) × (place ≡ 0))
+FailsAt settings bits taken (Err error) place =
+    (place ≡ failed_at settings bits taken) ⊎ ((error ≡ OutOfMemory) × (taken ≡ 0) × (place ≡ 0))
 
 -- what C gets: a status, the number of rows accepted, the number of bytes read, and the offset of the fault
 pub record IsReport (settings : DecodeSettings) (bits : Bits) (status rows bytes_read fault_start : ℕ) : Type 0 where
@@ -55,7 +62,8 @@ pub record IsReport (settings : DecodeSettings) (bits : Bits) (status rows bytes
 
 -- the number of changes of the first `taken` rows, saturated at the greatest value of 64 bits
 abbrev pub changes_taken : DecodeSettings → Bits → ℕ → ℕ
-changes_taken settings bits taken = min (sum (map (λ row. length (changes row)) (take taken (plain settings bits).rows))) 18446744073709551615
+changes_taken settings bits taken =
+    min (sum (map (λ row. length (changes row)) (take taken (plain settings bits).rows))) 18446744073709551615
 
 -- the number of repaired rows among the first n (T.4, 4.1.2)
 abbrev pub damaged_taken : DecodeSettings → Bits → ℕ → ℕ

@@ -6,7 +6,8 @@ use Rattle.fax_encode.specs.Chosen.{filled_up}
 use Rattle.fax_encode.specs.RowByRow.{RowsEncoded, with_row}
 use Rattle.fax_encode.specs.Settings.{needs_row, with_end}
 use Rattle.fax_encode.specs.declared.error.EncodeError.{EncodeError}
-use Rattle.fax_encode.specs.declared.error.EncodeError.TheVariants.{NoEncoding, NoColumns, NoRows, NotARow, OutOfMemory as NoMemory}
+use Rattle.fax_encode.specs.declared.error.EncodeError.TheVariants.{NoEncoding, NoColumns, NoRows, NotARow}
+use Rattle.fax_encode.specs.declared.error.EncodeError.TheVariants.{OutOfMemory as NoMemory}
 use Rattle.hayro_ccitt_c.specs.declared.encoding.EncodeOutcome.{EncodeOutcome}
 use Rattle.hayro_ccitt_c.specs.declared.strip.Strip.{Strip}
 use Rattle.hayro_ccitt_c.specs.declared.strip.Strip.TheVariants.{Rows, Whole, OutOfMemory}
@@ -46,7 +47,8 @@ TakesRow OutOfMemory new IsRow row status = (status ≡ 4) × (new ≡ OutOfMemo
 abbrev pub IsStripOf : RowsEncoded → Strip → Type 0
 IsStripOf rows (Rows more) = ⊥
 IsStripOf rows (Whole finished) =
-    (bits_in rows.settings.order finished.bytes.items ≡ filled_up (with_end rows.settings rows.lines)) × (finished.rows ≡ rows.count)
+    (bits_in rows.settings.order finished.bytes.items ≡ filled_up (with_end rows.settings rows.lines))
+    × (finished.rows ≡ rows.count)
 IsStripOf rows OutOfMemory = ⊥
 
 -- What finishing leaves of the rows so far: their strip; all of them, if there are none and one is needed; or want of memory.

@@ -51,7 +51,7 @@ pub enum Strip {
 }
 
 /// Returns the status of adding a row.
-fn status_of(answer: Result<(), EncodeError>) -> u32
+fn status_of_row(answer: Result<(), EncodeError>) -> u32
     ensures { result ≡ status_of_row answer }
 {
     match answer {
@@ -68,7 +68,7 @@ impl Strip {
             (λ columns. pixels columns changes.now) result }
     {
         match self {
-            Strip::Rows(encoder) => status_of(encoder.push_changes(changes)),
+            Strip::Rows(encoder) => status_of_row(encoder.push_changes(changes)),
             Strip::Whole(_) => 6,
             Strip::OutOfMemory => 4,
         }
@@ -80,7 +80,7 @@ impl Strip {
             (λ columns. take columns (bits_of row.now)) result }
     {
         match self {
-            Strip::Rows(encoder) => status_of(encoder.push_packed_row(row)),
+            Strip::Rows(encoder) => status_of_row(encoder.push_packed_row(row)),
             Strip::Whole(_) => 6,
             Strip::OutOfMemory => 4,
         }

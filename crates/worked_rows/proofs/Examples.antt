@@ -1,5 +1,6 @@
 -- The examples.
-use Rattle.std.proofs.Common.{◌≡◌, ◌*◌, ℕ, ◌+◌, ◌≤◌, true, false, [], ◌∷◌, ◌++◌, length, drop, Result, Ok, Err, refl, sym, ap, subst, ◌∙◌, arith, ◌⊎◌, inl, inr}
+use Rattle.std.proofs.Common.{◌≡◌, ◌*◌, ℕ, ◌+◌, ◌≤◌, true, false, [], ◌∷◌, ◌++◌, length, drop, Result, Ok, Err, refl, sym, ap}
+use Rattle.std.proofs.Common.{subst, ◌∙◌, arith, ◌⊎◌, inl, inr}
 use Rattle.std.specs.Prelude.{pos, negsuc}
 use Rattle.std.proofs.lemmas.List.Elements.{All-cons}
 use Rattle.hayro_ccitt.specs.declared.codes.Color.TheVariants.{White}
@@ -11,7 +12,9 @@ use Rattle.hayro_ccitt.specs.Encodings.{Spells, EncodesLine1D, EncodesLine2D, Is
 use Rattle.hayro_ccitt.specs.LocalityByK.{IsTaggedBody}
 use Rattle.hayro_ccitt.proofs.DamagedLines.DamageByK.{encoded_follows}
 use Rattle.hayro_ccitt.proofs.DamagedLines.EncodedBodies.{encoded_lines_are_bodies}
-use Rattle.worked_rows.specs.Examples.{hex, EncodesTwoLines, EncodesTaggedRows, with_eols, three_rows, bits_changed, bits_added, words_added, group3_1d, HaveLocalBodies, ReadsDamage, LimitBehindTheBody, OneLineFollows, OneLineDiffers, ReadsDamageByK, with_tags, four_rows}
+use Rattle.worked_rows.specs.Examples.{hex, EncodesTwoLines, EncodesTaggedRows, with_eols, three_rows, bits_changed, bits_added}
+use Rattle.worked_rows.specs.Examples.{words_added, group3_1d, HaveLocalBodies, ReadsDamage, LimitBehindTheBody, OneLineFollows}
+use Rattle.worked_rows.specs.Examples.{OneLineDiffers, ReadsDamageByK, with_tags, four_rows}
 use Rattle.hayro_ccitt.specs.Locality.{IsLocal, IsLocalByTests, ComesToLine, EndAlike}
 use Rattle.hayro_ccitt.specs.Repetition.{Turn, Reaches}
 use Rattle.hayro_ccitt.specs.PlainReading.{Progress, Move, first_line, move_on}
@@ -27,7 +30,8 @@ two_lines_encoded = (
       (Spells.terminating 1 (false ∷ true ∷ false ∷ []) (inr (inl (refl, refl))) (omega arith))
       (EncodesLine2D.vertical 7 (true ∷ []) (pos 0) (omega arith) (inr (inr (inl (refl, refl)))) refl EncodesLine2D.over),
   (
-    false ∷ false ∷ false ∷ false ∷ false ∷ true ∷ false ∷ false ∷ false ∷ false ∷ false ∷ false ∷ true ∷ false ∷ true ∷ true ∷ true ∷ [],
+    false ∷ false ∷ false ∷ false ∷ false ∷ true ∷ false ∷ false ∷ false ∷ false ∷ false ∷ false ∷ true ∷ false ∷ true ∷ true
+        ∷ true ∷ [],
     [],
     EncodesLine2D.vertical 0 (false ∷ false ∷ false ∷ false ∷ false ∷ true ∷ false ∷ []) (negsuc 2) (omega arith)
         (inr (inr (inr (inr (inr (inr (inr (inr (inl (refl, refl)))))))))) refl
@@ -43,8 +47,8 @@ two_lines_encoded = (
 )
 
 eight_white : EncodesLine1D White (pixels 8 []) (true ∷ false ∷ false ∷ true ∷ true ∷ [])
-eight_white = EncodesLine1D.run 8 (true ∷ false ∷ false ∷ true ∷ true ∷ [])
-    (Spells.terminating 8 (true ∷ false ∷ false ∷ true ∷ true ∷ []) (inr (inr (inr (inr (inr (inr (inr (inr (inl (refl, refl)))))))))) (omega arith))
+eight_white = EncodesLine1D.run 8 (true ∷ false ∷ false ∷ true ∷ true ∷ []) (Spells.terminating 8
+    (true ∷ false ∷ false ∷ true ∷ true ∷ []) (inr (inr (inr (inr (inr (inr (inr (inr (inl (refl, refl)))))))))) (omega arith))
     (omega arith) (λ rest e. absurd cc) EncodesLine1D.over
 
 pub tagged_rows_encoded : EncodesTaggedRows
@@ -70,8 +74,7 @@ tagged_rows_encoded = (
         true ∷ [],
         inr (
           refl,
-          EncodesLine2D.vertical 0 (true ∷ []) (pos 0) (omega arith)
-              (inr (inr (inl (refl, refl)))) refl EncodesLine2D.over,
+          EncodesLine2D.vertical 0 (true ∷ []) (pos 0) (omega arith) (inr (inr (inl (refl, refl)))) refl EncodesLine2D.over,
         ),
       ),
       refl,
@@ -84,10 +87,12 @@ tagged_rows_encoded = (
 )
 
 -- what a line that is whole, or broken, leaves
-whole_stays : (n : ℕ) (row others : Row) (rest more : Bits) → Line.whole row rest ≡ Line.whole others more → n ≤ length rest → n ≤ length more
+whole_stays : (n : ℕ) (row others : Row) (rest more : Bits) → Line.whole row rest ≡ Line.whole others more → n ≤ length rest
+    → n ≤ length more
 whole_stays n row others rest more e le = subst (λ (bits : Bits). n ≤ length bits) (let same : rest ≡ more = cc in same) le
 
-broken_stays : (n : ℕ) (front others : Row) (fault : DecodeError) (more : Bits) → Line.broken front fault ≡ Line.whole others more → n ≤ length more
+broken_stays : (n : ℕ) (front others : Row) (fault : DecodeError) (more : Bits) → Line.broken front fault ≡ Line.whole others more
+    → n ≤ length more
 broken_stays n front others fault more e = absurd cc
 
 local_of : (bits : Bits) (from to : ℕ) → IsLocalByTests with_eols bits from to → IsLocal with_eols bits from to
@@ -204,7 +209,8 @@ pub limit_behind : LimitBehindTheBody
 limit_behind rows count count2 (EndAlike.faults fault e f) = absurd cc
 limit_behind rows count count2 (EndAlike.no_columns e f g) = absurd (omega (arith, e))
 limit_behind rows count count2 (EndAlike.before place n le one two) =
-    let end : 0 ≡ length one.rest = ap (λ (r : Result Bits DecodeError). elim r [ Ok rest ↦ length rest | Err fault ↦ 0 ]) one.ends in
+    let end : 0 ≡ length one.rest =
+    ap (λ (r : Result Bits DecodeError). elim r [ Ok rest ↦ length rest | Err fault ↦ 0 ]) one.ends in
     let place_is : place + length one.rest ≡ 56 = one.place_is in
     absurd (omega (arith, le, end, place_is))
 limit_behind rows count count2 (EndAlike.past place place2 n n2 lt lt2 one two counts) =

@@ -1,5 +1,6 @@
 -- Worked examples, written as texts: settings, bytes, and the result of the plain reading.
-use Rattle.std.specs.Prelude.{ℕ, ◌+◌, ◌-◌, ◌*◌, ◌==◌, ◌≡◌, nat_lt, List, [], ◌∷◌, take, drop, map, codes, Bool, false, Ok, Result, if◌then◌else◌}
+use Rattle.std.specs.Prelude.{ℕ, ◌+◌, ◌-◌, ◌*◌, ◌==◌, ◌≡◌, nat_lt, List, [], ◌∷◌, take, drop, map, codes, Bool, false, Ok}
+use Rattle.std.specs.Prelude.{Result, if◌then◌else◌}
 use Rattle.std.specs.List.{list_any}
 use Prim.Native.String.{String}
 use Rattle.hayro_ccitt.specs.declared.error.DecodeError.{DecodeError}

@@ -5,8 +5,10 @@
 #![tactic(auto)]
 
 ghost use Rattle.std.specs.Prelude.{◌≡◌, [], ◌∷◌, Ok, Err};
-ghost use Rattle.worked_rows.specs.Examples.{damage_in, repairs_in, misses_in, reading_of, low_first_reading_of, group4, group3_1d, group3_2d};
-ghost use Rattle.worked_rows.specs.Examples.{EncodesTwoLines, EncodesTaggedRows, HaveLocalBodies, ReadsDamage, LimitBehindTheBody};
+ghost use Rattle.worked_rows.specs.Examples.{damage_in, repairs_in, misses_in, reading_of, low_first_reading_of, group4};
+ghost use Rattle.worked_rows.specs.Examples.{group3_1d, group3_2d};
+ghost use Rattle.worked_rows.specs.Examples.{EncodesTwoLines, EncodesTaggedRows, HaveLocalBodies, ReadsDamage};
+ghost use Rattle.worked_rows.specs.Examples.{LimitBehindTheBody};
 ghost use Rattle.worked_rows.specs.Examples.{OneLineFollows, OneLineDiffers, ReadsDamageByK};
 
 use hayro_ccitt::DecodeError;

@@ -1,14 +1,8 @@
 -- Where the bits of bytes lie.
-use Rattle.std.proofs.Common.{◌≡◌, ℕ, zero, suc, ◌+◌, ◌-◌, ◌*◌, ◌<◌, Bool, false, List, [], ◌∷◌, ◌++◌, length, get_or, drop, map, Some, refl, ap, ◌∙◌, arith}
-use Rattle.std.specs.List.{range_with_len}
-use Rattle.std.specs.Prelude.{slice_get}
-use Rattle.std.proofs.lemmas.List.{get_or_append_left}
-use Rattle.std.proofs.lemmas.List.FromFn.{get_or-map-range_with_len}
-use Rattle.std.proofs.lemmas.Option.{slice_get-get_or}
-use Rattle.hayro_ccitt.specs.declared.bit_reader.BitOrder.{BitOrder}
-use Rattle.hayro_ccitt.specs.declared.bit_reader.BitOrder.TheVariants.{HighestFirst, LowestFirst}
-use Rattle.hayro_ccitt.specs.Bits.{Bits, AreWholeBytes, bit_of, bits_of_byte, bits_in, bits_of, low_bits}
-use Rattle.std.proofs.lemmas.Grind.{common_steps}
+use Rattle.hayro_ccitt.proofs.Names.{◌≡◌, ℕ, zero, suc, ◌+◌, ◌-◌, ◌*◌, ◌<◌, Bool, false, List, [], ◌∷◌, ◌++◌, length, get_or}
+use Rattle.hayro_ccitt.proofs.Names.{drop, map, Some, refl, ap, ◌∙◌, arith, range_with_len, slice_get, get_or_append_left}
+use Rattle.hayro_ccitt.proofs.Names.{get_or-map-range_with_len, slice_get-get_or, BitOrder, HighestFirst, LowestFirst, Bits}
+use Rattle.hayro_ccitt.proofs.Names.{AreWholeBytes, bit_of, bits_of_byte, bits_in, bits_of, low_bits, common_steps}
 
 pub length-bits_in : (order : BitOrder) (bytes : List ℕ) → length (bits_in order bytes) ≡ 8 * length bytes
 length-bits_in order [] = refl
@@ -28,12 +22,14 @@ place_in_byte HighestFirst r = 7 - r
 place_in_byte LowestFirst r = r
 
 -- the bits of a byte, by their positions
-bits_by_place : (order : BitOrder) (b : ℕ) → bits_of_byte order b ≡ map (λ r. bit_of b (place_in_byte order r)) (range_with_len 0 8)
+bits_by_place : (order : BitOrder) (b : ℕ)
+    → bits_of_byte order b ≡ map (λ r. bit_of b (place_in_byte order r)) (range_with_len 0 8)
 bits_by_place HighestFirst b = refl
 bits_by_place LowestFirst b = refl
 
 -- the bits of the first byte
-bit_of_first : (order : BitOrder) (b : ℕ) (rest : Bits) (r : ℕ) → r < 8 → slice_get (bits_of_byte order b ++ rest) r ≡ Some (bit_of b (place_in_byte order r))
+bit_of_first : (order : BitOrder) (b : ℕ) (rest : Bits) (r : ℕ) → r < 8
+    → slice_get (bits_of_byte order b ++ rest) r ≡ Some (bit_of b (place_in_byte order r))
 bit_of_first order b rest r lt =
     let at : ℕ → Bool = λ i. bit_of b (place_in_byte order i) in
     let first : Bits = map at (range_with_len 0 8) in

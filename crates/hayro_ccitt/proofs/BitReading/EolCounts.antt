@@ -1,7 +1,5 @@
 -- What counting EOLs leaves, in the terms of the reader's calls.
-use Rattle.std.proofs.Common.{◌≡◌, ◌≤◌, ℕ, length, ap, subst}
-use Rattle.hayro_ccitt.specs.Bits.{Bits}
-use Rattle.hayro_ccitt.specs.EndOfLine.{eols, all_eols}
+use Rattle.hayro_ccitt.proofs.Names.{◌≡◌, ◌≤◌, ℕ, length, ap, subst, Bits, eols, all_eols}
 use Rattle.hayro_ccitt.proofs.Readings.TurnsMoveOn.{eols_shorter}
 
 -- no more bits are left than there were

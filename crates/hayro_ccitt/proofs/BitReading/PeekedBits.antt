@@ -1,23 +1,23 @@
 -- The highest bits of a word that contains the bits from here on.
-use Rattle.std.proofs.Common.{◌≡◌, ℕ, zero, suc, ◌+◌, ◌-◌, ◌/◌, ◌^◌, ◌<◌, ◌≤◌, false, [], ◌∷◌, get_or, refl, sym, ap, ◌∙◌, arith}
-use Rattle.std.proofs.lemmas.List.{get_or-drop}
-use Rattle.std.proofs.lemmas.Nat.{shr-shr}
-use Rattle.hayro_ccitt.specs.Bits.{Bits, BitsAt, bit_of, low_bits, here}
-use Rattle.hayro_ccitt.specs.LookUps.{padded, seven_bits, thirteen_bits}
-use Rattle.std.proofs.lemmas.Grind.{common_steps}
+use Rattle.hayro_ccitt.proofs.Names.{◌≡◌, ℕ, zero, suc, ◌+◌, ◌-◌, ◌/◌, ◌^◌, ◌<◌, ◌≤◌, false, [], ◌∷◌, get_or, refl, sym, ap, ◌∙◌}
+use Rattle.hayro_ccitt.proofs.Names.{arith, get_or-drop, shr-shr, Bits, BitsAt, bit_of, low_bits, here, padded, common_steps}
+use Rattle.hayro_ccitt.specs.LookUps.{seven_bits, thirteen_bits}
 
 -- the low bits of a number, if they are the first ones here
-low_bits-padded : (n x : ℕ) (here : Bits) → ((k : ℕ) → k < n → bit_of x (n - 1 - k) ≡ get_or here k false) → low_bits n x ≡ padded n here
+low_bits-padded : (n x : ℕ) (here : Bits) → ((k : ℕ) → k < n → bit_of x (n - 1 - k) ≡ get_or here k false)
+    → low_bits n x ≡ padded n here
 low_bits-padded zero x here h = refl
 low_bits-padded (suc n) x [] h =
     let first : suc n - 1 - 0 ≡ n = omega arith in
     let bit : bit_of x n ≡ false = ap (bit_of x) (sym first) ∙ h 0 (omega arith) in
-    let on = low_bits-padded n x [] (λ k lt. let e : n - 1 - k ≡ suc n - 1 - suc k = omega arith in ap (bit_of x) e ∙ h (suc k) (omega arith)) in
+    let on = low_bits-padded n x []
+    (λ k lt. let e : n - 1 - k ≡ suc n - 1 - suc k = omega arith in ap (bit_of x) e ∙ h (suc k) (omega arith)) in
     cc
 low_bits-padded (suc n) x (b ∷ here) h =
     let first : suc n - 1 - 0 ≡ n = omega arith in
     let bit : bit_of x n ≡ b = ap (bit_of x) (sym first) ∙ h 0 (omega arith) in
-    let on = low_bits-padded n x here (λ k lt. let e : n - 1 - k ≡ suc n - 1 - suc k = omega arith in ap (bit_of x) e ∙ h (suc k) (omega arith)) in
+    let on = low_bits-padded n x here
+    (λ k lt. let e : n - 1 - k ≡ suc n - 1 - suc k = omega arith in ap (bit_of x) e ∙ h (suc k) (omega arith)) in
     cc
 
 -- the highest n bits of what is peeked
@@ -39,8 +39,8 @@ unfolding seven_bits
 peeked_seven at word h = peeked at word 7 (omega arith) h
 
 -- the highest n bits of a window that contains them
-pub first_bits : (at : BitsAt) (word n : ℕ) → n ≤ 64 → ((k : ℕ) → k < n → bit_of word (63 - k) ≡ get_or at.bits (at.place + k) false)
-    → low_bits n (word / 2 ^ (64 - n)) ≡ padded n (here at)
+pub first_bits : (at : BitsAt) (word n : ℕ) → n ≤ 64 → ((k : ℕ) → k < n
+    → bit_of word (63 - k) ≡ get_or at.bits (at.place + k) false) → low_bits n (word / 2 ^ (64 - n)) ≡ padded n (here at)
 first_bits at word n le h = low_bits-padded n (word / 2 ^ (64 - n)) (here at) each
   where
     each : (k : ℕ) → k < n → bit_of (word / 2 ^ (64 - n)) (n - 1 - k) ≡ get_or (here at) k false

@@ -1,19 +1,13 @@
 -- EOLs without fill.
-use Rattle.std.proofs.Common.{◌≡◌, ℕ, ◌+◌, ◌-◌, ◌*◌, ◌/◌, ◌%◌, ◌^◌, ◌<◌, ◌≤◌, true, false, eqb, ◌∷◌, ◌++◌, length, get_or, drop, replicate, min, Some, None, sym, ap, ◌∙◌, arith, inl, inr}
-use lib.Count.{count_leading_zeros, count_trailing_zeros}
-use Rattle.std.specs.Int.{bit_at, w32}
-use Rattle.std.proofs.lemmas.Bool.{cases_lt}
-use Rattle.std.proofs.lemmas.List.{get_or-drop, length-drop, drop_min}
-use Rattle.std.proofs.lemmas.Nat.{leading_top, shr-shr}
-use Rattle.std.proofs.Math.Nat.{pow-le-pow_right}
-use Rattle.std.proofs.lemmas.Nat.Bits.{bit_at_above, bit_at_cat_low, bit_at-trailing_zeros}
-use Rattle.hayro_ccitt.specs.Bits.{Bits, BitsAt, here, bit_of}
-use Rattle.hayro_ccitt.specs.EndOfLine.{after_eol, all_eols, past_tag, pass_last_tag, tagged_eols}
-use Rattle.hayro_ccitt.proofs.BitReading.SoughtEols.{one_near}
+use Rattle.hayro_ccitt.proofs.Names.{◌≡◌, ℕ, ◌+◌, ◌-◌, ◌*◌, ◌/◌, ◌%◌, ◌^◌, ◌<◌, ◌≤◌, true, false, eqb, ◌∷◌, ◌++◌, length, get_or}
+use Rattle.hayro_ccitt.proofs.Names.{drop, replicate, min, Some, None, sym, ap, ◌∙◌, arith, inl, inr, count_leading_zeros}
+use Rattle.hayro_ccitt.proofs.Names.{count_trailing_zeros, bit_at, cases_lt, get_or-drop, length-drop, drop_min, leading_top}
+use Rattle.hayro_ccitt.proofs.Names.{shr-shr, pow-le-pow_right, bit_at_above, bit_at_cat_low, bit_at-trailing_zeros, Bits, BitsAt}
+use Rattle.hayro_ccitt.proofs.Names.{here, bit_of, after_eol, all_eols, past_tag, pass_last_tag, tagged_eols, common_steps}
+use Rattle.hayro_ccitt.proofs.{BitReading.SoughtEols.one_near, BitReading.ZerosPassed.Holds, BitReading.ZerosPassed.run_ahead}
 use Rattle.hayro_ccitt.proofs.BitReading.ZeroRuns.{after_eol_run, eols_one, eols_enough}
-use Rattle.hayro_ccitt.proofs.BitReading.ZerosPassed.{Holds, run_ahead}
 use Rattle.hayro_ccitt.proofs.Readings.TurnsMoveOn.{after_eol_shorter, eols_with_tags-some, eols_with_tags-none}
-use Rattle.std.proofs.lemmas.Grind.{common_steps}
+use Rattle.std.specs.Int.{w32}
 
 -- ---- The word.
 -- eleven zeros and a one
@@ -37,8 +31,9 @@ module _ (at : BitsAt) (w : ℕ) (small : w < 2 ^ 32) (held : Holds w at) where
         let eleven = eleven_zeros w small one in
         let place : at.place + 11 + 1 ≡ at.place + 12 = omega arith in
         let after : here next ≡ drop (at.place + 12) at.bits = ap here e ∙ drop_min (at.place + 12) at.bits in
-        run_ahead at w small held (omega (arith, eleven)) ∙ ap (λ (n : ℕ). replicate n false ++ true ∷ drop (at.place + n + 1) at.bits) eleven
-        ∙ ap (λ (n : ℕ). replicate 11 false ++ true ∷ drop n at.bits) place ∙ ap (λ (rest : Bits). replicate 11 false ++ true ∷ rest) (sym after)
+        run_ahead at w small held (omega (arith, eleven))
+        ∙ ap (λ (n : ℕ). replicate n false ++ true ∷ drop (at.place + n + 1) at.bits) eleven ∙ ap (λ (n : ℕ).
+        replicate 11 false ++ true ∷ drop n at.bits) place ∙ ap (λ (rest : Bits). replicate 11 false ++ true ∷ rest) (sym after)
 
     pub twelve_more : length (here at) ≡ length (here next) + 12
     twelve_more = omega (arith, ap length plain_eol)
@@ -60,7 +55,8 @@ module _ (at : BitsAt) (w : ℕ) (small : w < 2 ^ 32) (held : Holds w at) where
     within_ten : zeros_behind < 10
     within_ten = elim (cases_lt zeros_behind 10) [
       | inl lt ↦ lt
-      | inr ge ↦ absurd (let none = bit_at_above ten 10 zeros_behind (omega arith) ge in let one = lowest.1 in omega (arith, none, one))
+      | inr ge ↦
+          absurd (let none = bit_at_above ten 10 zeros_behind (omega arith) ge in let one = lowest.1 in omega (arith, none, one))
     ]
 
     one_there : get_or at.bits (at.place + (22 - zeros_behind)) false ≡ true
@@ -69,11 +65,13 @@ module _ (at : BitsAt) (w : ℕ) (small : w < 2 ^ 32) (held : Holds w at) where
         let whole : w / 512 ≡ (w / 512 / 1024) * 2 ^ 10 + ten = omega arith in
         let low : bit_at (w / 512) zeros_behind ≡ bit_at ten zeros_behind
         = ap (λ (n : ℕ). bit_at n zeros_behind) whole ∙ bit_at_cat_low (w / 512 / 1024) 10 ten zeros_behind within_ten in
-        let bit : bit_of w (9 + zeros_behind) ≡ true = sym (ap (λ (m : ℕ). eqb (m % 2) 1) (shr-shr w 9 zeros_behind)) ∙ ap (λ (m : ℕ). eqb m 1) (low ∙ lowest.1) in
+        let bit : bit_of w (9 + zeros_behind) ≡ true =
+        sym (ap (λ (m : ℕ). eqb (m % 2) 1) (shr-shr w 9 zeros_behind)) ∙ ap (λ (m : ℕ). eqb m 1) (low ∙ lowest.1) in
         sym (held (22 - zeros_behind) (omega arith)) ∙ ap (bit_of w) (sym e) ∙ bit
 
     -- no EOL begins after the twelve bits before it, nor a bit later
-    pub none_behind : (next : BitsAt) → next.bits ≡ at.bits → next.place ≡ at.place + 12 → (after_eol 0 (here next) ≡ None) × (after_eol 0 (drop 1 (here next)) ≡ None)
+    pub none_behind : (next : BitsAt) → next.bits ≡ at.bits → next.place ≡ at.place + 12 → (after_eol 0 (here next) ≡ None)
+        × (after_eol 0 (drop 1 (here next)) ≡ None)
     none_behind next same place =
         let step = one_near 0 (9 - zeros_behind) (drop 1 (here next)) (omega arith) in
         let step2 = get_or-drop next.place next.bits (10 - zeros_behind) false in
@@ -86,7 +84,8 @@ pub eleven_are_eol : (here rest : Bits) → here ≡ replicate 11 false ++ true 
 eleven_are_eol here rest e = ap (after_eol 0) e ∙ after_eol_run 11 rest
 
 -- the first, and the others
-pub eol_and_others : (here rest : Bits) → after_eol 0 here ≡ Some rest → all_eols here ≡ (1 + (all_eols rest).0, (all_eols rest).1)
+pub eol_and_others : (here rest : Bits) → after_eol 0 here ≡ Some rest
+    → all_eols here ≡ (1 + (all_eols rest).0, (all_eols rest).1)
 eol_and_others here rest e = grind (arith, common_steps, after_eol_shorter, eols_enough, eols_one)
 
 -- a tag that no EOL follows stays
@@ -97,6 +96,7 @@ few_keep_the_tag : (here : Bits) → pass_last_tag (1, here) ≡ (1, here)
 few_keep_the_tag here = grind (arith, common_steps)
 
 -- one alone
-pub single_tagged_eol : (here rest : Bits) → after_eol 0 here ≡ Some rest → after_eol 0 rest ≡ None → after_eol 0 (drop 1 rest) ≡ None → tagged_eols here ≡ (1, rest)
+pub single_tagged_eol : (here rest : Bits) → after_eol 0 here ≡ Some rest → after_eol 0 rest ≡ None
+    → after_eol 0 (drop 1 rest) ≡ None → tagged_eols here ≡ (1, rest)
 single_tagged_eol here rest e none later =
     grind (arith, common_steps, common_steps, eols_with_tags-none, eols_with_tags-some, few_keep_the_tag, tag_stays)

@@ -1,9 +1,6 @@
 -- The next EOL, sought a count of zeros at a time.
-use Rattle.std.proofs.Common.{◌≡◌, ℕ, zero, suc, ◌+◌, ◌<◌, Bool, true, false, [], ◌∷◌, ◌++◌, length, drop, get_or, replicate, Some, None, refl, ap, arith}
-use Rattle.std.proofs.lemmas.Bool.{lt-leb}
-use Rattle.hayro_ccitt.specs.Bits.{Bits}
-use Rattle.hayro_ccitt.specs.EndOfLine.{after_eol, next_eol}
-use Rattle.hayro_ccitt.specs.Ticks.{looked}
+use Rattle.hayro_ccitt.proofs.Names.{◌≡◌, ℕ, zero, suc, ◌+◌, ◌<◌, Bool, true, false, [], ◌∷◌, ◌++◌, length, drop, get_or}
+use Rattle.hayro_ccitt.proofs.Names.{replicate, Some, None, refl, ap, arith, lt-leb, Bits, after_eol, next_eol, looked}
 
 -- too few zeros and a one are no EOL
 pub few_zeros : (seen k : ℕ) (rest : Bits) → seen + k < 11 → after_eol seen (replicate k false ++ true ∷ rest) ≡ None
@@ -23,7 +20,8 @@ one_near seen zero (false ∷ here) lt e = absurd cc
 one_near seen (suc n) (false ∷ here) lt e = one_near (suc seen) n here (omega arith) e
 
 -- the next EOL is after a one among the next eleven bits
-pub next_eol-behind_near : (n : ℕ) (here : Bits) → n < 11 → get_or here n false ≡ true → next_eol here ≡ next_eol (drop (n + 1) here)
+pub next_eol-behind_near : (n : ℕ) (here : Bits) → n < 11 → get_or here n false ≡ true
+    → next_eol here ≡ next_eol (drop (n + 1) here)
 next_eol-behind_near n [] lt e = absurd cc
 next_eol-behind_near zero (true ∷ here) lt e = refl
 next_eol-behind_near zero (false ∷ here) lt e = absurd cc
@@ -47,7 +45,8 @@ next_eol-zeros zero = refl
 next_eol-zeros (suc n) = rw (zeros_end 0 (suc n), next_eol) (next_eol-zeros n)
 
 -- the zeros and the one after them are examined
-pub looked-one : (k : ℕ) (rest : Bits) → looked (replicate k false ++ true ∷ rest) + length rest ≡ length (replicate k false ++ true ∷ rest)
+pub looked-one : (k : ℕ) (rest : Bits)
+    → looked (replicate k false ++ true ∷ rest) + length rest ≡ length (replicate k false ++ true ∷ rest)
 looked-one zero rest = omega arith
 looked-one (suc k) rest = omega (arith, looked-one k rest)
 

@@ -1,11 +1,7 @@
 -- The arrays of the code are the code lists, and the lookup tables of the arrays those of the lists.
-use Rattle.std.proofs.Common.{◌≡◌, ℕ, ◌++◌, ◌⊎◌, inl, inr, List, refl, ap, ◌∙◌}
-use Rattle.hayro_ccitt.specs.declared.codes.Color.{Color}
-use Rattle.hayro_ccitt.specs.declared.codes.Color.TheVariants.{White, Black}
-use Rattle.hayro_ccitt.specs.CodeLists.{white_codes, black_codes, numbered}
-use Rattle.hayro_ccitt.specs.LookUps.{AreEntries, AreOfColors}
-use Rattle.hayro_ccitt.specs.Runs.{codes_of}
-use Rattle.hayro_ccitt.specs.declared.tables.TheConstants.{WHITE_TERMINATING, WHITE_MAKEUP, BLACK_TERMINATING, BLACK_MAKEUP, COMMON_MAKEUP}
+use Rattle.hayro_ccitt.proofs.Names.{◌≡◌, ℕ, ◌++◌, ◌⊎◌, inl, inr, List, refl, ap, ◌∙◌, Color, White, Black, white_codes}
+use Rattle.hayro_ccitt.proofs.Names.{black_codes, numbered, AreEntries, AreOfColors, codes_of, WHITE_TERMINATING, WHITE_MAKEUP}
+use Rattle.hayro_ccitt.proofs.Names.{BLACK_TERMINATING, BLACK_MAKEUP, COMMON_MAKEUP}
 use Rattle.hayro_ccitt.proofs.BitReading.LookUpEntries.{Table}
 
 pub numbered_white : numbered (WHITE_TERMINATING ++ WHITE_MAKEUP ++ COMMON_MAKEUP) ≡ white_codes
@@ -16,16 +12,25 @@ numbered_black = refl
 
 -- the arrays of white, or those of black
 abbrev pub AreArrays : Table → Table → Type 0
-AreArrays terminating makeup = ((terminating ≡ WHITE_TERMINATING) × (makeup ≡ WHITE_MAKEUP)) ⊎ ((terminating ≡ BLACK_TERMINATING) × (makeup ≡ BLACK_MAKEUP))
+AreArrays terminating makeup =
+    ((terminating ≡ WHITE_TERMINATING) × (makeup ≡ WHITE_MAKEUP)) ⊎ ((terminating ≡ BLACK_TERMINATING) × (makeup ≡ BLACK_MAKEUP))
 
 -- they are the list of a colour
-pub numbered_of : (terminating makeup : Table) → AreArrays terminating makeup → (color : Color) × (numbered (terminating ++ makeup ++ COMMON_MAKEUP) ≡ codes_of color)
-numbered_of terminating makeup (inl e) =
-    (White, ap (λ (t : Table). numbered (t ++ makeup ++ COMMON_MAKEUP)) e.0 ∙ ap (λ (m : Table). numbered (WHITE_TERMINATING ++ m ++ COMMON_MAKEUP)) e.1 ∙ numbered_white)
-numbered_of terminating makeup (inr e) =
-    (Black, ap (λ (t : Table). numbered (t ++ makeup ++ COMMON_MAKEUP)) e.0 ∙ ap (λ (m : Table). numbered (BLACK_TERMINATING ++ m ++ COMMON_MAKEUP)) e.1 ∙ numbered_black)
+pub numbered_of : (terminating makeup : Table) → AreArrays terminating makeup → (color : Color)
+    × (numbered (terminating ++ makeup ++ COMMON_MAKEUP) ≡ codes_of color)
+numbered_of terminating makeup (inl e) = (
+  White,
+  ap (λ (t : Table). numbered (t ++ makeup ++ COMMON_MAKEUP)) e.0
+      ∙ ap (λ (m : Table). numbered (WHITE_TERMINATING ++ m ++ COMMON_MAKEUP)) e.1 ∙ numbered_white,
+)
+numbered_of terminating makeup (inr e) = (
+  Black,
+  ap (λ (t : Table). numbered (t ++ makeup ++ COMMON_MAKEUP)) e.0
+      ∙ ap (λ (m : Table). numbered (BLACK_TERMINATING ++ m ++ COMMON_MAKEUP)) e.1 ∙ numbered_black,
+)
 
 -- the lookup tables of both
-pub of_colors : (white black : List ℕ) → AreEntries white_codes white → AreEntries black_codes black → AreOfColors (record { white = white; black = black })
+pub of_colors : (white black : List ℕ) → AreEntries white_codes white → AreEntries black_codes black
+    → AreOfColors (record { white = white; black = black })
 of_colors white black w b White = w
 of_colors white black w b Black = b

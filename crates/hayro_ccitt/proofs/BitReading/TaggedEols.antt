@@ -1,25 +1,19 @@
 -- EOLs with tags between them, read one after another, and what is examined.
-use Rattle.std.proofs.Common.{◌≡◌, ℕ, suc, ◌+◌, ◌-◌, ◌*◌, ◌<◌, ◌≤◌, true, false, ◌∷◌, length}
-use Rattle.std.proofs.Common.{Some, None, refl, arith}
-use Rattle.std.specs.Prelude.{is_some}
-use Rattle.std.proofs.lemmas.Bool.{le-leb}
-use Rattle.hayro_ccitt.specs.Bits.{Bits}
-use Rattle.hayro_ccitt.specs.EndOfLine.{after_eol, eols, past_tag, eols_with_tags, pass_last_tag}
-use Rattle.hayro_ccitt.specs.Ticks.{looked, looked_at_tag}
-use Rattle.hayro_ccitt.proofs.Readings.TurnsMoveOn.{eols_with_tags-some}
-use Rattle.hayro_ccitt.proofs.BitReading.ZeroRuns.{looked_eol}
-use Rattle.std.proofs.lemmas.Grind.{common_steps}
+use Rattle.hayro_ccitt.proofs.Names.{◌≡◌, ℕ, suc, ◌+◌, ◌-◌, ◌*◌, ◌<◌, ◌≤◌, true, false, ◌∷◌, length, Some, None, refl, arith}
+use Rattle.hayro_ccitt.proofs.Names.{is_some, le-leb, Bits, after_eol, eols, past_tag, eols_with_tags, pass_last_tag, looked}
+use Rattle.hayro_ccitt.proofs.Names.{looked_at_tag, common_steps}
+use Rattle.hayro_ccitt.proofs.{BitReading.ZeroRuns.looked_eol, Readings.TurnsMoveOn.eols_with_tags-some}
 
 -- one EOL is read if there is one
-pub one_eol_read : (here after : Bits) (count : ℕ) → eols 1 here ≡ (count, after) → (0 < count → (after_eol 0 here ≡ Some after) × (count ≡ 1))
-    × (count ≡ 0 → (after_eol 0 here ≡ None) × (after ≡ here))
+pub one_eol_read : (here after : Bits) (count : ℕ) → eols 1 here ≡ (count, after)
+    → (0 < count → (after_eol 0 here ≡ Some after) × (count ≡ 1)) × (count ≡ 0 → (after_eol 0 here ≡ None) × (after ≡ here))
 one_eol_read here after count e = grind (arith, common_steps)
 
 -- an EOL more and its tag, and those after it
 pub tagged_stepped : (max count : ℕ) (start now after rest : Bits)
-    → eols_with_tags max start ≡ (count + (eols_with_tags (max - count) now).0, (eols_with_tags (max - count) now).1) → after_eol 0 now ≡ Some after
-    → rest ≡ past_tag after → count < max
-    → eols_with_tags max start ≡ (count + 1 + (eols_with_tags (max - (count + 1)) rest).0, (eols_with_tags (max - (count + 1)) rest).1)
+    → eols_with_tags max start ≡ (count + (eols_with_tags (max - count) now).0, (eols_with_tags (max - count) now).1)
+    → after_eol 0 now ≡ Some after → rest ≡ past_tag after → count < max → eols_with_tags max start
+    ≡ (count + 1 + (eols_with_tags (max - (count + 1)) rest).0, (eols_with_tags (max - (count + 1)) rest).1)
 tagged_stepped max count start now after rest e h is lt =
     let more : ℕ × Bits = eols_with_tags (max - (count + 1)) rest in
     let n : max - count ≡ suc (max - (count + 1)) = omega arith in

@@ -1,21 +1,16 @@
 -- Words of 64 bits that contain bits of the data, the first in the highest position.
-use Rattle.std.proofs.Common.{◌≡◌, ℕ, zero, suc, ◌+◌, ◌-◌, ◌*◌, ◌/◌, ◌%◌, ◌^◌, ◌<◌, ◌≤◌, eqb, false, List, [], ◌∷◌, length, get_or, slice_get, pow_pos, drop, refl, sym, ap, ◌∙◌, arith, inl, inr, Bool, true, ◌||◌, max, min}
-use Rattle.std.specs.Int.{bit_at, from_be_bytes, w64}
-use Rattle.std.specs.Int.RustNames.{bit_or}
-use Rattle.std.proofs.Math.Nat.{div-div-eq-div-mul}
-use Rattle.std.proofs.lemmas.Bool.{cases_lt}
-use Rattle.std.proofs.lemmas.List.{get_or-drop, get_or_past}
-use Rattle.std.proofs.lemmas.Nat.{pow-add}
-use Rattle.std.proofs.lemmas.Nat.Bits.{bit_at-zero, bit_at-lt, bit_at_above, bit_at_or, bit_at_cat_low, bit_at_cat_high}
-use Rattle.std.proofs.lemmas.Option.{slice_get-get_or}
-use Rattle.hayro_ccitt.specs.declared.bit_reader.BitOrder.{BitOrder}
-use Rattle.hayro_ccitt.specs.declared.bit_reader.BitOrder.TheVariants.{HighestFirst, LowestFirst}
-use Rattle.hayro_ccitt.specs.Bits.{Bits, bit_of, bits_of, bits_in}
-use Rattle.hayro_ccitt.specs.Window.{place_in_word}
+use Rattle.hayro_ccitt.proofs.Names.{◌≡◌, ℕ, zero, suc, ◌+◌, ◌-◌, ◌*◌, ◌/◌, ◌%◌, ◌^◌, ◌<◌, ◌≤◌, eqb, false, List, [], ◌∷◌, length}
+use Rattle.hayro_ccitt.proofs.Names.{get_or, slice_get, pow_pos, drop, refl, sym, ap, ◌∙◌, arith, inl, inr, Bool, true, ◌||◌, max}
+use Rattle.hayro_ccitt.proofs.Names.{min, bit_at, from_be_bytes, w64, div-div-eq-div-mul, cases_lt, get_or-drop, get_or_past}
+use Rattle.hayro_ccitt.proofs.Names.{pow-add, bit_at-zero, bit_at-lt, bit_at_above, bit_at_or, bit_at_cat_low, bit_at_cat_high}
+use Rattle.hayro_ccitt.proofs.Names.{slice_get-get_or, BitOrder, HighestFirst, LowestFirst, Bits, bit_of, bits_of, bits_in}
+use Rattle.hayro_ccitt.proofs.Names.{place_in_word}
 use Rattle.hayro_ccitt.proofs.BitReading.BitLists.{length-bits_in, place_in_byte, slice_get-bits_in}
+use Rattle.std.specs.Int.RustNames.{bit_or}
 
 -- the bit at a position, and a zero past the end
-pub get_or-bits_in : (order : BitOrder) (bytes : List ℕ) (n : ℕ) → get_or (bits_in order bytes) n false ≡ bit_of (get_or bytes (n / 8) 0) (place_in_byte order (n % 8))
+pub get_or-bits_in : (order : BitOrder) (bytes : List ℕ) (n : ℕ)
+    → get_or (bits_in order bytes) n false ≡ bit_of (get_or bytes (n / 8) 0) (place_in_byte order (n % 8))
 get_or-bits_in order bytes n = elim (cases_lt n (8 * length bytes)) [
   | inl inside ↦
       let e : n ≡ 8 * (n / 8) + n % 8 = omega arith in
@@ -24,15 +19,18 @@ get_or-bits_in order bytes n = elim (cases_lt n (8 * length bytes)) [
       let again = ap (λ (m : ℕ). slice_get (bits_in order bytes) m) e ∙ there in cc
   | inr past ↦
       let zero_byte : get_or bytes (n / 8) 0 ≡ 0 = get_or_past bytes (n / 8) 0 (omega arith) in
-      get_or_past (bits_in order bytes) n false (omega (arith, length-bits_in order bytes)) ∙ sym (rw zero_byte (ap (λ (b : ℕ). eqb b 1) (bit_at-zero (place_in_byte order (n % 8)))))
+      get_or_past (bits_in order bytes) n false (omega (arith, length-bits_in order bytes))
+      ∙ sym (rw zero_byte (ap (λ (b : ℕ). eqb b 1) (bit_at-zero (place_in_byte order (n % 8)))))
 ]
 
 -- the bits from a byte on
-pub bits_in-drop : (order : BitOrder) (bytes : List ℕ) (b n : ℕ) → get_or (bits_in order (drop b bytes)) n false ≡ get_or (bits_in order bytes) (8 * b + n) false
+pub bits_in-drop : (order : BitOrder) (bytes : List ℕ) (b n : ℕ)
+    → get_or (bits_in order (drop b bytes)) n false ≡ get_or (bits_in order bytes) (8 * b + n) false
 bits_in-drop order bytes b n =
     let byte : (8 * b + n) / 8 ≡ b + n / 8 = omega arith in
     let bit : (8 * b + n) % 8 ≡ n % 8 = omega arith in
-    rw (get_or-bits_in order (drop b bytes) n, get_or-bits_in order bytes (8 * b + n), get_or-drop b bytes (n / 8) 0, byte, bit) refl
+    rw (get_or-bits_in order (drop b bytes) n, get_or-bits_in order bytes (8 * b + n), get_or-drop b bytes (n / 8) 0, byte, bit)
+    refl
 
 -- ---- A word that is read from bytes.
 abbrev pub IsBytes : List ℕ → Type 0
@@ -50,7 +48,8 @@ bit_before (b ∷ bytes) n i fits =
     let e : 8 * length (b ∷ bytes) + i ≡ 8 * length bytes + (8 + i) = omega arith in
     let low : b < 2 ^ 8 = omega (arith, fits 0) in
     let down : (8 + i) - 8 ≡ i = omega arith in
-    rw e (bit_before bytes (n * 2 ^ 8 + b) (8 + i) (λ k. fits (suc k)) ∙ bit_at_cat_high n 8 b (8 + i) low (omega arith) ∙ ap (bit_at n) down)
+    rw e (bit_before bytes (n * 2 ^ 8 + b) (8 + i) (λ k. fits (suc k)) ∙ bit_at_cat_high n 8 b (8 + i) low (omega arith)
+    ∙ ap (bit_at n) down)
 
 -- the bit at a position, counted from the last
 bit_from_end : (bytes : List ℕ) (n k j : ℕ) → IsBytes bytes → k < length bytes → j < 8
@@ -66,7 +65,8 @@ bit_from_end (b ∷ bytes) n (suc k) j fits h l =
 -- the first eight bytes, and zeros past the end
 abbrev eight : List ℕ → List ℕ
 eight bytes =
-    get_or bytes 0 0 ∷ get_or bytes 1 0 ∷ get_or bytes 2 0 ∷ get_or bytes 3 0 ∷ get_or bytes 4 0 ∷ get_or bytes 5 0 ∷ get_or bytes 6 0 ∷ get_or bytes 7 0 ∷ []
+    get_or bytes 0 0 ∷ get_or bytes 1 0 ∷ get_or bytes 2 0 ∷ get_or bytes 3 0 ∷ get_or bytes 4 0 ∷ get_or bytes 5 0
+    ∷ get_or bytes 6 0 ∷ get_or bytes 7 0 ∷ []
 
 eight_at : (bytes : List ℕ) (k : ℕ) → k < 8 → get_or (eight bytes) k 0 ≡ get_or bytes k 0
 eight_at bytes zero h = refl
@@ -89,7 +89,8 @@ from_be_bytes-onto : (bytes : List ℕ) → from_be_bytes w64 bytes ≡ onto 0 (
 from_be_bytes-onto bytes = omega arith
 
 -- the bits of a word, the highest first, are those of its bytes
-word_bit : (bytes : List ℕ) (k : ℕ) → IsBytes bytes → k < 64 → bit_of (from_be_bytes w64 bytes) (63 - k) ≡ get_or (bits_of bytes) k false
+word_bit : (bytes : List ℕ) (k : ℕ) → IsBytes bytes → k < 64
+    → bit_of (from_be_bytes w64 bytes) (63 - k) ≡ get_or (bits_of bytes) k false
 word_bit bytes k fits h =
     let at : 63 - k ≡ 8 * (8 - 1 - k / 8) + (7 - k % 8) = omega arith in
     let byte : k / 8 < 8 = omega arith in
@@ -98,14 +99,15 @@ word_bit bytes k fits h =
     ∙ ap (λ (b : ℕ). bit_at b (7 - k % 8)) (eight_at bytes (k / 8) byte)) ∙ sym (get_or-bits_in HighestFirst bytes k))
 
 -- and in either order if it is so arranged
-pub ordered_bit : (order : BitOrder) (bytes : List ℕ) (w k : ℕ) → bit_of w (63 - k) ≡ bit_of (from_be_bytes w64 bytes) (63 - place_in_word order k) → IsBytes bytes → k < 64
-    → bit_of w (63 - k) ≡ get_or (bits_in order bytes) k false
+pub ordered_bit : (order : BitOrder) (bytes : List ℕ) (w k : ℕ) → bit_of w (63 - k) ≡ bit_of (from_be_bytes w64 bytes)
+    (63 - place_in_word order k) → IsBytes bytes → k < 64 → bit_of w (63 - k) ≡ get_or (bits_in order bytes) k false
 ordered_bit HighestFirst bytes w k is fits h = is ∙ word_bit bytes k fits h
 ordered_bit LowestFirst bytes w k is fits h =
     let place : ℕ = 8 * (k / 8) + (7 - k % 8) in
     let byte : place / 8 ≡ k / 8 = omega arith in
     let bit : 7 - place % 8 ≡ k % 8 = omega arith in
-    is ∙ word_bit bytes place fits (omega arith) ∙ get_or-bits_in HighestFirst bytes place ∙ rw (byte, bit) (sym (get_or-bits_in LowestFirst bytes k))
+    is ∙ word_bit bytes place fits (omega arith) ∙ get_or-bits_in HighestFirst bytes place
+    ∙ rw (byte, bit) (sym (get_or-bits_in LowestFirst bytes k))
 
 -- ---- A window that is moved.
 -- a bit below the top of a word is one of its own, whatever is above
@@ -141,7 +143,8 @@ shifted_down w n k h le =
 
 -- and has zeros before its own bits
 shifted_in : (w n k : ℕ) → w < 2 ^ 64 → k < 64 → k < n → bit_of (w / 2 ^ n) (63 - k) ≡ false
-shifted_in w n k fits h lt = ap (λ (b : ℕ). eqb b 1) (bit_at-shr w n (63 - k) ∙ bit_at_above w 64 (n + (63 - k)) fits (omega arith))
+shifted_in w n k fits h lt =
+    ap (λ (b : ℕ). eqb b 1) (bit_at-shr w n (63 - k) ∙ bit_at_above w 64 (n + (63 - k)) fits (omega arith))
 
 max_bit : (x y : ℕ) → x < 2 → y < 2 → eqb (max x y) 1 ≡ (eqb x 1 || eqb y 1)
 max_bit zero zero h k = refl
@@ -174,31 +177,35 @@ upper_bit w k h =
     ap (λ (v : ℕ). eqb (v % 2) 1) (div-div-eq-div-mul w (2 ^ 32) (2 ^ (31 - k)) ∙ ap (λ (d : ℕ). w / d) joined)
 
 -- A word contains n bits from a position on: shifted, it contains those that are left.
-pub holds_on : (bits : Bits) (place n most w : ℕ) → most ≤ 64 → ((k : ℕ) → k < most → bit_of w (63 - k) ≡ get_or bits (place + k) false)
-    → (k : ℕ) → n + k < most → bit_of (w * 2 ^ n % 2 ^ 64) (63 - k) ≡ get_or bits (place + n + k) false
+pub holds_on : (bits : Bits) (place n most w : ℕ) → most ≤ 64 → ((k : ℕ) → k < most → bit_of w (63 - k) ≡ get_or bits
+    (place + k) false) → (k : ℕ) → n + k < most → bit_of (w * 2 ^ n % 2 ^ 64) (63 - k) ≡ get_or bits (place + n + k) false
 holds_on bits place n most w le held k h =
     let at : place + (n + k) ≡ place + n + k = omega arith in
     shifted_bit w n k (omega arith) ∙ held (n + k) h ∙ ap (λ (i : ℕ). get_or bits i false) at
 
 -- And after them it contains zeros, as before.
-pub zeros_behind : (n most w : ℕ) → ((k : ℕ) → k < 64 → most ≤ k → bit_of w (63 - k) ≡ false) → (k : ℕ) → k < 64 → most ≤ n + k → bit_of (w * 2 ^ n % 2 ^ 64) (63 - k) ≡ false
+pub zeros_behind : (n most w : ℕ) → ((k : ℕ) → k < 64 → most ≤ k → bit_of w (63 - k) ≡ false) → (k : ℕ) → k < 64 → most ≤ n + k
+    → bit_of (w * 2 ^ n % 2 ^ 64) (63 - k) ≡ false
 zeros_behind n most w behind k h past = elim (cases_lt (n + k) 64) [
   | inl own ↦ shifted_bit w n k own ∙ behind (n + k) own past
   | inr out ↦ shifted_out w n k h out
 ]
 
 -- A window that is shifted, with the word ahead after its own bits, contains 64.
-pub joined : (bits : Bits) (place n most w a t : ℕ) → most ≤ 64 → n + t ≤ most → a < 2 ^ 64 → ((k : ℕ) → k < most → bit_of w (63 - k) ≡ get_or bits (place + k) false)
-    → ((k : ℕ) → k < 64 → most ≤ k → bit_of w (63 - k) ≡ false) → ((k : ℕ) → k < 64 → bit_of a (63 - k) ≡ get_or bits (place + n + t + k) false)
-    → (k : ℕ) → k < 64 → bit_of (bit_or (w * 2 ^ n % 2 ^ 64) (a / 2 ^ t)) (63 - k) ≡ get_or bits (place + n + k) false
+pub joined : (bits : Bits) (place n most w a t : ℕ) → most ≤ 64 → n + t ≤ most → a < 2 ^ 64 → ((k : ℕ)
+    → k < most → bit_of w (63 - k) ≡ get_or bits (place + k) false) → ((k : ℕ) → k < 64 → most ≤ k → bit_of w (63 - k) ≡ false)
+    → ((k : ℕ) → k < 64 → bit_of a (63 - k) ≡ get_or bits (place + n + t + k) false) → (k : ℕ) → k < 64
+    → bit_of (bit_or (w * 2 ^ n % 2 ^ 64) (a / 2 ^ t)) (63 - k) ≡ get_or bits (place + n + k) false
 joined bits place n most w a t le reach fits held behind ahead k h =
     let shifted : ℕ = w * 2 ^ n % 2 ^ 64 in
     let down : ℕ = a / 2 ^ t in
     let bit : Bool = get_or bits (place + n + k) false in elim (cases_lt k t) [
-      | inl before ↦ or_first shifted down (63 - k) bit (holds_on bits place n most w le held k (omega arith)) (shifted_in a t k fits h before)
+      | inl before ↦ or_first shifted down (63 - k) bit (holds_on bits place n most w le held k (omega arith))
+          (shifted_in a t k fits h before)
       | inr from ↦
           let at : place + n + t + (k - t) ≡ place + n + k = omega arith in
-          let second : bit_of down (63 - k) ≡ bit = shifted_down a t k h from ∙ ahead (k - t) (omega arith) ∙ ap (λ (i : ℕ). get_or bits i false) at in
+          let second : bit_of down (63 - k) ≡ bit =
+          shifted_down a t k h from ∙ ahead (k - t) (omega arith) ∙ ap (λ (i : ℕ). get_or bits i false) at in
           elim (cases_lt (n + k) most) [
             | inl own ↦ or_both shifted down (63 - k) bit (holds_on bits place n most w le held k own) second
             | inr past ↦ or_second shifted down (63 - k) bit (zeros_behind n most w behind k h past) second
@@ -206,17 +213,21 @@ joined bits place n most w a t le reach fits held behind ahead k h =
     ]
 
 -- a word from a byte on, shifted to a position in that byte
-pub filled : (order : BitOrder) (bytes : List ℕ) (place w : ℕ) → ((k : ℕ) → k < 64 → bit_of w (63 - k) ≡ get_or (bits_in order bytes) (8 * (place / 8) + k) false)
-    → (k : ℕ) → place % 8 + k < 64 → bit_of (w * 2 ^ (place % 8) % 2 ^ 64) (63 - k) ≡ get_or (bits_in order bytes) (place + k) false
+pub filled : (order : BitOrder) (bytes : List ℕ) (place w : ℕ)
+    → ((k : ℕ) → k < 64 → bit_of w (63 - k) ≡ get_or (bits_in order bytes) (8 * (place / 8) + k) false) → (k : ℕ)
+    → place % 8 + k < 64 → bit_of (w * 2 ^ (place % 8) % 2 ^ 64) (63 - k) ≡ get_or (bits_in order bytes) (place + k) false
 filled order bytes place w held k h =
     let at : 8 * (place / 8) + place % 8 + k ≡ place + k = omega arith in
-    holds_on (bits_in order bytes) (8 * (place / 8)) (place % 8) 64 w (omega arith) held k h ∙ ap (λ (i : ℕ). get_or (bits_in order bytes) i false) at
+    holds_on (bits_in order bytes) (8 * (place / 8)) (place % 8) 64 w (omega arith) held k h
+    ∙ ap (λ (i : ℕ). get_or (bits_in order bytes) i false) at
 
 -- and zeros after it, and past the end
-pub filled_behind : (order : BitOrder) (bytes : List ℕ) (place w : ℕ) → ((k : ℕ) → k < 64 → bit_of w (63 - k) ≡ get_or (bits_in order bytes) (8 * (place / 8) + k) false)
-    → (k : ℕ) → k < 64 → min (place / 8 * 8 + 31) (length bytes * 8) + 33 ≤ place + k → bit_of (w * 2 ^ (place % 8) % 2 ^ 64) (63 - k) ≡ false
+pub filled_behind : (order : BitOrder) (bytes : List ℕ) (place w : ℕ)
+    → ((k : ℕ) → k < 64 → bit_of w (63 - k) ≡ get_or (bits_in order bytes) (8 * (place / 8) + k) false) → (k : ℕ) → k < 64
+    → min (place / 8 * 8 + 31) (length bytes * 8) + 33 ≤ place + k → bit_of (w * 2 ^ (place % 8) % 2 ^ 64) (63 - k) ≡ false
 filled_behind order bytes place w held k h past = elim (cases_lt (place % 8 + k) 64) [
-  | inl own ↦ filled order bytes place w held k own ∙ get_or_past (bits_in order bytes) (place + k) false (omega (arith, past, length-bits_in order bytes))
+  | inl own ↦ filled order bytes place w held k own
+      ∙ get_or_past (bits_in order bytes) (place + k) false (omega (arith, past, length-bits_in order bytes))
   | inr out ↦ shifted_out w (place % 8) k h out
 ]
 

@@ -1,16 +1,11 @@
 -- The numbers whose bits begin with a word, and the entries that are written at them.
-use Rattle.std.proofs.Common.{◌≡◌, ℕ, zero, suc, ◌+◌, ◌-◌, ◌*◌, ◌/◌, ◌%◌, ◌^◌, ◌<◌, ◌≤◌, ◌⊎◌, true, false, eqb, [], ◌∷◌, ◌++◌, length, Option, Some, None, bit_or, refl, sym, ◌∙◌, arith}
-use Rattle.std.specs.Int.{bit_at}
-use Rattle.std.proofs.lemmas.Bool.{cases_eq, eq-eqb, ne_eqb}
-use Rattle.std.proofs.lemmas.Nat.{shr-shr, mod-pow-add, div_below, pow_pos, pow-add, mul-le, shl_whole, one_shl}
-use Rattle.std.proofs.lemmas.Nat.Bits.{bit_at-lt}
-use Rattle.std.proofs.Math.Nat.{mod-eq_of_lt}
-use Rattle.hayro_ccitt.specs.Bits.{Bits, bit_of, low_bits}
-use Rattle.hayro_ccitt.specs.CodeReading.{after, is_prefix}
-use Rattle.hayro_ccitt.specs.LookUps.{with_row, is_row, thirteen_bits}
-use Rattle.hayro_ccitt.proofs.CodeWords.ReadCodes.{after_is, after_at}
-use Rattle.hayro_ccitt.proofs.BitReading.BitLists.{length-low_bits}
-use Rattle.std.proofs.lemmas.Grind.{common_steps}
+use Rattle.hayro_ccitt.proofs.Names.{◌≡◌, ℕ, zero, suc, ◌+◌, ◌-◌, ◌*◌, ◌/◌, ◌%◌, ◌^◌, ◌<◌, ◌≤◌, ◌⊎◌, true, false, eqb, [], ◌∷◌}
+use Rattle.hayro_ccitt.proofs.Names.{◌++◌, length, Option, Some, None, bit_or, refl, sym, ◌∙◌, arith, bit_at, cases_eq, eq-eqb}
+use Rattle.hayro_ccitt.proofs.Names.{ne_eqb, shr-shr, mod-pow-add, div_below, pow_pos, pow-add, mul-le, shl_whole, one_shl}
+use Rattle.hayro_ccitt.proofs.Names.{bit_at-lt, mod-eq_of_lt, Bits, bit_of, low_bits, after, is_prefix, with_table_row, is_row}
+use Rattle.hayro_ccitt.proofs.Names.{common_steps}
+use Rattle.hayro_ccitt.proofs.{BitReading.BitLists.length-low_bits, CodeWords.ReadCodes.after_at, CodeWords.ReadCodes.after_is}
+use Rattle.hayro_ccitt.specs.LookUps.{thirteen_bits}
 
 -- the bits of a number are its high bits and then its low ones
 pub low_bits-append : (width rest n : ℕ) → low_bits (width + rest) n ≡ low_bits width (n / 2 ^ rest) ++ low_bits rest n
@@ -42,20 +37,32 @@ same_front (d ∷ a) (c ∷ b) x y h e = grind (arith, common_steps, same_front 
 -- a word begins the bits of the numbers that its own bits, with more bits after them, spell
 pub word_begins : (width rest word n : ℕ) → word < 2 ^ width → n < 2 ^ width * 2 ^ rest → 0 < 2 ^ rest
     → is_prefix (low_bits width word) (low_bits (width + rest) n) ≡ eqb (n / 2 ^ rest) word
-word_begins width rest word n fits below some = rw (low_bits-append width rest n) (by (cases_eq (n / 2 ^ rest) word))
+word_begins width rest word n fits below some = rw (low_bits-append width rest n) (in_each_case (cases_eq (n / 2 ^ rest) word))
   where
     small : n / 2 ^ rest < 2 ^ width
     small = div_below n (2 ^ rest) (2 ^ width) some below
 
-    differ : (o : Option Bits) → after (low_bits width word) (low_bits width (n / 2 ^ rest) ++ low_bits rest n) ≡ o → (n / 2 ^ rest ≡ word → ⊥)
-        → is_prefix (low_bits width word) (low_bits width (n / 2 ^ rest) ++ low_bits rest n) ≡ false
+    differ : (o : Option Bits) → after (low_bits width word) (low_bits width (n / 2 ^ rest) ++ low_bits rest n) ≡ o
+        → (n / 2 ^ rest ≡ word → ⊥) → is_prefix (low_bits width word) (low_bits width (n / 2 ^ rest) ++ low_bits rest n) ≡ false
     differ None e other = rw (e, is_prefix) refl
     differ (Some more) e other =
-        grind (arith, common_steps, after_is (low_bits width word) (low_bits width (n / 2 ^ rest) ++ low_bits rest n) more e, length-low_bits width (n / 2 ^ rest), length-low_bits width word, low_bits-same width (n / 2 ^ rest) word, mod-eq_of_lt small, mod-eq_of_lt fits, same_front (low_bits width (n / 2 ^ rest)) (low_bits width word) (low_bits rest n) more (length-low_bits width (n / 2 ^ rest) ∙ sym (length-low_bits width word)), small)
+        grind (
+          arith,
+          common_steps,
+          after_is (low_bits width word) (low_bits width (n / 2 ^ rest) ++ low_bits rest n) more e,
+          length-low_bits width (n / 2 ^ rest),
+          length-low_bits width word,
+          low_bits-same width (n / 2 ^ rest) word,
+          mod-eq_of_lt small,
+          mod-eq_of_lt fits,
+          same_front (low_bits width (n / 2 ^ rest)) (low_bits width word) (low_bits rest n) more
+              (length-low_bits width (n / 2 ^ rest) ∙ sym (length-low_bits width word)),
+          small,
+        )
 
-    by : (n / 2 ^ rest ≡ word) ⊎ (n / 2 ^ rest ≡ word → ⊥)
+    in_each_case : (n / 2 ^ rest ≡ word) ⊎ (n / 2 ^ rest ≡ word → ⊥)
         → is_prefix (low_bits width word) (low_bits width (n / 2 ^ rest) ++ low_bits rest n) ≡ eqb (n / 2 ^ rest) word
-    by given = grind (arith, common_steps, after_at, differ, eq-eqb, ne_eqb)
+    in_each_case given = grind (arith, common_steps, after_at, differ, eq-eqb, ne_eqb)
 
 -- of n bits
 pub word_begins_of : (whole width word n : ℕ) → width ≤ whole → word < 2 ^ width → n < 2 ^ whole
@@ -90,27 +97,28 @@ range_fits run width word is =
 pub shifted_entry : (run width word : ℕ) → IsRow run width word → bit_or (width * 4096 % 65536) run ≡ width * 4096 + run
 shifted_entry run width word is = grind (arith, common_steps)
 
-pub shifted_first : (run width word : ℕ) → IsRow run width word → word * 2 ^ (13 - width) % 18446744073709551616 ≡ word * 2 ^ (13 - width)
+pub shifted_first : (run width word : ℕ) → IsRow run width word
+    → word * 2 ^ (13 - width) % 18446744073709551616 ≡ word * 2 ^ (13 - width)
 shifted_first run width word is = shl_whole word width (13 - width) 64 is.fits (omega (arith, is.short))
 
 pub shifted_count : (width : ℕ) → 1 * 2 ^ (13 - width) % 18446744073709551616 ≡ 2 ^ (13 - width)
 shifted_count width = one_shl (13 - width) 64 (omega arith)
 
-row_test : (run width word k : ℕ) → IsRow run width word → k < 8192 → is_prefix (low_bits width word) (thirteen_bits k) ≡ eqb (k / 2 ^ (13 - width)) word
+row_test : (run width word k : ℕ) → IsRow run width word → k < 8192
+    → is_prefix (low_bits width word) (thirteen_bits k) ≡ eqb (k / 2 ^ (13 - width)) word
 unfolding thirteen_bits
 row_test run width word k is below = word_begins_of 13 width word k is.short is.fits below
 
 -- at these numbers the entry is that of the word
-pub row_inside : (run width word k entry : ℕ) → IsRow run width word → k < 8192 → word * 2 ^ (13 - width) ≤ k → k < word * 2 ^ (13 - width) + 2 ^ (13 - width)
-    → with_row (run, width, word) (thirteen_bits k) entry ≡ width * 4096 + run
+pub row_inside : (run width word k entry : ℕ) → IsRow run width word → k < 8192 → word * 2 ^ (13 - width) ≤ k → k < word
+    * 2 ^ (13 - width) + 2 ^ (13 - width) → with_table_row (run, width, word) (thirteen_bits k) entry ≡ width * 4096 + run
 row_inside run width word k entry is below le lt =
     let same = inside (2 ^ (13 - width)) word k le lt in
     rw (row_test run width word k is below ∙ eq-eqb (k / 2 ^ (13 - width)) word same) refl
 
 -- elsewhere it doesn't change
-pub row_outside : (run width word k entry : ℕ) → IsRow run width word → k < 8192
-    → (k < word * 2 ^ (13 - width)) ⊎ (word * 2 ^ (13 - width) + 2 ^ (13 - width) ≤ k)
-    → with_row (run, width, word) (thirteen_bits k) entry ≡ entry
+pub row_outside : (run width word k entry : ℕ) → IsRow run width word → k < 8192 → (k < word * 2 ^ (13 - width))
+    ⊎ (word * 2 ^ (13 - width) + 2 ^ (13 - width) ≤ k) → with_table_row (run, width, word) (thirteen_bits k) entry ≡ entry
 row_outside run width word k entry is below there =
     let other = outside (2 ^ (13 - width)) word k (pow_pos (13 - width)) there in
     rw (row_test run width word k is below ∙ ne_eqb (k / 2 ^ (13 - width)) word other) refl

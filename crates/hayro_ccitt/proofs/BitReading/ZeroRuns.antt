@@ -1,15 +1,9 @@
 -- Zeros and EOLs that are counted a bit and an EOL at a time.
-use Rattle.std.proofs.Common.{◌≡◌, ℕ, zero, suc, ◌+◌, ◌-◌, ◌<◌, ◌≤◌, Bool, true, false, cond, leb, eqb, [], ◌∷◌, ◌++◌, length, replicate, Option}
-use Rattle.std.proofs.Common.{Some, None, refl, sym, ap, ◌∙◌, arith}
-use Rattle.std.specs.Prelude.{slice_get}
-use Rattle.std.proofs.lemmas.Bool.{eqb-true}
-use Rattle.hayro_ccitt.specs.Bits.{Bits, BitsAt, here}
-use Rattle.hayro_ccitt.specs.CodeReading.{leading_zeros}
-use Rattle.hayro_ccitt.specs.EndOfLine.{after_eol, eols, all_eols}
-use Rattle.hayro_ccitt.specs.Ticks.{looked}
+use Rattle.hayro_ccitt.proofs.Names.{◌≡◌, ℕ, zero, suc, ◌+◌, ◌-◌, ◌<◌, ◌≤◌, Bool, true, false, cond, leb, eqb, [], ◌∷◌, ◌++◌}
+use Rattle.hayro_ccitt.proofs.Names.{length, replicate, Option, Some, None, refl, sym, ap, ◌∙◌, arith, slice_get, eqb-true, Bits}
+use Rattle.hayro_ccitt.proofs.Names.{BitsAt, here, leading_zeros, after_eol, eols, all_eols, looked, common_steps}
 use Rattle.hayro_ccitt.proofs.BitReading.BitLists.{drop_some}
 use Rattle.hayro_ccitt.proofs.Readings.TurnsMoveOn.{after_eol_shorter, length-one_more, one_more-count}
-use Rattle.std.proofs.lemmas.Grind.{common_steps}
 
 pub leading_zeros-one : (n : ℕ) (bits : Bits) → leading_zeros (replicate n false ++ (true ∷ bits)) ≡ n
 leading_zeros-one zero bits = refl
@@ -30,7 +24,8 @@ after_eol_run k rest = from 0 k ∙ let e : 0 + k ≡ k = omega arith in ap (λ 
   where
     from : (seen k : ℕ) → after_eol seen (replicate k false ++ true ∷ rest) ≡ cond (leb 11 (seen + k)) (Some rest) None
     from seen zero = let e : seen + 0 ≡ seen = omega arith in rw e refl
-    from seen (suc k) = let e : suc seen + k ≡ seen + suc k = omega arith in from (suc seen) k ∙ ap (λ (n : ℕ). cond (leb 11 n) (Some rest) None) e
+    from seen (suc k) = let e : suc seen + k ≡ seen + suc k = omega arith in
+        from (suc seen) k ∙ ap (λ (n : ℕ). cond (leb 11 n) (Some rest) None) e
 
 -- a count of zeros examines the bits of an EOL
 pub looked_eol : (seen : ℕ) (here after : Bits) → after_eol seen here ≡ Some after → looked here + length after ≡ length here
@@ -44,20 +39,20 @@ pub eols_one : (most : ℕ) (here after : Bits) → after_eol 0 here ≡ Some af
 eols_one most here after e lt = grind (arith, common_steps)
 
 -- an EOL more, and those after it
-pub eols_stepped : (max count : ℕ) (start now after : Bits) → eols max start ≡ (count + (eols (max - count) now).0, (eols (max - count) now).1)
-    → after_eol 0 now ≡ Some after → count < max
-    → eols max start ≡ (count + 1 + (eols (max - (count + 1)) after).0, (eols (max - (count + 1)) after).1)
+pub eols_stepped : (max count : ℕ) (start now after : Bits)
+    → eols max start ≡ (count + (eols (max - count) now).0, (eols (max - count) now).1) → after_eol 0 now ≡ Some after
+    → count < max → eols max start ≡ (count + 1 + (eols (max - (count + 1)) after).0, (eols (max - (count + 1)) after).1)
 eols_stepped max count start now after e h lt =
     grind (arith, common_steps, common_steps, eols_one (max - count) now after h (omega arith))
 
 -- an EOL has at least one bit
 pub eols_fewer : (most : ℕ) (here : Bits) → (eols most here).0 + length (eols most here).1 ≤ length here
 eols_fewer zero here = omega arith
-eols_fewer (suc most) here = by (λ rest. eols_fewer most rest) (after_eol 0 here) refl
+eols_fewer (suc most) here = by_after_eol (λ rest. eols_fewer most rest) (after_eol 0 here) refl
   where
-    by : ((rest : Bits) → (eols most rest).0 + length (eols most rest).1 ≤ length rest) → (o : Option Bits) → after_eol 0 here ≡ o
-        → (eols (suc most) here).0 + length (eols (suc most) here).1 ≤ length here
-    by on o e = grind (arith, common_steps, after_eol_shorter, length-one_more, one_more-count)
+    by_after_eol : ((rest : Bits) → (eols most rest).0 + length (eols most rest).1 ≤ length rest) → (o : Option Bits)
+        → after_eol 0 here ≡ o → (eols (suc most) here).0 + length (eols (suc most) here).1 ≤ length here
+    by_after_eol on o e = grind (arith, common_steps, after_eol_shorter, length-one_more, one_more-count)
 
 -- if at least as many EOLs as bits are looked for, all are
 pub eols_enough : (most : ℕ) (here : Bits) → length here ≤ most → eols most here ≡ all_eols here
@@ -70,11 +65,12 @@ eols_enough most here le = alike most (length here) here le (omega arith)
     alike most others [] le le1 = none most ∙ sym (none others)
     alike zero others (bit ∷ here) le le1 = absurd (omega (arith, le))
     alike (suc most) zero (bit ∷ here) le le1 = absurd (omega (arith, le1))
-    alike (suc most) (suc others) (bit ∷ here) le le1 = by (λ rest. alike most others rest) (after_eol 0 (bit ∷ here)) refl
+    alike (suc most) (suc others) (bit ∷ here) le le1 =
+        by_after_eol (λ rest. alike most others rest) (after_eol 0 (bit ∷ here)) refl
       where
-        by : ((rest : Bits) → length rest ≤ most → length rest ≤ others → eols most rest ≡ eols others rest) → (o : Option Bits)
-            → after_eol 0 (bit ∷ here) ≡ o → eols (suc most) (bit ∷ here) ≡ eols (suc others) (bit ∷ here)
-        by on o e = grind (arith, common_steps, after_eol_shorter)
+        by_after_eol : ((rest : Bits) → length rest ≤ most → length rest ≤ others → eols most rest ≡ eols others rest)
+            → (o : Option Bits) → after_eol 0 (bit ∷ here) ≡ o → eols (suc most) (bit ∷ here) ≡ eols (suc others) (bit ∷ here)
+        by_after_eol on o e = grind (arith, common_steps, after_eol_shorter)
 
 -- if more EOLs than bits are looked for, the bits after the last are examined
 pub eols_look_on : (most : ℕ) (here rest : Bits) (count : ℕ) → length here < most → eols most here ≡ (count, rest)
@@ -83,6 +79,6 @@ eols_look_on most here rest count lt e = grind (arith, common_steps, eols_fewer,
 
 -- ---- A bit read.
 -- a bit at the position is the first here
-pub here_next : (old new : BitsAt) (bit : Bool) → slice_get old.bits old.place ≡ Some bit → new ≡ record old { place = old.place + 1 }
-    → here old ≡ bit ∷ here new
+pub here_next : (old new : BitsAt) (bit : Bool) → slice_get old.bits old.place ≡ Some bit
+    → new ≡ record old { place = old.place + 1 } → here old ≡ bit ∷ here new
 here_next old new bit h e = rw e (drop_some old.bits old.place bit h)

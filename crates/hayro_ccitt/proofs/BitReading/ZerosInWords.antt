@@ -1,19 +1,14 @@
 -- No sequence of code words contains the zeros of an EOL.
-use Rattle.std.proofs.Common.{◌≡◌, ℕ, zero, suc, ◌+◌, ◌<◌, ◌≤◌, Bool, true, false, cond, ltb, leb, List, [], ◌∷◌, ◌++◌, length, replicate, Option}
-use Rattle.std.proofs.Common.{Some, None, refl, ap, ◌∙◌, append_assoc, arith, inl, inr}
-use Rattle.std.proofs.lemmas.Bool.{and_parts, lt-ltb, le-ltb, cases_lt}
-use Rattle.std.proofs.lemmas.List.{append-nil}
-use Rattle.hayro_ccitt.specs.declared.codes.Color.{Color}
-use Rattle.hayro_ccitt.specs.Bits.{Bits}
-use Rattle.hayro_ccitt.specs.CodeLists.{Code, mode_codes}
-use Rattle.hayro_ccitt.specs.CodeReading.{Has, is_prefix_free, PrefixFree}
-use Rattle.hayro_ccitt.specs.Runs.{codes_of}
-use Rattle.hayro_ccitt.specs.Laws.{each_word, IsWord, AreWords, joined, HoldsZeros}
+use Rattle.hayro_ccitt.proofs.Names.{◌≡◌, ℕ, zero, suc, ◌+◌, ◌<◌, ◌≤◌, Bool, true, false, cond, ltb, leb, List, [], ◌∷◌, ◌++◌}
+use Rattle.hayro_ccitt.proofs.Names.{length, replicate, Option, Some, None, refl, ap, ◌∙◌, append_assoc, arith, inl, inr}
+use Rattle.hayro_ccitt.proofs.Names.{and_parts, lt-ltb, le-ltb, cases_lt, append-nil, Color, Bits, Code, mode_codes, Has}
+use Rattle.hayro_ccitt.proofs.Names.{is_prefix_free, PrefixFree, codes_of, each_word, IsWord, AreWords, joined, HoldsZeros}
+use Rattle.hayro_ccitt.proofs.Names.{common_steps}
 use Rattle.hayro_ccitt.proofs.CodeWords.ReadCodes.{word_at_again}
-use Rattle.std.proofs.lemmas.Grind.{common_steps}
 
 -- ---- A test of each word of a list.
-pub each_word_at : {V : Type 0} (test : Bits → Bool) (list : List (Code V)) (v : V) (w : Bits) → each_word test list ≡ true → Has list v w → test w ≡ true
+pub each_word_at : {V : Type 0} (test : Bits → Bool) (list : List (Code V)) (v : V) (w : Bits) → each_word test list ≡ true
+    → Has list v w → test w ≡ true
 each_word_at test [] v w e i = elim i [ ]
 each_word_at test (c ∷ list) v w e (inl i) = rw (← i.1) (and_parts (test c.word) (each_word test list) e).0
 each_word_at test (c ∷ list) v w e (inr i) = each_word_at test list v w (and_parts (test c.word) (each_word test list) e).1 i

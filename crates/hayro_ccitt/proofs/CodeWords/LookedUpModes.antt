@@ -1,36 +1,27 @@
 -- What seven bits say of the mode here.
-use Rattle.std.proofs.Common.{◌≡◌, ℕ, ◌-◌, ◌/◌, ◌^◌, ◌<◌, ◌≤◌, true, length, drop, Option, Some, None, option_map, Ok, Err, refl, ◌∙◌, arith}
-use Rattle.std.proofs.lemmas.Bool.{eq-eqb, false≢true}
-use Rattle.hayro_ccitt.specs.declared.error.DecodeError.TheVariants.{UnexpectedEof, InvalidCode}
-use Rattle.hayro_ccitt.specs.declared.codes.Mode.{Mode}
-use Rattle.hayro_ccitt.specs.Bits.{Bits, BitsAt, low_bits, here}
-use Rattle.hayro_ccitt.specs.CodeLists.{mode_codes}
-use Rattle.hayro_ccitt.specs.CodeReading.{after, is_prefix, read_code, Has}
-use Rattle.hayro_ccitt.specs.LookUps.{padded, seven_bits, telling_bits, mode_told}
+use Rattle.hayro_ccitt.proofs.Names.{◌≡◌, ℕ, ◌-◌, ◌/◌, ◌^◌, ◌<◌, ◌≤◌, true, length, drop, Option, Some, None, option_map, Ok, Err}
+use Rattle.hayro_ccitt.proofs.Names.{refl, ◌∙◌, arith, eq-eqb, false≢true, UnexpectedEof, InvalidCode, Mode, Bits, BitsAt}
+use Rattle.hayro_ccitt.proofs.Names.{low_bits, here, mode_codes, after, is_prefix, read_code, Has, padded, telling_bits}
+use Rattle.hayro_ccitt.proofs.Names.{mode_told, length-append, drop-drop, IfSome, pos, Vertical, moved, common_steps}
+use Rattle.hayro_ccitt.proofs.{BitReading.BitLists.length-low_bits, BitReading.WordRanges.word_begins_of}
+use Rattle.hayro_ccitt.proofs.{BitReading.ZerosInWords.modes_free, CodeWords.LookedUp.modes_tell, CodeWords.LooksAhead.tells_cut}
 use Rattle.hayro_ccitt.proofs.CodeWords.ReadCodes.{after_is, word_at_again}
-use Rattle.hayro_ccitt.proofs.CodeWords.LooksAhead.{tells_cut}
-use Rattle.hayro_ccitt.proofs.CodeWords.LookedUp.{modes_tell}
-use Rattle.hayro_ccitt.proofs.BitReading.BitLists.{length-low_bits}
-use Rattle.hayro_ccitt.proofs.BitReading.WordRanges.{word_begins_of}
-use Rattle.hayro_ccitt.proofs.BitReading.ZerosInWords.{modes_free}
-use Rattle.std.proofs.lemmas.List.{length-append, drop-drop}
-use Rattle.std.specs.Prelude.{IfSome, pos}
-use Rattle.hayro_ccitt.specs.declared.codes.Mode.TheVariants.{Vertical}
-use Rattle.hayro_ccitt.specs.Window.{moved}
-use Rattle.std.proofs.lemmas.Grind.{common_steps}
+use Rattle.hayro_ccitt.specs.LookUps.{seven_bits}
 
 -- ---- The word that begins seven bits.
-begins : (width word n : ℕ) → width ≤ 7 → word < 2 ^ width → n < 128 → n / 2 ^ (7 - width) ≡ word → is_prefix (low_bits width word) (seven_bits n) ≡ true
+begins : (width word n : ℕ) → width ≤ 7 → word < 2 ^ width → n < 128 → n / 2 ^ (7 - width) ≡ word
+    → is_prefix (low_bits width word) (seven_bits n) ≡ true
 unfolding seven_bits
 begins width word n le fits below e = word_begins_of 7 width word n le fits below ∙ eq-eqb (n / 2 ^ (7 - width)) word e
 
-pub mode_begins : (mode : Mode) (width word n : ℕ) → Has mode_codes mode (low_bits width word) → width ≤ 7 → word < 2 ^ width → n < 128 → n / 2 ^ (7 - width) ≡ word
-    → ◌≡◌ {A = Option Mode × ℕ} (Some mode, width) (mode_told (seven_bits n))
-mode_begins mode width word n has le fits below e = by (after (low_bits width word) (seven_bits n)) refl
+pub mode_begins : (mode : Mode) (width word n : ℕ) → Has mode_codes mode (low_bits width word) → width ≤ 7 → word < 2 ^ width
+    → n < 128 → n / 2 ^ (7 - width) ≡ word → ◌≡◌ {A = Option Mode × ℕ} (Some mode, width) (mode_told (seven_bits n))
+mode_begins mode width word n has le fits below e = by_after (after (low_bits width word) (seven_bits n)) refl
   where
-    by : (o : Option Bits) → after (low_bits width word) (seven_bits n) ≡ o → ◌≡◌ {A = Option Mode × ℕ} (Some mode, width) (mode_told (seven_bits n))
-    by None a = absurd (false≢true (rw (a, is_prefix) at (begins width word n le fits below e)))
-    by (Some rest) a =
+    by_after : (o : Option Bits) → after (low_bits width word) (seven_bits n) ≡ o
+        → ◌≡◌ {A = Option Mode × ℕ} (Some mode, width) (mode_told (seven_bits n))
+    by_after None a = absurd (false≢true (rw (a, is_prefix) at (begins width word n le fits below e)))
+    by_after (Some rest) a =
         let stands = after_is (low_bits width word) (seven_bits n) rest a in
         grind (arith, common_steps, length-append, length-low_bits, modes_free, option_map, word_at_again)
 
@@ -40,14 +31,16 @@ unfolding seven_bits
 mode_none n h = grind (arith, common_steps)
 
 -- ---- What they say of the bits here.
-pub mode_cut : (here : Bits) → length here < telling_bits mode_codes (padded 7 here) → read_code mode_codes here ≡ Err UnexpectedEof
+pub mode_cut : (here : Bits) → length here < telling_bits mode_codes (padded 7 here)
+    → read_code mode_codes here ≡ Err UnexpectedEof
 mode_cut here h = tells_cut 7 mode_codes modes_tell here h
 
-pub mode_wrong : (here : Bits) → None ≡ (mode_told (padded 7 here)).0 → telling_bits mode_codes (padded 7 here) ≤ length here → read_code mode_codes here ≡ Err InvalidCode
+pub mode_wrong : (here : Bits) → None ≡ (mode_told (padded 7 here)).0 → telling_bits mode_codes (padded 7 here) ≤ length here
+    → read_code mode_codes here ≡ Err InvalidCode
 mode_wrong here e h = grind (arith, common_steps)
 
-pub mode_found : (here : Bits) (mode : Mode) → Some mode ≡ (mode_told (padded 7 here)).0 → telling_bits mode_codes (padded 7 here) ≤ length here
-    → read_code mode_codes here ≡ Ok (mode, drop (telling_bits mode_codes (padded 7 here)) here)
+pub mode_found : (here : Bits) (mode : Mode) → Some mode ≡ (mode_told (padded 7 here)).0 → telling_bits mode_codes (padded 7 here)
+    ≤ length here → read_code mode_codes here ≡ Ok (mode, drop (telling_bits mode_codes (padded 7 here)) here)
 mode_found here mode e h = grind (arith, common_steps)
 
 -- at least one bit is needed

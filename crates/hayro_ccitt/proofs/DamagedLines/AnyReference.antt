@@ -1,39 +1,21 @@
 -- A two-dimensional line, read against any reference row: it ends behind one of its modes or is broken, so that the next
 -- EOL is the one behind it.
-use Rattle.std.proofs.Common.{◌≡◌, ℕ, suc, ◌+◌, ◌-◌, ◌≤◌, Bool, true, false, [], ◌∷◌, ◌++◌, length, replicate}
-use Rattle.std.proofs.Common.{Option, Some, None, Ok, Err, refl, sym, ap, subst, ◌∙◌, append_assoc, arith, ◌⊎◌, inl, inr}
-use Rattle.std.proofs.lemmas.Bool.{cases_lt, lt-ltb, le-ltb, lt-leb}
-use Rattle.std.proofs.lemmas.List.{length-append, replicate-append-replicate}
-use Rattle.hayro_ccitt.specs.declared.codes.Color.{Color}
-use Rattle.hayro_ccitt.specs.declared.codes.Color.TheVariants.{White}
-use Rattle.hayro_ccitt.specs.declared.codes.Mode.{Mode}
-use Rattle.hayro_ccitt.specs.declared.codes.Mode.TheVariants.{Pass, Horizontal, Vertical}
-use Rattle.hayro_ccitt.specs.declared.error.DecodeError.{DecodeError}
-use Rattle.hayro_ccitt.specs.declared.error.DecodeError.TheVariants.{UnexpectedEof, InvalidCode, Overflow}
-use Rattle.hayro_ccitt.specs.Bits.{Bits}
-use Rattle.hayro_ccitt.specs.CodeLists.{mode_codes}
-use Rattle.hayro_ccitt.specs.CodeReading.{Has, read_code}
-use Rattle.hayro_ccitt.specs.Repetition.{Turn}
-use Rattle.hayro_ccitt.specs.Rows.{Row, opposite, paint}
-use Rattle.hayro_ccitt.specs.Runs.{codes_of, run_from, read_run}
-use Rattle.hayro_ccitt.specs.Lines.{Line, Pen, start, line_2d}
-use Rattle.hayro_ccitt.specs.PlainReading.{line_by, line_here}
-use Rattle.hayro_ccitt.specs.declared.settings.EncodingMode.{EncodingMode}
-use Rattle.hayro_ccitt.specs.declared.settings.EncodingMode.TheVariants.{Group3_2D}
-use Rattle.hayro_ccitt.specs.declared.settings.DecodeSettings.{DecodeSettings}
-use Rattle.hayro_ccitt.specs.Answers.{Step}
-use Rattle.hayro_ccitt.specs.Encodings.{Spells, EncodesLine2D}
-use Rattle.hayro_ccitt.specs.EndOfLine.{after_eol}
-use Rattle.hayro_ccitt.specs.LocalityByK.{ReadsModes, behind_mode, behind_read, behind_first_run, behind_second_run}
-use Rattle.hayro_ccitt.proofs.Readings.Repeated.{repeated_keeps}
-use Rattle.hayro_ccitt.proofs.DrawingLines.Drawings.{try, run_then, mode_step, step_2d, step_2d_is, horizontal_is}
-use Rattle.hayro_ccitt.proofs.DrawingLines.ReadLines.{next_is, try_next, unless_full_next, try_goes_on, draw_mode_goes_on, full_by}
-use Rattle.hayro_ccitt.proofs.CodeWords.ReadCodes.{read_code_again}
+use Rattle.hayro_ccitt.proofs.Names.{◌≡◌, ℕ, suc, ◌+◌, ◌-◌, ◌≤◌, Bool, true, false, [], ◌∷◌, ◌++◌, length, replicate, Option}
+use Rattle.hayro_ccitt.proofs.Names.{Some, None, Ok, Err, refl, sym, ap, subst, ◌∙◌, append_assoc, arith, ◌⊎◌, inl, inr, cases_lt}
+use Rattle.hayro_ccitt.proofs.Names.{lt-ltb, le-ltb, lt-leb, length-append, replicate-append-replicate, Color, White, Mode, Pass}
+use Rattle.hayro_ccitt.proofs.Names.{Horizontal, Vertical, DecodeError, UnexpectedEof, InvalidCode, Overflow, Bits, mode_codes}
+use Rattle.hayro_ccitt.proofs.Names.{Has, read_code, Turn, Row, opposite, paint, codes_of, run_from, read_run, Line, Pen, start}
+use Rattle.hayro_ccitt.proofs.Names.{line_2d, line_by, line_here, EncodingMode, Group3_2D, DecodeSettings, Step, Spells}
+use Rattle.hayro_ccitt.proofs.Names.{EncodesLine2D, after_eol, ReadsModes, behind_mode, behind_read, behind_first_run}
+use Rattle.hayro_ccitt.proofs.Names.{behind_second_run, common_steps}
+use Rattle.hayro_ccitt.proofs.{CodeWords.ReadCodes.read_code_again, DamagedLines.PastEol.past, Readings.Repeated.repeated_keeps}
+use Rattle.hayro_ccitt.proofs.BitReading.ZerosInWords.{scan, is_quiet, scan_below, scan-append, quiet_is, word_quiet, codes_free}
+use Rattle.hayro_ccitt.proofs.BitReading.ZerosInWords.{modes_free}
 use Rattle.hayro_ccitt.proofs.CodeWords.ReadRuns.{run_passes, run_ends, run_goes_on}
-use Rattle.hayro_ccitt.proofs.BitReading.ZerosInWords.{scan, is_quiet, scan_below, scan-append, quiet_is, word_quiet, codes_free, modes_free}
-use Rattle.hayro_ccitt.proofs.DamagedLines.PastEol.{past}
 use Rattle.hayro_ccitt.proofs.DamagedLines.LineTails.{after_eol_is}
-use Rattle.std.proofs.lemmas.Grind.{common_steps}
+use Rattle.hayro_ccitt.proofs.DrawingLines.Drawings.{try, run_then, mode_step, step_2d, step_2d_is, horizontal_is}
+use Rattle.hayro_ccitt.proofs.DrawingLines.ReadLines.{next_is, try_next, unless_full_next, try_goes_on, draw_mode_goes_on}
+use Rattle.hayro_ccitt.proofs.DrawingLines.ReadLines.{full_by}
 
 -- ---- Words contain no EOL
 
@@ -118,11 +100,11 @@ LeftBehind here last None = last ≡ here
 
 -- none is read, or the one that is here
 pub left_behind : (color : Color) (here last : Bits) → ReadsModes color here last → LeftBehind here last (behind_mode color here)
-left_behind color here last ReadsModes.over = by (behind_mode color here)
+left_behind color here last ReadsModes.over = by_found (behind_mode color here)
   where
-    by : (found : Option (Color × Bits)) → LeftBehind here here found
-    by (Some (next, rest)) = inl refl
-    by None = refl
+    by_found : (found : Option (Color × Bits)) → LeftBehind here here found
+    by_found (Some (next, rest)) = inl refl
+    by_found None = refl
 left_behind color here last (ReadsModes.mode next rest found more) =
     subst (LeftBehind here last) (sym found) (inr more)
 
@@ -152,12 +134,14 @@ module _ (strict : Bool) (columns : ℕ) (other : Row) where
       → mode_step strict columns other (pen_at front color rest) mode ≡ Turn.next t → reads_at t last → ReadsModes color here last
   mode_on front color here last Pass rest t read e reads =
       let a = try_next front _ (λ more. Turn.next (pen_at more color rest)) t e in
-      ReadsModes.mode color rest (ap (behind_read color) read) (subst (λ (p : Pen). reads_at p last) {y = pen_at a.0 color rest} (sym (next_is _ t a.2)) reads)
+      ReadsModes.mode color rest (ap (behind_read color) read)
+      (subst (λ (p : Pen). reads_at p last) {y = pen_at a.0 color rest} (sym (next_is _ t a.2)) reads)
   mode_on front color here last (Vertical k) rest t read e reads =
       let a = try_next front _ (λ place. try front (paint strict columns front color (place - length front))
       (λ more. Turn.next (pen_at more (opposite color) rest))) t e in
       let b = try_next front _ (λ more. Turn.next (pen_at more (opposite color) rest)) t a.2 in
-      ReadsModes.mode (opposite color) rest (ap (behind_read color) read) (subst (λ (p : Pen). reads_at p last) {y = pen_at b.0 (opposite color) rest} (sym (next_is _ t b.2)) reads)
+      ReadsModes.mode (opposite color) rest (ap (behind_read color) read)
+      (subst (λ (p : Pen). reads_at p last) {y = pen_at b.0 (opposite color) rest} (sym (next_is _ t b.2)) reads)
   mode_on front color here last Horizontal rest t read e reads =
       let one = run_on strict columns (pen_at front color rest) (λ p. run_then strict columns p Turn.next) t
       (horizontal_is strict columns other (pen_at front color rest) ∙ e) in
@@ -228,8 +212,8 @@ runs_are color n m run1 run2 more spells1 spells2 = elim (spelled color n run1 0
 ]
 
 -- what its words leave, from the zeros of an EOL on, is left by the modes that are read
-encoded_from : (reference row : Row) (from : ℕ) (color : Color) (bits tail rest : Bits) → EncodesLine2D reference row from color bits
-    → read_code mode_codes tail ≡ Err InvalidCode → ReadsModes color (bits ++ tail) rest → length tail ≤ length rest
+encoded_from : (reference row : Row) (from : ℕ) (color : Color) (bits tail rest : Bits) → EncodesLine2D reference row from color
+    bits → read_code mode_codes tail ≡ Err InvalidCode → ReadsModes color (bits ++ tail) rest → length tail ≤ length rest
 encoded_from reference row from color bits tail rest EncodesLine2D.over none reads =
     omega (arith, ap length (subst (LeftBehind tail rest) (ap (behind_read color) none) (left_behind color tail rest reads)))
 encoded_from reference row from color bits tail rest (EncodesLine2D.pass from2 word {bits = next} inside has left_of steps) none
@@ -246,8 +230,8 @@ encoded_from reference row from color bits tail rest
       | inl e ↦ long (word ++ next) tail rest e
       | inr more ↦ encoded_from reference row _ (opposite color) next tail rest steps none more
     ]
-encoded_from reference row from color bits tail rest
-    (EncodesLine2D.horizontal from2 word {first = run1} {second = run2} {bits = next} inside has spells1 spells2 steps) none reads =
+encoded_from reference row from color bits tail rest (EncodesLine2D.horizontal from2 word {first = run1} {second = run2}
+    {bits = next} inside has spells1 spells2 steps) none reads =
     let whole = (word ++ (run1 ++ (run2 ++ next))) ++ tail in
     let split : (run1 ++ (run2 ++ next)) ++ tail ≡ run1 ++ (run2 ++ (next ++ tail))
     = append_assoc run1 (run2 ++ next) tail ∙ ap (λ (b : Bits). run1 ++ b) (append_assoc run2 next tail) in
@@ -276,17 +260,15 @@ no_mode_at_eol next after e =
 
 -- its modes end before the EOL behind it
 pub encoded_ends : (reference row : Row) (line next after rest : Bits) → EncodesLine2D reference row 0 White line
-    → after_eol 0 next ≡ Some after
-    → ReadsModes White (line ++ next) rest → length next ≤ length rest
+    → after_eol 0 next ≡ Some after → ReadsModes White (line ++ next) rest → length next ≤ length rest
 encoded_ends reference row line next after rest encodes eol reads =
     encoded_from reference row 0 White line next rest encodes (no_mode_at_eol next after eol) reads
 
 -- a whole line leaves that EOL, whatever row it is read against
 pub leaves_next : (settings : DecodeSettings) → settings.encoding ≡ Group3_2D
-    → (other reference row : Row) (line next after : Bits) → EncodesLine2D reference row 0 White line
-    → after_eol 0 next ≡ Some after
-    → (read : Row) (rest : Bits) → line_here settings other (false ∷ line ++ next) ≡ Line.whole read rest
-    → length next ≤ length rest
+    → (other reference row : Row) (line next after : Bits)
+    → EncodesLine2D reference row 0 White line → after_eol 0 next ≡ Some after → (read : Row) (rest : Bits)
+    → line_here settings other (false ∷ line ++ next) ≡ Line.whole read rest → length next ≤ length rest
 leaves_next settings encoding other reference row line next after encodes eol read rest e =
     encoded_ends reference row line next after rest encodes eol
     (modes_read settings.strict settings.columns other (line ++ next) read rest

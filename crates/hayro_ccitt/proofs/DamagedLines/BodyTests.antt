@@ -1,32 +1,19 @@
 -- The tests of a local body, as they are made.
-use Rattle.std.proofs.Common.{◌≡◌, ◌≢◌, ℕ, zero, suc, ◌+◌, ◌-◌, ◌<◌, ◌≤◌, ◌⊎◌, Bool, true, false, cond, eqb, ltb, leb, [], ◌∷◌, ◌++◌, length, take, drop}
-use Rattle.std.proofs.Common.{replicate, Option, Some, None, Err, IsTrue, refl, sym, ap, subst, ◌∙◌, arith, inl, inr}
-use Rattle.std.specs.Prelude.{◌↔◌, is_some}
-use Rattle.std.proofs.lemmas.Bool.{cases_lt, lt-ltb, le-leb, lt-leb, ltb-true, leb-true, eqb-true, eq-eqb}
-use Rattle.std.proofs.lemmas.Option.{none-some}
-use Rattle.std.proofs.lemmas.List.{length-append, length-replicate, length-drop, take-append-drop, drop-drop}
-use Rattle.hayro_ccitt.specs.declared.error.DecodeError.{DecodeError}
-use Rattle.hayro_ccitt.specs.declared.error.DecodeError.TheVariants.{OutOfMemory}
-use Rattle.hayro_ccitt.specs.declared.settings.DecodeSettings.{DecodeSettings}
-use Rattle.hayro_ccitt.specs.declared.settings.EncodingMode.TheVariants.{Group3_1D}
-use Rattle.hayro_ccitt.specs.Answers.{DrawsLine, line_from_1d}
-use Rattle.hayro_ccitt.specs.Bits.{Bits, BitsAt, here}
-use Rattle.hayro_ccitt.specs.CodeReading.{leading_zeros}
-use Rattle.hayro_ccitt.specs.Context.{Held, fresh}
-use Rattle.hayro_ccitt.specs.EndOfLine.{after_eol, next_eol}
-use Rattle.hayro_ccitt.specs.Lines.{Line, line_1d}
-use Rattle.hayro_ccitt.specs.Locality.{EndsBefore, IsLocal, IsLocalByTests}
-use Rattle.hayro_ccitt.specs.Rows.{Row}
-use Rattle.hayro_ccitt.proofs.Readings.TurnsMoveOn.{next_eol_found}
-use Rattle.hayro_ccitt.proofs.DamagedLines.LinesByEols.{past_shorter}
+use Rattle.hayro_ccitt.proofs.Names.{◌≡◌, ◌≢◌, ℕ, zero, suc, ◌+◌, ◌-◌, ◌<◌, ◌≤◌, ◌⊎◌, Bool, true, false, cond, eqb, ltb, leb, []}
+use Rattle.hayro_ccitt.proofs.Names.{◌∷◌, ◌++◌, length, take, drop, replicate, Option, Some, None, Err, IsTrue, refl, sym, ap}
+use Rattle.hayro_ccitt.proofs.Names.{subst, ◌∙◌, arith, inl, inr, ◌↔◌, is_some, cases_lt, lt-ltb, le-leb, lt-leb, ltb-true}
+use Rattle.hayro_ccitt.proofs.Names.{leb-true, eqb-true, eq-eqb, none-some, length-append, length-replicate, length-drop}
+use Rattle.hayro_ccitt.proofs.Names.{take-append-drop, drop-drop, DecodeError, OutOfMemory, DecodeSettings, Group3_1D, DrawsLine}
+use Rattle.hayro_ccitt.proofs.Names.{line_from_1d, Bits, BitsAt, here, leading_zeros, Held, fresh, after_eol, next_eol, Line}
+use Rattle.hayro_ccitt.proofs.Names.{line_1d, EndsBefore, IsLocal, IsLocalByTests, Row, common_steps}
+use Rattle.hayro_ccitt.proofs.{DamagedLines.LinesByEols.past_shorter, Readings.TurnsMoveOn.next_eol_found}
 use Rattle.hayro_ccitt.proofs.DamagedLines.LocalByTests.{local_by_tests}
 use Rattle.hayro_ccitt.proofs.DamagedLines.PastEol.{past, past_is, then_after}
-use Rattle.std.proofs.lemmas.Grind.{common_steps}
 
 -- ---- An EOL before a position.
 -- the EOL of the twelve bits before a position ends there
-pub behind_eol : (bits rest : Bits) (place zeros : ℕ) → 12 ≤ place → place ≤ length bits → drop (place - 12) bits ≡ replicate zeros false ++ true ∷ rest
-    → after_eol 0 (drop (place - 12) bits) ≡ cond (leb 11 zeros) (Some rest) None
+pub behind_eol : (bits rest : Bits) (place zeros : ℕ) → 12 ≤ place → place ≤ length bits → drop (place - 12) bits
+    ≡ replicate zeros false ++ true ∷ rest → after_eol 0 (drop (place - 12) bits) ≡ cond (leb 11 zeros) (Some rest) None
     → IsTrue (eqb zeros 11) ↔ ((place ≡ 0) ⊎ ((12 ≤ place) × (after_eol 0 (drop (place - 12) bits) ≡ Some (drop place bits))))
 behind_eol bits rest place zeros far within is eol = (
   λ test. inr (far, there (eqb-true zeros 11 test)),
@@ -43,11 +30,11 @@ behind_eol bits rest place zeros far within is eol = (
     there e = eol ∙ rw (le-leb 11 zeros (omega (arith, e))) (ap (λ (b : Bits). Some b) (rest_is e))
 
     eleven : after_eol 0 (drop (place - 12) bits) ≡ Some (drop place bits) → zeros ≡ 11
-    eleven found = by (leb 11 zeros) (sym eol ∙ found)
+    eleven found = either_way (leb 11 zeros) (sym eol ∙ found)
       where
-        by : (b : Bool) → cond b (Some rest) None ≡ Some (drop place bits) → zeros ≡ 11
-        by false e = absurd (let f : ◌≡◌ {A = Option Bits} None (Some (drop place bits)) = e in cc)
-        by true e =
+        either_way : (b : Bool) → cond b (Some rest) None ≡ Some (drop place bits) → zeros ≡ 11
+        either_way false e = absurd (let f : ◌≡◌ {A = Option Bits} None (Some (drop place bits)) = e in cc)
+        either_way true e =
             let step = length-append (replicate zeros false) (true ∷ rest) in
             grind (arith, common_steps, step, length-drop place bits, length-drop (place - 12) bits, length-replicate zeros false)
 
@@ -71,61 +58,69 @@ pub one_by_zeros : (m zeros : ℕ) (here : Bits) → m ≤ length here → zeros
 one_by_zeros m zeros here fits is = grind (arith, common_steps, cases_lt, lt-ltb, ltb-true, one_in_front, zeros_only)
 
 -- ---- An EOL in a body.
-past-front : (seen : ℕ) (front after more : Bits) → past seen front ≡ Some after → past seen (front ++ more) ≡ Some (after ++ more)
+past-front : (seen : ℕ) (front after more : Bits) → past seen front ≡ Some after
+    → past seen (front ++ more) ≡ Some (after ++ more)
 past-front seen [] after more e = absurd cc
 past-front seen (false ∷ front) after more e = past-front (suc seen) front after more e
-past-front seen (true ∷ front) after more e = by (leb 11 seen) (λ f. past-front 0 front after more f) e
+past-front seen (true ∷ front) after more e = either_way (leb 11 seen) (λ f. past-front 0 front after more f) e
   where
-    by : (b : Bool) → (past 0 front ≡ Some after → past 0 (front ++ more) ≡ Some (after ++ more)) → cond b (Some front) (past 0 front) ≡ Some after
-        → cond b (Some (front ++ more)) (past 0 (front ++ more)) ≡ Some (after ++ more)
-    by b on f = grind (arith, common_steps)
+    either_way : (b : Bool) → (past 0 front ≡ Some after → past 0 (front ++ more) ≡ Some (after ++ more)) → cond b (Some front)
+        (past 0 front) ≡ Some after → cond b (Some (front ++ more)) (past 0 (front ++ more)) ≡ Some (after ++ more)
+    either_way b on f = grind (arith, common_steps)
 
-past-behind : (seen : ℕ) (front after more : Bits) → past seen front ≡ None → past seen (front ++ more) ≡ Some after → length after < length more
+past-behind : (seen : ℕ) (front after more : Bits) → past seen front ≡ None → past seen (front ++ more) ≡ Some after
+    → length after < length more
 past-behind seen [] after more none e = past_shorter seen more after e
 past-behind seen (false ∷ front) after more none e = past-behind (suc seen) front after more none e
-past-behind seen (true ∷ front) after more none e = by (leb 11 seen) (λ f g. past-behind 0 front after more f g) none e
+past-behind seen (true ∷ front) after more none e = either_way (leb 11 seen) (λ f g. past-behind 0 front after more f g) none e
   where
-    by : (b : Bool) → (past 0 front ≡ None → past 0 (front ++ more) ≡ Some after → length after < length more)
-        → cond b (Some front) (past 0 front) ≡ None → cond b (Some (front ++ more)) (past 0 (front ++ more)) ≡ Some after → length after < length more
-    by b on f g = grind (arith, common_steps)
+    either_way : (b : Bool) → (past 0 front ≡ None → past 0 (front ++ more) ≡ Some after → length after < length more)
+        → cond b (Some front) (past 0 front) ≡ None → cond b (Some (front ++ more)) (past 0 (front ++ more)) ≡ Some after
+        → length after < length more
+    either_way b on f g = grind (arith, common_steps)
 
 -- an EOL is found where one ends
 found_ends : (here : Bits) → is_some (next_eol here) ≡ is_some (past 0 here)
-found_ends here = by (next_eol here) refl ∙ ap is_some (sym (past_is here))
+found_ends here = by_next_eol (next_eol here) refl ∙ ap is_some (sym (past_is here))
   where
-    by : (o : Option Bits) → next_eol here ≡ o → is_some (next_eol here) ≡ is_some (then_after (next_eol here))
-    by None e = rw e refl
-    by (Some found) e = let f = next_eol_found here found e in rw (e, f.1.1) refl
+    by_next_eol : (o : Option Bits) → next_eol here ≡ o → is_some (next_eol here) ≡ is_some (then_after (next_eol here))
+    by_next_eol None e = rw e refl
+    by_next_eol (Some found) e = let f = next_eol_found here found e in rw (e, f.1.1) refl
 
 -- if there is no EOL, there is none in the first bits
 pub no_eol_in_front : (m : ℕ) (here : Bits) → next_eol here ≡ None → is_some (next_eol (take m here)) ≡ false
-no_eol_in_front m here none = found_ends (take m here) ∙ by (past 0 (take m here)) refl
+no_eol_in_front m here none = found_ends (take m here) ∙ by_past (past 0 (take m here)) refl
   where
-    by : (o : Option Bits) → past 0 (take m here) ≡ o → is_some (past 0 (take m here)) ≡ false
-    by None e = rw e refl
-    by (Some after) e = absurd (
+    by_past : (o : Option Bits) → past 0 (take m here) ≡ o → is_some (past 0 (take m here)) ≡ false
+    by_past None e = rw e refl
+    by_past (Some after) e = absurd (
         let whole = past-front 0 (take m here) after (drop m here) e in
         let nothing : past 0 here ≡ None = past_is here ∙ ap then_after none in
-        let both : ◌≡◌ {A = Option Bits} None (Some (after ++ drop m here)) = sym nothing ∙ ap (past 0) (sym (take-append-drop m here)) ∙ whole in
+        let both : ◌≡◌ {A = Option Bits} None (Some (after ++ drop m here)) =
+        sym nothing ∙ ap (past 0) (sym (take-append-drop m here)) ∙ whole in
         cc)
 
 -- the next EOL is in the first bits if it ends there
 eol_in_front : (m : ℕ) (here found after : Bits) → next_eol here ≡ Some found → after_eol 0 found ≡ Some after
     → is_some (next_eol (take m here)) ≡ leb (length (drop m here)) (length after)
-eol_in_front m here found after next eol = found_ends (take m here) ∙ by (past 0 (take m here)) refl
+eol_in_front m here found after next eol = found_ends (take m here) ∙ by_past (past 0 (take m here)) refl
   where
     whole : past 0 (take m here ++ drop m here) ≡ Some after
     whole = ap (past 0) (take-append-drop m here) ∙ past_is here ∙ ap then_after next ∙ eol
 
-    by : (o : Option Bits) → past 0 (take m here) ≡ o → is_some (past 0 (take m here)) ≡ leb (length (drop m here)) (length after)
-    by None e = rw (e, lt-leb (length (drop m here)) (length after) (past-behind 0 (take m here) after (drop m here) e whole)) refl
-    by (Some front) e =
-        let both : ◌≡◌ {A = Option Bits} (Some (front ++ drop m here)) (Some after) = sym (past-front 0 (take m here) front (drop m here) e) ∙ whole in
+    by_past : (o : Option Bits) → past 0 (take m here) ≡ o
+        → is_some (past 0 (take m here)) ≡ leb (length (drop m here)) (length after)
+    by_past None e =
+        rw (e, lt-leb (length (drop m here)) (length after) (past-behind 0 (take m here) after (drop m here) e whole)) refl
+    by_past (Some front) e =
+        let both : ◌≡◌ {A = Option Bits} (Some (front ++ drop m here)) (Some after) =
+        sym (past-front 0 (take m here) front (drop m here) e) ∙ whole in
         grind (arith, common_steps, le-leb, length-append)
 
 -- an EOL is between two positions if the next one ends there
-pub eol_by_ends : (bits : Bits) (from to end : ℕ) (found : Bits) → from ≤ to → to ≤ length bits → end ≤ length bits → next_eol (drop from bits) ≡ Some found
-    → after_eol 0 found ≡ Some (drop end bits) → is_some (next_eol (take (to - from) (drop from bits))) ≡ leb end to
+pub eol_by_ends : (bits : Bits) (from to end : ℕ) (found : Bits) → from ≤ to
+    → to ≤ length bits → end ≤ length bits → next_eol (drop from bits) ≡ Some found → after_eol 0 found ≡ Some (drop end bits)
+    → is_some (next_eol (take (to - from) (drop from bits))) ≡ leb end to
 eol_by_ends bits from to end found order within le next eol =
     let step = eol_in_front (to - from) (drop from bits) found (drop end bits) next eol in
     let step2 = le-leb (length (drop to bits)) (length (drop end bits)) in
@@ -137,25 +132,37 @@ eol_by_ends bits from to end found order within le next eol =
 
 -- the next EOL, if one is found, is there
 pub eol_found_stands : (here found : Bits) → next_eol here ≡ Some found → after_eol 0 found ≡ None → ⊥
-eol_found_stands here found next none = let stands = next_eol_found here found next in none-some stands.1.0 (sym none ∙ stands.1.1)
+eol_found_stands here found next none = let stands = next_eol_found here found next in
+    none-some stands.1.0 (sym none ∙ stands.1.1)
 
 -- ---- The end of a line.
 -- the line that a lenient context reads
-pub lenient_line : (held : Held) (settings : DecodeSettings) (at : BitsAt) (rest : Bits) → held ≡ fresh settings → settings.strict ≡ false → here at ≡ rest
-    → line_from_1d held (here at) ≡ line_1d false settings.columns rest
+pub lenient_line : (held : Held) (settings : DecodeSettings) (at : BitsAt) (rest : Bits) → held ≡ fresh settings
+    → settings.strict ≡ false → here at ≡ rest → line_from_1d held (here at) ≡ line_1d false settings.columns rest
 lenient_line held settings at rest is lenient same =
     ap (λ (h : Held). line_from_1d h (here at)) is ∙ ap (λ (b : Bool). line_1d b settings.columns (here at)) lenient
     ∙ ap (λ (b : Bits). line_1d false settings.columns b) same
 
 -- a whole line ends before an EOL does by twelve bits
-pub whole_ends : (columns place end : ℕ) (bits here rest : Bits) (row : Row) → line_1d false columns here ≡ Line.whole row rest → rest ≡ drop place bits
-    → place ≤ length bits → end ≤ length bits → IsTrue (leb (place + 12) end) ↔ EndsBefore columns (drop end bits) here
+pub whole_ends : (columns place end : ℕ) (bits here rest : Bits) (row : Row) → line_1d false columns here ≡ Line.whole row rest
+    → rest ≡ drop place bits → place ≤ length bits → end ≤ length bits → IsTrue (leb (place + 12) end)
+    ↔ EndsBefore columns (drop end bits) here
 whole_ends columns place end bits here rest row is at within le = (
   λ test. λ row2 rest2 is2.
       let same : ◌≡◌ {A = Line} (Line.whole row rest) (Line.whole row2 rest2) = sym is ∙ is2 in
       let rests : rest ≡ rest2 = cc in
-      omega (arith, leb-true (place + 12) end test, ap length rests, ap length at, length-drop place bits, length-drop end bits, within, le),
-  λ ends. le-leb (place + 12) end (omega (arith, ends row rest is, ap length at, length-drop place bits, length-drop end bits, within, le)),
+      omega (
+        arith,
+        leb-true (place + 12) end test,
+        ap length rests,
+        ap length at,
+        length-drop place bits,
+        length-drop end bits,
+        within,
+        le,
+      ),
+  λ ends. le-leb (place + 12) end
+      (omega (arith, ends row rest is, ap length at, length-drop place bits, length-drop end bits, within, le)),
 )
 
 -- a broken line has no end
@@ -168,11 +175,11 @@ none_stands : (o : Option Bits) → is_some o ≡ false → o ≡ None
 none_stands o e = grind (arith, common_steps)
 
 -- if the other tests succeed, a body is local if its line ends before the EOL after it
-pub local_by_end : (settings : DecodeSettings) (bits : Bits) (from to end : ℕ) (before : Bool) → (settings.encoding ≡ Group3_1D) × (settings.strict ≡ false)
-    → from ≤ to → to ≤ length bits → (from ≡ 0) ⊎ ((12 ≤ from) × (after_eol 0 (drop (from - 12) bits) ≡ Some (drop from bits)))
-    → take (to - from) (drop from bits) ≢ replicate (to - from) false → is_some (next_eol (take (to - from) (drop from bits))) ≡ false
-    → after_eol 0 (drop to bits) ≡ Some (drop end bits) → IsTrue before ↔ EndsBefore settings.columns (drop end bits) (drop from bits)
-    → IsTrue before ↔ IsLocal settings bits from to
+pub local_by_end : (settings : DecodeSettings) (bits : Bits) (from to end : ℕ) (before : Bool)
+    → (settings.encoding ≡ Group3_1D) × (settings.strict ≡ false) → from ≤ to → to ≤ length bits → (from ≡ 0) ⊎ ((12 ≤ from)
+    × (after_eol 0 (drop (from - 12) bits) ≡ Some (drop from bits))) → take (to - from) (drop from bits) ≢ replicate (to - from)
+    false → is_some (next_eol (take (to - from) (drop from bits))) ≡ false → after_eol 0 (drop to bits) ≡ Some (drop end bits)
+    → IsTrue before ↔ EndsBefore settings.columns (drop end bits) (drop from bits) → IsTrue before ↔ IsLocal settings bits from to
 local_by_end settings bits from to end before lenient order within starts one no_eol eol ends = (
   λ test. (local_by_tests settings bits from to).1 (record {
     encoding = lenient.0;
@@ -187,10 +194,12 @@ local_by_end settings bits from to end before lenient order within starts one no
   λ local. ends.1 (same_end local.closes.0 (sym local.closes.1 ∙ eol) local.closes.2),
 )
   where
-    same_end : (after : Bits) → ◌≡◌ {A = Option Bits} (Some after) (Some (drop end bits)) → EndsBefore settings.columns after (drop from bits)
-        → EndsBefore settings.columns (drop end bits) (drop from bits)
-    same_end after e is = let same : after ≡ drop end bits = cc in subst (λ (x : Bits). EndsBefore settings.columns x (drop from bits)) same is
+    same_end : (after : Bits) → ◌≡◌ {A = Option Bits} (Some after) (Some (drop end bits))
+        → EndsBefore settings.columns after (drop from bits) → EndsBefore settings.columns (drop end bits) (drop from bits)
+    same_end after e is = let same : after ≡ drop end bits = cc in
+        subst (λ (x : Bits). EndsBefore settings.columns x (drop from bits)) same is
 
 -- if a test fails, no body is local
-pub tests_of : (settings : DecodeSettings) (bits : Bits) (from to : ℕ) → IsLocal settings bits from to → IsLocalByTests settings bits from to
+pub tests_of : (settings : DecodeSettings) (bits : Bits) (from to : ℕ) → IsLocal settings bits from to
+    → IsLocalByTests settings bits from to
 tests_of settings bits from to local = (local_by_tests settings bits from to).0 local

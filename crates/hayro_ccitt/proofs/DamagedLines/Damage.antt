@@ -1,45 +1,36 @@
 -- Damage to one line changes its row alone.
-use Rattle.std.proofs.Common.{◌≡◌, ℕ, suc, ◌+◌, ◌-◌, ◌*◌, ◌/◌, ◌<◌, ◌≤◌, Bool, true, false, ◌||◌, eqb, ltb, List, [], ◌∷◌, ◌++◌, length, take, drop}
-use Rattle.std.proofs.Common.{replicate, set, None, Some, Result, Ok, Err, refl, sym, ap, subst, ◌∙◌, append_assoc, arith, ◌⊎◌, inl, inr}
-use Rattle.std.proofs.lemmas.Bool.{cases_lt, cases_eq, ne_eqb, or_right, cond-false}
-use Rattle.std.proofs.lemmas.List.{length-append, length-drop, take-append-drop, append-nil, append_cancel_right, replicate-append-replicate}
-use Rattle.std.proofs.lemmas.List.{set_at}
-use Rattle.hayro_ccitt.specs.declared.error.DecodeError.{DecodeError}
-use Rattle.hayro_ccitt.specs.declared.error.DecodeError.TheVariants.{UnexpectedEof}
-use Rattle.hayro_ccitt.specs.declared.settings.EncodingMode.{EncodingMode}
-use Rattle.hayro_ccitt.specs.declared.settings.EncodingMode.TheVariants.{Group3_2D}
-use Rattle.hayro_ccitt.specs.declared.settings.DecodeSettings.{DecodeSettings}
-use Rattle.hayro_ccitt.specs.Bits.{Bits, AreWholeBytes}
-use Rattle.hayro_ccitt.specs.Settings.{AreSettings}
-use Rattle.hayro_ccitt.specs.Repetition.{repeated, Reaches}
-use Rattle.hayro_ccitt.specs.Rows.{Row}
-use Rattle.hayro_ccitt.specs.EndOfLine.{after_eol, all_eols}
-use Rattle.hayro_ccitt.specs.PlainReading.{eols_here, line_of_turn, row_before, Progress, Ending, first_line, move_on, first_gap, ending_behind, end_of, bytes_before, plain, Reading, whole_reading}
-use Rattle.hayro_ccitt.specs.Locality.{IsEol, IsLocal, ComesToLine, OneRowDiffers, EndsAt, EndAlike, DamageStaysInRow, Locality}
-use Rattle.hayro_ccitt.specs.LocalityByK.{IsTagOfLine}
-use Rattle.hayro_ccitt.proofs.DrawingLines.LinesLeaveBits.{Leaves, leaves_trans}
-use Rattle.hayro_ccitt.proofs.Readings.Repeated.{reached_follows}
-use Rattle.hayro_ccitt.proofs.Readings.GapsAndRows.{ending_t4}
-use Rattle.hayro_ccitt.proofs.Readings.TurnsMoveOn.{left_to_read, left_below, move_shrinks}
-use Rattle.hayro_ccitt.proofs.DamagedLines.PastEol.{past, all_eols-none, all_tagged}
-use Rattle.hayro_ccitt.proofs.DamagedLines.SoughtTurns.{sought, rest_of, line_is}
-use Rattle.hayro_ccitt.proofs.DamagedLines.LinesByEols.{past_shorter, seeks}
+use Rattle.hayro_ccitt.proofs.Names.{◌≡◌, ℕ, suc, ◌+◌, ◌-◌, ◌*◌, ◌/◌, ◌<◌, ◌≤◌, Bool, true, false, ◌||◌, eqb, ltb, List, [], ◌∷◌}
+use Rattle.hayro_ccitt.proofs.Names.{◌++◌, length, take, drop, replicate, set, None, Some, Result, Ok, Err, refl, sym, ap, subst}
+use Rattle.hayro_ccitt.proofs.Names.{◌∙◌, append_assoc, arith, ◌⊎◌, inl, inr, cases_lt, cases_eq, ne_eqb, or_right, cond-false}
+use Rattle.hayro_ccitt.proofs.Names.{length-append, length-drop, take-append-drop, append-nil, append_cancel_right}
+use Rattle.hayro_ccitt.proofs.Names.{replicate-append-replicate, set_at, DecodeError, UnexpectedEof, EncodingMode, Group3_2D}
+use Rattle.hayro_ccitt.proofs.Names.{DecodeSettings, Bits, AreWholeBytes, AreSettings, repeated, Reaches, Row, after_eol}
+use Rattle.hayro_ccitt.proofs.Names.{all_eols, eols_here, line_of_turn, row_before, Progress, Ending, first_line, move_on}
+use Rattle.hayro_ccitt.proofs.Names.{first_gap, ending_behind, end_of, bytes_before, plain, Reading, whole_reading, IsEol}
+use Rattle.hayro_ccitt.proofs.Names.{IsLocal, ComesToLine, OneRowDiffers, EndsAt, EndAlike, DamageStaysInRow, Locality}
+use Rattle.hayro_ccitt.proofs.Names.{IsTagOfLine, common_steps}
+use Rattle.hayro_ccitt.proofs.{Readings.GapsAndRows.ending_t4, Readings.Repeated.reached_follows}
 use Rattle.hayro_ccitt.proofs.DamagedLines.EolsAlike.{Closes, RestAlike, leaves_length, all_eols_alike}
-use Rattle.hayro_ccitt.proofs.DamagedLines.RunsAlike.{IsGroup3, Settles, RowsAlike, EndsAlike, RunsAlike, IsTail, moves_alike}
 use Rattle.hayro_ccitt.proofs.DamagedLines.LineTails.{after_eol_is, drop_at, is_tail, stays_1d}
-use Rattle.std.proofs.lemmas.Grind.{common_steps}
+use Rattle.hayro_ccitt.proofs.DamagedLines.LinesByEols.{past_shorter, seeks}
+use Rattle.hayro_ccitt.proofs.DamagedLines.PastEol.{past, all_eols-none, all_tagged}
+use Rattle.hayro_ccitt.proofs.DamagedLines.RunsAlike.{IsGroup3, Settles, RowsAlike, EndsAlike, RunsAlike, IsTail, moves_alike}
+use Rattle.hayro_ccitt.proofs.DamagedLines.SoughtTurns.{sought, rest_of, line_is}
+use Rattle.hayro_ccitt.proofs.DrawingLines.LinesLeaveBits.{Leaves, leaves_trans}
+use Rattle.hayro_ccitt.proofs.Readings.TurnsMoveOn.{left_to_read, left_below, move_shrinks}
 
 -- ---- From the ends of two runs to their results
 
 -- the count at a position
-count_at : (bits : Bits) (rest : Bits) (place : ℕ) → place + length rest ≡ length bits → bytes_before bits (Ok rest) ≡ Ok ((place + 7) / 8)
-count_at bits rest place e = let sum : length bits - length rest ≡ place = omega (arith, e) in ap (λ (n : ℕ). Ok ((n + 7) / 8)) sum
+count_at : (bits : Bits) (rest : Bits) (place : ℕ) → place + length rest ≡ length bits
+    → bytes_before bits (Ok rest) ≡ Ok ((place + 7) / 8)
+count_at bits rest place e = let sum : length bits - length rest ≡ place = omega (arith, e) in
+    ap (λ (n : ℕ). Ok ((n + 7) / 8)) sum
 
-module _ (settings : DecodeSettings) (wide : 0 < settings.columns) (one two : Bits) (differ from : ℕ) (x y after : Bits)
-    (whole_one : AreWholeBytes one) (whole_two : AreWholeBytes two)
-    (length_one : length one ≡ from + length x) (length_two : length two ≡ from + length y)
-    (x_is : x ≡ drop from one) (y_is : y ≡ drop from two) (tail_x : IsTail settings after x)
-    (tail_y : IsTail settings after y) where
+module _ (settings : DecodeSettings) (wide : 0 < settings.columns) (one two : Bits) (differ from : ℕ)
+    (x y after : Bits) (whole_one : AreWholeBytes one) (whole_two : AreWholeBytes two) (length_one : length one ≡ from + length x)
+    (length_two : length two ≡ from + length y) (x_is : x ≡ drop from one) (y_is : y ≡ drop from two)
+    (tail_x : IsTail settings after x) (tail_y : IsTail settings after y) where
   -- the ends of both readings
   abbrev end_one : Ending
   end_one = end_of settings one
@@ -80,7 +71,8 @@ module _ (settings : DecodeSettings) (wide : 0 < settings.columns) (one two : Bi
 
   ends_at : (bits : Bits) (rest : Bits) (place : ℕ) → (end_of settings bits).outcome ≡ Ok rest
       → place + length rest ≡ length bits → EndsAt settings bits (plain settings bits).outcome place ((place + 7) / 8)
-  ends_at bits rest place e at = record { rest = rest; ends = e; place_is = at; count_is = outcome_of bits (Ok rest) e ∙ count_at bits rest place at }
+  ends_at bits rest place e at =
+      record { rest = rest; ends = e; place_is = at; count_is = outcome_of bits (Ok rest) e ∙ count_at bits rest place at }
 
   shorter_x : length after < length x
   shorter_x = past_shorter 0 x after tail_x.next
@@ -94,25 +86,30 @@ module _ (settings : DecodeSettings) (wide : 0 < settings.columns) (one two : Bi
       (rows_differ rows, EndAlike.faults fault (outcome_of one (Err fault) e) (outcome_of two (Err fault) f))
   answers_alike (EndsAlike.early bits short e f rows) =
       let place : ℕ = from - (length bits + 1) in
-      let at_one : place + length (bits ++ true ∷ x) ≡ length one = omega (arith, short, length-append bits (true ∷ x), length_one) in
-      let at_two : place + length (bits ++ true ∷ y) ≡ length two = omega (arith, short, length-append bits (true ∷ y), length_two) in (
+      let at_one : place + length (bits ++ true ∷ x) ≡ length one =
+      omega (arith, short, length-append bits (true ∷ x), length_one) in
+      let at_two : place + length (bits ++ true ∷ y) ≡ length two =
+      omega (arith, short, length-append bits (true ∷ y), length_two) in (
         rows_differ (inl rows),
         EndAlike.before place ((place + 7) / 8) (omega arith) (ends_at one (bits ++ true ∷ x) place e at_one)
             (ends_at two (bits ++ true ∷ y) place f at_two),
       )
   answers_alike (EndsAlike.there e f rows) = (
     rows_differ (inl rows),
-    EndAlike.before from ((from + 7) / 8) (omega arith) (ends_at one x from e (sym length_one)) (ends_at two y from f (sym length_two)),
+    EndAlike.before from ((from + 7) / 8) (omega arith) (ends_at one x from e (sym length_one))
+        (ends_at two y from f (sym length_two)),
   )
   answers_alike (EndsAlike.later rest short e f rows) =
       let place : ℕ = length one - length rest in
       let place2 : ℕ = length two - length rest in
       let at_one : place + length rest ≡ length one = omega (arith, short, shorter_x, length_one) in
       let at_two : place2 + length rest ≡ length two = omega (arith, short, shorter_y, length_two) in
-      let counts : 8 * ((place + 7) / 8) + length two ≡ 8 * ((place2 + 7) / 8) + length one = omega (arith, at_one, at_two, whole_one, whole_two) in (
+      let counts : 8 * ((place + 7) / 8) + length two ≡ 8 * ((place2 + 7) / 8) + length one =
+      omega (arith, at_one, at_two, whole_one, whole_two) in (
         rows_differ rows,
         EndAlike.past place place2 ((place + 7) / 8) ((place2 + 7) / 8) (omega (arith, short, shorter_x, length_one))
-            (omega (arith, short, shorter_y, length_two)) (ends_at one rest place e at_one) (ends_at two rest place2 f at_two) counts,
+            (omega (arith, short, shorter_y, length_two)) (ends_at one rest place e at_one)
+            (ends_at two rest place2 f at_two) counts,
       )
   answers_alike (EndsAlike.limit before these those u v begins same some few is r q e f le le2) =
       let place : ℕ = length one - length u in
@@ -128,23 +125,20 @@ module _ (settings : DecodeSettings) (wide : 0 < settings.columns) (one two : Bi
           [],
           same,
           few,
-          r
-              ∙ ap (λ (rows : List Row). before ++ rows) (sym (append-nil these)),
-          q
-              ∙ ap (λ (rows : List Row). before ++ rows) (sym (append-nil those)),
+          r ∙ ap (λ (rows : List Row). before ++ rows) (sym (append-nil these)),
+          q ∙ ap (λ (rows : List Row). before ++ rows) (sym (append-nil those)),
           begins,
         )),
         EndAlike.at_limit (length before) place place2 ((place + 7) / 8) ((place2 + 7) / 8) (comes_one before begins)
-            (comes_two before begins)
-            (omega (arith, is, some)) (omega (arith, is, few)) many (omega (arith, le, length_one))
-            (omega (arith, le2, length_two))
-            (ends_at one u place e at_one) (ends_at two v place2 f at_two),
+            (comes_two before begins) (omega (arith, is, some)) (omega (arith, is, few)) many (omega (arith, le, length_one))
+            (omega (arith, le2, length_two)) (ends_at one u place e at_one) (ends_at two v place2 f at_two),
       )
 
 -- ---- How the two runs begin
 
 -- the bits before a position where an EOL ends: they end with eleven zeros and a one
-ends_eol : (bits : Bits) (from : ℕ) (place : ℕ) → IsEol bits place from → (front : Bits) × Closes front × (bits ≡ front ++ true ∷ drop from bits)
+ends_eol : (bits : Bits) (from : ℕ) (place : ℕ) → IsEol bits place from → (front : Bits) × Closes front
+    × (bits ≡ front ++ true ∷ drop from bits)
 ends_eol bits from place eol =
     let is = after_eol_is 0 (drop place bits) (drop from bits) eol.2 in
     let more : ℕ = is.0 - 11 in
@@ -220,8 +214,7 @@ module _ (settings : DecodeSettings) (one two : Bits) (from : ℕ) (after : Bits
       omega (
         arith,
         leaves_length one (bits ++ true ∷ drop from one) within.0,
-        length-append bits
-            (true ∷ drop from one),
+        length-append bits (true ∷ drop from one),
         length-drop from one,
         given.fits_one,
       )
@@ -229,7 +222,8 @@ module _ (settings : DecodeSettings) (one two : Bits) (from : ℕ) (after : Bits
   abbrev Start : Progress → Progress → Type 0
   Start s t = RunsAlike settings Begun (suc lines) Within (drop from one) (drop from two) after s t
 
-  first_is : (bits rest : Bits) → (ltb 0 (all_eols bits).0 || settings.end_of_line) ≡ true → (all_eols bits).1 ≡ rest → first bits ≡ sought [] rest
+  first_is : (bits rest : Bits) → (ltb 0 (all_eols bits).0 || settings.end_of_line) ≡ true → (all_eols bits).1 ≡ rest
+      → first bits ≡ sought [] rest
   first_is bits rest h e = ap (λ (b : Bool). record { rows = []; has_eols = b; rest = (all_eols bits).1 }) h ∙ ap (sought []) e
 
   begin_there : from ≡ 0 → settings.end_of_line ≡ true → Start (first one) (first two)
@@ -238,10 +232,10 @@ module _ (settings : DecodeSettings) (one two : Bits) (from : ℕ) (after : Bits
       at : (bits : Bits) → after_eol 0 (drop from bits) ≡ None → first bits ≡ sought [] (drop from bits)
       at bits none = grind (arith, common_steps, all_eols-none, first_is, or_right)
 
-  begin_ahead : (front : Bits) → Closes front → one ≡ front ++ true ∷ drop from one → (ltb 0 (all_eols one).0 || settings.end_of_line) ≡ true
-      → Start (first one) (first two)
+  begin_ahead : (front : Bits) → Closes front → one ≡ front ++ true ∷ drop from one
+      → (ltb 0 (all_eols one).0 || settings.end_of_line) ≡ true → Start (first one) (first two)
   begin_ahead front closes is seeks_one =
-      by (all_eols_alike (drop from one) (drop from two) given.tail_one.none given.tail_two.none front)
+      by_premise (all_eols_alike (drop from one) (drop from two) given.tail_one.none given.tail_two.none front)
     where
       front_is : take from one ≡ front ++ true ∷ []
       front_is = append_cancel_right (take from one) (front ++ true ∷ []) (drop from one)
@@ -251,14 +245,16 @@ module _ (settings : DecodeSettings) (one two : Bits) (from : ℕ) (after : Bits
       is_two = sym (take-append-drop from two) ∙ ap (λ (b : Bits). b ++ drop from two) (sym given.same ∙ front_is)
           ∙ append_assoc front (true ∷ []) (drop from two)
 
-      by : ((all_eols (front ++ true ∷ drop from one)).0 ≡ (all_eols (front ++ true ∷ drop from two)).0)
-          × RestAlike (drop from one) (drop from two) front (all_eols (front ++ true ∷ drop from one)).1 (all_eols (front ++ true ∷ drop from two)).1
-          → Start (first one) (first two)
-      by (counts, rests) = elim rests [
+      by_premise : ((all_eols (front ++ true ∷ drop from one)).0 ≡ (all_eols (front ++ true ∷ drop from two)).0)
+          × RestAlike (drop from one) (drop from two) front (all_eols (front ++ true ∷ drop from one)).1
+          (all_eols (front ++ true ∷ drop from two)).1 → Start (first one) (first two)
+      by_premise (counts, rests) = elim rests [
         | inl a ↦ RunsAlike.ahead [] a.0 (a.2 closes)
             (leaves_ahead one front a.0 (drop from one) is a.1, leaves_ahead two front a.0 (drop from two) is_two a.1)
-            (first_is one (a.0 ++ true ∷ drop from one) seeks_one (place_one ∙ a.3)) (first_is two (a.0 ++ true ∷ drop from two) seeks_two (place_two ∙ a.4))
-        | inr a ↦ RunsAlike.there [] (first_is one (drop from one) seeks_one (place_one ∙ a.0)) (first_is two (drop from two) seeks_two (place_two ∙ a.1))
+            (first_is one (a.0 ++ true ∷ drop from one) seeks_one (place_one ∙ a.3))
+            (first_is two (a.0 ++ true ∷ drop from two) seeks_two (place_two ∙ a.4))
+        | inr a ↦ RunsAlike.there [] (first_is one (drop from one) seeks_one (place_one ∙ a.0))
+            (first_is two (drop from two) seeks_two (place_two ∙ a.1))
       ]
         where
           same_count : (all_eols one).0 ≡ (all_eols two).0
@@ -273,13 +269,14 @@ module _ (settings : DecodeSettings) (one two : Bits) (from : ℕ) (after : Bits
           place_two : (all_eols two).1 ≡ (all_eols (front ++ true ∷ drop from two)).1
           place_two = ap (λ (b : Bits). (all_eols b).1) is_two
 
-  begin : ((from ≡ 0) ⊎ ((place : ℕ) × IsEol one place from)) → ((settings.end_of_line ≡ true) ⊎ ((end : ℕ) × (end ≤ from) × IsEol one 0 end))
-      → Start (first one) (first two)
+  begin : ((from ≡ 0) ⊎ ((place : ℕ) × IsEol one place from))
+      → ((settings.end_of_line ≡ true) ⊎ ((end : ℕ) × (end ≤ from) × IsEol one 0 end)) → Start (first one) (first two)
   begin (inl zero_from) (inl eol) = begin_there zero_from eol
   begin (inl zero_from) (inr e) = absurd (omega (arith, zero_from, e.1, e.2.0))
   begin (inr (place, eol)) sought_by =
       let f = ends_eol one from place eol in
-      begin_ahead f.0 f.1 f.2 (seeks one settings.end_of_line (elim sought_by [ inl e ↦ inl e | inr e ↦ inr (drop e.0 one, e.2.2) ]))
+      begin_ahead f.0 f.1 f.2
+      (seeks one settings.end_of_line (elim sought_by [ inl e ↦ inl e | inr e ↦ inr (drop e.0 one, e.2.2) ]))
 
   module _ (wide : 0 < settings.columns) where
     -- readings that start alike end alike
@@ -305,8 +302,7 @@ module _ (settings : DecodeSettings) (one two : Bits) (from : ℕ) (after : Bits
         (λ t. repeated (move_on settings) (late (first two)) (suc (left_to_read t)) t) s t
         (λ rows e f. (
           subst (Reaches (move_on settings) (first one)) e reached,
-          subst
-              (Reaches (move_on settings) (first two)) f other_reached,
+          subst (Reaches (move_on settings) (first two)) f other_reached,
         ))
         (omega (arith, past_shorter 0 (drop from one) after given.tail_one.next))
         (omega (arith, past_shorter 0 (drop from two) after given.tail_two.next)))
@@ -324,9 +320,8 @@ module _ (settings : DecodeSettings) (one two : Bits) (from : ℕ) (after : Bits
         (plain settings two).outcome
     damage whole_one whole_two =
         answers_alike settings wide one two (suc lines) from (drop from one) (drop from two) after whole_one whole_two
-        (omega (arith, given.fits_one, length-drop from one))
-        (omega (arith, given.fits_two, length-drop from two)) refl refl given.tail_one given.tail_two
-        (ends_alike (begin given.starts given.sought_by))
+        (omega (arith, given.fits_one, length-drop from one)) (omega (arith, given.fits_two, length-drop from two)) refl refl
+        given.tail_one given.tail_two (ends_alike (begin given.starts given.sought_by))
 
 -- ---- One-dimensional data
 
@@ -356,7 +351,7 @@ one_row_differs settings one two from rows others (inr (before, a ∷ [], b ∷ 
 
 -- the law
 pub locality : Locality
-locality settings one are whole_one two from to to2 whole_two differ = by (cases_eq settings.columns 0)
+locality settings one are whole_one two from to to2 whole_two differ = in_each_case (cases_eq settings.columns 0)
   where
     local_one : IsLocal settings one from to
     local_one = differ.body
@@ -388,16 +383,19 @@ locality settings one are whole_one two from to to2 whole_two differ = by (cases
           ∙ sym (line_is settings local_one.encoding local_one.lenient other (eols_here settings found).1));
     }
 
-    by : (settings.columns ≡ 0) ⊎ (settings.columns ≡ 0 → ⊥)
+    in_each_case : (settings.columns ≡ 0) ⊎ (settings.columns ≡ 0 → ⊥)
         → OneRowDiffers settings one two from (plain settings one).rows (plain settings two).rows
         × EndAlike settings one two from 1 (plain settings one).rows (plain settings one).outcome (plain settings two).outcome
-    by (inl e) = grind (arith, common_steps)
-    by (inr e) =
-        let wide : 0 < settings.columns = elim (cases_lt 0 settings.columns) [ inl lt ↦ lt | inr ge ↦ absurd (e (omega arith)) ] in
+    in_each_case (inl e) = grind (arith, common_steps)
+    in_each_case (inr e) =
+        let wide : 0 < settings.columns =
+        elim (cases_lt 0 settings.columns) [ inl lt ↦ lt | inr ge ↦ absurd (e (omega arith)) ] in
         let both = damage settings one two from local_one.closes.0 0 lines_differ wide whole_one whole_two in
         (one_row_differs settings one two from (plain settings one).rows (plain settings two).rows both.0, both.1)
 
 -- a run with the rows and the result of the plain reading has what the law says
-pub damage_stays : (settings : DecodeSettings) (bits : Bits) (rows : List Row) (outcome : Result ℕ DecodeError) → AreSettings settings → AreWholeBytes bits
-    → rows ≡ (plain settings bits).rows → outcome ≡ (plain settings bits).outcome → DamageStaysInRow settings bits rows outcome
-damage_stays settings bits rows outcome are whole rows_are outcome_is = rw (rows_are, outcome_is) (locality settings bits are whole)
+pub damage_stays : (settings : DecodeSettings) (bits : Bits) (rows : List Row) (outcome : Result ℕ DecodeError)
+    → AreSettings settings → AreWholeBytes bits → rows ≡ (plain settings bits).rows → outcome ≡ (plain settings bits).outcome
+    → DamageStaysInRow settings bits rows outcome
+damage_stays settings bits rows outcome are whole rows_are outcome_is =
+    rw (rows_are, outcome_is) (locality settings bits are whole)

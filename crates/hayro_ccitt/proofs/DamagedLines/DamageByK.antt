@@ -1,30 +1,20 @@
 -- Damage to a line of two-dimensional data ends at the next one-dimensional line.
-use Rattle.std.proofs.Common.{◌≡◌, ℕ, zero, suc, ◌+◌, ◌-◌, ◌<◌, ◌≤◌, eqb, true, false, List, [], ◌∷◌, ◌++◌, length, take, drop, replicate, Option, Some, None, Result, Ok}
-use Rattle.std.proofs.Common.{refl, sym, ap, subst, ◌∙◌, append_assoc, arith, ◌⊎◌, inl, inr}
-use Rattle.std.proofs.lemmas.Bool.{cases_lt, cases_eq, cond-true, eq-eqb, le-leb}
-use Rattle.std.proofs.lemmas.List.{length-append, length-replicate}
-use Rattle.hayro_ccitt.specs.declared.codes.Color.TheVariants.{White}
-use Rattle.hayro_ccitt.specs.declared.error.DecodeError.{DecodeError}
-use Rattle.hayro_ccitt.specs.declared.settings.EncodingMode.{EncodingMode}
-use Rattle.hayro_ccitt.specs.declared.settings.EncodingMode.TheVariants.{Group3_2D}
-use Rattle.hayro_ccitt.specs.declared.settings.DecodeSettings.{DecodeSettings}
-use Rattle.hayro_ccitt.specs.Bits.{Bits, AreWholeBytes}
-use Rattle.hayro_ccitt.specs.Settings.{AreSettings}
-use Rattle.hayro_ccitt.specs.Repetition.{Reaches}
-use Rattle.hayro_ccitt.specs.Rows.{Row}
-use Rattle.hayro_ccitt.specs.Encodings.{EncodesLine2D}
-use Rattle.hayro_ccitt.specs.EndOfLine.{after_eol, one_more, pass_last_tag, tagged_eols}
-use Rattle.hayro_ccitt.specs.PlainReading.{first_line, move_on, line_by, eols_by, line_here, eols_here, plain, Reading, nothing_read, whole_reading, end_of}
-use Rattle.hayro_ccitt.specs.Locality.{IsEolAt, EndAlike}
-use Rattle.hayro_ccitt.specs.LocalityByK.{IsTaggedBody, ComesBefore1D, IsLine2D, ComeBefore1D, RowsDiffer, DamageEndsAt1D, LocalityByK}
-use Rattle.hayro_ccitt.proofs.Readings.TurnsMoveOn.{after_eol_shorter, next_eol_found}
-use Rattle.hayro_ccitt.proofs.EncodedPictures.PicturesT4.{line_2d_after_tag}
-use Rattle.hayro_ccitt.proofs.DamagedLines.PastEol.{past, past_is, then_after, all_tagged-some, all_tagged-none}
-use Rattle.hayro_ccitt.proofs.DamagedLines.SoughtTurns.{sought, rest_of, found_next, eols_here_same}
-use Rattle.hayro_ccitt.proofs.DamagedLines.RunsAlike.{RowsAlike, Settles, Unreferred, IsTail}
-use Rattle.hayro_ccitt.proofs.DamagedLines.LineTails.{after_eol_is, past_before, line_past_by, is_tagged_tail, stays_2d}
+use Rattle.hayro_ccitt.proofs.Names.{◌≡◌, ℕ, zero, suc, ◌+◌, ◌-◌, ◌<◌, ◌≤◌, eqb, true, false, List, [], ◌∷◌, ◌++◌, length, take}
+use Rattle.hayro_ccitt.proofs.Names.{drop, replicate, Option, Some, None, Result, Ok, refl, sym, ap, subst, ◌∙◌, append_assoc}
+use Rattle.hayro_ccitt.proofs.Names.{arith, ◌⊎◌, inl, inr, cases_lt, cases_eq, cond-true, eq-eqb, le-leb, length-append}
+use Rattle.hayro_ccitt.proofs.Names.{length-replicate, White, DecodeError, EncodingMode, Group3_2D, DecodeSettings, Bits}
+use Rattle.hayro_ccitt.proofs.Names.{AreWholeBytes, AreSettings, Reaches, Row, EncodesLine2D, after_eol, one_more, pass_last_tag}
+use Rattle.hayro_ccitt.proofs.Names.{tagged_eols, first_line, move_on, line_by, eols_by, line_here, eols_here, plain, Reading}
+use Rattle.hayro_ccitt.proofs.Names.{nothing_read, whole_reading, end_of, IsEolAt, EndAlike, IsTaggedBody, ComesBefore1D}
+use Rattle.hayro_ccitt.proofs.Names.{IsLine2D, ComeBefore1D, RowsDiffer, DamageEndsAt1D, LocalityByK}
 use Rattle.hayro_ccitt.proofs.DamagedLines.AnyReference.{quiet_line, scan_past, modes_read, encoded_ends}
 use Rattle.hayro_ccitt.proofs.DamagedLines.Damage.{LinesDiffer, damage}
+use Rattle.hayro_ccitt.proofs.DamagedLines.LineTails.{after_eol_is, past_before, line_past_by, is_tagged_tail, stays_2d}
+use Rattle.hayro_ccitt.proofs.DamagedLines.PastEol.{past, past_is, then_after, all_tagged-some, all_tagged-none}
+use Rattle.hayro_ccitt.proofs.DamagedLines.RunsAlike.{RowsAlike, Settles, Unreferred, IsTail}
+use Rattle.hayro_ccitt.proofs.DamagedLines.SoughtTurns.{sought, rest_of, found_next, eols_here_same}
+use Rattle.hayro_ccitt.proofs.EncodedPictures.PicturesT4.{line_2d_after_tag}
+use Rattle.hayro_ccitt.proofs.Readings.TurnsMoveOn.{after_eol_shorter, next_eol_found}
 
 -- ---- The lines that follow
 
@@ -42,7 +32,7 @@ module _ (settings : DecodeSettings) (encoding : settings.encoding ≡ Group3_2D
 
   -- a one-dimensional line has no reference row
   unreferred : (here : Bits) → ComesBefore1D settings here → Unreferred settings (eols_here settings here)
-  unreferred here (eol, ends) = rw is_2d (by ends)
+  unreferred here (eol, ends) = rw is_2d (in_each_case ends)
     where
       is_2d : eols_here settings here ≡ eols_by Group3_2D settings.end_of_block here
       is_2d = ap (λ (e : EncodingMode). eols_by e settings.end_of_block here) encoding
@@ -53,13 +43,14 @@ module _ (settings : DecodeSettings) (encoding : settings.encoding ≡ Group3_2D
           → (reference other : Row) → line_here settings reference tagged ≡ line_here settings other tagged
       same tagged f reference other = rw encoding (f reference other)
 
-      by : ((settings.end_of_block ≡ true) × (6 ≤ (eols_by Group3_2D settings.end_of_block here).0))
+      in_each_case : ((settings.end_of_block ≡ true) × (6 ≤ (eols_by Group3_2D settings.end_of_block here).0))
           ⊎ (((line : Bits) × ((eols_by Group3_2D settings.end_of_block here).1 ≡ true ∷ line))
           ⊎ ((eols_by Group3_2D settings.end_of_block here).1 ≡ []))
           → Unreferred settings (eols_by Group3_2D settings.end_of_block here)
-      by (inl (block, six)) = inl (rw (block, encoding, le-leb 6 (eols_by Group3_2D settings.end_of_block here).0 six) refl)
-      by (inr (inl (line, e))) = inr (rw e (same (true ∷ line) (λ reference other. refl)))
-      by (inr (inr e)) = inr (rw e (same [] (λ reference other. refl)))
+      in_each_case (inl (block, six)) =
+          inl (rw (block, encoding, le-leb 6 (eols_by Group3_2D settings.end_of_block here).0 six) refl)
+      in_each_case (inr (inl (line, e))) = inr (rw e (same (true ∷ line) (λ reference other. refl)))
+      in_each_case (inr (inr e)) = inr (rw e (same [] (λ reference other. refl)))
 
   -- one EOL is counted before a two-dimensional line
   one_before : (line found : Bits) → after_eol 0 (false ∷ line) ≡ None → after_eol 0 found ≡ Some (false ∷ line)
@@ -107,8 +98,7 @@ module _ (settings : DecodeSettings) (encoding : settings.encoding ≡ Group3_2D
 
   -- a two-dimensional line of an encoding is such a line
   pub encoded_follows : (lines : ℕ) (reference row : Row) (line next here : Bits) → EncodesLine2D reference row 0 White line
-      → ComeBefore1D settings lines next → after_eol 0 here ≡ Some (false ∷ line ++ next)
-      → ComeBefore1D settings (suc lines) here
+      → ComeBefore1D settings lines next → after_eol 0 here ≡ Some (false ∷ line ++ next) → ComeBefore1D settings (suc lines) here
   encoded_follows lines reference row line next here encodes more e =
       let eol = eol_before lines next more in
       let after = eol.0 in
@@ -172,8 +162,7 @@ rows_differ settings one two from differ rows others (inr (before, these, those,
         ap (take (length before)) f ∙ take_front before (those ++ more)
             ∙ sym (ap (take (length before)) e ∙ take_front before (these ++ more)),
         behind those others f (omega (arith, same, few))
-            ∙ ap (λ (n : ℕ). drop (length before + differ - (length before + n)) more) (sym same)
-            ∙ sym (behind these rows e few),
+            ∙ ap (λ (n : ℕ). drop (length before + differ - (length before + n)) more) (sym same) ∙ sym (behind these rows e few),
       ),
     )
   where
@@ -186,7 +175,7 @@ rows_differ settings one two from differ rows others (inr (before, these, those,
 
 -- the law
 pub locality_by_k : LocalityByK
-locality_by_k settings one are whole_one two from to to2 lines whole_two differ = by (cases_eq settings.columns 0)
+locality_by_k settings one are whole_one two from to to2 lines whole_two differ = in_each_case (cases_eq settings.columns 0)
   where
     body : IsTaggedBody settings one from to
     body = differ.body
@@ -218,18 +207,18 @@ locality_by_k settings one are whole_one two from to to2 lines whole_two differ 
       settles = settles settings differ.encoding lines (drop to one) body.closes.0 differ.follow body.closes.1;
     }
 
-    by : (settings.columns ≡ 0) ⊎ (settings.columns ≡ 0 → ⊥)
+    in_each_case : (settings.columns ≡ 0) ⊎ (settings.columns ≡ 0 → ⊥)
         → RowsDiffer settings one two from (suc lines) (plain settings one).rows (plain settings two).rows
         × EndAlike settings one two from (suc lines) (plain settings one).rows (plain settings one).outcome
         (plain settings two).outcome
-    by (inl e) =
+    in_each_case (inl e) =
         let nothing : (bits : Bits) → plain settings bits ≡ nothing_read
         = λ bits. cond-true (eqb settings.columns 0) nothing_read (whole_reading bits (end_of settings bits))
         (eq-eqb settings.columns 0 e) in
         let outcome : (bits : Bits) → (plain settings bits).outcome ≡ Ok 0 = λ bits. ap (λ (r : Reading). r.outcome)
         (nothing bits) in
         (inl (ap (λ (r : Reading). r.rows) (nothing two ∙ sym (nothing one))), EndAlike.no_columns e (outcome one) (outcome two))
-    by (inr e) =
+    in_each_case (inr e) =
         let wide : 0 < settings.columns = elim (cases_lt 0 settings.columns) [ inl lt ↦ lt | inr ge ↦ absurd (e (omega arith)) ]
         in
         let both = damage settings one two from body.closes.0 lines lines_differ wide whole_one whole_two in

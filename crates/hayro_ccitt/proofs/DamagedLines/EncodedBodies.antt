@@ -1,33 +1,19 @@
 -- The lines of an encoding with EOLs are bodies that damage may change.
-use Rattle.std.proofs.Common.{◌≡◌, ℕ, zero, suc, ◌+◌, ◌-◌, ◌<◌, ◌≤◌, Bool, true, false, List, [], ◌∷◌, ◌++◌, length, take, drop, replicate}
-use Rattle.std.proofs.Common.{Option, Some, None, refl, sym, ap, subst, ◌∙◌, append_assoc, arith, ◌⊎◌, inl, inr}
-use Rattle.std.proofs.lemmas.Bool.{cases_lt, lt-leb, le-leb}
-use Rattle.std.proofs.lemmas.List.{length-append, length-replicate, length-drop, append-nil, take-append-drop, drop-drop}
-use Rattle.std.proofs.lemmas.List.Elements.{All-head, All-tail}
-use Rattle.hayro_ccitt.specs.declared.codes.Color.{Color}
-use Rattle.hayro_ccitt.specs.declared.codes.Color.TheVariants.{White}
-use Rattle.hayro_ccitt.specs.declared.codes.Mode.TheVariants.{Pass, Horizontal, Vertical}
-use Rattle.hayro_ccitt.specs.declared.settings.DecodeSettings.{DecodeSettings}
-use Rattle.hayro_ccitt.specs.declared.settings.EncodingMode.{EncodingMode}
-use Rattle.hayro_ccitt.specs.declared.settings.EncodingMode.TheVariants.{Group3_2D}
-use Rattle.hayro_ccitt.specs.Laws.{IsWord}
-use Rattle.hayro_ccitt.specs.Lines.{Line}
-use Rattle.hayro_ccitt.specs.Locality.{IsEol}
-use Rattle.hayro_ccitt.specs.LocalityByK.{IsTagOfLine, IsTaggedBody, EncodedLinesAreBodies}
-use Rattle.hayro_ccitt.specs.PlainReading.{row_before, line_by, line_here}
-use Rattle.hayro_ccitt.specs.Rows.{Row, HaveWidth, opposite}
-use Rattle.hayro_ccitt.specs.Bits.{Bits}
-use Rattle.hayro_ccitt.specs.EndOfLine.{after_eol, one_more, past_tag}
-use Rattle.hayro_ccitt.specs.Encodings.{Spells, EncodesLine1D, EncodesLine2D, EncodesLine, EncodesRowsWithEols, eol}
+use Rattle.hayro_ccitt.proofs.Names.{◌≡◌, ℕ, zero, suc, ◌+◌, ◌-◌, ◌<◌, ◌≤◌, Bool, true, false, List, [], ◌∷◌, ◌++◌, length, take}
+use Rattle.hayro_ccitt.proofs.Names.{drop, replicate, Option, Some, None, refl, sym, ap, subst, ◌∙◌, append_assoc, arith, ◌⊎◌}
+use Rattle.hayro_ccitt.proofs.Names.{inl, inr, cases_lt, lt-leb, le-leb, length-append, length-replicate, length-drop, append-nil}
+use Rattle.hayro_ccitt.proofs.Names.{take-append-drop, drop-drop, All-head, All-tail, Color, White, Pass, Horizontal, Vertical}
+use Rattle.hayro_ccitt.proofs.Names.{DecodeSettings, EncodingMode, Group3_2D, IsWord, Line, IsEol, IsTagOfLine, IsTaggedBody}
+use Rattle.hayro_ccitt.proofs.Names.{EncodedLinesAreBodies, row_before, line_by, line_here, Row, HaveWidth, opposite, Bits}
+use Rattle.hayro_ccitt.proofs.Names.{after_eol, one_more, past_tag, Spells, EncodesLine1D, EncodesLine2D, EncodesLine}
+use Rattle.hayro_ccitt.proofs.Names.{EncodesRowsWithEols, eol, common_steps}
+use Rattle.hayro_ccitt.proofs.{EncodedPictures.EncodedRuns.line_1d_again, EncodedPictures.PicturesT4.eol_stands}
 use Rattle.hayro_ccitt.proofs.BitReading.ZerosInWords.{holds_a_one, word_one}
-use Rattle.hayro_ccitt.proofs.EncodedPictures.EncodedRuns.{line_1d_again}
-use Rattle.hayro_ccitt.proofs.Readings.TurnsMoveOn.{after_eol_shorter, past_tag_shorter}
-use Rattle.hayro_ccitt.proofs.EncodedPictures.PicturesT4.{eol_stands}
-use Rattle.hayro_ccitt.proofs.DrawingLines.LinesLeaveBits.{Leaves, leaves_trans}
-use Rattle.hayro_ccitt.proofs.DamagedLines.PastEol.{past, past-eol, all_tagged, all_tagged-some, all_tagged-none}
-use Rattle.hayro_ccitt.proofs.DamagedLines.LineTails.{drop_front, drop_at, after_eol_is, after_eol_more, first_one, past_before}
 use Rattle.hayro_ccitt.proofs.DamagedLines.AnyReference.{Quiet, quiet_append, quiet_run, quiet_line, leaves_next, scan_past}
-use Rattle.std.proofs.lemmas.Grind.{common_steps}
+use Rattle.hayro_ccitt.proofs.DamagedLines.LineTails.{drop_front, drop_at, after_eol_is, after_eol_more, first_one, past_before}
+use Rattle.hayro_ccitt.proofs.DamagedLines.PastEol.{past, past-eol, all_tagged, all_tagged-some, all_tagged-none}
+use Rattle.hayro_ccitt.proofs.DrawingLines.LinesLeaveBits.{Leaves, leaves_trans}
+use Rattle.hayro_ccitt.proofs.Readings.TurnsMoveOn.{after_eol_shorter, past_tag_shorter}
 
 -- ---- Suffixes
 
@@ -39,12 +25,12 @@ suffix_of (x ∷ a) b c (y ∷ before, e) = suffix_of a b c (before, cc)
 
 -- a suffix that is long enough ends with the second
 covers : (a b c : Bits) → Leaves (a ++ b) c → length b ≤ length c → (more : Bits) × (c ≡ more ++ b)
-covers a b c leaves le = by (suffix_of a b c leaves)
+covers a b c leaves le = by_more (suffix_of a b c leaves)
   where
-    by : Leaves b c ⊎ ((more : Bits) × (c ≡ more ++ b)) → (more : Bits) × (c ≡ more ++ b)
-    by (inl ([], e)) = ([], sym e)
-    by (inl (x ∷ before, e)) = absurd (omega (arith, le, ap length e, length-append before c))
-    by (inr given) = given
+    by_more : Leaves b c ⊎ ((more : Bits) × (c ≡ more ++ b)) → (more : Bits) × (c ≡ more ++ b)
+    by_more (inl ([], e)) = ([], sym e)
+    by_more (inl (x ∷ before, e)) = absurd (omega (arith, le, ap length e, length-append before c))
+    by_more (inr given) = given
 
 -- ---- EOLs in order
 
@@ -71,21 +57,21 @@ past_first seen (true ∷ before) here rest next e f = elim (cases_lt seen 11) [
 tag_leaves : (here : Bits) → Leaves here (past_tag here)
 tag_leaves [] = ([], refl)
 tag_leaves (false ∷ here) = ([], refl)
-tag_leaves (true ∷ here) = by (after_eol 0 here) refl
+tag_leaves (true ∷ here) = by_after_eol (after_eol 0 here) refl
   where
-    by : (o : Option Bits) → after_eol 0 here ≡ o → Leaves (true ∷ here) (past_tag (true ∷ here))
-    by None e = rw (e, past_tag) ([], refl)
-    by (Some rest) e = rw (e, past_tag) (true ∷ [], refl)
+    by_after_eol : (o : Option Bits) → after_eol 0 here ≡ o → Leaves (true ∷ here) (past_tag (true ∷ here))
+    by_after_eol None e = rw (e, past_tag) ([], refl)
+    by_after_eol (Some rest) e = rw (e, past_tag) (true ∷ [], refl)
 
 -- one bit at most
 tag_short : (here : Bits) → length here ≤ suc (length (past_tag here))
 tag_short [] = omega arith
 tag_short (false ∷ here) = omega arith
-tag_short (true ∷ here) = by (after_eol 0 here) refl
+tag_short (true ∷ here) = by_after_eol (after_eol 0 here) refl
   where
-    by : (o : Option Bits) → after_eol 0 here ≡ o → length (true ∷ here) ≤ suc (length (past_tag (true ∷ here)))
-    by None e = rw (e, past_tag) (omega arith)
-    by (Some rest) e = rw (e, past_tag) (omega arith)
+    by_after_eol : (o : Option Bits) → after_eol 0 here ≡ o → length (true ∷ here) ≤ suc (length (past_tag (true ∷ here)))
+    by_after_eol None e = rw (e, past_tag) (omega arith)
+    by_after_eol (Some rest) e = rw (e, past_tag) (omega arith)
 
 -- where there is an EOL some are counted
 not_none : (here rest last : Bits) → after_eol 0 here ≡ Some rest → all_tagged here ≡ (0, last) → ⊥
@@ -97,28 +83,29 @@ not_none here rest last f e =
 -- where no more EOLs are counted behind a tag there was no tag
 no_tag : (here last : Bits) → all_tagged (past_tag here) ≡ (0, last) → here ≡ last
 no_tag [] last e = ap (λ (f : ℕ × Bits). f.1) e
-no_tag (false ∷ here) last e = by (after_eol 0 (false ∷ here)) refl
+no_tag (false ∷ here) last e = by_after_eol (after_eol 0 (false ∷ here)) refl
   where
-    by : (o : Option Bits) → after_eol 0 (false ∷ here) ≡ o → (false ∷ here) ≡ last
-    by None f = ap (λ (c : ℕ × Bits). c.1) (sym (all_tagged-none (false ∷ here) f) ∙ e)
-    by (Some rest) f = absurd (not_none (false ∷ here) rest last f e)
-no_tag (true ∷ here) last e = by (after_eol 0 here) refl
+    by_after_eol : (o : Option Bits) → after_eol 0 (false ∷ here) ≡ o → (false ∷ here) ≡ last
+    by_after_eol None f = ap (λ (c : ℕ × Bits). c.1) (sym (all_tagged-none (false ∷ here) f) ∙ e)
+    by_after_eol (Some rest) f = absurd (not_none (false ∷ here) rest last f e)
+no_tag (true ∷ here) last e = by_after_eol (after_eol 0 here) refl
   where
-    by : (o : Option Bits) → after_eol 0 here ≡ o → (true ∷ here) ≡ last
-    by None f =
+    by_after_eol : (o : Option Bits) → after_eol 0 here ≡ o → (true ∷ here) ≡ last
+    by_after_eol None f =
         let same : past_tag (true ∷ here) ≡ true ∷ here = rw (f, past_tag) refl in
         ap (λ (c : ℕ × Bits). c.1) (sym (all_tagged-none (true ∷ here) refl) ∙ ap all_tagged (sym same) ∙ e)
-    by (Some rest) f =
+    by_after_eol (Some rest) f =
         let same : past_tag (true ∷ here) ≡ here = rw (f, past_tag) refl in
         absurd (not_none here rest last f (ap all_tagged (sym same) ∙ e))
 
 -- the last EOL
 one_left : (here last : Bits) → all_tagged here ≡ (1, last) → after_eol 0 here ≡ Some last
-one_left here last e = by (after_eol 0 here) refl
+one_left here last e = by_after_eol (after_eol 0 here) refl
   where
-    by : (o : Option Bits) → after_eol 0 here ≡ o → after_eol 0 here ≡ Some last
-    by None f = absurd (let g : 0 ≡ 1 = ap (λ (c : ℕ × Bits). c.0) (sym (all_tagged-none here f) ∙ e) in omega (arith, g))
-    by (Some rest) f =
+    by_after_eol : (o : Option Bits) → after_eol 0 here ≡ o → after_eol 0 here ≡ Some last
+    by_after_eol None f =
+        absurd (let g : 0 ≡ 1 = ap (λ (c : ℕ × Bits). c.0) (sym (all_tagged-none here f) ∙ e) in omega (arith, g))
+    by_after_eol (Some rest) f =
         let g : one_more (all_tagged (past_tag rest)) ≡ (1, last) = sym (all_tagged-some here rest f) ∙ e in
         let none : all_tagged (past_tag rest) ≡ (0, last) = grind (arith, common_steps) in
         f ∙ ap Some (no_tag rest last none)
@@ -127,34 +114,33 @@ one_left here last e = by (after_eol 0 here) refl
 last_two : (n count : ℕ) (here last : Bits) → length here < n → all_tagged here ≡ (suc (suc count), last)
     → (found rest : Bits) × Leaves here found × (after_eol 0 found ≡ Some rest) × (after_eol 0 (past_tag rest) ≡ Some last)
 last_two zero count here last lt e = absurd (omega arith)
-last_two (suc n) count here last lt e = by (λ c next small. last_two n c next last small) count e (after_eol 0 here) refl
+last_two (suc n) count here last lt e =
+    by_after_eol (λ c next small. last_two n c next last small) count e (after_eol 0 here) refl
   where
     Two : Bits → Type 0
     Two start = (found rest : Bits) × Leaves start found × (after_eol 0 found ≡ Some rest)
         × (after_eol 0 (past_tag rest) ≡ Some last)
 
-    by : ((c : ℕ) (next : Bits) → length next < n → all_tagged next ≡ (suc (suc c), last) → Two next) → (count : ℕ)
+    by_after_eol : ((c : ℕ) (next : Bits) → length next < n → all_tagged next ≡ (suc (suc c), last) → Two next) → (count : ℕ)
         → all_tagged here ≡ (suc (suc count), last) → (o : Option Bits) → after_eol 0 here ≡ o → Two here
-    by on count e None f = absurd (let g : 0 ≡ suc (suc count) = ap (λ (c : ℕ × Bits). c.0)
+    by_after_eol on count e None f = absurd (let g : 0 ≡ suc (suc count) = ap (λ (c : ℕ × Bits). c.0)
         (sym (all_tagged-none here f) ∙ e) in omega (arith, g))
-    by on zero e (Some rest) f =
+    by_after_eol on zero e (Some rest) f =
         let g : one_more (all_tagged (past_tag rest)) ≡ (2, last) = sym (all_tagged-some here rest f) ∙ e in
         let one : all_tagged (past_tag rest) ≡ (1, last) = grind (arith, common_steps) in
         (here, rest, ([], refl), f, one_left (past_tag rest) last one)
-    by on (suc count) e (Some rest) f =
+    by_after_eol on (suc count) e (Some rest) f =
         let g : one_more (all_tagged (past_tag rest)) ≡ (suc (suc (suc count)), last) = sym (all_tagged-some here rest f) ∙ e in
         let more : all_tagged (past_tag rest) ≡ (suc (suc count), last) = grind (arith, common_steps) in
         let two = on count (past_tag rest) (omega (arith, lt, after_eol_shorter 0 here rest f, past_tag_shorter rest)) more in
         let is = after_eol_is 0 here rest f in
         let first : Leaves here rest = (
           replicate is.0 false ++ true ∷ [],
-          is.1
-              ∙ sym (append_assoc (replicate is.0 false) (true ∷ []) rest),
+          is.1 ∙ sym (append_assoc (replicate is.0 false) (true ∷ []) rest),
         ) in (
           two.0,
           two.1,
-          leaves_trans here rest two.0 first
-              (leaves_trans rest (past_tag rest) two.0 (tag_leaves rest) two.2),
+          leaves_trans here rest two.0 first (leaves_trans rest (past_tag rest) two.0 (tag_leaves rest) two.2),
           two.3,
           two.4,
         )
@@ -180,23 +166,22 @@ module _ (front words next : Bits) (tag : Bool) (fill : ℕ) (quiet : Quiet word
   -- two consecutive EOLs don't end there
   not_two : (found rest : Bits) → Leaves (front ++ true ∷ (tag ∷ behind)) found → after_eol 0 found ≡ Some rest
       → after_eol 0 (past_tag rest) ≡ Some next → ⊥
-  not_two found rest leaves e f = by (suffix_of front (true ∷ (tag ∷ behind)) found leaves)
+  not_two found rest leaves e f = in_each_case (suffix_of front (true ∷ (tag ∷ behind)) found leaves)
     where
       longer : length next < length rest
       longer = omega (arith, after_eol_shorter 0 (past_tag rest) next f, past_tag_shorter rest)
 
-      by : Leaves (true ∷ (tag ∷ behind)) found ⊎ ((more : Bits) × (found ≡ more ++ true ∷ (tag ∷ behind))) → ⊥
-      by (inl (before, split)) = omega (arith, longer, past_first 0 before found rest next e (ap (past 0) (sym split) ∙ next_is))
-      by (inr (more, split)) =
+      in_each_case : Leaves (true ∷ (tag ∷ behind)) found ⊎ ((more : Bits) × (found ≡ more ++ true ∷ (tag ∷ behind))) → ⊥
+      in_each_case (inl (before, split)) =
+          omega (arith, longer, past_first 0 before found rest next e (ap (past 0) (sym split) ∙ next_is))
+      in_each_case (inr (more, split)) =
           let zeros = after_eol_is 0 found rest e in
           let first = first_one zeros.0 rest more (tag ∷ behind) (sym zeros.1 ∙ split) in
-          let sizes : zeros.0 + suc (length rest) ≡ length more + suc (length (tag ∷ behind))
-          = omega (
+          let sizes : zeros.0 + suc (length rest) ≡ length more + suc (length (tag ∷ behind)) = omega (
             arith,
             ap length zeros.1,
             ap length split,
-            length-append (replicate zeros.0 false)
-                (true ∷ rest),
+            length-append (replicate zeros.0 false) (true ∷ rest),
             length-replicate zeros.0 false,
             length-append more (true ∷ (tag ∷ behind)),
           ) in
@@ -295,8 +280,7 @@ tagged above row line (words, inl (is, encodes)) some =
       words = words;
       is = is;
       quiet = quiet_1d White row words encodes;
-      one
-          = holds_1d White row words encodes some;
+      one = holds_1d White row words encodes some;
     }
 tagged above row line (words, inr (is, encodes)) some = record {
   tag = false;
@@ -314,13 +298,13 @@ last_line : (columns : ℕ) (reference : Row) (rows : List Row) (bits : Bits) �
     → EncodesRowsWithEols Group3_2D reference rows bits → (bits ≡ []) ⊎ LastLine bits
 last_line columns reference [] bits wide widths is = inl is
 last_line columns reference (row ∷ rows) bits wide widths (fill, line, next, encodes, more, split) =
-    by (last_line columns row rows next wide (All-tail (λ row. length row ≡ columns) row rows widths) more)
+    in_each_case (last_line columns row rows next wide (All-tail (λ row. length row ≡ columns) row rows widths) more)
   where
     some : 0 < length row
     some = omega (arith, wide, All-head (λ row. length row ≡ columns) row rows widths)
 
-    by : (next ≡ []) ⊎ LastLine next → (bits ≡ []) ⊎ LastLine bits
-    by (inl e) = inr (
+    in_each_case : (next ≡ []) ⊎ LastLine next → (bits ≡ []) ⊎ LastLine bits
+    in_each_case (inl e) = inr (
       [],
       line,
       fill,
@@ -328,7 +312,7 @@ last_line columns reference (row ∷ rows) bits wide widths (fill, line, next, e
           ∙ ap (λ (b : Bits). eol fill ++ b) (append-nil line),
       tagged reference row line encodes some,
     )
-    by (inr (before, last, fill2, e, is)) =
+    in_each_case (inr (before, last, fill2, e, is)) =
         inr (
           eol fill ++ (line ++ before),
           last,
@@ -384,17 +368,16 @@ module _ (settings : DecodeSettings) (encoding : settings.encoding ≡ Group3_2D
         longer,
         length-drop end whole,
         le2,
-        length-append (front ++ eol fill)
-            (line ++ next),
+        length-append (front ++ eol fill) (line ++ next),
         length-append line next,
       )
 
   read_before : (other read : Row) (rest : Bits) → line_here settings other (line ++ next) ≡ Line.whole read rest
       → length after + 12 ≤ length rest
-  read_before other read rest e = by encodes
+  read_before other read rest e = by_premise encodes
     where
-      by : EncodesLine Group3_2D above row line → length after + 12 ≤ length rest
-      by (words, inl (line_is, encodes)) =
+      by_premise : EncodesLine Group3_2D above row line → length after + 12 ≤ length rest
+      by_premise (words, inl (line_is, encodes)) =
           let len : length {A = Bool} [] + length row ≡ settings.columns = omega (arith, width) in
           let read_1d : line_here settings other (line ++ next) ≡ Line.whole row next
           = ap (λ (b : Bits). line_here settings other (b ++ next)) line_is
@@ -403,7 +386,7 @@ module _ (settings : DecodeSettings) (encoding : settings.encoding ≡ Group3_2D
           let same : Line.whole row next ≡ Line.whole read rest = sym read_1d ∙ e in
           let rest_is : next ≡ rest = cc in
           omega (arith, longer, ap length rest_is)
-      by (words, inr (line_is, encodes)) =
+      by_premise (words, inr (line_is, encodes)) =
           omega (
             arith,
             longer,
@@ -429,8 +412,7 @@ module _ (settings : DecodeSettings) (encoding : settings.encoding ≡ Group3_2D
     no_eol = no_eol_in;
     closes = (
       after,
-      ap (after_eol 0) next_on
-          ∙ eol_next,
+      ap (after_eol 0) next_on ∙ eol_next,
       λ so_far reached here read rest e. read_before (row_before settings.columns so_far.rows) read rest
           (ap (line_here settings (row_before settings.columns so_far.rows)) (sym (here ∙ line_on)) ∙ e),
     );
@@ -440,8 +422,7 @@ module _ (settings : DecodeSettings) (encoding : settings.encoding ≡ Group3_2D
       sizes = omega (
         arith,
         length-append front (eol fill),
-        length-append (replicate (11 + fill) false)
-            (true ∷ []),
+        length-append (replicate (11 + fill) false) (true ∷ []),
         length-replicate (11 + fill) false,
       )
 
@@ -462,17 +443,16 @@ module _ (settings : DecodeSettings) (encoding : settings.encoding ≡ Group3_2D
 
 -- the tag behind lines of an encoding is a line's
 few_tags : (front line : Bits) (fill : ℕ) → (front ≡ []) ⊎ LastLine front → (here : Bits) (count : ℕ)
-    → Leaves ((front ++ eol fill) ++ line) here
-    → all_tagged here ≡ (count, line) → count < 6
-few_tags front line fill (inl none) here count leaves e = by count e
+    → Leaves ((front ++ eol fill) ++ line) here → all_tagged here ≡ (count, line) → count < 6
+few_tags front line fill (inl none) here count leaves e = by_count count e
   where
     first : Leaves (eol fill ++ line) here
     first = subst (λ (b : Bits). Leaves ((b ++ eol fill) ++ line) here) none leaves
 
-    by : (count : ℕ) → all_tagged here ≡ (count, line) → count < 6
-    by zero e = omega arith
-    by (suc zero) e = omega arith
-    by (suc (suc count)) e =
+    by_count : (count : ℕ) → all_tagged here ≡ (count, line) → count < 6
+    by_count zero e = omega arith
+    by_count (suc zero) e = omega arith
+    by_count (suc (suc count)) e =
         let two = last_two (suc (length here)) count here line (omega arith) e in
         let at = leaves_trans (eol fill ++ line) here two.0 first two.2 in
         let next : past 0 (at.0 ++ two.0) ≡ Some line = ap (past 0) (sym at.1)

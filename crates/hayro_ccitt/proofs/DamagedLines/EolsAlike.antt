@@ -1,15 +1,12 @@
 -- EOLs of two data that are equal up to one position, where an EOL ends and none begins.
-use Rattle.std.proofs.Common.{◌≡◌, ℕ, zero, suc, ◌<◌, ◌≤◌, Bool, true, false, cond, leb, [], ◌∷◌, ◌++◌, length, replicate, Option, Some, None}
-use Rattle.std.proofs.Common.{refl, sym, ap, ◌∙◌, append_assoc, arith, ◌⊎◌, inl, inr}
-use Rattle.std.proofs.lemmas.Bool.{lt-leb}
-use Rattle.std.proofs.lemmas.List.{length-append}
-use Rattle.hayro_ccitt.specs.Bits.{Bits}
-use Rattle.hayro_ccitt.specs.EndOfLine.{after_eol, all_eols, past_tag, pass_last_tag}
-use Rattle.hayro_ccitt.proofs.DamagedLines.PastEol.{past, all_eols-some, all_eols-none, all_tagged, all_tagged-some, all_tagged-none}
+use Rattle.hayro_ccitt.proofs.Names.{◌≡◌, ℕ, zero, suc, ◌<◌, ◌≤◌, Bool, true, false, cond, leb, [], ◌∷◌, ◌++◌, length, replicate}
+use Rattle.hayro_ccitt.proofs.Names.{Option, Some, None, refl, sym, ap, ◌∙◌, append_assoc, arith, ◌⊎◌, inl, inr, lt-leb}
+use Rattle.hayro_ccitt.proofs.Names.{length-append, Bits, after_eol, all_eols, past_tag, pass_last_tag, common_steps}
 use Rattle.hayro_ccitt.proofs.BitReading.ZerosInWords.{scan, scan_holds}
 use Rattle.hayro_ccitt.proofs.DamagedLines.LinesBeforeEol.{Inside}
+use Rattle.hayro_ccitt.proofs.DamagedLines.PastEol.{past, all_eols-some, all_eols-none, all_tagged, all_tagged-some}
+use Rattle.hayro_ccitt.proofs.DamagedLines.PastEol.{all_tagged-none}
 use Rattle.hayro_ccitt.proofs.DrawingLines.LinesLeaveBits.{Leaves, leaves_trans}
-use Rattle.std.proofs.lemmas.Grind.{common_steps}
 
 -- bits that end with the zeros of an EOL
 abbrev pub Closes : Bits → Type 0
@@ -27,11 +24,13 @@ pub closes_after : (before after first : Bits) → before ++ true ∷ after ≡ 
 closes_after [] after [] e = absurd cc
 closes_after [] after (b ∷ first) e = (first, cc)
 closes_after (b ∷ before) after [] e = absurd (no_one 11 (b ∷ before) after e)
-closes_after (b ∷ before) after (c ∷ first) e = closes_after before after first (let f : before ++ true ∷ after ≡ first ++ replicate 11 false = cc in f)
+closes_after (b ∷ before) after (c ∷ first) e =
+    closes_after before after first (let f : before ++ true ∷ after ≡ first ++ replicate 11 false = cc in f)
 
 -- what ends with eleven zeros contains them
 pub closes_inside : (bits : Bits) → Closes bits → Inside bits
-closes_inside bits closes = record { holds = ap (scan 3) closes.1 ∙ scan_holds 3 closes.0 [] (omega arith); last = ([], closes.0, closes.1) }
+closes_inside bits closes =
+    record { holds = ap (scan 3) closes.1 ∙ scan_holds 3 closes.0 [] (omega arith); last = ([], closes.0, closes.1) }
 
 -- what follows a one within them ends in them too
 pub inside_after : (bits before after : Bits) → Inside bits → bits ≡ before ++ true ∷ after → Closes after
@@ -60,26 +59,28 @@ last_tag_few count (false ∷ here) few = refl
 module _ (x y : Bits) where
   -- what follows an EOL: within the equal bits; or just past them; or there is none
   abbrev pub EolAlike : Bits → Option Bits → Option Bits → Type 0
-  EolAlike bits o p = ((before after : Bits) × (bits ≡ before ++ true ∷ after) × (o ≡ Some (after ++ true ∷ x)) × (p ≡ Some (after ++ true ∷ y)))
-      ⊎ (((o ≡ Some x) × (p ≡ Some y)) ⊎ ((o ≡ None) × (p ≡ None)))
+  EolAlike bits o p = ((before after : Bits) × (bits ≡ before ++ true ∷ after) × (o ≡ Some (after ++ true ∷ x))
+      × (p ≡ Some (after ++ true ∷ y))) ⊎ (((o ≡ Some x) × (p ≡ Some y)) ⊎ ((o ≡ None) × (p ≡ None)))
 
   -- an EOL before the one in the one data is there in the other
-  pub after_eol_alike : (seen : ℕ) (bits : Bits) → EolAlike bits (after_eol seen (bits ++ true ∷ x)) (after_eol seen (bits ++ true ∷ y))
+  pub after_eol_alike : (seen : ℕ) (bits : Bits)
+      → EolAlike bits (after_eol seen (bits ++ true ∷ x)) (after_eol seen (bits ++ true ∷ y))
   after_eol_alike seen [] = grind (arith, common_steps)
   after_eol_alike seen (false ∷ bits) = elim (after_eol_alike (suc seen) bits) [
     | inl a ↦ inl (false ∷ a.0, a.1, ap (λ (z : Bits). false ∷ z) a.2, a.3, a.4)
     | inr a ↦ inr a
   ]
-  after_eol_alike seen (true ∷ bits) = by (leb 11 seen)
+  after_eol_alike seen (true ∷ bits) = either_way (leb 11 seen)
     where
-      by : (b : Bool) → EolAlike (true ∷ bits) (cond b (Some (bits ++ true ∷ x)) None) (cond b (Some (bits ++ true ∷ y)) None)
-      by true = inl ([], bits, refl, refl, refl)
-      by false = inr (inr (refl, refl))
+      either_way : (b : Bool)
+          → EolAlike (true ∷ bits) (cond b (Some (bits ++ true ∷ x)) None) (cond b (Some (bits ++ true ∷ y)) None)
+      either_way true = inl ([], bits, refl, refl, refl)
+      either_way false = inr (inr (refl, refl))
 
   -- what follows the next EOL: within the equal bits; or just past them; or that of what follows them
   abbrev pub PastAlike : Bits → Option Bits → Option Bits → Type 0
-  PastAlike bits o p = ((before after : Bits) × (bits ≡ before ++ true ∷ after) × (o ≡ Some (after ++ true ∷ x)) × (p ≡ Some (after ++ true ∷ y)))
-      ⊎ (((o ≡ Some x) × (p ≡ Some y)) ⊎ ((o ≡ past 0 x) × (p ≡ past 0 y)))
+  PastAlike bits o p = ((before after : Bits) × (bits ≡ before ++ true ∷ after) × (o ≡ Some (after ++ true ∷ x))
+      × (p ≡ Some (after ++ true ∷ y))) ⊎ (((o ≡ Some x) × (p ≡ Some y)) ⊎ ((o ≡ past 0 x) × (p ≡ past 0 y)))
 
   -- the next EOL ends alike in both
   pub past_alike : (seen : ℕ) (bits : Bits) → PastAlike bits (past seen (bits ++ true ∷ x)) (past seen (bits ++ true ∷ y))
@@ -88,13 +89,13 @@ module _ (x y : Bits) where
     | inl a ↦ inl (false ∷ a.0, a.1, ap (λ (z : Bits). false ∷ z) a.2, a.3, a.4)
     | inr a ↦ inr a
   ]
-  past_alike seen (true ∷ bits) = by (leb 11 seen) (past_alike 0 bits)
+  past_alike seen (true ∷ bits) = either_way (leb 11 seen) (past_alike 0 bits)
     where
-      by : (b : Bool) → PastAlike bits (past 0 (bits ++ true ∷ x)) (past 0 (bits ++ true ∷ y))
+      either_way : (b : Bool) → PastAlike bits (past 0 (bits ++ true ∷ x)) (past 0 (bits ++ true ∷ y))
           → PastAlike (true ∷ bits) (cond b (Some (bits ++ true ∷ x)) (past 0 (bits ++ true ∷ x)))
           (cond b (Some (bits ++ true ∷ y)) (past 0 (bits ++ true ∷ y)))
-      by true on = inl ([], bits, refl, refl, refl)
-      by false on = elim on [
+      either_way true on = inl ([], bits, refl, refl, refl)
+      either_way false on = elim on [
         | inl a ↦ inl (true ∷ a.0, a.1, ap (λ (z : Bits). true ∷ z) a.2, a.3, a.4)
         | inr a ↦ inr a
       ]
@@ -109,36 +110,39 @@ module _ (x y : Bits) where
   CountAlike bits f g = (f.0 ≡ g.0) × RestAlike bits f.1 g.1
 
   module _ (none_x : after_eol 0 x ≡ None) (none_y : after_eol 0 y ≡ None) where
-    count_for : (n : ℕ) (bits : Bits) → length bits < n → CountAlike bits (all_eols (bits ++ true ∷ x)) (all_eols (bits ++ true ∷ y))
+    count_for : (n : ℕ) (bits : Bits) → length bits < n
+        → CountAlike bits (all_eols (bits ++ true ∷ x)) (all_eols (bits ++ true ∷ y))
     count_for zero bits lt = absurd (omega arith)
-    count_for (suc n) bits lt = by (λ rest small. count_for n rest small) (after_eol 0 (bits ++ true ∷ x)) (after_eol 0 (bits ++ true ∷ y)) refl refl
-        (after_eol_alike 0 bits)
+    count_for (suc n) bits lt = by_after_eol (λ rest small. count_for n rest small) (after_eol 0 (bits ++ true ∷ x))
+        (after_eol 0 (bits ++ true ∷ y)) refl refl (after_eol_alike 0 bits)
       where
-        by : ((rest : Bits) → length rest < n → CountAlike rest (all_eols (rest ++ true ∷ x)) (all_eols (rest ++ true ∷ y))) → (o p : Option Bits)
-            → after_eol 0 (bits ++ true ∷ x) ≡ o → after_eol 0 (bits ++ true ∷ y) ≡ p
+        by_after_eol : ((rest : Bits) → length rest < n → CountAlike rest (all_eols (rest ++ true ∷ x)) (all_eols
+            (rest ++ true ∷ y))) → (o p : Option Bits) → after_eol 0 (bits ++ true ∷ x) ≡ o → after_eol 0 (bits ++ true ∷ y) ≡ p
             → EolAlike bits o p → CountAlike bits (all_eols (bits ++ true ∷ x)) (all_eols (bits ++ true ∷ y))
-        by on o p e f (inl a) =
+        by_after_eol on o p e f (inl a) =
             let shorter = after_shorter bits a.0 a.1 a.2 in
             let more = on a.1 (omega (arith, shorter, lt)) in
-            rw (all_eols-some (bits ++ true ∷ x) (a.1 ++ true ∷ x) (e ∙ a.3), all_eols-some (bits ++ true ∷ y) (a.1 ++ true ∷ y) (f ∙ a.4)) (
+            rw (
+              all_eols-some (bits ++ true ∷ x) (a.1 ++ true ∷ x) (e ∙ a.3),
+              all_eols-some (bits ++ true ∷ y) (a.1 ++ true ∷ y) (f ∙ a.4),
+            ) (
               ap suc more.0,
               elim more.1 [
                 | inl b ↦ inl (
                   b.0,
                   leaves_trans bits a.1 b.0 (leaves_after bits a.0 a.1 a.2) b.1,
-                  λ closes. b.2
-                      (closes_after a.0 a.1 closes.0 (sym a.2 ∙ closes.1)),
+                  λ closes. b.2 (closes_after a.0 a.1 closes.0 (sym a.2 ∙ closes.1)),
                   b.3,
                   b.4,
                 )
                 | inr b ↦ inr b
               ],
             )
-        by on o p e f (inr (inl a)) =
+        by_after_eol on o p e f (inr (inl a)) =
             let step = all_eols-some (bits ++ true ∷ x) x (e ∙ a.0) in
             let step2 = all_eols-some (bits ++ true ∷ y) y (f ∙ a.1) in
             grind (arith, common_steps, all_eols-none x none_x, all_eols-none y none_y, step, step2)
-        by on o p e f (inr (inr a)) =
+        by_after_eol on o p e f (inr (inr a)) =
             rw (all_eols-none (bits ++ true ∷ x) (e ∙ a.0), all_eols-none (bits ++ true ∷ y) (f ∙ a.1))
             (refl, inl (bits, ([], refl), λ closes. closes, refl, refl))
 
@@ -148,8 +152,7 @@ module _ (x y : Bits) where
 
     -- so they are from an EOL on that ends among the equal bits
     pub eols_found : (bits found other : Bits) → after_eol 0 found ≡ Some (bits ++ true ∷ x)
-        → after_eol 0 other ≡ Some (bits ++ true ∷ y)
-        → CountAlike bits (all_eols found) (all_eols other)
+        → after_eol 0 other ≡ Some (bits ++ true ∷ y) → CountAlike bits (all_eols found) (all_eols other)
     eols_found bits found other e f =
         let more = all_eols_alike bits in
         rw (all_eols-some found (bits ++ true ∷ x) e, all_eols-some other (bits ++ true ∷ y) f) (ap suc more.0, more.1)
@@ -164,47 +167,45 @@ module _ (x y : Bits) where
       past_tag_alike : (bits : Bits) → TagAlike bits (past_tag (bits ++ true ∷ x)) (past_tag (bits ++ true ∷ y))
       past_tag_alike [] = ([], ([], refl), λ closes. closes, rw (none_x, past_tag) refl, rw (none_y, past_tag) refl)
       past_tag_alike (false ∷ bits) = (false ∷ bits, ([], refl), λ closes. closes, refl, refl)
-      past_tag_alike (true ∷ bits) = by (after_eol 0 (bits ++ true ∷ x)) (after_eol 0 (bits ++ true ∷ y)) refl refl
+      past_tag_alike (true ∷ bits) = by_after_eol (after_eol 0 (bits ++ true ∷ x)) (after_eol 0 (bits ++ true ∷ y)) refl refl
           (after_eol_alike 0 bits)
         where
           behind : Closes (true ∷ bits) → Closes bits
           behind closes = closes_after [] bits closes.0 closes.1
 
-          by : (o p : Option Bits) → after_eol 0 (bits ++ true ∷ x) ≡ o → after_eol 0 (bits ++ true ∷ y) ≡ p
+          by_after_eol : (o p : Option Bits) → after_eol 0 (bits ++ true ∷ x) ≡ o → after_eol 0 (bits ++ true ∷ y) ≡ p
               → EolAlike bits o p → TagAlike (true ∷ bits) (past_tag (true ∷ bits ++ true ∷ x))
               (past_tag (true ∷ bits ++ true ∷ y))
-          by o p e f (inl a) = (bits, (true ∷ [], refl), behind, rw (e ∙ a.3, past_tag) refl, rw (f ∙ a.4, past_tag) refl)
-          by o p e f (inr (inl a)) = (bits, (true ∷ [], refl), behind, rw (e ∙ a.0, past_tag) refl, rw (f ∙ a.1, past_tag) refl)
-          by o p e f (inr (inr a)) = (
+          by_after_eol o p e f (inl a) =
+              (bits, (true ∷ [], refl), behind, rw (e ∙ a.3, past_tag) refl, rw (f ∙ a.4, past_tag) refl)
+          by_after_eol o p e f (inr (inl a)) =
+              (bits, (true ∷ [], refl), behind, rw (e ∙ a.0, past_tag) refl, rw (f ∙ a.1, past_tag) refl)
+          by_after_eol o p e f (inr (inr a)) = (
             true ∷ bits,
             ([], refl),
             λ closes. closes,
             rw (e ∙ a.0, past_tag) refl,
-            rw
-                (f ∙ a.1, past_tag) refl,
+            rw (f ∙ a.1, past_tag) refl,
           )
 
       -- consecutive EOLs with their tags
       tagged_for : (n : ℕ) (bits : Bits) → length bits < n
           → CountAlike bits (all_tagged (bits ++ true ∷ x)) (all_tagged (bits ++ true ∷ y))
       tagged_for zero bits lt = absurd (omega arith)
-      tagged_for (suc n) bits lt = by (λ rest small. tagged_for n rest small) (after_eol 0 (bits ++ true ∷ x))
-          (after_eol 0 (bits ++ true ∷ y)) refl refl
-          (after_eol_alike 0 bits)
+      tagged_for (suc n) bits lt = by_after_eol (λ rest small. tagged_for n rest small) (after_eol 0 (bits ++ true ∷ x))
+          (after_eol 0 (bits ++ true ∷ y)) refl refl (after_eol_alike 0 bits)
         where
-          by : ((rest : Bits) → length rest < n → CountAlike rest (all_tagged (rest ++ true ∷ x)) (all_tagged (rest ++ true ∷ y)))
-              → (o p : Option Bits)
-              → after_eol 0 (bits ++ true ∷ x) ≡ o → after_eol 0 (bits ++ true ∷ y) ≡ p
+          by_after_eol : ((rest : Bits) → length rest < n → CountAlike rest (all_tagged (rest ++ true ∷ x)) (all_tagged
+              (rest ++ true ∷ y))) → (o p : Option Bits) → after_eol 0 (bits ++ true ∷ x) ≡ o → after_eol 0 (bits ++ true ∷ y) ≡ p
               → EolAlike bits o p → CountAlike bits (all_tagged (bits ++ true ∷ x)) (all_tagged (bits ++ true ∷ y))
-          by on o p e f (inl a) =
+          by_after_eol on o p e f (inl a) =
               let shorter = after_shorter bits a.0 a.1 a.2 in
               let tag = past_tag_alike a.1 in
               let more = on tag.0 (omega (arith, shorter, leaves_length a.1 tag.0 tag.1, lt)) in
               let keeps : Closes bits → Closes tag.0 = λ closes. tag.2 (closes_after a.0 a.1 closes.0 (sym a.2 ∙ closes.1)) in
               rw (
                 all_tagged-some (bits ++ true ∷ x) (a.1 ++ true ∷ x) (e ∙ a.3),
-                all_tagged-some (bits ++ true ∷ y)
-                    (a.1 ++ true ∷ y) (f ∙ a.4),
+                all_tagged-some (bits ++ true ∷ y) (a.1 ++ true ∷ y) (f ∙ a.4),
                 tag.3,
                 tag.4,
               ) (
@@ -212,8 +213,7 @@ module _ (x y : Bits) where
                 elim more.1 [
                   | inl b ↦ inl (
                     b.0,
-                    leaves_trans bits a.1 b.0 (leaves_after bits a.0 a.1 a.2)
-                        (leaves_trans a.1 tag.0 b.0 tag.1 b.1),
+                    leaves_trans bits a.1 b.0 (leaves_after bits a.0 a.1 a.2) (leaves_trans a.1 tag.0 b.0 tag.1 b.1),
                     λ closes. b.2 (keeps closes),
                     b.3,
                     b.4,
@@ -221,7 +221,7 @@ module _ (x y : Bits) where
                   | inr b ↦ inr b
                 ],
               )
-          by on o p e f (inr (inl a)) =
+          by_after_eol on o p e f (inr (inl a)) =
               rw (
                 all_tagged-some (bits ++ true ∷ x) x (e ∙ a.0),
                 all_tagged-some (bits ++ true ∷ y) y (f ∙ a.1),
@@ -230,7 +230,7 @@ module _ (x y : Bits) where
                 all_tagged-none x none_x,
                 all_tagged-none y none_y,
               ) (refl, inr (refl, refl))
-          by on o p e f (inr (inr a)) =
+          by_after_eol on o p e f (inr (inr a)) =
               rw (all_tagged-none (bits ++ true ∷ x) (e ∙ a.0), all_tagged-none (bits ++ true ∷ y) (f ∙ a.1))
               (refl, inl (bits, ([], refl), λ closes. closes, refl, refl))
 
@@ -240,8 +240,7 @@ module _ (x y : Bits) where
 
       -- so they are from an EOL on that ends among the equal bits
       pub tagged_found : (bits found other : Bits) → after_eol 0 found ≡ Some (bits ++ true ∷ x)
-          → after_eol 0 other ≡ Some (bits ++ true ∷ y)
-          → CountAlike bits (all_tagged found) (all_tagged other)
+          → after_eol 0 other ≡ Some (bits ++ true ∷ y) → CountAlike bits (all_tagged found) (all_tagged other)
       tagged_found bits found other e f =
           let tag = past_tag_alike bits in
           let more = all_tagged_alike tag.0 in
@@ -256,35 +255,34 @@ module _ (x y : Bits) where
       -- so they are after the tag of RTC, unless it is the one with which the different bits begin
       pub last_tag_alike : (bits : Bits) (f g : ℕ × Bits) → CountAlike bits f g → ((count : ℕ) → f ≡ (count, x) → count < 6)
           → ((count : ℕ) → g ≡ (count, y) → count < 6) → CountAlike bits (pass_last_tag f) (pass_last_tag g)
-      last_tag_alike bits (n, here) (m, there) (same, inl ([], le, keeps, e, f)) few_x few_y = rw (← same, e, f) (by (leb 6 n))
+      last_tag_alike bits (n, here) (m, there) (same, inl ([], le, keeps, e, f)) few_x few_y =
+          rw (← same, e, f) (either_way (leb 6 n))
         where
-          by : (b : Bool) → CountAlike bits (cond b (n, x) (n, true ∷ x)) (cond b (n, y) (n, true ∷ y))
-          by true = (refl, inr (refl, refl))
-          by false = (refl, inl ([], le, keeps, refl, refl))
+          either_way : (b : Bool) → CountAlike bits (cond b (n, x) (n, true ∷ x)) (cond b (n, y) (n, true ∷ y))
+          either_way true = (refl, inr (refl, refl))
+          either_way false = (refl, inl ([], le, keeps, refl, refl))
       last_tag_alike bits (n, here) (m, there) (same, inl (false ∷ rest, le, keeps, e, f)) few_x few_y =
           rw (← same, e, f) (refl, inl (false ∷ rest, le, keeps, refl, refl))
       last_tag_alike bits (n, here) (m, there) (same, inl (true ∷ rest, le, keeps, e, f)) few_x few_y = rw (← same, e, f)
-          (by (leb 6 n))
+          (either_way (leb 6 n))
         where
-          by : (b : Bool) → CountAlike bits (cond b (n, rest ++ true ∷ x) (n, true ∷ rest ++ true ∷ x))
+          either_way : (b : Bool) → CountAlike bits (cond b (n, rest ++ true ∷ x) (n, true ∷ rest ++ true ∷ x))
               (cond b (n, rest ++ true ∷ y) (n, true ∷ rest ++ true ∷ y))
-          by true = (
+          either_way true = (
             refl,
             inl (
               rest,
               leaves_trans bits (true ∷ rest) rest le (true ∷ [], refl),
-              λ closes. let c
-                  = keeps closes in closes_after [] rest c.0 c.1,
+              λ closes. let c = keeps closes in closes_after [] rest c.0 c.1,
               refl,
               refl,
             ),
           )
-          by false = (refl, inl (true ∷ rest, le, keeps, refl, refl))
+          either_way false = (refl, inl (true ∷ rest, le, keeps, refl, refl))
       last_tag_alike bits (n, here) (m, there) (same, inr (e, f)) few_x few_y =
           rw (
             e,
             f,
             last_tag_few n x (few_x n (ap (λ (b : Bits). (n, b)) e)),
-            last_tag_few m y
-                (few_y m (ap (λ (b : Bits). (m, b)) f)),
+            last_tag_few m y (few_y m (ap (λ (b : Bits). (m, b)) f)),
           ) (same, inr (refl, refl))

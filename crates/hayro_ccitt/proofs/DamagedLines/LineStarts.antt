@@ -1,47 +1,42 @@
 -- Where lines begin, by positions.
-use Rattle.std.proofs.Common.{◌≡◌, ℕ, zero, suc, ◌+◌, ◌<◌, ◌≤◌, Bool, true, false, cond, not, ◌&&◌, leb, List, [], ◌∷◌, ◌++◌, length, take, drop}
-use Rattle.std.proofs.Common.{replicate, Option, Some, None, refl, sym, ap, subst, ◌∙◌, append_assoc, arith, ◌⊎◌, inl, inr}
-use Rattle.std.specs.Prelude.{Contains, All, is_some}
-use Rattle.std.proofs.lemmas.Bool.{cases_lt, le-leb, leb-true, and_parts, and_from, not-true, not_from_false}
-use Rattle.std.proofs.lemmas.List.{length-append, length-drop, take-append-drop, length-replicate, append_cancel_left}
-use Rattle.std.proofs.lemmas.List.Elements.{Contains-append_left, Contains-append_right, Contains-append_cases, All-nil, All-append, All-weaker}
-use Rattle.hayro_ccitt.specs.Bits.{Bits}
-use Rattle.hayro_ccitt.specs.EndOfLine.{after_eol, all_eols}
-use Rattle.hayro_ccitt.specs.PlainReading.{at_end}
-use Rattle.hayro_ccitt.specs.Locality.{begins_line, later_starts, starts, IsStart, Descends, StartsAre}
+use Rattle.hayro_ccitt.proofs.Names.{◌≡◌, ℕ, zero, suc, ◌+◌, ◌<◌, ◌≤◌, Bool, true, false, cond, not, ◌&&◌, leb, List, [], ◌∷◌}
+use Rattle.hayro_ccitt.proofs.Names.{◌++◌, length, take, drop, replicate, Option, Some, None, refl, sym, ap, subst, ◌∙◌}
+use Rattle.hayro_ccitt.proofs.Names.{append_assoc, arith, ◌⊎◌, inl, inr, Contains, All, is_some, cases_lt, le-leb, leb-true}
+use Rattle.hayro_ccitt.proofs.Names.{and_parts, and_from, not-true, not_from_false, length-append, length-drop, take-append-drop}
+use Rattle.hayro_ccitt.proofs.Names.{length-replicate, append_cancel_left, Contains-append_left, Contains-append_right}
+use Rattle.hayro_ccitt.proofs.Names.{Contains-append_cases, All-nil, All-append, All-weaker, Bits, after_eol, all_eols, at_end}
+use Rattle.hayro_ccitt.proofs.Names.{begins_line, later_starts, starts, IsStart, Descends, StartsAre, common_steps}
+use Rattle.hayro_ccitt.proofs.{BitReading.ZerosInWords.prefix_of_prefix, DrawingLines.LinesLeaveBits.Leaves}
+use Rattle.hayro_ccitt.proofs.DamagedLines.LineTails.{after_eol_is, first_one, drop_at}
 use Rattle.hayro_ccitt.proofs.DamagedLines.PastEol.{all_eols-some, all_eols-none}
 use Rattle.hayro_ccitt.proofs.Readings.TurnsMoveOn.{after_eol_shorter, eol_of}
-use Rattle.hayro_ccitt.proofs.BitReading.ZerosInWords.{prefix_of_prefix}
-use Rattle.hayro_ccitt.proofs.DrawingLines.LinesLeaveBits.{Leaves}
-use Rattle.hayro_ccitt.proofs.DamagedLines.LineTails.{after_eol_is, first_one, drop_at}
-use Rattle.std.proofs.lemmas.Grind.{common_steps}
 
 -- ---- Later starts come in order
 later_below : (seen : ℕ) (here : Bits) → All (λ other. length other < length here) (later_starts seen here)
 later_below seen [] = All-nil (λ other. length other < 0)
 later_below seen (false ∷ here) = grind (arith, common_steps, later_below (suc seen) here)
 later_below seen (true ∷ here) =
-    All-append (λ other. length other < suc (length here)) (cond (leb 11 seen && begins_line here) (here ∷ []) []) (later_starts 0 here)
-    (by (leb 11 seen && begins_line here))
-    (All-weaker (λ other. length other < length here) (λ other. length other < suc (length here)) (λ other lt. omega arith) (later_starts 0 here)
-    (later_below 0 here))
+    All-append (λ other. length other < suc (length here)) (cond (leb 11 seen && begins_line here) (here ∷ []) [])
+    (later_starts 0 here) (either_way (leb 11 seen && begins_line here)) (All-weaker (λ other. length other < length here)
+    (λ other. length other < suc (length here)) (λ other lt. omega arith) (later_starts 0 here) (later_below 0 here))
   where
-    by : (b : Bool) → All (λ other. length other < suc (length here)) (cond {A = List Bits} b (here ∷ []) [])
-    by b = grind (arith, common_steps)
+    either_way : (b : Bool) → All (λ other. length other < suc (length here)) (cond {A = List Bits} b (here ∷ []) [])
+    either_way b = grind (arith, common_steps)
 
 later_descends : (seen : ℕ) (here : Bits) → Descends (later_starts seen here)
 later_descends seen [] = tt
 later_descends seen (false ∷ here) = later_descends (suc seen) here
-later_descends seen (true ∷ here) = by (leb 11 seen && begins_line here) (later_descends 0 here)
+later_descends seen (true ∷ here) = either_way (leb 11 seen && begins_line here) (later_descends 0 here)
   where
-    by : (b : Bool) → Descends (later_starts 0 here) → Descends (cond b (here ∷ []) [] ++ later_starts 0 here)
-    by b d = grind (arith, common_steps, later_below)
+    either_way : (b : Bool) → Descends (later_starts 0 here) → Descends (cond b (here ∷ []) [] ++ later_starts 0 here)
+    either_way b d = grind (arith, common_steps, later_below)
 
 -- ---- An EOL ends at each, and none begins
 
 -- an EOL that ends further on, given the number of zeros just before
 abbrev EndsLater : ℕ → Bits → Bits → Type 0
-EndsLater seen here end = (at : Bits) × Leaves (replicate seen false ++ here) at × (after_eol 0 at ≡ Some end) × (length end < length here)
+EndsLater seen here end =
+    (at : Bits) × Leaves (replicate seen false ++ here) at × (after_eol 0 at ≡ Some end) × (length end < length here)
 
 zeros_along : (seen : ℕ) (here : Bits) → replicate (suc seen) false ++ here ≡ replicate seen false ++ false ∷ here
 zeros_along zero here = refl
@@ -53,20 +48,22 @@ contains_one here other given = grind (arith, common_steps)
 contains_none : (other : Bits) → Contains {X = Bits} [] other → ⊥
 contains_none other (k, lt, e) = absurd (omega arith)
 
-from_later : (seen : ℕ) (here end : Bits) → Contains (later_starts seen here) end → EndsLater seen here end × (begins_line end ≡ true)
+from_later : (seen : ℕ) (here end : Bits) → Contains (later_starts seen here) end → EndsLater seen here end
+    × (begins_line end ≡ true)
 from_later seen [] end c = absurd (contains_none end c)
 from_later seen (false ∷ here) end c = grind (arith, common_steps, common_steps, zeros_along, from_later (suc seen) here end c)
 from_later seen (true ∷ here) end c =
-    by (leb 11 seen && begins_line here) refl (from_later 0 here end)
+    by_leb (leb 11 seen && begins_line here) refl (from_later 0 here end)
     (Contains-append_cases (cond (leb 11 seen && begins_line here) (here ∷ []) []) (later_starts 0 here) end c)
   where
-    by : (b : Bool) → (leb 11 seen && begins_line here) ≡ b → (Contains (later_starts 0 here) end → EndsLater 0 here end × (begins_line end ≡ true))
-        → Contains (cond b (here ∷ []) []) end ⊎ Contains (later_starts 0 here) end → EndsLater seen (true ∷ here) end × (begins_line end ≡ true)
-    by true e on (inl found) =
+    by_leb : (b : Bool) → (leb 11 seen && begins_line here) ≡ b → (Contains (later_starts 0 here) end → EndsLater 0 here end
+        × (begins_line end ≡ true)) → Contains (cond b (here ∷ []) []) end ⊎ Contains (later_starts 0 here) end
+        → EndsLater seen (true ∷ here) end × (begins_line end ≡ true)
+    by_leb true e on (inl found) =
         let step = and_parts (leb 11 seen) (begins_line here) e in
         grind (arith, common_steps, step, contains_one here end found, eol_of 0 seen here, leb-true 11 seen)
-    by false e on (inl found) = absurd (contains_none end found)
-    by b e on (inr found) =
+    by_leb false e on (inl found) = absurd (contains_none end found)
+    by_leb b e on (inr found) =
         let f = on found in
         let g = f.0 in (
           (
@@ -91,10 +88,10 @@ shorter_end xs ys us vs e le =
 same_end : (xs ys us vs : Bits) → xs ++ ys ≡ us ++ vs → length ys ≡ length vs → ys ≡ vs
 same_end xs ys us vs e len =
     let f = shorter_end xs ys us vs e (omega (arith, len)) in
-    by f.0 f.1
+    by_ys f.0 f.1
   where
-    by : (before : Bits) → ys ≡ before ++ vs → ys ≡ vs
-    by before g = grind (arith, common_steps)
+    by_ys : (before : Bits) → ys ≡ before ++ vs → ys ≡ vs
+    by_ys before g = grind (arith, common_steps)
 
 to_later : (seen : ℕ) (here end : Bits) → EndsLater seen here end → begins_line end ≡ true → Contains (later_starts seen here) end
 to_later seen [] end (at, leaves, eol, lt) b = absurd (omega arith)
@@ -108,20 +105,23 @@ to_later seen (false ∷ here) end (at, leaves, eol, lt) b =
       eol,
       elim (cases_lt (length end) (length here)) [
         | inl less ↦ less
-        | inr ge ↦ absurd (let same : false ∷ here ≡ true ∷ end
-            = same_end (replicate seen false) (false ∷ here) (leaves.0 ++ replicate is.0 false) (true ∷ end) whole (omega arith) in cc)
+        | inr ge ↦ absurd (let same : false ∷ here ≡ true ∷ end = same_end (replicate seen false) (false ∷ here)
+            (leaves.0 ++ replicate is.0 false) (true ∷ end) whole (omega arith) in cc)
       ],
     ) b
 to_later seen (true ∷ here) end (at, leaves, eol, lt) b = elim (cases_lt (length end) (length here)) [
   | inl less ↦ Contains-append_right (cond (leb 11 seen && begins_line here) (here ∷ []) []) (later_starts 0 here) end
       (to_later 0 here end (at, inside less, eol, less) b)
   | inr ge ↦
-      let same : true ∷ here ≡ true ∷ end = same_end (replicate seen false) (true ∷ here) (leaves.0 ++ replicate is.0 false) (true ∷ end) whole (omega arith) in
+      let same : true ∷ here ≡ true ∷ end =
+      same_end (replicate seen false) (true ∷ here) (leaves.0 ++ replicate is.0 false) (true ∷ end) whole (omega arith) in
       let here_is : here ≡ end = cc in
-      let lengths : length (replicate seen false) + length (true ∷ here) ≡ length (leaves.0 ++ replicate is.0 false) + length (true ∷ end)
-      = sym (length-append (replicate seen false) (true ∷ here)) ∙ ap length whole ∙ length-append (leaves.0 ++ replicate is.0 false) (true ∷ end) in
+      let lengths : length (replicate seen false) + length (true ∷ here) ≡ length (leaves.0 ++ replicate is.0 false)
+      + length (true ∷ end) = sym (length-append (replicate seen false) (true ∷ here)) ∙ ap length whole
+      ∙ length-append (leaves.0 ++ replicate is.0 false) (true ∷ end) in
       let enough : 11 ≤ seen = grind (arith, common_steps, length-append, length-replicate) in
-      let test : (leb 11 seen && begins_line here) ≡ true = and_from (leb 11 seen) (begins_line here) (le-leb 11 seen enough) (ap begins_line here_is ∙ b) in
+      let test : (leb 11 seen && begins_line here) ≡ true =
+      and_from (leb 11 seen) (begins_line here) (le-leb 11 seen enough) (ap begins_line here_is ∙ b) in
       Contains-append_left (cond (leb 11 seen && begins_line here) (here ∷ []) []) (later_starts 0 here) end
       (subst (λ (t : Bool). Contains (cond t (here ∷ []) []) end) (sym test)
       (subst (λ (h : Bits). Contains (h ∷ []) end) (sym here_is) (0, omega arith, refl)))
@@ -141,7 +141,8 @@ to_later seen (true ∷ here) end (at, leaves, eol, lt) b = elim (cases_lt (leng
           let step2 = first_one is.0 end f.0 here (sym is.1 ∙ f.1) in
           let step3 = length-append f.0 (true ∷ here) in
           omega (arith, less, step2, ap length f.1, step3, ap length is.1, step, length-replicate is.0 false))
-      | inr short ↦ shorter_end (replicate seen false ++ true ∷ []) here leaves.0 at (append_assoc (replicate seen false) (true ∷ []) here ∙ leaves.1) short
+      | inr short ↦ shorter_end (replicate seen false ++ true ∷ []) here leaves.0 at
+          (append_assoc (replicate seen false) (true ∷ []) here ∙ leaves.1) short
     ]
 
 -- ---- The EOLs at the start of the data end with a one
@@ -152,16 +153,18 @@ FirstLeaves bits rest = (front : Bits) × (bits ≡ front ++ rest) × ((front �
 
 first_leaves : (n : ℕ) (bits : Bits) → length bits < n → FirstLeaves bits (all_eols bits).1
 first_leaves zero bits lt = absurd (omega arith)
-first_leaves (suc n) bits lt = by (first_leaves n) (after_eol 0 bits) refl
+first_leaves (suc n) bits lt = by_after_eol (first_leaves n) (after_eol 0 bits) refl
   where
-    by : ((rest : Bits) → length rest < n → FirstLeaves rest (all_eols rest).1) → (o : Option Bits) → after_eol 0 bits ≡ o → FirstLeaves bits (all_eols bits).1
-    by on None e = rw (all_eols-none bits e) ([], refl, inl refl)
-    by on (Some rest) e =
+    by_after_eol : ((rest : Bits) → length rest < n → FirstLeaves rest (all_eols rest).1) → (o : Option Bits)
+        → after_eol 0 bits ≡ o → FirstLeaves bits (all_eols bits).1
+    by_after_eol on None e = rw (all_eols-none bits e) ([], refl, inl refl)
+    by_after_eol on (Some rest) e =
         let is = after_eol_is 0 bits rest e in
         let f = on rest (omega (arith, after_eol_shorter 0 bits rest e)) in
         rw (all_eols-some bits rest e) (
           replicate is.0 false ++ true ∷ f.0,
-          is.1 ∙ ap (λ (b : Bits). replicate is.0 false ++ true ∷ b) f.1 ∙ sym (append_assoc (replicate is.0 false) (true ∷ f.0) (all_eols rest).1),
+          is.1 ∙ ap (λ (b : Bits). replicate is.0 false ++ true ∷ b) f.1
+              ∙ sym (append_assoc (replicate is.0 false) (true ∷ f.0) (all_eols rest).1),
           inr (elim f.2 [
             | inl none ↦ (replicate is.0 false, ap (λ (b : Bits). replicate is.0 false ++ true ∷ b) none)
             | inr more ↦ (
@@ -202,7 +205,8 @@ module _ (bits : Bits) where
         let both = and_parts (not (at_end (drop place bits))) (not (is_some (after_eol 0 (drop place bits)))) f.1 in
         let begins = some_at_end (drop place bits) (not-true (at_end (drop place bits)) both.0) in
         let front : Bits = leaves_first.0 ++ f.0.1.0 in
-        let cut : bits ≡ front ++ f.0.0 = leaves_first.1 ∙ ap (λ (b : Bits). leaves_first.0 ++ b) f.0.1.1 ∙ sym (append_assoc leaves_first.0 f.0.1.0 f.0.0) in
+        let cut : bits ≡ front ++ f.0.0 =
+        leaves_first.1 ∙ ap (λ (b : Bits). leaves_first.0 ++ b) f.0.1.1 ∙ sym (append_assoc leaves_first.0 f.0.1.0 f.0.0) in
         let shorter = after_eol_shorter 0 f.0.0 (drop place bits) f.0.2 in
         let lengths : length bits ≡ length front + length f.0.0 = ap length cut ∙ length-append front f.0.0 in
         inr (
@@ -213,8 +217,7 @@ module _ (bits : Bits) where
             (
               omega (arith, shorter, lengths, length-drop place bits, le),
               le,
-              ap (after_eol 0)
-                  (drop_at bits front f.0.0 (length front) cut refl) ∙ f.0.2,
+              ap (after_eol 0) (drop_at bits front f.0.0 (length front) cut refl) ∙ f.0.2,
             ),
           ),
           not_some (after_eol 0 (drop place bits)) (not-true (is_some (after_eol 0 (drop place bits))) both.1),
@@ -224,8 +227,8 @@ module _ (bits : Bits) where
   has_start : (place : ℕ) → place ≤ length bits → IsStart bits place → Contains (starts bits) (drop place bits)
   has_start place le (inl same) = grind (arith, common_steps, drop_at, first_length, leaves_first)
   has_start place le (inr (later, below, (at, eol), none)) =
-      contains_more (all_eols bits).1 (drop place bits) (later_starts 0 (all_eols bits).1)
-      (to_later 0 (all_eols bits).1 (drop place bits) (drop at bits, inside, eol.2, omega (arith, length-drop place bits, first_length, later, below)) begins)
+      contains_more (all_eols bits).1 (drop place bits) (later_starts 0 (all_eols bits).1) (to_later 0 (all_eols bits).1
+      (drop place bits) (drop at bits, inside, eol.2, omega (arith, length-drop place bits, first_length, later, below)) begins)
     where
       begins : begins_line (drop place bits) ≡ true
       begins = grind (arith, common_steps, and_from, length-drop, more_left, not_from_false)
@@ -239,12 +242,14 @@ module _ (bits : Bits) where
         | inl longer ↦ absurd (before leaves_first.2 longer)
       ]
         where
-          before : (leaves_first.0 ≡ []) ⊎ ((more : Bits) × (leaves_first.0 ≡ more ++ true ∷ [])) → length (all_eols bits).1 < length (drop at bits) → ⊥
+          before : (leaves_first.0 ≡ []) ⊎ ((more : Bits) × (leaves_first.0 ≡ more ++ true ∷ []))
+              → length (all_eols bits).1 < length (drop at bits) → ⊥
           before (inl none_before) longer = omega (arith, longer, ap length none_before, first_length, length-drop at bits)
           before (inr (more, is)) longer =
-              let split : more ++ true ∷ (all_eols bits).1 ≡ take at bits ++ drop at bits = sym (append_assoc more (true ∷ []) (all_eols bits).1)
-              ∙ ap (λ (b : Bits). b ++ (all_eols bits).1) (sym is) ∙ whole in
-              let f = shorter_end (take at bits) (drop at bits) more (true ∷ (all_eols bits).1) (sym split) (omega (arith, longer)) in
+              let split : more ++ true ∷ (all_eols bits).1 ≡ take at bits ++ drop at bits = sym
+              (append_assoc more (true ∷ []) (all_eols bits).1) ∙ ap (λ (b : Bits). b ++ (all_eols bits).1) (sym is) ∙ whole in
+              let f =
+              shorter_end (take at bits) (drop at bits) more (true ∷ (all_eols bits).1) (sym split) (omega (arith, longer)) in
               let zeros_one = after_eol_is 0 (drop at bits) (drop place bits) eol.2 in
               let step = first_one zeros_one.0 (drop place bits) f.0 (all_eols bits).1 (sym zeros_one.1 ∙ f.1) in
               let step2 = length-append (replicate zeros_one.0 false) (true ∷ drop place bits) in
@@ -255,4 +260,7 @@ module _ (bits : Bits) where
 
 -- the law
 pub starts_are : StartsAre
-starts_are bits = (λ place le. (is_start bits place le, has_start bits place le), (later_below 0 (all_eols bits).1, later_descends 0 (all_eols bits).1))
+starts_are bits = (
+  λ place le. (is_start bits place le, has_start bits place le),
+  (later_below 0 (all_eols bits).1, later_descends 0 (all_eols bits).1),
+)

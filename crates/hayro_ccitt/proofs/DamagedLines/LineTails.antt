@@ -1,22 +1,14 @@
 -- What the premises of locality say of the bits from a line on, and of those before it.
-use Rattle.std.proofs.Common.{◌≡◌, ℕ, zero, suc, ◌+◌, ◌-◌, ◌<◌, ◌≤◌, true, false, List, [], ◌∷◌, ◌++◌, length, take, drop, replicate, Option, Some, None}
-use Rattle.std.proofs.Common.{refl, sym, ap, ◌∙◌, append_assoc, arith}
-use Rattle.std.proofs.lemmas.Bool.{cases_lt, lt-leb, le-leb}
-use Rattle.std.proofs.lemmas.List.{length-append, length-take-le, length-drop, length-replicate, take-append-drop, drop-drop}
-use Rattle.hayro_ccitt.specs.declared.settings.DecodeSettings.{DecodeSettings}
-use Rattle.hayro_ccitt.specs.Bits.{Bits, IsPrefix}
-use Rattle.hayro_ccitt.specs.EndOfLine.{after_eol, past_tag}
-use Rattle.hayro_ccitt.specs.Repetition.{Reaches}
-use Rattle.hayro_ccitt.specs.Rows.{Row}
-use Rattle.hayro_ccitt.specs.Lines.{Line}
-use Rattle.hayro_ccitt.specs.PlainReading.{first_line, row_before, line_here, line_of_turn, move_on}
-use Rattle.hayro_ccitt.specs.Locality.{IsEol, IsLocal}
-use Rattle.hayro_ccitt.specs.LocalityByK.{IsTaggedBody}
+use Rattle.hayro_ccitt.proofs.Names.{◌≡◌, ℕ, zero, suc, ◌+◌, ◌-◌, ◌<◌, ◌≤◌, true, false, List, [], ◌∷◌, ◌++◌, length, take, drop}
+use Rattle.hayro_ccitt.proofs.Names.{replicate, Option, Some, None, refl, sym, ap, ◌∙◌, append_assoc, arith, cases_lt, lt-leb}
+use Rattle.hayro_ccitt.proofs.Names.{le-leb, length-append, length-take-le, length-drop, length-replicate, take-append-drop}
+use Rattle.hayro_ccitt.proofs.Names.{drop-drop, DecodeSettings, Bits, IsPrefix, after_eol, past_tag, Reaches, Row, Line}
+use Rattle.hayro_ccitt.proofs.Names.{first_line, row_before, line_here, line_of_turn, move_on, IsEol, IsLocal, IsTaggedBody}
+use Rattle.hayro_ccitt.proofs.Names.{common_steps}
 use Rattle.hayro_ccitt.proofs.DamagedLines.PastEol.{past, past-eol, past_later, next_eol_leaves}
+use Rattle.hayro_ccitt.proofs.DamagedLines.RunsAlike.{IsTail}
 use Rattle.hayro_ccitt.proofs.DamagedLines.SoughtTurns.{sought, rest_of, found_next, line_is}
 use Rattle.hayro_ccitt.proofs.DrawingLines.LinesLeaveBits.{LineLeaves, line_by_leaves}
-use Rattle.hayro_ccitt.proofs.DamagedLines.RunsAlike.{IsTail}
-use Rattle.std.proofs.lemmas.Grind.{common_steps}
 
 -- without a prefix the rest is left
 pub drop_front : {A : Type 0} (front rest : List A) → drop (length front) (front ++ rest) ≡ rest
@@ -32,10 +24,13 @@ pub eol_at_one : (seen : ℕ) (here rest : Bits) → after_eol seen (true ∷ he
 eol_at_one seen here rest e = grind (arith, common_steps)
 
 -- the zeros and the one of an EOL
-pub after_eol_is : (seen : ℕ) (here rest : Bits) → after_eol seen here ≡ Some rest → (k : ℕ) × (here ≡ replicate k false ++ true ∷ rest) × (11 ≤ seen + k)
+pub after_eol_is : (seen : ℕ) (here rest : Bits) → after_eol seen here ≡ Some rest → (k : ℕ)
+    × (here ≡ replicate k false ++ true ∷ rest) × (11 ≤ seen + k)
 after_eol_is seen [] rest e = absurd cc
-after_eol_is seen (false ∷ here) rest e = let f = after_eol_is (suc seen) here rest e in (suc f.0, ap (λ (x : Bits). false ∷ x) f.1, omega (arith, f.2))
-after_eol_is seen (true ∷ here) rest e = let f = eol_at_one seen here rest e in (0, ap (λ (x : Bits). true ∷ x) f.1, omega (arith, f.0))
+after_eol_is seen (false ∷ here) rest e = let f = after_eol_is (suc seen) here rest e in
+    (suc f.0, ap (λ (x : Bits). false ∷ x) f.1, omega (arith, f.2))
+after_eol_is seen (true ∷ here) rest e = let f = eol_at_one seen here rest e in
+    (0, ap (λ (x : Bits). true ∷ x) f.1, omega (arith, f.0))
 
 -- the first one is at or before any other
 pub first_one : (k : ℕ) (rest before after : Bits) → replicate k false ++ true ∷ rest ≡ before ++ true ∷ after → k ≤ length before
@@ -44,16 +39,20 @@ first_one (suc k) rest [] after e = absurd cc
 first_one (suc k) rest (b ∷ before) after e = grind (arith, common_steps, first_one k rest before after)
 
 -- zeros before an EOL belong to it
-pub after_eol_more : (seen more : ℕ) (here rest : Bits) → seen ≤ more → after_eol seen here ≡ Some rest → after_eol more here ≡ Some rest
+pub after_eol_more : (seen more : ℕ) (here rest : Bits) → seen ≤ more → after_eol seen here ≡ Some rest
+    → after_eol more here ≡ Some rest
 after_eol_more seen more [] rest le e = absurd cc
 after_eol_more seen more (false ∷ here) rest le e = after_eol_more (suc seen) (suc more) here rest (omega arith) e
-after_eol_more seen more (true ∷ here) rest le e = let f = eol_at_one seen here rest e in rw (le-leb 11 more (omega (arith, f.0))) (ap Some f.1)
+after_eol_more seen more (true ∷ here) rest le e = let f = eol_at_one seen here rest e in
+    rw (le-leb 11 more (omega (arith, f.0))) (ap Some f.1)
 
 -- an EOL stays one, whatever follows
-pub after_eol-append : (seen : ℕ) (here rest z : Bits) → after_eol seen here ≡ Some rest → after_eol seen (here ++ z) ≡ Some (rest ++ z)
+pub after_eol-append : (seen : ℕ) (here rest z : Bits) → after_eol seen here ≡ Some rest
+    → after_eol seen (here ++ z) ≡ Some (rest ++ z)
 after_eol-append seen [] rest z e = absurd cc
 after_eol-append seen (false ∷ here) rest z e = after_eol-append (suc seen) here rest z e
-after_eol-append seen (true ∷ here) rest z e = let f = eol_at_one seen here rest e in rw (le-leb 11 seen f.0) (ap (λ (b : Bits). Some (b ++ z)) f.1)
+after_eol-append seen (true ∷ here) rest z e = let f = eol_at_one seen here rest e in
+    rw (le-leb 11 seen f.0) (ap (λ (b : Bits). Some (b ++ z)) f.1)
 
 -- if no EOL ends within some bits, the next is the one after them
 pub past_before : (seen : ℕ) (bits z after : Bits) → past seen bits ≡ None → after_eol 0 z ≡ Some after
@@ -107,36 +106,49 @@ module _ (bits : Bits) (from to : ℕ) (after : Bits) (local : IsBody bits from 
   not_within : (before rest : Bits) (k : ℕ) (found : Bits) → line_on ≡ before ++ found → found ≡ replicate k false ++ true ∷ rest
       → after_eol 0 found ≡ Some rest → length before + (k + 1) ≤ to - from → ⊥
   not_within before rest k found e f eol le =
-      grind (arith, common_steps, append_assoc, drop_at bits (take from bits ++ before) found (from + length before), drop_at bits ((take from bits ++ before) ++ (replicate k false ++ true ∷ [])) rest (from + (length before + (k + 1))), front_length, length-append, length-replicate, whole)
+      grind (
+        arith,
+        common_steps,
+        append_assoc,
+        drop_at bits (take from bits ++ before) found (from + length before),
+        drop_at bits ((take from bits ++ before) ++ (replicate k false ++ true ∷ [])) rest (from + (length before + (k + 1))),
+        front_length,
+        length-append,
+        length-replicate,
+        whole,
+      )
 
   -- no EOL ends within the body
   pub none_in_body : past 0 body ≡ None
-  none_in_body = by (past 0 body) refl
+  none_in_body = by_past (past 0 body) refl
     where
-      by : (o : Option Bits) → past 0 body ≡ o → past 0 body ≡ None
-      by None e = e
-      by (Some rest) e =
+      by_past : (o : Option Bits) → past 0 body ≡ o → past 0 body ≡ None
+      by_past None e = e
+      by_past (Some rest) e =
           let next = found_next body rest e in
           let before = next_eol_leaves body next.0 next.1 in
           let is = after_eol_is 0 next.0 rest next.2 in
-          let e2 : line_on ≡ before.0 ++ (next.0 ++ eol_on) = cut ∙ ap (λ (b : Bits). b ++ eol_on) before.1 ∙ append_assoc before.0 next.0 eol_on in
+          let e2 : line_on ≡ before.0 ++ (next.0 ++ eol_on) =
+          cut ∙ ap (λ (b : Bits). b ++ eol_on) before.1 ∙ append_assoc before.0 next.0 eol_on in
           let f2 : next.0 ++ eol_on ≡ replicate is.0 false ++ true ∷ (rest ++ eol_on) = ap (λ (b : Bits). b ++ eol_on) is.1
           ∙ append_assoc (replicate is.0 false) (true ∷ rest) eol_on in
           grind (arith, common_steps, after_eol-append, body_length, length-append, length-replicate, not_within)
 
   pub no_eol_here : after_eol 0 line_on ≡ None
-  no_eol_here = by (after_eol 0 line_on) refl
+  no_eol_here = by_after_eol (after_eol 0 line_on) refl
     where
-      by : (o : Option Bits) → after_eol 0 line_on ≡ o → after_eol 0 line_on ≡ None
-      by None e = e
-      by (Some rest) e =
+      by_after_eol : (o : Option Bits) → after_eol 0 line_on ≡ o → after_eol 0 line_on ≡ None
+      by_after_eol None e = e
+      by_after_eol (Some rest) e =
           let is = after_eol_is 0 line_on rest e in
           let n : ℕ = local.one.0 - from in
           let sum : from + n ≡ local.one.0 = omega (arith, local.one.1) in
-          let there : drop n line_on ≡ true ∷ local.one.3.0 = drop-drop n from bits ∙ ap (λ (k : ℕ). drop k bits) sum ∙ local.one.3.1 in
-          let split : replicate is.0 false ++ true ∷ rest ≡ take n line_on ++ true ∷ local.one.3.0 = sym is.1 ∙ sym (take-append-drop n line_on)
-          ∙ ap (λ (b : Bits). take n line_on ++ b) there in
-          let short : length (take n line_on) ≡ n = length-take-le n line_on (omega (arith, length-drop from bits, local.one.1, local.one.2, local.within)) in
+          let there : drop n line_on ≡ true ∷ local.one.3.0 =
+          drop-drop n from bits ∙ ap (λ (k : ℕ). drop k bits) sum ∙ local.one.3.1 in
+          let split : replicate is.0 false ++ true ∷ rest ≡ take n line_on ++ true ∷ local.one.3.0 =
+          sym is.1 ∙ sym (take-append-drop n line_on) ∙ ap (λ (b : Bits). take n line_on ++ b) there in
+          let short : length (take n line_on) ≡ n =
+          length-take-le n line_on (omega (arith, length-drop from bits, local.one.1, local.one.2, local.within)) in
           let first = first_one is.0 rest (take n line_on) local.one.3.0 split in
           absurd (not_within [] rest is.0 line_on refl is.1 e (omega (arith, first, short, local.one.1, local.one.2)))
 
@@ -148,11 +160,14 @@ pub line_past_by : (settings : DecodeSettings) (reference : Row) (here after : B
     → ((row : Row) (rest : Bits) → line_here settings reference here ≡ Line.whole row rest → length after + 12 ≤ length rest)
     → past 0 (rest_of (line_here settings reference here) here) ≡ Some after
 line_past_by settings reference here after next stays =
-    by (line_here settings reference here) refl (line_by_leaves settings.encoding settings.strict settings.columns reference here)
+    by_line_here (line_here settings reference here) refl
+    (line_by_leaves settings.encoding settings.strict settings.columns reference here)
   where
-    by : (line : Line) → line_here settings reference here ≡ line → LineLeaves here line → past 0 (rest_of line here) ≡ Some after
-    by (Line.whole row rest) e leaves = past_later 0 leaves.0 rest after (ap (past 0) (sym leaves.1) ∙ next) (stays row rest e)
-    by (Line.broken front fault) e leaves = next
+    by_line_here : (line : Line) → line_here settings reference here ≡ line → LineLeaves here line
+        → past 0 (rest_of line here) ≡ Some after
+    by_line_here (Line.whole row rest) e leaves =
+        past_later 0 leaves.0 rest after (ap (past 0) (sym leaves.1) ∙ next) (stays row rest e)
+    by_line_here (Line.broken front fault) e leaves = next
 
 -- ---- One-dimensional data
 
@@ -213,16 +228,16 @@ is_tagged_tail settings bits from to local =
     record {
       none = no_eol_here bits from to local.closes.0 body;
       next = next_is bits from to local.closes.0 body;
-      tag = λ e. by (drop from bits) refl;
+      tag = λ e. by_drop (drop from bits) refl;
     }
   where
     none : after_eol 0 (drop (suc from) bits) ≡ None
     none = no_eol_here bits (suc from) to local.closes.0 (behind_tag settings bits from to local)
 
-    by : (here : Bits) → drop from bits ≡ here → past_tag here ≡ here
-    by [] e = refl
-    by (false ∷ here) e = refl
-    by (true ∷ here) e =
+    by_drop : (here : Bits) → drop from bits ≡ here → past_tag here ≡ here
+    by_drop [] e = refl
+    by_drop (false ∷ here) e = refl
+    by_drop (true ∷ here) e =
         let next : from + 1 ≡ suc from = omega arith in
         let behind : here ≡ drop (suc from) bits = sym (ap (drop 1) e) ∙ drop-drop 1 from bits
         ∙ ap (λ (n : ℕ). drop n bits) next in

@@ -1,29 +1,18 @@
 -- Lines by EOLs.
-use Rattle.std.proofs.Common.{◌≡◌, ℕ, zero, suc, ◌<◌, Bool, true, false, cond, ◌||◌, eqb, ltb, List, [], ◌∷◌, ◌++◌, length, map, Option, Some}
-use Rattle.std.proofs.Common.{None, Ok, Err, refl, sym, ap, subst, ◌∙◌, append_assoc, arith, ◌⊎◌}
-use Rattle.std.specs.Prelude.{All}
-use Rattle.std.proofs.lemmas.List.Elements.{All-head, All-tail, All-same}
-use Rattle.std.proofs.lemmas.List.{append-nil}
-use Rattle.std.proofs.lemmas.Bool.{cases_lt, lt-leb, le-leb, ne_eqb, and_right, cond-false}
-use Rattle.hayro_ccitt.specs.declared.error.DecodeError.TheVariants.{UnexpectedEof}
-use Rattle.hayro_ccitt.specs.declared.settings.EncodingMode.TheVariants.{Group3_1D}
-use Rattle.hayro_ccitt.specs.declared.settings.DecodeSettings.{DecodeSettings}
-use Rattle.hayro_ccitt.specs.Bits.{Bits, IsPrefix}
-use Rattle.hayro_ccitt.specs.Repetition.{Turn, repeated}
-use Rattle.hayro_ccitt.specs.Rows.{Row}
-use Rattle.hayro_ccitt.specs.Lines.{Line, line_1d}
-use Rattle.hayro_ccitt.specs.EndOfLine.{after_eol, all_eols}
-use Rattle.hayro_ccitt.specs.PlainReading.{Progress, Ending, Move, limit_met, at_end, ends_with, move_on}
-use Rattle.hayro_ccitt.specs.Locality.{begins_line, later_starts, starts, row_at, StaysBefore, IsEolAt, LinesByEols}
-use Rattle.hayro_ccitt.proofs.Readings.Repeated.{after_turn, repeated_turn, repeated_same}
-use Rattle.hayro_ccitt.proofs.Readings.GapsAndRows.{ending_t4}
-use Rattle.hayro_ccitt.proofs.Readings.TurnsMoveOn.{after_eol_shorter, eols_shorter, left_to_read, left_below, move_shrinks}
-use Rattle.hayro_ccitt.proofs.Readings.TurnsAddRows.{Keeps, after_row_keeps, move_adds, repeated_adds}
+use Rattle.hayro_ccitt.proofs.Names.{◌≡◌, ℕ, zero, suc, ◌<◌, Bool, true, false, cond, ◌||◌, eqb, ltb, List, [], ◌∷◌, ◌++◌, length}
+use Rattle.hayro_ccitt.proofs.Names.{map, Option, Some, None, Ok, Err, refl, sym, ap, subst, ◌∙◌, append_assoc, arith, ◌⊎◌, All}
+use Rattle.hayro_ccitt.proofs.Names.{All-head, All-tail, All-same, append-nil, cases_lt, lt-leb, le-leb, ne_eqb, and_right}
+use Rattle.hayro_ccitt.proofs.Names.{cond-false, UnexpectedEof, Group3_1D, DecodeSettings, Bits, IsPrefix, Turn, repeated, Row}
+use Rattle.hayro_ccitt.proofs.Names.{Line, line_1d, after_eol, all_eols, Progress, Ending, Move, limit_met, at_end, ends_with}
+use Rattle.hayro_ccitt.proofs.Names.{move_on, begins_line, later_starts, starts, row_at, StaysBefore, IsEolAt, LinesByEols}
+use Rattle.hayro_ccitt.proofs.Names.{common_steps}
+use Rattle.hayro_ccitt.proofs.{Readings.GapsAndRows.ending_t4, Readings.RowsAndGaps.after_row, Readings.RowsAndGaps.unless_over}
 use Rattle.hayro_ccitt.proofs.DamagedLines.PastEol.{past, past-eol, past_later, all_eols-some}
 use Rattle.hayro_ccitt.proofs.DamagedLines.SoughtTurns.{sought, rest_of, found_next, after_row_past, move_line}
 use Rattle.hayro_ccitt.proofs.DrawingLines.LinesLeaveBits.{line_1d_leaves, LineLeaves}
-use Rattle.hayro_ccitt.proofs.Readings.RowsAndGaps.{unless_over, after_row}
-use Rattle.std.proofs.lemmas.Grind.{common_steps}
+use Rattle.hayro_ccitt.proofs.Readings.Repeated.{after_turn, repeated_turn, repeated_same}
+use Rattle.hayro_ccitt.proofs.Readings.TurnsAddRows.{Keeps, after_row_keeps, move_adds, repeated_adds}
+use Rattle.hayro_ccitt.proofs.Readings.TurnsMoveOn.{after_eol_shorter, eols_shorter, left_to_read, left_below, move_shrinks}
 
 -- what follows the next EOL is shorter
 pub past_shorter : (seen : ℕ) (here after : Bits) → past seen here ≡ Some after → length after < length here
@@ -37,7 +26,8 @@ past_shorter seen (true ∷ here) after e = grind (arith, common_steps, cases_lt
 abbrev own : Bits → List Bits
 own here = cond (begins_line here) (here ∷ []) []
 
-starts-past : (seen : ℕ) (here after : Bits) → past seen here ≡ Some after → later_starts seen here ≡ own after ++ later_starts 0 after
+starts-past : (seen : ℕ) (here after : Bits) → past seen here ≡ Some after
+    → later_starts seen here ≡ own after ++ later_starts 0 after
 starts-past seen [] after e = absurd cc
 starts-past seen (false ∷ here) after e = starts-past (suc seen) here after e
 starts-past seen (true ∷ here) after e = grind (arith, common_steps, cases_lt, le-leb, lt-leb, starts-past 0 here after)
@@ -54,13 +44,13 @@ from_here (b ∷ here) = (b ∷ here) ∷ later_starts 0 (b ∷ here)
 
 starts_after : (n : ℕ) (here : Bits) → length here < n → own here ++ later_starts 0 here ≡ from_here (all_eols here).1
 starts_after zero here lt = absurd (omega arith)
-starts_after (suc n) here lt = by (λ next small. starts_after n next small) (after_eol 0 here) refl
+starts_after (suc n) here lt = by_after_eol (λ next small. starts_after n next small) (after_eol 0 here) refl
   where
-    by : ((next : Bits) → length next < n → own next ++ later_starts 0 next ≡ from_here (all_eols next).1) → (o : Option Bits) → after_eol 0 here ≡ o
-        → own here ++ later_starts 0 here ≡ from_here (all_eols here).1
-    by on (Some next) e =
+    by_after_eol : ((next : Bits) → length next < n → own next ++ later_starts 0 next ≡ from_here (all_eols next).1)
+        → (o : Option Bits) → after_eol 0 here ≡ o → own here ++ later_starts 0 here ≡ from_here (all_eols here).1
+    by_after_eol on (Some next) e =
         grind (arith, common_steps, after_eol_shorter, all_eols-some, and_right, cond-false, past-eol, starts-past)
-    by on None e = grind (arith, common_steps)
+    by_after_eol on None e = grind (arith, common_steps)
 
 -- the later starts are those from the end of the next EOLs on
 pub starts-next : (here after : Bits) → past 0 here ≡ Some after → later_starts 0 here ≡ from_here (all_eols after).1
@@ -69,14 +59,15 @@ starts-next here after e = starts-past 0 here after e ∙ starts_after (suc (len
 -- ---- The next EOL is the same after a line that stays before it
 pub line_past : (columns : ℕ) (here after : Bits) → StaysBefore columns here → past 0 here ≡ Some after
     → past 0 (rest_of (line_1d false columns here) here) ≡ Some after
-line_past columns here after stays e = by (line_1d false columns here) refl (line_1d_leaves false columns here)
+line_past columns here after stays e = by_line_1d (line_1d false columns here) refl (line_1d_leaves false columns here)
   where
-    by : (line : Line) → line_1d false columns here ≡ line → LineLeaves here line → past 0 (rest_of line here) ≡ Some after
-    by (Line.whole row rest) l leaves =
+    by_line_1d : (line : Line) → line_1d false columns here ≡ line → LineLeaves here line
+        → past 0 (rest_of line here) ≡ Some after
+    by_line_1d (Line.whole row rest) l leaves =
         let next = found_next here after e in
         let f : past 0 (leaves.0 ++ rest) ≡ Some after = ap (past 0) (sym leaves.1) ∙ e in
         past_later 0 leaves.0 rest after f (stays next.0 after next.1 next.2 row rest l)
-    by (Line.broken front fault) l leaves = e
+    by_line_1d (Line.broken front fault) l leaves = e
 
 module _ (settings : DecodeSettings) (encoding : settings.encoding ≡ Group3_1D) (lenient : settings.strict ≡ false)
     (no_block : settings.end_of_block ≡ false) (unlimited : settings.rows ≡ 0) (wide : 0 < settings.columns) (late : Ending) where
@@ -96,18 +87,19 @@ module _ (settings : DecodeSettings) (encoding : settings.encoding ≡ Group3_1D
   not_met n = rw unlimited refl
 
   -- only the end ends the run
-  over_is : (rows : List Row) (rest : Bits) (count : ℕ) (here : Bits)
-      → unless_over settings (sought rows rest) (count, here) ≡ cond (at_end here) (ends_with (sought rows rest) (Ok here)) (Turn.next (sought rows here))
+  over_is : (rows : List Row) (rest : Bits) (count : ℕ) (here : Bits) → unless_over settings (sought rows rest) (count, here)
+      ≡ cond (at_end here) (ends_with (sought rows rest) (Ok here)) (Turn.next (sought rows here))
   over_is rows rest count here = rw (no_block, unlimited) refl
 
   -- the rows so far, and those of the lines that begin from here on
-  by_starts : (n : ℕ) (rows : List Row) (here : Bits) → length here < n → All (StaysBefore settings.columns) (here ∷ later_starts 0 here)
-      → IsPrefix (rows ++ map (row_at settings.columns) (here ∷ later_starts 0 here)) (rest_end (sought rows here)).rows
+  by_starts : (n : ℕ) (rows : List Row) (here : Bits) → length here < n → All (StaysBefore settings.columns) (here ∷ later_starts
+      0 here) → IsPrefix (rows ++ map (row_at settings.columns) (here ∷ later_starts 0 here)) (rest_end (sought rows here)).rows
   by_starts zero rows here lt stay = absurd (omega arith)
   by_starts (suc n) rows here lt stay =
       subst (λ (e : Ending). IsPrefix (rows ++ map (row_at settings.columns) (here ∷ later_starts 0 here)) e.rows)
       (sym (repeated_turn (move_on settings) late left_to_read (move_shrinks settings wide) (sought rows here)))
-      (rw (move_line settings encoding lenient rows here) (by (λ rows here small stay. by_starts n rows here small stay) (past 0 here) refl))
+      (rw (move_line settings encoding lenient rows here)
+      (by_past (λ rows here small stay. by_starts n rows here small stay) (past 0 here) refl))
     where
       first : Row
       first = row_at settings.columns here
@@ -115,20 +107,20 @@ module _ (settings : DecodeSettings) (encoding : settings.encoding ≡ Group3_1D
       rest : Bits
       rest = rest_of (line_1d false settings.columns here) here
 
-      by : ((rows : List Row) (here : Bits) → length here < n → All (StaysBefore settings.columns) (here ∷ later_starts 0 here)
-          → IsPrefix (rows ++ map (row_at settings.columns) (here ∷ later_starts 0 here)) (rest_end (sought rows here)).rows)
-          → (o : Option Bits) → past 0 here ≡ o → IsPrefix (rows ++ map (row_at settings.columns) (here ∷ later_starts 0 here))
-          (after_turn rest_end (after_row settings (sought (rows ++ first ∷ []) rest))).rows
-      by on None e = rw (starts-none 0 here e)
+      by_past : ((rows : List Row) (here : Bits) → length here < n → All (StaysBefore settings.columns)
+          (here ∷ later_starts 0 here) → IsPrefix (rows ++ map (row_at settings.columns) (here ∷ later_starts 0 here)) (rest_end
+          (sought rows here)).rows) → (o : Option Bits) → past 0 here ≡ o → IsPrefix (rows ++ map (row_at settings.columns)
+          (here ∷ later_starts 0 here)) (after_turn rest_end (after_row settings (sought (rows ++ first ∷ []) rest))).rows
+      by_past on None e = rw (starts-none 0 here e)
           (turn_extends (rows ++ first ∷ []) (after_row settings (sought (rows ++ first ∷ []) rest))
           (after_row_keeps settings (sought (rows ++ first ∷ []) rest)))
-      by on (Some after) e = go (all_eols after).1 refl
+      by_past on (Some after) e = go (all_eols after).1 refl
         where
           others : List Row
           others = rows ++ first ∷ []
 
-          turn : (there : Bits) → (all_eols after).1 ≡ there
-              → after_row settings (sought others rest) ≡ cond (at_end there) (ends_with (sought others rest) (Ok there)) (Turn.next (sought others there))
+          turn : (there : Bits) → (all_eols after).1 ≡ there → after_row settings (sought others rest)
+              ≡ cond (at_end there) (ends_with (sought others rest) (Ok there)) (Turn.next (sought others there))
           turn there is =
               after_row_past settings encoding lenient others rest after (not_met (length others))
               (line_past settings.columns here after (All-head (StaysBefore settings.columns) here (later_starts 0 here) stay) e)
@@ -140,23 +132,26 @@ module _ (settings : DecodeSettings) (encoding : settings.encoding ≡ Group3_1D
               (after_turn rest_end (after_row settings (sought others rest))).rows
           go [] is =
               let none : later_starts 0 here ≡ [] = starts-next here after e ∙ ap from_here is in
-              subst (λ (m : Move). IsPrefix (rows ++ map (row_at settings.columns) (here ∷ later_starts 0 here)) (after_turn rest_end m).rows) (sym (turn [] is))
-              (rw none ([], sym (append-nil others)))
+              subst (λ (m : Move). IsPrefix (rows ++ map (row_at settings.columns) (here ∷ later_starts 0 here))
+              (after_turn rest_end m).rows) (sym (turn [] is)) (rw none ([], sym (append-nil others)))
           go (b ∷ there) is =
-              let some : later_starts 0 here ≡ (b ∷ there) ∷ later_starts 0 (b ∷ there) = starts-next here after e ∙ ap from_here is in
-              let smaller : length (b ∷ there) < n = omega (arith, lt, past_shorter 0 here after e, eols_shorter (length after) after, ap length is) in
-              let tail = All-same (StaysBefore settings.columns) ((b ∷ there) ∷ later_starts 0 (b ∷ there)) (later_starts 0 here) (sym some)
-              (All-tail (StaysBefore settings.columns) here (later_starts 0 here) stay) in
+              let some : later_starts 0 here ≡ (b ∷ there) ∷ later_starts 0 (b ∷ there) =
+              starts-next here after e ∙ ap from_here is in
+              let smaller : length (b ∷ there) < n =
+              omega (arith, lt, past_shorter 0 here after e, eols_shorter (length after) after, ap length is) in
+              let tail = All-same (StaysBefore settings.columns) ((b ∷ there) ∷ later_starts 0 (b ∷ there)) (later_starts 0 here)
+              (sym some) (All-tail (StaysBefore settings.columns) here (later_starts 0 here) stay) in
               let further = on others (b ∷ there) smaller tail in
-              let all : rows ++ map (row_at settings.columns) (here ∷ later_starts 0 here) ≡ others ++ map (row_at settings.columns)
-              ((b ∷ there) ∷ later_starts 0 (b ∷ there)) = grind (arith, common_steps, append_assoc, map) in
-              subst (λ (m : Move). IsPrefix (rows ++ map (row_at settings.columns) (here ∷ later_starts 0 here)) (after_turn rest_end m).rows)
-              (sym (turn (b ∷ there) is))
+              let all : rows ++ map (row_at settings.columns) (here ∷ later_starts 0 here) ≡ others ++ map (row_at
+              settings.columns) ((b ∷ there) ∷ later_starts 0 (b ∷ there)) = grind (arith, common_steps, append_assoc, map) in
+              subst (λ (m : Move). IsPrefix (rows ++ map (row_at settings.columns) (here ∷ later_starts 0 here))
+              (after_turn rest_end m).rows) (sym (turn (b ∷ there) is))
               (subst (λ (x : List Row). IsPrefix x (rest_end (sought others (b ∷ there))).rows) (sym all) further)
 
   -- the whole run begins at the first of them
   by_run : (run : Progress) (here : Bits) → run ≡ sought [] here → All (StaysBefore settings.columns) (here ∷ later_starts 0 here)
-      → IsPrefix (map (row_at settings.columns) (here ∷ later_starts 0 here)) (repeated (move_on settings) late (suc (suc (length run.rest))) run).rows
+      → IsPrefix (map (row_at settings.columns) (here ∷ later_starts 0 here))
+      (repeated (move_on settings) late (suc (suc (length run.rest))) run).rows
   by_run run here is stay =
       subst (λ (e : Ending). IsPrefix (map (row_at settings.columns) (here ∷ later_starts 0 here)) e.rows)
       (repeated_same (move_on settings) late left_to_read (move_shrinks settings wide) (suc (left_to_read run))
@@ -165,17 +160,20 @@ module _ (settings : DecodeSettings) (encoding : settings.encoding ≡ Group3_1D
       (by_starts (suc (length here)) [] here (omega arith) stay))
 
 -- EOLs are sought from the start
-pub seeks : (bits : Bits) (end_of_line : Bool) → (end_of_line ≡ true) ⊎ IsEolAt bits → (ltb 0 (all_eols bits).0 || end_of_line) ≡ true
+pub seeks : (bits : Bits) (end_of_line : Bool) → (end_of_line ≡ true) ⊎ IsEolAt bits
+    → (ltb 0 (all_eols bits).0 || end_of_line) ≡ true
 seeks bits end_of_line given = grind (arith, common_steps)
 
 -- the law
 pub lines_by_eols : LinesByEols
 lines_by_eols settings bits are encoding lenient no_block unlimited wide sought_by stay =
     let columns : eqb settings.columns 0 ≡ false = ne_eqb settings.columns 0 (λ e. absurd (omega (arith, e, wide))) in
-    let first : Progress = record { rows = []; has_eols = ltb 0 (all_eols bits).0 || settings.end_of_line; rest = (all_eols bits).1 } in
-    let first_is : first ≡ sought [] (all_eols bits).1
-    = ap (λ (b : Bool). record { rows = []; has_eols = b; rest = (all_eols bits).1 }) (seeks bits settings.end_of_line sought_by) in
-    let ends : IsPrefix (map (row_at settings.columns) (starts bits)) (ending_t4 settings bits).rows
-    = by_run settings encoding lenient no_block unlimited wide
-    (record { rows = []; has_eols = ltb 0 (all_eols bits).0 || settings.end_of_line; outcome = Err UnexpectedEof }) first (all_eols bits).1 first_is stay in
+    let first : Progress =
+    record { rows = []; has_eols = ltb 0 (all_eols bits).0 || settings.end_of_line; rest = (all_eols bits).1 } in
+    let first_is : first ≡ sought [] (all_eols bits).1 =
+    ap (λ (b : Bool). record { rows = []; has_eols = b; rest = (all_eols bits).1 }) (seeks bits settings.end_of_line sought_by) in
+    let ends : IsPrefix (map (row_at settings.columns) (starts bits)) (ending_t4 settings bits).rows =
+    by_run settings encoding lenient no_block unlimited wide
+    (record { rows = []; has_eols = ltb 0 (all_eols bits).0 || settings.end_of_line; outcome = Err UnexpectedEof }) first
+    (all_eols bits).1 first_is stay in
     grind (arith, common_steps, ending_t4, map)

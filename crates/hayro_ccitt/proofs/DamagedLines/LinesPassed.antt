@@ -1,25 +1,14 @@
 -- Two-dimensional lines that are passed without their reference rows.
-use Rattle.std.proofs.Common.{◌≡◌, ℕ, zero, suc, ◌+◌, ◌-◌, ◌<◌, ◌≤◌, ◌⊎◌, Bool, cond, true, false, [], ◌∷◌, length, drop, Option, Some, None, Result, Ok, Err}
-use Rattle.std.proofs.Common.{refl, sym, ap, subst, ◌∙◌, arith, inl, inr}
-use Rattle.std.specs.Prelude.{◌↔◌}
-use Rattle.hayro_ccitt.specs.declared.codes.Color.{Color}
-use Rattle.hayro_ccitt.specs.declared.codes.Color.TheVariants.{White}
-use Rattle.hayro_ccitt.specs.declared.codes.Mode.{Mode}
-use Rattle.hayro_ccitt.specs.declared.codes.Mode.TheVariants.{Pass, Horizontal, Vertical}
-use Rattle.hayro_ccitt.specs.declared.error.DecodeError.{DecodeError}
-use Rattle.hayro_ccitt.specs.declared.settings.DecodeSettings.{DecodeSettings}
-use Rattle.hayro_ccitt.specs.declared.settings.EncodingMode.TheVariants.{Group3_2D}
-use Rattle.hayro_ccitt.specs.Bits.{Bits}
-use Rattle.hayro_ccitt.specs.CodeLists.{mode_codes}
-use Rattle.hayro_ccitt.specs.CodeReading.{read_code}
-use Rattle.hayro_ccitt.specs.EndOfLine.{after_eol, next_eol, one_more, pass_last_tag, tagged_eols}
-use Rattle.hayro_ccitt.specs.LocalityByK.{ReadsModes, IsLine2D, ComesBefore1D, ComeBefore1D, IsFollowedBy, behind_mode, behind_read, behind_word, behind_first_run, behind_second_run}
-use Rattle.hayro_ccitt.specs.Rows.{opposite}
-use Rattle.hayro_ccitt.specs.Runs.{read_run}
+use Rattle.hayro_ccitt.proofs.Names.{◌≡◌, ℕ, zero, suc, ◌+◌, ◌-◌, ◌<◌, ◌≤◌, ◌⊎◌, Bool, cond, true, false, [], ◌∷◌, length, drop}
+use Rattle.hayro_ccitt.proofs.Names.{Option, Some, None, Result, Ok, Err, refl, sym, ap, subst, ◌∙◌, arith, inl, inr, ◌↔◌, Color}
+use Rattle.hayro_ccitt.proofs.Names.{White, Mode, Pass, Horizontal, Vertical, DecodeError, DecodeSettings, Group3_2D, Bits}
+use Rattle.hayro_ccitt.proofs.Names.{mode_codes, read_code, after_eol, next_eol, one_more, pass_last_tag, tagged_eols, ReadsModes}
+use Rattle.hayro_ccitt.proofs.Names.{IsLine2D, ComesBefore1D, ComeBefore1D, IsFollowedBy, behind_mode, behind_read, behind_word}
+use Rattle.hayro_ccitt.proofs.Names.{behind_first_run, behind_second_run, opposite, read_run}
 use Rattle.hayro_ccitt.proofs.CodeWords.ReadRuns.{read_code_shorter, run_shorter}
-use Rattle.hayro_ccitt.proofs.DrawingLines.ReadLines.{modes_not_empty}
-use Rattle.hayro_ccitt.proofs.DamagedLines.PastEol.{all_tagged-some, all_tagged-none}
 use Rattle.hayro_ccitt.proofs.DamagedLines.AnyReference.{LeftBehind, left_behind}
+use Rattle.hayro_ccitt.proofs.DamagedLines.PastEol.{all_tagged-some, all_tagged-none}
+use Rattle.hayro_ccitt.proofs.DrawingLines.ReadLines.{modes_not_empty}
 
 -- ---- A mode that is read takes bits
 some_rest : (a b : Color × Bits) → ◌≡◌ {A = Option (Color × Bits)} (Some a) (Some b) → a.1 ≡ b.1
@@ -48,13 +37,13 @@ word_shorter color Horizontal here found e = first_shorter color here (read_run 
 
 pub mode_shorter : (color : Color) (here : Bits) (found : Color × Bits) → behind_mode color here ≡ Some found
     → length found.1 < length here
-mode_shorter color here found e = by (read_code mode_codes here) refl e
+mode_shorter color here found e = by_read_code (read_code mode_codes here) refl e
   where
-    by : (r : Result (Mode × Bits) DecodeError) → read_code mode_codes here ≡ r → behind_read color r ≡ Some found
+    by_read_code : (r : Result (Mode × Bits) DecodeError) → read_code mode_codes here ≡ r → behind_read color r ≡ Some found
         → length found.1 < length here
-    by (Ok (mode, rest)) f g =
+    by_read_code (Ok (mode, rest)) f g =
         omega (arith, read_code_shorter mode_codes here mode rest modes_not_empty f, word_shorter color mode rest found g)
-    by (Err fault) f g = absurd (not_some found g)
+    by_read_code (Err fault) f g = absurd (not_some found g)
 
 -- ---- Modes that are passed, one after another
 
@@ -67,34 +56,33 @@ pub further : (start : Bits) (color : Color) (here : Bits) (next : Color) (rest 
     → behind_mode color here ≡ Some (next, rest) → ReadFurther start next rest
 further start color here next rest so_far found = (
   λ last reads. so_far.0 last (ReadsModes.mode next rest found reads),
-  λ last reads. by last (so_far.1 last reads),
+  λ last reads. by_last last (so_far.1 last reads),
 )
   where
     less : length rest < length here
     less = mode_shorter color here (next, rest) found
 
-    by : (last : Bits) → ReadsModes color here last ⊎ (length here ≤ length last)
+    by_last : (last : Bits) → ReadsModes color here last ⊎ (length here ≤ length last)
         → ReadsModes next rest last ⊎ (length rest ≤ length last)
-    by last (inl reads) = elim (subst (LeftBehind here last) found (left_behind color here last reads)) [
+    by_last last (inl reads) = elim (subst (LeftBehind here last) found (left_behind color here last reads)) [
       | inl e ↦ inr (omega (arith, less, ap length e))
       | inr more ↦ inl more
     ]
-    by last (inr le) = inr (omega (arith, less, le))
+    by_last last (inr le) = inr (omega (arith, less, le))
 
 -- where no more is read all were
 pub all_read : (start : Bits) (color : Color) (here : Bits) → ReadFurther start color here → behind_mode color here ≡ None
     → (last : Bits) → ReadsModes White start last → length here ≤ length last
-all_read start color here so_far none last reads = by (so_far.1 last reads)
+all_read start color here so_far none last reads = in_each_case (so_far.1 last reads)
   where
-    by : ReadsModes color here last ⊎ (length here ≤ length last) → length here ≤ length last
-    by (inl more) = omega (arith, ap length (subst (LeftBehind here last) none (left_behind color here last more)))
-    by (inr le) = le
+    in_each_case : ReadsModes color here last ⊎ (length here ≤ length last) → length here ≤ length last
+    in_each_case (inl more) = omega (arith, ap length (subst (LeftBehind here last) none (left_behind color here last more)))
+    in_each_case (inr le) = le
 
 -- ---- A line that is passed
 pub line_passed : (here line found after rest : Bits) → here ≡ false ∷ line → after_eol 0 here ≡ None → next_eol here ≡ Some found
-    → after_eol 0 found ≡ Some after
-    → ((last : Bits) → ReadsModes White line last → length rest ≤ length last) → length after + 12 ≤ length rest
-    → (tagged : Bits) × (here ≡ false ∷ tagged) × IsLine2D tagged found
+    → after_eol 0 found ≡ Some after → ((last : Bits) → ReadsModes White line last → length rest ≤ length last)
+    → length after + 12 ≤ length rest → (tagged : Bits) × (here ≡ false ∷ tagged) × IsLine2D tagged found
 line_passed here line found after rest is none next eol all le = (
   line,
   is,
@@ -114,10 +102,9 @@ eol_passed false found rest new e f = absurd (let none : ◌≡◌ {A = Option B
 -- ---- Lines that are counted
 
 -- what follows EOLs that were counted decides whether a one-dimensional line, RTC or the end follows
-pub before_1d : (settings : DecodeSettings) (here after rest : Bits) (count : ℕ) → after_eol 0 here ≡ Some after
-    → tagged_eols here ≡ (count, rest)
-    → ((settings.end_of_block ≡ true) × (6 ≤ count)) ⊎ (((line : Bits) × (rest ≡ true ∷ line)) ⊎ (rest ≡ []))
-    → ComesBefore1D settings here
+pub before_1d : (settings : DecodeSettings) (here after rest : Bits) (count : ℕ)
+    → after_eol 0 here ≡ Some after → tagged_eols here ≡ (count, rest) → ((settings.end_of_block ≡ true) × (6 ≤ count))
+    ⊎ (((line : Bits) × (rest ≡ true ∷ line)) ⊎ (rest ≡ [])) → ComesBefore1D settings here
 before_1d settings here after rest count eol counted ends = (
   (after, eol),
   subst (λ (c : ℕ × Bits). ((settings.end_of_block ≡ true) × (6 ≤ c.0))
@@ -133,13 +120,13 @@ not_over rest line e f = let both : ◌≡◌ {A = Bits} (false ∷ line) [] = s
 pub not_before_1d : (settings : DecodeSettings) (here rest line : Bits) (count : ℕ) → tagged_eols here ≡ (count, rest)
     → (settings.end_of_block ≡ true → 6 ≤ count → ⊥) → rest ≡ false ∷ line → ComesBefore1D settings here → ⊥
 not_before_1d settings here rest line count counted no_rtc tag (eol, ends) =
-    by (subst (λ (c : ℕ × Bits). ((settings.end_of_block ≡ true) × (6 ≤ c.0))
+    in_each_case (subst (λ (c : ℕ × Bits). ((settings.end_of_block ≡ true) × (6 ≤ c.0))
     ⊎ (((line : Bits) × (c.1 ≡ true ∷ line)) ⊎ (c.1 ≡ []))) counted ends)
   where
-    by : ((settings.end_of_block ≡ true) × (6 ≤ count)) ⊎ (((line : Bits) × (rest ≡ true ∷ line)) ⊎ (rest ≡ [])) → ⊥
-    by (inl (block, six)) = no_rtc block six
-    by (inr (inl (other, e))) = no_tag_of_one rest line other tag e
-    by (inr (inr e)) = not_over rest line tag e
+    in_each_case : ((settings.end_of_block ≡ true) × (6 ≤ count)) ⊎ (((line : Bits) × (rest ≡ true ∷ line)) ⊎ (rest ≡ [])) → ⊥
+    in_each_case (inl (block, six)) = no_rtc block six
+    in_each_case (inr (inl (other, e))) = no_tag_of_one rest line other tag e
+    in_each_case (inr (inr e)) = not_over rest line tag e
 
 -- a two-dimensional line is none of these
 line_not_before_1d : (settings : DecodeSettings) (here line next : Bits) → after_eol 0 here ≡ Some (false ∷ line)
@@ -151,9 +138,9 @@ line_not_before_1d settings here line next e is =
 
 -- as many rows, less one, as lines from the start up to here
 abbrev pub Counted : DecodeSettings → Bits → ℕ → Bits → Type 0
-Counted settings start rows here = (0 < rows)
-    × ((lines : ℕ) → ComeBefore1D settings lines here → ComeBefore1D settings (lines + (rows - 1)) start)
-    × ((lines : ℕ) → ComeBefore1D settings lines start → (left : ℕ) × (lines ≡ left + (rows - 1)) × ComeBefore1D settings left here)
+Counted settings start rows here =
+    (0 < rows) × ((lines : ℕ) → ComeBefore1D settings lines here → ComeBefore1D settings (lines + (rows - 1)) start) ×
+    ((lines : ℕ) → ComeBefore1D settings lines start → (left : ℕ) × (lines ≡ left + (rows - 1)) × ComeBefore1D settings left here)
 
 same_line : (line other : Bits) (o : Option Bits) → o ≡ Some (false ∷ line) → o ≡ Some (false ∷ other) → line ≡ other
 same_line line other o e f =
@@ -163,8 +150,7 @@ same_line line other o e f =
 same_next : (line other next found : Bits) → line ≡ other → next_eol (false ∷ line) ≡ Some next
     → next_eol (false ∷ other) ≡ Some found → next ≡ found
 same_next line other next found same e f =
-    let both : ◌≡◌ {A = Option Bits} (Some next) (Some found)
-    = sym e ∙ ap (λ (b : Bits). next_eol (false ∷ b)) same ∙ f in
+    let both : ◌≡◌ {A = Option Bits} (Some next) (Some found) = sym e ∙ ap (λ (b : Bits). next_eol (false ∷ b)) same ∙ f in
     cc
 
 pub counted_on : (settings : DecodeSettings) (start here line next : Bits) (rows : ℕ) → Counted settings start rows here
@@ -174,13 +160,13 @@ counted_on settings start here line next rows so_far e is = (
   λ lines comes. subst (λ (n : ℕ). ComeBefore1D settings n start)
       (let same : suc lines + (rows - 1) ≡ lines + (rows + 1 - 1) = omega (arith, so_far.0) in same)
       (so_far.1 (suc lines) (line, next, e, is, comes)),
-  λ lines comes. by lines (so_far.2 lines comes),
+  λ lines comes. by_left lines (so_far.2 lines comes),
 )
   where
-    by : (lines : ℕ) → (left : ℕ) × (lines ≡ left + (rows - 1)) × ComeBefore1D settings left here
+    by_left : (lines : ℕ) → (left : ℕ) × (lines ≡ left + (rows - 1)) × ComeBefore1D settings left here
         → (left : ℕ) × (lines ≡ left + (rows + 1 - 1)) × ComeBefore1D settings left next
-    by lines (zero, same, comes) = absurd (line_not_before_1d settings here line next e is comes)
-    by lines (suc left, same, (other, found, f, is2, more)) = (
+    by_left lines (zero, same, comes) = absurd (line_not_before_1d settings here line next e is comes)
+    by_left lines (suc left, same, (other, found, f, is2, more)) = (
       left,
       omega (arith, same, so_far.0),
       subst (ComeBefore1D settings left)
@@ -191,29 +177,29 @@ pub counted_last : (settings : DecodeSettings) (start here : Bits) (rows : ℕ) 
     → ComesBefore1D settings here → (lines : ℕ) → (Some rows ≡ Some (suc lines)) ↔ ComeBefore1D settings lines start
 counted_last settings start here rows so_far comes lines = (
   λ e. subst (λ (n : ℕ). ComeBefore1D settings n start) (less e) (so_far.1 0 comes),
-  λ given. by (so_far.2 lines given),
+  λ given. by_left (so_far.2 lines given),
 )
   where
     less : Some rows ≡ Some (suc lines) → 0 + (rows - 1) ≡ lines
     less e = let same : rows ≡ suc lines = cc in omega (arith, same)
 
-    by : (left : ℕ) × (lines ≡ left + (rows - 1)) × ComeBefore1D settings left here → Some rows ≡ Some (suc lines)
-    by (zero, same, again) = ap (λ (n : ℕ). Some n) (let rows_are : rows ≡ suc lines = omega (arith, same, so_far.0) in rows_are)
-    by (suc left, same, (line, next, e, is, more)) = absurd (line_not_before_1d settings here line next e is comes)
+    by_left : (left : ℕ) × (lines ≡ left + (rows - 1)) × ComeBefore1D settings left here → Some rows ≡ Some (suc lines)
+    by_left (zero, same, again) =
+        ap (λ (n : ℕ). Some n) (let rows_are : rows ≡ suc lines = omega (arith, same, so_far.0) in rows_are)
+    by_left (suc left, same, (line, next, e, is, more)) = absurd (line_not_before_1d settings here line next e is comes)
 
 -- if none of these is here, there is no number of lines
 pub counted_none : (settings : DecodeSettings) (start here : Bits) (rows : ℕ) → Counted settings start rows here
-    → (ComesBefore1D settings here → ⊥)
-    → ((line next : Bits) → after_eol 0 here ≡ Some (false ∷ line) → IsLine2D line next → ⊥)
+    → (ComesBefore1D settings here → ⊥) → ((line next : Bits) → after_eol 0 here ≡ Some (false ∷ line) → IsLine2D line next → ⊥)
     → (lines : ℕ) → (None ≡ Some (suc lines)) ↔ ComeBefore1D settings lines start
 counted_none settings start here rows so_far no_end no_line lines = (
   λ e. absurd cc,
-  λ given. absurd (by (so_far.2 lines given)),
+  λ given. absurd (by_left (so_far.2 lines given)),
 )
   where
-    by : (left : ℕ) × (lines ≡ left + (rows - 1)) × ComeBefore1D settings left here → ⊥
-    by (zero, same, comes) = no_end comes
-    by (suc left, same, (line, next, e, is, more)) = no_line line next e is
+    by_left : (left : ℕ) × (lines ≡ left + (rows - 1)) × ComeBefore1D settings left here → ⊥
+    by_left (zero, same, comes) = no_end comes
+    by_left (suc left, same, (line, next, e, is, more)) = no_line line next e is
 
 pub no_eol_no_end : (settings : DecodeSettings) (here : Bits) → after_eol 0 here ≡ None → ComesBefore1D settings here → ⊥
 no_eol_no_end settings here none (eol, ends) = let both : ◌≡◌ {A = Option Bits} None (Some eol.0) = sym none ∙ eol.1 in cc

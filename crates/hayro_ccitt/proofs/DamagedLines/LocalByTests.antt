@@ -1,16 +1,12 @@
 -- Locality of a body, as tests of the bits.
-use Rattle.std.proofs.Common.{◌≡◌, ◌≢◌, ℕ, zero, suc, ◌+◌, ◌-◌, ◌<◌, ◌≤◌, true, false, List, [], ◌∷◌, ◌++◌, length, take, drop, replicate, Option}
-use Rattle.std.proofs.Common.{Some, None, refl, sym, ap, ◌∙◌, append_assoc, arith, inl, inr}
-use Rattle.std.proofs.lemmas.List.{length-append, length-take-le, length-drop, length-replicate, take-append-drop, drop-drop, replicate-append-replicate}
-use Rattle.hayro_ccitt.specs.declared.settings.DecodeSettings.{DecodeSettings}
-use Rattle.hayro_ccitt.specs.Bits.{Bits}
-use Rattle.hayro_ccitt.specs.EndOfLine.{after_eol, next_eol}
-use Rattle.hayro_ccitt.specs.Locality.{IsEol, IsLocal, IsLocalByTests, LocalByTests}
-use Rattle.hayro_ccitt.proofs.Readings.TurnsMoveOn.{next_eol_found, eol_of}
-use Rattle.hayro_ccitt.proofs.DamagedLines.PastEol.{past_is, then_after}
+use Rattle.hayro_ccitt.proofs.Names.{◌≡◌, ◌≢◌, ℕ, zero, suc, ◌+◌, ◌-◌, ◌<◌, ◌≤◌, true, false, List, [], ◌∷◌, ◌++◌, length, take}
+use Rattle.hayro_ccitt.proofs.Names.{drop, replicate, Option, Some, None, refl, sym, ap, ◌∙◌, append_assoc, arith, inl, inr}
+use Rattle.hayro_ccitt.proofs.Names.{length-append, length-take-le, length-drop, length-replicate, take-append-drop, drop-drop}
+use Rattle.hayro_ccitt.proofs.Names.{replicate-append-replicate, DecodeSettings, Bits, after_eol, next_eol, IsEol, IsLocal}
+use Rattle.hayro_ccitt.proofs.Names.{IsLocalByTests, LocalByTests, common_steps}
+use Rattle.hayro_ccitt.proofs.{DamagedLines.EolsAlike.no_one, DamagedLines.PastEol.past_is, DamagedLines.PastEol.then_after}
 use Rattle.hayro_ccitt.proofs.DamagedLines.LineTails.{after_eol_is, drop_at, none_in_body, body_1d}
-use Rattle.hayro_ccitt.proofs.DamagedLines.EolsAlike.{no_one}
-use Rattle.std.proofs.lemmas.Grind.{common_steps}
+use Rattle.hayro_ccitt.proofs.Readings.TurnsMoveOn.{next_eol_found, eol_of}
 
 -- bits that aren't all zeros contain a one
 holds_one : (bits : Bits) → bits ≢ replicate (length bits) false → (before after : Bits) × (bits ≡ before ++ true ∷ after)
@@ -21,17 +17,18 @@ holds_one (false ∷ bits) not_zeros = let f
 
 -- if none is found, there is none further on
 none_further : (before here : Bits) → next_eol (before ++ here) ≡ None → after_eol 0 here ≡ None
-none_further [] here e = by here e
+none_further [] here e = by_here here e
   where
-    by : (here : Bits) → next_eol here ≡ None → after_eol 0 here ≡ None
-    by [] e = refl
-    by (bit ∷ here) e = grind (arith, common_steps)
+    by_here : (here : Bits) → next_eol here ≡ None → after_eol 0 here ≡ None
+    by_here [] e = refl
+    by_here (bit ∷ here) e = grind (arith, common_steps)
 none_further (bit ∷ before) here e = none_further before here (rest (after_eol 0 (bit ∷ (before ++ here))) refl)
   where
     rest : (o : Option Bits) → after_eol 0 (bit ∷ (before ++ here)) ≡ o → next_eol (before ++ here) ≡ None
     rest o f = grind (arith, common_steps)
 
-take_zeros : (k m : ℕ) (rest : Bits) → k < m → take m (replicate k false ++ true ∷ rest) ≡ replicate k false ++ true ∷ take (m - (k + 1)) rest
+take_zeros : (k m : ℕ) (rest : Bits) → k < m
+    → take m (replicate k false ++ true ∷ rest) ≡ replicate k false ++ true ∷ take (m - (k + 1)) rest
 take_zeros k zero rest lt = absurd (omega arith)
 take_zeros zero (suc m) rest lt = let e : suc m - (0 + 1) ≡ m = omega arith in ap (λ (n : ℕ). true ∷ take n rest) (sym e)
 take_zeros (suc k) (suc m) rest lt = grind (arith, common_steps, rest, take_zeros k m rest (omega arith))
@@ -56,7 +53,8 @@ module _ (settings : DecodeSettings) (bits : Bits) (from to : ℕ) where
     lenient = tests.lenient;
     order = tests.order;
     within = tests.within;
-    starts = elim tests.starts [ inl e ↦ inl e | inr e ↦ inr (from - 12, (omega (arith, e.0), omega (arith, tests.order, tests.within), e.1)) ];
+    starts = elim tests.starts
+        [ inl e ↦ inl e | inr e ↦ inr (from - 12, (omega (arith, e.0), omega (arith, tests.order, tests.within), e.1)) ];
     one = one;
     no_eol = no_eol;
     closes = tests.closes;
@@ -71,8 +69,9 @@ module _ (settings : DecodeSettings) (bits : Bits) (from to : ℕ) where
       one : (place : ℕ) × (from ≤ place) × (place < to) × ((more : Bits) × (drop place bits ≡ true ∷ more))
       one =
           let f = holds_one body (λ e. tests.one (e ∙ ap (λ (n : ℕ). replicate n false) body_length)) in
-          let line : drop from bits ≡ f.0 ++ (true ∷ (f.1 ++ drop (to - from) (drop from bits))) = sym (take-append-drop (to - from) (drop from bits))
-          ∙ ap (λ (b : Bits). b ++ drop (to - from) (drop from bits)) f.2 ∙ append_assoc f.0 (true ∷ f.1) (drop (to - from) (drop from bits)) in (
+          let line : drop from bits ≡ f.0 ++ (true ∷ (f.1 ++ drop (to - from) (drop from bits))) =
+          sym (take-append-drop (to - from) (drop from bits)) ∙ ap (λ (b : Bits). b ++ drop (to - from) (drop from bits)) f.2
+          ∙ append_assoc f.0 (true ∷ f.1) (drop (to - from) (drop from bits)) in (
             from + length f.0,
             omega arith,
             omega (arith, body_length, ap length f.2, length-append f.0 (true ∷ f.1), tests.order),
@@ -88,15 +87,16 @@ module _ (settings : DecodeSettings) (bits : Bits) (from to : ℕ) where
           let is = after_eol_is 0 (drop place bits) (drop end bits) eol in
           let j : ℕ = place - from in
           let sum : from + j ≡ place = omega (arith, le) in
-          let there : drop j (drop from bits) ≡ replicate is.0 false ++ true ∷ drop end bits = drop-drop j from bits ∙ ap (λ (n : ℕ). drop n bits) sum ∙ is.1 in
+          let there : drop j (drop from bits) ≡ replicate is.0 false ++ true ∷ drop end bits =
+          drop-drop j from bits ∙ ap (λ (n : ℕ). drop n bits) sum ∙ is.1 in
           let lengths = eol_lengths bits place end is.0 is.1 in
           let fits : is.0 < (to - from) - j = omega (arith, lengths, le, le2, lt, tests.order, tests.within) in
-          let split : body ≡ take j (drop from bits) ++ (replicate is.0 false ++ true ∷ take (((to - from) - j) - (is.0 + 1)) (drop end bits))
-          = take-split j (to - from) (drop from bits) (omega (arith, le, le2, lt))
+          let split : body ≡ take j (drop from bits) ++ (replicate is.0 false ++ true ∷ take (((to - from) - j) - (is.0 + 1))
+          (drop end bits)) = take-split j (to - from) (drop from bits) (omega (arith, le, le2, lt))
           ∙ ap (λ (b : Bits). take j (drop from bits) ++ take ((to - from) - j) b) there
           ∙ ap (λ (b : Bits). take j (drop from bits) ++ b) (take_zeros is.0 ((to - from) - j) (drop end bits) fits) in
-          let none = none_further (take j (drop from bits)) (replicate is.0 false ++ true ∷ take (((to - from) - j) - (is.0 + 1)) (drop end bits))
-          (ap next_eol (sym split) ∙ tests.no_eol) in
+          let none = none_further (take j (drop from bits)) (replicate is.0 false ++ true ∷ take (((to - from) - j) - (is.0 + 1))
+          (drop end bits)) (ap next_eol (sym split) ∙ tests.no_eol) in
           let some = eol_of 0 is.0 (take (((to - from) - j) - (is.0 + 1)) (drop end bits)) is.2 in
           grind (arith, common_steps)
 
@@ -118,14 +118,15 @@ module _ (settings : DecodeSettings) (bits : Bits) (from to : ℕ) where
           let lengths = eol_lengths bits place from is.0 is.1 in
           let more : ℕ = is.0 - 11 in
           let sum : more + 11 ≡ is.0 = omega (arith, is.2) in
-          let fill : replicate is.0 false ≡ replicate more false ++ replicate 11 false = ap (λ (n : ℕ). replicate n false) (sym sum)
-          ∙ sym (replicate-append-replicate more 11 false) in
-          let whole : drop place bits ≡ replicate more false ++ (replicate 11 false ++ true ∷ drop from bits) = is.1
-          ∙ ap (λ (b : Bits). b ++ true ∷ drop from bits) fill ∙ append_assoc (replicate more false) (replicate 11 false) (true ∷ drop from bits) in
+          let fill : replicate is.0 false ≡ replicate more false ++ replicate 11 false =
+          ap (λ (n : ℕ). replicate n false) (sym sum) ∙ sym (replicate-append-replicate more 11 false) in
+          let whole : drop place bits ≡ replicate more false ++ (replicate 11 false ++ true ∷ drop from bits) =
+          is.1 ∙ ap (λ (b : Bits). b ++ true ∷ drop from bits) fill
+          ∙ append_assoc (replicate more false) (replicate 11 false) (true ∷ drop from bits) in
           let at : place + more ≡ from - 12 = omega (arith, lengths, is.2, lt, local.order, local.within) in
-          let there : drop (from - 12) bits ≡ replicate 11 false ++ true ∷ drop from bits
-          = ap (λ (n : ℕ). drop n bits) (sym at) ∙ sym (drop-drop more place bits)
-          ∙ drop_at (drop place bits) (replicate more false) (replicate 11 false ++ true ∷ drop from bits) more whole (length-replicate more false) in
+          let there : drop (from - 12) bits ≡ replicate 11 false ++ true ∷ drop from bits =
+          ap (λ (n : ℕ). drop n bits) (sym at) ∙ sym (drop-drop more place bits) ∙ drop_at (drop place bits)
+          (replicate more false) (replicate 11 false ++ true ∷ drop from bits) more whole (length-replicate more false) in
           (omega (arith, lengths, is.2, lt, local.order, local.within), ap (after_eol 0) there)
 
       one : take (to - from) (drop from bits) ≢ replicate (to - from) false
@@ -134,14 +135,16 @@ module _ (settings : DecodeSettings) (bits : Bits) (from to : ℕ) where
           let m : ℕ = ((to - from) - j) - 1 in
           let sum : from + j ≡ local.one.0 = omega (arith, local.one.1) in
           let left : (to - from) - j ≡ suc m = omega (arith, local.one.1, local.one.2) in
-          let there : drop j (drop from bits) ≡ true ∷ local.one.3.0 = drop-drop j from bits ∙ ap (λ (n : ℕ). drop n bits) sum ∙ local.one.3.1 in
+          let there : drop j (drop from bits) ≡ true ∷ local.one.3.0 =
+          drop-drop j from bits ∙ ap (λ (n : ℕ). drop n bits) sum ∙ local.one.3.1 in
           let split : take (to - from) (drop from bits) ≡ take j (drop from bits) ++ true ∷ take m local.one.3.0
           = take-split j (to - from) (drop from bits) (omega (arith, local.one.1, local.one.2))
           ∙ ap (λ (n : ℕ). take j (drop from bits) ++ take n (drop j (drop from bits))) left
           ∙ ap (λ (b : Bits). take j (drop from bits) ++ take (suc m) b) there in
           no_one (to - from) (take j (drop from bits)) (take m local.one.3.0) (sym split ∙ e)
 
-      none_found : (o : Option Bits) → next_eol (take (to - from) (drop from bits)) ≡ o → next_eol (take (to - from) (drop from bits)) ≡ None
+      none_found : (o : Option Bits) → next_eol (take (to - from) (drop from bits)) ≡ o
+          → next_eol (take (to - from) (drop from bits)) ≡ None
       none_found None e = e
       none_found (Some found) e =
           let f = next_eol_found (take (to - from) (drop from bits)) found e in

@@ -1,12 +1,9 @@
 -- What follows the next EOL.
-use Rattle.std.proofs.Common.{◌≡◌, ℕ, zero, suc, ◌+◌, ◌≤◌, true, false, cond, leb, [], ◌∷◌, ◌++◌, length, Option, Some, None, refl}
-use Rattle.std.proofs.Common.{ap, ◌∙◌, arith}
-use Rattle.std.proofs.lemmas.Bool.{cases_lt, lt-leb, le-leb}
-use Rattle.std.proofs.lemmas.List.{length-append}
-use Rattle.hayro_ccitt.specs.Bits.{Bits}
-use Rattle.hayro_ccitt.specs.EndOfLine.{after_eol, one_more, eols, all_eols, next_eol, past_tag, eols_with_tags}
-use Rattle.hayro_ccitt.proofs.Readings.TurnsMoveOn.{eols-some, eols-none, eols_with_tags-some, eols_with_tags-none, past_tag_shorter, after_eol_shorter}
-use Rattle.std.proofs.lemmas.Grind.{common_steps}
+use Rattle.hayro_ccitt.proofs.Names.{◌≡◌, ℕ, zero, suc, ◌+◌, ◌≤◌, true, false, cond, leb, [], ◌∷◌, ◌++◌, length, Option, Some}
+use Rattle.hayro_ccitt.proofs.Names.{None, refl, ap, ◌∙◌, arith, cases_lt, lt-leb, le-leb, length-append, Bits, after_eol}
+use Rattle.hayro_ccitt.proofs.Names.{one_more, eols, all_eols, next_eol, past_tag, eols_with_tags, common_steps}
+use Rattle.hayro_ccitt.proofs.Readings.TurnsMoveOn.{eols-some, eols-none, eols_with_tags-some, eols_with_tags-none}
+use Rattle.hayro_ccitt.proofs.Readings.TurnsMoveOn.{past_tag_shorter, after_eol_shorter}
 
 -- what follows the next EOL that ends further on, given the number of zeros just before
 abbrev pub past : ℕ → Bits → Option Bits
@@ -35,11 +32,11 @@ then_after (Some found) = after_eol 0 found
 pub past_is : (here : Bits) → past 0 here ≡ then_after (next_eol here)
 past_is [] = refl
 past_is (true ∷ here) = past_is here
-past_is (false ∷ here) = by (past_is here) (after_eol 0 (false ∷ here)) refl
+past_is (false ∷ here) = by_after_eol (past_is here) (after_eol 0 (false ∷ here)) refl
   where
-    by : past 0 here ≡ then_after (next_eol here) → (o : Option Bits) → after_eol 0 (false ∷ here) ≡ o
+    by_after_eol : past 0 here ≡ then_after (next_eol here) → (o : Option Bits) → after_eol 0 (false ∷ here) ≡ o
         → past 0 (false ∷ here) ≡ then_after (next_eol (false ∷ here))
-    by same given e = grind (arith, common_steps, past-eol, past-none)
+    by_after_eol same given e = grind (arith, common_steps, past-eol, past-none)
 
 -- the number of EOLs asked for doesn't matter, if there are no more bits
 pub eols_same : (n m : ℕ) (here : Bits) → length here ≤ n → length here ≤ m → eols n here ≡ eols m here
@@ -48,11 +45,11 @@ eols_same zero (suc m) [] h k = refl
 eols_same zero (suc m) (b ∷ here) h k = absurd (omega arith)
 eols_same (suc n) zero [] h k = refl
 eols_same (suc n) zero (b ∷ here) h k = absurd (omega arith)
-eols_same (suc n) (suc m) here h k = by (λ rest. eols_same n m rest) (after_eol 0 here) refl
+eols_same (suc n) (suc m) here h k = by_after_eol (λ rest. eols_same n m rest) (after_eol 0 here) refl
   where
-    by : ((rest : Bits) → length rest ≤ n → length rest ≤ m → eols n rest ≡ eols m rest) → (o : Option Bits) → after_eol 0 here ≡ o
-        → eols (suc n) here ≡ eols (suc m) here
-    by on o e = grind (arith, common_steps, after_eol_shorter, eols-none, eols-some)
+    by_after_eol : ((rest : Bits) → length rest ≤ n → length rest ≤ m → eols n rest ≡ eols m rest) → (o : Option Bits)
+        → after_eol 0 here ≡ o → eols (suc n) here ≡ eols (suc m) here
+    by_after_eol on o e = grind (arith, common_steps, after_eol_shorter, eols-none, eols-some)
 
 -- if there is an EOL, it is counted, and those after it
 pub all_eols-some : (here rest : Bits) → after_eol 0 here ≡ Some rest → all_eols here ≡ one_more (all_eols rest)
@@ -74,13 +71,12 @@ eols_with_tags_same zero (suc m) [] h k = refl
 eols_with_tags_same zero (suc m) (b ∷ here) h k = absurd (omega arith)
 eols_with_tags_same (suc n) zero [] h k = refl
 eols_with_tags_same (suc n) zero (b ∷ here) h k = absurd (omega arith)
-eols_with_tags_same (suc n) (suc m) here h k = by (λ rest. eols_with_tags_same n m rest) (after_eol 0 here) refl
+eols_with_tags_same (suc n) (suc m) here h k = by_after_eol (λ rest. eols_with_tags_same n m rest) (after_eol 0 here) refl
   where
-    by : ((rest : Bits) → length rest ≤ n → length rest ≤ m → eols_with_tags n rest ≡ eols_with_tags m rest) → (o : Option Bits)
-        → after_eol 0 here ≡ o
-        → eols_with_tags (suc n) here ≡ eols_with_tags (suc m) here
-    by on None e = rw (eols_with_tags-none (suc n) here e, eols_with_tags-none (suc m) here e) refl
-    by on (Some rest) e =
+    by_after_eol : ((rest : Bits) → length rest ≤ n → length rest ≤ m → eols_with_tags n rest ≡ eols_with_tags m rest)
+        → (o : Option Bits) → after_eol 0 here ≡ o → eols_with_tags (suc n) here ≡ eols_with_tags (suc m) here
+    by_after_eol on None e = rw (eols_with_tags-none (suc n) here e, eols_with_tags-none (suc m) here e) refl
+    by_after_eol on (Some rest) e =
         let shorter = after_eol_shorter 0 here rest e in
         rw (eols_with_tags-some n here rest e, eols_with_tags-some m here rest e)
         (ap one_more (on (past_tag rest) (omega (arith, shorter, past_tag_shorter rest, h))
@@ -102,24 +98,24 @@ all_tagged-none here e = eols_with_tags-none (length here) here e
 -- the next EOL is further on in the same bits
 pub next_eol_leaves : (here found : Bits) → next_eol here ≡ Some found → (before : Bits) × (here ≡ before ++ found)
 next_eol_leaves [] found e = absurd cc
-next_eol_leaves (bit ∷ here) found e = by (next_eol_leaves here found) (after_eol 0 (bit ∷ here)) refl
+next_eol_leaves (bit ∷ here) found e = by_before (next_eol_leaves here found) (after_eol 0 (bit ∷ here)) refl
   where
-    by : (next_eol here ≡ Some found → (before : Bits) × (here ≡ before ++ found)) → (o : Option Bits)
-        → after_eol 0 (bit ∷ here) ≡ o
-        → (before : Bits) × ((bit ∷ here) ≡ before ++ found)
-    by on None f = let g : next_eol here ≡ Some found = rw (f, next_eol) at e in let h = on g in
+    by_before : (next_eol here ≡ Some found → (before : Bits) × (here ≡ before ++ found)) → (o : Option Bits)
+        → after_eol 0 (bit ∷ here) ≡ o → (before : Bits) × ((bit ∷ here) ≡ before ++ found)
+    by_before on None f = let g : next_eol here ≡ Some found = rw (f, next_eol) at e in let h = on g in
         (bit ∷ h.0, ap (λ (b : Bits). bit ∷ b) h.1)
-    by on (Some rest) f = grind (arith, common_steps)
+    by_before on (Some rest) f = grind (arith, common_steps)
 
 -- If twelve bits are left before the end of the next EOL, it is also the next one from there.
-pub past_here : (seen fewer : ℕ) (here after : Bits) → fewer ≤ seen → past seen here ≡ Some after → length after + 12 ≤ fewer + length here
-    → past fewer here ≡ Some after
+pub past_here : (seen fewer : ℕ) (here after : Bits) → fewer ≤ seen → past seen here ≡ Some after
+    → length after + 12 ≤ fewer + length here → past fewer here ≡ Some after
 past_here seen fewer [] after le e far = absurd cc
 past_here seen fewer (false ∷ here) after le e far = past_here (suc seen) (suc fewer) here after (omega arith) e (omega arith)
 past_here seen fewer (true ∷ here) after le e far = grind (arith, common_steps)
 
 -- an EOL with its last twelve bits still to come is the next one from further on too
-pub past_later : (seen : ℕ) (before here after : Bits) → past seen (before ++ here) ≡ Some after → length after + 12 ≤ length here → past 0 here ≡ Some after
+pub past_later : (seen : ℕ) (before here after : Bits) → past seen (before ++ here) ≡ Some after → length after + 12 ≤ length here
+    → past 0 here ≡ Some after
 past_later seen [] here after e far = past_here seen 0 here after (omega arith) e (omega (arith, far))
 past_later seen (false ∷ before) here after e far = past_later (suc seen) before here after e far
 past_later seen (true ∷ before) here after e far =

@@ -1,31 +1,27 @@
 -- Two runs over data that differ in one line.
-use Rattle.std.proofs.Common.{◌≡◌, ℕ, zero, suc, ◌+◌, ◌-◌, ◌%◌, ◌<◌, ◌≤◌, Bool, true, false, cond, not, ◌&&◌, ◌||◌, eqb, leb, List, [], ◌∷◌, ◌++◌, length}
-use Rattle.std.proofs.Common.{replicate, Option, Some, None, Ok, Err, refl, sym, ap, subst, ◌∙◌, append_assoc, arith, ◌⊎◌, inl, inr}
-use Rattle.std.proofs.lemmas.Bool.{cases_Bool, and_parts, eqb-true}
-use Rattle.std.proofs.lemmas.List.{length-append, length-drop, append_cancel_right}
-use Rattle.hayro_ccitt.specs.declared.error.DecodeError.{DecodeError}
-use Rattle.hayro_ccitt.specs.declared.error.DecodeError.TheVariants.{InvalidCode}
-use Rattle.hayro_ccitt.specs.declared.settings.EncodingMode.{EncodingMode}
-use Rattle.hayro_ccitt.specs.declared.settings.EncodingMode.TheVariants.{Group4, Group3_1D, Group3_2D}
-use Rattle.hayro_ccitt.specs.declared.settings.DecodeSettings.{DecodeSettings}
-use Rattle.hayro_ccitt.specs.Bits.{Bits}
-use Rattle.hayro_ccitt.specs.Repetition.{Turn}
-use Rattle.hayro_ccitt.specs.Rows.{Row}
-use Rattle.hayro_ccitt.specs.Lines.{Line}
-use Rattle.hayro_ccitt.specs.EndOfLine.{after_eol, all_eols, next_eol, past_tag}
-use Rattle.hayro_ccitt.specs.PlainReading.{eols_of_end, Progress, Ending, Move, row_before, aligned, limit_met, at_end, ends_with, line_by, eols_by, eols_here}
-use Rattle.hayro_ccitt.specs.PlainReading.{line_here, line_of_turn, after_line, move_on}
-use Rattle.hayro_ccitt.specs.Locality.{row_of}
-use Rattle.hayro_ccitt.proofs.Readings.Repeated.{Follows}
-use Rattle.hayro_ccitt.proofs.Readings.TurnsMoveOn.{cond_le, length-one_more, eols_shorter, past_tag_shorter, eols_with_tags_shorter, last_tag_shorter, next_eol_found, eols_here_counted}
-use Rattle.hayro_ccitt.proofs.BitReading.ZerosInWords.{scan}
-use Rattle.hayro_ccitt.proofs.DamagedLines.PastEol.{past, all_eols-some, all_eols-none, all_tagged, all_tagged-some, all_tagged-none}
-use Rattle.hayro_ccitt.proofs.DamagedLines.SoughtTurns.{sought, rest_of, not_past_end, eols_here_same, row_past, move_sought, sought_done}
-use Rattle.hayro_ccitt.proofs.DrawingLines.LinesLeaveBits.{Leaves, LineLeaves, line_by_leaves}
+use Rattle.hayro_ccitt.proofs.Names.{◌≡◌, ℕ, zero, suc, ◌+◌, ◌-◌, ◌%◌, ◌<◌, ◌≤◌, Bool, true, false, cond, not, ◌&&◌, ◌||◌, eqb}
+use Rattle.hayro_ccitt.proofs.Names.{leb, List, [], ◌∷◌, ◌++◌, length, replicate, Option, Some, None, Ok, Err, refl, sym, ap}
+use Rattle.hayro_ccitt.proofs.Names.{subst, ◌∙◌, append_assoc, arith, ◌⊎◌, inl, inr, cases_Bool, and_parts, eqb-true}
+use Rattle.hayro_ccitt.proofs.Names.{length-append, length-drop, append_cancel_right, DecodeError, InvalidCode, EncodingMode}
+use Rattle.hayro_ccitt.proofs.Names.{Group4, Group3_1D, Group3_2D, DecodeSettings, Bits, Turn, Row, Line, after_eol, all_eols}
+use Rattle.hayro_ccitt.proofs.Names.{next_eol, past_tag, eols_of_end, Progress, Ending, Move, row_before, aligned, limit_met}
+use Rattle.hayro_ccitt.proofs.Names.{at_end, ends_with, line_by, eols_by, eols_here, line_here, line_of_turn, after_line, move_on}
+use Rattle.hayro_ccitt.proofs.Names.{row_of}
+use Rattle.hayro_ccitt.proofs.{BitReading.ZerosInWords.scan, Readings.Repeated.Follows}
+use Rattle.hayro_ccitt.proofs.DamagedLines.EolsAlike.{Closes, closes_inside, inside_after, leaves_after, leaves_length}
+use Rattle.hayro_ccitt.proofs.DamagedLines.EolsAlike.{past_alike, PastAlike, CountAlike, RestAlike, all_eols_alike, eols_found}
+use Rattle.hayro_ccitt.proofs.DamagedLines.EolsAlike.{all_tagged_alike, tagged_found, last_tag_alike, last_tag_few}
 use Rattle.hayro_ccitt.proofs.DamagedLines.LinesBeforeEol.{Inside, LineAlike, line_1d_alike, line_2d_alike}
-use Rattle.hayro_ccitt.proofs.DamagedLines.EolsAlike.{Closes, closes_inside, inside_after, leaves_after, leaves_length, past_alike, PastAlike, CountAlike, RestAlike, all_eols_alike, eols_found, all_tagged_alike, tagged_found, last_tag_alike, last_tag_few}
+use Rattle.hayro_ccitt.proofs.DamagedLines.PastEol.{past, all_eols-some, all_eols-none, all_tagged, all_tagged-some}
+use Rattle.hayro_ccitt.proofs.DamagedLines.PastEol.{all_tagged-none}
+use Rattle.hayro_ccitt.proofs.DamagedLines.SoughtTurns.{sought, rest_of, not_past_end, eols_here_same, row_past, move_sought}
+use Rattle.hayro_ccitt.proofs.DamagedLines.SoughtTurns.{sought_done}
+use Rattle.hayro_ccitt.proofs.DrawingLines.LinesLeaveBits.{Leaves, LineLeaves, line_by_leaves}
 use Rattle.hayro_ccitt.proofs.EncodedPictures.PictureLines.{row_before_push}
-use Rattle.hayro_ccitt.proofs.Readings.RowsAndGaps.{unless_over, seek_from, seek_eol, after_row, row_added, after_whole-is, after_damage-is}
+use Rattle.hayro_ccitt.proofs.Readings.RowsAndGaps.{unless_over, seek_from, seek_eol, after_row, row_added, after_whole-is}
+use Rattle.hayro_ccitt.proofs.Readings.RowsAndGaps.{after_damage-is}
+use Rattle.hayro_ccitt.proofs.Readings.TurnsMoveOn.{cond_le, length-one_more, eols_shorter, past_tag_shorter}
+use Rattle.hayro_ccitt.proofs.Readings.TurnsMoveOn.{eols_with_tags_shorter, last_tag_shorter, next_eol_found, eols_here_counted}
 
 -- ---- Rows of which some may differ
 
@@ -68,16 +64,14 @@ pub data EndsAlike (settings : DecodeSettings) (Begins : List Row → Type 0) (d
     (r q : Ending) : Type 0 where
   faults : (fault : DecodeError) → r.outcome ≡ Err fault → q.outcome ≡ Err fault → RowsAlike differ Begins r.rows q.rows
       → EndsAlike settings Begins differ from x y after r q
-  early : (bits : Bits) → length bits < from → r.outcome ≡ Ok (bits ++ true ∷ x) → q.outcome ≡ Ok (bits ++ true ∷ y) → r.rows ≡ q.rows
-      → EndsAlike settings Begins differ from x y after r q
+  early : (bits : Bits) → length bits < from → r.outcome ≡ Ok (bits ++ true ∷ x) → q.outcome ≡ Ok (bits ++ true ∷ y)
+      → r.rows ≡ q.rows → EndsAlike settings Begins differ from x y after r q
   there : r.outcome ≡ Ok x → q.outcome ≡ Ok y → r.rows ≡ q.rows → EndsAlike settings Begins differ from x y after r q
   later : (rest : Bits) → length rest ≤ length after → r.outcome ≡ Ok rest → q.outcome ≡ Ok rest
-      → RowsAlike differ Begins r.rows q.rows
-      → EndsAlike settings Begins differ from x y after r q
-  limit : (before these those : List Row) (u v : Bits) → Begins before → length these ≡ length those → 0 < length these
-      → length these ≤ differ
-      → settings.rows ≡ length before + length these → r.rows ≡ before ++ these → q.rows ≡ before ++ those
-      → r.outcome ≡ Ok u → q.outcome ≡ Ok v → length u ≤ length x → length v ≤ length y
+      → RowsAlike differ Begins r.rows q.rows → EndsAlike settings Begins differ from x y after r q
+  limit : (before these those : List Row) (u v : Bits) → Begins before → length these ≡ length those
+      → 0 < length these → length these ≤ differ → settings.rows ≡ length before + length these → r.rows ≡ before ++ these
+      → q.rows ≡ before ++ those → r.outcome ≡ Ok u → q.outcome ≡ Ok v → length u ≤ length x → length v ≤ length y
       → EndsAlike settings Begins differ from x y after r q
 
 -- EOLs that end the data, or come before a line that is the same whatever its reference row is
@@ -98,14 +92,11 @@ Settles settings (suc n) after = (next : Bits) × (length next ≤ length after)
 pub data RunsAlike (settings : DecodeSettings) (Begins : List Row → Type 0) (differ : ℕ) (Within : Bits → Type 0)
     (x y after : Bits) (s t : Progress) : Type 0 where
   ahead : (rows : List Row) (bits : Bits) → Closes bits → Within bits → s ≡ sought rows (bits ++ true ∷ x)
-      → t ≡ sought rows (bits ++ true ∷ y)
-      → RunsAlike settings Begins differ Within x y after s t
+      → t ≡ sought rows (bits ++ true ∷ y) → RunsAlike settings Begins differ Within x y after s t
   there : (rows : List Row) → s ≡ sought rows x → t ≡ sought rows y → RunsAlike settings Begins differ Within x y after s t
-  among : (before these those : List Row) (here : Bits) (left : ℕ) → Begins before → length these ≡ length those
-      → length these + suc left ≤ differ
-      → Settles settings (suc left) here → length here ≤ length after → s ≡ sought (before ++ these) here
-      → t ≡ sought (before ++ those) here
-      → RunsAlike settings Begins differ Within x y after s t
+  among : (before these those : List Row) (here : Bits) (left : ℕ) → Begins before → length these ≡ length those → length these
+      + suc left ≤ differ → Settles settings (suc left) here → length here ≤ length after → s ≡ sought (before ++ these) here
+      → t ≡ sought (before ++ those) here → RunsAlike settings Begins differ Within x y after s t
   beyond : (xs ys : List Row) (has_eols : Bool) (rest : Bits) → RowsAlike differ Begins xs ys → length rest ≤ length after
       → line_here settings (row_before settings.columns xs) rest ≡ line_here settings (row_before settings.columns ys) rest
       → s ≡ run_at xs has_eols rest → t ≡ run_at ys has_eols rest → RunsAlike settings Begins differ Within x y after s t
@@ -160,9 +151,8 @@ module _ (settings : DecodeSettings) (group3 : IsGroup3 settings.encoding) (leni
   over taken count here = ((settings.end_of_block && leb (eols_of_end settings.encoding) count) || limit_met settings taken) ||
       at_end here
 
-  unless_beyond : (xs ys : List Row) (has_eols : Bool) (a b : Bits) (found : ℕ × Bits) → Alike xs ys
-      → length found.1 ≤ length after
-      → (((settings.end_of_block && leb (eols_of_end settings.encoding) found.0) ≡ true) ⊎ SameLine xs ys found.1)
+  unless_beyond : (xs ys : List Row) (has_eols : Bool) (a b : Bits) (found : ℕ × Bits) → Alike xs ys → length found.1
+      ≤ length after → (((settings.end_of_block && leb (eols_of_end settings.encoding) found.0) ≡ true) ⊎ SameLine xs ys found.1)
       → Both (unless_over settings (run_at xs has_eols a) found) (unless_over settings (run_at ys has_eols b) found)
   unless_beyond xs ys has_eols a b (count, here) alike short same =
       subst (λ (n : ℕ). Both (unless_over settings (run_at xs has_eols a) (count, here))
@@ -170,48 +160,49 @@ module _ (settings : DecodeSettings) (group3 : IsGroup3 settings.encoding) (leni
       (rows_length differ Begins xs ys alike)
       (by_line same)
     where
-      by : (t : Bool) → (t ≡ false → SameLine xs ys here)
+      either_way : (t : Bool) → (t ≡ false → SameLine xs ys here)
           → Both (cond t (ends_with (run_at xs has_eols a) (Ok here)) (Turn.next (run_at xs has_eols here)))
           (cond t (ends_with (run_at ys has_eols b) (Ok here)) (Turn.next (run_at ys has_eols here)))
-      by true line = EndsAlike.later here short refl refl alike
-      by false line = RunsAlike.beyond xs ys has_eols here alike short (line refl) refl refl
+      either_way true line = EndsAlike.later here short refl refl alike
+      either_way false line = RunsAlike.beyond xs ys has_eols here alike short (line refl) refl refl
 
       by_line : (((settings.end_of_block && leb (eols_of_end settings.encoding) count) ≡ true) ⊎ SameLine xs ys here)
           → Both (cond (over (length xs) count here) (ends_with (run_at xs has_eols a) (Ok here))
           (Turn.next (run_at xs has_eols here)))
           (cond (over (length xs) count here) (ends_with (run_at ys has_eols b) (Ok here)) (Turn.next (run_at ys has_eols here)))
       by_line (inl ends) = rw ends (EndsAlike.later here short refl refl alike)
-      by_line (inr line) = by (over (length xs) count here) (λ e. line)
+      by_line (inr line) = either_way (over (length xs) count here) (λ e. line)
 
   row_beyond : (xs ys : List Row) (has_eols : Bool) (here : Bits) → Alike xs ys → length here ≤ length after
       → ((there : Bits) → SameLine xs ys there)
       → Both (after_row settings (run_at xs has_eols here)) (after_row settings (run_at ys has_eols here))
   row_beyond xs ys has_eols here alike short same =
-      subst (λ (n : ℕ). Both (after_row settings (run_at xs has_eols here))
-      (cond (test n) (seek_eol settings (run_at ys has_eols here)) (unless_over settings (run_at ys has_eols here) (eols_here settings here))))
-      (rows_length differ Begins xs ys alike) (by (test (length xs)))
+      subst (λ (n : ℕ). Both (after_row settings (run_at xs has_eols here)) (cond (test n)
+      (seek_eol settings (run_at ys has_eols here)) (unless_over settings (run_at ys has_eols here) (eols_here settings here))))
+      (rows_length differ Begins xs ys alike) (either_way (test (length xs)))
     where
       test : ℕ → Bool
       test n = ((eqb (eols_here settings here).0 0 && has_eols) && not (limit_met settings n)) && not (at_end here)
 
-      from_next : (o : Option Bits) → next_eol here ≡ o → Both (seek_from settings (run_at xs has_eols here) o) (seek_from settings (run_at ys has_eols here) o)
+      from_next : (o : Option Bits) → next_eol here ≡ o
+          → Both (seek_from settings (run_at xs has_eols here) o) (seek_from settings (run_at ys has_eols here) o)
       from_next None e = RunsAlike.beyond xs ys false here alike short (same here) refl refl
       from_next (Some found) e = unless_beyond xs ys has_eols here here (eols_here settings found) alike
           (omega (arith, (next_eol_found here found e).0, (eols_here_counted settings found).0, short))
           (inr (same (eols_here settings found).1))
 
       strictly : (t : Bool) → Both (cond t (ends_with (run_at xs has_eols here) (Err InvalidCode))
-          (seek_from settings (run_at xs has_eols here) (next_eol here)))
-          (cond t (ends_with (run_at ys has_eols here) (Err InvalidCode)) (seek_from settings (run_at ys has_eols here) (next_eol here)))
+          (seek_from settings (run_at xs has_eols here) (next_eol here))) (cond t
+          (ends_with (run_at ys has_eols here) (Err InvalidCode)) (seek_from settings (run_at ys has_eols here) (next_eol here)))
       strictly true = EndsAlike.faults InvalidCode refl refl alike
       strictly false = from_next (next_eol here) refl
 
-      by : (t : Bool) → Both (cond t (seek_eol settings (run_at xs has_eols here))
-          (unless_over settings (run_at xs has_eols here) (eols_here settings here)))
-          (cond t (seek_eol settings (run_at ys has_eols here)) (unless_over settings (run_at ys has_eols here) (eols_here settings here)))
-      by true = strictly settings.strict
-      by false = unless_beyond xs ys has_eols here here (eols_here settings here) alike (omega (arith, (eols_here_counted settings here).0, short))
-          (inr (same (eols_here settings here).1))
+      either_way : (t : Bool) → Both (cond t (seek_eol settings (run_at xs has_eols here)) (unless_over settings
+          (run_at xs has_eols here) (eols_here settings here))) (cond t (seek_eol settings (run_at ys has_eols here))
+          (unless_over settings (run_at ys has_eols here) (eols_here settings here)))
+      either_way true = strictly settings.strict
+      either_way false = unless_beyond xs ys has_eols here here (eols_here settings here) alike
+          (omega (arith, (eols_here_counted settings here).0, short)) (inr (same (eols_here settings here).1))
 
   -- after the same row the next line is the same
   same_after : (xs ys : List Row) (row : Row) (here : Bits) → SameLine (xs ++ row ∷ []) (ys ++ row ∷ []) here
@@ -231,8 +222,10 @@ module _ (settings : DecodeSettings) (group3 : IsGroup3 settings.encoding) (leni
       (rows_more differ Begins xs ys row alike)
       (omega (arith, shorter, short, ap length leaves.1, length-append leaves.0 left)) (same_after xs ys row))
   line_beyond xs ys has_eols here (Line.broken front fault) alike short leaves =
-      rw (after_damage-is settings (run_at xs has_eols here) front fault, after_damage-is settings (run_at ys has_eols here) front fault)
-      (by (settings.strict || not has_eols))
+      rw (
+        after_damage-is settings (run_at xs has_eols here) front fault,
+        after_damage-is settings (run_at ys has_eols here) front fault,
+      ) (either_way (settings.strict || not has_eols))
     where
       row : Row
       row = front ++ replicate (settings.columns - length front) false
@@ -243,16 +236,15 @@ module _ (settings : DecodeSettings) (group3 : IsGroup3 settings.encoding) (leni
       shorter : length (cond al (aligned here) here) ≤ length here
       shorter = cond_le al (aligned here) here (length here) (omega (arith, length-drop (length here % 8) here)) (omega arith)
 
-      by : (t : Bool) → Both (cond t (ends_with (run_at xs has_eols here) (Err fault)) (row_added settings (run_at xs has_eols here) row here))
+      either_way : (t : Bool) → Both
+          (cond t (ends_with (run_at xs has_eols here) (Err fault)) (row_added settings (run_at xs has_eols here) row here))
           (cond t (ends_with (run_at ys has_eols here) (Err fault)) (row_added settings (run_at ys has_eols here) row here))
-      by true = EndsAlike.faults fault refl refl alike
-      by false = row_beyond (xs ++ row ∷ []) (ys ++ row ∷ []) has_eols (cond al (aligned here) here)
-          (rows_more differ Begins xs ys row alike)
-          (omega (arith, shorter, short)) (same_after xs ys row)
+      either_way true = EndsAlike.faults fault refl refl alike
+      either_way false = row_beyond (xs ++ row ∷ []) (ys ++ row ∷ []) has_eols (cond al (aligned here) here)
+          (rows_more differ Begins xs ys row alike) (omega (arith, shorter, short)) (same_after xs ys row)
 
   move_beyond : (xs ys : List Row) (has_eols : Bool) (here : Bits) → Alike xs ys → length here ≤ length after
-      → SameLine xs ys here
-      → Both (move_on settings (run_at xs has_eols here)) (move_on settings (run_at ys has_eols here))
+      → SameLine xs ys here → Both (move_on settings (run_at xs has_eols here)) (move_on settings (run_at ys has_eols here))
   move_beyond xs ys has_eols here alike short same =
       let line : Line = line_here settings (row_before settings.columns xs) here in
       subst (λ (other : Line). Both (after_line settings (run_at xs has_eols here) line)
@@ -267,24 +259,25 @@ module _ (settings : DecodeSettings) (group3 : IsGroup3 settings.encoding) (leni
 
   -- one EOL is counted before the line
   alone : (z found : Bits) → IsTail settings after z → after_eol 0 found ≡ Some z → eols_here settings found ≡ (1, z)
-  alone z found tail e = by settings.encoding settings.end_of_block group3 tail.tag
+  alone z found tail e = by_encoding settings.encoding settings.end_of_block group3 tail.tag
     where
-      by : (encoding : EncodingMode) (block : Bool) → IsGroup3 encoding → (encoding ≡ Group3_2D → past_tag z ≡ z)
+      by_encoding : (encoding : EncodingMode) (block : Bool) → IsGroup3 encoding → (encoding ≡ Group3_2D → past_tag z ≡ z)
           → eols_by encoding block found ≡ (1, z)
-      by Group3_1D block is tag = rw (all_eols-some found z e, all_eols-none z tail.none) refl
-      by Group3_2D block is tag = rw (all_tagged-some found z e, tag refl, all_tagged-none z tail.none)
+      by_encoding Group3_1D block is tag = rw (all_eols-some found z e, all_eols-none z tail.none) refl
+      by_encoding Group3_2D block is tag = rw (all_tagged-some found z e, tag refl, all_tagged-none z tail.none)
           (last_tag_few 1 z (omega arith))
-      by Group4 block (inl is) tag = absurd cc
-      by Group4 block (inr is) tag = absurd cc
+      by_encoding Group4 block (inl is) tag = absurd cc
+      by_encoding Group4 block (inr is) tag = absurd cc
 
   -- counting EOLs goes on behind the first
   counted_shorter : (found z : Bits) → after_eol 0 found ≡ Some z → length (eols_here settings found).1 ≤ length z
-  counted_shorter found z e = by settings.encoding settings.end_of_block group3
+  counted_shorter found z e = by_encoding settings.encoding settings.end_of_block group3
     where
-      by : (encoding : EncodingMode) (block : Bool) → IsGroup3 encoding → length (eols_by encoding block found).1 ≤ length z
-      by Group3_1D block is = rw (all_eols-some found z e)
+      by_encoding : (encoding : EncodingMode) (block : Bool) → IsGroup3 encoding
+          → length (eols_by encoding block found).1 ≤ length z
+      by_encoding Group3_1D block is = rw (all_eols-some found z e)
           (omega (arith, length-one_more (all_eols z), eols_shorter (length z) z))
-      by Group3_2D block is =
+      by_encoding Group3_2D block is =
           let more : ℕ × Bits = all_tagged (past_tag z) in
           omega (
             arith,
@@ -294,65 +287,64 @@ module _ (settings : DecodeSettings) (group3 : IsGroup3 settings.encoding) (leni
             eols_with_tags_shorter (length (past_tag z)) (past_tag z),
             past_tag_shorter z,
           )
-      by Group4 block (inl is) = absurd cc
-      by Group4 block (inr is) = absurd cc
+      by_encoding Group4 block (inl is) = absurd cc
+      by_encoding Group4 block (inr is) = absurd cc
 
   -- the EOLs from here on are alike
   counted_here : (bits : Bits) → Within bits
       → CountAlike x y bits (eols_here settings (bits ++ true ∷ x)) (eols_here settings (bits ++ true ∷ y))
-  counted_here bits within = by settings.encoding settings.end_of_block refl group3
+  counted_here bits within = by_encoding settings.encoding settings.end_of_block refl group3
     where
-      by : (encoding : EncodingMode) (block : Bool) → settings.encoding ≡ encoding → IsGroup3 encoding
+      by_encoding : (encoding : EncodingMode) (block : Bool) → settings.encoding ≡ encoding → IsGroup3 encoding
           → CountAlike x y bits (eols_by encoding block (bits ++ true ∷ x)) (eols_by encoding block (bits ++ true ∷ y))
-      by Group3_1D block same is = all_eols_alike x y tail_x.none tail_y.none bits
-      by Group3_2D block same is = last_tag_alike x y tail_x.none tail_y.none (tail_x.tag same) (tail_y.tag same) bits _ _
-          (all_tagged_alike x y tail_x.none tail_y.none (tail_x.tag same) (tail_y.tag same) bits)
-          (λ count e. few_x bits (bits ++ true ∷ x) count same within ([], refl) e)
-          (λ count e. few_y bits (bits ++ true ∷ y) count same within ([], refl) e)
-      by Group4 block same (inl is) = absurd cc
-      by Group4 block same (inr is) = absurd cc
+      by_encoding Group3_1D block same is = all_eols_alike x y tail_x.none tail_y.none bits
+      by_encoding Group3_2D block same is = last_tag_alike x y tail_x.none tail_y.none (tail_x.tag same) (tail_y.tag same) bits _
+          _ (all_tagged_alike x y tail_x.none tail_y.none (tail_x.tag same) (tail_y.tag same) bits) (λ count e. few_x bits (bits
+          ++ true ∷ x) count same within ([], refl) e) (λ count e. few_y bits (bits ++ true ∷ y) count same within ([], refl) e)
+      by_encoding Group4 block same (inl is) = absurd cc
+      by_encoding Group4 block same (inr is) = absurd cc
 
   -- the same from an EOL on that ends among the equal bits
   counted : (bits more found other : Bits) → Within bits → Leaves (bits ++ true ∷ x) found → Leaves (bits ++ true ∷ y) other
       → after_eol 0 found ≡ Some (more ++ true ∷ x) → after_eol 0 other ≡ Some (more ++ true ∷ y)
       → CountAlike x y more (eols_here settings found) (eols_here settings other)
-  counted bits more found other within leaves leaves2 e f = by settings.encoding settings.end_of_block refl group3
+  counted bits more found other within leaves leaves2 e f = by_encoding settings.encoding settings.end_of_block refl group3
     where
-      by : (encoding : EncodingMode) (block : Bool) → settings.encoding ≡ encoding → IsGroup3 encoding
+      by_encoding : (encoding : EncodingMode) (block : Bool) → settings.encoding ≡ encoding → IsGroup3 encoding
           → CountAlike x y more (eols_by encoding block found) (eols_by encoding block other)
-      by Group3_1D block same is = eols_found x y tail_x.none tail_y.none more found other e f
-      by Group3_2D block same is = last_tag_alike x y tail_x.none tail_y.none (tail_x.tag same) (tail_y.tag same) more _ _
-          (tagged_found x y tail_x.none tail_y.none (tail_x.tag same) (tail_y.tag same) more found other e f)
+      by_encoding Group3_1D block same is = eols_found x y tail_x.none tail_y.none more found other e f
+      by_encoding Group3_2D block same is = last_tag_alike x y tail_x.none tail_y.none (tail_x.tag same) (tail_y.tag same)
+          more _ _ (tagged_found x y tail_x.none tail_y.none (tail_x.tag same) (tail_y.tag same) more found other e f)
           (λ count g. few_x bits found count same within leaves g) (λ count g. few_y bits other count same within leaves2 g)
-      by Group4 block same (inl is) = absurd cc
-      by Group4 block same (inr is) = absurd cc
+      by_encoding Group4 block same (inl is) = absurd cc
+      by_encoding Group4 block same (inr is) = absurd cc
 
   -- after EOLs the last of which ends where the line begins
   unless_there : (rows : List Row) (u v : Bits) (count : ℕ)
       → Both (unless_over settings (sought rows u) (count, x)) (unless_over settings (sought rows v) (count, y))
-  unless_there rows u v count = rw (not_past_end x after tail_x.next, not_past_end y after tail_y.next)
-      (by (((settings.end_of_block && leb (eols_of_end settings.encoding) count) || limit_met settings (length rows)) || false))
+  unless_there rows u v count = rw (not_past_end x after tail_x.next, not_past_end y after tail_y.next) (either_way
+      (((settings.end_of_block && leb (eols_of_end settings.encoding) count) || limit_met settings (length rows)) || false))
     where
-      by : (t : Bool) → Both (cond t (ends_with (sought rows u) (Ok x)) (Turn.next (sought rows x)))
+      either_way : (t : Bool) → Both (cond t (ends_with (sought rows u) (Ok x)) (Turn.next (sought rows x)))
           (cond t (ends_with (sought rows v) (Ok y)) (Turn.next (sought rows y)))
-      by true = EndsAlike.there refl refl refl
-      by false = RunsAlike.there rows refl refl
+      either_way true = EndsAlike.there refl refl refl
+      either_way false = RunsAlike.there rows refl refl
 
   -- after EOLs that end at or before the line
   unless_ahead : (rows : List Row) (u v bits : Bits) (found other : ℕ × Bits) → Closes bits → Within bits
       → CountAlike x y bits found other
       → Both (unless_over settings (sought rows u) found) (unless_over settings (sought rows v) other)
   unless_ahead rows u v bits (count, here) (count2, other) closes within (same, inl (a, leaves, keeps, e, f)) =
-      rw (← same, e, f, not_end a x, not_end a y)
-      (by (((settings.end_of_block && leb (eols_of_end settings.encoding) count) || limit_met settings (length rows)) || false))
+      rw (← same, e, f, not_end a x, not_end a y) (either_way
+      (((settings.end_of_block && leb (eols_of_end settings.encoding) count) || limit_met settings (length rows)) || false))
     where
       still : Within a
       still = within_later bits a within leaves
 
-      by : (t : Bool) → Both (cond t (ends_with (sought rows u) (Ok (a ++ true ∷ x))) (Turn.next (sought rows (a ++ true ∷ x))))
-          (cond t (ends_with (sought rows v) (Ok (a ++ true ∷ y))) (Turn.next (sought rows (a ++ true ∷ y))))
-      by true = EndsAlike.early a (within_short a still) refl refl refl
-      by false = RunsAlike.ahead rows a (keeps closes) still refl refl
+      either_way : (t : Bool) → Both (cond t (ends_with (sought rows u) (Ok (a ++ true ∷ x))) (Turn.next (sought rows
+          (a ++ true ∷ x)))) (cond t (ends_with (sought rows v) (Ok (a ++ true ∷ y))) (Turn.next (sought rows (a ++ true ∷ y))))
+      either_way true = EndsAlike.early a (within_short a still) refl refl refl
+      either_way false = RunsAlike.ahead rows a (keeps closes) still refl refl
   unless_ahead rows u v bits (count, here) (count2, other) closes within (same, inr (e, f)) = rw (← same, e, f)
       (unless_there rows u v count)
 
@@ -361,14 +353,15 @@ module _ (settings : DecodeSettings) (group3 : IsGroup3 settings.encoding) (leni
       → Both (after_row settings (sought rows (bits ++ true ∷ x))) (after_row settings (sought rows (bits ++ true ∷ y)))
   row_ahead rows bits inside within = by_limit (cases_Bool (limit_met settings (length rows)))
     where
-      at_limit : (found other : ℕ × Bits) → RestAlike x y bits found.1 other.1
-          → Both (ends_with (sought rows (bits ++ true ∷ x)) (Ok found.1)) (ends_with (sought rows (bits ++ true ∷ y)) (Ok other.1))
+      at_limit : (found other : ℕ × Bits) → RestAlike x y bits found.1 other.1 → Both
+          (ends_with (sought rows (bits ++ true ∷ x)) (Ok found.1)) (ends_with (sought rows (bits ++ true ∷ y)) (Ok other.1))
       at_limit found other (inl (a, leaves, keeps, e, f)) = EndsAlike.early a (within_short a (within_later bits a within leaves))
           (ap Ok e) (ap Ok f) refl
       at_limit found other (inr (e, f)) = EndsAlike.there (ap Ok e) (ap Ok f) refl
 
-      by_past : limit_met settings (length rows) ≡ false → (o p : Option Bits) → past 0 (bits ++ true ∷ x) ≡ o → past 0 (bits ++ true ∷ y) ≡ p
-          → PastAlike x y bits o p → Both (after_row settings (sought rows (bits ++ true ∷ x))) (after_row settings (sought rows (bits ++ true ∷ y)))
+      by_past : limit_met settings (length rows) ≡ false → (o p : Option Bits)
+          → past 0 (bits ++ true ∷ x) ≡ o → past 0 (bits ++ true ∷ y) ≡ p → PastAlike x y bits o p
+          → Both (after_row settings (sought rows (bits ++ true ∷ x))) (after_row settings (sought rows (bits ++ true ∷ y)))
       by_past open_limit o p e f (inl (before, a, is, g, h)) =
           let one = row_past settings lenient rows (bits ++ true ∷ x) (a ++ true ∷ x) open_limit (e ∙ g) in
           let two = row_past settings lenient rows (bits ++ true ∷ y) (a ++ true ∷ y) open_limit (f ∙ h) in
@@ -394,61 +387,60 @@ module _ (settings : DecodeSettings) (group3 : IsGroup3 settings.encoding) (leni
         sought_done settings rows (bits ++ true ∷ x) met,
         sought_done settings rows (bits ++ true ∷ y) met,
       ) (at_limit (eols_here settings (bits ++ true ∷ x)) (eols_here settings (bits ++ true ∷ y)) (counted_here bits within).1)
-      by_limit (inr open_limit) = by_past open_limit (past 0 (bits ++ true ∷ x)) (past 0 (bits ++ true ∷ y)) refl refl (past_alike x y 0 bits)
+      by_limit (inr open_limit) =
+          by_past open_limit (past 0 (bits ++ true ∷ x)) (past 0 (bits ++ true ∷ y)) refl refl (past_alike x y 0 bits)
 
   -- a line that begins before is the same
   line_in_front : (reference : Row) (bits : Bits) → Closes bits
       → LineAlike (true ∷ x) (true ∷ y) (line_here settings reference (bits ++ true ∷ x))
       (line_here settings reference (bits ++ true ∷ y))
-  line_in_front reference bits closes = rw lenient (by settings.encoding group3 bits closes)
+  line_in_front reference bits closes = rw lenient (by_encoding settings.encoding group3 bits closes)
     where
-      by : (encoding : EncodingMode) → IsGroup3 encoding → (bits : Bits) → Closes bits
+      by_encoding : (encoding : EncodingMode) → IsGroup3 encoding → (bits : Bits) → Closes bits
           → LineAlike (true ∷ x) (true ∷ y) (line_by encoding false settings.columns reference (bits ++ true ∷ x))
           (line_by encoding false settings.columns reference (bits ++ true ∷ y))
-      by Group3_1D is bits closes = line_1d_alike (true ∷ x) (true ∷ y) settings.columns _ _
+      by_encoding Group3_1D is bits closes = line_1d_alike (true ∷ x) (true ∷ y) settings.columns _ _
           (bits, closes_inside bits closes, refl, refl)
-      by Group3_2D is [] closes = absurd (let e = closes.1 in omega
+      by_encoding Group3_2D is [] closes = absurd (let e = closes.1 in omega
           (arith, ap length e, length-append closes.0 (replicate 11 false)))
-      by Group3_2D is (true ∷ bits) closes = line_1d_alike (true ∷ x) (true ∷ y) settings.columns _ _
+      by_encoding Group3_2D is (true ∷ bits) closes = line_1d_alike (true ∷ x) (true ∷ y) settings.columns _ _
           (bits, closes_tail true bits closes, refl, refl)
-      by Group3_2D is (false ∷ bits) closes =
+      by_encoding Group3_2D is (false ∷ bits) closes =
           line_2d_alike (true ∷ x) (true ∷ y) settings.columns reference _ _ (bits, closes_tail false bits closes, refl, refl)
-      by Group4 (inl is) bits closes = absurd cc
-      by Group4 (inr is) bits closes = absurd cc
+      by_encoding Group4 (inl is) bits closes = absurd cc
+      by_encoding Group4 (inr is) bits closes = absurd cc
 
   line_ahead : (rows : List Row) (bits : Bits) → Closes bits → Within bits
       → Both (move_on settings (sought rows (bits ++ true ∷ x))) (move_on settings (sought rows (bits ++ true ∷ y)))
   line_ahead rows bits closes within =
       rw (move_sought settings lenient rows (bits ++ true ∷ x), move_sought settings lenient rows (bits ++ true ∷ y))
-      (by (line_here settings (row_before settings.columns rows) (bits ++ true ∷ x))
+      (by_line (line_here settings (row_before settings.columns rows) (bits ++ true ∷ x))
       (line_here settings (row_before settings.columns rows) (bits ++ true ∷ y))
       (line_in_front (row_before settings.columns rows) bits closes)
       (line_by_leaves settings.encoding settings.strict settings.columns (row_before settings.columns rows) (bits ++ true ∷ x)))
     where
-      by : (line other : Line) → LineAlike (true ∷ x) (true ∷ y) line other → LineLeaves (bits ++ true ∷ x) line
+      by_line : (line other : Line) → LineAlike (true ∷ x) (true ∷ y) line other → LineLeaves (bits ++ true ∷ x) line
           → Both (after_row settings (sought (rows ++ row_of settings.columns line ∷ []) (rest_of line (bits ++ true ∷ x))))
           (after_row settings (sought (rows ++ row_of settings.columns other ∷ []) (rest_of other (bits ++ true ∷ y))))
-      by (Line.whole row here) (Line.whole same other) (is, (a, inside, e, f)) leaves =
+      by_line (Line.whole row here) (Line.whole same other) (is, (a, inside, e, f)) leaves =
           let split : bits ++ true ∷ x ≡ (leaves.0 ++ a) ++ true ∷ x
           = leaves.1 ∙ ap (λ (b : Bits). leaves.0 ++ b) e ∙ sym (append_assoc leaves.0 a (true ∷ x)) in
           let suffix : Leaves bits a = (leaves.0, append_cancel_right bits (leaves.0 ++ a) (true ∷ x) split) in
           rw (← is, e, f) (row_ahead (rows ++ row ∷ []) a inside (within_later bits a within suffix))
-      by (Line.whole row here) (Line.broken front fault) alike leaves = absurd alike
-      by (Line.broken front fault) (Line.whole row here) alike leaves = absurd alike
-      by (Line.broken front fault) (Line.broken same other) is leaves =
+      by_line (Line.whole row here) (Line.broken front fault) alike leaves = absurd alike
+      by_line (Line.broken front fault) (Line.whole row here) alike leaves = absurd alike
+      by_line (Line.broken front fault) (Line.broken same other) is leaves =
           rw (← is) (row_ahead (rows ++ row_of settings.columns (Line.broken front fault) ∷ []) bits
           (closes_inside bits closes) within)
 
   -- ---- At the line, and at those that are read against its row
   -- after a row that may differ, if the next EOL is the same
-  row_there : (before these those : List Row) (u v z : Bits) (left : ℕ) → Begins before → length these ≡ length those
-      → 0 < length these
-      → length these + left ≤ differ → past 0 u ≡ Some z → past 0 v ≡ Some z → length u ≤ length x → length v ≤ length y
-      → length z ≤ length after
-      → Settles settings left z
+  row_there : (before these those : List Row) (u v z : Bits) (left : ℕ)
+      → Begins before → length these ≡ length those → 0 < length these → length these + left ≤ differ → past 0 u ≡ Some z
+      → past 0 v ≡ Some z → length u ≤ length x → length v ≤ length y → length z ≤ length after → Settles settings left z
       → Both (after_row settings (sought (before ++ these) u)) (after_row settings (sought (before ++ those) v))
   row_there before these those u v z left begins same some few e f le le2 short settled =
-      by (cases_Bool (limit_met settings (length (before ++ these))))
+      in_each_case (cases_Bool (limit_met settings (length (before ++ these))))
     where
       as_many : length (before ++ these) ≡ length (before ++ those)
       as_many = omega (arith, same, length-append before these, length-append before those)
@@ -471,17 +463,15 @@ module _ (settings : DecodeSettings) (group3 : IsGroup3 settings.encoding) (leni
         same,
         omega arith,
         ap (λ (r : List Row). before ++ r) (sym (nil these)),
-        ap
-            (λ (r : List Row). before ++ r) (sym (nil those)),
+        ap (λ (r : List Row). before ++ r) (sym (nil those)),
         begins,
       )
 
       settle : (n : ℕ) → length these + n ≤ differ → Settles settings n z → (found : Bits) → after_eol 0 found ≡ Some z
           → Both (unless_over settings (sought (before ++ these) u) (eols_here settings found))
           (unless_over settings (sought (before ++ those) v) (eols_here settings found))
-      settle zero most unreferred found g = unless_beyond (before ++ these) (before ++ those) true u v
-          (eols_here settings found) alike
-          (omega (arith, counted_shorter found z g, short))
+      settle zero most unreferred found g = unless_beyond (before ++ these)
+          (before ++ those) true u v (eols_here settings found) alike (omega (arith, counted_shorter found z g, short))
           (elim (unreferred found g) [ inl ends ↦ inl ends | inr line ↦ inr (line _ _) ])
       settle (suc n) most (next, shorter, one, behind, further) found g = rw (one found g)
           (subst (λ (m : ℕ). Both (unless_over settings (sought (before ++ these) u) (1, z))
@@ -493,18 +483,17 @@ module _ (settings : DecodeSettings) (group3 : IsGroup3 settings.encoding) (leni
           on true = EndsAlike.later z short refl refl alike
           on false = RunsAlike.among before these those z n begins same most (next, shorter, one, behind, further) short refl refl
 
-      by : (limit_met settings (length (before ++ these)) ≡ true) ⊎ (limit_met settings (length (before ++ these)) ≡ false)
-          → Both (after_row settings (sought (before ++ these) u)) (after_row settings (sought (before ++ those) v))
-      by (inl met) =
+      in_each_case : (limit_met settings (length (before ++ these)) ≡ true) ⊎ (limit_met settings (length (before ++ these))
+          ≡ false) → Both (after_row settings (sought (before ++ these) u)) (after_row settings (sought (before ++ those) v))
+      in_each_case (inl met) =
           rw (
             sought_done settings (before ++ these) u met,
-            sought_done settings (before ++ those) v
-                (ap (limit_met settings) (sym as_many) ∙ met),
+            sought_done settings (before ++ those) v (ap (limit_met settings) (sym as_many) ∙ met),
           )
           (EndsAlike.limit before these those (eols_here settings u).1 (eols_here settings v).1 begins same some (omega arith)
           (limit_is met) refl refl refl refl
           (omega (arith, (eols_here_counted settings u).0, le)) (omega (arith, (eols_here_counted settings v).0, le2)))
-      by (inr open_limit) =
+      in_each_case (inr open_limit) =
           let one = row_past settings lenient (before ++ these) u z open_limit e in
           let two = row_past settings lenient (before ++ those) v z (ap (limit_met settings) (sym as_many) ∙ open_limit) f in
           rw (one.3, two.3, eols_here_same settings two.0 one.0 z two.2 one.2) (settle left few settled one.0 one.2)
@@ -554,15 +543,13 @@ module _ (settings : DecodeSettings) (group3 : IsGroup3 settings.encoding) (leni
         rest_shorter line here
             (line_by_leaves settings.encoding settings.strict settings.columns
             (row_before settings.columns (before ++ these)) here),
-      ))
-      (omega (
+      )) (omega (
         arith,
         short_y,
         rest_shorter other here
             (line_by_leaves settings.encoding settings.strict settings.columns
             (row_before settings.columns (before ++ those)) here),
-      ))
-      (omega (arith, shorter, short)) further)
+      )) (omega (arith, shorter, short)) further)
 
   -- a turn of two such runs
   pub moves_alike : (s t : Progress) → ((rows : List Row) → s ≡ sought rows x → t ≡ sought rows y → Begins rows)

@@ -1,22 +1,15 @@
 -- A turn of a lenient run that seeks EOLs.
-use Rattle.std.proofs.Common.{◌≡◌, ℕ, Bool, true, false, not, ◌&&◌, eqb, List, [], ◌∷◌, ◌++◌, length, Option, Some, None}
-use Rattle.std.proofs.Common.{Ok, refl, sym, ap, ◌∙◌, arith}
-use Rattle.std.proofs.lemmas.Bool.{and_from, not_from_false, cond-true, cond-false, ne_eqb}
-use Rattle.hayro_ccitt.specs.declared.settings.EncodingMode.{EncodingMode}
-use Rattle.hayro_ccitt.specs.declared.settings.EncodingMode.TheVariants.{Group4, Group3_1D, Group3_2D}
-use Rattle.hayro_ccitt.specs.declared.settings.DecodeSettings.{DecodeSettings}
-use Rattle.hayro_ccitt.specs.Bits.{Bits}
-use Rattle.hayro_ccitt.specs.Rows.{Row}
-use Rattle.hayro_ccitt.specs.Lines.{Line, line_1d}
-use Rattle.hayro_ccitt.specs.EndOfLine.{after_eol, one_more, all_eols, next_eol, pass_last_tag}
-use Rattle.hayro_ccitt.specs.PlainReading.{Progress, row_before, line_by, eols_by, line_here, limit_met, at_end, ends_with, eols_here}
-use Rattle.hayro_ccitt.specs.PlainReading.{after_line, move_on, line_of_turn}
-use Rattle.hayro_ccitt.specs.Locality.{row_of, row_at}
+use Rattle.hayro_ccitt.proofs.Names.{◌≡◌, ℕ, Bool, true, false, not, ◌&&◌, eqb, List, [], ◌∷◌, ◌++◌, length, Option, Some, None}
+use Rattle.hayro_ccitt.proofs.Names.{Ok, refl, sym, ap, ◌∙◌, arith, and_from, not_from_false, cond-true, cond-false, ne_eqb}
+use Rattle.hayro_ccitt.proofs.Names.{EncodingMode, Group4, Group3_1D, Group3_2D, DecodeSettings, Bits, Row, Line, line_1d}
+use Rattle.hayro_ccitt.proofs.Names.{after_eol, one_more, all_eols, next_eol, pass_last_tag, Progress, row_before, line_by}
+use Rattle.hayro_ccitt.proofs.Names.{eols_by, line_here, limit_met, at_end, ends_with, eols_here, after_line, move_on}
+use Rattle.hayro_ccitt.proofs.Names.{line_of_turn, row_of, row_at, common_steps}
+use Rattle.hayro_ccitt.proofs.DamagedLines.PastEol.{past, past-eol, past_is, then_after, all_eols-some, all_eols-none}
+use Rattle.hayro_ccitt.proofs.DamagedLines.PastEol.{all_tagged-some, all_tagged-none, next_eol_leaves}
 use Rattle.hayro_ccitt.proofs.DrawingLines.LinesLeaveBits.{Leaves}
-use Rattle.hayro_ccitt.proofs.Readings.TurnsMoveOn.{eols-some, eols-none, eols_here_some}
-use Rattle.hayro_ccitt.proofs.DamagedLines.PastEol.{past, past-eol, past_is, then_after, all_eols-some, all_eols-none, all_tagged-some, all_tagged-none, next_eol_leaves}
 use Rattle.hayro_ccitt.proofs.Readings.RowsAndGaps.{unless_over, seek_from, after_row}
-use Rattle.std.proofs.lemmas.Grind.{common_steps}
+use Rattle.hayro_ccitt.proofs.Readings.TurnsMoveOn.{eols-some, eols-none, eols_here_some}
 
 -- a run that seeks EOLs
 abbrev pub sought : List Row → Bits → Progress
@@ -28,7 +21,8 @@ rest_of (Line.whole row rest) here = rest
 rest_of (Line.broken front fault) here = here
 
 -- the next EOL, by what follows it
-pub found_next : (here after : Bits) → past 0 here ≡ Some after → (found : Bits) × (next_eol here ≡ Some found) × (after_eol 0 found ≡ Some after)
+pub found_next : (here after : Bits) → past 0 here ≡ Some after → (found : Bits) × (next_eol here ≡ Some found)
+    × (after_eol 0 found ≡ Some after)
 found_next here after e = grind (arith, common_steps, past_is, then_after)
 
 -- where an EOL is due the data continue
@@ -38,29 +32,29 @@ not_past_end here after e = grind (arith, common_steps)
 module _ (settings : DecodeSettings) where
   -- no EOL is counted where there is none
   pub eols_here_none : (here : Bits) → after_eol 0 here ≡ None → eols_here settings here ≡ (0, here)
-  eols_here_none here e = by settings.encoding settings.end_of_block
+  eols_here_none here e = by_encoding settings.encoding settings.end_of_block
     where
       no_tag : (bits : Bits) → pass_last_tag (0, bits) ≡ (0, bits)
       no_tag [] = refl
       no_tag (true ∷ bits) = refl
       no_tag (false ∷ bits) = refl
 
-      by : (encoding : EncodingMode) (block : Bool) → eols_by encoding block here ≡ (0, here)
-      by Group3_1D block = all_eols-none here e
-      by Group3_2D block = ap pass_last_tag (all_tagged-none here e) ∙ no_tag here
-      by Group4 true = eols-none 2 here e
-      by Group4 false = all_eols-none here e
+      by_encoding : (encoding : EncodingMode) (block : Bool) → eols_by encoding block here ≡ (0, here)
+      by_encoding Group3_1D block = all_eols-none here e
+      by_encoding Group3_2D block = ap pass_last_tag (all_tagged-none here e) ∙ no_tag here
+      by_encoding Group4 true = eols-none 2 here e
+      by_encoding Group4 false = all_eols-none here e
 
   -- the EOLs from one on are given by what follows it
   pub eols_here_same : (here there after : Bits) → after_eol 0 here ≡ Some after → after_eol 0 there ≡ Some after
       → eols_here settings here ≡ eols_here settings there
-  eols_here_same here there after e f = by settings.encoding settings.end_of_block
+  eols_here_same here there after e f = by_encoding settings.encoding settings.end_of_block
     where
-      by : (encoding : EncodingMode) (block : Bool) → eols_by encoding block here ≡ eols_by encoding block there
-      by Group3_1D block = all_eols-some here after e ∙ sym (all_eols-some there after f)
-      by Group3_2D block = ap pass_last_tag (all_tagged-some here after e ∙ sym (all_tagged-some there after f))
-      by Group4 true = eols-some 1 here after e ∙ sym (eols-some 1 there after f)
-      by Group4 false = all_eols-some here after e ∙ sym (all_eols-some there after f)
+      by_encoding : (encoding : EncodingMode) (block : Bool) → eols_by encoding block here ≡ eols_by encoding block there
+      by_encoding Group3_1D block = all_eols-some here after e ∙ sym (all_eols-some there after f)
+      by_encoding Group3_2D block = ap pass_last_tag (all_tagged-some here after e ∙ sym (all_tagged-some there after f))
+      by_encoding Group4 true = eols-some 1 here after e ∙ sym (eols-some 1 there after f)
+      by_encoding Group4 false = all_eols-some here after e ∙ sym (all_eols-some there after f)
 
   -- at the limit a run is over, past the EOLs here
   pub sought_done : (rows : List Row) (here : Bits) → limit_met settings (length rows) ≡ true
@@ -72,7 +66,7 @@ module _ (settings : DecodeSettings) where
     pub row_past : (rows : List Row) (here after : Bits) → limit_met settings (length rows) ≡ false → past 0 here ≡ Some after
         → (found : Bits) × Leaves here found × (after_eol 0 found ≡ Some after)
         × (after_row settings (sought rows here) ≡ unless_over settings (sought rows here) (eols_here settings found))
-    row_past rows here after short e = by (after_eol 0 here) refl
+    row_past rows here after short e = by_after_eol (after_eol 0 here) refl
       where
         run : Progress
         run = sought rows here
@@ -80,15 +74,15 @@ module _ (settings : DecodeSettings) where
         test : Bool
         test = ((eqb (eols_here settings here).0 0 && true) && not (limit_met settings (length rows))) && not (at_end here)
 
-        by : (o : Option Bits) → after_eol 0 here ≡ o → (found : Bits) × Leaves here found × (after_eol 0 found ≡ Some after)
-            × (after_row settings (sought rows here) ≡ unless_over settings (sought rows here) (eols_here settings found))
-        by (Some next) f =
+        by_after_eol : (o : Option Bits) → after_eol 0 here ≡ o → (found : Bits) × Leaves here found × (after_eol 0 found ≡ Some
+            after) × (after_row settings (sought rows here) ≡ unless_over settings (sought rows here) (eols_here settings found))
+        by_after_eol (Some next) f =
             let same : ◌≡◌ {A = Option Bits} (Some next) (Some after) = sym (past-eol 0 here next f) ∙ e in
             let counts = eols_here_some settings here next f in
             let no_test : test ≡ false = rw (ne_eqb (eols_here settings here).0 0 (λ z. absurd (omega (arith, z, counts)))) refl
             in
             (here, ([], refl), f ∙ same, cond-false test _ _ no_test)
-        by None f =
+        by_after_eol None f =
             let next = found_next here after e in
             let none : eqb (eols_here settings here).0 0 ≡ true = ap (λ (x : ℕ × Bits). eqb x.0 0) (eols_here_none here f) in
             let is_true : test ≡ true = grind (arith, common_steps, and_from, not_from_false, not_past_end) in (
@@ -103,12 +97,12 @@ module _ (settings : DecodeSettings) where
         → move_on settings (sought rows here) ≡ after_row settings
         (sought (rows ++ row_of settings.columns (line_of_turn settings (sought rows here)) ∷ [])
         (rest_of (line_of_turn settings (sought rows here)) here))
-    move_sought rows here = by (line_of_turn settings (sought rows here))
+    move_sought rows here = by_line (line_of_turn settings (sought rows here))
       where
-        by : (line : Line) → after_line settings (sought rows here) line ≡ after_row settings
+        by_line : (line : Line) → after_line settings (sought rows here) line ≡ after_row settings
             (sought (rows ++ row_of settings.columns line ∷ []) (rest_of line here))
-        by (Line.whole row rest) = grind (arith, common_steps)
-        by (Line.broken front fault) = grind (arith, common_steps)
+        by_line (Line.whole row rest) = grind (arith, common_steps)
+        by_line (Line.broken front fault) = grind (arith, common_steps)
 
 -- ---- One-dimensional data
 

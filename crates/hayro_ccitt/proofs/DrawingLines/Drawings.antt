@@ -1,17 +1,8 @@
 -- The turns of drawing, one after another.
-use Rattle.std.proofs.Common.{◌≡◌, ℕ, suc, Bool, true, false, cond, leb, [], length, Result, Ok, Err, refl}
-use Rattle.hayro_ccitt.specs.declared.codes.Mode.{Mode}
-use Rattle.hayro_ccitt.specs.declared.codes.Mode.TheVariants.{Horizontal}
-use Rattle.hayro_ccitt.specs.declared.error.DecodeError.{DecodeError}
-use Rattle.hayro_ccitt.specs.declared.error.DecodeError.TheVariants.{UnexpectedEof}
-use Rattle.hayro_ccitt.specs.Answers.{Step}
-use Rattle.hayro_ccitt.specs.Bits.{Bits}
-use Rattle.hayro_ccitt.specs.CodeLists.{mode_codes}
-use Rattle.hayro_ccitt.specs.CodeReading.{read_code}
-use Rattle.hayro_ccitt.specs.Repetition.{Turn, repeated}
-use Rattle.hayro_ccitt.specs.Rows.{Row, opposite, paint}
-use Rattle.hayro_ccitt.specs.Runs.{run_from}
-use Rattle.hayro_ccitt.specs.Lines.{Line, Pen, turn_behind, unless_fault, draw_run, draw_mode, draw_1d, draw_2d}
+use Rattle.hayro_ccitt.proofs.Names.{◌≡◌, ℕ, suc, Bool, true, false, cond, leb, [], length, Result, Ok, Err, refl, Mode}
+use Rattle.hayro_ccitt.proofs.Names.{Horizontal, DecodeError, UnexpectedEof, Step, Bits, mode_codes, read_code, Turn, repeated}
+use Rattle.hayro_ccitt.proofs.Names.{Row, opposite, paint, run_from, Line, Pen, turn_behind, unless_fault, draw_run, draw_mode}
+use Rattle.hayro_ccitt.proofs.Names.{draw_1d, draw_2d}
 
 -- what comes of a value, or the line that a fault ends
 abbrev pub try : {A : Type 0} → Row → Result A DecodeError → (A → Step) → Step
@@ -43,35 +34,42 @@ step_2d strict columns reference pen = (draw_2d strict columns reference pen).tu
 abbrev pub drawn_by : (Pen → Step) → Pen → Line
 drawn_by step pen = repeated step (Line.broken [] UnexpectedEof) (suc (length pen.rest)) pen
 
-unless_full_is : (full : Bool) (line : Line) (pen : Pen) (behind : Pen → Step) → turn_behind (cond full (Turn.done line) (Turn.next pen)) behind ≡ cond full (Turn.done line) (behind pen)
+unless_full_is : (full : Bool) (line : Line) (pen : Pen) (behind : Pen → Step)
+    → turn_behind (cond full (Turn.done line) (Turn.next pen)) behind ≡ cond full (Turn.done line) (behind pen)
 unless_full_is true line pen behind = refl
 unless_full_is false line pen behind = refl
 
 -- a step of a one-dimensional line is a run, unless the line is whole
-pub step_1d_is : (strict : Bool) (columns : ℕ) (pen : Pen) → step_1d strict columns pen ≡ step_unless_full columns pen (run_then strict columns pen Turn.next)
-step_1d_is strict columns pen = unless_full_is (leb columns (length pen.front)) (Line.whole pen.front pen.rest) pen (λ p. (draw_run strict columns p).turn)
+pub step_1d_is : (strict : Bool) (columns : ℕ) (pen : Pen)
+    → step_1d strict columns pen ≡ step_unless_full columns pen (run_then strict columns pen Turn.next)
+step_1d_is strict columns pen =
+    unless_full_is (leb columns (length pen.front)) (Line.whole pen.front pen.rest) pen (λ p. (draw_run strict columns p).turn)
 
 -- a step of a two-dimensional line is the mode that is read, unless the line is whole
 pub step_2d_is : (strict : Bool) (columns : ℕ) (reference : Row) (pen : Pen)
-    → step_2d strict columns reference pen ≡ step_unless_full columns pen (try pen.front (read_code mode_codes pen.rest) (λ mode. mode_step strict columns reference (record pen { rest = mode.1 }) mode.0))
+    → step_2d strict columns reference pen ≡ step_unless_full columns pen (try pen.front (read_code mode_codes pen.rest)
+    (λ mode. mode_step strict columns reference (record pen { rest = mode.1 }) mode.0))
 step_2d_is strict columns reference pen =
-    unless_full_is (leb columns (length pen.front)) (Line.whole pen.front pen.rest) pen (λ p. try p.front (read_code mode_codes p.rest) (λ mode. mode_step strict columns reference (record p { rest = mode.1 }) mode.0))
+    unless_full_is (leb columns (length pen.front)) (Line.whole pen.front pen.rest) pen (λ p. try p.front
+    (read_code mode_codes p.rest) (λ mode. mode_step strict columns reference (record p { rest = mode.1 }) mode.0))
 
 -- a step after a run is the run, and then that step
-pub run_then_is : (strict : Bool) (columns : ℕ) (pen : Pen) (behind : Pen → Step) → run_then strict columns pen behind ≡ turn_behind (draw_run strict columns pen).turn behind
-run_then_is strict columns pen behind = by (run_from pen.color (0, pen.rest))
+pub run_then_is : (strict : Bool) (columns : ℕ) (pen : Pen) (behind : Pen → Step)
+    → run_then strict columns pen behind ≡ turn_behind (draw_run strict columns pen).turn behind
+run_then_is strict columns pen behind = by_result (run_from pen.color (0, pen.rest))
   where
     painted : (r : Result Row DecodeError) (rest : Bits)
-        → try pen.front r (λ front. behind (record { front = front; color = opposite pen.color; rest = rest }))
-        ≡ turn_behind (try pen.front r (λ front. Turn.next (record { front = front; color = opposite pen.color; rest = rest }))) behind
+        → try pen.front r (λ front. behind (record { front = front; color = opposite pen.color; rest = rest })) ≡ turn_behind
+        (try pen.front r (λ front. Turn.next (record { front = front; color = opposite pen.color; rest = rest }))) behind
     painted (Ok front) rest = refl
     painted (Err fault) rest = refl
 
-    by : (r : Result (ℕ × Bits) DecodeError)
-        → try pen.front r (λ run. try pen.front (paint strict columns pen.front pen.color run.0) (λ front. behind (record { front = front; color = opposite pen.color; rest = run.1 })))
-        ≡ turn_behind (try pen.front r (λ run. try pen.front (paint strict columns pen.front pen.color run.0) (λ front. Turn.next (record { front = front; color = opposite pen.color; rest = run.1 })))) behind
-    by (Ok run) = painted (paint strict columns pen.front pen.color run.0) run.1
-    by (Err fault) = refl
+    by_result : (r : Result (ℕ × Bits) DecodeError) → try pen.front r (λ run. try pen.front (paint strict
+        columns pen.front pen.color run.0) (λ front. behind (record { front = front; color = opposite pen.color; rest = run.1 })))
+        ≡ turn_behind (try pen.front r (λ run. try pen.front (paint strict columns pen.front pen.color run.0)
+        (λ front. Turn.next (record { front = front; color = opposite pen.color; rest = run.1 })))) behind
+    by_result (Ok run) = painted (paint strict columns pen.front pen.color run.0) run.1
+    by_result (Err fault) = refl
 
 -- the two runs of a horizontal mode
 pub horizontal_is : (strict : Bool) (columns : ℕ) (reference : Row) (pen : Pen)

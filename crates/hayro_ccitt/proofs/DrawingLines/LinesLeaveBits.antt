@@ -1,22 +1,11 @@
 -- What a line leaves is a suffix of the bits that it began with.
-use Rattle.std.proofs.Common.{◌≡◌, ℕ, suc, ◌+◌, Bool, true, false, cond, ltb, leb, [], ◌∷◌, ◌++◌, length, Result, Ok, Err, refl, sym, ap, subst, ◌∙◌, append_assoc}
-use Rattle.hayro_ccitt.specs.declared.codes.Color.{Color}
-use Rattle.hayro_ccitt.specs.declared.error.DecodeError.{DecodeError}
-use Rattle.hayro_ccitt.specs.declared.error.DecodeError.TheVariants.{UnexpectedEof, Overflow}
-use Rattle.hayro_ccitt.specs.declared.settings.EncodingMode.{EncodingMode}
-use Rattle.hayro_ccitt.specs.declared.settings.EncodingMode.TheVariants.{Group4, Group3_1D, Group3_2D}
-use Rattle.hayro_ccitt.specs.Bits.{Bits}
-use Rattle.hayro_ccitt.specs.CodeReading.{read_code}
-use Rattle.hayro_ccitt.specs.Repetition.{Turn}
-use Rattle.hayro_ccitt.specs.Rows.{Row, opposite, paint}
-use Rattle.hayro_ccitt.specs.Runs.{codes_of, run_of_word, run_turn, run_from}
-use Rattle.hayro_ccitt.specs.Lines.{Line, Pen, start, line_1d, line_2d}
-use Rattle.hayro_ccitt.specs.PlainReading.{line_by}
-use Rattle.hayro_ccitt.proofs.DrawingLines.WhatFollows.{line_2d_found}
+use Rattle.hayro_ccitt.proofs.Names.{◌≡◌, ℕ, suc, ◌+◌, Bool, true, false, cond, ltb, leb, [], ◌∷◌, ◌++◌, length, Result, Ok, Err}
+use Rattle.hayro_ccitt.proofs.Names.{refl, sym, ap, subst, ◌∙◌, append_assoc, Color, DecodeError, UnexpectedEof, Overflow}
+use Rattle.hayro_ccitt.proofs.Names.{EncodingMode, Group4, Group3_1D, Group3_2D, Bits, read_code, Turn, Row, opposite, paint}
+use Rattle.hayro_ccitt.proofs.Names.{codes_of, run_of_word, run_turn, run_from, Line, Pen, start, line_1d, line_2d, line_by, Step}
+use Rattle.hayro_ccitt.proofs.{CodeWords.ReadCodes.read_code_found, Readings.Repeated.repeated_keeps}
 use Rattle.hayro_ccitt.proofs.DrawingLines.Drawings.{try, run_then, step_1d, step_1d_is}
-use Rattle.hayro_ccitt.specs.Answers.{Step}
-use Rattle.hayro_ccitt.proofs.Readings.Repeated.{repeated_keeps}
-use Rattle.hayro_ccitt.proofs.CodeWords.ReadCodes.{read_code_found}
+use Rattle.hayro_ccitt.proofs.DrawingLines.WhatFollows.{line_2d_found}
 
 -- the second bits are a suffix of the first
 abbrev pub Leaves : Bits → Bits → Type 0
@@ -37,25 +26,28 @@ TurnLeaves here (Turn.next t) = Leaves here t.1
 TurnLeaves here (Turn.done r) = FoundLeaves here r
 
 word_leaves : (here : Bits) (total : ℕ) (found : ℕ × Bits) → Leaves here found.1 → TurnLeaves here (run_of_word total found)
-word_leaves here total (n, rest) l = by (ltb 4294967295 (total + n)) (ltb n 64)
+word_leaves here total (n, rest) l = either_way (ltb 4294967295 (total + n)) (ltb n 64)
   where
-    by : (b c : Bool) → TurnLeaves here (cond b (Turn.done (Err Overflow)) (cond c (Turn.done (Ok (total + n, rest))) (Turn.next (total + n, rest))))
-    by true c = tt
-    by false true = l
-    by false false = l
+    either_way : (b c : Bool) → TurnLeaves here
+        (cond b (Turn.done (Err Overflow)) (cond c (Turn.done (Ok (total + n, rest))) (Turn.next (total + n, rest))))
+    either_way true c = tt
+    either_way false true = l
+    either_way false false = l
 
 run_turn_leaves : (color : Color) (total : ℕ) (here : Bits) → TurnLeaves here (run_turn color (total, here))
-run_turn_leaves color total here = by (read_code (codes_of color) here) refl
+run_turn_leaves color total here = by_read_code (read_code (codes_of color) here) refl
   where
-    by : (r : Result (ℕ × Bits) DecodeError) → read_code (codes_of color) here ≡ r → TurnLeaves here (run_turn color (total, here))
-    by (Ok (n, rest)) e = rw (e, run_turn) (word_leaves here total (n, rest) (let f = read_code_found (codes_of color) here n rest e in (f.0, f.2)))
-    by (Err fault) e = rw (e, run_turn) tt
+    by_read_code : (r : Result (ℕ × Bits) DecodeError) → read_code (codes_of color) here ≡ r
+        → TurnLeaves here (run_turn color (total, here))
+    by_read_code (Ok (n, rest)) e =
+        rw (e, run_turn) (word_leaves here total (n, rest) (let f = read_code_found (codes_of color) here n rest e in (f.0, f.2)))
+    by_read_code (Err fault) e = rw (e, run_turn) tt
 
 run_leaves : (color : Color) (total : ℕ) (here : Bits) → FoundLeaves here (run_from color (total, here))
 run_leaves color total here =
     repeated_keeps (run_turn color) (Err UnexpectedEof) (λ s. Leaves here s.1) (FoundLeaves here) tt
-    (λ s t p e. leaves_trans here s.1 t.1 p (subst (TurnLeaves s.1) e (run_turn_leaves color s.0 s.1)))
-    (λ s r p e. ends s.1 r p (subst (TurnLeaves s.1) e (run_turn_leaves color s.0 s.1))) (suc (length here)) (total, here) ([], refl)
+    (λ s t p e. leaves_trans here s.1 t.1 p (subst (TurnLeaves s.1) e (run_turn_leaves color s.0 s.1))) (λ s r p e. ends s.1 r p
+    (subst (TurnLeaves s.1) e (run_turn_leaves color s.0 s.1))) (suc (length here)) (total, here) ([], refl)
   where
     ends : (there : Bits) (r : Result (ℕ × Bits) DecodeError) → Leaves here there → FoundLeaves there r → FoundLeaves here r
     ends there (Ok found) p q = leaves_trans here there found.1 p q
@@ -72,10 +64,11 @@ StepLeaves here (Turn.next pen) = Leaves here pen.rest
 StepLeaves here (Turn.done line) = LineLeaves here line
 
 step_1d_leaves : (strict : Bool) (columns : ℕ) (pen : Pen) → StepLeaves pen.rest (step_1d strict columns pen)
-step_1d_leaves strict columns pen = subst (StepLeaves pen.rest) (sym (step_1d_is strict columns pen)) (full (leb columns (length pen.front)))
+step_1d_leaves strict columns pen =
+    subst (StepLeaves pen.rest) (sym (step_1d_is strict columns pen)) (full (leb columns (length pen.front)))
   where
-    painted : (n : ℕ) (rest : Bits) (r : Result Row DecodeError) → Leaves pen.rest rest
-        → StepLeaves pen.rest (try pen.front r (λ front. Turn.next (record { front = front; color = opposite pen.color; rest = rest })))
+    painted : (n : ℕ) (rest : Bits) (r : Result Row DecodeError) → Leaves pen.rest rest → StepLeaves pen.rest
+        (try pen.front r (λ front. Turn.next (record { front = front; color = opposite pen.color; rest = rest })))
     painted n rest (Ok front) l = l
     painted n rest (Err fault) l = tt
 
@@ -85,7 +78,8 @@ step_1d_leaves strict columns pen = subst (StepLeaves pen.rest) (sym (step_1d_is
     drew (Ok (n, rest)) l = painted n rest (paint strict columns pen.front pen.color n) l
     drew (Err fault) l = tt
 
-    full : (b : Bool) → StepLeaves pen.rest (cond b (Turn.done (Line.whole pen.front pen.rest)) (run_then strict columns pen Turn.next))
+    full : (b : Bool)
+        → StepLeaves pen.rest (cond b (Turn.done (Line.whole pen.front pen.rest)) (run_then strict columns pen Turn.next))
     full true = ([], refl)
     full false = drew (run_from pen.color (0, pen.rest)) (run_leaves pen.color 0 pen.rest)
 
@@ -93,8 +87,8 @@ step_1d_leaves strict columns pen = subst (StepLeaves pen.rest) (sym (step_1d_is
 pub line_1d_leaves : (strict : Bool) (columns : ℕ) (here : Bits) → LineLeaves here (line_1d strict columns here)
 line_1d_leaves strict columns here =
     repeated_keeps (step_1d strict columns) (Line.broken [] UnexpectedEof) (λ s. Leaves here s.rest) (LineLeaves here) tt
-    (λ s t p e. leaves_trans here s.rest t.rest p (subst (StepLeaves s.rest) e (step_1d_leaves strict columns s)))
-    (λ s r p e. ends s.rest r p (subst (StepLeaves s.rest) e (step_1d_leaves strict columns s))) (suc (length here)) (start here) ([], refl)
+    (λ s t p e. leaves_trans here s.rest t.rest p (subst (StepLeaves s.rest) e (step_1d_leaves strict columns s))) (λ s r p e.
+    ends s.rest r p (subst (StepLeaves s.rest) e (step_1d_leaves strict columns s))) (suc (length here)) (start here) ([], refl)
   where
     ends : (there : Bits) (line : Line) → Leaves here there → LineLeaves there line → LineLeaves here line
     ends there (Line.whole row rest) p q = leaves_trans here there rest p q
@@ -103,11 +97,12 @@ line_1d_leaves strict columns here =
 -- and a two-dimensional one
 line_2d_leaves : (strict : Bool) (columns : ℕ) (reference : Row) (here : Bits)
     → LineLeaves here (line_2d strict columns reference here)
-line_2d_leaves strict columns reference here = by (line_2d strict columns reference here) refl
+line_2d_leaves strict columns reference here = by_line_2d (line_2d strict columns reference here) refl
   where
-    by : (line : Line) → line_2d strict columns reference here ≡ line → LineLeaves here line
-    by (Line.whole row rest) e = let found = line_2d_found strict columns reference here row rest e in (found.bits, found.is)
-    by (Line.broken front fault) e = tt
+    by_line_2d : (line : Line) → line_2d strict columns reference here ≡ line → LineLeaves here line
+    by_line_2d (Line.whole row rest) e = let found = line_2d_found strict columns reference here row rest e in
+        (found.bits, found.is)
+    by_line_2d (Line.broken front fault) e = tt
 
 behind_tag : (tag : Bool) (here : Bits) (line : Line) → LineLeaves here line → LineLeaves (tag ∷ here) line
 behind_tag tag here (Line.whole row rest) leaves = (tag ∷ leaves.0, ap (λ (b : Bits). tag ∷ b) leaves.1)

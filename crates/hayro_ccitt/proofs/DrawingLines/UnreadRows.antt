@@ -1,32 +1,46 @@
 -- A line that isn't read is no row.
-use Rattle.std.proofs.Common.{◌≡◌, ◌≢◌, ℕ, Bool, true, false, not, ◌||◌, List, Result, Err, refl, sym, ap, subst, ◌∙◌}
-use Rattle.std.proofs.lemmas.Bool.{cond-true, or_from, or_parts, not-false, not_from_true}
-use Rattle.hayro_ccitt.specs.declared.error.DecodeError.{DecodeError}
-use Rattle.hayro_ccitt.specs.declared.error.DecodeError.TheVariants.{UnexpectedEof, InvalidCode, Overflow, OutOfMemory, Refused}
-use Rattle.hayro_ccitt.specs.Answers.{DrawsLine, IsFault, IsRepairable, RepairStoresChange, HasBlack, front_of}
-use Rattle.hayro_ccitt.specs.Bits.{Bits}
-use Rattle.hayro_ccitt.specs.Context.{Held, redrawn}
-use Rattle.hayro_ccitt.specs.Decoding.{SinkState, TakesOneRow}
-use Rattle.hayro_ccitt.specs.Lines.{Line}
-use Rattle.hayro_ccitt.specs.Rows.{Row}
-use Rattle.hayro_ccitt.specs.PlainReading.{row_of_line}
+use Rattle.hayro_ccitt.proofs.Names.{◌≡◌, ◌≢◌, ℕ, Bool, true, false, not, ◌||◌, List, Result, Err, refl, sym, ap, subst, ◌∙◌}
+use Rattle.hayro_ccitt.proofs.Names.{cond-true, or_from, or_parts, not-false, not_from_true, DecodeError, UnexpectedEof}
+use Rattle.hayro_ccitt.proofs.Names.{InvalidCode, Overflow, OutOfMemory, Refused, DrawsLine, IsFault, IsRepairable}
+use Rattle.hayro_ccitt.proofs.Names.{RepairStoresChange, HasBlack, front_of, Bits, Held, redrawn, SinkState, TakesOneRow, Line}
+use Rattle.hayro_ccitt.proofs.Names.{Row, row_of_line}
 use Rattle.hayro_ccitt.proofs.DrawingLines.DrawnLines.{memory_has_black, last_black}
 
-module _ {M : Type 0} (line : Line) (row : Result (Row × Bits) DecodeError) (step : M → List ℕ → M) (sink : SinkState M) (old new : Held) (held : new ≡ redrawn old new.front new.color) (rest : Bits) where
+module _ {M : Type 0} (line : Line) (row : Result (Row × Bits) DecodeError) (step : M → List ℕ → M) (sink : SinkState M)
+    (old new : Held) (held : new ≡ redrawn old new.front new.color) (rest : Bits) where
   -- a fault of the data is the row's
-  pub at_fault : (e : DecodeError) → row ≡ Err e → ◌≢◌ {A = Result (Unit {0}) DecodeError} (Err e) (Err OutOfMemory) → ◌≢◌ {A = Result (Unit {0}) DecodeError} (Err e) (Err Refused)
-      → TakesOneRow line row step sink sink old new (Err e) rest
+  pub at_fault : (e : DecodeError) → row ≡ Err e → ◌≢◌ {A = Result (Unit {0}) DecodeError} (Err e) (Err OutOfMemory)
+      → ◌≢◌ {A = Result (Unit {0}) DecodeError} (Err e) (Err Refused) → TakesOneRow line row step sink sink old new (Err e) rest
   at_fault e is memory refused =
-      record { taken = tt; fault = λ f. is; kept = refl; held = held; memory = λ k. absurd (memory k); refused = λ k. absurd (refused k); flag = λ k. absurd (refused k); no_flag = λ k. refl }
+      record {
+        taken = tt;
+        fault = λ f. is;
+        kept = refl;
+        held = held;
+        memory = λ k. absurd (memory k);
+        refused = λ k. absurd (refused k);
+        flag = λ k. absurd (refused k);
+        no_flag = λ k. refl;
+      }
 
   -- an allocation fails only if the line paints a black pixel
-  pub wants_memory : DrawsLine line (Err OutOfMemory) new.front rest → TakesOneRow line row step sink sink old new (Err OutOfMemory) rest
+  pub wants_memory : DrawsLine line (Err OutOfMemory) new.front rest
+      → TakesOneRow line row step sink sink old new (Err OutOfMemory) rest
   wants_memory draws =
-      record { taken = tt; fault = λ f. absurd f; kept = refl; held = held; memory = λ k. memory_has_black line new.front rest draws; refused = λ k. cc; flag = λ k. cc; no_flag = λ k. refl }
+      record {
+        taken = tt;
+        fault = λ f. absurd f;
+        kept = refl;
+        held = held;
+        memory = λ k. memory_has_black line new.front rest draws;
+        refused = λ k. cc;
+        flag = λ k. cc;
+        no_flag = λ k. refl;
+      }
 
   -- a line that isn't read, and whose fault is the row's
-  pub is_unread : (e : DecodeError) → ((fault : DecodeError) → line ≡ Line.broken new.front fault → row ≡ Err fault) → DrawsLine line (Err e) new.front rest
-      → TakesOneRow line row step sink sink old new (Err e) rest
+  pub is_unread : (e : DecodeError) → ((fault : DecodeError) → line ≡ Line.broken new.front fault → row ≡ Err fault)
+      → DrawsLine line (Err e) new.front rest → TakesOneRow line row step sink sink old new (Err e) rest
   is_unread UnexpectedEof fails draws = at_fault UnexpectedEof (fails UnexpectedEof draws) (λ k. cc) (λ k. cc)
   is_unread InvalidCode fails draws = at_fault InvalidCode (fails InvalidCode draws) (λ k. cc) (λ k. cc)
   is_unread Overflow fails draws = at_fault Overflow (fails Overflow draws) (λ k. cc) (λ k. cc)
@@ -34,22 +48,34 @@ module _ {M : Type 0} (line : Line) (row : Result (Row × Bits) DecodeError) (st
   is_unread Refused fails draws = absurd draws
 
 -- what a line that fails to allocate, or whose rest does, is taken for
-wants_rest : {M : Type 0} (line : Line) (row : Result (Row × Bits) DecodeError) (step : M → List ℕ → M) (sink : SinkState M) (old new : Held) (rest : Bits)
-    → new ≡ redrawn old new.front new.color → HasBlack (front_of line) → TakesOneRow line row step sink sink old new (Err OutOfMemory) rest
+wants_rest : {M : Type 0} (line : Line) (row : Result (Row × Bits) DecodeError) (step : M → List ℕ → M)
+    (sink : SinkState M) (old new : Held) (rest : Bits) → new ≡ redrawn old new.front new.color → HasBlack (front_of line)
+    → TakesOneRow line row step sink sink old new (Err OutOfMemory) rest
 wants_rest line row step sink old new rest held black =
-    record { taken = tt; fault = λ f. absurd f; kept = refl; held = held; memory = λ k. black; refused = λ k. cc; flag = λ k. cc; no_flag = λ k. refl }
+    record {
+      taken = tt;
+      fault = λ f. absurd f;
+      kept = refl;
+      held = held;
+      memory = λ k. black;
+      refused = λ k. cc;
+      flag = λ k. cc;
+      no_flag = λ k. refl;
+    }
 
 -- ---- A line of Group 3 that isn't repaired
 
-module _ {M : Type 0} (line : Line) (start : Bits) (step : M → List ℕ → M) (sink : SinkState M) (old new : Held) (held : new ≡ redrawn old new.front new.color) (rest : Bits) where
+module _ {M : Type 0} (line : Line) (start : Bits) (step : M → List ℕ → M) (sink : SinkState M) (old new : Held)
+    (held : new ≡ redrawn old new.front new.color) (rest : Bits) where
   abbrev row : Result (Row × Bits) DecodeError
   row = row_of_line old.settings old.has_eols start line
 
   -- the result of a repair that failed with an error
-  pub isnt_repaired : (e answer : DecodeError) → DrawsLine line (Err e) new.front rest
-      → (IsRepairable new e → answer ≡ OutOfMemory) → (IsRepairable new e → ◌≡◌ {A = Result (Unit {0}) DecodeError} (Err answer) (Err OutOfMemory) → RepairStoresChange new)
-      → ((IsRepairable new e → ⊥) → ◌≡◌ {A = Result (Unit {0}) DecodeError} (Err answer) (Err e)) → TakesOneRow line row step sink sink old new (Err answer) rest
-  isnt_repaired e answer draws only_memory memory otherwise = by (old.settings.strict || not old.has_eols) refl
+  pub isnt_repaired : (e answer : DecodeError) → DrawsLine line (Err e) new.front rest → (IsRepairable new e
+      → answer ≡ OutOfMemory) → (IsRepairable new e → ◌≡◌ {A = Result (Unit {0}) DecodeError} (Err answer) (Err OutOfMemory)
+      → RepairStoresChange new) → ((IsRepairable new e → ⊥) → ◌≡◌ {A = Result (Unit {0}) DecodeError} (Err answer) (Err e))
+      → TakesOneRow line row step sink sink old new (Err answer) rest
+  isnt_repaired e answer draws only_memory memory otherwise = by_strict (old.settings.strict || not old.has_eols) refl
     where
       same_strict : new.settings.strict ≡ old.settings.strict
       same_strict = ap (λ (h : Held). h.settings.strict) held
@@ -57,17 +83,20 @@ module _ {M : Type 0} (line : Line) (start : Bits) (step : M → List ℕ → M)
       same_eols : new.has_eols ≡ old.has_eols
       same_eols = ap (λ (h : Held). h.has_eols) held
 
-      itself : (e : DecodeError) → DrawsLine line (Err e) new.front rest → ((fault : DecodeError) → line ≡ Line.broken new.front fault → row ≡ Err fault)
-          → ◌≡◌ {A = Result (Unit {0}) DecodeError} (Err answer) (Err e) → TakesOneRow line row step sink sink old new (Err answer) rest
+      itself : (e : DecodeError) → DrawsLine line (Err e) new.front rest
+          → ((fault : DecodeError) → line ≡ Line.broken new.front fault → row ≡ Err fault) → ◌≡◌
+          {A = Result (Unit {0}) DecodeError} (Err answer) (Err e) → TakesOneRow line row step sink sink old new (Err answer) rest
       itself e draws fails is =
           subst (λ (r : Result (Unit {0}) DecodeError). TakesOneRow line row step sink sink old new r rest) (sym is)
           (is_unread line row step sink old new held rest e fails draws)
 
       stores : line ≡ Line.broken new.front e → IsRepairable new e → TakesOneRow line row step sink sink old new (Err answer) rest
       stores is repairable =
-          let wants : ◌≡◌ {A = Result (Unit {0}) DecodeError} (Err answer) (Err OutOfMemory) = ap (λ (x : DecodeError). Err x) (only_memory repairable) in
+          let wants : ◌≡◌ {A = Result (Unit {0}) DecodeError} (Err answer) (Err OutOfMemory) =
+          ap (λ (x : DecodeError). Err x) (only_memory repairable) in
           let change = memory repairable wants in
-          let black : HasBlack new.front = last_black false new.front refl (λ none. absurd (let both : true ≡ false = sym change.1 ∙ none in cc)) in
+          let black : HasBlack new.front =
+          last_black false new.front refl (λ none. absurd (let both : true ≡ false = sym change.1 ∙ none in cc)) in
           subst (λ (r : Result (Unit {0}) DecodeError). TakesOneRow line row step sink sink old new r rest) (sym wants)
           (wants_rest line row step sink old new rest held (subst (λ (l : Line). HasBlack (front_of l)) (sym is) black))
 
@@ -85,23 +114,27 @@ module _ {M : Type 0} (line : Line) (start : Bits) (step : M → List ℕ → M)
 
       lenient : (e : DecodeError) → DrawsLine line (Err e) new.front rest → (old.settings.strict || not old.has_eols) ≡ false
           → (IsRepairable new e → TakesOneRow line row step sink sink old new (Err answer) rest)
-          → ((IsRepairable new e → ⊥) → ◌≡◌ {A = Result (Unit {0}) DecodeError} (Err answer) (Err e)) → TakesOneRow line row step sink sink old new (Err answer) rest
+          → ((IsRepairable new e → ⊥) → ◌≡◌ {A = Result (Unit {0}) DecodeError} (Err answer) (Err e))
+          → TakesOneRow line row step sink sink old new (Err answer) rest
       lenient UnexpectedEof draws is one two = one (repairs UnexpectedEof tt is)
       lenient InvalidCode draws is one two = one (repairs InvalidCode tt is)
       lenient Overflow draws is one two = one (repairs Overflow tt is)
       lenient OutOfMemory draws is one two =
-          subst (λ (r : Result (Unit {0}) DecodeError). TakesOneRow line row step sink sink old new r rest) (sym (two (λ r. r.fault)))
-          (wants_memory line row step sink old new held rest draws)
+          subst (λ (r : Result (Unit {0}) DecodeError). TakesOneRow line row step sink sink old new r rest)
+          (sym (two (λ r. r.fault))) (wants_memory line row step sink old new held rest draws)
       lenient Refused draws is one two = absurd draws
 
-      by : (b : Bool) → (old.settings.strict || not old.has_eols) ≡ b → TakesOneRow line row step sink sink old new (Err answer) rest
-      by true is =
-          itself e draws (λ fault broken. ap (row_of_line old.settings old.has_eols start) broken ∙ cond-true (old.settings.strict || not old.has_eols) _ _ is)
-          (otherwise (λ r. let both : true ≡ false = sym is ∙ or_from old.settings.strict (not old.has_eols) (sym same_strict ∙ r.lenient) (not_from_true old.has_eols (sym same_eols ∙ r.has_eols)) in cc))
-      by false is = lenient e draws is (λ r. stores (broken e draws r.fault) r) otherwise
+      by_strict : (b : Bool) → (old.settings.strict || not old.has_eols) ≡ b
+          → TakesOneRow line row step sink sink old new (Err answer) rest
+      by_strict true is =
+          itself e draws (λ fault broken. ap (row_of_line old.settings old.has_eols start) broken ∙ cond-true (old.settings.strict
+          || not old.has_eols) _ _ is) (otherwise (λ r. let both : true ≡ false = sym is ∙ or_from old.settings.strict
+          (not old.has_eols) (sym same_strict ∙ r.lenient) (not_from_true old.has_eols (sym same_eols ∙ r.has_eols)) in cc))
+      by_strict false is = lenient e draws is (λ r. stores (broken e draws r.fault) r) otherwise
 
 -- a line that isn't read says nothing of the bits that are left
-pub draws_anywhere : (line : Line) (e : DecodeError) (front : Row) (rest other : Bits) → DrawsLine line (Err e) front rest → DrawsLine line (Err e) front other
+pub draws_anywhere : (line : Line) (e : DecodeError) (front : Row) (rest other : Bits) → DrawsLine line (Err e) front rest
+    → DrawsLine line (Err e) front other
 draws_anywhere line UnexpectedEof front rest other draws = draws
 draws_anywhere line InvalidCode front rest other draws = draws
 draws_anywhere line Overflow front rest other draws = draws
@@ -109,7 +142,8 @@ draws_anywhere line OutOfMemory front rest other draws = draws
 draws_anywhere line Refused front rest other draws = draws
 
 -- a fault of the data breaks the line, with the front that is left
-pub line_breaks : (line : Line) (e : DecodeError) (front : Row) (rest : Bits) → IsFault e → DrawsLine line (Err e) front rest → line ≡ Line.broken front e
+pub line_breaks : (line : Line) (e : DecodeError) (front : Row) (rest : Bits) → IsFault e → DrawsLine line (Err e) front rest
+    → line ≡ Line.broken front e
 line_breaks line UnexpectedEof front rest fault draws = draws
 line_breaks line InvalidCode front rest fault draws = draws
 line_breaks line Overflow front rest fault draws = draws

@@ -1,29 +1,20 @@
 -- Runs that are drawn by their changes alone.
-use Rattle.std.proofs.Common.{◌≡◌, ◌≢◌, ℕ, suc, ◌+◌, ◌-◌, ◌%◌, ◌<◌, ◌≤◌, ◌⊎◌, inl, inr, Bool, true, false, not, min, List, [], ◌∷◌, ◌++◌, length, replicate, Ok, refl, sym, ap, subst, ◌∙◌, arith}
-use Rattle.std.proofs.lemmas.Bool.{cases_lt, le-ltb}
-use Rattle.std.proofs.lemmas.List.{length-append, length-drop, length-replicate, append-nil}
-use Rattle.hayro_ccitt.specs.declared.codes.Color.{Color}
-use Rattle.hayro_ccitt.specs.declared.codes.Color.TheVariants.{White, Black}
-use Rattle.hayro_ccitt.specs.Answers.{Step, pen_of, words_from_1d}
-use Rattle.hayro_ccitt.specs.Bits.{Bits, BitsAt, here}
-use Rattle.hayro_ccitt.specs.Context.{Context, Held, redrawn}
-use Rattle.hayro_ccitt.specs.declared.settings.DecodeSettings.{DecodeSettings}
-use Rattle.hayro_ccitt.specs.Lines.{Pen, draw_run}
-use Rattle.hayro_ccitt.specs.Repetition.{Turn}
-use Rattle.hayro_ccitt.specs.Rows.{Row, AscendFrom, AreChanges, pixels, is_black, opposite, paint}
-use Rattle.hayro_ccitt.specs.Runs.{run_from}
-use Rattle.hayro_ccitt.specs.Ticks.{run_found}
-use Rattle.hayro_ccitt.specs.UsualRuns.{IsRunHere, IsReached, GoesOn, pen_at}
-use Rattle.hayro_ccitt.specs.Window.{moved}
-use Rattle.hayro_ccitt.proofs.CodeWords.UsualRuns.{run_here_too}
+use Rattle.hayro_ccitt.proofs.Names.{◌≡◌, ◌≢◌, ℕ, suc, ◌+◌, ◌-◌, ◌%◌, ◌<◌, ◌≤◌, ◌⊎◌, inl, inr, Bool, true, false, not, min, List}
+use Rattle.hayro_ccitt.proofs.Names.{[], ◌∷◌, ◌++◌, length, replicate, Ok, refl, sym, ap, subst, ◌∙◌, arith, cases_lt, le-ltb}
+use Rattle.hayro_ccitt.proofs.Names.{length-append, length-drop, length-replicate, append-nil, Color, White, Black, Step, pen_of}
+use Rattle.hayro_ccitt.proofs.Names.{words_from_1d, Bits, BitsAt, here, Context, Held, redrawn, DecodeSettings, Pen, draw_run}
+use Rattle.hayro_ccitt.proofs.Names.{Turn, Row, AscendFrom, AreChanges, pixels, is_black, opposite, paint, run_from, run_found}
+use Rattle.hayro_ccitt.proofs.Names.{IsRunHere, IsReached, GoesOn, pen_at, moved}
+use Rattle.hayro_ccitt.proofs.{CodeWords.UsualRuns.run_here_too, Readings.Repeated.after_turn}
 use Rattle.hayro_ccitt.proofs.DrawingLines.CountedLines.{found_1d_from, found_after, found_1d_on, words_run}
 use Rattle.hayro_ccitt.proofs.DrawingLines.Drawings.{drawn_by, step_1d, run_then}
 use Rattle.hayro_ccitt.proofs.DrawingLines.DrawnLines.{IsDrawnSoFar, run_open}
-use Rattle.hayro_ccitt.proofs.PixelRows.ChangesAndPixels.{turned, turned-even, AreChanges-wider, AreChanges-push, length-pixels, pixels_from-on, pixels_from-push}
-use Rattle.hayro_ccitt.proofs.Readings.Repeated.{after_turn}
+use Rattle.hayro_ccitt.proofs.PixelRows.ChangesAndPixels.{turned, turned-even, AreChanges-wider, AreChanges-push, length-pixels}
+use Rattle.hayro_ccitt.proofs.PixelRows.ChangesAndPixels.{pixels_from-on, pixels_from-push}
 
 -- ---- Drawing continues.
-pub goes_on_twice : (strict : Bool) (columns : ℕ) (a b c : Pen) (m n o : ℕ) → GoesOn strict columns a b m n → GoesOn strict columns b c n o → GoesOn strict columns a c m o
+pub goes_on_twice : (strict : Bool) (columns : ℕ) (a b c : Pen) (m n o : ℕ) → GoesOn strict columns a b m n
+    → GoesOn strict columns b c n o → GoesOn strict columns a c m o
 goes_on_twice strict columns a b c m n o first second = record {
   line = second.line ∙ first.line;
   counts = omega (arith, first.counts, second.counts);
@@ -31,15 +22,16 @@ goes_on_twice strict columns a b c m n o first second = record {
 }
 
 -- ---- Painting where there is room, or where more is cut off.
-pub paint_fits : (strict : Bool) (columns : ℕ) (front : Row) (color : Color) (n : ℕ) → (n ≤ columns - length front) ⊎ (strict ≡ false)
-    → paint strict columns front color n ≡ Ok (front ++ replicate (min n (columns - length front)) (is_black color))
+pub paint_fits : (strict : Bool) (columns : ℕ) (front : Row) (color : Color) (n : ℕ) → (n ≤ columns - length front) ⊎ (strict
+    ≡ false) → paint strict columns front color n ≡ Ok (front ++ replicate (min n (columns - length front)) (is_black color))
 paint_fits true columns front color n (inl le) = rw (le-ltb (columns - length front) n le) refl
 paint_fits true columns front color n (inr e) = absurd cc
 paint_fits false columns front color n fits = refl
 
 -- a run that is read and painted
-run_on : (strict : Bool) (columns : ℕ) (pen : Pen) (run words : ℕ) (rest : Bits) (front : Row) (ticks : ℕ) → length pen.front < columns
-    → run_from pen.color (0, pen.rest) ≡ Ok (run, rest) → length (run_found pen.color (0, pen.rest)) ≡ words → paint strict columns pen.front pen.color run ≡ Ok front
+run_on : (strict : Bool) (columns : ℕ) (pen : Pen) (run words : ℕ) (rest : Bits) (front : Row) (ticks : ℕ)
+    → length pen.front < columns → run_from pen.color (0, pen.rest) ≡ Ok (run, rest)
+    → length (run_found pen.color (0, pen.rest)) ≡ words → paint strict columns pen.front pen.color run ≡ Ok front
     → GoesOn strict columns pen (record { front = front; color = opposite pen.color; rest = rest }) ticks (ticks + words)
 run_on strict columns pen run words rest front ticks open_row reads found paints =
     let next : Pen = record { front = front; color = opposite pen.color; rest = rest } in
@@ -48,7 +40,8 @@ run_on strict columns pen run words rest front ticks open_row reads found paints
     = run_open strict columns pen open_row ∙ ap (after_turn (drawn_by (step_1d strict columns))) step in
     let words_on = found_1d_on strict columns pen open_row in
     let behind : List Bits = found_after (found_1d_from strict columns) (draw_run strict columns pen).turn in
-    let on : length behind ≡ length (found_1d_from strict columns next) = ap (λ (s : Step). length (found_after (found_1d_from strict columns) s)) step in
+    let on : length behind ≡ length (found_1d_from strict columns next) =
+    ap (λ (s : Step). length (found_after (found_1d_from strict columns) s)) step in
     let first : length (draw_run strict columns pen).words ≡ words = ap length (words_run strict columns pen) ∙ found in
     record {
       line = sym line;
@@ -61,19 +54,28 @@ even_is_white : (row : List ℕ) → length row % 2 ≡ 0 → turned false row �
 even_is_white row even = turned-even false row ∙ rw even refl
 
 -- pixels of the colour after the changes
-pub pixels-on : (place more : ℕ) (row : List ℕ) → AreChanges (suc place) row → pixels (place + more) row ≡ pixels place row ++ replicate more (turned false row)
+pub pixels-on : (place more : ℕ) (row : List ℕ) → AreChanges (suc place) row
+    → pixels (place + more) row ≡ pixels place row ++ replicate more (turned false row)
 pixels-on place more row lawful = pixels_from-on 0 false place more row (omega arith) lawful
 
 pub length-pixels-on : (place : ℕ) (row : List ℕ) → AreChanges (suc place) row → length (pixels place row) ≡ place
 length-pixels-on place row lawful =
     let one : suc place ≡ place + 1 = omega arith in
     let whole : length (pixels (place + 1) row) ≡ place + 1 = length-pixels (place + 1) row (rw one at lawful) in
-    omega (arith, whole, ap length (pixels-on place 1 row lawful), length-append (pixels place row) (replicate 1 (turned false row)), length-replicate 1 (turned false row))
+    omega (
+      arith,
+      whole,
+      ap length (pixels-on place 1 row lawful),
+      length-append (pixels place row) (replicate 1 (turned false row)),
+      length-replicate 1 (turned false row),
+    )
 
 -- a change where the row ends, and pixels after it
-pixels-turned : (place more : ℕ) (row : List ℕ) → length row % 2 ≡ 0 → pixels (place + more) (row ++ place ∷ []) ≡ pixels place row ++ replicate more true
+pixels-turned : (place more : ℕ) (row : List ℕ) → length row % 2 ≡ 0
+    → pixels (place + more) (row ++ place ∷ []) ≡ pixels place row ++ replicate more true
 pixels-turned place more row even =
-    pixels_from-push 0 false place more row ∙ ap (λ (color : Bool). pixels place row ++ replicate more (not color)) (even_is_white row even)
+    pixels_from-push 0 false place more row
+    ∙ ap (λ (color : Bool). pixels place row ++ replicate more (not color)) (even_is_white row even)
 
 -- a change at the end of the row isn't visible yet
 pub pixels-pending : (place : ℕ) (row : List ℕ) → pixels place (row ++ place ∷ []) ≡ pixels place row
@@ -82,24 +84,27 @@ pixels-pending place row =
     rw none at (pixels_from-push 0 false place 0 row) ∙ append-nil (pixels place row)
 
 -- ---- The runs of a one-dimensional line, by twos.
-pub white_on : (strict : Bool) (columns painted place : ℕ) (row : List ℕ) (at : BitsAt) (run width words ticks : ℕ) → AreChanges (suc painted) row → length row % 2 ≡ 0
-    → painted < columns → IsRunHere White at run width words → (run ≤ columns - painted) ⊎ (strict ≡ false) → place ≡ painted + min run (columns - painted)
+pub white_on : (strict : Bool) (columns painted place : ℕ) (row : List ℕ) (at : BitsAt) (run width words ticks : ℕ)
+    → AreChanges (suc painted) row → length row % 2 ≡ 0 → painted < columns → IsRunHere White at run width words
+    → (run ≤ columns - painted) ⊎ (strict ≡ false) → place ≡ painted + min run (columns - painted)
     → GoesOn strict columns (pen_at painted row White at) (pen_at place row Black (moved width at)) ticks (ticks + words)
 white_on strict columns painted place row at run width words ticks lawful even open_row here_run fits reach =
     let front : Row = pixels painted row in
     let len : length front ≡ painted = length-pixels-on painted row lawful in
     let some : (run ≤ columns - length front) ⊎ (strict ≡ false) = rw len fits in
     let more : ℕ = min run (columns - painted) in
-    let paints : paint strict columns front White run ≡ Ok (front ++ replicate more false)
-    = paint_fits strict columns front White run some ∙ ap (λ (m : ℕ). Ok (front ++ replicate (min run (columns - m)) false)) len in
+    let paints : paint strict columns front White run ≡ Ok (front ++ replicate more false) =
+    paint_fits strict columns front White run some ∙ ap (λ (m : ℕ). Ok (front ++ replicate (min run (columns - m)) false)) len in
     let row_on : pixels place row ≡ front ++ replicate more false =
-    rw reach (pixels-on painted more row lawful ∙ ap (λ (color : Bool). front ++ replicate more color) (even_is_white row even)) in
-    run_on strict columns (pen_at painted row White at) run words (here (moved width at)) (pixels place row) ticks (omega (arith, len)) here_run.read here_run.found
-    (paints ∙ ap Ok (sym row_on))
+    rw reach
+    (pixels-on painted more row lawful ∙ ap (λ (color : Bool). front ++ replicate more color) (even_is_white row even)) in
+    run_on strict columns (pen_at painted row White at) run words (here (moved width at)) (pixels place row) ticks
+    (omega (arith, len)) here_run.read here_run.found (paints ∙ ap Ok (sym row_on))
 
-pub black_on : (strict : Bool) (columns painted place : ℕ) (row : List ℕ) (at : BitsAt) (run width words ticks : ℕ) → AreChanges (suc painted) row → length row % 2 ≡ 0
-    → painted < columns → IsRunHere Black at run width words → (run ≤ columns - painted) ⊎ (strict ≡ false) → place ≡ painted + min run (columns - painted)
-    → GoesOn strict columns (pen_at painted row Black at) (pen_at place (row ++ painted ∷ []) White (moved width at)) ticks (ticks + words)
+pub black_on : (strict : Bool) (columns painted place : ℕ) (row : List ℕ) (at : BitsAt) (run width words ticks : ℕ)
+    → AreChanges (suc painted) row → length row % 2 ≡ 0 → painted < columns → IsRunHere Black at run width words
+    → (run ≤ columns - painted) ⊎ (strict ≡ false) → place ≡ painted + min run (columns - painted) → GoesOn strict columns
+    (pen_at painted row Black at) (pen_at place (row ++ painted ∷ []) White (moved width at)) ticks (ticks + words)
 black_on strict columns painted place row at run width words ticks lawful even open_row here_run fits reach =
     let front : Row = pixels painted row in
     let len : length front ≡ painted = length-pixels-on painted row lawful in
@@ -107,9 +112,10 @@ black_on strict columns painted place row at run width words ticks lawful even o
     let more : ℕ = min run (columns - painted) in
     let paints : paint strict columns front Black run ≡ Ok (front ++ replicate more true)
     = paint_fits strict columns front Black run some ∙ ap (λ (m : ℕ). Ok (front ++ replicate (min run (columns - m)) true)) len in
-    let row_on : pixels place (row ++ painted ∷ []) ≡ front ++ replicate more true = rw reach (pixels-turned painted more row even) in
-    run_on strict columns (pen_at painted row Black at) run words (here (moved width at)) (pixels place (row ++ painted ∷ [])) ticks (omega (arith, len)) here_run.read here_run.found
-    (paints ∙ ap Ok (sym row_on))
+    let row_on : pixels place (row ++ painted ∷ []) ≡ front ++ replicate more true =
+    rw reach (pixels-turned painted more row even) in
+    run_on strict columns (pen_at painted row Black at) run words (here (moved width at))
+    (pixels place (row ++ painted ∷ [])) ticks (omega (arith, len)) here_run.read here_run.found (paints ∙ ap Ok (sym row_on))
 
 -- ---- What a call that draws them returns.
 
@@ -118,35 +124,39 @@ pub one_more : (painted : ℕ) (row : List ℕ) → AreChanges (painted + 1) row
 one_more painted row lawful = AreChanges-wider (painted + 1) (suc painted) row (omega arith) lawful
 
 -- a white run up to the row's end
-pub white_ends : (strict : Bool) (columns painted : ℕ) (row : List ℕ) (at first next : BitsAt) (run width words ticks now : ℕ) → painted < columns → AreChanges (painted + 1) row
-    → length row % 2 ≡ 0 → first ≡ at → IsRunHere White (moved 0 first) run width words → (run ≤ columns - painted) ⊎ (strict ≡ false) → columns - painted ≤ run
-    → next ≡ moved width first → now ≡ ticks + words → GoesOn strict columns (pen_at painted row White at) (pen_at columns row Black next) ticks now
+pub white_ends : (strict : Bool) (columns painted : ℕ) (row : List ℕ) (at first next : BitsAt) (run width words ticks now : ℕ)
+    → painted < columns → AreChanges (painted + 1) row → length row % 2 ≡ 0 → first ≡ at → IsRunHere White (moved 0 first) run
+    width words → (run ≤ columns - painted) ⊎ (strict ≡ false) → columns - painted ≤ run → next ≡ moved width first
+    → now ≡ ticks + words → GoesOn strict columns (pen_at painted row White at) (pen_at columns row Black next) ticks now
 white_ends strict columns painted row at first next run width words ticks now open_row lawful even same there fits far on counts =
-    rw (on, counts, ← same) (white_on strict columns painted columns row first run width words ticks (one_more painted row lawful) even open_row
-    (run_here_too White first run width words there) fits (omega (arith, open_row, far)))
+    rw (on, counts, ← same) (white_on strict columns painted columns row first run width words ticks (one_more painted row lawful)
+    even open_row (run_here_too White first run width words there) fits (omega (arith, open_row, far)))
 
 -- a white run, and a black one after it
-pub two_runs : (strict : Bool) (columns painted place : ℕ) (row : List ℕ) (at first next last : BitsAt) (run width words run2 width2 words2 ticks between now : ℕ)
-    → painted < columns → AreChanges (painted + 1) row → length row % 2 ≡ 0 → first ≡ at → IsRunHere White (moved 0 first) run width words → run < columns - painted
-    → IsRunHere Black (moved width first) run2 width2 words2 → (run2 ≤ columns - (painted + run)) ⊎ (strict ≡ false)
-    → place ≡ painted + run + min run2 (columns - (painted + run))
+pub two_runs : (strict : Bool) (columns painted place : ℕ) (row : List ℕ) (at first next last : BitsAt) (run width words
+    run2 width2 words2 ticks between now : ℕ) → painted < columns → AreChanges (painted + 1) row → length row % 2 ≡ 0 → first ≡ at
+    → IsRunHere White (moved 0 first) run width words → run < columns - painted → IsRunHere Black (moved width first) run2 width2
+    words2 → (run2 ≤ columns - (painted + run)) ⊎ (strict ≡ false) → place ≡ painted + run + min run2 (columns - (painted + run))
     → next ≡ moved width first → last ≡ moved width2 next → between ≡ ticks + words → now ≡ between + words2
     → GoesOn strict columns (pen_at painted row White at) (pen_at place (row ++ (painted + run) ∷ []) White last) ticks now
-two_runs strict columns painted place row at first next last run width words run2 width2 words2 ticks between now open_row lawful even same there short second fits reach on on2 counts counts2 =
+two_runs strict columns painted place row at first next last run width words run2 width2 words2 ticks between now open_row lawful
+    even same there short second fits reach on on2 counts counts2 =
     rw (on2, on, counts2, counts, ← same)
-    (goes_on_twice strict columns (pen_at painted row White first) (pen_at (painted + run) row Black (moved width first))
-    (pen_at place (row ++ (painted + run) ∷ []) White (moved width2 (moved width first))) ticks (ticks + words) (ticks + words + words2)
+    (goes_on_twice strict columns (pen_at painted row White first) (pen_at (painted + run) row Black (moved width first)) (pen_at
+    place (row ++ (painted + run) ∷ []) White (moved width2 (moved width first))) ticks (ticks + words) (ticks + words + words2)
     (white_on strict columns painted (painted + run) row first run width words ticks (one_more painted row lawful) even open_row
     (run_here_too White first run width words there) (inl (omega (arith, short))) (omega (arith, short)))
-    (black_on strict columns (painted + run) place row (moved width first) run2 width2 words2 (ticks + words)
-    (AreChanges-wider (painted + 1) (suc (painted + run)) row (omega arith) lawful) even (omega (arith, short)) second fits reach))
+    (black_on strict columns (painted + run) place row (moved width first) run2 width2 words2 (ticks + words) (AreChanges-wider
+    (painted + 1) (suc (painted + run)) row (omega arith) lawful) even (omega (arith, short)) second fits reach))
 
 -- the row is lawful up to the next change
-pub next_lawful : (painted run : ℕ) (row : List ℕ) → AreChanges (painted + 1) row → (0 < run) ⊎ (row ≡ []) → AreChanges (painted + run) row
+pub next_lawful : (painted run : ℕ) (row : List ℕ) → AreChanges (painted + 1) row → (0 < run) ⊎ (row ≡ [])
+    → AreChanges (painted + run) row
 next_lawful painted run row lawful (inl some) = AreChanges-wider (painted + 1) (painted + run) row (omega (arith, some)) lawful
 next_lawful painted run row lawful (inr none) = rw none tt
 
-pub reached_white : (columns painted : ℕ) (row : List ℕ) → painted < columns → AreChanges (painted + 1) row → IsReached columns columns Black row
+pub reached_white : (columns painted : ℕ) (row : List ℕ) → painted < columns → AreChanges (painted + 1) row
+    → IsReached columns columns Black row
 reached_white columns painted row open_row lawful = record {
   within = omega arith;
   lawful = AreChanges-wider (painted + 1) (columns + 1) row (omega (arith, open_row)) lawful;
@@ -154,26 +164,27 @@ reached_white columns painted row open_row lawful = record {
   whole = λ le. AreChanges-wider (painted + 1) columns row (omega (arith, open_row)) lawful;
 }
 
-pub reached_black : (columns place : ℕ) (row new : List ℕ) → place < columns → AreChanges place row → new ≡ row ++ place ∷ [] → IsReached columns columns White new
+pub reached_black : (columns place : ℕ) (row new : List ℕ) → place < columns → AreChanges place row → new ≡ row ++ place ∷ []
+    → IsReached columns columns White new
 reached_black columns place row new open_row lawful is =
     let sum : place + (columns - place) ≡ columns = omega (arith, open_row) in
-    let whole : AreChanges columns (row ++ place ∷ []) = rw sum at (AreChanges-push place (columns - place) row (omega (arith, open_row)) lawful) in
-    rw is
-    (record {
+    let whole : AreChanges columns (row ++ place ∷ []) =
+    rw sum at (AreChanges-push place (columns - place) row (omega (arith, open_row)) lawful) in
+    rw is (record {
       within = omega arith;
       lawful = AreChanges-wider columns (columns + 1) (row ++ place ∷ []) (omega arith) whole;
       even = λ lt. absurd (omega (arith, lt));
       whole = λ le. whole;
     })
 
-pub reached_both : (columns place run : ℕ) (row between new : List ℕ) → 0 < run → run < columns - place → AreChanges place row → length row % 2 ≡ 0 → between ≡ row ++ place ∷ []
-    → new ≡ between ++ (place + run) ∷ [] → IsReached columns (place + run) White new
+pub reached_both : (columns place run : ℕ) (row between new : List ℕ) → 0 < run → run < columns - place
+    → AreChanges place row → length row % 2 ≡ 0 → between ≡ row ++ place ∷ [] → new ≡ between ++ (place + run) ∷ []
+    → IsReached columns (place + run) White new
 reached_both columns place run row between new some short lawful even first second =
     let on : AreChanges (place + run) (row ++ place ∷ []) = AreChanges-push place run row some lawful in
     let two : length ((row ++ place ∷ []) ++ (place + run) ∷ []) % 2 ≡ 0
     = omega (arith, even, length-append (row ++ place ∷ []) ((place + run) ∷ []), length-append row (place ∷ [])) in
-    rw (second, first)
-    (record {
+    rw (second, first) (record {
       within = omega (arith, short);
       lawful = AreChanges-push (place + run) 1 (row ++ place ∷ []) (omega arith) on;
       even = λ lt. (two, refl);
@@ -183,38 +194,44 @@ reached_both columns place run row between new some short lawful even first seco
 -- ---- A row that is taken from the context, and put back.
 
 -- the last of ascending positions
-last_from : (first width : ℕ) (row : List ℕ) (last : ℕ) → AscendFrom first width (row ++ last ∷ []) → (first ≤ last) × (last < width)
+last_from : (first width : ℕ) (row : List ℕ) (last : ℕ) → AscendFrom first width (row ++ last ∷ []) → (first ≤ last)
+    × (last < width)
 last_from first width [] last ascend = (ascend.0, ascend.1)
 last_from first width (place ∷ row) last ascend =
     let on = last_from (suc place) width row last ascend.2 in
     (omega (arith, ascend.0, on.0), on.1)
 
-without_last : (first width : ℕ) (row : List ℕ) (last : ℕ) → AscendFrom first (suc width) (row ++ last ∷ []) → last ≤ width → AscendFrom first width row
+without_last : (first width : ℕ) (row : List ℕ) (last : ℕ) → AscendFrom first (suc width) (row ++ last ∷ []) → last ≤ width
+    → AscendFrom first width row
 without_last first width [] last ascend le = tt
 without_last first width (place ∷ row) last ascend le =
     let on = last_from (suc place) (suc width) row last ascend.2 in
     (ascend.0, omega (arith, on.0, le), without_last (suc place) width row last ascend.2 le)
 
-with_last : (first width : ℕ) (row : List ℕ) (last : ℕ) → AscendFrom first (suc width) (row ++ last ∷ []) → last < width → AscendFrom first width (row ++ last ∷ [])
+with_last : (first width : ℕ) (row : List ℕ) (last : ℕ) → AscendFrom first (suc width) (row ++ last ∷ []) → last < width
+    → AscendFrom first width (row ++ last ∷ [])
 with_last first width [] last ascend lt = (ascend.0, lt, tt)
 with_last first width (place ∷ row) last ascend lt =
     let on = last_from (suc place) (suc width) row last ascend.2 in
     (ascend.0, omega (arith, on.0, lt), with_last (suc place) width row last ascend.2 lt)
 
 -- a change at the row's end is dropped
-pub laid_down : (painted : ℕ) (row new : List ℕ) (last : ℕ) → AreChanges (painted + 1) row → row ≡ new ++ last ∷ [] → last ≡ painted
-    → AreChanges painted new × (pixels painted new ≡ pixels painted row)
+pub laid_down : (painted : ℕ) (row new : List ℕ) (last : ℕ) → AreChanges (painted + 1) row → row ≡ new ++ last ∷ []
+    → last ≡ painted → AreChanges painted new × (pixels painted new ≡ pixels painted row)
 laid_down painted row new last lawful is same =
     let all : AreChanges (suc painted) (new ++ last ∷ []) = rw (← is) (one_more painted row lawful) in
     (without_last 0 painted new last all (omega (arith, same)), rw (is, same) (sym (pixels-pending painted new)))
 
 -- and another one stays
-pub kept : (painted : ℕ) (row between new : List ℕ) (last : ℕ) → AreChanges (painted + 1) row → row ≡ between ++ last ∷ [] → last ≢ painted → new ≡ between ++ last ∷ []
-    → AreChanges painted new × (pixels painted new ≡ pixels painted row)
+pub kept : (painted : ℕ) (row between new : List ℕ) (last : ℕ) → AreChanges (painted + 1) row → row ≡ between ++ last ∷ []
+    → last ≢ painted → new ≡ between ++ last ∷ [] → AreChanges painted new × (pixels painted new ≡ pixels painted row)
 kept painted row between new last lawful is other again =
     let all : AreChanges (suc painted) (between ++ last ∷ []) = rw (← is) (one_more painted row lawful) in
-    let below : last < suc painted = (last_from 0 (suc painted) between last all).1 in
-    (rw again (with_last 0 painted between last all (elim (cases_lt last painted) [ inl lt ↦ lt | inr ge ↦ absurd (other (omega (arith, below, ge))) ])), rw (again, is) refl)
+    let below : last < suc painted = (last_from 0 (suc painted) between last all).1 in (
+      rw again (with_last 0 painted between last all
+          (elim (cases_lt last painted) [ inl lt ↦ lt | inr ge ↦ absurd (other (omega (arith, below, ge))) ])),
+      rw (again, is) refl,
+    )
 
 -- ---- A line that is drawn by twos, and by one run where that isn't usual.
 
@@ -226,13 +243,14 @@ IsDrawn1d before now begun at =
     ≡ before.ticks + length (words_from_1d before.held (here begun)))
 
 -- and more, where drawing continues
-pub drawn_on : (before now new : Context) (begun at next : BitsAt) → IsDrawn1d before now begun at
-    → GoesOn now.held.settings.strict now.held.settings.columns (pen_of now.held (here at)) (pen_of new.held (here next)) now.ticks new.ticks
-    → new.held ≡ redrawn now.held new.held.front new.held.color → next.bits ≡ at.bits → IsDrawn1d before new begun next
+pub drawn_on : (before now new : Context) (begun at next : BitsAt) → IsDrawn1d before now begun at → GoesOn
+    now.held.settings.strict now.held.settings.columns (pen_of now.held (here at)) (pen_of new.held (here next)) now.ticks
+    new.ticks → new.held ≡ redrawn now.held new.held.front new.held.color → next.bits ≡ at.bits → IsDrawn1d before new begun next
 drawn_on before now new begun at next so_far goes held same =
     let settings : now.held.settings ≡ before.held.settings = ap (λ (h : Held). h.settings) so_far.0.held in
-    let on : GoesOn before.held.settings.strict before.held.settings.columns (pen_of now.held (here at)) (pen_of new.held (here next)) now.ticks new.ticks
-    = subst (λ (s : DecodeSettings). GoesOn s.strict s.columns (pen_of now.held (here at)) (pen_of new.held (here next)) now.ticks new.ticks) settings goes in (
+    let on : GoesOn before.held.settings.strict before.held.settings.columns (pen_of now.held (here at))
+    (pen_of new.held (here next)) now.ticks new.ticks = subst (λ (s : DecodeSettings). GoesOn s.strict s.columns
+    (pen_of now.held (here at)) (pen_of new.held (here next)) now.ticks new.ticks) settings goes in (
       record {
         line = on.line ∙ so_far.0.line;
         held = held ∙ ap (λ (h : Held). redrawn h new.held.front new.held.color) so_far.0.held;
@@ -243,6 +261,7 @@ drawn_on before now new begun at next so_far goes held same =
     )
 
 -- a reader that is further on has no more bits
-pub not_longer : (from to : BitsAt) (n : ℕ) → length (here from) < n → to.bits ≡ from.bits → from.place ≤ to.place → length (here to) < n
+pub not_longer : (from to : BitsAt) (n : ℕ) → length (here from) < n → to.bits ≡ from.bits → from.place ≤ to.place
+    → length (here to) < n
 not_longer from to n shorter same onward =
     omega (arith, shorter, ap length same, onward, length-drop from.place from.bits, length-drop to.place to.bits)

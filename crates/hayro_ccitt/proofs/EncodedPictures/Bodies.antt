@@ -1,29 +1,16 @@
 -- Lines without EOLs are read as their rows, in every encoding: bodies of T.6 data, and of T.4 data that the limit ends.
-use Rattle.std.proofs.Common.{◌≡◌, ◌≢◌, ◌+◌, ◌%◌, ◌<◌, ◌≤◌, Bool, true, false, ◌&&◌, List, [], ◌∷◌, ◌++◌, length}
-use Rattle.std.proofs.Common.{replicate, Ok, sym, ap, subst, ◌∙◌, append_assoc, arith, inr}
-use Rattle.std.specs.Prelude.{All}
-use Rattle.std.proofs.lemmas.Bool.{and_from, not_from_false, eq-eqb, ne_eqb}
-use Rattle.std.proofs.lemmas.List.{length-append, length-replicate, append-nil}
-use Rattle.std.proofs.lemmas.List.Elements.{All-head, All-tail}
-use Rattle.hayro_ccitt.specs.declared.codes.Color.TheVariants.{White}
-use Rattle.hayro_ccitt.specs.declared.settings.DecodeSettings.{DecodeSettings}
-use Rattle.hayro_ccitt.specs.declared.settings.EncodingMode.{EncodingMode}
-use Rattle.hayro_ccitt.specs.declared.settings.EncodingMode.TheVariants.{Group4, Group3_1D, Group3_2D}
-use Rattle.hayro_ccitt.specs.Bits.{Bits}
-use Rattle.hayro_ccitt.specs.Repetition.{Turn, Reaches}
-use Rattle.hayro_ccitt.specs.Rows.{Row}
-use Rattle.hayro_ccitt.specs.Lines.{Line}
-use Rattle.hayro_ccitt.specs.EndOfLine.{eols}
-use Rattle.hayro_ccitt.specs.PlainReading.{eols_here, Progress, row_before, limit_met, ends_with, line_here, pass_gap, ending_behind, end_of}
-use Rattle.hayro_ccitt.specs.Encodings.{EncodesLine, IsPicture, EncodesRows}
-use Rattle.hayro_ccitt.specs.Pictures.{Allows}
-use Rattle.hayro_ccitt.specs.Laws.{gap_and_row, ReadsLimitedRowsT4}
-use Rattle.hayro_ccitt.proofs.Readings.GapsAndRows.{first_gap_t4, reaches_end}
-use Rattle.hayro_ccitt.proofs.Readings.TurnsMoveOn.{eols-none}
-use Rattle.hayro_ccitt.proofs.EncodedPictures.EncodedLines.{line_2d_again}
-use Rattle.hayro_ccitt.proofs.EncodedPictures.PictureLines.{IsLineStart, line_2d_starts, allows_sum, not_met, row_before_push, plain_ends, fill, aligned_again, aligned_on, between, ended}
+use Rattle.hayro_ccitt.proofs.Names.{◌≡◌, ◌≢◌, ◌+◌, ◌%◌, ◌<◌, ◌≤◌, Bool, true, false, ◌&&◌, List, [], ◌∷◌, ◌++◌, length}
+use Rattle.hayro_ccitt.proofs.Names.{replicate, Ok, sym, ap, subst, ◌∙◌, append_assoc, arith, inr, All, and_from, not_from_false}
+use Rattle.hayro_ccitt.proofs.Names.{eq-eqb, ne_eqb, length-append, length-replicate, append-nil, All-head, All-tail, White}
+use Rattle.hayro_ccitt.proofs.Names.{DecodeSettings, EncodingMode, Group4, Group3_1D, Group3_2D, Bits, Turn, Reaches, Row, Line}
+use Rattle.hayro_ccitt.proofs.Names.{eols, eols_here, Progress, row_before, limit_met, ends_with, line_here, pass_gap}
+use Rattle.hayro_ccitt.proofs.Names.{ending_behind, end_of, EncodesLine, IsPicture, EncodesRows, Allows, gap_and_row}
+use Rattle.hayro_ccitt.proofs.Names.{ReadsLimitedRowsT4, common_steps}
+use Rattle.hayro_ccitt.proofs.{EncodedPictures.EncodedLines.line_2d_again, Readings.TurnsMoveOn.eols-none}
+use Rattle.hayro_ccitt.proofs.EncodedPictures.PictureLines.{IsLineStart, line_2d_starts, allows_sum, not_met, row_before_push}
+use Rattle.hayro_ccitt.proofs.EncodedPictures.PictureLines.{plain_ends, fill, aligned_again, aligned_on, between, ended}
 use Rattle.hayro_ccitt.proofs.EncodedPictures.PicturesT4.{line_t4_again, line_t4_starts}
-use Rattle.std.proofs.lemmas.Grind.{common_steps}
+use Rattle.hayro_ccitt.proofs.Readings.GapsAndRows.{first_gap_t4, reaches_end}
 
 -- ---- No EOL is counted where there is none.
 
@@ -44,8 +31,8 @@ module _ (settings : DecodeSettings) where
   gap_at_limit rows here met = grind (arith, common_steps)
 
   -- so does EOFB
-  pub gap_at_eofb : (run : Progress) (rest : Bits) → run.has_eols ≡ false → settings.encoding ≡ Group4 → settings.end_of_block ≡ true
-      → eols 2 run.rest ≡ (2, rest) → pass_gap settings run ≡ ends_with run (Ok rest)
+  pub gap_at_eofb : (run : Progress) (rest : Bits) → run.has_eols ≡ false → settings.encoding ≡ Group4
+      → settings.end_of_block ≡ true → eols 2 run.rest ≡ (2, rest) → pass_gap settings run ≡ ends_with run (Ok rest)
   gap_at_eofb run rest unsought four block two = grind (arith, common_steps)
 
 -- ---- Lines
@@ -55,21 +42,26 @@ module _ (settings : DecodeSettings) (wide : 0 < settings.columns) (small : sett
   abbrev b : Bool
   b = settings.rows_are_byte_aligned
 
-  line_again : (encoding : EncodingMode) (reference row : Row) (line more : Bits) → settings.encoding ≡ encoding → EncodesLine encoding reference row line
-      → length reference ≡ settings.columns → length row ≡ settings.columns → line_here settings reference (line ++ more) ≡ Line.whole row more
+  line_again : (encoding : EncodingMode) (reference row : Row) (line more : Bits) → settings.encoding ≡ encoding
+      → EncodesLine encoding reference row line → length reference ≡ settings.columns → length row ≡ settings.columns
+      → line_here settings reference (line ++ more) ≡ Line.whole row more
   line_again Group4 reference row line more same is ref_len row_len = grind (arith, common_steps, line_2d_again)
-  line_again Group3_1D reference row line more same is ref_len row_len = line_t4_again settings wide small Group3_1D reference row line more same is ref_len row_len
-  line_again Group3_2D reference row line more same is ref_len row_len = line_t4_again settings wide small Group3_2D reference row line more same is ref_len row_len
+  line_again Group3_1D reference row line more same is ref_len row_len =
+      line_t4_again settings wide small Group3_1D reference row line more same is ref_len row_len
+  line_again Group3_2D reference row line more same is ref_len row_len =
+      line_t4_again settings wide small Group3_2D reference row line more same is ref_len row_len
 
-  line_starts : (encoding : EncodingMode) (reference row : Row) (line more : Bits) → settings.encoding ≡ encoding → EncodesLine encoding reference row line
-      → length row ≡ settings.columns → IsLineStart (line ++ more)
+  line_starts : (encoding : EncodingMode) (reference row : Row) (line more : Bits) → settings.encoding ≡ encoding
+      → EncodesLine encoding reference row line → length row ≡ settings.columns → IsLineStart (line ++ more)
   line_starts Group4 reference row line more same is row_len = line_2d_starts reference row 0 White line more is (omega arith)
-  line_starts Group3_1D reference row line more same is row_len = line_t4_starts settings wide small Group3_1D reference row line more same is row_len
-  line_starts Group3_2D reference row line more same is row_len = line_t4_starts settings wide small Group3_2D reference row line more same is row_len
+  line_starts Group3_1D reference row line more same is row_len =
+      line_t4_starts settings wide small Group3_1D reference row line more same is row_len
+  line_starts Group3_2D reference row line more same is row_len =
+      line_t4_starts settings wide small Group3_2D reference row line more same is row_len
 
   -- a line is read, with its padding
-  row_read : (rows : List Row) (here : Bits) (row : Row) (line tail : Bits) → IsLineStart here → limit_met settings (length rows) ≡ false
-      → (b ≡ true → length ((line ++ fill b line) ++ tail) % 8 ≡ 0)
+  row_read : (rows : List Row) (here : Bits) (row : Row) (line tail : Bits)
+      → IsLineStart here → limit_met settings (length rows) ≡ false → (b ≡ true → length ((line ++ fill b line) ++ tail) % 8 ≡ 0)
       → line_here settings (row_before settings.columns rows) here ≡ Line.whole row (fill b line ++ tail)
       → gap_and_row settings (between rows here) ≡ Turn.next (between (rows ++ row ∷ []) tail)
   row_read rows here row line tail start open_limit whole read =
@@ -91,48 +83,54 @@ module _ (settings : DecodeSettings) (wide : 0 < settings.columns) (small : sett
         let row_len : length row ≡ settings.columns = All-head (λ row. length row ≡ settings.columns) row rows widths in
         let here : body ++ more ≡ line ++ (fill b line ++ tail) = grind (arith, common_steps, append_assoc, fill) in
         let here2 : (line ++ fill b line) ++ tail ≡ body ++ more = append_assoc line (fill b line) tail ∙ sym here in
-        let whole2 : b ≡ true → length ((line ++ fill b line) ++ tail) % 8 ≡ 0 = λ e. ap (λ (x : Bits). length x % 8) here2 ∙ whole e in
+        let whole2 : b ≡ true → length ((line ++ fill b line) ++ tail) % 8 ≡ 0 =
+        λ e. ap (λ (x : Bits). length x % 8) here2 ∙ whole e in
         let moved = row_read before (body ++ more) row line tail
         (subst IsLineStart (sym here) (line_starts encoding reference row line (fill b line ++ tail) same is row_len))
-        (not_met settings (length before + length (row ∷ rows)) (length before) limit (omega arith)) whole2
-        (ap (line_here settings reference) here ∙ line_again encoding reference row line (fill b line ++ tail) same is ref_len row_len) in
+        (not_met settings (length before + length (row ∷ rows)) (length before) limit (omega arith)) whole2 (ap (line_here
+        settings reference) here ∙ line_again encoding reference row line (fill b line ++ tail) same is ref_len row_len) in
         let pushed : row_before settings.columns rows1 ≡ row = row_before_push settings.columns before row in
-        let count : length rows1 + length rows ≡ length before + length (row ∷ rows) = omega (arith, length-append before (row ∷ [])) in
+        let count : length rows1 + length rows ≡ length before + length (row ∷ rows) =
+        omega (arith, length-append before (row ∷ [])) in
         let on = body_again rows1 rows next more (subst (Allows settings) (sym count) limit) (ap length pushed ∙ row_len)
         (All-tail (λ row. length row ≡ settings.columns) row rows widths) (aligned_on b line tail whole2)
         (subst (λ (r : Row). EncodesRows encoding b r rows next) (sym pushed) lines) in
         Reaches.moves (between before (body ++ more)) (between rows1 tail) (between (before ++ row ∷ rows) more) moved
-        (subst (λ (rs : List Row). Reaches (gap_and_row settings) (between rows1 tail) (between rs more)) (append_assoc before (row ∷ []) rows) on)
+        (subst (λ (rs : List Row). Reaches (gap_and_row settings) (between rows1 tail) (between rs more))
+        (append_assoc before (row ∷ []) rows) on)
 
-    module _ (rows : List Row) (body more : Bits) (some : 0 < length rows) (limit : settings.rows ≡ length rows) (is : IsPicture settings.columns rows)
-        (whole : b ≡ true → length (body ++ more) % 8 ≡ 0) (lines : EncodesRows encoding b (replicate settings.columns false) rows body) where
+    module _ (rows : List Row) (body more : Bits) (some : 0 < length rows) (limit : settings.rows ≡ length rows)
+        (is : IsPicture settings.columns rows) (whole : b ≡ true → length (body ++ more) % 8 ≡ 0)
+        (lines : EncodesRows encoding b (replicate settings.columns false) rows body) where
       allows : Allows settings (length rows)
       allows = inr (omega arith)
 
       -- a limit of as many rows ends the lines
-      pub body_end : ending_behind settings (pass_gap settings (between [] (body ++ more))) ≡ ended rows (eols_here settings more).1
+      pub body_end : ending_behind settings (pass_gap settings (between [] (body ++ more)))
+          ≡ ended rows (eols_here settings more).1
       body_end =
           let met : limit_met settings (length rows) ≡ true
           = grind (arith, common_steps, and_from, eq-eqb, ne_eqb, not_from_false) in
-          reaches_end settings wide (between [] (body ++ more)) (between rows more) (ended rows (eols_here settings more).1)
-          (body_again [] rows body more (allows_sum settings (length rows) allows) (length-replicate settings.columns false) is.1 whole lines)
-          (gap_at_limit settings rows more met)
+          reaches_end settings wide (between [] (body ++ more)) (between rows more)
+          (ended rows (eols_here settings more).1) (body_again [] rows body more (allows_sum settings (length rows) allows)
+          (length-replicate settings.columns false) is.1 whole lines) (gap_at_limit settings rows more met)
 
       -- they begin where there is no EOL
       pub body_starts : IsLineStart (body ++ more)
-      body_starts = by rows some is.1 lines
+      body_starts = by_rows rows some is.1 lines
         where
-          by : (rows : List Row) → 0 < length rows → All (λ row. length row ≡ settings.columns) rows
+          by_rows : (rows : List Row) → 0 < length rows → All (λ row. length row ≡ settings.columns) rows
               → EncodesRows encoding b (replicate settings.columns false) rows body → IsLineStart (body ++ more)
-          by [] some widths lines = absurd (omega arith)
-          by (row ∷ rows) some widths (line, next, is, lines, split) =
+          by_rows [] some widths lines = absurd (omega arith)
+          by_rows (row ∷ rows) some widths (line, next, is, lines, split) =
               let here : body ++ more ≡ line ++ (fill b line ++ (next ++ more)) = ap (λ (x : Bits). x ++ more) split
               ∙ append_assoc (line ++ fill b line) next more ∙ append_assoc line (fill b line) (next ++ more) in
-              subst IsLineStart (sym here) (line_starts encoding (replicate settings.columns false) row line (fill b line ++ (next ++ more)) same is
-              (All-head (λ row. length row ≡ settings.columns) row rows widths))
+              subst IsLineStart (sym here) (line_starts encoding (replicate settings.columns false) row line
+              (fill b line ++ (next ++ more)) same is (All-head (λ row. length row ≡ settings.columns) row rows widths))
 
       -- T.4 lines without EOLs are read as their rows, up to the limit
-      pub rows_t4_end : settings.encoding ≢ Group4 → settings.end_of_line ≡ false → end_of settings (body ++ more) ≡ ended rows (eols_here settings more).1
+      pub rows_t4_end : settings.encoding ≢ Group4 → settings.end_of_line ≡ false
+          → end_of settings (body ++ more) ≡ ended rows (eols_here settings more).1
       rows_t4_end other no_line =
           grind (arith, common_steps, allows, between, body_end, body_starts, eols-none, first_gap_t4, gap_at_line, not_met)
 

@@ -1,23 +1,12 @@
 -- What was encoded is read again.
-use Rattle.std.proofs.Common.{◌≡◌, ℕ, ◌+◌, ◌<◌, ◌≤◌, Bool, ◌++◌, length, replicate, Result, Ok, ap, ◌∙◌, append_assoc, add_assoc, arith}
-use Rattle.std.proofs.lemmas.Bool.{lt-leb}
-use Rattle.std.proofs.lemmas.List.{length-append, length-replicate}
-use Rattle.hayro_ccitt.specs.declared.codes.Color.{Color}
-use Rattle.hayro_ccitt.specs.declared.error.DecodeError.{DecodeError}
-use Rattle.hayro_ccitt.specs.Bits.{Bits}
-use Rattle.hayro_ccitt.specs.Repetition.{Turn}
-use Rattle.hayro_ccitt.specs.Rows.{Row, is_black, opposite, paint}
-use Rattle.hayro_ccitt.specs.Runs.{codes_of, run_from}
-use Rattle.hayro_ccitt.specs.Lines.{Line, Pen}
-use Rattle.hayro_ccitt.proofs.DrawingLines.Drawings.{run_then, drawn_by, step_1d}
-use Rattle.hayro_ccitt.specs.Answers.{Step}
-use Rattle.hayro_ccitt.specs.Encodings.{Spells, EncodesLine1D}
-use Rattle.hayro_ccitt.proofs.Readings.Repeated.{after_turn}
+use Rattle.hayro_ccitt.proofs.Names.{◌≡◌, ℕ, ◌+◌, ◌<◌, ◌≤◌, Bool, ◌++◌, length, replicate, Result, Ok, ap, ◌∙◌, append_assoc}
+use Rattle.hayro_ccitt.proofs.Names.{add_assoc, arith, lt-leb, length-append, length-replicate, Color, DecodeError, Bits, Turn}
+use Rattle.hayro_ccitt.proofs.Names.{Row, is_black, opposite, paint, codes_of, run_from, Line, Pen, Step, Spells, EncodesLine1D}
+use Rattle.hayro_ccitt.proofs.Names.{common_steps}
+use Rattle.hayro_ccitt.proofs.{BitReading.ZerosInWords.codes_free, DrawingLines.ReadLines.drawn1, Readings.Repeated.after_turn}
 use Rattle.hayro_ccitt.proofs.CodeWords.ReadCodes.{read_code_again}
 use Rattle.hayro_ccitt.proofs.CodeWords.ReadRuns.{run_ends, run_goes_on}
-use Rattle.hayro_ccitt.proofs.DrawingLines.ReadLines.{drawn1}
-use Rattle.hayro_ccitt.proofs.BitReading.ZerosInWords.{codes_free}
-use Rattle.std.proofs.lemmas.Grind.{common_steps}
+use Rattle.hayro_ccitt.proofs.DrawingLines.Drawings.{run_then, drawn_by, step_1d}
 
 -- the words that spell a run are read as that run
 pub run_spelled : (color : Color) (n : ℕ) (bits : Bits) (total : ℕ) (more : Bits) → Spells color n bits → total + n ≤ 4294967295
@@ -38,19 +27,21 @@ pub paint_fits : (strict : Bool) (columns : ℕ) (front : Row) (color : Color) (
 paint_fits strict columns front color n le = grind (arith, common_steps)
 
 -- a run that is read and fits is drawn
-pub draws : (strict : Bool) (columns : ℕ) (front : Row) (color : Color) (here : Bits) (n : ℕ) (rest : Bits) (painted : Row) (f : Pen → Step)
-    → run_from color (0, here) ≡ Ok (n, rest) → paint strict columns front color n ≡ Ok painted
-    → run_then strict columns (record { front = front; color = color; rest = here }) f ≡ f (record { front = painted; color = opposite color; rest = rest })
+pub draws : (strict : Bool) (columns : ℕ) (front : Row) (color : Color) (here : Bits) (n : ℕ) (rest : Bits)
+    (painted : Row) (f : Pen → Step) → run_from color (0, here) ≡ Ok (n, rest) → paint strict columns front color n ≡ Ok painted
+    → run_then strict columns (record { front = front; color = color; rest = here }) f
+    ≡ f (record { front = painted; color = opposite color; rest = rest })
 draws strict columns front color here n rest painted f read paints = grind (arith, common_steps)
 
 -- a one-dimensional line is read as its row
-pub line_1d_again : (strict : Bool) (columns : ℕ) (front row : Row) (color : Color) (bits more : Bits) → EncodesLine1D color row bits
-    → columns ≤ 4294967295 → length front + length row ≡ columns
-    → drawn_by (step_1d strict columns) (record { front = front; color = color; rest = bits ++ more }) ≡ Line.whole (front ++ row) more
+pub line_1d_again : (strict : Bool) (columns : ℕ) (front row : Row) (color : Color) (bits more : Bits)
+    → EncodesLine1D color row bits → columns ≤ 4294967295 → length front + length row ≡ columns → drawn_by
+    (step_1d strict columns) (record { front = front; color = color; rest = bits ++ more }) ≡ Line.whole (front ++ row) more
 line_1d_again strict columns front row color bits more EncodesLine1D.over le full = grind (arith, common_steps)
-line_1d_again strict columns front row color bits more (EncodesLine1D.run n word {row = others} {bits = next} spells some maximal rest) le full =
-    let len : length (replicate n (is_black color) ++ others) ≡ n + length others = length-append (replicate n (is_black color)) others
-    ∙ ap (λ (k : ℕ). k + length others) (length-replicate n (is_black color)) in
+line_1d_again strict columns front row color bits more
+    (EncodesLine1D.run n word {row = others} {bits = next} spells some maximal rest) le full =
+    let len : length (replicate n (is_black color) ++ others) ≡ n + length others = length-append
+    (replicate n (is_black color)) others ∙ ap (λ (k : ℕ). k + length others) (length-replicate n (is_black color)) in
     let open_end : length front < columns = omega (arith, len) in
     let here : (word ++ next) ++ more ≡ word ++ (next ++ more) = append_assoc word next more in
     let sum : 0 + n ≡ n = omega arith in

@@ -1,29 +1,16 @@
 -- Every picture has encodings.
-use Rattle.std.proofs.Common.{reverse, ◌≡◌, ℕ, zero, suc, ◌+◌, ◌-◌, ◌*◌, ◌/◌, ◌%◌, ◌^◌, ◌<◌, ◌≤◌, Bool, true, false, cond, eqb, List, [], ◌∷◌, ◌++◌}
-use Rattle.std.proofs.Common.{length, replicate, Option, Some, None, is_some, refl, sym, ap, subst, ◌∙◌, arith, ◌⊎◌, inl, inr}
-use Rattle.std.specs.Prelude.{All}
-use Rattle.std.proofs.lemmas.Bool.{agree_below_at, eqb-true, false≢true, cases_lt}
-use Rattle.std.proofs.lemmas.List.Elements.{All-head, All-tail, All-cons}
-use Rattle.std.proofs.lemmas.List.{length-reverse, reverse-reverse, length-append, length-replicate}
-use Rattle.std.proofs.lemmas.Nat.Bits.{bit_at_cat_low, bit_at_cat_high}
-use Rattle.std.specs.Int.{bit_at}
-use Rattle.hayro_ccitt.specs.declared.codes.Color.{Color}
-use Rattle.hayro_ccitt.specs.declared.codes.Color.TheVariants.{White, Black}
-use Rattle.hayro_ccitt.specs.declared.bit_reader.BitOrder.{BitOrder}
-use Rattle.hayro_ccitt.specs.declared.bit_reader.BitOrder.TheVariants.{HighestFirst, LowestFirst}
-use Rattle.hayro_ccitt.specs.Bits.{Bits, bit_of, bits_of_byte, bits_in, low_bits}
-use Rattle.hayro_ccitt.specs.CodeLists.{Code}
-use Rattle.hayro_ccitt.specs.CodeReading.{Has}
-use Rattle.hayro_ccitt.specs.Rows.{Row, is_black, opposite, a1, a2}
-use Rattle.hayro_ccitt.specs.Runs.{codes_of}
-use Rattle.hayro_ccitt.specs.Encodings.{Spells, EncodesLine1D, EncodesLine2D, EncodesLine, padding, EncodesRows, eol}
-use Rattle.hayro_ccitt.specs.Encodings.{EncodesRowsWithEols, tag_of, ClosesWithEols}
-use Rattle.hayro_ccitt.specs.Laws.{EveryPictureHasAnEncoding, BytesBeginWithAnyBits}
+use Rattle.hayro_ccitt.proofs.Names.{reverse, ◌≡◌, ℕ, zero, suc, ◌+◌, ◌-◌, ◌*◌, ◌/◌, ◌%◌, ◌^◌, ◌<◌, ◌≤◌, Bool, true, false, cond}
+use Rattle.hayro_ccitt.proofs.Names.{eqb, List, [], ◌∷◌, ◌++◌, length, replicate, Option, Some, None, is_some, refl, sym, ap}
+use Rattle.hayro_ccitt.proofs.Names.{subst, ◌∙◌, arith, ◌⊎◌, inl, inr, All, agree_below_at, eqb-true, false≢true, cases_lt}
+use Rattle.hayro_ccitt.proofs.Names.{All-head, All-tail, All-cons, length-reverse, reverse-reverse, length-append}
+use Rattle.hayro_ccitt.proofs.Names.{length-replicate, bit_at_cat_low, bit_at_cat_high, bit_at, Color, White, Black, BitOrder}
+use Rattle.hayro_ccitt.proofs.Names.{HighestFirst, LowestFirst, Bits, bit_of, bits_of_byte, bits_in, low_bits, Code, Has, Row}
+use Rattle.hayro_ccitt.proofs.Names.{is_black, opposite, a1, a2, codes_of, Spells, EncodesLine1D, EncodesLine2D, EncodesLine}
+use Rattle.hayro_ccitt.proofs.Names.{padding, EncodesRows, eol, EncodesRowsWithEols, tag_of, ClosesWithEols}
+use Rattle.hayro_ccitt.proofs.Names.{EveryPictureHasAnEncoding, BytesBeginWithAnyBits, Group4, Group3_1D, Group3_2D, EncodingMode}
+use Rattle.hayro_ccitt.proofs.Names.{common_steps}
 use Rattle.hayro_ccitt.proofs.CodeWords.ReadRuns.{chosen}
 use Rattle.hayro_ccitt.proofs.PixelRows.ChangePlaces.{a1_next, a2_next, a2_least}
-use Rattle.hayro_ccitt.specs.declared.settings.EncodingMode.TheVariants.{Group4, Group3_1D, Group3_2D}
-use Rattle.hayro_ccitt.specs.declared.settings.EncodingMode.{EncodingMode}
-use Rattle.std.proofs.lemmas.Grind.{common_steps}
 
 -- ---- Runs.
 -- the word of a list for a length
@@ -39,23 +26,27 @@ word_for_has (c ∷ list) n word e = elim (chosen (eqb c.value n) _ _ _ e) [
 ]
 
 some_word : (list : List (Code ℕ)) (n : ℕ) → is_some (word_for list n) ≡ true → (word : Bits) × Has list n word
-some_word list n e = by (word_for list n) refl
+some_word list n e = by_word_for (word_for list n) refl
   where
-    by : (found : Option Bits) → word_for list n ≡ found → (word : Bits) × Has list n word
-    by None is = absurd (false≢true (ap is_some (sym is) ∙ e))
-    by (Some word) is = (word, word_for_has list n word is)
+    by_word_for : (found : Option Bits) → word_for list n ≡ found → (word : Bits) × Has list n word
+    by_word_for None is = absurd (false≢true (ap is_some (sym is) ∙ e))
+    by_word_for (Some word) is = (word, word_for_has list n word is)
 
 -- each length below 64 has a terminating word, and 64 a make-up word
 terminating_word : (color : Color) (n : ℕ) → n < 64 → (word : Bits) × Has (codes_of color) n word
-terminating_word White n lt = some_word (codes_of White) n (agree_below_at (λ m. is_some (word_for (codes_of White) m)) (λ m. true) 64 n refl lt)
-terminating_word Black n lt = some_word (codes_of Black) n (agree_below_at (λ m. is_some (word_for (codes_of Black) m)) (λ m. true) 64 n refl lt)
+terminating_word White n lt =
+    some_word (codes_of White) n (agree_below_at (λ m. is_some (word_for (codes_of White) m)) (λ m. true) 64 n refl lt)
+terminating_word Black n lt =
+    some_word (codes_of Black) n (agree_below_at (λ m. is_some (word_for (codes_of Black) m)) (λ m. true) 64 n refl lt)
 
 makeup_word : (color : Color) → (word : Bits) × Has (codes_of color) 64 word
 makeup_word color = grind (arith, common_steps, some_word)
 
 run_spelled : (color : Color) (times n : ℕ) → n < 64 → (bits : Bits) × Spells color (64 * times + n) bits
-run_spelled color zero n lt = let word = terminating_word color n lt in
-    (word.0, subst (λ (m : ℕ). Spells color m word.0) (let e : n ≡ 64 * zero + n = omega arith in e) (Spells.terminating n word.0 word.1 lt))
+run_spelled color zero n lt = let word = terminating_word color n lt in (
+  word.0,
+  subst (λ (m : ℕ). Spells color m word.0) (let e : n ≡ 64 * zero + n = omega arith in e) (Spells.terminating n word.0 word.1 lt),
+)
 run_spelled color (suc times) n lt =
     let rest = run_spelled color times n lt in
     let word = makeup_word color in (
@@ -80,15 +71,16 @@ replicate-push zero pixel row = refl
 replicate-push (suc n) pixel row = ap (λ (r : Row). pixel ∷ r) (replicate-push n pixel row)
 
 -- a row that begins with some pixels of a colour
-line_1d_exists : (color : Color) (n : ℕ) (row : Row) → 0 < n + length row → (bits : Bits) × EncodesLine1D color (replicate n (is_black color) ++ row) bits
+line_1d_exists : (color : Color) (n : ℕ) (row : Row) → 0 < n + length row → (bits : Bits)
+    × EncodesLine1D color (replicate n (is_black color) ++ row) bits
 line_1d_exists color n [] some =
     let run = every_run_spelled color n in
     (run.0 ++ [], EncodesLine1D.run n run.0 run.1 some (λ rest e. absurd cc) EncodesLine1D.over)
 line_1d_exists color n (pixel ∷ row) some = elim (pixel_or color pixel) [
   | inl same ↦
       let longer = line_1d_exists color (suc n) row (omega arith) in
-      let is : replicate (suc n) (is_black color) ++ row ≡ replicate n (is_black color) ++ (pixel ∷ row) = sym (replicate-push n (is_black color) row)
-      ∙ ap (λ (p : Bool). replicate n (is_black color) ++ (p ∷ row)) (sym same) in
+      let is : replicate (suc n) (is_black color) ++ row ≡ replicate n (is_black color) ++ (pixel ∷ row) =
+      sym (replicate-push n (is_black color) row) ∙ ap (λ (p : Bool). replicate n (is_black color) ++ (p ∷ row)) (sym same) in
       (longer.0, subst (λ (r : Row). EncodesLine1D color r longer.0) is longer.1)
   | inr other ↦
       let run = every_run_spelled color n in
@@ -102,11 +94,13 @@ line_1d_exists color n (pixel ∷ row) some = elim (pixel_or color pixel) [
 ]
 
 -- ---- Two-dimensional lines, by horizontal modes alone.
-line_2d_over : (reference row : Row) (from : ℕ) (color : Color) → from ≡ suc (length row) → (bits : Bits) × EncodesLine2D reference row from color bits
-line_2d_over reference row from color e = ([], subst (λ (n : ℕ). EncodesLine2D reference row n color []) (sym e) EncodesLine2D.over)
+line_2d_over : (reference row : Row) (from : ℕ) (color : Color) → from ≡ suc (length row) → (bits : Bits)
+    × EncodesLine2D reference row from color bits
+line_2d_over reference row from color e =
+    ([], subst (λ (n : ℕ). EncodesLine2D reference row n color []) (sym e) EncodesLine2D.over)
 
-line_2d_exists : (turns : ℕ) (reference row : Row) (from : ℕ) (color : Color) → from ≤ suc (length row) → suc (length row) ≤ from + turns
-    → (bits : Bits) × EncodesLine2D reference row from color bits
+line_2d_exists : (turns : ℕ) (reference row : Row) (from : ℕ) (color : Color) → from ≤ suc (length row)
+    → suc (length row) ≤ from + turns → (bits : Bits) × EncodesLine2D reference row from color bits
 line_2d_exists zero reference row from color le enough = line_2d_over reference row from color (omega arith)
 line_2d_exists (suc turns) reference row from color le enough = elim (cases_lt (length row) from) [
   | inl past ↦ line_2d_over reference row from color (omega arith)
@@ -117,22 +111,25 @@ line_2d_exists (suc turns) reference row from color le enough = elim (cases_lt (
       let least = a2_least row from in
       let first = every_run_spelled color (a1 row from - (from - 1)) in
       let second = every_run_spelled (opposite color) (a2 row from - a1 row from) in
-      let rest = line_2d_exists turns reference row (suc (a2 row from)) color (omega arith) (omega arith) in
-      (word ++ (first.0 ++ (second.0 ++ rest.0)), EncodesLine2D.horizontal from word inside (inr (inl (refl, refl))) first.1 second.1 rest.1)
+      let rest = line_2d_exists turns reference row (suc (a2 row from)) color (omega arith) (omega arith) in (
+        word ++ (first.0 ++ (second.0 ++ rest.0)),
+        EncodesLine2D.horizontal from word inside (inr (inl (refl, refl))) first.1 second.1 rest.1,
+      )
 ]
 
 white_line_exists : (row : Row) → 0 < length row → (bits : Bits) × EncodesLine1D White row bits
 white_line_exists row some = line_1d_exists White 0 row (omega arith)
 
-line_exists : (encoding : EncodingMode) (reference row : Row) → 0 < length row → (bits : Bits) × EncodesLine encoding reference row bits
+line_exists : (encoding : EncodingMode) (reference row : Row) → 0 < length row → (bits : Bits)
+    × EncodesLine encoding reference row bits
 line_exists Group4 reference row some = line_2d_exists (suc (length row)) reference row 0 White (omega arith) (omega arith)
 line_exists Group3_1D reference row some = white_line_exists row some
 line_exists Group3_2D reference row some = let line = white_line_exists row some in (true ∷ line.0, (line.0, inl (refl, line.1)))
 
 -- ---- Pictures.
 module _ (columns : ℕ) (wide : 0 < columns) where
-  rows_exist : (encoding : EncodingMode) (aligned : Bool) (reference : Row) (rows : List Row) → All (λ row. length row ≡ columns) rows → (bits : Bits)
-      × EncodesRows encoding aligned reference rows bits
+  rows_exist : (encoding : EncodingMode) (aligned : Bool) (reference : Row) (rows : List Row)
+      → All (λ row. length row ≡ columns) rows → (bits : Bits) × EncodesRows encoding aligned reference rows bits
   rows_exist encoding aligned reference [] widths = ([], refl)
   rows_exist encoding aligned reference (row ∷ rows) widths =
       let width : length row ≡ columns = All-head (λ row. length row ≡ columns) row rows widths in
@@ -140,8 +137,8 @@ module _ (columns : ℕ) (wide : 0 < columns) where
       let next = rows_exist encoding aligned row rows (All-tail (λ row. length row ≡ columns) row rows widths) in
       (line.0 ++ (cond aligned (padding (length line.0)) []) ++ next.0, (line.0, next.0, line.1, next.1, refl))
 
-  lines_exist : (encoding : EncodingMode) (reference : Row) (rows : List Row) → All (λ row. length row ≡ columns) rows → (bits : Bits)
-      × EncodesRowsWithEols encoding reference rows bits
+  lines_exist : (encoding : EncodingMode) (reference : Row) (rows : List Row) → All (λ row. length row ≡ columns) rows
+      → (bits : Bits) × EncodesRowsWithEols encoding reference rows bits
   lines_exist encoding reference [] widths = ([], refl)
   lines_exist encoding reference (row ∷ rows) widths =
       let width : length row ≡ columns = All-head (λ row. length row ≡ columns) row rows widths in
@@ -151,7 +148,8 @@ module _ (columns : ℕ) (wide : 0 < columns) where
 
 closing_exists : (encoding : EncodingMode) (n : ℕ) → (bits : Bits) × ClosesWithEols encoding n bits
 closing_exists encoding zero = ([], refl)
-closing_exists encoding (suc n) = let next = closing_exists encoding n in (eol 0 ++ tag_of encoding ++ next.0, (0, next.0, next.1, refl))
+closing_exists encoding (suc n) = let next = closing_exists encoding n in
+    (eol 0 ++ tag_of encoding ++ next.0, (0, next.0, next.1, refl))
 
 -- the law
 pub every_picture_has_an_encoding : EveryPictureHasAnEncoding
@@ -182,8 +180,10 @@ power_doubles n = omega arith
 value_below : (bits : Bits) → value bits < 2 ^ length bits
 unfolding value
 value_below [] = omega arith
-value_below (true ∷ bits) = subst (λ (n : ℕ). 1 * 2 ^ length bits + value bits < n) (sym (power_doubles (length bits))) (omega (arith, value_below bits))
-value_below (false ∷ bits) = subst (λ (n : ℕ). 0 * 2 ^ length bits + value bits < n) (sym (power_doubles (length bits))) (omega (arith, value_below bits))
+value_below (true ∷ bits) =
+    subst (λ (n : ℕ). 1 * 2 ^ length bits + value bits < n) (sym (power_doubles (length bits))) (omega (arith, value_below bits))
+value_below (false ∷ bits) =
+    subst (λ (n : ℕ). 0 * 2 ^ length bits + value bits < n) (sym (power_doubles (length bits))) (omega (arith, value_below bits))
 
 same_bit : (m n j k : ℕ) → bit_at m j ≡ bit_at n k → bit_of m j ≡ bit_of n k
 same_bit m n j k e = ap (λ (b : ℕ). eqb b 1) e
@@ -229,24 +229,31 @@ byte_of LowestFirst front eight =
     other ∙ ap reverse it ∙ reverse-reverse front
 
 -- one byte more
-bits_more : (order : BitOrder) (front rest bits : Bits) (byte : ℕ) (bytes : List ℕ) → bits_of_byte order byte ≡ front → bits_in order bytes ≡ rest → bits ≡ front ++ rest
-    → bits_in order (byte ∷ bytes) ≡ bits
-bits_more order front rest bits byte bytes one more is = ap (λ (b : Bits). b ++ bits_in order bytes) one ∙ ap (λ (b : Bits). front ++ b) more ∙ sym is
+bits_more : (order : BitOrder) (front rest bits : Bits) (byte : ℕ) (bytes : List ℕ) → bits_of_byte order byte ≡ front
+    → bits_in order bytes ≡ rest → bits ≡ front ++ rest → bits_in order (byte ∷ bytes) ≡ bits
+bits_more order front rest bits byte bytes one more is =
+    ap (λ (b : Bits). b ++ bits_in order bytes) one ∙ ap (λ (b : Bits). front ++ b) more ∙ sym is
 
-bytes_of : (order : BitOrder) (n : ℕ) (bits : Bits) → length bits ≡ 8 * n → (bytes : List ℕ) × All (λ byte. byte < 256) bytes × (bits_in order bytes ≡ bits)
+bytes_of : (order : BitOrder) (n : ℕ) (bits : Bits) → length bits ≡ 8 * n → (bytes : List ℕ) × All (λ byte. byte < 256) bytes
+    × (bits_in order bytes ≡ bits)
 bytes_of order zero [] e = ([], (λ k d lt. absurd (omega arith)), refl)
 bytes_of order zero (bit ∷ bits) e = absurd (omega arith)
 bytes_of order (suc n) bits e =
     let f = cut 8 bits (omega (arith, e)) in
     let on = bytes_of order n f.1 (omega (arith, e, ap length f.2, length-append f.0 f.1, f.3)) in
     let first : Bits = highest_first order f.0 in
-    let small : value first < 256 = subst (λ (k : ℕ). value first < 2 ^ k) (length-highest_first order f.0 ∙ f.3) (value_below first) in
-    (value first ∷ on.0, All-cons (λ byte. byte < 256) (value first) on.0 small on.1, bits_more order f.0 f.1 bits (value first) on.0 (byte_of order f.0 f.3) on.2 f.2)
+    let small : value first < 256 =
+    subst (λ (k : ℕ). value first < 2 ^ k) (length-highest_first order f.0 ∙ f.3) (value_below first) in (
+      value first ∷ on.0,
+      All-cons (λ byte. byte < 256) (value first) on.0 small on.1,
+      bits_more order f.0 f.1 bits (value first) on.0 (byte_of order f.0 f.3) on.2 f.2,
+    )
 
 -- the law
 pub bytes_begin_with_any_bits : BytesBeginWithAnyBits
 bytes_begin_with_any_bits order bits =
     let missing : ℕ = 7 - (length bits + 7) % 8 in
     let more : Bits = replicate missing false in
-    let whole = bytes_of order ((length bits + 7) / 8) (bits ++ more) (omega (arith, length-append bits more, length-replicate missing false)) in
+    let whole = bytes_of order ((length bits + 7) / 8) (bits ++ more)
+    (omega (arith, length-append bits more, length-replicate missing false)) in
     (whole.0, whole.1, (more, whole.2))

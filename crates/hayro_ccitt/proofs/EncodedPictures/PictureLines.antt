@@ -1,25 +1,21 @@
 -- Where lines of pictures begin, their padding, and how readings that reach their end are described.
-use Rattle.std.proofs.Common.{◌≡◌, ℕ, suc, ◌+◌, ◌-◌, ◌/◌, ◌%◌, ◌<◌, ◌≤◌, Bool, true, false, cond, not, leb, List, [], ◌∷◌}
-use Rattle.std.proofs.Common.{◌++◌, length, None, Ok, refl, arith}
-use Rattle.std.proofs.lemmas.Bool.{not-true, false≢true}
-use Rattle.hayro_ccitt.specs.declared.codes.Color.{Color}
-use Rattle.hayro_ccitt.specs.declared.codes.Mode.{Mode}
-use Rattle.hayro_ccitt.specs.declared.settings.EncodingMode.{EncodingMode}
-use Rattle.hayro_ccitt.specs.declared.settings.DecodeSettings.{DecodeSettings}
-use Rattle.hayro_ccitt.specs.Bits.{Bits}
-use Rattle.hayro_ccitt.specs.CodeLists.{mode_codes}
-use Rattle.hayro_ccitt.specs.CodeReading.{Has}
-use Rattle.hayro_ccitt.specs.Rows.{Row}
-use Rattle.hayro_ccitt.specs.EndOfLine.{after_eol, eols}
-use Rattle.hayro_ccitt.specs.PlainReading.{Progress, Ending, row_before, aligned, at_end, limit_met, end_of, plain}
-use Rattle.hayro_ccitt.specs.Pictures.{Allows}
-use Rattle.hayro_ccitt.specs.Encodings.{EncodesLine2D, padding, eol}
-use Rattle.std.proofs.lemmas.Grind.{common_steps}
+use Rattle.hayro_ccitt.proofs.Names.{◌≡◌, ℕ, suc, ◌+◌, ◌-◌, ◌/◌, ◌%◌, ◌<◌, ◌≤◌, Bool, true, false, cond, not, leb, List, [], ◌∷◌}
+use Rattle.hayro_ccitt.proofs.Names.{◌++◌, length, None, Ok, refl, arith, not-true, false≢true, Color, Mode, EncodingMode}
+use Rattle.hayro_ccitt.proofs.Names.{DecodeSettings, Bits, mode_codes, Has, Row, after_eol, eols, Progress, Ending, row_before}
+use Rattle.hayro_ccitt.proofs.Names.{aligned, at_end, limit_met, end_of, plain, Allows, EncodesLine2D, padding, eol, common_steps}
 
 -- settings for a closed picture: the end of the block is looked for, and there is no limit
 abbrev pub closed_settings : EncodingMode → ℕ → Bool → DecodeSettings
 closed_settings encoding columns aligned =
-    record { columns = columns; rows = 0; end_of_block = true; end_of_line = false; rows_are_byte_aligned = aligned; encoding = encoding; strict = false }
+    record {
+      columns = columns;
+      rows = 0;
+      end_of_block = true;
+      end_of_line = false;
+      rows_are_byte_aligned = aligned;
+      encoding = encoding;
+      strict = false;
+    }
 
 -- ---- There is no EOL at a mode word.
 abbrev pub misses_eol : ℕ → Bits → Bool
@@ -46,8 +42,8 @@ pub record IsLineStart (here : Bits) : Type 0 where
 pub mode_starts : (mode : Mode) (word more : Bits) → Has mode_codes mode word → IsLineStart (word ++ more)
 mode_starts mode word more has = grind (arith, common_steps)
 
-pub line_2d_starts : (reference row : Row) (from : ℕ) (color : Color) (bits more : Bits) → EncodesLine2D reference row from color bits → from ≤ length row
-    → IsLineStart (bits ++ more)
+pub line_2d_starts : (reference row : Row) (from : ℕ) (color : Color) (bits more : Bits)
+    → EncodesLine2D reference row from color bits → from ≤ length row → IsLineStart (bits ++ more)
 line_2d_starts reference row from color bits more given le = grind (arith, common_steps)
 
 -- ---- One line of a run.
@@ -68,7 +64,8 @@ pub aligned_again : (b : Bool) (line next : Bits) → (b ≡ true → length ((l
 aligned_again b line next whole = grind (arith, common_steps)
 
 -- the next line begins at a whole byte too
-pub aligned_on : (b : Bool) (line next : Bits) → (b ≡ true → length ((line ++ fill b line) ++ next) % 8 ≡ 0) → b ≡ true → length next % 8 ≡ 0
+pub aligned_on : (b : Bool) (line next : Bits) → (b ≡ true → length ((line ++ fill b line) ++ next) % 8 ≡ 0) → b ≡ true
+    → length next % 8 ≡ 0
 aligned_on b line next whole e = grind (arith, common_steps)
 
 -- ---- The lines of a picture.
@@ -91,5 +88,6 @@ ended rows rest = record { rows = rows; has_eols = false; outcome = Ok rest }
 
 -- ---- Over whole data.
 pub plain_ends : (settings : DecodeSettings) (stream : Bits) (end : Ending) (rest : Bits) → 0 < settings.columns
-    → end_of settings stream ≡ end → end.outcome ≡ Ok rest → plain settings stream ≡ record { rows = end.rows; outcome = Ok ((length stream - length rest + 7) / 8); has_eols = end.has_eols }
+    → end_of settings stream ≡ end → end.outcome ≡ Ok rest → plain settings stream
+    ≡ record { rows = end.rows; outcome = Ok ((length stream - length rest + 7) / 8); has_eols = end.has_eols }
 plain_ends settings stream end rest wide e outcome = grind (arith, common_steps)

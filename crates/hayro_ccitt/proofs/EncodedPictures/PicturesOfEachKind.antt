@@ -1,11 +1,9 @@
 -- Pictures of every kind: closed, and ended by the limit of rows.
-use Rattle.std.proofs.Common.{ℕ, Ok, sym, ap, ◌∙◌}
-use Rattle.hayro_ccitt.specs.PlainReading.{Reading}
-use Rattle.hayro_ccitt.specs.Pictures.{IsClosedPicture, IsLimitedPicture}
-use Rattle.hayro_ccitt.specs.Laws.{ReadsClosedPictures, ReadsLimitedPictures}
-use Rattle.hayro_ccitt.proofs.EncodedPictures.PicturesT6.{closed_picture_t6, limited_rows_t6}
-use Rattle.hayro_ccitt.proofs.EncodedPictures.PicturesT4.{closed_picture_t4, limited_picture_t4}
+use Rattle.hayro_ccitt.proofs.Names.{ℕ, Ok, sym, ap, ◌∙◌, Reading, IsClosedPicture, IsLimitedPicture, ReadsClosedPictures}
+use Rattle.hayro_ccitt.proofs.Names.{ReadsLimitedPictures}
 use Rattle.hayro_ccitt.proofs.EncodedPictures.Bodies.{limited_rows_t4}
+use Rattle.hayro_ccitt.proofs.EncodedPictures.PicturesT4.{closed_picture_t4, limited_picture_t4}
+use Rattle.hayro_ccitt.proofs.EncodedPictures.PicturesT6.{closed_picture_t6, limited_rows_t6}
 
 -- the law
 pub closed_pictures : ReadsClosedPictures
@@ -18,6 +16,9 @@ closed_pictures settings rows count stream are whole (IsClosedPicture.by_rtc bit
 
 -- the law
 pub limited_pictures : ReadsLimitedPictures
-limited_pictures settings rows stream are whole (IsLimitedPicture.of_t6 bits begins) = limited_rows_t6 settings rows bits stream are whole begins
-limited_pictures settings rows stream are whole (IsLimitedPicture.of_t4 bits begins) = limited_rows_t4 settings rows bits stream are whole begins
-limited_pictures settings rows stream are whole (IsLimitedPicture.of_t4_with_eols bits begins) = limited_picture_t4 settings rows bits stream are begins
+limited_pictures settings rows stream are whole (IsLimitedPicture.of_t6 bits begins) =
+    limited_rows_t6 settings rows bits stream are whole begins
+limited_pictures settings rows stream are whole (IsLimitedPicture.of_t4 bits begins) =
+    limited_rows_t4 settings rows bits stream are whole begins
+limited_pictures settings rows stream are whole (IsLimitedPicture.of_t4_with_eols bits begins) =
+    limited_picture_t4 settings rows bits stream are begins

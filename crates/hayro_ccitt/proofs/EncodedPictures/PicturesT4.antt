@@ -1,38 +1,23 @@
 -- A T.4 picture is read again.
-use Rattle.std.proofs.Common.{◌≡◌, ◌≢◌, ℕ, zero, suc, ◌+◌, ◌<◌, ◌≤◌, Bool, true, false, cond, ◌&&◌, ◌||◌, ltb, leb, List, [], ◌∷◌, ◌++◌, length, replicate, Some, None, Ok, Err, refl, sym, ap, subst, ◌∙◌, append_assoc, arith, inl, inr}
-use Rattle.std.specs.Prelude.{All}
-use Rattle.std.proofs.lemmas.Bool.{and_right, and_from, not_from_false, or_from, cond-false}
-use Rattle.std.proofs.lemmas.Bool.{eq-eqb, ne_eqb}
-use Rattle.std.proofs.lemmas.List.{length-append, length-replicate, append-nil}
-use Rattle.std.proofs.lemmas.List.Elements.{All-head, All-tail}
-use Rattle.hayro_ccitt.specs.declared.codes.Color.{Color}
-use Rattle.hayro_ccitt.specs.declared.codes.Color.TheVariants.{White}
-use Rattle.hayro_ccitt.specs.declared.error.DecodeError.TheVariants.{UnexpectedEof}
-use Rattle.hayro_ccitt.specs.declared.settings.EncodingMode.{EncodingMode}
-use Rattle.hayro_ccitt.specs.declared.settings.EncodingMode.TheVariants.{Group3_1D, Group3_2D, Group4}
-use Rattle.hayro_ccitt.specs.declared.settings.DecodeSettings.{DecodeSettings}
-use Rattle.hayro_ccitt.specs.Bits.{Bits}
-use Rattle.hayro_ccitt.specs.Repetition.{Turn, repeated}
-use Rattle.hayro_ccitt.specs.Rows.{Row}
-use Rattle.hayro_ccitt.specs.Runs.{codes_of}
-use Rattle.hayro_ccitt.specs.Lines.{Line, line_1d, line_2d}
-use Rattle.hayro_ccitt.specs.EndOfLine.{after_eol, one_more, eols, all_eols, past_tag, eols_with_tags, pass_last_tag, tagged_eols}
-use Rattle.hayro_ccitt.specs.PlainReading.{eols_of_end, ending_behind, Progress, Ending, row_before, aligned, at_end, limit_met, line_here, eols_here}
-use Rattle.hayro_ccitt.specs.PlainReading.{after_line, move_on, ending_from}
-use Rattle.hayro_ccitt.specs.PlainReading.{end_of}
-use Rattle.hayro_ccitt.specs.Encodings.{Spells, EncodesLine1D, EncodesLine2D, EncodesLine, eol, tag_of, IsPicture, EncodesRowsWithEols}
-use Rattle.hayro_ccitt.specs.Encodings.{ClosesWithEols, PictureT4}
-use Rattle.hayro_ccitt.specs.Laws.{each_word, ReadsPictureT4, ReadsLimitedPictureT4, OnePictureT4}
-use Rattle.hayro_ccitt.proofs.Readings.TurnsMoveOn.{few_eols, eols-none, one_more-count, eol_of, eols_with_tags-some, eols_with_tags-none, last_tag_count}
-use Rattle.hayro_ccitt.specs.Pictures.{Allows}
-use Rattle.hayro_ccitt.proofs.Readings.Repeated.{after_turn}
-use Rattle.hayro_ccitt.proofs.BitReading.ZerosInWords.{each_word_at}
-use Rattle.hayro_ccitt.proofs.EncodedPictures.EncodedRuns.{line_1d_again}
-use Rattle.hayro_ccitt.proofs.EncodedPictures.EncodedLines.{line_2d_again}
-use Rattle.hayro_ccitt.proofs.EncodedPictures.PictureLines.{closed_settings, misses_eol, missed, goes_on, IsLineStart, not_met, row_before_push, plain_ends}
+use Rattle.hayro_ccitt.proofs.Names.{◌≡◌, ◌≢◌, ℕ, zero, suc, ◌+◌, ◌<◌, ◌≤◌, Bool, true, false, cond, ◌&&◌, ◌||◌, ltb, leb, List}
+use Rattle.hayro_ccitt.proofs.Names.{[], ◌∷◌, ◌++◌, length, replicate, Some, None, Ok, Err, refl, sym, ap, subst, ◌∙◌}
+use Rattle.hayro_ccitt.proofs.Names.{append_assoc, arith, inl, inr, All, and_right, and_from, not_from_false, or_from, cond-false}
+use Rattle.hayro_ccitt.proofs.Names.{eq-eqb, ne_eqb, length-append, length-replicate, append-nil, All-head, All-tail, Color}
+use Rattle.hayro_ccitt.proofs.Names.{White, UnexpectedEof, EncodingMode, Group3_1D, Group3_2D, Group4, DecodeSettings, Bits, Turn}
+use Rattle.hayro_ccitt.proofs.Names.{repeated, Row, codes_of, Line, line_1d, line_2d, after_eol, one_more, eols, all_eols}
+use Rattle.hayro_ccitt.proofs.Names.{past_tag, eols_with_tags, pass_last_tag, tagged_eols, eols_of_end, ending_behind, Progress}
+use Rattle.hayro_ccitt.proofs.Names.{Ending, row_before, aligned, at_end, limit_met, line_here, eols_here, after_line, move_on}
+use Rattle.hayro_ccitt.proofs.Names.{ending_from, end_of, Spells, EncodesLine1D, EncodesLine2D, EncodesLine, eol, tag_of}
+use Rattle.hayro_ccitt.proofs.Names.{IsPicture, EncodesRowsWithEols, ClosesWithEols, PictureT4, each_word, ReadsPictureT4}
+use Rattle.hayro_ccitt.proofs.Names.{ReadsLimitedPictureT4, OnePictureT4, Allows, common_steps}
+use Rattle.hayro_ccitt.proofs.{BitReading.ZerosInWords.each_word_at, EncodedPictures.EncodedLines.line_2d_again}
+use Rattle.hayro_ccitt.proofs.{EncodedPictures.EncodedRuns.line_1d_again, Readings.Repeated.after_turn}
+use Rattle.hayro_ccitt.proofs.EncodedPictures.PictureLines.{closed_settings, misses_eol, missed, goes_on, IsLineStart, not_met}
+use Rattle.hayro_ccitt.proofs.EncodedPictures.PictureLines.{row_before_push, plain_ends}
 use Rattle.hayro_ccitt.proofs.Readings.GapsAndRows.{first_gap_t4, ending_t4}
 use Rattle.hayro_ccitt.proofs.Readings.RowsAndGaps.{unless_over, after_row, after_whole-is}
-use Rattle.std.proofs.lemmas.Grind.{common_steps}
+use Rattle.hayro_ccitt.proofs.Readings.TurnsMoveOn.{few_eols, eols-none, one_more-count, eol_of, eols_with_tags-some}
+use Rattle.hayro_ccitt.proofs.Readings.TurnsMoveOn.{eols_with_tags-none, last_tag_count}
 
 -- ---- What a line begins with.
 codes_miss : (color : Color) → each_word (misses_eol 0) (codes_of color) ≡ true
@@ -44,15 +29,15 @@ run_starts color n word more (Spells.terminating m w has small) =
 run_starts color n word more (Spells.makeup m w {n = k} {bits = next} has large rest) =
     grind (arith, common_steps, append_assoc, codes_miss, each_word_at, goes_on, missed, misses_eol)
 
-line_1d_starts : (color : Color) (row : Row) (bits more : Bits) → EncodesLine1D color row bits → 0 < length row → IsLineStart (bits ++ more)
+line_1d_starts : (color : Color) (row : Row) (bits more : Bits) → EncodesLine1D color row bits → 0 < length row
+    → IsLineStart (bits ++ more)
 line_1d_starts color row bits more EncodesLine1D.over some = absurd (omega arith)
 line_1d_starts color row bits more (EncodesLine1D.run n word {row = others} {bits = next} spells first maximal rest) some =
     subst IsLineStart (sym (append_assoc word next more)) (run_starts color n word (next ++ more) spells)
 
 -- no EOL is here, where a zero is the tag before
 pub line_2d_after_tag : (reference row : Row) (from : ℕ) (color : Color) (bits more : Bits)
-    → EncodesLine2D reference row from color bits
-    → from ≤ length row → after_eol 1 (bits ++ more) ≡ None
+    → EncodesLine2D reference row from color bits → from ≤ length row → after_eol 1 (bits ++ more) ≡ None
 line_2d_after_tag reference row from color bits more given le = grind (arith, common_steps)
 
 -- where a line of T.4 begins: there is no EOL there, nor after a tag
@@ -62,7 +47,8 @@ record IsTagStart (here : Bits) : Type 0 where
 
 -- ---- EOLs that are there.
 pub eol_stands : (fill : ℕ) (more : Bits) → after_eol 0 (eol fill ++ more) ≡ Some more
-eol_stands fill more = ap (after_eol 0) (append_assoc (replicate (11 + fill) false) (true ∷ []) more) ∙ eol_of 0 (11 + fill) more (omega arith)
+eol_stands fill more =
+    ap (after_eol 0) (append_assoc (replicate (11 + fill) false) (true ∷ []) more) ∙ eol_of 0 (11 + fill) more (omega arith)
 
 length-eol : (fill : ℕ) (more : Bits) → length (eol fill ++ more) ≡ suc (11 + fill + length more)
 length-eol fill more = grind (arith, common_steps)
@@ -71,7 +57,8 @@ eols_more : (most fill : ℕ) (more : Bits) → eols (suc most) (eol fill ++ mor
 eols_more most fill more = rw (eol_stands fill more, eols) refl
 
 all_eols_more : (fill : ℕ) (more : Bits) → all_eols (eol fill ++ more) ≡ one_more (eols (11 + fill + length more) more)
-all_eols_more fill more = ap (λ (n : ℕ). eols n (eol fill ++ more)) (length-eol fill more) ∙ eols_more (11 + fill + length more) fill more
+all_eols_more fill more =
+    ap (λ (n : ℕ). eols n (eol fill ++ more)) (length-eol fill more) ∙ eols_more (11 + fill + length more) fill more
 
 -- one EOL before a line
 one_eol : (fill : ℕ) (here : Bits) → after_eol 0 here ≡ None → all_eols (eol fill ++ here) ≡ (1, here)
@@ -80,18 +67,21 @@ one_eol fill here none = all_eols_more fill here ∙ ap one_more (eols-none (11 
 pass_none : (here : Bits) → pass_last_tag (1, here) ≡ (1, here)
 pass_none here = grind (arith, common_steps)
 
-tagged_eols_more : (most fill : ℕ) (more : Bits) → eols_with_tags (suc most) (eol fill ++ more) ≡ one_more (eols_with_tags most (past_tag more))
+tagged_eols_more : (most fill : ℕ) (more : Bits)
+    → eols_with_tags (suc most) (eol fill ++ more) ≡ one_more (eols_with_tags most (past_tag more))
 tagged_eols_more most fill more = eols_with_tags-some most (eol fill ++ more) more (eol_stands fill more)
 
 one_tagged : (fill : ℕ) (here : Bits) → IsTagStart here → tagged_eols (eol fill ++ here) ≡ (1, here)
 one_tagged fill here at = grind (arith, common_steps, eols_with_tags-none, length-eol, pass_none, tagged_eols_more)
 
 -- ---- Kinds.
-pub eols_here_one : (settings : DecodeSettings) (here : Bits) → settings.encoding ≡ Group3_1D → eols_here settings here ≡ all_eols here
+pub eols_here_one : (settings : DecodeSettings) (here : Bits) → settings.encoding ≡ Group3_1D
+    → eols_here settings here ≡ all_eols here
 eols_here_one settings here e = rw (e, eols_here) refl
 
 -- in two-dimensional data EOLs are counted with their tags
-pub eols_here_two : (settings : DecodeSettings) (here : Bits) → settings.encoding ≡ Group3_2D → eols_here settings here ≡ tagged_eols here
+pub eols_here_two : (settings : DecodeSettings) (here : Bits) → settings.encoding ≡ Group3_2D
+    → eols_here settings here ≡ tagged_eols here
 eols_here_two settings here e = rw (e, eols_here) refl
 
 tagged_line : (settings : DecodeSettings) (reference : Row) (tag : Bool) (here : Bits) → settings.encoding ≡ Group3_2D
@@ -100,24 +90,27 @@ tagged_line : (settings : DecodeSettings) (reference : Row) (tag : Bool) (here :
 tagged_line settings reference tag here e = grind (arith, common_steps)
 
 -- ---- The EOLs that close a picture.
-eols_closing : (n most : ℕ) (closing more : Bits) → ClosesWithEols Group3_1D n closing → n ≤ most → n ≤ (eols most (closing ++ more)).0
+eols_closing : (n most : ℕ) (closing more : Bits) → ClosesWithEols Group3_1D n closing → n ≤ most
+    → n ≤ (eols most (closing ++ more)).0
 eols_closing zero most closing more is le = omega arith
 eols_closing (suc n) zero closing more is le = absurd (omega arith)
 eols_closing (suc n) (suc most) closing more (fill, next, then, is) le =
     grind (arith, common_steps, append-nil, append_assoc, eols_more, one_more-count, eols_closing n most next more)
 
-length-closing : (encoding : EncodingMode) (n : ℕ) (closing more : Bits) → ClosesWithEols encoding n closing → n ≤ length (closing ++ more)
+length-closing : (encoding : EncodingMode) (n : ℕ) (closing more : Bits) → ClosesWithEols encoding n closing
+    → n ≤ length (closing ++ more)
 length-closing encoding zero closing more is = omega arith
 length-closing encoding (suc n) closing more (fill, next, then, is) =
     grind (arith, common_steps, append_assoc, common_steps, length-append, length-eol, length-closing encoding n next more)
 
 -- the first of them, and its tag
-tag_after : (fill : ℕ) (closing next more : Bits) → closing ≡ eol fill ++ tag_of Group3_2D ++ next → closing ++ more ≡ eol fill ++ (true ∷ (next ++ more))
+tag_after : (fill : ℕ) (closing next more : Bits) → closing ≡ eol fill ++ tag_of Group3_2D ++ next
+    → closing ++ more ≡ eol fill ++ (true ∷ (next ++ more))
 tag_after fill closing next more is = grind (arith, common_steps)
 
 -- a tag before EOLs is consumed
-tagged_eols_behind : (n most : ℕ) (closing more : Bits) → ClosesWithEols Group3_2D n closing → n ≤ (eols_with_tags most (closing ++ more)).0
-    → n ≤ (eols_with_tags most (past_tag (true ∷ (closing ++ more)))).0
+tagged_eols_behind : (n most : ℕ) (closing more : Bits) → ClosesWithEols Group3_2D n closing
+    → n ≤ (eols_with_tags most (closing ++ more)).0 → n ≤ (eols_with_tags most (past_tag (true ∷ (closing ++ more)))).0
 tagged_eols_behind n most closing more is le = grind (arith, common_steps)
 
 tagged_eols_closing : (n most : ℕ) (closing more : Bits) → ClosesWithEols Group3_2D n closing → n ≤ most
@@ -150,35 +143,38 @@ matches_t4 settings encoding matches = grind (arith, common_steps)
 abbrev ends_well : List Row → Bits → Ending
 ends_well rows rest = record { rows = rows; has_eols = true; outcome = Ok rest }
 
-six_close : (settings : DecodeSettings) (encoding : EncodingMode) (closing more : Bits) → Matches encoding settings → ClosesWithEols encoding 6 closing
-    → 6 ≤ (eols_here settings (closing ++ more)).0
+six_close : (settings : DecodeSettings) (encoding : EncodingMode) (closing more : Bits) → Matches encoding settings
+    → ClosesWithEols encoding 6 closing → 6 ≤ (eols_here settings (closing ++ more)).0
 six_close settings Group4 closing more matches is = absurd matches
 six_close settings Group3_1D closing more matches is =
     rw (eols_here_one settings (closing ++ more) matches)
     (eols_closing 6 (length (closing ++ more)) closing more is (length-closing Group3_1D 6 closing more is))
-six_close settings Group3_2D closing more matches is = rw (eols_here_two settings (closing ++ more) matches) (six_tagged closing more is)
+six_close settings Group3_2D closing more matches is =
+    rw (eols_here_two settings (closing ++ more) matches) (six_tagged closing more is)
 
 module _ (settings : DecodeSettings) (wide : 0 < settings.columns) (small : settings.columns ≤ 4294967295) where
   -- a line is read
-  pub line_t4_again : (encoding : EncodingMode) (reference row : Row) (line more : Bits) → Matches encoding settings → EncodesLine encoding reference row line
-      → length reference ≡ settings.columns → length row ≡ settings.columns → line_here settings reference (line ++ more) ≡ Line.whole row more
+  pub line_t4_again : (encoding : EncodingMode) (reference row : Row) (line more : Bits) → Matches encoding settings
+      → EncodesLine encoding reference row line → length reference ≡ settings.columns → length row ≡ settings.columns
+      → line_here settings reference (line ++ more) ≡ Line.whole row more
   line_t4_again Group4 reference row line more matches is ref_len row_len = absurd matches
   line_t4_again Group3_1D reference row line more matches is ref_len row_len =
       let len : length {A = Bool} [] + length row ≡ settings.columns = omega arith in
       rw (matches, line_here) (line_1d_again settings.strict settings.columns [] row White line more is small len)
   line_t4_again Group3_2D reference row line more matches (rest, inl is) ref_len row_len =
       let len : length {A = Bool} [] + length row ≡ settings.columns = omega arith in
-      ap (λ (x : Bits). line_here settings reference (x ++ more)) is.0 ∙ tagged_line settings reference true (rest ++ more) matches
-      ∙ line_1d_again settings.strict settings.columns [] row White rest more is.1 small len
+      ap (λ (x : Bits). line_here settings reference (x ++ more)) is.0 ∙ tagged_line settings reference true
+      (rest ++ more) matches ∙ line_1d_again settings.strict settings.columns [] row White rest more is.1 small len
   line_t4_again Group3_2D reference row line more matches (rest, inr is) ref_len row_len =
       grind (arith, common_steps, line_2d_again, tagged_line)
 
   -- where it begins there is no EOL
-  pub line_t4_starts : (encoding : EncodingMode) (reference row : Row) (line more : Bits) → Matches encoding settings → EncodesLine encoding reference row line
-      → length row ≡ settings.columns → IsLineStart (line ++ more)
+  pub line_t4_starts : (encoding : EncodingMode) (reference row : Row) (line more : Bits) → Matches encoding settings
+      → EncodesLine encoding reference row line → length row ≡ settings.columns → IsLineStart (line ++ more)
   line_t4_starts Group4 reference row line more matches is row_len = absurd matches
   line_t4_starts Group3_1D reference row line more matches is row_len = line_1d_starts White row line more is (omega arith)
-  line_t4_starts Group3_2D reference row line more matches (rest, inl is) row_len = rw is.0 (record { no_eol = refl; open_end = refl })
+  line_t4_starts Group3_2D reference row line more matches (rest, inl is) row_len =
+      rw is.0 (record { no_eol = refl; open_end = refl })
   line_t4_starts Group3_2D reference row line more matches (rest, inr is) row_len = grind (arith, common_steps, line_2d_after_tag)
 
   tag_starts : (reference row : Row) (line more : Bits) → EncodesLine Group3_2D reference row line → length row ≡ settings.columns
@@ -202,25 +198,27 @@ module _ (settings : DecodeSettings) (wide : 0 < settings.columns) (small : sett
   counted_row rows here found is some = grind (arith, common_steps)
 
   -- one row is added
-  row_added : (before : List Row) (row : Row) (here tail : Bits)
-      → line_here settings (row_before settings.columns before) here ≡ Line.whole row tail
-      → move_on settings (with_eols before here) ≡ after_row settings (with_eols (before ++ row ∷ []) tail)
+  row_added : (before : List Row) (row : Row) (here tail : Bits) → line_here settings (row_before settings.columns before) here
+      ≡ Line.whole row tail → move_on settings (with_eols before here) ≡ after_row settings (with_eols (before ++ row ∷ []) tail)
   row_added before row here tail read =
       ap (after_line settings (with_eols before here)) read ∙ after_whole-is settings (with_eols before here) row tail
-      ∙ ap (λ (x : Bits). after_row settings (with_eols (before ++ row ∷ []) x))
-      (cond-false (settings.rows_are_byte_aligned && false) (aligned tail) tail (and_right settings.rows_are_byte_aligned false refl))
+      ∙ ap (λ (x : Bits). after_row settings (with_eols (before ++ row ∷ []) x)) (cond-false
+      (settings.rows_are_byte_aligned && false) (aligned tail) tail (and_right settings.rows_are_byte_aligned false refl))
 
-  module _ (encoding : EncodingMode) (matches : Matches encoding settings) (late : Ending) (tail last : Bits) (whole : List Row)
-      (allows : Allows settings (length whole)) (stops : after_row settings (with_eols whole tail) ≡ Turn.done (ends_well whole last)) where
-    lines_t4_again : (before : List Row) (row : Row) (rows : List Row) (line next : Bits) (fuel : ℕ) → before ++ row ∷ rows ≡ whole
-        → length (row_before settings.columns before) ≡ settings.columns → All (λ row. length row ≡ settings.columns) (row ∷ rows)
-        → EncodesLine encoding (row_before settings.columns before) row line → EncodesRowsWithEols encoding row rows next → length rows < fuel
+  module _ (encoding : EncodingMode) (matches : Matches encoding settings) (late : Ending)
+      (tail last : Bits) (whole : List Row) (allows : Allows settings (length whole))
+      (stops : after_row settings (with_eols whole tail) ≡ Turn.done (ends_well whole last)) where
+    lines_t4_again : (before : List Row) (row : Row) (rows : List Row) (line next : Bits) (fuel : ℕ)
+        → before ++ row ∷ rows ≡ whole → length (row_before settings.columns before) ≡ settings.columns → All
+        (λ row. length row ≡ settings.columns) (row ∷ rows) → EncodesLine encoding (row_before settings.columns before) row line
+        → EncodesRowsWithEols encoding row rows next → length rows < fuel
         → repeated (move_on settings) late fuel (with_eols before (line ++ (next ++ tail))) ≡ ends_well whole last
     lines_t4_again before row rows line next zero all ref_len widths is lines lt = absurd (omega arith)
     lines_t4_again before row [] line next (suc fuel) all ref_len widths is lines lt =
         let row_len : length row ≡ settings.columns = All-head (λ row. length row ≡ settings.columns) row [] widths in
         grind (arith, common_steps, after_row, after_turn, line_t4_again, row_added)
-    lines_t4_again before row (row2 ∷ rows) line next (suc fuel) all ref_len widths is (fill, line_2d, next2, is2, lines2, split) lt =
+    lines_t4_again before row (row2 ∷ rows) line next (suc fuel) all ref_len widths is
+        (fill, line_2d, next2, is2, lines2, split) lt =
         let row_len : length row ≡ settings.columns = All-head (λ row. length row ≡ settings.columns) row (row2 ∷ rows) widths in
         let widths2 = All-tail (λ row. length row ≡ settings.columns) row (row2 ∷ rows) widths in
         let row2_len : length row2 ≡ settings.columns = All-head (λ row. length row ≡ settings.columns) row2 rows widths2 in
@@ -230,12 +228,15 @@ module _ (settings : DecodeSettings) (wide : 0 < settings.columns) (small : sett
         let read : line_here settings (row_before settings.columns before) (line ++ (next ++ tail)) ≡ Line.whole row after
         = grind (arith, common_steps, line_t4_again) in
         let rows1 : List Row = before ++ row ∷ [] in
-        let one : eols_here settings after ≡ (1, rest) = eol_before encoding row row2 fill line_2d (next2 ++ tail) matches is2 row2_len in
+        let one : eols_here settings after ≡ (1, rest) =
+        eol_before encoding row row2 fill line_2d (next2 ++ tail) matches is2 row2_len in
         let all2 : rows1 ++ row2 ∷ rows ≡ whole = append_assoc before (row ∷ []) (row2 ∷ rows) ∙ all in
         let count : length rows1 < length whole = omega (arith, ap length all2, length-append rows1 (row2 ∷ rows)) in
-        let open_end : at_end rest ≡ false = (line_t4_starts encoding row row2 line_2d (next2 ++ tail) matches is2 row2_len).open_end in
-        let over : ((settings.end_of_block && (leb (eols_of_end settings.encoding) 1)) || limit_met settings (length rows1) || at_end rest) ≡ false
-        = or_from _ _ (or_from _ _ (and_right settings.end_of_block (leb (eols_of_end settings.encoding) 1) (few_eols settings.encoding 1 (omega arith))) (not_met settings (length whole) (length rows1) allows count)) open_end in
+        let open_end : at_end rest ≡ false =
+        (line_t4_starts encoding row row2 line_2d (next2 ++ tail) matches is2 row2_len).open_end in
+        let over : ((settings.end_of_block && (leb (eols_of_end settings.encoding) 1)) || limit_met settings (length rows1) ||
+        at_end rest) ≡ false = or_from _ _ (or_from _ _ (and_right settings.end_of_block (leb (eols_of_end settings.encoding) 1)
+        (few_eols settings.encoding 1 (omega arith))) (not_met settings (length whole) (length rows1) allows count)) open_end in
         let moved : move_on settings (with_eols before (line ++ (next ++ tail))) ≡ Turn.next (with_eols rows1 rest)
         = grind (arith, common_steps, cond-false, counted_row, row_added) in
         let pushed : row_before settings.columns rows1 ≡ row = row_before_push settings.columns before row in
@@ -255,19 +256,23 @@ module _ (settings : DecodeSettings) (wide : 0 < settings.columns) (small : sett
   limit_stops rows here met = grind (arith, common_steps)
 
   -- data of Group 3 are read as such
-  pub end_of_three : (encoding : EncodingMode) (bits : Bits) → Matches encoding settings → end_of settings bits ≡ ending_t4 settings bits
-  end_of_three encoding bits matches = ap (ending_behind settings) (first_gap_t4 settings bits (matches_t4 settings encoding matches))
+  pub end_of_three : (encoding : EncodingMode) (bits : Bits) → Matches encoding settings
+      → end_of settings bits ≡ ending_t4 settings bits
+  end_of_three encoding bits matches =
+      ap (ending_behind settings) (first_gap_t4 settings bits (matches_t4 settings encoding matches))
 
-  length-lines : (encoding : EncodingMode) (reference : Row) (rows : List Row) (bits : Bits) → EncodesRowsWithEols encoding reference rows bits → length rows ≤ length bits
+  length-lines : (encoding : EncodingMode) (reference : Row) (rows : List Row) (bits : Bits)
+      → EncodesRowsWithEols encoding reference rows bits → length rows ≤ length bits
   length-lines encoding reference [] bits lines = omega arith
   length-lines encoding reference (row ∷ rows) bits (fill, line, next, is, lines, split) =
       let on = length-lines encoding row rows next lines in
       grind (arith, common_steps, append_assoc, length-append, length-eol)
 
   -- lines with their EOLs are read, and the run ends where it does after the last
-  pub lines_t4_end : (encoding : EncodingMode) (rows : List Row) (lines tail last : Bits) → Matches encoding settings → 0 < length rows
-      → IsPicture settings.columns rows → EncodesRowsWithEols encoding (replicate settings.columns false) rows lines → Allows settings (length rows)
-      → after_row settings (with_eols rows tail) ≡ Turn.done (ends_well rows last) → end_of settings (lines ++ tail) ≡ ends_well rows last
+  pub lines_t4_end : (encoding : EncodingMode) (rows : List Row) (lines tail last : Bits) → Matches encoding settings → 0
+      < length rows → IsPicture settings.columns rows → EncodesRowsWithEols encoding (replicate settings.columns false) rows lines
+      → Allows settings (length rows) → after_row settings (with_eols rows tail) ≡ Turn.done (ends_well rows last)
+      → end_of settings (lines ++ tail) ≡ ends_well rows last
   lines_t4_end encoding [] lines tail last matches some is_picture are allows stops = absurd (omega arith)
   lines_t4_end encoding (row ∷ rows) lines tail last matches some is_picture (fill, line, next, is, more, split) allows stops =
       let row_len : length row ≡ settings.columns = All-head (λ row. length row ≡ settings.columns) row rows is_picture.1 in
@@ -275,29 +280,31 @@ module _ (settings : DecodeSettings) (wide : 0 < settings.columns) (small : sett
       let here : lines ++ tail ≡ eol fill ++ rest = grind (arith, common_steps, append_assoc) in
       let one : all_eols (eol fill ++ rest) ≡ (1, rest) = grind (arith, common_steps, line_t4_starts, one_eol) in
       let late : Ending = record { rows = []; has_eols = true; outcome = Err UnexpectedEof } in
-      let started : ending_t4 settings (eol fill ++ rest) ≡ repeated (move_on settings) late (suc (suc (length rest))) (with_eols [] rest)
-      = ap (λ (f : ℕ × Bits). ending_from (move_on settings) (record { rows = []; has_eols = ltb 0 f.0 || settings.end_of_line; rest = f.1 })) one in
+      let started : ending_t4 settings (eol fill ++ rest)
+      ≡ repeated (move_on settings) late (suc (suc (length rest))) (with_eols [] rest) = ap (λ (f : ℕ × Bits).
+      ending_from (move_on settings) (record { rows = []; has_eols = ltb 0 f.0 || settings.end_of_line; rest = f.1 })) one in
       let short : length rows < suc (suc (length rest)) = grind (arith, common_steps, length-append, length-lines) in
-      end_of_three encoding (lines ++ tail) matches ∙ ap (ending_t4 settings) here ∙ started
-      ∙ lines_t4_again encoding matches late tail last (row ∷ rows) allows stops [] row rows line next (suc (suc (length rest))) refl
-      (length-replicate settings.columns false) is_picture.1 is more short
+      end_of_three encoding (lines ++ tail) matches ∙ ap (ending_t4 settings) here
+      ∙ started ∙ lines_t4_again encoding matches late tail last (row ∷ rows) allows stops [] row rows line next
+      (suc (suc (length rest))) refl (length-replicate settings.columns false) is_picture.1 is more short
 
   -- a T.4 picture, closed by RTC, is read as its rows, whatever follows
-  pub closed_t4_end : (encoding : EncodingMode) (rows : List Row) (lines closing more : Bits) → Matches encoding settings → settings.end_of_block ≡ true
-      → 0 < length rows → IsPicture settings.columns rows → EncodesRowsWithEols encoding (replicate settings.columns false) rows lines
-      → ClosesWithEols encoding 6 closing
-      → Allows settings (length rows) → end_of settings (lines ++ (closing ++ more)) ≡ ends_well rows (eols_here settings (closing ++ more)).1
+  pub closed_t4_end : (encoding : EncodingMode) (rows : List Row) (lines closing more : Bits) → Matches encoding settings
+      → settings.end_of_block ≡ true → 0 < length rows → IsPicture settings.columns rows → EncodesRowsWithEols encoding
+      (replicate settings.columns false) rows lines → ClosesWithEols encoding 6 closing → Allows settings (length rows)
+      → end_of settings (lines ++ (closing ++ more)) ≡ ends_well rows (eols_here settings (closing ++ more)).1
   closed_t4_end encoding rows lines closing more matches block some is_picture are closed allows =
-      lines_t4_end encoding rows lines (closing ++ more) (eols_here settings (closing ++ more)).1 matches some is_picture are allows
-      (six_stop rows (closing ++ more) block (six_close settings encoding closing more matches closed))
+      lines_t4_end encoding rows lines (closing ++ more) (eols_here settings (closing ++ more)).1 matches some is_picture are
+      allows (six_stop rows (closing ++ more) block (six_close settings encoding closing more matches closed))
 
   -- lines with EOLs are read as their rows, up to the limit
-  pub limited_t4_end : (encoding : EncodingMode) (rows : List Row) (lines more : Bits) → Matches encoding settings → settings.rows ≡ length rows → 0 < length rows
-      → IsPicture settings.columns rows → EncodesRowsWithEols encoding (replicate settings.columns false) rows lines
-      → end_of settings (lines ++ more) ≡ ends_well rows (eols_here settings more).1
+  pub limited_t4_end : (encoding : EncodingMode) (rows : List Row) (lines more : Bits) → Matches encoding settings
+      → settings.rows ≡ length rows → 0 < length rows → IsPicture settings.columns rows → EncodesRowsWithEols encoding
+      (replicate settings.columns false) rows lines → end_of settings (lines ++ more) ≡ ends_well rows (eols_here settings more).1
   limited_t4_end encoding rows lines more matches limit some is_picture are =
       let met : limit_met settings (length rows) ≡ true = grind (arith, common_steps, and_from, eq-eqb, ne_eqb, not_from_false) in
-      lines_t4_end encoding rows lines more (eols_here settings more).1 matches some is_picture are (inr (omega arith)) (limit_stops rows more met)
+      lines_t4_end encoding rows lines more (eols_here settings more).1 matches some is_picture are (inr (omega arith))
+      (limit_stops rows more met)
 
 -- ---- Over whole data.
 pub closed_picture_t4 : ReadsPictureT4
@@ -310,11 +317,18 @@ limited_picture_t4 settings rows bits stream are begins =
     grind (arith, common_steps, limited_t4_end settings, matches_itself settings begins.encoding, plain_ends settings stream)
 
 -- ---- One prefix, one picture.
-one_picture_at : (settings : DecodeSettings) (encoding : EncodingMode) (rows others : List Row) (bits more : Bits) → settings.columns ≤ 4294967295
-    → Matches encoding settings → settings.end_of_block ≡ true → settings.rows ≡ 0
+one_picture_at : (settings : DecodeSettings) (encoding : EncodingMode) (rows others : List Row) (bits more : Bits)
+    → settings.columns ≤ 4294967295 → Matches encoding settings → settings.end_of_block ≡ true → settings.rows ≡ 0
     → PictureT4 encoding settings.columns rows bits → PictureT4 encoding settings.columns others (bits ++ more) → rows ≡ others
 one_picture_at settings encoding rows others bits more small matches block none one two =
-    grind (arith, common_steps, append-nil two.1, append_assoc one.0 one.1 more, closed_t4_end settings one.3.0 small encoding rows one.0 one.1 more matches block one.2 one.3 one.4 one.5 (inl none), closed_t4_end settings two.3.0 small encoding others two.0 two.1)
+    grind (
+      arith,
+      common_steps,
+      append-nil two.1,
+      append_assoc one.0 one.1 more,
+      closed_t4_end settings one.3.0 small encoding rows one.0 one.1 more matches block one.2 one.3 one.4 one.5 (inl none),
+      closed_t4_end settings two.3.0 small encoding others two.0 two.1,
+    )
 
 -- the law
 pub one_picture_t4 : OnePictureT4

@@ -1,14 +1,10 @@
 -- The index of b1, by its parity, and how it moves from mode to mode.
-use Rattle.std.proofs.Common.{◌≡◌, ℕ, zero, suc, ◌+◌, ◌-◌, ◌%◌, ◌<◌, ◌≤◌, ◌⊎◌, false, not, List, [], ◌∷◌, length, get_or, refl, sym, ap, ◌∙◌, arith, inl, inr}
-use Rattle.std.proofs.lemmas.Bool.{cases_lt, cases_eq}
-use Rattle.std.proofs.lemmas.List.{get_or_past}
-use Rattle.std.proofs.lemmas.Grind.{get_or_default_zero}
-use Rattle.hayro_ccitt.specs.declared.codes.Color.{Color}
-use Rattle.hayro_ccitt.specs.declared.codes.Color.TheVariants.{White, Black}
-use Rattle.hayro_ccitt.specs.Rows.{Row, AreChanges, pixels, is_black, opposite, right_of, b1, b2}
-use Rattle.hayro_ccitt.specs.Context.{right_of_painted}
-use Rattle.hayro_ccitt.specs.UsualModes.{TurnsFrom, IsNear, IsB1}
-use Rattle.hayro_ccitt.proofs.PixelRows.ReferencePlaces.{turned, turned-not, turned_by_parity, not_not, IsSplit, IsSplit-painted, IsSplit-none, order, end_within, in_list_if_below, b1_is, b2_after_b1}
+use Rattle.hayro_ccitt.proofs.Names.{◌≡◌, ℕ, zero, suc, ◌+◌, ◌-◌, ◌%◌, ◌<◌, ◌≤◌, ◌⊎◌, false, not, List, [], ◌∷◌, length, get_or}
+use Rattle.hayro_ccitt.proofs.Names.{refl, sym, ap, ◌∙◌, arith, inl, inr, cases_lt, cases_eq, get_or_past, get_or_default_zero}
+use Rattle.hayro_ccitt.proofs.Names.{Color, White, Black, Row, AreChanges, pixels, is_black, opposite, right_of, b1, b2}
+use Rattle.hayro_ccitt.proofs.Names.{right_of_painted, TurnsFrom, IsNear, IsB1}
+use Rattle.hayro_ccitt.proofs.PixelRows.ReferencePlaces.{turned, turned-not, turned_by_parity, not_not, IsSplit, IsSplit-painted}
+use Rattle.hayro_ccitt.proofs.PixelRows.ReferencePlaces.{IsSplit-none, order, end_within, in_list_if_below, b1_is, b2_after_b1}
 
 -- ---- The colour that a change turns from.
 turns_by : (index : ℕ) (color : Color) → TurnsFrom index color → turned index false ≡ is_black color
@@ -47,7 +43,12 @@ module _ (columns : ℕ) (places : List ℕ) (ascend : AreChanges columns places
   rising j k le = elim (cases_lt k (length places)) [
     | inl lt ↦ elim (cases_eq j k) [
       | inl same ↦ rw same (omega arith)
-      | inr other ↦ omega (arith, get_or_default_zero places j columns (omega arith), get_or_default_zero places k columns lt, order columns places ascend j k (omega arith) lt)
+      | inr other ↦ omega (
+        arith,
+        get_or_default_zero places j columns (omega arith),
+        get_or_default_zero places k columns lt,
+        order columns places ascend j k (omega arith) lt,
+      )
     ]
     | inr past ↦ omega (arith, get_or_past places k columns past, end_within columns places ascend j)
   ]
@@ -55,7 +56,12 @@ module _ (columns : ℕ) (places : List ℕ) (ascend : AreChanges columns places
   -- strictly so where the first of two is a change
   rising_from : (j k : ℕ) → j < k → get_or places j columns < columns → get_or places j columns < get_or places k columns
   rising_from j k lt below = elim (cases_lt k (length places)) [
-    | inl in_list ↦ omega (arith, get_or_default_zero places j columns (omega arith), get_or_default_zero places k columns in_list, order columns places ascend j k lt in_list)
+    | inl in_list ↦ omega (
+      arith,
+      get_or_default_zero places j columns (omega arith),
+      get_or_default_zero places k columns in_list,
+      order columns places ascend j k lt in_list,
+    )
     | inr past ↦ omega (arith, get_or_past places k columns past)
   ]
 
@@ -76,40 +82,61 @@ module _ (columns : ℕ) (places : List ℕ) (ascend : AreChanges columns places
   ]
 
   -- it stays one when a0 goes right
-  pub near_later : (painted later index : ℕ) → painted ≤ later → IsNear columns places painted index → IsNear columns places later index
-  near_later painted later index le near = record { left = λ k l. (let at = near.left k l in (omega (arith, at.0), omega (arith, at.1))) }
+  pub near_later : (painted later index : ℕ) → painted ≤ later → IsNear columns places painted index
+      → IsNear columns places later index
+  near_later painted later index le near =
+      record { left = λ k l. (let at = near.left k l in (omega (arith, at.0), omega (arith, at.1))) }
 
   -- where its change is not right of a0, the second next index is one
-  pub near_up : (painted index : ℕ) → 0 < painted → get_or places index columns ≤ painted → IsNear columns places painted (index + 2)
+  pub near_up : (painted index : ℕ) → 0 < painted → get_or places index columns ≤ painted
+      → IsNear columns places painted (index + 2)
   near_up painted index some left = record { left = λ k l. (some, omega (arith, left, rising k index (omega arith))) }
 
   -- ---- b1 and b2.
   -- of the number of changes that are left of a0 or at it
-  split_some : (painted j : ℕ) → 0 < painted → painted < columns → ((k : ℕ) → k < j → get_or places k columns ≤ painted) → painted < get_or places j columns
-      → IsSplit places (right_of_painted painted) j
-  split_some painted j some inside left right = IsSplit-painted places painted j some (within j left) earlier (λ l. omega (arith, right, get_or_default_zero places j columns l))
+  split_some : (painted j : ℕ) → 0 < painted → painted < columns → ((k : ℕ) → k < j → get_or places k columns ≤ painted)
+      → painted < get_or places j columns → IsSplit places (right_of_painted painted) j
+  split_some painted j some inside left right = IsSplit-painted places painted j some (within j left) earlier
+      (λ l. omega (arith, right, get_or_default_zero places j columns l))
     where
       within : (n : ℕ) → ((k : ℕ) → k < n → get_or places k columns ≤ painted) → n ≤ length places
       within zero h = omega arith
-      within (suc m) h = let lt : m < length places = in_list_if_below columns places ascend m (omega (arith, inside, h m (omega arith))) in omega arith
+      within (suc m) h = let lt : m < length places =
+          in_list_if_below columns places ascend m (omega (arith, inside, h m (omega arith))) in omega arith
 
       earlier : (k : ℕ) → k < j → get_or places k 0 ≤ painted
-      earlier k l = omega (arith, left k l, get_or_default_zero places k columns (in_list_if_below columns places ascend k (omega (arith, inside, left k l))))
+      earlier k l = omega (
+        arith,
+        left k l,
+        get_or_default_zero places k columns (in_list_if_below columns places ascend k (omega (arith, inside, left k l))),
+      )
 
   turned_before : (k : ℕ) (color : Color) → turned (suc k) false ≡ is_black color → turned k false ≡ not (is_black color)
   turned_before k color colored = sym (not_not (turned k false)) ∙ ap not (sym (turned-not k false) ∙ colored)
 
   -- the number of changes that are not right of a0 is the index of b1, or the one before it, which turns from the other colour
-  split_near : (painted index : ℕ) (color : Color) → painted < columns → turned index false ≡ is_black color → IsNear columns places painted index
-      → (0 < painted → painted < get_or places index columns) → (0 < painted) ⊎ (painted ≤ 0)
-      → (first : ℕ) × IsSplit places (right_of_painted painted) first × ((index ≡ first) ⊎ ((index ≡ suc first) × (turned first false ≡ not (is_black color))))
-  split_near painted zero color inside colored near right (inl some) = (0, split_some painted 0 some inside (λ k l. absurd (omega arith)) (right some), inl refl)
+  split_near : (painted index : ℕ) (color : Color) → painted < columns → turned index false ≡ is_black color
+      → IsNear columns places painted index → (0 < painted → painted < get_or places index columns)
+      → (0 < painted) ⊎ (painted ≤ 0) → (first : ℕ) × IsSplit places (right_of_painted painted) first
+      × ((index ≡ first) ⊎ ((index ≡ suc first) × (turned first false ≡ not (is_black color))))
+  split_near painted zero color inside colored near right (inl some) =
+      (0, split_some painted 0 some inside (λ k l. absurd (omega arith)) (right some), inl refl)
   split_near painted zero color inside colored near right (inr none) = (0, IsSplit-none places painted none, inl refl)
-  split_near painted (suc zero) color inside colored near right (inr none) = (0, IsSplit-none places painted none, inr (refl, turned_before 0 color colored))
-  split_near painted (suc (suc k)) color inside colored near right (inr none) = absurd (omega (arith, none, (near.left 0 (omega arith)).0))
+  split_near painted (suc zero) color inside colored near right (inr none) =
+      (0, IsSplit-none places painted none, inr (refl, turned_before 0 color colored))
+  split_near painted (suc (suc k)) color inside colored near right (inr none) =
+      absurd (omega (arith, none, (near.left 0 (omega arith)).0))
   split_near painted (suc k) color inside colored near right (inl some) = elim (cases_lt painted (get_or places k columns)) [
-    | inl before ↦ (k, split_some painted k some inside (λ j l. (near.left j (omega arith)).1) before, inr (refl, turned_before k color colored))
-    | inr not_right ↦ (suc k, split_some painted (suc k) some inside (λ j l. omega (arith, not_right, rising j k (omega arith))) (right some), inl refl)
+    | inl before ↦ (
+      k,
+      split_some painted k some inside (λ j l. (near.left j (omega arith)).1) before,
+      inr (refl, turned_before k color colored),
+    )
+    | inr not_right ↦ (
+      suc k,
+      split_some painted (suc k) some inside (λ j l. omega (arith, not_right, rising j k (omega arith))) (right some),
+      inl refl,
+    )
   ]
 
   -- the index of b1 is that of b1, and the next one is that of b2
@@ -126,10 +153,12 @@ module _ (columns : ℕ) (places : List ℕ) (ascend : AreChanges columns places
       b2_after_b1 columns places (right_of_painted painted) index color ascend (b1_by_parity painted index color inside at)
 
   -- the same of a front, which says where a0 is
-  pub b1_of_front : (front : Row) (painted index : ℕ) (color : Color) → length front ≡ painted → painted < columns → IsB1 columns places painted index color
-      → (b1 (pixels columns places) (right_of front) color ≡ get_or places index columns) × (b2 (pixels columns places) (right_of front) color ≡ get_or places (index + 1) columns)
+  pub b1_of_front : (front : Row) (painted index : ℕ) (color : Color) → length front ≡ painted → painted < columns → IsB1
+      columns places painted index color → (b1 (pixels columns places) (right_of front) color ≡ get_or places index columns)
+      × (b2 (pixels columns places) (right_of front) color ≡ get_or places (index + 1) columns)
   b1_of_front front painted index color len inside at =
-      rw (right_of_length front painted len) (b1_by_parity painted index color inside at, b2_by_parity painted index color inside at)
+      rw (right_of_length front painted len)
+      (b1_by_parity painted index color inside at, b2_by_parity painted index color inside at)
 
   -- ---- Where b1 is after a mode.
   -- at a line's start
@@ -137,13 +166,14 @@ module _ (columns : ℕ) (places : List ℕ) (ascend : AreChanges columns places
   starts_b1 = record { turns = refl; near = record { left = λ k l. absurd (omega arith) }; right = λ l. absurd (omega arith) }
 
   -- the end of stepping by twos
-  pub ends_at_b1 : (painted index : ℕ) (color : Color) → TurnsFrom index color → IsNear columns places painted index → painted < get_or places index columns
-      → IsB1 columns places painted index color
+  pub ends_at_b1 : (painted index : ℕ) (color : Color) → TurnsFrom index color → IsNear columns places painted index
+      → painted < get_or places index columns → IsB1 columns places painted index color
   ends_at_b1 painted index color turns near right = record { turns = turns; near = near; right = λ some. right }
 
   module _ (painted index : ℕ) (color : Color) (at : IsB1 columns places painted index color) where
     -- V0: the next index
-    pub after_v0 : get_or places index columns < columns → IsB1 columns places (get_or places index columns) (index + 1) (opposite color)
+    pub after_v0 : get_or places index columns < columns
+        → IsB1 columns places (get_or places index columns) (index + 1) (opposite color)
     after_v0 below = record {
       turns = turns_next index color at.turns;
       near = record { left = λ k l. (let lt = rising_to k index (omega arith) below in (omega (arith, lt), omega (arith, lt))) };
@@ -151,21 +181,27 @@ module _ (columns : ℕ) (places : List ℕ) (ascend : AreChanges columns places
     }
 
     -- VR: from the next index on
-    pub after_vr : (more : ℕ) → 0 < more → TurnsFrom (index + 1) (opposite color) × IsNear columns places (get_or places index columns + more) (index + 1)
+    pub after_vr : (more : ℕ) → 0 < more → TurnsFrom (index + 1) (opposite color)
+        × IsNear columns places (get_or places index columns + more) (index + 1)
     after_vr more some = (
       turns_next index color at.turns,
       record { left = λ k l. (omega arith, omega (arith, rising k index (omega arith))) },
     )
 
     -- pass: the second next
-    pub after_pass : get_or places (index + 1) columns < columns → IsB1 columns places (get_or places (index + 1) columns) (index + 2) color
+    pub after_pass : get_or places (index + 1) columns < columns
+        → IsB1 columns places (get_or places (index + 1) columns) (index + 2) color
     after_pass below = record {
       turns = turns_second index color at.turns;
-      near = record { left = λ k l. (omega (arith, rising_to k (index + 1) (omega arith) below), omega (arith, rising k (index + 1) (omega arith))) };
+      near = record {
+        left = λ k l.
+            (omega (arith, rising_to k (index + 1) (omega arith) below), omega (arith, rising k (index + 1) (omega arith)));
+      };
       right = λ some. rising_from (index + 1) (index + 2) (omega arith) below;
     }
 
-  module _ (painted before : ℕ) (color : Color) (at : IsB1 columns places painted (before + 1) color) (place : ℕ) (right : painted < place) (left : place < get_or places (before + 1) columns) where
+  module _ (painted before : ℕ) (color : Color) (at : IsB1 columns places painted (before + 1) color) (place : ℕ)
+      (right : painted < place) (left : place < get_or places (before + 1) columns) where
     -- the one after b1
     pub after_vl_on : get_or places before columns ≤ place → IsB1 columns places place (before + 2) (opposite color)
     after_vl_on is_left = record {

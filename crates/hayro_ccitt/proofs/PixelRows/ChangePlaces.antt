@@ -1,14 +1,9 @@
 -- The positions b1, b2, a1 and a2, and the pixels between changes.
-use Rattle.std.proofs.Common.{◌≡◌, ℕ, zero, suc, ◌+◌, ◌-◌, ◌<◌, ◌≤◌, Bool, true, false, cond, not, ◌&&◌, ltb, leb, [], ◌∷◌, ◌++◌, length, take}
-use Rattle.std.proofs.Common.{replicate, Option, Some, refl, ◌∙◌, arith, inl, inr}
-use mathlib.Core.Bool.{beq}
-use Rattle.std.specs.List.{range_with_len, find}
-use Rattle.std.specs.Option.{unwrap_or}
-use Rattle.std.proofs.lemmas.Bool.{ltb-true, leb-true, lt-ltb, le-leb, and_parts, and_cases, false≢true, cases_lt, cases_eq}
-use Rattle.hayro_ccitt.specs.declared.codes.Color.{Color}
-use Rattle.hayro_ccitt.specs.declared.codes.Color.TheVariants.{Black}
-use Rattle.hayro_ccitt.specs.Rows.{Row, is_black, opposite, pixel, pixel_before, is_change, least_below, right_of, b1, b2, a1, a2}
-use Rattle.std.proofs.lemmas.Grind.{common_steps}
+use Rattle.hayro_ccitt.proofs.Names.{◌≡◌, ℕ, zero, suc, ◌+◌, ◌-◌, ◌<◌, ◌≤◌, Bool, true, false, cond, not, ◌&&◌, ltb, leb, [], ◌∷◌}
+use Rattle.hayro_ccitt.proofs.Names.{◌++◌, length, take, replicate, Option, Some, refl, ◌∙◌, arith, inl, inr, beq, range_with_len}
+use Rattle.hayro_ccitt.proofs.Names.{find, unwrap_or, ltb-true, leb-true, lt-ltb, le-leb, and_parts, and_cases, false≢true}
+use Rattle.hayro_ccitt.proofs.Names.{cases_lt, cases_eq, Color, Black, Row, is_black, opposite, pixel, pixel_before, is_change}
+use Rattle.hayro_ccitt.proofs.Names.{least_below, right_of, b1, b2, a1, a2, common_steps}
 
 -- the least position from a start on that passes a test, or the bound
 pub record IsLeast (from bound : ℕ) (test : ℕ → Bool) (p : ℕ) : Type 0 where
@@ -21,8 +16,14 @@ first_step : (test : ℕ → Bool) (from bound : ℕ) (t : Bool) (rest : Option 
     → IsLeast (from + 1) bound test (unwrap_or rest bound) → IsLeast from bound test (unwrap_or (cond t (Some from) rest) bound)
 first_step test from bound t rest e lt least = grind (arith, common_steps)
 
-first : (test : ℕ → Bool) (from n bound : ℕ) → from + n ≡ bound → IsLeast from bound test (unwrap_or (find test (range_with_len from n)) bound)
-first test from zero bound e = record { above = omega arith; within = omega arith; before = λ q le l. absurd (omega arith); there = λ l. absurd (omega arith) }
+first : (test : ℕ → Bool) (from n bound : ℕ) → from + n ≡ bound
+    → IsLeast from bound test (unwrap_or (find test (range_with_len from n)) bound)
+first test from zero bound e = record {
+  above = omega arith;
+  within = omega arith;
+  before = λ q le l. absurd (omega arith);
+  there = λ l. absurd (omega arith);
+}
 first test from (suc n) bound e = grind (arith, common_steps, first_step, first test (from + 1) n bound (omega arith))
 
 -- the search finds the least position
@@ -59,8 +60,8 @@ a2_least row from = grind (arith, common_steps, a1_next, and_parts, cases_lt, is
 
 -- ---- b1 and b2
 -- where b2 is inside the row, b1 is left of it, and right of a0
-pub b2_above : (reference : Row) (from : ℕ) (color : Color) → b2 reference from color < length reference → (from ≤ b1 reference from color)
-    × (b1 reference from color < b2 reference from color)
+pub b2_above : (reference : Row) (from : ℕ) (color : Color) → b2 reference from color < length reference
+    → (from ≤ b1 reference from color) × (b1 reference from color < b2 reference from color)
 b2_above reference from color lt = grind (arith, common_steps, and_parts, is_least, leb-true, ltb-true)
 
 -- no change of a row at its first pixel is from black
@@ -83,27 +84,30 @@ same_by : (x y : Bool) → not (beq x y) ≡ false → y ≡ x
 same_by x y e = grind (arith, common_steps)
 
 -- up to the next change, the pixel to the left keeps its colour
-pub before_same : (row : Row) (from p : ℕ) (c : Bool) → pixel_before row from ≡ c → ((q : ℕ) → from ≤ q → q < p → is_change row q ≡ false) → (q : ℕ)
-    → from ≤ q → q ≤ p → pixel_before row q ≡ c
+pub before_same : (row : Row) (from p : ℕ) (c : Bool) → pixel_before row from ≡ c
+    → ((q : ℕ) → from ≤ q → q < p → is_change row q ≡ false) → (q : ℕ) → from ≤ q → q ≤ p → pixel_before row q ≡ c
 before_same row from p c e none zero le lt = let z : from ≡ 0 = omega arith in rw z at e
 before_same row from p c e none (suc q) le lt = elim (cases_eq from (suc q)) [
   | inl same ↦ rw same at e
-  | inr other ↦ same_by (pixel_before row q) (pixel row q) (none q (omega arith) (omega arith)) ∙ before_same row from p c e none q (omega arith) (omega arith)
+  | inr other ↦ same_by (pixel_before row q) (pixel row q) (none q (omega arith) (omega arith))
+      ∙ before_same row from p c e none q (omega arith) (omega arith)
 ]
 
 -- and so do the pixels, from the one left of the start on
-pub pixels_same : (row : Row) (from p : ℕ) (c : Bool) → pixel_before row from ≡ c → ((q : ℕ) → from ≤ q → q < p → is_change row q ≡ false) → (q : ℕ)
-    → from - 1 ≤ q → q < p → pixel row q ≡ c
+pub pixels_same : (row : Row) (from p : ℕ) (c : Bool) → pixel_before row from ≡ c
+    → ((q : ℕ) → from ≤ q → q < p → is_change row q ≡ false) → (q : ℕ) → from - 1 ≤ q → q < p → pixel row q ≡ c
 pixels_same row from p c e none q le lt = elim (cases_lt q from) [
   | inl l ↦ let s : from ≡ suc q = omega arith in rw s at e
   | inr ge ↦ before_same_next ge
 ]
   where
     before_same_next : from ≤ q → pixel row q ≡ c
-    before_same_next ge = same_by (pixel_before row q) (pixel row q) (none q ge lt) ∙ before_same row from p c e none q ge (omega arith)
+    before_same_next ge =
+        same_by (pixel_before row q) (pixel row q) (none q ge lt) ∙ before_same row from p c e none q ge (omega arith)
 
 -- at a change the colour turns
-pub at_change : (row : Row) (p : ℕ) (color : Color) → is_change row p ≡ true → pixel_before row p ≡ is_black color → pixel row p ≡ is_black (opposite color)
+pub at_change : (row : Row) (p : ℕ) (color : Color) → is_change row p ≡ true → pixel_before row p ≡ is_black color
+    → pixel row p ≡ is_black (opposite color)
 at_change row p color change e = grind (arith, common_steps)
 
 -- painting pixels of one colour
@@ -114,10 +118,12 @@ take_painted [] zero (suc n) c le same = absurd (omega arith)
 take_painted (x ∷ row) zero (suc n) c le same =
     let s : 0 + suc n ≡ suc (0 + n) = omega arith in
     let head : x ≡ c = same 0 (omega arith) (omega arith) in
-    let tail : take (0 + n) row ≡ replicate n c = take_painted row 0 n c (omega arith) (λ q ge lt. same (suc q) (omega arith) (omega arith)) in
+    let tail : take (0 + n) row ≡ replicate n c =
+    take_painted row 0 n c (omega arith) (λ q ge lt. same (suc q) (omega arith) (omega arith)) in
     rw (s, head, tail) refl
 take_painted [] (suc a) n c le same = absurd (omega arith)
 take_painted (x ∷ row) (suc a) n c le same =
     let s : suc a + n ≡ suc (a + n) = omega arith in
-    let tail : take (a + n) row ≡ take a row ++ replicate n c = take_painted row a n c (omega arith) (λ q ge lt. same (suc q) (omega arith) (omega arith)) in
+    let tail : take (a + n) row ≡ take a row ++ replicate n c =
+    take_painted row a n c (omega arith) (λ q ge lt. same (suc q) (omega arith) (omega arith)) in
     rw (s, tail) refl

@@ -1,31 +1,32 @@
 -- Lawful lists of changes and rows of pixels correspond one to one, and what painting does to both.
-use Rattle.std.proofs.Common.{◌≡◌, ℕ, zero, suc, ◌+◌, ◌-◌, ◌%◌, ◌<◌, ◌≤◌, eqb, Bool, true, false, cond, not, List, [], ◌∷◌, ◌++◌, length, get_or, replicate, refl, sym, ap, ◌∙◌, arith, append_assoc, length-append, add-one}
-use mathlib.Core.Bool.{beq}
-use Rattle.std.specs.List.{range_with_len, filter}
-use Rattle.std.proofs.lemmas.List.{length-replicate, replicate-append-replicate}
-use Rattle.hayro_ccitt.specs.Rows.{Row, pixel, pixel_before, is_change, changes, AscendFrom, AreChanges, pixels_from, pixels, last_pixel}
-use Rattle.hayro_ccitt.specs.Context.{continued}
+use Rattle.hayro_ccitt.proofs.Names.{◌≡◌, ℕ, zero, suc, ◌+◌, ◌-◌, ◌%◌, ◌<◌, ◌≤◌, eqb, Bool, true, false, cond, not, List, [], ◌∷◌}
+use Rattle.hayro_ccitt.proofs.Names.{◌++◌, length, get_or, replicate, refl, sym, ap, ◌∙◌, arith, append_assoc, length-append}
+use Rattle.hayro_ccitt.proofs.Names.{add-one, beq, range_with_len, filter, length-replicate, replicate-append-replicate, Row}
+use Rattle.hayro_ccitt.proofs.Names.{pixel, pixel_before, is_change, changes, AscendFrom, AreChanges, pixels_from, pixels}
+use Rattle.hayro_ccitt.proofs.Names.{last_pixel, continued, common_steps}
 use Rattle.hayro_ccitt.proofs.PixelRows.RowChanges.{changes_from, changes_from-append, changes_from-same}
-use Rattle.std.proofs.lemmas.Grind.{common_steps}
 
 -- ---- Ascending positions.
 
 -- positions that ascend from a position on ascend from any position to its left, and below any larger width
-pub AscendFrom-wider : (low first width wider : ℕ) (places : List ℕ) → low ≤ first → width ≤ wider → AscendFrom first width places → AscendFrom low wider places
+pub AscendFrom-wider : (low first width wider : ℕ) (places : List ℕ) → low ≤ first → width ≤ wider → AscendFrom first width places
+    → AscendFrom low wider places
 AscendFrom-wider low first width wider [] le below ascend = tt
 AscendFrom-wider low first width wider (place ∷ places) le below ascend =
     grind (arith, common_steps, AscendFrom-wider (suc place) (suc place) width wider places (omega arith) below ascend.2)
 
 -- positions that ascend right of a position ascend from it on
 AscendFrom-here : (place width : ℕ) (places : List ℕ) → AscendFrom (suc place) width places → AscendFrom place width places
-AscendFrom-here place width places ascend = AscendFrom-wider place (suc place) width width places (omega arith) (omega arith) ascend
+AscendFrom-here place width places ascend =
+    AscendFrom-wider place (suc place) width width places (omega arith) (omega arith) ascend
 
 -- changes below a width are changes below a larger one
 pub AreChanges-wider : (width wider : ℕ) (places : List ℕ) → width ≤ wider → AreChanges width places → AreChanges wider places
 AreChanges-wider width wider places below ascend = AscendFrom-wider 0 0 width wider places (omega arith) below ascend
 
 -- a sink that is as wide as the row accepts the changes of a front
-pub front_fits : (painted columns width : ℕ) (places : List ℕ) → painted ≤ columns → columns ≤ width → AreChanges painted places → AreChanges width places
+pub front_fits : (painted columns width : ℕ) (places : List ℕ) → painted ≤ columns → columns ≤ width → AreChanges painted places
+    → AreChanges width places
 front_fits painted columns width places within wide ascend = AreChanges-wider painted width places (omega arith) ascend
 
 -- one position more, at the old width
@@ -38,8 +39,8 @@ AscendFrom-push first width more (place ∷ places) le some ascend =
 -- ---- Pixels between positions.
 
 -- a row that continues past its first position begins with a pixel of the colour
-pub pixels_from-first : (place : ℕ) (color : Bool) (width : ℕ) (places : List ℕ) → place < width → AscendFrom (suc place) width places
-    → pixels_from place color width places ≡ color ∷ pixels_from (suc place) color width places
+pub pixels_from-first : (place : ℕ) (color : Bool) (width : ℕ) (places : List ℕ) → place < width → AscendFrom
+    (suc place) width places → pixels_from place color width places ≡ color ∷ pixels_from (suc place) color width places
 pixels_from-first place color width [] lt ascend = let e : width - place ≡ suc (width - suc place) = omega arith in rw e refl
 pixels_from-first place color width (change ∷ places) lt ascend =
     let from : suc place ≤ change = ascend.0 in
@@ -61,7 +62,8 @@ length-pixels width places ascend = omega (arith, length-pixels_from 0 false wid
 -- ---- The last pixel.
 
 -- the last pixel of two rows one after the other
-pub last_pixel-append : (before : Bool) (front row : Row) → last_pixel before (front ++ row) ≡ last_pixel (last_pixel before front) row
+pub last_pixel-append : (before : Bool) (front row : Row)
+    → last_pixel before (front ++ row) ≡ last_pixel (last_pixel before front) row
 last_pixel-append before [] row = refl
 last_pixel-append before (pixel ∷ front) row = last_pixel-append pixel front row
 
@@ -98,48 +100,66 @@ last_pixel-pixels_from place color width (change ∷ places) ascend =
     grind (arith, common_steps, AscendFrom-here, last_pixel-append, last_pixel-same, pixels_from-first, step)
 
 -- the last pixel of a row of lawful changes
-pub last_pixel-pixels : (width : ℕ) (places : List ℕ) → AreChanges width places → last_pixel false (pixels width places) ≡ turned false places
+pub last_pixel-pixels : (width : ℕ) (places : List ℕ) → AreChanges width places
+    → last_pixel false (pixels width places) ≡ turned false places
 last_pixel-pixels width places ascend = last_pixel-pixels_from 0 false width places ascend
 
 -- it is black exactly where the number of changes is odd
-pub last_pixel-odd : (width : ℕ) (places : List ℕ) → AreChanges width places → last_pixel false (pixels width places) ≡ not (eqb (length places % 2) 0)
+pub last_pixel-odd : (width : ℕ) (places : List ℕ) → AreChanges width places
+    → last_pixel false (pixels width places) ≡ not (eqb (length places % 2) 0)
 last_pixel-odd width places ascend = grind (arith, common_steps, last_pixel-pixels, turned-even)
 
 -- ---- Painting.
 
 -- a wider row continues in its last colour
-pub pixels_from-wider : (place : ℕ) (color : Bool) (width more : ℕ) (places : List ℕ) → place ≤ width → AscendFrom place width places
+pub pixels_from-wider : (place : ℕ) (color : Bool) (width more : ℕ) (places : List ℕ)
+    → place ≤ width → AscendFrom place width places
     → pixels_from place color (width + more) places ≡ pixels_from place color width places ++ replicate more (turned color places)
 pixels_from-wider place color width more [] le ascend = grind (arith, common_steps, replicate-append-replicate)
 pixels_from-wider place color width more (change ∷ places) le ascend =
-    grind (arith, common_steps, AscendFrom-here, append_assoc, pixels_from-wider change (not color) width more places (omega arith) (AscendFrom-here change width places ascend.2))
+    grind (
+      arith,
+      common_steps,
+      AscendFrom-here,
+      append_assoc,
+      pixels_from-wider change (not color) width more places (omega arith) (AscendFrom-here change width places ascend.2),
+    )
 
 -- the same if the last change may equal the width
-pub pixels_from-on : (place : ℕ) (color : Bool) (width more : ℕ) (places : List ℕ) → place ≤ width → AscendFrom place (suc width) places
+pub pixels_from-on : (place : ℕ) (color : Bool) (width more : ℕ) (places : List ℕ)
+    → place ≤ width → AscendFrom place (suc width) places
     → pixels_from place color (width + more) places ≡ pixels_from place color width places ++ replicate more (turned color places)
 pixels_from-on place color width more [] le ascend = grind (arith, common_steps, replicate-append-replicate)
 pixels_from-on place color width more (change ∷ places) le ascend =
-    grind (arith, common_steps, AscendFrom-here, append_assoc, pixels_from-on change (not color) width more places (omega arith) (AscendFrom-here change (suc width) places ascend.2))
+    grind (
+      arith,
+      common_steps,
+      AscendFrom-here,
+      append_assoc,
+      pixels_from-on change (not color) width more places (omega arith) (AscendFrom-here change (suc width) places ascend.2),
+    )
 
 -- so painting pixels of the last colour adds no change
 pub pixels-same : (width more : ℕ) (places : List ℕ) → AreChanges width places
     → pixels (width + more) places ≡ pixels width places ++ replicate more (last_pixel false (pixels width places))
-pixels-same width more places ascend = rw (last_pixel-pixels width places ascend) (pixels_from-wider 0 false width more places (omega arith) ascend)
+pixels-same width more places ascend =
+    rw (last_pixel-pixels width places ascend) (pixels_from-wider 0 false width more places (omega arith) ascend)
 
 -- one change more at the end of a row continues in the other colour
-pub pixels_from-push : (place : ℕ) (color : Bool) (width more : ℕ) (places : List ℕ)
-    → pixels_from place color (width + more) (places ++ width ∷ []) ≡ pixels_from place color width places ++ replicate more (not (turned color places))
+pub pixels_from-push : (place : ℕ) (color : Bool) (width more : ℕ) (places : List ℕ) → pixels_from place color (width + more)
+    (places ++ width ∷ []) ≡ pixels_from place color width places ++ replicate more (not (turned color places))
 pixels_from-push place color width more [] = let e : width + more - width ≡ more = omega arith in rw e refl
 pixels_from-push place color width more (change ∷ places) =
     rw (pixels_from-push change (not color) width more places) (sym (append_assoc (replicate (change - place) color) _ _))
 
 -- so painting pixels of the other colour adds a change where the row ended
-pub pixels-push : (width more : ℕ) (places : List ℕ) → AreChanges width places
-    → pixels (width + more) (places ++ width ∷ []) ≡ pixels width places ++ replicate more (not (last_pixel false (pixels width places)))
+pub pixels-push : (width more : ℕ) (places : List ℕ) → AreChanges width places → pixels (width + more) (places ++ width ∷ [])
+    ≡ pixels width places ++ replicate more (not (last_pixel false (pixels width places)))
 pixels-push width more places ascend = rw (last_pixel-pixels width places ascend) (pixels_from-push 0 false width more places)
 
 -- and the changes are lawful
-pub AreChanges-push : (width more : ℕ) (places : List ℕ) → 0 < more → AreChanges width places → AreChanges (width + more) (places ++ width ∷ [])
+pub AreChanges-push : (width more : ℕ) (places : List ℕ) → 0 < more → AreChanges width places
+    → AreChanges (width + more) (places ++ width ∷ [])
 AreChanges-push width more places some ascend = AscendFrom-push 0 width more places (omega arith) some ascend
 
 -- ---- The changes of a row by recursion are its changes.
@@ -150,7 +170,8 @@ pixel-next [] here row = refl
 pixel-next (x ∷ front) here row = pixel-next front here row
 
 -- what is left of the pixel after a front
-pixel_before-next : (before : Bool) (front row : Row) (place : ℕ) → place ≡ length front → get_or (before ∷ front ++ row) place false ≡ last_pixel before front
+pixel_before-next : (before : Bool) (front row : Row) (place : ℕ) → place ≡ length front
+    → get_or (before ∷ front ++ row) place false ≡ last_pixel before front
 pixel_before-next before [] row place e = rw e refl
 pixel_before-next before (x ∷ front) row place e = rw e (pixel_before-next x front row (length front) refl)
 
@@ -159,7 +180,8 @@ pixel_before-shift : (row : Row) (place : ℕ) → pixel_before row place ≡ ge
 pixel_before-shift row place = grind (arith, common_steps)
 
 -- the pixel after a front is a change where it differs from the front's last
-is_change-next : (front : Row) (here : Bool) (row : Row) → is_change (front ++ here ∷ row) (length front) ≡ not (beq (last_pixel false front) here)
+is_change-next : (front : Row) (here : Bool) (row : Row)
+    → is_change (front ++ here ∷ row) (length front) ≡ not (beq (last_pixel false front) here)
 is_change-next front here row = grind (arith, common_steps, pixel-next, pixel_before-next, pixel_before-shift)
 
 -- a position is listed where the pixel differs
@@ -168,8 +190,8 @@ listed : (differs : Bool) (x y : Bool) (place : ℕ) (places others : List ℕ) 
 listed differs x y place places others e same = grind (arith, common_steps)
 
 -- the changes past a front
-changes-rest : (front row : Row)
-    → filter (is_change (front ++ row)) (range_with_len (length front) (length row)) ≡ changes_from (length front) (last_pixel false front) row
+changes-rest : (front row : Row) → filter (is_change (front ++ row)) (range_with_len (length front) (length row))
+    ≡ changes_from (length front) (last_pixel false front) row
 changes-rest front [] = refl
 changes-rest front (here ∷ row) =
     let step = changes-rest (front ++ here ∷ []) row in
@@ -188,29 +210,37 @@ changes_from-pixels_from place color width [] ascend = changes_from-same place (
 changes_from-pixels_from place color width (change ∷ places) ascend =
     let from : place ≤ change = ascend.0 in
     let within : change < width = ascend.1 in
-    let at : place + length (replicate (change - place) color) ≡ change = omega (arith, length-replicate (change - place) color) in
+    let at : place + length (replicate (change - place) color) ≡ change =
+    omega (arith, length-replicate (change - place) color) in
     let opens = pixels_from-first change (not color) width places within ascend.2 in
     let rest = changes_from-pixels_from (suc change) (not color) width places ascend.2 in
     changes_from-append place color (replicate (change - place) color) (pixels_from change (not color) width places)
-    ∙ rw (changes_from-same place (change - place) color, at, last_pixel-same (change - place) color, opens) (by color _ _ _ rest)
+    ∙ rw (changes_from-same place (change - place) color, at, last_pixel-same (change - place) color, opens)
+    (by_changes_from color _ _ _ rest)
   where
-    by : (c : Bool) (row : Row) (here : ℕ) (rest : List ℕ) → changes_from (suc here) (not c) row ≡ rest → changes_from here c (not c ∷ row) ≡ here ∷ rest
-    by c row here rest e = grind (arith, common_steps)
+    by_changes_from : (c : Bool) (row : Row) (here : ℕ) (rest : List ℕ) → changes_from (suc here) (not c) row ≡ rest
+        → changes_from here c (not c ∷ row) ≡ here ∷ rest
+    by_changes_from c row here rest e = grind (arith, common_steps)
 
 -- the changes of a row of lawful changes are these
 pub changes-pixels : (width : ℕ) (places : List ℕ) → AreChanges width places → changes (pixels width places) ≡ places
-changes-pixels width places ascend = changes-recursive (pixels width places) ∙ changes_from-pixels_from 0 false width places ascend
+changes-pixels width places ascend =
+    changes-recursive (pixels width places) ∙ changes_from-pixels_from 0 false width places ascend
 
 -- the changes of a row ascend, and stay inside it
 pub AscendFrom-changes_from : (place : ℕ) (before : Bool) (row : Row) (width : ℕ) → place + length row ≡ width
     → AscendFrom place width (changes_from place before row)
 AscendFrom-changes_from place before [] width e = tt
 AscendFrom-changes_from place true (true ∷ row) width e =
-    AscendFrom-here place width (changes_from (suc place) true row) (AscendFrom-changes_from (suc place) true row width (omega arith))
+    AscendFrom-here place width (changes_from (suc place) true row)
+    (AscendFrom-changes_from (suc place) true row width (omega arith))
 AscendFrom-changes_from place false (false ∷ row) width e =
-    AscendFrom-here place width (changes_from (suc place) false row) (AscendFrom-changes_from (suc place) false row width (omega arith))
-AscendFrom-changes_from place true (false ∷ row) width e = (omega arith, omega arith, AscendFrom-changes_from (suc place) false row width (omega arith))
-AscendFrom-changes_from place false (true ∷ row) width e = (omega arith, omega arith, AscendFrom-changes_from (suc place) true row width (omega arith))
+    AscendFrom-here place width (changes_from (suc place) false row)
+    (AscendFrom-changes_from (suc place) false row width (omega arith))
+AscendFrom-changes_from place true (false ∷ row) width e =
+    (omega arith, omega arith, AscendFrom-changes_from (suc place) false row width (omega arith))
+AscendFrom-changes_from place false (true ∷ row) width e =
+    (omega arith, omega arith, AscendFrom-changes_from (suc place) true row width (omega arith))
 
 -- where the row's first pixel has the colour, the rest decides
 goes_on : (place : ℕ) (color : Bool) (row : Row) (width : ℕ) → place + suc (length row) ≡ width
@@ -251,4 +281,5 @@ continued-pixels columns width places within ascend =
 pub changes-continued : (columns width : ℕ) (places : List ℕ) → width ≤ columns → AreChanges width places
     → changes (continued columns (pixels width places)) ≡ places
 changes-continued columns width places within ascend =
-    ap changes (continued-pixels columns width places within ascend) ∙ changes-pixels columns places (AreChanges-wider width columns places within ascend)
+    ap changes (continued-pixels columns width places within ascend)
+    ∙ changes-pixels columns places (AreChanges-wider width columns places within ascend)

@@ -1,16 +1,9 @@
 -- Pixels painted at the end of a front, and what the tests of the code that paints them mean.
-use Rattle.std.proofs.Common.{◌≡◌, ◌≢◌, ℕ, ◌-◌, ◌%◌, ◌<◌, ◌≤◌, ◌⊎◌, eqb, min, Bool, true, false, not, List, ◌++◌, length, replicate, Ok, Err, arith}
-use mathlib.Core.Bool.{beq}
-use Rattle.std.specs.Bool.{IsTrue}
-use Rattle.std.proofs.lemmas.Bool.{lt-ltb, le-ltb, false≢true}
-use Rattle.hayro_ccitt.specs.declared.codes.Color.{Color}
-use Rattle.hayro_ccitt.specs.declared.codes.Color.TheVariants.{White}
-use Rattle.hayro_ccitt.specs.declared.error.DecodeError.TheVariants.{InvalidCode}
-use Rattle.hayro_ccitt.specs.Rows.{AreChanges, pixels, is_black, paint, last_pixel}
-use Rattle.hayro_ccitt.specs.Context.{Held}
-use Rattle.hayro_ccitt.specs.Answers.{StoresChange}
+use Rattle.hayro_ccitt.proofs.Names.{◌≡◌, ◌≢◌, ℕ, ◌-◌, ◌%◌, ◌<◌, ◌≤◌, ◌⊎◌, eqb, min, Bool, true, false, not, List, ◌++◌, length}
+use Rattle.hayro_ccitt.proofs.Names.{replicate, Ok, Err, arith, beq, lt-ltb, le-ltb, false≢true, Color, White, InvalidCode}
+use Rattle.hayro_ccitt.proofs.Names.{AreChanges, pixels, is_black, paint, last_pixel, Held, StoresChange, common_steps}
 use Rattle.hayro_ccitt.proofs.PixelRows.ChangesAndPixels.{length-pixels, last_pixel-odd}
-use Rattle.std.proofs.lemmas.Grind.{common_steps}
+use Rattle.std.specs.Bool.{IsTrue}
 
 -- ---- The last pixel's colour, as the code tests it.
 
@@ -19,20 +12,21 @@ even_is : (even : Bool) (n : ℕ) → (IsTrue even → n % 2 ≡ 0) × (n % 2 �
 even_is even n test = grind (arith, common_steps)
 
 -- a test for white says whether a pixel of the colour is black
-is_black-not_white : (white : Bool) (color : Color) → (IsTrue white → color ≡ White) × (color ≡ White → IsTrue white) → is_black color ≡ not white
+is_black-not_white : (white : Bool) (color : Color) → (IsTrue white → color ≡ White) × (color ≡ White → IsTrue white)
+    → is_black color ≡ not white
 is_black-not_white white color test = grind (arith, common_steps)
 
 -- where the tests agree, the last pixel has the colour
 pub last_pixel-agrees : (painted : ℕ) (places : List ℕ) (color : Color) (even white : Bool) → AreChanges painted places
-    → (IsTrue even → length places % 2 ≡ 0) × (length places % 2 ≡ 0 → IsTrue even) → (IsTrue white → color ≡ White) × (color ≡ White → IsTrue white)
-    → not (beq even white) ≡ false → last_pixel false (pixels painted places) ≡ is_black color
+    → (IsTrue even → length places % 2 ≡ 0) × (length places % 2 ≡ 0 → IsTrue even) → (IsTrue white → color ≡ White)
+    × (color ≡ White → IsTrue white) → not (beq even white) ≡ false → last_pixel false (pixels painted places) ≡ is_black color
 last_pixel-agrees painted places color even white ascend is_even is_white agree =
     grind (arith, common_steps, even_is, false≢true, is_black-not_white, last_pixel-odd)
 
 -- and else the other one
 pub last_pixel-differs : (painted : ℕ) (places : List ℕ) (color : Color) (even white : Bool) → AreChanges painted places
-    → (IsTrue even → length places % 2 ≡ 0) × (length places % 2 ≡ 0 → IsTrue even) → (IsTrue white → color ≡ White) × (color ≡ White → IsTrue white)
-    → not (beq even white) ≡ true → not (last_pixel false (pixels painted places)) ≡ is_black color
+    → (IsTrue even → length places % 2 ≡ 0) × (length places % 2 ≡ 0 → IsTrue even) → (IsTrue white → color ≡ White) ×
+    (color ≡ White → IsTrue white) → not (beq even white) ≡ true → not (last_pixel false (pixels painted places)) ≡ is_black color
 last_pixel-differs painted places color even white ascend is_even is_white differ =
     grind (arith, common_steps, even_is, false≢true, is_black-not_white, last_pixel-odd)
 
@@ -44,18 +38,18 @@ other_color pixel color e same = grind (arith, common_steps)
 
 -- if the row isn't strict, or has room, no code is wrong
 pub paint-fits : (strict : Bool) (columns width : ℕ) (places : List ℕ) (color : Color) (n : ℕ) → AreChanges width places
-    → (strict ≡ false) ⊎ (n ≤ columns - width)
-    → paint strict columns (pixels width places) color n ≡ Ok (pixels width places ++ replicate (min n (columns - width)) (is_black color))
+    → (strict ≡ false) ⊎ (n ≤ columns - width) → paint strict columns (pixels width places) color n
+    ≡ Ok (pixels width places ++ replicate (min n (columns - width)) (is_black color))
 paint-fits strict columns width places color n ascend fits =
     grind (arith, common_steps, common_steps, false≢true, le-ltb, length-pixels)
 
 -- a strict row without room is a wrong code
-pub paint-strict : (strict : Bool) (columns width : ℕ) (places : List ℕ) (color : Color) (n : ℕ) → AreChanges width places → strict ≡ true → columns - width < n
-    → paint strict columns (pixels width places) color n ≡ Err InvalidCode
+pub paint-strict : (strict : Bool) (columns width : ℕ) (places : List ℕ) (color : Color) (n : ℕ) → AreChanges width places
+    → strict ≡ true → columns - width < n → paint strict columns (pixels width places) color n ≡ Err InvalidCode
 paint-strict strict columns width places color n ascend is_strict many = grind (arith, common_steps, length-pixels, lt-ltb)
 
 -- pixels of the other colour that a row has room for store a change
-pub StoresChange-painted : (held : Held) (count more : ℕ)
-    → paint held.settings.strict held.settings.columns held.front held.color count ≡ Ok (held.front ++ replicate more (is_black held.color))
-    → 0 < more → last_pixel false held.front ≢ is_black held.color → StoresChange held count
+pub StoresChange-painted : (held : Held) (count more : ℕ) → paint held.settings.strict held.settings.columns held.front held.color
+    count ≡ Ok (held.front ++ replicate more (is_black held.color)) → 0 < more → last_pixel false held.front ≢ is_black held.color
+    → StoresChange held count
 StoresChange-painted held count more painted some differs = grind (arith, common_steps)

@@ -1,19 +1,19 @@
 -- What painting does to the changes.
-use Rattle.std.proofs.Common.{◌≡◌, ℕ, zero, suc, ◌+◌, Bool, true, cond, List, [], ◌∷◌, ◌++◌, length, replicate, refl, arith}
-use mathlib.Core.Bool.{beq}
-use Rattle.hayro_ccitt.specs.Rows.{Row, last_pixel}
-use Rattle.std.proofs.lemmas.Grind.{common_steps}
+use Rattle.hayro_ccitt.proofs.Names.{◌≡◌, ℕ, zero, suc, ◌+◌, Bool, true, cond, List, [], ◌∷◌, ◌++◌, length, replicate, refl}
+use Rattle.hayro_ccitt.proofs.Names.{arith, beq, Row, last_pixel, common_steps}
 
 -- The changes of a row by recursion: the positions, counted from one on, where a pixel differs from the one before it. It
 -- is the same list as `changes`, in a form for induction.
 abbrev pub changes_from : ℕ → Bool → Row → List ℕ
 changes_from place before [] = []
-changes_from place before (pixel ∷ row) = cond (beq before pixel) (changes_from (suc place) pixel row) (place ∷ changes_from (suc place) pixel row)
+changes_from place before (pixel ∷ row) =
+    cond (beq before pixel) (changes_from (suc place) pixel row) (place ∷ changes_from (suc place) pixel row)
 
 cond-append : (b : Bool) (x y zs : List ℕ) → cond b x y ++ zs ≡ cond b (x ++ zs) (y ++ zs)
 cond-append b x y zs = grind (arith, common_steps)
 
-pub changes_from-append : (place : ℕ) (before : Bool) (front row : Row) → changes_from place before (front ++ row) ≡ changes_from place before front ++ changes_from (place + length front) (last_pixel before front) row
+pub changes_from-append : (place : ℕ) (before : Bool) (front row : Row) → changes_from place before (front ++ row)
+    ≡ changes_from place before front ++ changes_from (place + length front) (last_pixel before front) row
 changes_from-append place before [] row = let e : place + 0 ≡ place = omega arith in rw e refl
 changes_from-append place before (pixel ∷ front) row =
     grind (arith, common_steps, cond-append, changes_from-append (suc place) pixel front row)

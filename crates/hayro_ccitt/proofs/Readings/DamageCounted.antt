@@ -1,82 +1,86 @@
 -- The damage that a run passes is counted: the rows that it repairs, and the EOLs that it misses.
-use Rattle.std.proofs.Common.{◌≡◌, ◌+◌, ◌-◌, ◌<◌, ◌≤◌, ℕ, suc, Bool, true, false, cond, eqb, leb, not, ◌&&◌, ◌||◌, List, [], ◌∷◌, ◌++◌, length, take, drop, Result, Ok, Err, refl, sym, ap, ◌∙◌, arith}
-use Rattle.std.specs.Prelude.{sum_by}
-use Rattle.std.proofs.lemmas.Bool.{cond-true, cond-false, eq-eqb, ne_eqb, lt-leb}
-use Rattle.std.proofs.lemmas.List.{length-append}
-use Rattle.std.proofs.lemmas.List.Sums.{sum_by-take-drop}
-use Rattle.hayro_ccitt.specs.declared.error.DecodeError.{DecodeError}
-use Rattle.hayro_ccitt.specs.declared.error.DecodeError.TheVariants.{InvalidCode}
-use Rattle.hayro_ccitt.specs.declared.settings.DecodeSettings.{DecodeSettings}
-use Rattle.hayro_ccitt.specs.Answers.{IsFault, OnAnswer}
-use Rattle.hayro_ccitt.specs.Bits.{Bits}
-use Rattle.hayro_ccitt.specs.Context.{Held, Repairs, fresh, no_repairs, with_missed}
-use Rattle.hayro_ccitt.specs.Damage.{Damaged, repaired_in, repaired_by_turn, missed_behind, missed_by_turn}
-use Rattle.hayro_ccitt.specs.Decoding.{CountsDamage, repairs_with, repairs_behind, with_row_taken}
-use Rattle.hayro_ccitt.specs.Lines.{Line}
-use Rattle.hayro_ccitt.specs.PlainReading.{Progress, Ending, Move, row_of_line, behind_row, with_row, eols_here, limit_met, at_end, misses_eol, move_on, one_each, gathered_from}
-use Rattle.hayro_ccitt.specs.Repetition.{Turn}
-use Rattle.hayro_ccitt.specs.Rows.{Row}
-use Rattle.hayro_ccitt.proofs.Readings.Gathered.{gathered_after}
-use Rattle.hayro_ccitt.proofs.Readings.TurnsMoveOn.{left_to_read}
+use Rattle.hayro_ccitt.proofs.Names.{◌≡◌, ◌+◌, ◌-◌, ◌<◌, ◌≤◌, ℕ, suc, Bool, true, false, cond, eqb, leb, not, ◌&&◌, ◌||◌, List}
+use Rattle.hayro_ccitt.proofs.Names.{[], ◌∷◌, ◌++◌, length, take, drop, Result, Ok, Err, refl, sym, ap, ◌∙◌, arith, sum_by}
+use Rattle.hayro_ccitt.proofs.Names.{cond-true, cond-false, eq-eqb, ne_eqb, lt-leb, length-append, sum_by-take-drop, DecodeError}
+use Rattle.hayro_ccitt.proofs.Names.{InvalidCode, DecodeSettings, IsFault, OnAnswer, Bits, Held, Repairs, fresh, no_repairs}
+use Rattle.hayro_ccitt.proofs.Names.{with_missed, Damaged, repaired_in, repaired_by_turn, missed_behind, missed_by_turn}
+use Rattle.hayro_ccitt.proofs.Names.{CountsDamage, repairs_with, repairs_behind, with_row_taken, Line, Progress, Ending, Move}
+use Rattle.hayro_ccitt.proofs.Names.{row_of_line, behind_row, with_row, eols_here, limit_met, at_end, misses_eol, move_on}
+use Rattle.hayro_ccitt.proofs.Names.{one_each, gathered_from, Turn, Row}
+use Rattle.hayro_ccitt.proofs.{Readings.Gathered.gathered_after, Readings.TurnsMoveOn.left_to_read, Work.RunsCount.sum_more}
 use Rattle.hayro_ccitt.proofs.Readings.RunsOverRows.{RowByRow, Comes, comes_first, comes_next, held_between, lines, lines_on}
-use Rattle.hayro_ccitt.proofs.Work.RunsCount.{sum_more}
 
 -- ---- Rows that are repaired
 
 -- an accepted row is counted, if its line was repaired
-pub repaired_counts : (settings : DecodeSettings) (has_eols : Bool) (index offset : ℕ) (start : Bits) (line : Line) (row : Row) (rest : Bits) (taken : ℕ) (before : Repairs)
-    → row_of_line settings has_eols start line ≡ Ok (row, rest)
+pub repaired_counts : (settings : DecodeSettings) (has_eols : Bool) (index offset : ℕ) (start : Bits) (line : Line)
+    (row : Row) (rest : Bits) (taken : ℕ) (before : Repairs) → row_of_line settings has_eols start line ≡ Ok (row, rest)
     → (repairs_with line taken before).rows ≡ before.rows + length (repaired_in settings has_eols index offset line)
 repaired_counts settings has_eols index offset start (Line.whole pixels behind) row rest taken before is = omega arith
-repaired_counts settings has_eols index offset start (Line.broken front fault) row rest taken before is = by (settings.strict || not has_eols) refl
+repaired_counts settings has_eols index offset start (Line.broken front fault) row rest taken before is =
+    by_strict (settings.strict || not has_eols) refl
   where
-    by : (b : Bool) → (settings.strict || not has_eols) ≡ b → before.rows + 1 ≡ before.rows + length (repaired_in settings has_eols index offset (Line.broken front fault))
-    by true e = let never = sym (cond-true (settings.strict || not has_eols) _ _ e) ∙ is in cc
-    by false e = omega (arith, ap length (cond-false {A = List Damaged} (settings.strict || not has_eols) [] (record { row = index; start = offset; fault = fault } ∷ []) e))
+    by_strict : (b : Bool) → (settings.strict || not has_eols) ≡ b
+        → before.rows + 1 ≡ before.rows + length (repaired_in settings has_eols index offset (Line.broken front fault))
+    by_strict true e = let never = sym (cond-true (settings.strict || not has_eols) _ _ e) ∙ is in cc
+    by_strict false e = omega (
+      arith,
+      ap length (cond-false {A = List Damaged} (settings.strict || not has_eols) []
+          (record { row = index; start = offset; fault = fault } ∷ []) e),
+    )
 
 -- and where there is no row, nothing is repaired
-pub repaired_none : (settings : DecodeSettings) (has_eols : Bool) (index offset : ℕ) (start : Bits) (line : Line) (e : DecodeError)
-    → row_of_line settings has_eols start line ≡ Err e → repaired_in settings has_eols index offset line ≡ []
+pub repaired_none : (settings : DecodeSettings) (has_eols : Bool) (index offset : ℕ) (start : Bits) (line : Line)
+    (e : DecodeError) → row_of_line settings has_eols start line ≡ Err e → repaired_in settings has_eols index offset line ≡ []
 repaired_none settings has_eols index offset start (Line.whole pixels behind) e is = refl
-repaired_none settings has_eols index offset start (Line.broken front fault) e is = by (settings.strict || not has_eols) refl
+repaired_none settings has_eols index offset start (Line.broken front fault) e is =
+    by_strict (settings.strict || not has_eols) refl
   where
-    by : (b : Bool) → (settings.strict || not has_eols) ≡ b → repaired_in settings has_eols index offset (Line.broken front fault) ≡ []
-    by true none = cond-true {A = List Damaged} (settings.strict || not has_eols) [] (record { row = index; start = offset; fault = fault } ∷ []) none
-    by false some = let never = sym (cond-false (settings.strict || not has_eols) _ _ some) ∙ is in cc
+    by_strict : (b : Bool) → (settings.strict || not has_eols) ≡ b
+        → repaired_in settings has_eols index offset (Line.broken front fault) ≡ []
+    by_strict true none = cond-true {A = List Damaged} (settings.strict || not has_eols) []
+        (record { row = index; start = offset; fault = fault } ∷ []) none
+    by_strict false some = let never = sym (cond-false (settings.strict || not has_eols) _ _ some) ∙ is in cc
 
 -- at most one more is repaired where one more is accepted
-pub few_repaired : (line : Line) (old new : Held) (row : Row) → new ≡ record (with_row_taken old row) { repairs = repairs_with line old.taken old.repairs }
-    → new.repairs.rows + old.taken ≤ new.taken + old.repairs.rows
-few_repaired (Line.whole pixels rest) old new row is = omega (arith, ap (λ (h : Held). h.repairs.rows) is, ap (λ (h : Held). h.taken) is)
-few_repaired (Line.broken front fault) old new row is = omega (arith, ap (λ (h : Held). h.repairs.rows) is, ap (λ (h : Held). h.taken) is)
+pub few_repaired : (line : Line) (old new : Held) (row : Row) → new ≡ record (with_row_taken old row)
+    { repairs = repairs_with line old.taken old.repairs } → new.repairs.rows + old.taken ≤ new.taken + old.repairs.rows
+few_repaired (Line.whole pixels rest) old new row is =
+    omega (arith, ap (λ (h : Held). h.repairs.rows) is, ap (λ (h : Held). h.taken) is)
+few_repaired (Line.broken front fault) old new row is =
+    omega (arith, ap (λ (h : Held). h.repairs.rows) is, ap (λ (h : Held). h.taken) is)
 
 -- ---- EOLs that are missed
 
 -- the gap after a row repairs none
-pub repaired_behind : (held : Held) (here : Bits) → ((repairs_behind held here).rows ≡ held.repairs.rows) × ((repairs_behind held here).last ≡ held.repairs.last)
+pub repaired_behind : (held : Held) (here : Bits) → ((repairs_behind held here).rows ≡ held.repairs.rows)
+    × ((repairs_behind held here).last ≡ held.repairs.last)
 repaired_behind held here =
-    by (misses_eol held.settings held.taken held.has_eols here && not held.settings.strict) (eqb held.repairs.last held.taken || leb held.taken held.repairs.missed)
+    either_way (misses_eol held.settings held.taken held.has_eols here && not held.settings.strict)
+    (eqb held.repairs.last held.taken || leb held.taken held.repairs.missed)
   where
-    by : (b c : Bool) → ((cond b (cond c held.repairs (record held.repairs { missed = held.repairs.missed + 1 })) held.repairs).rows ≡ held.repairs.rows)
-        × ((cond b (cond c held.repairs (record held.repairs { missed = held.repairs.missed + 1 })) held.repairs).last ≡ held.repairs.last)
-    by true true = (refl, refl)
-    by true false = (refl, refl)
-    by false c = (refl, refl)
+    either_way : (b c : Bool) → ((cond b (cond c held.repairs (record held.repairs { missed = held.repairs.missed + 1 }))
+        held.repairs).rows ≡ held.repairs.rows) × ((cond b
+        (cond c held.repairs (record held.repairs { missed = held.repairs.missed + 1 })) held.repairs).last ≡ held.repairs.last)
+    either_way true true = (refl, refl)
+    either_way true false = (refl, refl)
+    either_way false c = (refl, refl)
 
 -- where no EOLs are sought, none is missed
 unsought_behind : (held : Held) (here : Bits) → held.has_eols ≡ false → repairs_behind held here ≡ held.repairs
 unsought_behind held here unsought =
-    ap (λ (b : Bool). cond (misses_eol held.settings held.taken b here && not held.settings.strict) (with_missed held.taken held.repairs) held.repairs) unsought
-    ∙ by (eqb (eols_here held.settings here).0 0)
+    ap (λ (b : Bool). cond (misses_eol held.settings held.taken b here && not held.settings.strict)
+    (with_missed held.taken held.repairs) held.repairs) unsought ∙ either_way (eqb (eols_here held.settings here).0 0)
   where
-    by : (b : Bool) → cond ((((b && false) && not (limit_met held.settings held.taken)) && not (at_end here)) && not held.settings.strict)
-        (with_missed held.taken held.repairs) held.repairs ≡ held.repairs
-    by true = refl
-    by false = refl
+    either_way : (b : Bool) → cond ((((b && false) && not (limit_met held.settings held.taken)) && not (at_end here))
+        && not held.settings.strict) (with_missed held.taken held.repairs) held.repairs ≡ held.repairs
+    either_way true = refl
+    either_way false = refl
 
 -- so the first gap of Group 4 changes nothing but whether EOLs are sought
-pub first_gap_left : (held last : Held) (here : Bits) → held ≡ fresh held.settings → last ≡ record held { has_eols = last.has_eols; repairs = last.repairs }
-    → last.repairs ≡ repairs_behind held here → last ≡ record (fresh held.settings) { has_eols = last.has_eols }
+pub first_gap_left : (held last : Held) (here : Bits) → held ≡ fresh held.settings
+    → last ≡ record held { has_eols = last.has_eols; repairs = last.repairs } → last.repairs ≡ repairs_behind held here
+    → last ≡ record (fresh held.settings) { has_eols = last.has_eols }
 first_gap_left held last here begins frame missed =
     let none : last.repairs ≡ no_repairs
     = missed ∙ unsought_behind held here (ap (λ (h : Held). h.has_eols) begins) ∙ ap (λ (h : Held). h.repairs) begins in
@@ -92,10 +96,12 @@ either true y e = refl
 either false y e = absurd cc
 
 -- an EOL is counted after a row that wasn't repaired, and after one that was it isn't
-missed_more : (before : Repairs) (taken : ℕ) → before.last < taken → before.missed < taken → (with_missed taken before).missed ≡ before.missed + 1
+missed_more : (before : Repairs) (taken : ℕ) → before.last < taken → before.missed < taken
+    → (with_missed taken before).missed ≡ before.missed + 1
 missed_more before taken last few =
-    ap (λ (r : Repairs). r.missed) (cond-false (eqb before.last taken || leb taken before.missed) before (record before { missed = before.missed + 1 })
-    (neither (eqb before.last taken) (leb taken before.missed) (ne_eqb before.last taken (λ same. absurd (omega (arith, same, last)))) (lt-leb taken before.missed few)))
+    ap (λ (r : Repairs). r.missed) (cond-false (eqb before.last taken || leb taken before.missed) before
+    (record before { missed = before.missed + 1 }) (neither (eqb before.last taken) (leb taken before.missed)
+    (ne_eqb before.last taken (λ same. absurd (omega (arith, same, last)))) (lt-leb taken before.missed few)))
 
 missed_same : (before : Repairs) (taken : ℕ) → before.last ≡ taken → with_missed taken before ≡ before
 missed_same before taken last =
@@ -103,45 +109,51 @@ missed_same before taken last =
     (either (eqb before.last taken) (leb taken before.missed) (eq-eqb before.last taken last))
 
 -- the EOL behind one more row is counted, if it was missed and the row wasn't repaired
-pub missed_counts : (settings : DecodeSettings) (bits : Bits) (so_far : Progress) (line : Line) (row : Row) (rest : Bits) (before : Repairs)
-    → row_of_line settings so_far.has_eols so_far.rest line ≡ Ok (row, rest) → before.last ≤ length so_far.rows → before.missed ≤ length so_far.rows
-    → (repairs_behind (held_between settings (with_row so_far row rest) (repairs_with line (length so_far.rows) before)) rest).missed
-    ≡ before.missed + length (missed_behind settings bits so_far line)
+pub missed_counts : (settings : DecodeSettings) (bits : Bits) (so_far : Progress) (line : Line) (row : Row) (rest : Bits)
+    (before : Repairs) → row_of_line settings so_far.has_eols so_far.rest line ≡ Ok (row, rest) → before.last ≤ length so_far.rows
+    → before.missed ≤ length so_far.rows → (repairs_behind (held_between settings (with_row so_far row rest) (repairs_with line
+    (length so_far.rows) before)) rest).missed ≡ before.missed + length (missed_behind settings bits so_far line)
 missed_counts settings bits so_far (Line.whole pixels behind) row rest before is last few =
     let more : length (so_far.rows ++ row ∷ []) ≡ length so_far.rows + 1 = length-append so_far.rows (row ∷ []) in
     let same : ◌≡◌ {A = Row × Bits} (pixels, behind_row settings so_far.has_eols behind) (row, rest) = cc in
     let here : rest ≡ behind_row settings so_far.has_eols behind = sym (ap (λ (x : Row × Bits). x.1) same) in
-    by (misses_eol settings (length (so_far.rows ++ row ∷ [])) so_far.has_eols rest && not settings.strict)
-    (misses_eol settings (length so_far.rows + 1) so_far.has_eols (behind_row settings so_far.has_eols behind) && not settings.strict)
-    (ap (λ (k : ℕ). misses_eol settings k so_far.has_eols rest && not settings.strict) more
-    ∙ ap (λ (b : Bits). misses_eol settings (length so_far.rows + 1) so_far.has_eols b && not settings.strict) here)
-    (length (so_far.rows ++ row ∷ [])) more
-    (record { row = length so_far.rows; start = length bits - length (behind_row settings so_far.has_eols behind); fault = InvalidCode })
+    by_b (misses_eol settings (length (so_far.rows ++ row ∷ [])) so_far.has_eols rest && not settings.strict) (misses_eol settings
+    (length so_far.rows + 1) so_far.has_eols (behind_row settings so_far.has_eols behind) && not settings.strict) (ap
+    (λ (k : ℕ). misses_eol settings k so_far.has_eols rest && not settings.strict) more ∙ ap (λ (b : Bits). misses_eol settings
+    (length so_far.rows + 1) so_far.has_eols b && not settings.strict) here) (length (so_far.rows ++ row ∷ [])) more (record {
+      row = length so_far.rows;
+      start = length bits - length (behind_row settings so_far.has_eols behind);
+      fault = InvalidCode;
+    })
   where
-    by : (b c : Bool) → b ≡ c → (taken : ℕ) → taken ≡ length so_far.rows + 1 → (x : Damaged)
+    by_b : (b c : Bool) → b ≡ c → (taken : ℕ) → taken ≡ length so_far.rows + 1 → (x : Damaged)
         → (cond b (with_missed taken before) before).missed ≡ before.missed + length (cond {A = List Damaged} c (x ∷ []) [])
-    by true true same taken more x = missed_more before taken (omega (arith, last, more)) (omega (arith, few, more))
-    by true false same taken more x = absurd cc
-    by false true same taken more x = absurd cc
-    by false false same taken more x = omega arith
+    by_b true true same taken more x = missed_more before taken (omega (arith, last, more)) (omega (arith, few, more))
+    by_b true false same taken more x = absurd cc
+    by_b false true same taken more x = absurd cc
+    by_b false false same taken more x = omega arith
 missed_counts settings bits so_far (Line.broken front fault) row rest before is last few =
-    by (repairs_with (Line.broken front fault) (length so_far.rows) before) refl refl (misses_eol settings (length (so_far.rows ++ row ∷ [])) so_far.has_eols rest && not settings.strict)
+    by_length (repairs_with (Line.broken front fault) (length so_far.rows) before) refl refl
+    (misses_eol settings (length (so_far.rows ++ row ∷ [])) so_far.has_eols rest && not settings.strict)
     (length (so_far.rows ++ row ∷ [])) (sym (length-append so_far.rows (row ∷ [])))
   where
-    by : (now : Repairs) → now.last ≡ length so_far.rows + 1 → now.missed ≡ before.missed → (b : Bool) (taken : ℕ) → length so_far.rows + 1 ≡ taken
-        → (cond b (with_missed taken now) now).missed ≡ before.missed + 0
-    by now last kept true taken more = omega (arith, kept, ap (λ (r : Repairs). r.missed) (missed_same now taken (last ∙ more)))
-    by now last kept false taken more = omega (arith, kept)
+    by_length : (now : Repairs) → now.last ≡ length so_far.rows + 1 → now.missed ≡ before.missed → (b : Bool) (taken : ℕ)
+        → length so_far.rows + 1 ≡ taken → (cond b (with_missed taken now) now).missed ≡ before.missed + 0
+    by_length now last kept true taken more =
+        omega (arith, kept, ap (λ (r : Repairs). r.missed) (missed_same now taken (last ∙ more)))
+    by_length now last kept false taken more = omega (arith, kept)
 
 -- it is one EOL at most
-missed_once : (settings : DecodeSettings) (bits : Bits) (so_far : Progress) (line : Line) → length (missed_behind settings bits so_far line) ≤ 1
+missed_once : (settings : DecodeSettings) (bits : Bits) (so_far : Progress) (line : Line)
+    → length (missed_behind settings bits so_far line) ≤ 1
 missed_once settings bits so_far (Line.broken front fault) = omega arith
 missed_once settings bits so_far (Line.whole row rest) =
-    by (misses_eol settings (length so_far.rows + 1) so_far.has_eols (behind_row settings so_far.has_eols rest) && not settings.strict) _
+    either_way (misses_eol settings (length so_far.rows + 1) so_far.has_eols
+    (behind_row settings so_far.has_eols rest) && not settings.strict) _
   where
-    by : (b : Bool) (x : Damaged) → length (cond {A = List Damaged} b (x ∷ []) []) ≤ 1
-    by true x = omega arith
-    by false x = omega arith
+    either_way : (b : Bool) (x : Damaged) → length (cond {A = List Damaged} b (x ∷ []) []) ≤ 1
+    either_way true x = omega arith
+    either_way false x = omega arith
 
 -- where there is no row, no EOL is missed
 pub missed_none : (settings : DecodeSettings) (bits : Bits) (so_far : Progress) (line : Line) (e : DecodeError)
@@ -178,41 +190,54 @@ module _ (settings : DecodeSettings) (told : Progress → List Damaged) (start :
     }
 
     module _ (so_far : Progress) (count : ℕ) (counted : DamageCounted so_far count) where
-      follow : drop (length so_far.rows) all_damage ≡ told so_far ∷ gathered_after (lines (move_on settings) gives left_to_read) (move_on settings so_far)
+      follow : drop (length so_far.rows) all_damage ≡ told so_far ∷ gathered_after (lines (move_on settings) gives left_to_read)
+          (move_on settings so_far)
       follow = lines_on (move_on settings) gives left_to_read by_rows start begins so_far counted.comes (told so_far) refl
 
-      with_row_counted : (taken then : ℕ) → taken ≡ suc (length so_far.rows) → then ≡ count + length (told so_far) → then ≡ sum_by length (take taken all_damage)
+      with_row_counted : (taken then : ℕ) → taken ≡ suc (length so_far.rows) → then ≡ count + length (told so_far)
+          → then ≡ sum_by length (take taken all_damage)
       with_row_counted taken then more one =
-          omega (arith, one, counted.counted, sum_more all_damage (length so_far.rows) (told so_far) _ follow, ap (λ (k : ℕ). sum_by length (take k all_damage)) more)
+          omega (
+            arith,
+            one,
+            counted.counted,
+            sum_more all_damage (length so_far.rows) (told so_far) _ follow,
+            ap (λ (k : ℕ). sum_by length (take k all_damage)) more,
+          )
 
       -- one more row
-      pub damage_next : (after : Progress) (then : ℕ) → move_on settings so_far ≡ Turn.next after → length after.rows ≡ suc (length so_far.rows)
-          → then ≡ count + length (told so_far) → DamageCounted after then
+      pub damage_next : (after : Progress) (then : ℕ) → move_on settings so_far ≡ Turn.next after
+          → length after.rows ≡ suc (length so_far.rows) → then ≡ count + length (told so_far) → DamageCounted after then
       damage_next after then goes more one = record {
-        comes = comes_next (move_on settings) gives left_to_read by_rows start begins so_far counted.comes (told so_far) refl after goes more;
+        comes = comes_next (move_on settings) gives left_to_read by_rows start begins so_far counted.comes
+            (told so_far) refl after goes more;
         counted = with_row_counted (length after.rows) then more one;
       }
 
       -- all of it, where a turn is the last
-      all_counted : (end : Ending) → move_on settings so_far ≡ Turn.done end → sum_by length all_damage ≡ count + length (told so_far)
+      all_counted : (end : Ending) → move_on settings so_far ≡ Turn.done end
+          → sum_by length all_damage ≡ count + length (told so_far)
       all_counted end ends =
           let last : drop (length so_far.rows) all_damage ≡ told so_far ∷ []
           = follow ∙ ap (λ (turn : Move). told so_far ∷ gathered_after (lines (move_on settings) gives left_to_read) turn) ends in
           omega (arith, counted.counted, sum_by-take-drop length all_damage (length so_far.rows), ap (sum_by length) last)
 
       -- a run that ends with one more row
-      pub damage_end_behind : {A : Type 0} (end : Ending) → move_on settings so_far ≡ Turn.done end → (taken then : ℕ) (answer : Result A DecodeError)
-          → taken ≡ suc (length so_far.rows) → then ≡ count + length (told so_far) → CountsDamage all_damage taken then answer
+      pub damage_end_behind : {A : Type 0} (end : Ending) → move_on settings so_far ≡ Turn.done end
+          → (taken then : ℕ) (answer : Result A DecodeError) → taken ≡ suc (length so_far.rows)
+          → then ≡ count + length (told so_far) → CountsDamage all_damage taken then answer
       damage_end_behind end ends taken then answer more one =
-          record { of_taken = with_row_counted taken then more one; all = by answer (one ∙ sym (all_counted end ends)) }
+          record { of_taken = with_row_counted taken then more one; all = by_answer answer (one ∙ sym (all_counted end ends)) }
         where
-          by : {A : Type 0} (answer : Result A DecodeError) → then ≡ sum_by length all_damage → OnAnswer answer (then ≡ sum_by length all_damage)
-          by (Ok x) are = are
-          by (Err e) are = λ fault. are
+          by_answer : {A : Type 0} (answer : Result A DecodeError) → then ≡ sum_by length all_damage
+              → OnAnswer answer (then ≡ sum_by length all_damage)
+          by_answer (Ok x) are = are
+          by_answer (Err e) are = λ fault. are
 
       -- and one that ends with the same rows, where the line is no row or an allocation failed
-      pub damage_end : {A : Type 0} (e : DecodeError) (taken then : ℕ) → taken ≡ length so_far.rows → then ≡ count
-          → (IsFault e → (told so_far ≡ []) × (end : Ending) × (move_on settings so_far ≡ Turn.done end)) → CountsDamage {A = A} all_damage taken then (Err e)
+      pub damage_end : {A : Type 0} (e : DecodeError) (taken then : ℕ) → taken ≡ length so_far.rows
+          → then ≡ count → (IsFault e → (told so_far ≡ []) × (end : Ending) × (move_on settings so_far ≡ Turn.done end))
+          → CountsDamage {A = A} all_damage taken then (Err e)
       damage_end e taken then same kept fails = record {
         of_taken = omega (arith, kept, counted.counted, ap (λ (k : ℕ). sum_by length (take k all_damage)) same);
         all = λ fault. let (none, end, ends) = fails fault in omega (arith, kept, all_counted end ends, ap length none);
@@ -226,18 +251,25 @@ pub record DamageTold (settings : DecodeSettings) (bits : Bits) (start so_far : 
   pub last : repairs.last ≤ length so_far.rows
 
 module _ (settings : DecodeSettings) (bits : Bits) (so_far : Progress) (line : Line) (row : Row) (rest : Bits) (before : Repairs)
-    (is : row_of_line settings so_far.has_eols so_far.rest line ≡ Ok (row, rest)) (last : before.last ≤ length so_far.rows) (few : before.missed ≤ length so_far.rows) where
+    (is : row_of_line settings so_far.has_eols so_far.rest line ≡ Ok (row, rest)) (last : before.last ≤ length so_far.rows)
+    (few : before.missed ≤ length so_far.rows) where
   -- what is counted behind one more row
   abbrev then : Repairs
   then = repairs_behind (held_between settings (with_row so_far row rest) (repairs_with line (length so_far.rows) before)) rest
 
   pub few_behind : then.missed ≤ length so_far.rows + 1
-  few_behind = omega (arith, few, missed_counts settings bits so_far line row rest before is last few, missed_once settings bits so_far line)
+  few_behind = omega (
+    arith,
+    few,
+    missed_counts settings bits so_far line row rest before is last few,
+    missed_once settings bits so_far line,
+  )
 
   pub last_behind : then.last ≤ length so_far.rows + 1
   last_behind =
       omega (
         arith,
-        (repaired_behind (held_between settings (with_row so_far row rest) (repairs_with line (length so_far.rows) before)) rest).1,
+        (repaired_behind
+            (held_between settings (with_row so_far row rest) (repairs_with line (length so_far.rows) before)) rest).1,
         last_with line (length so_far.rows) before last,
       )

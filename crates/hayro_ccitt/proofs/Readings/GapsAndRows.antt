@@ -1,18 +1,12 @@
 -- The first gap, and what gaps and rows lead to.
-use Rattle.std.proofs.Common.{◌≡◌, ◌≢◌, ◌<◌, suc, false, cond, [], length, arith, Result, Ok, Err, refl, ap, subst, ◌∙◌, ℕ}
-use Rattle.hayro_ccitt.specs.declared.error.DecodeError.{DecodeError}
-use Rattle.hayro_ccitt.specs.declared.error.DecodeError.TheVariants.{UnexpectedEof}
-use Rattle.hayro_ccitt.specs.declared.settings.DecodeSettings.{DecodeSettings}
-use Rattle.hayro_ccitt.specs.declared.settings.EncodingMode.TheVariants.{Group4}
-use Rattle.hayro_ccitt.specs.Bits.{Bits, IsPrefix}
-use Rattle.hayro_ccitt.specs.Laws.{add_row_alone, row_behind, gap_and_row}
-use Rattle.hayro_ccitt.specs.PlainReading.{Progress, Ending, Move, eols_here, is_over, ends_with, row_of_line, pass_gap, add_row, move_on, line_of_turn, at_front, first_line, first_gap, ending_from, ending_behind, end_of}
-use Rattle.hayro_ccitt.specs.Repetition.{Turn, repeated, Reaches}
-use Rattle.hayro_ccitt.specs.Rows.{Row}
+use Rattle.hayro_ccitt.proofs.Names.{◌≡◌, ◌≢◌, ◌<◌, suc, false, cond, [], length, arith, Result, Ok, Err, refl, ap, subst, ◌∙◌, ℕ}
+use Rattle.hayro_ccitt.proofs.Names.{DecodeError, UnexpectedEof, DecodeSettings, Group4, Bits, IsPrefix, add_row_alone}
+use Rattle.hayro_ccitt.proofs.Names.{row_behind, gap_and_row, Progress, Ending, Move, eols_here, is_over, ends_with, row_of_line}
+use Rattle.hayro_ccitt.proofs.Names.{pass_gap, add_row, move_on, line_of_turn, at_front, first_line, first_gap, ending_from}
+use Rattle.hayro_ccitt.proofs.Names.{ending_behind, end_of, Turn, repeated, Reaches, Row, common_steps}
 use Rattle.hayro_ccitt.proofs.Readings.Repeated.{Follows, after_turn, repeated_follows, repeated_turn}
-use Rattle.hayro_ccitt.proofs.Readings.TurnsMoveOn.{left_to_read, left_below, move_shrinks, not_next}
 use Rattle.hayro_ccitt.proofs.Readings.TurnsAddRows.{move_adds, repeated_adds}
-use Rattle.std.proofs.lemmas.Grind.{common_steps}
+use Rattle.hayro_ccitt.proofs.Readings.TurnsMoveOn.{left_to_read, left_below, move_shrinks, not_next}
 
 -- ---- The first gap
 
@@ -30,7 +24,8 @@ ending_t4 settings bits = ending_from (move_on settings) (first_line settings bi
 -- EOLs were counted, and the row of the line after them is read
 abbrev pub row_behind_eols : DecodeSettings → Progress → ℕ × Bits → Move
 row_behind_eols settings run (count, rest) =
-    cond (is_over settings (length run.rows) (count, rest)) (ends_with run (Ok rest)) (row_behind settings (Turn.next (record run { rest = rest })))
+    cond (is_over settings (length run.rows) (count, rest)) (ends_with run (Ok rest))
+    (row_behind settings (Turn.next (record run { rest = rest })))
 
 pub gap_and_row_unsought : (settings : DecodeSettings) (run : Progress) → run.has_eols ≡ false
     → gap_and_row settings run ≡ row_behind_eols settings run (eols_here settings run.rest)
@@ -49,60 +44,67 @@ module _ (settings : DecodeSettings) (wide : 0 < settings.columns) where
 
   ending_goes : (run : Progress) → ending_from (move_on settings) run ≡ goes run
   ending_goes run =
-      repeated_follows (move_on settings) (record { rows = run.rows; has_eols = run.has_eols; outcome = Err UnexpectedEof }) left_to_read
-      (move_shrinks settings wide) (move_on settings) late left_to_read (move_shrinks settings wide)
-      (λ s t. s ≡ t) (λ r q. r ≡ q) same (suc (suc (length run.rest))) (suc (left_to_read run)) run run (left_below run) (omega arith) refl
+      repeated_follows (move_on settings) (record { rows = run.rows; has_eols = run.has_eols; outcome = Err UnexpectedEof })
+      left_to_read (move_shrinks settings wide) (move_on settings) late left_to_read (move_shrinks settings wide) (λ s t. s ≡ t)
+      (λ r q. r ≡ q) same (suc (suc (length run.rest))) (suc (left_to_read run)) run run (left_below run) (omega arith) refl
     where
       turn_same : (rest : Progress → Ending) (turn : Move) → Follows (λ s t. s ≡ t) (λ r q. r ≡ q) rest turn turn
       turn_same rest turn = grind (arith, common_steps)
 
       same : (s t : Progress) → s ≡ t → Follows (λ s t. s ≡ t) (λ r q. r ≡ q) goes (move_on settings s) (move_on settings t)
-      same s t e = subst (λ (r : Progress). Follows (λ s t. s ≡ t) (λ r q. r ≡ q) goes (move_on settings s) (move_on settings r)) e (turn_same goes (move_on settings s))
+      same s t e = subst (λ (r : Progress). Follows (λ s t. s ≡ t) (λ r q. r ≡ q) goes (move_on settings s) (move_on settings r))
+          e (turn_same goes (move_on settings s))
 
   ending_behind_goes : (gap : Move) → ending_behind settings gap ≡ after_turn goes gap
   ending_behind_goes gap = grind (arith, common_steps, ending_goes)
 
   -- a row, and the gap after it, are a turn
-  row_then_gap : (line next : Progress) → row_behind settings (Turn.next line) ≡ Turn.next next → move_on settings line ≡ pass_gap settings next
-  row_then_gap line next e = by (row_of_line settings line.has_eols line.rest (line_of_turn settings line)) e
+  row_then_gap : (line next : Progress) → row_behind settings (Turn.next line) ≡ Turn.next next
+      → move_on settings line ≡ pass_gap settings next
+  row_then_gap line next e = by_row (row_of_line settings line.has_eols line.rest (line_of_turn settings line)) e
     where
-      by : (row : Result (Row × Bits) DecodeError) → add_row_alone line row ≡ Turn.next next → add_row settings line row ≡ pass_gap settings next
-      by row e = grind (arith, common_steps)
+      by_row : (row : Result (Row × Bits) DecodeError) → add_row_alone line row ≡ Turn.next next
+          → add_row settings line row ≡ pass_gap settings next
+      by_row row e = grind (arith, common_steps)
 
   reaches_goes : (from last : Progress) → Reaches (gap_and_row settings) from last
       → after_turn goes (pass_gap settings from) ≡ after_turn goes (pass_gap settings last)
   reaches_goes from last (Reaches.stays same) = refl
-  reaches_goes from last (Reaches.moves from2 after last2 moved on) = by (pass_gap settings from) moved ∙ reaches_goes after last on
+  reaches_goes from last (Reaches.moves from2 after last2 moved on) =
+      by_gap (pass_gap settings from) moved ∙ reaches_goes after last on
     where
-      by : (gap : Move) → row_behind settings gap ≡ Turn.next after → after_turn goes gap ≡ after_turn goes (pass_gap settings after)
-      by (Turn.next line) e =
-          repeated_turn (move_on settings) late left_to_read (move_shrinks settings wide) line ∙ ap (after_turn goes) (row_then_gap line after e)
-      by (Turn.done end) e = absurd (not_next end after e)
+      by_gap : (gap : Move) → row_behind settings gap ≡ Turn.next after
+          → after_turn goes gap ≡ after_turn goes (pass_gap settings after)
+      by_gap (Turn.next line) e =
+          repeated_turn (move_on settings) late left_to_read (move_shrinks settings wide) line
+          ∙ ap (after_turn goes) (row_then_gap line after e)
+      by_gap (Turn.done end) e = absurd (not_next end after e)
 
   -- if gaps and rows lead to a last gap, the reading from the first gap on ends with that
-  pub reaches_end : (from last : Progress) (end : Ending) → Reaches (gap_and_row settings) from last → pass_gap settings last ≡ Turn.done end
-      → ending_behind settings (pass_gap settings from) ≡ end
+  pub reaches_end : (from last : Progress) (end : Ending) → Reaches (gap_and_row settings) from last
+      → pass_gap settings last ≡ Turn.done end → ending_behind settings (pass_gap settings from) ≡ end
   reaches_end from last end reaches over = grind (arith, common_steps, after_turn, ending_behind_goes, reaches_goes)
 
   -- so does the reading of Group 4 data
-  pub t6_end : (bits : Bits) (last : Progress) (end : Ending) → settings.encoding ≡ Group4 → Reaches (gap_and_row settings) (at_front bits) last
-      → pass_gap settings last ≡ Turn.done end → end_of settings bits ≡ end
+  pub t6_end : (bits : Bits) (last : Progress) (end : Ending) → settings.encoding ≡ Group4
+      → Reaches (gap_and_row settings) (at_front bits) last → pass_gap settings last ≡ Turn.done end → end_of settings bits ≡ end
   t6_end bits last end is reaches over = grind (arith, common_steps, reaches_end (at_front bits) last end reaches over)
 
 -- ---- Two readings side by side, where the rows of a reading only grow
 
-module _ (one two : DecodeSettings) (wide : 0 < one.columns) (wide_two : 0 < two.columns) (P : Progress → Progress → Type 0) (Q : Ending → Ending → Type 0)
-    (follows : (rest : Progress → Ending) → ((t : Progress) → IsPrefix t.rows (rest t).rows) → (s t : Progress) → P s t
-    → Follows P Q rest (move_on one s) (move_on two t)) where
+module _ (one two : DecodeSettings) (wide : 0 < one.columns) (wide_two : 0 < two.columns) (P : Progress → Progress → Type 0)
+    (Q : Ending → Ending → Type 0) (follows : (rest : Progress → Ending) → ((t : Progress) → IsPrefix t.rows (rest t).rows)
+    → (s t : Progress) → P s t → Follows P Q rest (move_on one s) (move_on two t)) where
   rows_grow : (late : Ending) (n : ℕ) (t : Progress) → left_to_read t < n → IsPrefix t.rows (repeated (move_on two) late n t).rows
   rows_grow late = repeated_adds (move_on two) late left_to_read (move_shrinks two wide_two) (move_adds two)
 
   -- what comes behind a gap in both
-  pub readings_follow : (gap other : Move) → Follows P Q (ending_from (move_on two)) gap other → Q (ending_behind one gap) (ending_behind two other)
+  pub readings_follow : (gap other : Move) → Follows P Q (ending_from (move_on two)) gap other
+      → Q (ending_behind one gap) (ending_behind two other)
   readings_follow (Turn.next s) (Turn.next t) p =
-      repeated_follows (move_on one) _ left_to_read (move_shrinks one wide) (move_on two) _ left_to_read (move_shrinks two wide_two) P Q
-      (follows _ (λ r. rows_grow _ (suc (left_to_read r)) r (omega arith))) (suc (suc (length s.rest))) (suc (suc (length t.rest))) s t
-      (left_below s) (left_below t) p
+      repeated_follows (move_on one) _ left_to_read (move_shrinks one wide) (move_on two) _ left_to_read
+      (move_shrinks two wide_two) P Q (follows _ (λ r. rows_grow _ (suc (left_to_read r)) r (omega arith)))
+      (suc (suc (length s.rest))) (suc (suc (length t.rest))) s t (left_below s) (left_below t) p
   readings_follow (Turn.next s) (Turn.done q) p = absurd p
   readings_follow (Turn.done r) (Turn.next t) q = q
   readings_follow (Turn.done r) (Turn.done e) q = q

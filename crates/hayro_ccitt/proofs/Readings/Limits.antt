@@ -1,25 +1,13 @@
 -- A row limit cuts what comes without one.
-use Rattle.std.proofs.Common.{◌≡◌, ℕ, ◌-◌, ◌<◌, ◌≤◌, Bool, true, false, cond, not, ◌&&◌, ◌||◌, eqb, List, [], ◌∷◌, ◌++◌, length, take}
-use Rattle.std.proofs.Common.{replicate, Option, Result, Err, refl, sym, subst, ◌∙◌, arith, inl, inr}
-use Rattle.std.specs.Prelude.{IsOk}
-use Rattle.std.proofs.lemmas.List.{append-nil, length-append, take_all}
-use Rattle.std.proofs.lemmas.Bool.{cases_eq, and_right, or_left, or_right, eq-eqb, ne_eqb}
-use Rattle.std.proofs.lemmas.Bool.{cond-true, cases_lt}
-use Rattle.hayro_ccitt.specs.declared.error.DecodeError.{DecodeError}
-use Rattle.hayro_ccitt.specs.declared.settings.DecodeSettings.{DecodeSettings}
-use Rattle.hayro_ccitt.specs.declared.settings.EncodingMode.{EncodingMode}
-use Rattle.hayro_ccitt.specs.Bits.{Bits, IsPrefix}
-use Rattle.hayro_ccitt.specs.Repetition.{Turn}
-use Rattle.hayro_ccitt.specs.Rows.{Row}
-use Rattle.hayro_ccitt.specs.Lines.{Line}
-use Rattle.hayro_ccitt.specs.EndOfLine.{next_eol}
-use Rattle.hayro_ccitt.specs.PlainReading.{Progress, Ending, Move, aligned, ends_with, limit_met, bytes_before, eols_here, after_line, move_on, first_gap, ending_from, end_of}
-use Rattle.hayro_ccitt.specs.Laws.{RowLimit}
-use Rattle.hayro_ccitt.proofs.Readings.Repeated.{Follows, after_turn}
-use Rattle.hayro_ccitt.proofs.Readings.GapsAndRows.{readings_follow}
-use Rattle.hayro_ccitt.proofs.Readings.TurnsAddRows.{Keeps, after_row_keeps}
+use Rattle.hayro_ccitt.proofs.Names.{◌≡◌, ℕ, ◌-◌, ◌<◌, ◌≤◌, Bool, true, false, cond, not, ◌&&◌, ◌||◌, eqb, List, [], ◌∷◌, ◌++◌}
+use Rattle.hayro_ccitt.proofs.Names.{length, take, replicate, Option, Result, Err, refl, sym, subst, ◌∙◌, arith, inl, inr, IsOk}
+use Rattle.hayro_ccitt.proofs.Names.{append-nil, length-append, take_all, cases_eq, and_right, or_left, or_right, eq-eqb, ne_eqb}
+use Rattle.hayro_ccitt.proofs.Names.{cond-true, cases_lt, DecodeError, DecodeSettings, EncodingMode, Bits, IsPrefix, Turn, Row}
+use Rattle.hayro_ccitt.proofs.Names.{Line, next_eol, Progress, Ending, Move, aligned, ends_with, limit_met, bytes_before}
+use Rattle.hayro_ccitt.proofs.Names.{eols_here, after_line, move_on, first_gap, ending_from, end_of, RowLimit, common_steps}
+use Rattle.hayro_ccitt.proofs.{Readings.GapsAndRows.readings_follow, Readings.Repeated.Follows, Readings.Repeated.after_turn}
 use Rattle.hayro_ccitt.proofs.Readings.RowsAndGaps.{unless_over, seek_from, after_row, after_whole-is, after_damage-is}
-use Rattle.std.proofs.lemmas.Grind.{common_steps}
+use Rattle.hayro_ccitt.proofs.Readings.TurnsAddRows.{Keeps, after_row_keeps}
 
 module _ (settings : DecodeSettings) (limit : ℕ) (some : 0 < limit) (wide : 0 < settings.columns) where
   -- the settings with the limit, and without one
@@ -65,21 +53,27 @@ module _ (settings : DecodeSettings) (limit : ℕ) (some : 0 < limit) (wide : 0 
     cut_turn run (count, here) m full k =
         grind (arith, common_steps, after_turn, cond-true, cut_rows, is_met, or_left, or_right, turn_extends, unless_over)
 
-    seek_from_open : (run : Progress) (o : Option Bits) → limit_met limited (length run.rows) ≡ false → seek_from limited run o ≡ seek_from unlimited run o
+    seek_from_open : (run : Progress) (o : Option Bits) → limit_met limited (length run.rows) ≡ false
+        → seek_from limited run o ≡ seek_from unlimited run o
     seek_from_open run o e = grind (arith, common_steps)
 
-    after_row_open : (run : Progress) → limit_met limited (length run.rows) ≡ false → after_row limited run ≡ after_row unlimited run
+    after_row_open : (run : Progress) → limit_met limited (length run.rows) ≡ false
+        → after_row limited run ≡ after_row unlimited run
     after_row_open run e = rw (e, seek_from_open run (next_eol run.rest) e) refl
 
-    at_limit : (run : Progress) → limit_met limited (length run.rows) ≡ true → after_row limited run ≡ unless_over limited run (eols_here limited run.rest)
+    at_limit : (run : Progress) → limit_met limited (length run.rows) ≡ true
+        → after_row limited run ≡ unless_over limited run (eols_here limited run.rest)
     at_limit run met = grind (arith, common_steps)
 
-    after_row_follows : (run : Progress) → length run.rows ≤ limit → Follows Same Cut rest (after_row limited run) (after_row unlimited run)
+    after_row_follows : (run : Progress) → length run.rows ≤ limit
+        → Follows Same Cut rest (after_row limited run) (after_row unlimited run)
     after_row_follows run le = elim (cases_lt (length run.rows) limit) [
-      | inl lt ↦ rw (after_row_open run (is_open (length run.rows) lt)) (same_turn run.rows (after_row unlimited run) lt (after_row_keeps unlimited run))
+      | inl lt ↦ rw (after_row_open run (is_open (length run.rows) lt))
+          (same_turn run.rows (after_row unlimited run) lt (after_row_keeps unlimited run))
       | inr ge ↦
           let full : length run.rows ≡ limit = omega arith in
-          rw (at_limit run (rw full is_met)) (cut_turn run (eols_here limited run.rest) (after_row unlimited run) full (after_row_keeps unlimited run))
+          rw (at_limit run (rw full is_met))
+          (cut_turn run (eols_here limited run.rest) (after_row unlimited run) full (after_row_keeps unlimited run))
     ]
 
     one_longer : (rows : List Row) (row : Row) → length rows < limit → length (rows ++ row ∷ []) ≤ limit
@@ -94,7 +88,8 @@ module _ (settings : DecodeSettings) (limit : ℕ) (some : 0 < limit) (wide : 0 
               cond (settings.rows_are_byte_aligned && not run.has_eols) (aligned here) here;
         }) (one_longer run.rows row lt))
     after_line_follows run (Line.broken front fault) lt =
-        rw (after_damage-is limited run front fault, after_damage-is unlimited run front fault) (by (settings.strict || not run.has_eols))
+        rw (after_damage-is limited run front fault, after_damage-is unlimited run front fault)
+        (either_way (settings.strict || not run.has_eols))
       where
         more : Progress
         more = record run {
@@ -103,10 +98,11 @@ module _ (settings : DecodeSettings) (limit : ℕ) (some : 0 < limit) (wide : 0 
               cond (settings.rows_are_byte_aligned && not run.has_eols) (aligned run.rest) run.rest;
         }
 
-        by : (b : Bool) → Follows Same Cut rest (cond b (ends_with run (Err fault)) (after_row limited more))
+        either_way : (b : Bool) → Follows Same Cut rest (cond b (ends_with run (Err fault)) (after_row limited more))
             (cond b (ends_with run (Err fault)) (after_row unlimited more))
-        by true = short (record { rows = run.rows; has_eols = run.has_eols; outcome = Err fault }) lt
-        by false = after_row_follows more (one_longer run.rows (front ++ replicate (settings.columns - length front) false) lt)
+        either_way true = short (record { rows = run.rows; has_eols = run.has_eols; outcome = Err fault }) lt
+        either_way false =
+            after_row_follows more (one_longer run.rows (front ++ replicate (settings.columns - length front) false) lt)
 
     move_follows : (s t : Progress) → Same s t → Follows Same Cut rest (move_on limited s) (move_on unlimited t)
     move_follows s t same = grind (arith, common_steps, after_line_follows)
@@ -117,7 +113,8 @@ module _ (settings : DecodeSettings) (limit : ℕ) (some : 0 < limit) (wide : 0 
   first_gap_follows encoding bits = grind (arith, common_steps)
 
   cut_end : (bits : Bits) → Cut (end_of limited bits) (end_of unlimited bits)
-  cut_end bits = readings_follow limited unlimited wide wide Same Cut move_follows (first_gap settings.encoding limited bits) _ (first_gap_follows settings.encoding bits)
+  cut_end bits = readings_follow limited unlimited wide wide Same Cut move_follows (first_gap settings.encoding limited bits) _
+      (first_gap_follows settings.encoding bits)
 
 ok_bytes : (bits : Bits) (r : Result Bits DecodeError) → IsOk r → IsOk (bytes_before bits r)
 ok_bytes bits r ok = grind (arith, common_steps)

@@ -1,37 +1,30 @@
 -- Rows one at a time: a reader of rows is where the run of a driver is whose sink keeps nothing.
-use Rattle.std.proofs.Common.{◌≡◌, ◌+◌, ◌-◌, ◌<◌, ◌≤◌, ℕ, suc, Bool, true, false, eqb, List, [], ◌∷◌, ◌++◌, length, drop, get_or, Some, Result, Ok, Err, refl, sym, ap, ◌∙◌, subst, arith}
-use Rattle.std.proofs.lemmas.Bool.{cond-true, cond-false, eq-eqb, ne_eqb, false≢true}
-use Rattle.std.proofs.lemmas.List.{length-append, length-drop}
-use Rattle.std.proofs.Common.{cond, take, not, ◌&&◌, ◌||◌, None, Option}
-use Rattle.std.specs.Prelude.{OnErr, IfOk, IfErr, sum_by, slice_get, IsOkUnless, ◌≢◌}
-use Rattle.hayro_ccitt.specs.declared.error.DecodeError.{DecodeError}
-use Rattle.hayro_ccitt.specs.declared.error.DecodeError.TheVariants.{InvalidCode, OutOfMemory, Refused}
-use Rattle.hayro_ccitt.specs.declared.settings.DecodeSettings.{DecodeSettings}
-use Rattle.hayro_ccitt.specs.Answers.{PaintsBlack}
-use Rattle.hayro_ccitt.specs.Bits.{Bits, BitsAt, IsPrefix, here}
-use Rattle.hayro_ccitt.specs.Context.{Held, Repairs, fresh, no_repairs}
-use Rattle.hayro_ccitt.specs.Damage.{Damaged, fault_in, repaired_in, repaired_by_turn, repairs_by_line, missed_by_turn, misses_by_line}
-use Rattle.hayro_ccitt.specs.Decoding.{SinkState, TakesOneRow, repairs_with, repairs_behind, gap_said}
-use Rattle.hayro_ccitt.specs.Lines.{Line}
-use Rattle.hayro_ccitt.specs.PlainReading.{Progress, Ending, Reading, Move, row_before, with_row, at_gap, gap_behind_row, row_of_line, line_here, line_of_turn, move_on, first_gap, first_line, at_front, ending_from, ending_behind, one_each, gathered_from, gathered_behind, gathered_of, bytes_before, whole_reading, plain, lines_of, line_starts, start_of_turn, Gap, misses_eol, eols_here, is_over, limit_met, at_end, row_ends, end_of_row, end_of_turn, failed_at}
-use Rattle.hayro_ccitt.specs.Repetition.{Turn, Reaches}
-use Rattle.hayro_ccitt.specs.Rows.{Row}
-use Rattle.hayro_ccitt.specs.Work.{found_here, words_of, words_of_turn}
-use Rattle.hayro_ccitt.specs.declared.row_reader.Stand.{Stand}
-use Rattle.hayro_ccitt.specs.declared.row_reader.Stand.TheVariants.{AtLine, BehindRow, AtEnd, AtFault}
-use Rattle.hayro_ccitt.specs.declared.settings.EncodingMode.{EncodingMode}
-use Rattle.hayro_ccitt.specs.declared.settings.EncodingMode.TheVariants.{Group4}
-use Rattle.hayro_ccitt.proofs.Readings.GapsAndRows.{first_gap_t4}
-use Rattle.hayro_ccitt.proofs.Readings.Repeated.{reaches_on}
-use Rattle.hayro_ccitt.specs.RowsRead.{RowsRead, ReadsNext, gaps_before, damage_since, start_after, ComesToLine, read_so_far, line_after, DamageIsCounted, MissesAreCounted, MissesBehindRow, Misses, Stands, ended, stand_after, is_at_line, StandsAtLine, StandsBehindRow, HasEnded, HasFailed, context_at}
+use Rattle.hayro_ccitt.proofs.Names.{◌≡◌, ◌+◌, ◌-◌, ◌<◌, ◌≤◌, ℕ, suc, Bool, true, false, eqb, List, [], ◌∷◌, ◌++◌, length, drop}
+use Rattle.hayro_ccitt.proofs.Names.{get_or, Some, Result, Ok, Err, refl, sym, ap, ◌∙◌, subst, arith, cond-true, cond-false}
+use Rattle.hayro_ccitt.proofs.Names.{eq-eqb, ne_eqb, false≢true, length-append, length-drop, cond, take, not, ◌&&◌, ◌||◌, None}
+use Rattle.hayro_ccitt.proofs.Names.{Option, OnErr, IfOk, IfErr, sum_by, slice_get, IsOkUnless, ◌≢◌, DecodeError, InvalidCode}
+use Rattle.hayro_ccitt.proofs.Names.{OutOfMemory, Refused, DecodeSettings, PaintsBlack, Bits, BitsAt, IsPrefix, here, Held}
+use Rattle.hayro_ccitt.proofs.Names.{Repairs, fresh, no_repairs, Damaged, fault_in, repaired_in, repaired_by_turn}
+use Rattle.hayro_ccitt.proofs.Names.{repairs_by_line, missed_by_turn, misses_by_line, SinkState, TakesOneRow, repairs_with}
+use Rattle.hayro_ccitt.proofs.Names.{repairs_behind, gap_said, Line, Progress, Ending, Reading, Move, row_before, with_row}
+use Rattle.hayro_ccitt.proofs.Names.{at_gap, gap_behind_row, row_of_line, line_here, line_of_turn, move_on, first_gap, first_line}
+use Rattle.hayro_ccitt.proofs.Names.{at_front, ending_from, ending_behind, one_each, gathered_from, gathered_behind, gathered_of}
+use Rattle.hayro_ccitt.proofs.Names.{bytes_before, whole_reading, plain, lines_of, line_starts, start_of_turn, Gap, misses_eol}
+use Rattle.hayro_ccitt.proofs.Names.{eols_here, is_over, limit_met, at_end, row_ends, end_of_row, end_of_turn, failed_at, Turn}
+use Rattle.hayro_ccitt.proofs.Names.{Reaches, Row, found_here, words_of, words_of_turn, Stand, AtLine, BehindRow, AtEnd, AtFault}
+use Rattle.hayro_ccitt.proofs.Names.{EncodingMode, Group4, RowsRead, ReadsNext, gaps_before, damage_since, start_after}
+use Rattle.hayro_ccitt.proofs.Names.{ReachesNextLine, read_so_far, line_after, DamageIsCounted, MissesAreCounted, MissesBehindRow}
+use Rattle.hayro_ccitt.proofs.Names.{Misses, ReaderStands, ended, stand_after, is_at_line, StandsAtLine, StandsBehindRow}
+use Rattle.hayro_ccitt.proofs.Names.{HasEnded, HasFailed, context_at}
+use Rattle.hayro_ccitt.proofs.{Readings.GapsAndRows.first_gap_t4, Readings.Repeated.reaches_on, Work.RunsCount.sum_more}
+use Rattle.hayro_ccitt.proofs.Readings.DamageCounted.{repaired_counts, missed_counts, few_behind, last_behind}
 use Rattle.hayro_ccitt.proofs.Readings.PlainAnswers.{some_columns, bytes_before-place}
+use Rattle.hayro_ccitt.proofs.Readings.RowsTaken.{by_rows_left, row_of_turn, reads_row, turn_is}
+use Rattle.hayro_ccitt.proofs.Readings.RunsOverRows.{lines_on, Comes, Between, Leaves, held_between-more, comes_done, comes_more}
+use Rattle.hayro_ccitt.proofs.Readings.RunsOverRows.{comes_line, get_or-behind, row_fails}
+use Rattle.hayro_ccitt.proofs.Readings.RunsReach.{get_or-there, comes_there, value_is, no_value_behind}
 use Rattle.hayro_ccitt.proofs.Readings.TurnsAddRows.{Keeps, first_gap_keeps}
 use Rattle.hayro_ccitt.proofs.Readings.TurnsMoveOn.{left_to_read, left_below}
-use Rattle.hayro_ccitt.proofs.Readings.DamageCounted.{repaired_counts, missed_counts, few_behind, last_behind}
-use Rattle.hayro_ccitt.proofs.Work.RunsCount.{sum_more}
-use Rattle.hayro_ccitt.proofs.Readings.RunsOverRows.{lines_on, Comes, Between, Leaves, held_between-more, comes_done, comes_more, comes_line, get_or-behind, row_fails}
-use Rattle.hayro_ccitt.proofs.Readings.RunsReach.{get_or-there, comes_there, value_is, no_value_behind}
-use Rattle.hayro_ccitt.proofs.Readings.RowsTaken.{by_rows_left, row_of_turn, reads_row, turn_is}
 
 -- what a sink that keeps nothing, and refuses no row, means
 abbrev pub nothing_kept : SinkState (Unit {0})
@@ -40,7 +33,8 @@ nothing_kept = record { meaning = tt; refused = false; refuses = λ row. ⊥ }
 abbrev pub no_step : Unit {0} → List ℕ → Unit {0}
 no_step before row = tt
 
-module _ (settings : DecodeSettings) (wide : 0 < settings.columns) (bits : Bits) (first : Progress) (begins : first_gap settings.encoding settings bits ≡ Turn.next first) where
+module _ (settings : DecodeSettings) (wide : 0 < settings.columns) (bits : Bits) (first : Progress)
+    (begins : first_gap settings.encoding settings bits ≡ Turn.next first) where
   -- no row comes before the first line
   none_first : first.rows ≡ []
   none_first = subst (Keeps []) begins (first_gap_keeps settings settings.encoding bits)
@@ -51,7 +45,8 @@ module _ (settings : DecodeSettings) (wide : 0 < settings.columns) (bits : Bits)
       cond-false (eqb settings.columns 0) _ _ (some_columns settings.columns (λ none. absurd (omega (arith, wide, none))))
       ∙ ap (λ (gap : Move). whole_reading bits (ending_behind settings gap)) begins
 
-  gathered_is : {A : Type 0} (gives : Progress → A) → gathered_of settings gives bits ≡ gathered_from (move_on settings) (one_each gives) first
+  gathered_is : {A : Type 0} (gives : Progress → A)
+      → gathered_of settings gives bits ≡ gathered_from (move_on settings) (one_each gives) first
   gathered_is gives = ap (gathered_behind settings gives) begins
 
   pub lines_are : lines_of settings bits ≡ gathered_from (move_on settings) (one_each (line_of_turn settings)) first
@@ -70,22 +65,26 @@ module _ (settings : DecodeSettings) (wide : 0 < settings.columns) (bits : Bits)
     -- where a turn is the last, it is known how the reading ends
     pub ends_with_turn : (end : Ending) → move_on settings so_far ≡ Turn.done end → plain settings bits ≡ whole_reading bits end
     ends_with_turn end is =
-        plain_is ∙ ap (whole_reading bits) (comes_done (move_on settings) (one_each (line_of_turn settings)) left_to_read (by_rows_left settings wide) first none_first so_far (comes (line_of_turn settings)) end is)
+        plain_is ∙ ap (whole_reading bits) (comes_done (move_on settings) (one_each (line_of_turn settings)) left_to_read
+        (by_rows_left settings wide) first none_first so_far (comes (line_of_turn settings)) end is)
 
     -- its line
     pub line_is : slice_get (lines_of settings bits) (length so_far.rows) ≡ Some (line_of_turn settings so_far)
     line_is =
         ap (λ (xs : List Line). slice_get xs (length so_far.rows)) lines_are
-        ∙ comes_line (move_on settings) (one_each (line_of_turn settings)) left_to_read (by_rows_left settings wide) first none_first so_far (comes (line_of_turn settings)) (line_of_turn settings so_far) refl
+        ∙ comes_line (move_on settings) (one_each (line_of_turn settings)) left_to_read
+        (by_rows_left settings wide) first none_first so_far (comes (line_of_turn settings)) (line_of_turn settings so_far) refl
 
     -- the offset of its line
-    pub line_start_is : (other : ℕ) → get_or (line_starts settings bits) (length so_far.rows) other ≡ length bits - length so_far.rest
+    pub line_start_is : (other : ℕ)
+        → get_or (line_starts settings bits) (length so_far.rows) other ≡ length bits - length so_far.rest
     line_start_is other =
         ap (λ (xs : List ℕ). get_or xs (length so_far.rows) other) (gathered_is (start_of_turn bits))
         ∙ value_is settings wide first none_first so_far reaches (start_of_turn bits) other
 
     -- where its turn is the last, no line begins after it
-    pub no_line_behind : (end : Ending) → move_on settings so_far ≡ Turn.done end → (other : ℕ) → get_or (line_starts settings bits) (length so_far.rows + 1) other ≡ other
+    pub no_line_behind : (end : Ending) → move_on settings so_far ≡ Turn.done end → (other : ℕ)
+        → get_or (line_starts settings bits) (length so_far.rows + 1) other ≡ other
     no_line_behind end ends other =
         ap (λ (xs : List ℕ). get_or xs (length so_far.rows + 1) other) (gathered_is (start_of_turn bits))
         ∙ no_value_behind settings wide first none_first so_far reaches end ends (start_of_turn bits) other
@@ -113,15 +112,22 @@ module _ (settings : DecodeSettings) (wide : 0 < settings.columns) (bits : Bits)
       prefix : IsPrefix (so_far.rows ++ row ∷ []) (plain settings bits).rows
       prefix =
           subst (λ (rows : List Row). IsPrefix (so_far.rows ++ row ∷ []) rows) (sym (ap (λ (r : Reading). r.rows) plain_is))
-          (comes_more (move_on settings) (one_each (line_of_turn settings)) left_to_read (by_rows_left settings wide) first none_first so_far (comes (line_of_turn settings))
-          (so_far.rows ++ row ∷ []) ((reads_row settings so_far).adds row rest is))
+          (comes_more (move_on settings) (one_each (line_of_turn settings)) left_to_read
+          (by_rows_left settings wide) first none_first so_far (comes (line_of_turn settings)) (so_far.rows ++ row ∷ [])
+          ((reads_row settings so_far).adds row rest is))
 
       -- the row that is read is the next one of the plain reading
       pub row_is_next : get_or (plain settings bits).rows (length so_far.rows) [] ≡ row
-      row_is_next = ap (λ (rows : List Row). get_or rows (length so_far.rows) []) prefix.1 ∙ get_or-behind so_far.rows row prefix.0 []
+      row_is_next =
+          ap (λ (rows : List Row). get_or rows (length so_far.rows) []) prefix.1 ∙ get_or-behind so_far.rows row prefix.0 []
 
       pub row_is_there : length so_far.rows + 1 ≤ length (plain settings bits).rows
-      row_is_there = omega (arith, ap length prefix.1, length-append (so_far.rows ++ row ∷ []) prefix.0, length-append so_far.rows (row ∷ []))
+      row_is_there = omega (
+        arith,
+        ap length prefix.1,
+        length-append (so_far.rows ++ row ∷ []) prefix.0,
+        length-append so_far.rows (row ∷ []),
+      )
 
     -- what is repaired of its line
     module _ (rows : ℕ) (taken : rows ≡ length so_far.rows) where
@@ -139,8 +145,9 @@ module _ (settings : DecodeSettings) (wide : 0 < settings.columns) (bits : Bits)
       pub repaired_is : get_or by_line rows [] ≡ repaired
       repaired_is =
           get_or-there by_line rows repaired []
-          (ap (λ (n : ℕ). slice_get by_line n) taken ∙ ap (λ (xs : List (List Damaged)). slice_get xs (length so_far.rows)) repairs_are
-          ∙ comes_line (move_on settings) (one_each (repaired_by_turn settings bits)) left_to_read (by_rows_left settings wide) first none_first so_far (comes (repaired_by_turn settings bits)) repaired refl)
+          (ap (λ (n : ℕ). slice_get by_line n) taken ∙ ap (λ (xs : List (List Damaged)). slice_get xs (length so_far.rows))
+          repairs_are ∙ comes_line (move_on settings) (one_each (repaired_by_turn settings bits)) left_to_read
+          (by_rows_left settings wide) first none_first so_far (comes (repaired_by_turn settings bits)) repaired refl)
 
       -- what is counted of each line, with that of its line
       gathered_more : {A : Type 0} (counted : List (List A)) (gives : Progress → List A)
@@ -178,20 +185,31 @@ module _ (settings : DecodeSettings) (wide : 0 < settings.columns) (bits : Bits)
       words_more = gathered_more (words_of settings bits) (words_of_turn settings) words_are
 
     -- a driver whose sink keeps nothing is there
-    abbrev pub between_of : (repairs : Repairs) → Between (move_on settings) (one_each (line_of_turn settings)) left_to_read first settings no_step nothing_kept nothing_kept (context_at settings so_far repairs) so_far.rest
-    between_of repairs = record { so_far = so_far; comes = comes (line_of_turn settings); held = refl; here = refl; meaning = refl; refused = refl }
+    abbrev pub between_of : (repairs : Repairs) → Between (move_on settings) (one_each (line_of_turn settings)) left_to_read first
+        settings no_step nothing_kept nothing_kept (context_at settings so_far repairs) so_far.rest
+    between_of repairs = record {
+      so_far = so_far;
+      comes = comes (line_of_turn settings);
+      held = refl;
+      here = refl;
+      meaning = refl;
+      refused = refl;
+    }
 
     -- so where a row isn't read, the reading ends
     pub row_not_read : (repairs : Repairs) (after : SinkState (Unit {0})) (new : Held) (left_over : Bits) (e : DecodeError)
-        → TakesOneRow (line_of_turn settings so_far) (row_of_turn settings so_far) no_step nothing_kept after (context_at settings so_far repairs) new (Err e) left_over
-        → Leaves (ending_from (move_on settings) first) (gathered_from (move_on settings) (one_each (line_of_turn settings)) first) no_step nothing_kept after new (Err e)
+        → TakesOneRow (line_of_turn settings so_far) (row_of_turn settings so_far) no_step nothing_kept after
+        (context_at settings so_far repairs) new (Err e) left_over → Leaves (ending_from (move_on settings) first)
+        (gathered_from (move_on settings) (one_each (line_of_turn settings)) first) no_step nothing_kept after new (Err e)
     row_not_read repairs after new left_over e takes =
-        row_fails (move_on settings) (one_each (line_of_turn settings)) left_to_read (by_rows_left settings wide) first none_first settings no_step nothing_kept nothing_kept (context_at settings so_far repairs) so_far.rest (between_of repairs)
+        row_fails (move_on settings) (one_each (line_of_turn settings)) left_to_read (by_rows_left settings wide) first none_first
+        settings no_step nothing_kept nothing_kept (context_at settings so_far repairs) so_far.rest (between_of repairs)
         (line_of_turn settings so_far) (row_of_turn settings so_far) (reads_row settings so_far) after new left_over e takes
 
 -- ---- A reader of rows at a line
 
-module _ (settings : DecodeSettings) (bits : Bits) (held : Held) (here : Bits) (stands : StandsAtLine settings bits held here) where
+module _ (settings : DecodeSettings) (bits : Bits) (held : Held) (here : Bits)
+    (stands : StandsAtLine settings bits held here) where
   abbrev so_far : Progress
   so_far = stands.so_far
 
@@ -206,39 +224,47 @@ module _ (settings : DecodeSettings) (bits : Bits) (held : Held) (here : Bits) (
 
   -- the line here is that of the turn
   module _ (new : Held) (left_over : Bits) (answer : Result (Unit {0}) DecodeError)
-      (takes : TakesOneRow (line_here held.settings held.reference here) (row_of_line held.settings held.has_eols here (line_here held.settings held.reference here))
-      no_step nothing_kept nothing_kept held new answer left_over) where
-    takes_turn : TakesOneRow (line_of_turn settings so_far) (row_of_turn settings so_far) no_step nothing_kept nothing_kept (context_at settings so_far held.repairs) new answer left_over
+      (takes : TakesOneRow (line_here held.settings held.reference here) (row_of_line held.settings held.has_eols here
+      (line_here held.settings held.reference here)) no_step nothing_kept nothing_kept held new answer left_over) where
+    takes_turn : TakesOneRow (line_of_turn settings so_far) (row_of_turn settings so_far) no_step nothing_kept nothing_kept
+        (context_at settings so_far held.repairs) new answer left_over
     takes_turn =
         let known : TakesOneRow (line_here settings (row_before settings.columns so_far.rows) here)
-        (row_of_line settings so_far.has_eols here (line_here settings (row_before settings.columns so_far.rows) here)) no_step nothing_kept nothing_kept (context_at settings so_far held.repairs) new answer left_over
-        = subst (λ (h : Held). TakesOneRow (line_here h.settings h.reference here) (row_of_line h.settings h.has_eols here (line_here h.settings h.reference here)) no_step nothing_kept nothing_kept h new answer left_over)
-        stands.held_is takes in
+        (row_of_line settings so_far.has_eols here (line_here settings (row_before settings.columns so_far.rows) here)) no_step
+        nothing_kept nothing_kept (context_at settings so_far held.repairs) new answer left_over =
+        subst (λ (h : Held). TakesOneRow (line_here h.settings h.reference here) (row_of_line h.settings h.has_eols here
+        (line_here h.settings h.reference here)) no_step nothing_kept nothing_kept h new answer left_over) stands.held_is takes in
         subst (λ (x : Bits). TakesOneRow (line_here settings (row_before settings.columns so_far.rows) x)
-        (row_of_line settings so_far.has_eols x (line_here settings (row_before settings.columns so_far.rows) x)) no_step nothing_kept nothing_kept (context_at settings so_far held.repairs) new answer left_over) stands.rest_is known
+        (row_of_line settings so_far.has_eols x (line_here settings (row_before settings.columns so_far.rows) x)) no_step
+        nothing_kept nothing_kept (context_at settings so_far held.repairs) new answer left_over) stands.rest_is known
 
 -- what is repaired of a line is reported
-repaired_told : (settings : DecodeSettings) (has_eols : Bool) (index offset : ℕ) (start : Bits) (line : Line) (row : Row) (rest : Bits) (taken : ℕ) (before : Repairs)
-    → row_of_line settings has_eols start line ≡ Ok (row, rest)
+repaired_told : (settings : DecodeSettings) (has_eols : Bool) (index offset : ℕ) (start : Bits) (line : Line)
+    (row : Row) (rest : Bits) (taken : ℕ) (before : Repairs) → row_of_line settings has_eols start line ≡ Ok (row, rest)
     → damage_since (repairs_with line taken before) before.rows ≡ fault_in (repaired_in settings has_eols index offset line)
-repaired_told settings has_eols index offset start (Line.whole pixels behind) row rest taken before is = cond-true (eqb before.rows before.rows) None (Some before.fault) (eq-eqb before.rows before.rows refl)
-repaired_told settings has_eols index offset start (Line.broken front fault) row rest taken before is = by (settings.strict || not has_eols) refl
+repaired_told settings has_eols index offset start (Line.whole pixels behind) row rest taken before is =
+    cond-true (eqb before.rows before.rows) None (Some before.fault) (eq-eqb before.rows before.rows refl)
+repaired_told settings has_eols index offset start (Line.broken front fault) row rest taken before is =
+    by_strict (settings.strict || not has_eols) refl
   where
-    by : (b : Bool) → (settings.strict || not has_eols) ≡ b
-        → damage_since (repairs_with (Line.broken front fault) taken before) before.rows ≡ fault_in (repaired_in settings has_eols index offset (Line.broken front fault))
-    by true e = let never = sym (cond-true (settings.strict || not has_eols) _ _ e) ∙ is in cc
-    by false e =
-        cond-false (eqb (before.rows + 1) before.rows) None (Some fault) (ne_eqb (before.rows + 1) before.rows (λ same. absurd (omega (arith, same))))
-        ∙ sym (ap fault_in (cond-false {A = List Damaged} (settings.strict || not has_eols) [] (record { row = index; start = offset; fault = fault } ∷ []) e))
+    by_strict : (b : Bool) → (settings.strict || not has_eols) ≡ b → damage_since (repairs_with (Line.broken front fault) taken
+        before) before.rows ≡ fault_in (repaired_in settings has_eols index offset (Line.broken front fault))
+    by_strict true e = let never = sym (cond-true (settings.strict || not has_eols) _ _ e) ∙ is in cc
+    by_strict false e =
+        cond-false (eqb (before.rows + 1) before.rows) None
+        (Some fault) (ne_eqb (before.rows + 1) before.rows (λ same. absurd (omega (arith, same)))) ∙ sym (ap fault_in (cond-false
+        {A = List Damaged} (settings.strict || not has_eols) [] (record { row = index; start = offset; fault = fault } ∷ []) e))
 
 -- it is one row at most
-repaired_once : (settings : DecodeSettings) (has_eols : Bool) (index offset : ℕ) (line : Line) → length (repaired_in settings has_eols index offset line) ≤ 1
+repaired_once : (settings : DecodeSettings) (has_eols : Bool) (index offset : ℕ) (line : Line)
+    → length (repaired_in settings has_eols index offset line) ≤ 1
 repaired_once settings has_eols index offset (Line.whole pixels behind) = omega arith
-repaired_once settings has_eols index offset (Line.broken front fault) = by (settings.strict || not has_eols)
+repaired_once settings has_eols index offset (Line.broken front fault) = either_way (settings.strict || not has_eols)
   where
-    by : (b : Bool) → length (cond {A = List Damaged} b [] (record { row = index; start = offset; fault = fault } ∷ [])) ≤ 1
-    by true = omega arith
-    by false = omega arith
+    either_way : (b : Bool)
+        → length (cond {A = List Damaged} b [] (record { row = index; start = offset; fault = fault } ∷ [])) ≤ 1
+    either_way true = omega arith
+    either_way false = omega arith
 
 -- a row was read there
 pub record IsRead (settings : DecodeSettings) (bits : Bits) (held new : Held) (here left_over : Bits) : Type 0 where
@@ -252,12 +278,14 @@ pub record IsRead (settings : DecodeSettings) (bits : Bits) (held new : Held) (h
   pub few : held.repairs.rows ≤ held.taken → new.repairs.rows ≤ new.taken
   pub words : sum_by length (take new.taken (words_of settings bits))
       ≡ sum_by length (take held.taken (words_of settings bits)) + length (found_here settings held.reference here)
-  pub counted : held.repairs.rows ≡ sum_by length (take held.taken (repairs_by_line settings bits)) → new.repairs.rows ≡ sum_by length (take new.taken (repairs_by_line settings bits))
+  pub counted : held.repairs.rows ≡ sum_by length (take held.taken (repairs_by_line settings bits))
+      → new.repairs.rows ≡ sum_by length (take new.taken (repairs_by_line settings bits))
   pub misses : MissesAreCounted settings bits held.repairs held.taken → MissesBehindRow settings bits new
 
-pub is_read : (settings : DecodeSettings) (bits : Bits) (held : Held) (here : Bits) → StandsAtLine settings bits held here → (new : Held) (left_over : Bits)
-    → TakesOneRow (line_here held.settings held.reference here) (row_of_line held.settings held.has_eols here (line_here held.settings held.reference here))
-    no_step nothing_kept nothing_kept held new (Ok tt) left_over → IsRead settings bits held new here left_over
+pub is_read : (settings : DecodeSettings) (bits : Bits) (held : Held) (here : Bits) → StandsAtLine settings bits held here
+    → (new : Held) (left_over : Bits) → TakesOneRow (line_here held.settings held.reference here)
+    (row_of_line held.settings held.has_eols here (line_here held.settings held.reference here)) no_step nothing_kept nothing_kept
+    held new (Ok tt) left_over → IsRead settings bits held new here left_over
 is_read settings bits held here stands new left_over takes =
     let so_far = stands.so_far in
     let taken = (takes_turn settings bits held here stands new left_over (Ok tt) takes).taken in
@@ -267,8 +295,10 @@ is_read settings bits held here stands new left_over takes =
     let with_line : Repairs = repairs_with line (length so_far.rows) held.repairs in
     let repaired : new.repairs ≡ with_line = ap (λ (h : Held). h.repairs) taken.held in
     let offset = length bits - length so_far.rest in
-    let one = repaired_counts settings so_far.has_eols (length so_far.rows) offset so_far.rest line taken.taken left_over (length so_far.rows) held.repairs taken.is in
-    let there = row_is_there settings stands.wide bits stands.first stands.begins so_far stands.reaches taken.taken left_over taken.is in
+    let one = repaired_counts settings so_far.has_eols (length so_far.rows) offset so_far.rest line taken.taken left_over
+    (length so_far.rows) held.repairs taken.is in
+    let there =
+    row_is_there settings stands.wide bits stands.first stands.begins so_far stands.reaches taken.taken left_over taken.is in
     let found : length (found_here settings held.reference here) ≡ length (words_of_turn settings so_far)
     = ap (λ (h : Held). length (found_here settings h.reference here)) stands.held_is
     ∙ ap (λ (x : Bits). length (found_here settings (row_before settings.columns so_far.rows) x)) stands.rest_is in
@@ -288,14 +318,22 @@ is_read settings bits held here stands new left_over takes =
       settings_are = ap (λ (h : Held). h.settings) taken.held;
       more = omega (arith, before, after);
       within = omega (arith, after, there);
-      row = ap (λ (h : Held). h.reference) taken.held
-          ∙ sym (ap (λ (n : ℕ). get_or (plain settings bits).rows n []) before ∙ row_is_next settings stands.wide bits stands.first stands.begins so_far stands.reaches taken.taken left_over taken.is);
-      line_start = ap (λ (x : Bits). length bits - length x) stands.rest_is
-          ∙ sym (ap (λ (n : ℕ). get_or (line_starts settings bits) n 0) before ∙ line_start_is settings stands.wide bits stands.first stands.begins so_far stands.reaches 0);
-      damage = ap (λ (r : Repairs). damage_since r held.repairs.rows) repaired
-          ∙ repaired_told settings so_far.has_eols (length so_far.rows) offset so_far.rest line taken.taken left_over (length so_far.rows) held.repairs taken.is
-          ∙ sym (ap fault_in (repaired_is settings stands.wide bits stands.first stands.begins so_far stands.reaches held.taken before));
-      few = λ so. omega (arith, so, before, after, one, ap (λ (r : Repairs). r.rows) repaired, repaired_once settings so_far.has_eols (length so_far.rows) offset line);
+      row = ap (λ (h : Held). h.reference) taken.held ∙ sym (ap (λ (n : ℕ). get_or (plain settings bits).rows n []) before ∙
+          row_is_next settings stands.wide bits stands.first stands.begins so_far stands.reaches taken.taken left_over taken.is);
+      line_start = ap (λ (x : Bits). length bits - length x) stands.rest_is ∙ sym (ap (λ (n : ℕ). get_or (line_starts settings
+          bits) n 0) before ∙ line_start_is settings stands.wide bits stands.first stands.begins so_far stands.reaches 0);
+      damage = ap (λ (r : Repairs). damage_since r held.repairs.rows) repaired ∙ repaired_told settings so_far.has_eols
+          (length so_far.rows) offset so_far.rest line taken.taken left_over (length so_far.rows) held.repairs taken.is ∙ sym (ap
+          fault_in (repaired_is settings stands.wide bits stands.first stands.begins so_far stands.reaches held.taken before));
+      few = λ so. omega (
+        arith,
+        so,
+        before,
+        after,
+        one,
+        ap (λ (r : Repairs). r.rows) repaired,
+        repaired_once settings so_far.has_eols (length so_far.rows) offset line,
+      );
       words = ap (λ (n : ℕ). sum_by length (take n (words_of settings bits))) (after ∙ ap (λ (n : ℕ). n + 1) (sym before))
           ∙ words_more settings stands.wide bits stands.first stands.begins so_far stands.reaches held.taken before
           ∙ ap (λ (n : ℕ). sum_by length (take held.taken (words_of settings bits)) + n) (sym found);
@@ -312,7 +350,8 @@ is_read settings bits held here stands new left_over takes =
           record {
             line = line;
             before = held.repairs;
-            line_is = ap (slice_get (lines_of settings bits)) here ∙ line_is settings stands.wide bits stands.first stands.begins so_far stands.reaches;
+            line_is = ap (slice_get (lines_of settings bits)) here
+                ∙ line_is settings stands.wide bits stands.first stands.begins so_far stands.reaches;
             repairs_are = repaired ∙ ap (λ (n : ℕ). repairs_with line n held.repairs) (sym here);
             counted = subst (MissesAreCounted settings bits held.repairs) (before ∙ sym here) so;
           };
@@ -327,33 +366,35 @@ fails_at_line settings bits held here stands =
     ∙ line_start_is settings stands.wide bits stands.first stands.begins stands.so_far stands.reaches _)
 
 -- no row was read there
-pub isnt_read : (settings : DecodeSettings) (bits : Bits) (held : Held) (here : Bits) → StandsAtLine settings bits held here → (new : Held) (left_over : Bits) (e : DecodeError)
-    → TakesOneRow (line_here held.settings held.reference here) (row_of_line held.settings held.has_eols here (line_here held.settings held.reference here))
-    no_step nothing_kept nothing_kept held new (Err e) left_over → HasFailed settings bits new.taken e
+pub isnt_read : (settings : DecodeSettings) (bits : Bits) (held : Held) (here : Bits) → StandsAtLine settings bits held here
+    → (new : Held) (left_over : Bits) (e : DecodeError) → TakesOneRow (line_here held.settings held.reference here)
+    (row_of_line held.settings held.has_eols here (line_here held.settings held.reference here)) no_step nothing_kept nothing_kept
+    held new (Err e) left_over → HasFailed settings bits new.taken e
 isnt_read settings bits held here stands new left_over e takes =
     let so_far = stands.so_far in
     let reading = plain_is settings stands.wide bits stands.first stands.begins in
     let lines = lines_are settings stands.wide bits stands.first stands.begins in
-    let leaves = row_not_read settings stands.wide bits stands.first stands.begins so_far stands.reaches held.repairs nothing_kept new left_over e
-    (takes_turn settings bits held here stands new left_over (Err e) takes) in
+    let leaves = row_not_read settings stands.wide bits stands.first stands.begins so_far stands.reaches held.repairs nothing_kept
+    new left_over e (takes_turn settings bits held here stands new left_over (Err e) takes) in
     record {
       all = λ fault. leaves.0.all fault ∙ ap (λ (r : Reading). length r.rows) (sym reading);
       fault = λ fault. ap (λ (r : Reading). r.outcome) reading ∙ ap (bytes_before bits) (leaves.0.fault fault);
-      memory = λ is. subst (λ (ls : List Line). PaintsBlack ls new.taken) (sym lines) (leaves.1.memory (ap (λ (x : DecodeError). Err x) is));
+      memory = λ is. subst (λ (ls : List Line). PaintsBlack ls new.taken) (sym lines)
+          (leaves.1.memory (ap (λ (x : DecodeError). Err x) is));
       not_refused = λ is. leaves.1.refused_row (ap (λ (x : DecodeError). Err x) is);
     }
 
 -- if a line is here, the invariant says so
-pub at_line_stands : (stand : Stand) (settings : DecodeSettings) (bits : Bits) (held : Held) (place : ℕ) → is_at_line stand ≡ true → Stands stand settings bits held place
-    → StandsAtLine settings bits held (drop place bits)
+pub at_line_stands : (stand : Stand) (settings : DecodeSettings) (bits : Bits) (held : Held) (place : ℕ) → is_at_line stand ≡ true
+    → ReaderStands stand settings bits held place → StandsAtLine settings bits held (drop place bits)
 at_line_stands AtLine settings bits held place is stands = stands
 at_line_stands BehindRow settings bits held place is stands = absurd (false≢true is)
 at_line_stands AtEnd settings bits held place is stands = absurd (false≢true is)
 at_line_stands (AtFault error) settings bits held place is stands = absurd (false≢true is)
 
 -- so it does after a row
-pub behind_row_stands : (stand : Stand) (settings : DecodeSettings) (bits : Bits) (held : Held) (place : ℕ) → ended stand ≡ None → is_at_line stand ≡ false
-    → Stands stand settings bits held place → StandsBehindRow settings bits held (drop place bits)
+pub behind_row_stands : (stand : Stand) (settings : DecodeSettings) (bits : Bits) (held : Held) (place : ℕ) → ended stand ≡ None →
+    is_at_line stand ≡ false → ReaderStands stand settings bits held place → StandsBehindRow settings bits held (drop place bits)
 behind_row_stands AtLine settings bits held place unended no_line stands = absurd (false≢true (sym no_line))
 behind_row_stands BehindRow settings bits held place unended no_line stands = stands
 behind_row_stands AtEnd settings bits held place unended no_line stands = absurd cc
@@ -362,31 +403,41 @@ behind_row_stands (AtFault error) settings bits held place unended no_line stand
 -- ---- A gap is passed
 
 -- an allocation didn't fail in a gap, and no row was refused
-code_failed : (settings : DecodeSettings) (bits : Bits) (taken : ℕ) (e : DecodeError) → e ≡ InvalidCode → taken ≡ length (plain settings bits).rows → (plain settings bits).outcome ≡ Err e
-    → HasFailed settings bits taken e
+code_failed : (settings : DecodeSettings) (bits : Bits) (taken : ℕ) (e : DecodeError) → e ≡ InvalidCode
+    → taken ≡ length (plain settings bits).rows → (plain settings bits).outcome ≡ Err e → HasFailed settings bits taken e
 code_failed settings bits taken e is all outcome =
-    record { all = λ f. all; fault = λ f. outcome; memory = λ g. let never : InvalidCode ≡ OutOfMemory = sym is ∙ g in absurd cc; not_refused = λ g. let never : InvalidCode ≡ Refused = sym is ∙ g in absurd cc }
+    record {
+      all = λ f. all;
+      fault = λ f. outcome;
+      memory = λ g. let never : InvalidCode ≡ OutOfMemory = sym is ∙ g in absurd cc;
+      not_refused = λ g. let never : InvalidCode ≡ Refused = sym is ∙ g in absurd cc;
+    }
 
 -- if the gap before a turn ends the reading, it ends like this
-module _ (settings : DecodeSettings) (bits : Bits) (rows : List Row) (last : Held) (place : ℕ) (within : place ≤ length bits) (taken : last.taken ≡ length rows) where
-  ended_well : (has_eols : Bool) → plain settings bits ≡ whole_reading bits (record { rows = rows; has_eols = has_eols; outcome = Ok (drop place bits) }) → HasEnded settings bits last.taken place
+module _ (settings : DecodeSettings) (bits : Bits) (rows : List Row) (last : Held) (place : ℕ) (within : place ≤ length bits)
+    (taken : last.taken ≡ length rows) where
+  ended_well : (has_eols : Bool) → plain settings bits ≡ whole_reading bits
+      (record { rows = rows; has_eols = has_eols; outcome = Ok (drop place bits) }) → HasEnded settings bits last.taken place
   ended_well has_eols is = record {
     all = taken ∙ ap (λ (r : Reading). length r.rows) (sym is);
     count = ap (λ (r : Reading). r.outcome) is ∙ bytes_before-place bits place within;
   }
 
-  ended_badly : (has_eols : Bool) (e : DecodeError) → e ≡ InvalidCode → plain settings bits ≡ whole_reading bits (record { rows = rows; has_eols = has_eols; outcome = Err e })
-      → HasFailed settings bits last.taken e
+  ended_badly : (has_eols : Bool) (e : DecodeError) → e ≡ InvalidCode → plain settings bits
+      ≡ whole_reading bits (record { rows = rows; has_eols = has_eols; outcome = Err e }) → HasFailed settings bits last.taken e
   ended_badly has_eols e code is =
-      code_failed settings bits last.taken e code (taken ∙ ap (λ (r : Reading). length r.rows) (sym is)) (ap (λ (r : Reading). r.outcome) is)
+      code_failed settings bits last.taken e code (taken ∙ ap (λ (r : Reading). length r.rows) (sym is))
+      (ap (λ (r : Reading). r.outcome) is)
 
 -- the gap after a row leads to a line, or to the end
-module _ (settings : DecodeSettings) (bits : Bits) (held : Held) (here_now : Bits) (stands : StandsBehindRow settings bits held here_now) (last : Held) (place : ℕ) (within : place ≤ length bits)
+module _ (settings : DecodeSettings) (bits : Bits) (held : Held) (here_now : Bits)
+    (stands : StandsBehindRow settings bits held here_now) (last : Held) (place : ℕ) (within : place ≤ length bits)
     (frame : last ≡ record held { has_eols = last.has_eols; repairs = last.repairs }) where
   abbrev next : Progress
   next = with_row stands.so_far stands.row here_now
 
-  turn_said : (answer : Result Bool DecodeError) → gap_behind_row held.settings held.taken held.has_eols here_now ≡ gap_said answer last.has_eols (drop place bits)
+  turn_said : (answer : Result Bool DecodeError)
+      → gap_behind_row held.settings held.taken held.has_eols here_now ≡ gap_said answer last.has_eols (drop place bits)
       → move_on settings stands.so_far ≡ at_gap next (gap_said answer last.has_eols (drop place bits))
   turn_said answer said =
       turn_is settings stands.so_far stands.row here_now (gap_said answer last.has_eols (drop place bits)) stands.row_is
@@ -397,8 +448,7 @@ module _ (settings : DecodeSettings) (bits : Bits) (held : Held) (here_now : Bit
 
   -- with a faulty gap the reading fails where it begins
   fails_there : (e : DecodeError) → gap_behind_row held.settings held.taken held.has_eols here_now
-      ≡ gap_said (Err e) last.has_eols (drop place bits)
-      → failed_at settings bits held.taken ≡ length bits - length here_now
+      ≡ gap_said (Err e) last.has_eols (drop place bits) → failed_at settings bits held.taken ≡ length bits - length here_now
   fails_there e said =
       let more : held.taken ≡ length stands.so_far.rows + 1
       = ap (λ (h : Held). h.taken) stands.held_is ∙ length-append stands.so_far.rows (stands.row ∷ []) in
@@ -407,39 +457,43 @@ module _ (settings : DecodeSettings) (bits : Bits) (held : Held) (here_now : Bit
       (turn_said (Err e) said) stands.row
       here_now stands.row_is
 
-  pub starts_behind : (answer : Result Bool DecodeError) → gap_behind_row held.settings held.taken held.has_eols here_now ≡ gap_said answer last.has_eols (drop place bits)
-      → (offset before : ℕ) → offset ≡ length bits - length here_now
+  pub starts_behind : (answer : Result Bool DecodeError) → gap_behind_row held.settings held.taken held.has_eols here_now
+      ≡ gap_said answer last.has_eols (drop place bits) → (offset before : ℕ) → offset ≡ length bits - length here_now
       → OnErr answer (start_after answer offset before ≡ failed_at settings bits held.taken)
   starts_behind (Ok over) said offset before is = tt
   starts_behind (Err e) said offset before is = is ∙ sym (fails_there e said)
 
-  pub gap_stands : (answer : Result Bool DecodeError) → gap_behind_row held.settings held.taken held.has_eols here_now ≡ gap_said answer last.has_eols (drop place bits)
-      → IsOkUnless answer InvalidCode → Stands (stand_after answer) settings bits last place
+  pub gap_stands : (answer : Result Bool DecodeError)
+      → gap_behind_row held.settings held.taken held.has_eols here_now ≡ gap_said answer last.has_eols (drop place bits)
+      → IsOkUnless answer InvalidCode → ReaderStands (stand_after answer) settings bits last place
   gap_stands (Ok true) said code =
-      ended_well settings bits next.rows last place within last_taken next.has_eols
-      (ends_with_turn settings stands.wide bits stands.first stands.begins stands.so_far stands.reaches _ (turn_said (Ok true) said))
+      ended_well settings bits next.rows last place within last_taken next.has_eols (ends_with_turn settings stands.wide bits
+      stands.first stands.begins stands.so_far stands.reaches _ (turn_said (Ok true) said))
   gap_stands (Ok false) said code = record {
     wide = stands.wide;
     first = stands.first;
     so_far = record next { has_eols = last.has_eols; rest = drop place bits };
     begins = stands.begins;
     room = stands.room;
-    reaches = reaches_on (move_on settings) stands.first stands.so_far (record next { has_eols = last.has_eols; rest = drop place bits }) stands.reaches (turn_said (Ok false) said);
+    reaches = reaches_on (move_on settings) stands.first stands.so_far
+        (record next { has_eols = last.has_eols; rest = drop place bits }) stands.reaches (turn_said (Ok false) said);
     held_is = frame ∙ ap (λ (h : Held). record h { has_eols = last.has_eols; repairs = last.repairs }) stands.held_is;
     rest_is = refl;
   }
   gap_stands (Err e) said code =
-      ended_badly settings bits next.rows last place within last_taken next.has_eols e code
-      (ends_with_turn settings stands.wide bits stands.first stands.begins stands.so_far stands.reaches _ (turn_said (Err e) said))
+      ended_badly settings bits next.rows last place within last_taken next.has_eols e code (ends_with_turn settings stands.wide
+      bits stands.first stands.begins stands.so_far stands.reaches _ (turn_said (Err e) said))
 
 -- the first gap of Group 4 does too
-module _ (settings : DecodeSettings) (wide : 0 < settings.columns) (bits : Bits) (is : settings.encoding ≡ Group4) (last : Held) (place : ℕ) (within : place ≤ length bits)
-    (frame : last ≡ record (fresh settings) { has_eols = last.has_eols }) where
-  first_said : (answer : Result Bool DecodeError) → gap_behind_row settings 0 false bits ≡ gap_said answer last.has_eols (drop place bits)
+module _ (settings : DecodeSettings) (wide : 0 < settings.columns) (bits : Bits) (is : settings.encoding ≡ Group4) (last : Held)
+    (place : ℕ) (within : place ≤ length bits) (frame : last ≡ record (fresh settings) { has_eols = last.has_eols }) where
+  first_said : (answer : Result Bool DecodeError)
+      → gap_behind_row settings 0 false bits ≡ gap_said answer last.has_eols (drop place bits)
       → first_gap settings.encoding settings bits ≡ at_gap (at_front bits) (gap_said answer last.has_eols (drop place bits))
   first_said answer said = ap (λ (e : EncodingMode). first_gap e settings bits) is ∙ ap (at_gap (at_front bits)) said
 
-  first_ended : (end : Ending) → first_gap settings.encoding settings bits ≡ Turn.done end → plain settings bits ≡ whole_reading bits end
+  first_ended : (end : Ending) → first_gap settings.encoding settings bits ≡ Turn.done end
+      → plain settings bits ≡ whole_reading bits end
   first_ended end ends =
       cond-false (eqb settings.columns 0) _ _ (some_columns settings.columns (λ none. absurd (omega (arith, wide, none))))
       ∙ ap (λ (gap : Move). whole_reading bits (ending_behind settings gap)) ends
@@ -447,9 +501,10 @@ module _ (settings : DecodeSettings) (wide : 0 < settings.columns) (bits : Bits)
   none : last.taken ≡ length (at_front bits).rows
   none = ap (λ (h : Held). h.taken) frame
 
-  pub first_gap_stands : (answer : Result Bool DecodeError) → gap_behind_row settings 0 false bits ≡ gap_said answer last.has_eols (drop place bits)
-      → IsOkUnless answer InvalidCode → Stands (stand_after answer) settings bits last place
-  first_gap_stands (Ok true) said code = ended_well settings bits [] last place within none false (first_ended _ (first_said (Ok true) said))
+  pub first_gap_stands : (answer : Result Bool DecodeError) → gap_behind_row settings 0 false bits ≡ gap_said answer last.has_eols
+      (drop place bits) → IsOkUnless answer InvalidCode → ReaderStands (stand_after answer) settings bits last place
+  first_gap_stands (Ok true) said code =
+      ended_well settings bits [] last place within none false (first_ended _ (first_said (Ok true) said))
   first_gap_stands (Ok false) said code = record {
     wide = wide;
     first = record { rows = []; has_eols = last.has_eols; rest = drop place bits };
@@ -457,10 +512,12 @@ module _ (settings : DecodeSettings) (wide : 0 < settings.columns) (bits : Bits)
     begins = first_said (Ok false) said;
     room = omega (arith, length-drop place bits);
     reaches = Reaches.stays (record { rows = []; has_eols = last.has_eols; rest = drop place bits });
-    held_is = frame ∙ ap (context_at settings (record { rows = []; has_eols = last.has_eols; rest = drop place bits })) (sym (ap (λ (h : Held). h.repairs) frame));
+    held_is = frame ∙ ap (context_at settings (record { rows = []; has_eols = last.has_eols; rest = drop place bits }))
+        (sym (ap (λ (h : Held). h.repairs) frame));
     rest_is = refl;
   }
-  first_gap_stands (Err e) said code = ended_badly settings bits [] last place within none false e code (first_ended _ (first_said (Err e) said))
+  first_gap_stands (Err e) said code =
+      ended_badly settings bits [] last place within none false e code (first_ended _ (first_said (Err e) said))
 
 -- where no EOLs are sought, no gap is faulty
 pub no_fault : (settings : DecodeSettings) (taken : ℕ) (here : Bits) (answer : Result Bool DecodeError) (has_eols : Bool)
@@ -470,8 +527,8 @@ pub no_fault : (settings : DecodeSettings) (taken : ℕ) (here : Bits) (answer :
 no_fault settings taken here (Ok true) has_eols rest said error is = cc
 no_fault settings taken here (Ok false) has_eols rest said error is = cc
 no_fault settings taken here (Err e) has_eols rest said error is =
-    by (is_over settings taken (eols_here settings here)) (sym (cond-false (misses_eol settings taken false here) _ _ unmissed)
-    ∙ said)
+    by_over (is_over settings taken (eols_here settings here))
+    (sym (cond-false (misses_eol settings taken false here) _ _ unmissed) ∙ said)
   where
     unmissed : misses_eol settings taken false here ≡ false
     unmissed = by_count (eqb (eols_here settings here).0 0)
@@ -480,15 +537,15 @@ no_fault settings taken here (Err e) has_eols rest said error is =
         by_count true = refl
         by_count false = refl
 
-    by : (over : Bool) → cond {A = Gap} over (Gap.over (Ok (eols_here settings here).1))
+    by_over : (over : Bool) → cond {A = Gap} over (Gap.over (Ok (eols_here settings here).1))
         (Gap.line_at false (eols_here settings here).1) ≡ Gap.over (Err e) → ⊥
-    by true never = cc
-    by false never = cc
+    by_over true never = cc
+    by_over false never = cc
 
 -- data of Group 3 begin at a line
-pub first_line_stands : (settings : DecodeSettings) → 0 < settings.columns → (bits : Bits) → settings.encoding ≢ Group4 → (last : Held) (rest : Bits)
-    → last ≡ record (fresh settings) { has_eols = (first_line settings bits).has_eols } → rest ≡ (first_line settings bits).rest → length rest ≤ length bits
-    → StandsAtLine settings bits last rest
+pub first_line_stands : (settings : DecodeSettings) → 0 < settings.columns → (bits : Bits) → settings.encoding ≢ Group4
+    → (last : Held) (rest : Bits) → last ≡ record (fresh settings) { has_eols = (first_line settings bits).has_eols }
+    → rest ≡ (first_line settings bits).rest → length rest ≤ length bits → StandsAtLine settings bits last rest
 first_line_stands settings wide bits other last rest frame is room = record {
   wide = wide;
   first = first_line settings bits;
@@ -501,27 +558,41 @@ first_line_stands settings wide bits other last rest frame is room = record {
 }
 
 -- the gap behind a row tells of its EOL
-pub misses_passed : (settings : DecodeSettings) (bits : Bits) (held : Held) (here : Bits) → StandsBehindRow settings bits held here → MissesBehindRow settings bits held
-    → (last : Held) → last.repairs ≡ repairs_behind held here → last.taken ≡ held.taken → MissesAreCounted settings bits last.repairs last.taken
+pub misses_passed : (settings : DecodeSettings) (bits : Bits) (held : Held) (here : Bits)
+    → StandsBehindRow settings bits held here → MissesBehindRow settings bits held → (last : Held)
+    → last.repairs ≡ repairs_behind held here → last.taken ≡ held.taken → MissesAreCounted settings bits last.repairs last.taken
 misses_passed settings bits held here stands misses last counts taken =
     let so_far = stands.so_far in
     let n = length so_far.rows in
     let line = line_of_turn settings so_far in
     let more : held.taken ≡ n + 1 = ap (λ (h : Held). h.taken) stands.held_is ∙ length-append so_far.rows (stands.row ∷ []) in
     let index : held.taken - 1 ≡ n = omega (arith, more) in
-    let found : ◌≡◌ {A = Option Line} (Some misses.line) (Some line)
-    = sym misses.line_is ∙ ap (slice_get (lines_of settings bits)) index ∙ line_is settings stands.wide bits stands.first stands.begins so_far stands.reaches in
+    let found : ◌≡◌ {A = Option Line} (Some misses.line) (Some line) = sym misses.line_is ∙ ap (slice_get
+    (lines_of settings bits)) index ∙ line_is settings stands.wide bits stands.first stands.begins so_far stands.reaches in
     let same : misses.line ≡ line = cc in
     let before = misses.before in
     let known : MissesAreCounted settings bits before n = subst (MissesAreCounted settings bits before) index misses.counted in
-    let repairs : held.repairs ≡ repairs_with line n before
-    = misses.repairs_are ∙ ap (λ (k : ℕ). repairs_with misses.line k before) index ∙ ap (λ (l : Line). repairs_with l n before) same in
-    let then : last.repairs ≡ repairs_behind (context_at settings (with_row so_far stands.row here) (repairs_with line n before)) here
-    = counts ∙ ap (λ (h : Held). repairs_behind h here) (stands.held_is ∙ ap (context_at settings (with_row so_far stands.row here)) repairs) in
+    let repairs : held.repairs ≡ repairs_with line n before = misses.repairs_are
+    ∙ ap (λ (k : ℕ). repairs_with misses.line k before) index ∙ ap (λ (l : Line). repairs_with l n before) same in
+    let then : last.repairs
+    ≡ repairs_behind (context_at settings (with_row so_far stands.row here) (repairs_with line n before)) here = counts ∙ ap
+    (λ (h : Held). repairs_behind h here) (stands.held_is ∙ ap (context_at settings (with_row so_far stands.row here)) repairs) in
     let one = missed_counts settings bits so_far line stands.row here before stands.row_is known.last known.few in
     record {
-      few = omega (arith, taken, more, ap (λ (r : Repairs). r.missed) then, few_behind settings bits so_far line stands.row here before stands.row_is known.last known.few);
-      last = omega (arith, taken, more, ap (λ (r : Repairs). r.last) then, last_behind settings bits so_far line stands.row here before stands.row_is known.last known.few);
+      few = omega (
+        arith,
+        taken,
+        more,
+        ap (λ (r : Repairs). r.missed) then,
+        few_behind settings bits so_far line stands.row here before stands.row_is known.last known.few,
+      );
+      last = omega (
+        arith,
+        taken,
+        more,
+        ap (λ (r : Repairs). r.last) then,
+        last_behind settings bits so_far line stands.row here before stands.row_is known.last known.few,
+      );
       counted = omega (
         arith,
         ap (λ (r : Repairs). r.missed) then,
@@ -533,29 +604,30 @@ misses_passed settings bits held here stands misses last counts taken =
     }
 
 -- the count of missed EOLs at a line, behind a row, and after a gap
-pub misses_at_line : (stand : Stand) (settings : DecodeSettings) (bits : Bits) (held : Held) → is_at_line stand ≡ true → Misses stand settings bits held
-    → MissesAreCounted settings bits held.repairs held.taken
+pub misses_at_line : (stand : Stand) (settings : DecodeSettings) (bits : Bits) (held : Held) → is_at_line stand ≡ true
+    → Misses stand settings bits held → MissesAreCounted settings bits held.repairs held.taken
 misses_at_line AtLine settings bits held is misses = misses
 misses_at_line BehindRow settings bits held is misses = absurd (false≢true is)
 misses_at_line AtEnd settings bits held is misses = misses
 misses_at_line (AtFault error) settings bits held is misses = misses
 
-pub misses_behind_row : (stand : Stand) (settings : DecodeSettings) (bits : Bits) (held : Held) → ended stand ≡ None → is_at_line stand ≡ false → Misses stand settings bits held
-    → MissesBehindRow settings bits held
+pub misses_behind_row : (stand : Stand) (settings : DecodeSettings) (bits : Bits) (held : Held) → ended stand ≡ None
+    → is_at_line stand ≡ false → Misses stand settings bits held → MissesBehindRow settings bits held
 misses_behind_row AtLine settings bits held unended no_line misses = absurd (false≢true (sym no_line))
 misses_behind_row BehindRow settings bits held unended no_line misses = misses
 misses_behind_row AtEnd settings bits held unended no_line misses = absurd cc
 misses_behind_row (AtFault error) settings bits held unended no_line misses = absurd cc
 
-pub misses_after : (answer : Result Bool DecodeError) (settings : DecodeSettings) (bits : Bits) (held : Held) → MissesAreCounted settings bits held.repairs held.taken
-    → Misses (stand_after answer) settings bits held
+pub misses_after : (answer : Result Bool DecodeError) (settings : DecodeSettings) (bits : Bits) (held : Held)
+    → MissesAreCounted settings bits held.repairs held.taken → Misses (stand_after answer) settings bits held
 misses_after (Ok true) settings bits held misses = misses
 misses_after (Ok false) settings bits held misses = misses
 misses_after (Err error) settings bits held misses = misses
 
 -- before the first row there are none
-pub none_damaged : (stand : Stand) (settings : DecodeSettings) (bits : Bits) (held : Held) → ((misses : MissesAreCounted settings bits held.repairs held.taken) → Misses stand settings bits held)
-    → held.taken ≡ 0 → held.repairs ≡ no_repairs → DamageIsCounted stand settings bits held
+pub none_damaged : (stand : Stand) (settings : DecodeSettings) (bits : Bits) (held : Held)
+    → ((misses : MissesAreCounted settings bits held.repairs held.taken) → Misses stand settings bits held) → held.taken ≡ 0
+    → held.repairs ≡ no_repairs → DamageIsCounted stand settings bits held
 none_damaged stand settings bits held stands none no_damage =
     let rows : held.repairs.rows ≡ 0 = ap (λ (r : Repairs). r.rows) no_damage in
     let missed : held.repairs.missed ≡ 0 = ap (λ (r : Repairs). r.missed) no_damage in
@@ -570,14 +642,16 @@ none_damaged stand settings bits held stands none no_damage =
     }
 
 -- what was counted is unchanged where no row is read
-pub damage_stays : (before stand : Stand) (settings given : DecodeSettings) (bits read : Bits) (held last : Held) → given ≡ settings → read ≡ bits → last.taken ≡ held.taken
-    → last.repairs.rows ≡ held.repairs.rows → DamageIsCounted before settings bits held → Misses stand settings bits last → DamageIsCounted stand given read last
+pub damage_stays : (before stand : Stand) (settings given : DecodeSettings) (bits read : Bits) (held last : Held)
+    → given ≡ settings → read ≡ bits → last.taken ≡ held.taken → last.repairs.rows ≡ held.repairs.rows
+    → DamageIsCounted before settings bits held → Misses stand settings bits last → DamageIsCounted stand given read last
 damage_stays before stand settings given bits read held last same are taken repairs counted misses = record {
   few = omega (arith, counted.few, taken, repairs);
   counted = repairs ∙ counted.counted ∙ ap (λ (n : ℕ). sum_by length (take n (repairs_by_line settings bits))) (sym taken)
       ∙ ap (λ (s : DecodeSettings). sum_by length (take last.taken (repairs_by_line s bits))) (sym same)
       ∙ ap (λ (b : Bits). sum_by length (take last.taken (repairs_by_line given b))) (sym are);
-  misses = subst (λ (s : DecodeSettings). Misses stand s read last) (sym same) (subst (λ (b : Bits). Misses stand settings b last) (sym are) misses);
+  misses = subst (λ (s : DecodeSettings). Misses stand s read last) (sym same)
+      (subst (λ (b : Bits). Misses stand settings b last) (sym are) misses);
 }
 
 -- the result of a call that passes a gap
@@ -585,9 +659,9 @@ pub comes_to_line : (old : RowsRead) (last : Held) (ticks : ℕ) (at : BitsAt) (
     (answer : Result Bool DecodeError)
     → last.settings ≡ old.settings → at.bits ≡ old.bits → last.taken ≡ old.taken → old.ticks ≤ ticks
     → (last.reference ≡ old.row) × (damage ≡ old.damage) → IfOk answer (λ over. n ≡ old.line_start)
-    → Stands (stand_after answer) old.settings old.bits last at.place
+    → ReaderStands (stand_after answer) old.settings old.bits last at.place
     → OnErr answer (n ≡ failed_at old.settings old.bits old.taken)
-    → ComesToLine old (read_so_far last ticks at n damage (stand_after answer)) (line_after answer)
+    → ReachesNextLine old (read_so_far last ticks at n damage (stand_after answer)) (line_after answer)
 comes_to_line old last ticks at n damage (Ok true) settings bits taken counts row begun stands start =
     record {
       counts = counts;
@@ -638,7 +712,7 @@ elsewhere P s t b c m n settings bits taken given =
     subst (λ (k : ℕ). P t c k) taken (subst (λ (x : Bits). P t x m) bits (subst (λ (x : DecodeSettings). P x b m) settings given))
 
 -- the result of a call that passes a gap, and then reads the line there
-pub reads_on : (old mid new : RowsRead) (result : Result Bool DecodeError) → ComesToLine old mid (Ok true)
+pub reads_on : (old mid new : RowsRead) (result : Result Bool DecodeError) → ReachesNextLine old mid (Ok true)
     → ReadsNext mid new result → ReadsNext old new result
 reads_on old mid new result comes reads =
     let at = λ (P : DecodeSettings → Bits → ℕ → Type 0). elsewhere P mid.settings old.settings mid.bits old.bits
@@ -668,9 +742,11 @@ repairs_with_missed (Line.whole row rest) taken before = refl
 repairs_with_missed (Line.broken front fault) taken before = refl
 
 pub missed_told : (stand : Stand) (settings : DecodeSettings) (bits : Bits) (held : Held) → Misses stand settings bits held
-    → held.repairs.missed ≡ sum_by length (take (gaps_before (ended stand) (is_at_line stand) held.taken) (misses_by_line settings bits))
+    → held.repairs.missed
+    ≡ sum_by length (take (gaps_before (ended stand) (is_at_line stand) held.taken) (misses_by_line settings bits))
 missed_told AtLine settings bits held misses = misses.counted
 missed_told BehindRow settings bits held misses =
-    ap (λ (r : Repairs). r.missed) misses.repairs_are ∙ repairs_with_missed misses.line (held.taken - 1) misses.before ∙ misses.counted.counted
+    ap (λ (r : Repairs). r.missed) misses.repairs_are ∙ repairs_with_missed misses.line (held.taken - 1) misses.before
+    ∙ misses.counted.counted
 missed_told AtEnd settings bits held misses = misses.counted
 missed_told (AtFault error) settings bits held misses = misses.counted

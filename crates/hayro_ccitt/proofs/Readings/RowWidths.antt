@@ -1,20 +1,13 @@
 -- Each row of the plain reading has the width of its columns.
-use Rattle.std.proofs.Common.{◌≡◌, ◌≤◌, ◌-◌, ℕ, suc, Bool, true, false, cond, not, ◌||◌, eqb, List, [], ◌∷◌, ◌++◌, length, replicate, Err, sym, subst, arith}
-use Rattle.std.proofs.lemmas.List.{length-append, length-replicate}
-use Rattle.std.proofs.lemmas.List.Elements.{All-append, All-cons, All-nil}
-use Rattle.hayro_ccitt.specs.declared.error.DecodeError.TheVariants.{UnexpectedEof}
-use Rattle.hayro_ccitt.specs.declared.settings.DecodeSettings.{DecodeSettings}
-use Rattle.hayro_ccitt.specs.Answers.{front_of}
-use Rattle.hayro_ccitt.specs.Bits.{Bits}
-use Rattle.hayro_ccitt.specs.Repetition.{Turn}
-use Rattle.hayro_ccitt.specs.Rows.{Row, HaveWidth, repaired}
-use Rattle.hayro_ccitt.specs.Lines.{Line}
-use Rattle.hayro_ccitt.specs.PlainReading.{Progress, Move, plain, end_of, whole_reading, nothing_read, first_gap, ending_from, ending_behind, row_before, ends_with, with_row, behind_row, line_here, after_line, move_on}
+use Rattle.hayro_ccitt.proofs.Names.{◌≡◌, ◌≤◌, ◌-◌, ℕ, suc, Bool, true, false, cond, not, ◌||◌, eqb, List, [], ◌∷◌, ◌++◌, length}
+use Rattle.hayro_ccitt.proofs.Names.{replicate, Err, sym, subst, arith, length-append, length-replicate, All-append, All-cons}
+use Rattle.hayro_ccitt.proofs.Names.{All-nil, UnexpectedEof, DecodeSettings, front_of, Bits, Turn, Row, HaveWidth, repaired, Line}
+use Rattle.hayro_ccitt.proofs.Names.{Progress, Move, plain, end_of, whole_reading, nothing_read, first_gap, ending_from}
+use Rattle.hayro_ccitt.proofs.Names.{ending_behind, row_before, ends_with, with_row, behind_row, line_here, after_line, move_on}
+use Rattle.hayro_ccitt.proofs.{DrawingLines.LineWidths.line_by_within, Readings.Repeated.repeated_keeps}
 use Rattle.hayro_ccitt.proofs.DrawingLines.FullRows.{IsFull, line_by_full}
-use Rattle.hayro_ccitt.proofs.Readings.Repeated.{repeated_keeps}
 use Rattle.hayro_ccitt.proofs.Readings.RowsAndGaps.{row_added, after_whole-is, after_damage-is}
 use Rattle.hayro_ccitt.proofs.Readings.TurnsAddRows.{Keeps, after_row_keeps, first_gap_keeps}
-use Rattle.hayro_ccitt.proofs.DrawingLines.LineWidths.{line_by_within}
 
 -- the rows that a turn leaves have a width
 abbrev pub LeavesWidth : ℕ → Move → Type 0
@@ -30,8 +23,10 @@ one_of columns true x y p q = p
 one_of columns false x y p q = q
 
 -- one row more
-one_more : (columns : ℕ) (rows : List Row) (row : Row) → HaveWidth columns rows → length row ≡ columns → HaveWidth columns (rows ++ row ∷ [])
-one_more columns rows row have width = All-append (λ r. length r ≡ columns) rows (row ∷ []) have (All-cons (λ r. length r ≡ columns) row [] width (All-nil (λ r. length r ≡ columns)))
+one_more : (columns : ℕ) (rows : List Row) (row : Row) → HaveWidth columns rows → length row ≡ columns
+    → HaveWidth columns (rows ++ row ∷ [])
+one_more columns rows row have width = All-append (λ r. length r ≡ columns) rows (row ∷ []) have
+    (All-cons (λ r. length r ≡ columns) row [] width (All-nil (λ r. length r ≡ columns)))
 
 repaired_width : (columns : ℕ) (front : Row) → length front ≤ columns → length (repaired columns front) ≡ columns
 repaired_width columns front within =
@@ -39,29 +34,33 @@ repaired_width columns front within =
 
 module _ (settings : DecodeSettings) where
   -- a row is added
-  row_added_width : (so_far : Progress) (row : Row) (rest : Bits) → HaveWidth settings.columns so_far.rows → length row ≡ settings.columns
-      → LeavesWidth settings.columns (row_added settings so_far row rest)
+  row_added_width : (so_far : Progress) (row : Row) (rest : Bits) → HaveWidth settings.columns so_far.rows
+      → length row ≡ settings.columns → LeavesWidth settings.columns (row_added settings so_far row rest)
   row_added_width so_far row rest have width =
-      keeps_width settings.columns (so_far.rows ++ row ∷ []) _ (after_row_keeps settings (with_row so_far row (behind_row settings so_far.has_eols rest)))
-      (one_more settings.columns so_far.rows row have width)
+      keeps_width settings.columns (so_far.rows ++ row ∷ []) _ (after_row_keeps settings
+      (with_row so_far row (behind_row settings so_far.has_eols rest))) (one_more settings.columns so_far.rows row have width)
 
-  after_line_width : (so_far : Progress) (line : Line) → HaveWidth settings.columns so_far.rows → length (front_of line) ≤ settings.columns
-      → IsFull settings.columns line → LeavesWidth settings.columns (after_line settings so_far line)
+  after_line_width : (so_far : Progress) (line : Line) → HaveWidth settings.columns so_far.rows → length (front_of line)
+      ≤ settings.columns → IsFull settings.columns line → LeavesWidth settings.columns (after_line settings so_far line)
   after_line_width so_far (Line.whole row rest) have within full =
-      subst (LeavesWidth settings.columns) (sym (after_whole-is settings so_far row rest)) (row_added_width so_far row rest have (omega arith))
+      subst (LeavesWidth settings.columns) (sym (after_whole-is settings so_far row rest))
+      (row_added_width so_far row rest have (omega arith))
   after_line_width so_far (Line.broken front fault) have within full =
       subst (LeavesWidth settings.columns) (sym (after_damage-is settings so_far front fault))
-      (one_of settings.columns (settings.strict || not so_far.has_eols) (ends_with so_far (Err fault)) (row_added settings so_far (repaired settings.columns front) so_far.rest) have
+      (one_of settings.columns (settings.strict || not so_far.has_eols)
+      (ends_with so_far (Err fault)) (row_added settings so_far (repaired settings.columns front) so_far.rest) have
       (row_added_width so_far (repaired settings.columns front) so_far.rest have (repaired_width settings.columns front within)))
 
-  move_width : (so_far : Progress) → HaveWidth settings.columns so_far.rows → LeavesWidth settings.columns (move_on settings so_far)
+  move_width : (so_far : Progress) → HaveWidth settings.columns so_far.rows
+      → LeavesWidth settings.columns (move_on settings so_far)
   move_width so_far have =
       after_line_width so_far (line_here settings (row_before settings.columns so_far.rows) so_far.rest) have
       (line_by_within settings.encoding settings.strict settings.columns (row_before settings.columns so_far.rows) so_far.rest)
       (line_by_full settings.encoding settings.strict settings.columns (row_before settings.columns so_far.rows) so_far.rest)
 
   -- the rows that turns yield
-  ending_width : (so_far : Progress) → HaveWidth settings.columns so_far.rows → HaveWidth settings.columns (ending_from (move_on settings) so_far).rows
+  ending_width : (so_far : Progress) → HaveWidth settings.columns so_far.rows
+      → HaveWidth settings.columns (ending_from (move_on settings) so_far).rows
   ending_width so_far have =
       repeated_keeps (move_on settings) (record { rows = so_far.rows; has_eols = so_far.has_eols; outcome = Err UnexpectedEof })
       (λ s. HaveWidth settings.columns s.rows) (λ end. HaveWidth settings.columns end.rows) have
@@ -77,8 +76,10 @@ module _ (settings : DecodeSettings) where
 
   -- each row has the width
   pub plain_width : (input : Bits) → HaveWidth settings.columns (plain settings input).rows
-  plain_width input = by (eqb settings.columns 0)
+  plain_width input = either_way (eqb settings.columns 0)
     where
-      by : (b : Bool) → HaveWidth settings.columns (cond b nothing_read (whole_reading input (end_of settings input))).rows
-      by true = none
-      by false = behind_width (first_gap settings.encoding settings input) (first_gap_keeps settings settings.encoding input)
+      either_way : (b : Bool)
+          → HaveWidth settings.columns (cond b nothing_read (whole_reading input (end_of settings input))).rows
+      either_way true = none
+      either_way false =
+          behind_width (first_gap settings.encoding settings input) (first_gap_keeps settings settings.encoding input)

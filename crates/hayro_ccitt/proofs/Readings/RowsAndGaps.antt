@@ -1,21 +1,15 @@
 -- The turns of the plain reading with the rows so far: what is between rows, over a state and not over numbers.
-use Rattle.std.proofs.Common.{◌≡◌, ℕ, Bool, true, false, cond, not, ◌&&◌, ◌||◌, eqb, leb, length, Option, Some, None, Ok, Err, refl, sym, ap, ◌∙◌}
-use Rattle.std.proofs.lemmas.Bool.{and_parts}
-use Rattle.hayro_ccitt.specs.declared.error.DecodeError.TheVariants.{InvalidCode}
-use Rattle.hayro_ccitt.specs.declared.settings.DecodeSettings.{DecodeSettings}
-use Rattle.hayro_ccitt.specs.declared.error.DecodeError.{DecodeError}
-use Rattle.hayro_ccitt.specs.Bits.{Bits}
-use Rattle.hayro_ccitt.specs.Rows.{Row, repaired}
-use Rattle.hayro_ccitt.specs.Lines.{Line}
-use Rattle.hayro_ccitt.specs.EndOfLine.{next_eol}
-use Rattle.hayro_ccitt.specs.Repetition.{Turn}
-use Rattle.hayro_ccitt.specs.PlainReading.{eols_of_end, Progress, Gap, with_row, behind_row, add_row, after_line, Move, at_end, limit_met, eols_here, behind_eols, from_next_eol, missing_eol, ends_with, at_gap, pass_gap}
+use Rattle.hayro_ccitt.proofs.Names.{◌≡◌, ℕ, Bool, true, false, cond, not, ◌&&◌, ◌||◌, eqb, leb, length, Option, Some, None, Ok}
+use Rattle.hayro_ccitt.proofs.Names.{Err, refl, sym, ap, ◌∙◌, and_parts, InvalidCode, DecodeSettings, DecodeError, Bits, Row}
+use Rattle.hayro_ccitt.proofs.Names.{repaired, Line, next_eol, Turn, eols_of_end, Progress, Gap, with_row, behind_row, add_row}
+use Rattle.hayro_ccitt.proofs.Names.{after_line, Move, at_end, limit_met, eols_here, behind_eols, from_next_eol, missing_eol}
+use Rattle.hayro_ccitt.proofs.Names.{ends_with, at_gap, pass_gap}
 
 -- EOLs were counted after the rows so far
 abbrev pub unless_over : DecodeSettings → Progress → ℕ × Bits → Move
 unless_over settings so_far (count, rest) =
-    cond ((settings.end_of_block && leb (eols_of_end settings.encoding) count) || limit_met settings (length so_far.rows) || at_end rest)
-    (ends_with so_far (Ok rest)) (Turn.next (record so_far { rest = rest }))
+    cond ((settings.end_of_block && leb (eols_of_end settings.encoding) count) || limit_met settings
+    (length so_far.rows) || at_end rest) (ends_with so_far (Ok rest)) (Turn.next (record so_far { rest = rest }))
 
 -- the next EOL was looked for
 abbrev pub seek_from : DecodeSettings → Progress → Option Bits → Move
@@ -30,8 +24,8 @@ seek_eol settings so_far =
 -- what comes after a row
 abbrev pub after_row : DecodeSettings → Progress → Move
 after_row settings so_far =
-    cond ((eqb (eols_here settings so_far.rest).0 0) && so_far.has_eols && not (limit_met settings (length so_far.rows)) && not (at_end so_far.rest))
-    (seek_eol settings so_far) (unless_over settings so_far (eols_here settings so_far.rest))
+    cond ((eqb (eols_here settings so_far.rest).0 0) && so_far.has_eols && not (limit_met settings (length so_far.rows)) && not
+    (at_end so_far.rest)) (seek_eol settings so_far) (unless_over settings so_far (eols_here settings so_far.rest))
 
 -- a row is added, before these bits
 abbrev pub row_added : DecodeSettings → Progress → Row → Bits → Move
@@ -53,8 +47,9 @@ cond-same false x y z w one two = two refl
 behind_eols-is : (settings : DecodeSettings) (so_far : Progress) (has_eols : Bool) (found : ℕ × Bits) → so_far.has_eols ≡ has_eols
     → at_gap so_far (behind_eols settings (length so_far.rows) has_eols found) ≡ unless_over settings so_far found
 behind_eols-is settings so_far has_eols (count, rest) is =
-    at_gap-cond so_far ((settings.end_of_block && leb (eols_of_end settings.encoding) count) || limit_met settings (length so_far.rows) || at_end rest) (Gap.over (Ok rest)) (Gap.line_at has_eols rest)
-    ∙ cond-same ((settings.end_of_block && leb (eols_of_end settings.encoding) count) || limit_met settings (length so_far.rows) || at_end rest) _ _ _ _ (λ e. refl)
+    at_gap-cond so_far ((settings.end_of_block && leb (eols_of_end settings.encoding) count) || limit_met settings
+    (length so_far.rows) || at_end rest) (Gap.over (Ok rest)) (Gap.line_at has_eols rest) ∙ cond-same ((settings.end_of_block
+    && leb (eols_of_end settings.encoding) count) || limit_met settings (length so_far.rows) || at_end rest) _ _ _ _ (λ e. refl)
     (λ e. ap {B = Move} (λ (h : Bool). Turn.next (record so_far { has_eols = h; rest = rest })) (sym is))
 
 -- from the next EOL on
@@ -66,14 +61,15 @@ from_eol settings so_far None is = refl
 -- what follows the rows
 pub pass_gap-is : (settings : DecodeSettings) (so_far : Progress) → pass_gap settings so_far ≡ after_row settings so_far
 pass_gap-is settings so_far =
-    let test : Bool = (eqb (eols_here settings so_far.rest).0 0) && so_far.has_eols && not (limit_met settings (length so_far.rows)) && not (at_end so_far.rest) in
-    at_gap-cond so_far test (missing_eol settings (length so_far.rows) so_far.rest) (behind_eols settings (length so_far.rows) so_far.has_eols (eols_here settings so_far.rest))
-    ∙ cond-same test _ _ _ _
-    (λ e.
-    let sought : so_far.has_eols ≡ true = (and_parts (eqb (eols_here settings so_far.rest).0 0) so_far.has_eols (and_parts _ _ (and_parts _ _ e).0).0).1 in
-    at_gap-cond so_far settings.strict (Gap.over (Err InvalidCode)) (from_next_eol settings (length so_far.rows) so_far.rest (next_eol so_far.rest))
-    ∙ cond-same settings.strict _ _ _ _ (λ f. refl) (λ f. from_eol settings so_far (next_eol so_far.rest) sought))
-    (λ e. behind_eols-is settings so_far so_far.has_eols (eols_here settings so_far.rest) refl)
+    let test : Bool = (eqb (eols_here settings so_far.rest).0 0) && so_far.has_eols && not
+    (limit_met settings (length so_far.rows)) && not (at_end so_far.rest) in
+    at_gap-cond so_far test (missing_eol settings (length so_far.rows) so_far.rest)
+    (behind_eols settings (length so_far.rows) so_far.has_eols (eols_here settings so_far.rest)) ∙ cond-same test _ _ _ _ (λ e.
+    let sought : so_far.has_eols ≡ true =
+    (and_parts (eqb (eols_here settings so_far.rest).0 0) so_far.has_eols (and_parts _ _ (and_parts _ _ e).0).0).1 in
+    at_gap-cond so_far settings.strict (Gap.over (Err InvalidCode)) (from_next_eol settings (length so_far.rows) so_far.rest
+    (next_eol so_far.rest)) ∙ cond-same settings.strict _ _ _ _ (λ f. refl) (λ f. from_eol settings so_far
+    (next_eol so_far.rest) sought)) (λ e. behind_eols-is settings so_far so_far.has_eols (eols_here settings so_far.rest) refl)
 
 -- a whole line adds its row
 pub after_whole-is : (settings : DecodeSettings) (so_far : Progress) (row : Row) (rest : Bits)
@@ -82,14 +78,15 @@ after_whole-is settings so_far row rest = pass_gap-is settings (with_row so_far 
 
 -- a damaged line ends the reading, or adds its repaired row
 pub after_damage-is : (settings : DecodeSettings) (so_far : Progress) (front : Row) (fault : DecodeError)
-    → after_line settings so_far (Line.broken front fault) ≡ cond (settings.strict || not so_far.has_eols) (ends_with so_far (Err fault))
-    (row_added settings so_far (repaired settings.columns front) so_far.rest)
-after_damage-is settings so_far front fault = by (settings.strict || not so_far.has_eols)
+    → after_line settings so_far (Line.broken front fault) ≡ cond (settings.strict || not so_far.has_eols)
+    (ends_with so_far (Err fault)) (row_added settings so_far (repaired settings.columns front) so_far.rest)
+after_damage-is settings so_far front fault = either_way (settings.strict || not so_far.has_eols)
   where
     row : Row
     row = repaired settings.columns front
 
-    by : (b : Bool) → add_row settings so_far (cond b (Err fault) (Ok (row, behind_row settings so_far.has_eols so_far.rest)))
+    either_way : (b : Bool)
+        → add_row settings so_far (cond b (Err fault) (Ok (row, behind_row settings so_far.has_eols so_far.rest)))
         ≡ cond b (ends_with so_far (Err fault)) (row_added settings so_far row so_far.rest)
-    by true = refl
-    by false = pass_gap-is settings (with_row so_far row (behind_row settings so_far.has_eols so_far.rest))
+    either_way true = refl
+    either_way false = pass_gap-is settings (with_row so_far row (behind_row settings so_far.has_eols so_far.rest))

@@ -1,30 +1,19 @@
 -- What a strict run reads, a lenient run reads too.
-use Rattle.std.proofs.Common.{◌≡◌, ℕ, suc, ◌<◌, true, false, cond, not, ◌&&◌, eqb, List, [], ◌∷◌, ◌++◌, length}
-use Rattle.std.proofs.Common.{Result, Ok, refl, sym, ap, subst, ◌∙◌, arith, inl, inr}
-use Rattle.std.specs.Prelude.{IsOk}
-use Rattle.std.proofs.lemmas.List.{append-nil}
-use Rattle.std.proofs.lemmas.Bool.{cases_lt, cases_eq, eq-eqb, ne_eqb, false≢true}
-use Rattle.hayro_ccitt.specs.declared.codes.Color.{Color}
-use Rattle.hayro_ccitt.specs.declared.codes.Mode.{Mode}
-use Rattle.hayro_ccitt.specs.declared.codes.Mode.TheVariants.{Pass, Horizontal, Vertical}
-use Rattle.hayro_ccitt.specs.declared.error.DecodeError.{DecodeError}
-use Rattle.hayro_ccitt.specs.declared.error.DecodeError.TheVariants.{UnexpectedEof}
-use Rattle.hayro_ccitt.specs.declared.settings.DecodeSettings.{DecodeSettings}
-use Rattle.hayro_ccitt.specs.declared.settings.EncodingMode.{EncodingMode}
-use Rattle.hayro_ccitt.specs.Bits.{Bits, IsPrefix}
-use Rattle.hayro_ccitt.specs.Repetition.{Turn}
-use Rattle.hayro_ccitt.specs.Rows.{Row, paint}
-use Rattle.hayro_ccitt.specs.Lines.{Line, Pen, start, line_1d, line_2d}
-use Rattle.hayro_ccitt.proofs.DrawingLines.Drawings.{try, run_then, mode_step, step_unless_full, step_1d, step_2d, step_1d_is, step_2d_is, horizontal_is}
-use Rattle.hayro_ccitt.specs.Answers.{Step}
-use Rattle.hayro_ccitt.specs.PlainReading.{Progress, Ending, Move, row_before, aligned, whole_reading, bytes_before, line_by, after_line, move_on, first_gap, ending_from, end_of}
-use Rattle.hayro_ccitt.specs.Laws.{StrictThenLenient}
-use Rattle.hayro_ccitt.proofs.Readings.Repeated.{Follows, after_turn, repeated_follows}
-use Rattle.hayro_ccitt.proofs.DrawingLines.ReadLines.{left as pen_left, step_1d_shrinks, step_2d_shrinks}
+use Rattle.hayro_ccitt.proofs.Names.{◌≡◌, ℕ, suc, ◌<◌, true, false, cond, not, ◌&&◌, eqb, List, [], ◌∷◌, ◌++◌, length, Result, Ok}
+use Rattle.hayro_ccitt.proofs.Names.{refl, sym, ap, subst, ◌∙◌, arith, inl, inr, IsOk, append-nil, cases_lt, cases_eq, eq-eqb}
+use Rattle.hayro_ccitt.proofs.Names.{ne_eqb, false≢true, Color, Mode, Pass, Horizontal, Vertical, DecodeError, UnexpectedEof}
+use Rattle.hayro_ccitt.proofs.Names.{DecodeSettings, EncodingMode, Bits, IsPrefix, Turn, Row, paint, Line, Pen, start, line_1d}
+use Rattle.hayro_ccitt.proofs.Names.{line_2d, Step, Progress, Ending, Move, row_before, aligned, whole_reading, bytes_before}
+use Rattle.hayro_ccitt.proofs.Names.{line_by, after_line, move_on, first_gap, ending_from, end_of, StrictThenLenient}
+use Rattle.hayro_ccitt.proofs.Names.{common_steps}
+use Rattle.hayro_ccitt.proofs.DrawingLines.Drawings.{try, run_then, mode_step, step_unless_full, step_1d, step_2d, step_1d_is}
+use Rattle.hayro_ccitt.proofs.DrawingLines.Drawings.{step_2d_is, horizontal_is}
+use Rattle.hayro_ccitt.proofs.DrawingLines.ReadLines.{step_1d_shrinks, step_2d_shrinks}
 use Rattle.hayro_ccitt.proofs.Readings.GapsAndRows.{readings_follow}
-use Rattle.hayro_ccitt.proofs.Readings.TurnsAddRows.{Keeps, Adds, seek_from_keeps, move_adds, prefix_trans}
+use Rattle.hayro_ccitt.proofs.Readings.Repeated.{Follows, after_turn, repeated_follows}
 use Rattle.hayro_ccitt.proofs.Readings.RowsAndGaps.{unless_over, seek_from, after_row, after_whole-is}
-use Rattle.std.proofs.lemmas.Grind.{common_steps}
+use Rattle.hayro_ccitt.proofs.Readings.TurnsAddRows.{Keeps, Adds, seek_from_keeps, move_adds, prefix_trans}
+use Rattle.hayro_ccitt.proofs.DrawingLines.ReadLines.{left as pen_left}
 
 -- ---- Lines
 
@@ -54,7 +43,8 @@ module _ (rest : Pen → Line) where
       → StepFollows (run_then true columns pen f) (run_then false columns pen g)
   draw_run_follows columns pen f g on = grind (arith, common_steps, paint_lenient, try, try_follows)
 
-  unless_full_follows : (columns : ℕ) (pen : Pen) (a b : Step) → StepFollows a b → StepFollows (step_unless_full columns pen a) (step_unless_full columns pen b)
+  unless_full_follows : (columns : ℕ) (pen : Pen) (a b : Step) → StepFollows a b
+      → StepFollows (step_unless_full columns pen a) (step_unless_full columns pen b)
   unless_full_follows columns pen a b on = grind (arith, common_steps)
 
   -- two steps that differ, of which the second follows
@@ -82,15 +72,17 @@ module _ (rest : Pen → Line) where
 
 line_1d_agrees : (columns : ℕ) (here : Bits) → Agrees (line_1d true columns here) (line_1d false columns here)
 line_1d_agrees columns here =
-    repeated_follows (step_1d true columns) (Line.broken [] UnexpectedEof) pen_left (step_1d_shrinks true columns) (step_1d false columns)
-    (Line.broken [] UnexpectedEof) pen_left (step_1d_shrinks false columns) SamePen Agrees
+    repeated_follows (step_1d true columns) (Line.broken [] UnexpectedEof) pen_left (step_1d_shrinks true columns)
+    (step_1d false columns) (Line.broken [] UnexpectedEof) pen_left (step_1d_shrinks false columns) SamePen Agrees
     (step_1d_follows _ columns) (suc (length here)) (suc (length here)) (start here) (start here) (omega arith) (omega arith) refl
 
-line_2d_agrees : (columns : ℕ) (reference : Row) (here : Bits) → Agrees (line_2d true columns reference here) (line_2d false columns reference here)
+line_2d_agrees : (columns : ℕ) (reference : Row) (here : Bits)
+    → Agrees (line_2d true columns reference here) (line_2d false columns reference here)
 line_2d_agrees columns reference here =
-    repeated_follows (step_2d true columns reference) (Line.broken [] UnexpectedEof) pen_left (step_2d_shrinks true columns reference)
-    (step_2d false columns reference) (Line.broken [] UnexpectedEof) pen_left (step_2d_shrinks false columns reference) SamePen Agrees
-    (step_2d_follows _ columns reference) (suc (length here)) (suc (length here)) (start here) (start here) (omega arith) (omega arith) refl
+    repeated_follows (step_2d true columns reference) (Line.broken [] UnexpectedEof) pen_left
+    (step_2d_shrinks true columns reference) (step_2d false columns reference) (Line.broken [] UnexpectedEof) pen_left
+    (step_2d_shrinks false columns reference) SamePen Agrees (step_2d_follows _ columns reference) (suc (length here))
+    (suc (length here)) (start here) (start here) (omega arith) (omega arith) refl
 
 pub line_by_agrees : (encoding : EncodingMode) (columns : ℕ) (reference : Row) (here : Bits)
     → Agrees (line_by encoding true columns reference here) (line_by encoding false columns reference here)
@@ -139,17 +131,17 @@ module _ (settings : DecodeSettings) (wide : 0 < settings.columns) where
     after_line_follows run (Line.broken front fault) other agrees adds = grind (arith, common_steps, false≢true, turn_extends)
 
     move_follows : (s t : Progress) → SameRun s t → Follows SameRun Precedes rest (move_on strictly s) (move_on leniently t)
-    move_follows s t same = subst (λ (r : Progress). Follows SameRun Precedes rest (move_on strictly s) (move_on leniently r)) same
-        (after_line_follows s _ _ (line_by_agrees settings.encoding settings.columns (row_before settings.columns s.rows) s.rest)
-        (move_adds leniently s))
+    move_follows s t same = subst (λ (r : Progress). Follows SameRun Precedes rest (move_on strictly s) (move_on leniently r))
+        same (after_line_follows s _ _
+        (line_by_agrees settings.encoding settings.columns (row_before settings.columns s.rows) s.rest) (move_adds leniently s))
 
-  first_gap_follows : (encoding : EncodingMode) (bits : Bits)
-      → Follows SameRun Precedes (ending_from (move_on leniently)) (first_gap encoding strictly bits) (first_gap encoding leniently bits)
+  first_gap_follows : (encoding : EncodingMode) (bits : Bits) → Follows SameRun Precedes (ending_from (move_on leniently))
+      (first_gap encoding strictly bits) (first_gap encoding leniently bits)
   first_gap_follows encoding bits = grind (arith, common_steps)
 
   precedes : (bits : Bits) → Precedes (end_of strictly bits) (end_of leniently bits)
-  precedes bits = readings_follow strictly leniently wide wide SameRun Precedes move_follows (first_gap settings.encoding strictly bits) _
-      (first_gap_follows settings.encoding bits)
+  precedes bits = readings_follow strictly leniently wide wide SameRun Precedes move_follows
+      (first_gap settings.encoding strictly bits) _ (first_gap_follows settings.encoding bits)
 
 pub ok_outcome : (bits : Bits) (r : Result Bits DecodeError) → IsOk (bytes_before bits r) → IsOk r
 ok_outcome bits r ok = grind (arith, common_steps)
@@ -161,12 +153,12 @@ strict_then_lenient settings bits are = elim (cases_eq settings.columns 0) [
       let no_columns : eqb settings.columns 0 ≡ true = eq-eqb settings.columns 0 none in
       rw no_columns (([], refl), λ ok. refl)
   | inr not_none ↦
-      let wide : 0 < settings.columns = elim (cases_lt 0 settings.columns) [ inl lt ↦ lt | inr ge ↦ absurd (not_none (omega arith)) ] in
+      let wide : 0 < settings.columns =
+      elim (cases_lt 0 settings.columns) [ inl lt ↦ lt | inr ge ↦ absurd (not_none (omega arith)) ] in
       let columns : eqb settings.columns 0 ≡ false = ne_eqb settings.columns 0 not_none in
       let both = precedes settings wide bits in
       rw columns (
         both.0,
-        λ ok. ap (whole_reading bits)
-            (both.1 (ok_outcome bits (end_of (record settings { strict = true }) bits).outcome ok)),
+        λ ok. ap (whole_reading bits) (both.1 (ok_outcome bits (end_of (record settings { strict = true }) bits).outcome ok)),
       )
 ]

@@ -1,21 +1,13 @@
 -- A run only adds rows.
-use Rattle.std.proofs.Common.{◌≡◌, ℕ, ◌-◌, ◌<◌, Bool, true, false, cond, not, ◌&&◌, ◌||◌, eqb, leb, List, [], ◌∷◌, ◌++◌, length, replicate, Option}
-use Rattle.std.proofs.Common.{Some, None, Ok, Err, refl, sym, ap, subst, ◌∙◌, append_assoc}
-use Rattle.std.proofs.lemmas.List.{append-nil}
-use Rattle.hayro_ccitt.specs.declared.error.DecodeError.TheVariants.{InvalidCode}
-use Rattle.hayro_ccitt.specs.declared.settings.DecodeSettings.{DecodeSettings}
-use Rattle.hayro_ccitt.specs.Bits.{Bits, IsPrefix}
-use Rattle.hayro_ccitt.specs.Repetition.{Turn, repeated}
-use Rattle.hayro_ccitt.specs.Rows.{Row}
-use Rattle.hayro_ccitt.specs.Lines.{Line}
-use Rattle.hayro_ccitt.specs.EndOfLine.{next_eol}
-use Rattle.hayro_ccitt.specs.PlainReading.{eols_of_end, Progress, Ending, Move, row_before, aligned, ends_with}
-use Rattle.hayro_ccitt.specs.PlainReading.{limit_met, at_end, eols_here, line_here}
-use Rattle.hayro_ccitt.specs.PlainReading.{after_line, move_on, at_front, first_gap}
-use Rattle.hayro_ccitt.specs.declared.settings.EncodingMode.{EncodingMode}
-use Rattle.hayro_ccitt.specs.declared.settings.EncodingMode.TheVariants.{Group4, Group3_1D, Group3_2D}
+use Rattle.hayro_ccitt.proofs.Names.{◌≡◌, ℕ, ◌-◌, ◌<◌, Bool, true, false, cond, not, ◌&&◌, ◌||◌, eqb, leb, List, [], ◌∷◌, ◌++◌}
+use Rattle.hayro_ccitt.proofs.Names.{length, replicate, Option, Some, None, Ok, Err, refl, sym, ap, subst, ◌∙◌, append_assoc}
+use Rattle.hayro_ccitt.proofs.Names.{append-nil, InvalidCode, DecodeSettings, Bits, IsPrefix, Turn, repeated, Row, Line, next_eol}
+use Rattle.hayro_ccitt.proofs.Names.{eols_of_end, Progress, Ending, Move, row_before, aligned, ends_with, limit_met, at_end}
+use Rattle.hayro_ccitt.proofs.Names.{eols_here, line_here, after_line, move_on, at_front, first_gap, EncodingMode, Group4}
+use Rattle.hayro_ccitt.proofs.Names.{Group3_1D, Group3_2D}
 use Rattle.hayro_ccitt.proofs.Readings.Repeated.{Shrinks, repeated_induct}
-use Rattle.hayro_ccitt.proofs.Readings.RowsAndGaps.{unless_over, seek_from, seek_eol, after_row, row_added, pass_gap-is, after_whole-is, after_damage-is}
+use Rattle.hayro_ccitt.proofs.Readings.RowsAndGaps.{unless_over, seek_from, seek_eol, after_row, row_added, pass_gap-is}
+use Rattle.hayro_ccitt.proofs.Readings.RowsAndGaps.{after_whole-is, after_damage-is}
 
 -- a turn that leaves the rows as they are
 abbrev pub Keeps : List Row → Move → Type 0
@@ -27,10 +19,11 @@ keeps_cond rows true x y p q = p
 keeps_cond rows false x y p q = q
 
 -- the rows so far don't change
-pub unless_over_keeps : (settings : DecodeSettings) (run : Progress) (found : ℕ × Bits) → Keeps run.rows (unless_over settings run found)
+pub unless_over_keeps : (settings : DecodeSettings) (run : Progress) (found : ℕ × Bits)
+    → Keeps run.rows (unless_over settings run found)
 unless_over_keeps settings run (count, rest) =
-    keeps_cond run.rows (((settings.end_of_block && leb (eols_of_end settings.encoding) count) || limit_met settings (length run.rows)) || at_end rest) (ends_with run (Ok rest))
-    (Turn.next (record run { rest = rest })) refl refl
+    keeps_cond run.rows (((settings.end_of_block && leb (eols_of_end settings.encoding) count) || limit_met settings
+    (length run.rows)) || at_end rest) (ends_with run (Ok rest)) (Turn.next (record run { rest = rest })) refl refl
 
 -- and where an EOL is looked for
 pub seek_from_keeps : (settings : DecodeSettings) (run : Progress) (o : Option Bits) → Keeps run.rows (seek_from settings run o)
@@ -40,15 +33,16 @@ seek_from_keeps settings run (Some found) = unless_over_keeps settings run (eols
 -- and after a row
 pub after_row_keeps : (settings : DecodeSettings) (run : Progress) → Keeps run.rows (after_row settings run)
 after_row_keeps settings run =
-    keeps_cond run.rows ((((eqb (eols_here settings run.rest).0 0) && run.has_eols) && not (limit_met settings (length run.rows))) && not
-    (at_end run.rest)) (seek_eol settings run) (unless_over settings run (eols_here settings run.rest))
+    keeps_cond run.rows ((((eqb (eols_here settings run.rest).0 0) && run.has_eols) && not (limit_met settings (length run.rows)))
+    && not (at_end run.rest)) (seek_eol settings run) (unless_over settings run (eols_here settings run.rest))
     (keeps_cond run.rows settings.strict (ends_with run (Err InvalidCode)) (seek_from settings run (next_eol run.rest)) refl
-    (seek_from_keeps settings run (next_eol run.rest)))
-    (unless_over_keeps settings run (eols_here settings run.rest))
+    (seek_from_keeps settings run (next_eol run.rest))) (unless_over_keeps settings run (eols_here settings run.rest))
 
 -- the first gap leaves no rows
-pub first_gap_keeps : (settings : DecodeSettings) (encoding : EncodingMode) (bits : Bits) → Keeps [] (first_gap encoding settings bits)
-first_gap_keeps settings Group4 bits = subst (Keeps []) (sym (pass_gap-is settings (at_front bits))) (after_row_keeps settings (at_front bits))
+pub first_gap_keeps : (settings : DecodeSettings) (encoding : EncodingMode) (bits : Bits)
+    → Keeps [] (first_gap encoding settings bits)
+first_gap_keeps settings Group4 bits =
+    subst (Keeps []) (sym (pass_gap-is settings (at_front bits))) (after_row_keeps settings (at_front bits))
 first_gap_keeps settings Group3_1D bits = refl
 first_gap_keeps settings Group3_2D bits = refl
 
@@ -67,13 +61,17 @@ keeps_adds rows more (Turn.done e) k = (more, k)
 
 after_line_adds : (settings : DecodeSettings) (run : Progress) (line : Line) → Adds run.rows (after_line settings run line)
 after_line_adds settings run (Line.whole row rest) =
-    subst (Adds run.rows) (sym (after_whole-is settings run row rest)) (keeps_adds run.rows (row ∷ []) _ (after_row_keeps settings
-    (record run { rows = run.rows ++ row ∷ []; rest = cond (settings.rows_are_byte_aligned && not run.has_eols) (aligned rest) rest })))
+    subst (Adds run.rows)
+    (sym (after_whole-is settings run row rest)) (keeps_adds run.rows (row ∷ []) _ (after_row_keeps settings (record run
+    { rows = run.rows ++ row ∷ []; rest = cond (settings.rows_are_byte_aligned && not run.has_eols) (aligned rest) rest })))
 after_line_adds settings run (Line.broken front fault) =
     let row : Row = front ++ replicate (settings.columns - length front) false in
-    subst (Adds run.rows) (sym (after_damage-is settings run front fault)) (adds_cond run.rows (settings.strict || not run.has_eols) (ends_with run (Err fault)) (row_added settings run row run.rest) ([], sym (append-nil run.rows))
-    (keeps_adds run.rows (row ∷ []) _ (after_row_keeps settings
-    (record run { rows = run.rows ++ row ∷ []; rest = cond (settings.rows_are_byte_aligned && not run.has_eols) (aligned run.rest) run.rest }))))
+    subst (Adds run.rows) (sym (after_damage-is settings run front fault))
+    (adds_cond run.rows (settings.strict || not run.has_eols) (ends_with run (Err fault)) (row_added settings run row run.rest)
+    ([], sym (append-nil run.rows)) (keeps_adds run.rows (row ∷ []) _ (after_row_keeps settings (record run {
+      rows = run.rows ++ row ∷ [];
+      rest = cond (settings.rows_are_byte_aligned && not run.has_eols) (aligned run.rest) run.rest;
+    }))))
 
 -- a turn adds a row, or ends
 pub move_adds : (settings : DecodeSettings) (run : Progress) → Adds run.rows (move_on settings run)
@@ -84,8 +82,8 @@ pub prefix_trans : {A : Type 0} (a b c : List A) → IsPrefix a b → IsPrefix b
 prefix_trans a b c f g = (f.0 ++ g.0, g.1 ∙ ap (λ (x : List _). x ++ g.0) f.1 ∙ append_assoc a f.0 g.0)
 
 -- the rows of a state are a prefix of the result's
-pub repeated_adds : (move : Progress → Move) (late : Ending) (size : Progress → ℕ) → Shrinks move size → ((run : Progress) → Adds run.rows (move run))
-    → (n : ℕ) (run : Progress) → size run < n → IsPrefix run.rows (repeated move late n run).rows
+pub repeated_adds : (move : Progress → Move) (late : Ending) (size : Progress → ℕ) → Shrinks move size → ((run : Progress)
+    → Adds run.rows (move run)) → (n : ℕ) (run : Progress) → size run < n → IsPrefix run.rows (repeated move late n run).rows
 repeated_adds move late size shrinks adds n run lt =
-    repeated_induct move late size shrinks (λ run end. IsPrefix run.rows end.rows) (λ run end e. subst (Adds run.rows) e (adds run))
-    (λ run t end e more. prefix_trans run.rows t.rows end.rows (subst (Adds run.rows) e (adds run)) more) n run lt
+    repeated_induct move late size shrinks (λ run end. IsPrefix run.rows end.rows) (λ run end e. subst (Adds run.rows) e
+    (adds run)) (λ run t end e more. prefix_trans run.rows t.rows end.rows (subst (Adds run.rows) e (adds run)) more) n run lt

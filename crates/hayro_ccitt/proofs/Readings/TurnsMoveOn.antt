@@ -1,21 +1,13 @@
 -- Each line of a run moves the offset on.
-use Rattle.std.proofs.Common.{◌≡◌, ℕ, zero, suc, ◌+◌, ◌-◌, ◌%◌, ◌<◌, ◌≤◌, Bool, true, false, cond, not, ◌&&◌, ◌||◌, eqb, leb, [], ◌∷◌, ◌++◌}
-use Rattle.std.proofs.Common.{length, replicate, Option, Some, None, Result, Ok, Err, refl, sym, ap, subst, ◌∙◌, arith, ◌⊎◌, inl, inr}
-use Rattle.std.proofs.lemmas.List.{length-drop}
-use Rattle.std.proofs.lemmas.Bool.{cases_lt, not-false, and_parts, and_cases, or_parts, false≢true, le-leb, lt-leb, eqb-false}
-use Rattle.hayro_ccitt.specs.declared.error.DecodeError.{DecodeError}
-use Rattle.hayro_ccitt.specs.declared.settings.DecodeSettings.{DecodeSettings}
-use Rattle.hayro_ccitt.specs.Bits.{Bits}
-use Rattle.hayro_ccitt.specs.Repetition.{Turn}
-use Rattle.hayro_ccitt.specs.Rows.{Row}
-use Rattle.hayro_ccitt.specs.declared.settings.EncodingMode.{EncodingMode}
-use Rattle.hayro_ccitt.specs.declared.settings.EncodingMode.TheVariants.{Group4, Group3_1D, Group3_2D}
-use Rattle.hayro_ccitt.specs.declared.error.DecodeError.TheVariants.{InvalidCode}
-use Rattle.hayro_ccitt.specs.Lines.{Line, line_1d, line_2d}
-use Rattle.hayro_ccitt.specs.EndOfLine.{after_eol, one_more, eols, all_eols, next_eol, past_tag, eols_with_tags, pass_last_tag, tagged_eols}
-use Rattle.hayro_ccitt.specs.PlainReading.{eols_of_end, Progress, Ending, Move, row_before, aligned, ends_with, limit_met, at_end, line_by, eols_by, eols_here, line_here, after_line, move_on}
-use Rattle.hayro_ccitt.proofs.Readings.Repeated.{Shrinks}
-use Rattle.hayro_ccitt.proofs.CodeWords.ReadRuns.{chosen}
+use Rattle.hayro_ccitt.proofs.Names.{◌≡◌, ℕ, zero, suc, ◌+◌, ◌-◌, ◌%◌, ◌<◌, ◌≤◌, Bool, true, false, cond, not, ◌&&◌, ◌||◌, eqb}
+use Rattle.hayro_ccitt.proofs.Names.{leb, [], ◌∷◌, ◌++◌, length, replicate, Option, Some, None, Result, Ok, Err, refl, sym, ap}
+use Rattle.hayro_ccitt.proofs.Names.{subst, ◌∙◌, arith, ◌⊎◌, inl, inr, length-drop, cases_lt, not-false, and_parts, and_cases}
+use Rattle.hayro_ccitt.proofs.Names.{or_parts, false≢true, le-leb, lt-leb, eqb-false, DecodeError, DecodeSettings, Bits, Turn}
+use Rattle.hayro_ccitt.proofs.Names.{Row, EncodingMode, Group4, Group3_1D, Group3_2D, InvalidCode, Line, line_1d, line_2d}
+use Rattle.hayro_ccitt.proofs.Names.{after_eol, one_more, eols, all_eols, next_eol, past_tag, eols_with_tags, pass_last_tag}
+use Rattle.hayro_ccitt.proofs.Names.{tagged_eols, eols_of_end, Progress, Ending, Move, row_before, aligned, ends_with, limit_met}
+use Rattle.hayro_ccitt.proofs.Names.{at_end, line_by, eols_by, eols_here, line_here, after_line, move_on}
+use Rattle.hayro_ccitt.proofs.{CodeWords.ReadRuns.chosen, Readings.Repeated.Shrinks}
 use Rattle.hayro_ccitt.proofs.DrawingLines.ReadLines.{TookBits, line_1d_took_bits, line_2d_took_bits}
 use Rattle.hayro_ccitt.proofs.Readings.RowsAndGaps.{unless_over, seek_from, seek_eol, after_row, after_whole-is, after_damage-is}
 
@@ -41,12 +33,13 @@ length-one_more (count, here) = refl
 pub eols_shorter : (most : ℕ) (here : Bits) → length (eols most here).1 ≤ length here
 eols_shorter zero here = omega arith
 eols_shorter (suc most) here =
-    let by : (o : Option Bits) → after_eol 0 here ≡ o → length (eols (suc most) here).1 ≤ length here
+    let by_after_eol : (o : Option Bits) → after_eol 0 here ≡ o → length (eols (suc most) here).1 ≤ length here
     = λ o. elim o as (λ (o : Option Bits). after_eol 0 here ≡ o → length (eols (suc most) here).1 ≤ length here) [
       | None ↦ λ e. rw (e, eols) (omega arith)
-      | Some rest ↦ λ e. rw (e, eols) (omega (arith, length-one_more (eols most rest), eols_shorter most rest, after_eol_shorter 0 here rest e))
+      | Some rest ↦ λ e. rw (e, eols)
+          (omega (arith, length-one_more (eols most rest), eols_shorter most rest, after_eol_shorter 0 here rest e))
     ] in
-    by (after_eol 0 here) refl
+    by_after_eol (after_eol 0 here) refl
 
 -- states of equal turns are equal
 pub next_is : (s t : Progress) → ◌≡◌ {A = Move} (Turn.next s) (Turn.next t) → s ≡ t
@@ -82,40 +75,46 @@ eols-none (suc most) here e = rw (e, eols) refl
 -- each EOL moves the offset on
 pub eols_moves : (most : ℕ) (here : Bits) → 0 < (eols most here).0 → length (eols most here).1 < length here
 eols_moves zero here some = absurd (omega arith)
-eols_moves (suc most) here some = by (after_eol 0 here) refl
+eols_moves (suc most) here some = by_after_eol (after_eol 0 here) refl
   where
-    by : (o : Option Bits) → after_eol 0 here ≡ o → length (eols (suc most) here).1 < length here
-    by None e = absurd (let f : eols (suc most) here ≡ (0, here) = eols-none (suc most) here e in omega (arith, ap (λ (x : ℕ × Bits). x.0) f, some))
-    by (Some rest) e = rw (eols-some most here rest e)
+    by_after_eol : (o : Option Bits) → after_eol 0 here ≡ o → length (eols (suc most) here).1 < length here
+    by_after_eol None e = absurd (let f : eols (suc most) here ≡ (0, here) = eols-none
+        (suc most) here e in omega (arith, ap (λ (x : ℕ × Bits). x.0) f, some))
+    by_after_eol (Some rest) e = rw (eols-some most here rest e)
         (omega (arith, length-one_more (eols most rest), eols_shorter most rest, after_eol_shorter 0 here rest e))
 
 -- if the next EOL was found, there is one
-pub next_eol_found : (here found : Bits) → next_eol here ≡ Some found → (length found ≤ length here) × ((after : Bits) × (after_eol 0 found ≡ Some after))
+pub next_eol_found : (here found : Bits) → next_eol here ≡ Some found → (length found ≤ length here)
+    × ((after : Bits) × (after_eol 0 found ≡ Some after))
 next_eol_found [] found e = absurd cc
-next_eol_found (bit ∷ here) found e = by (next_eol_found here found) (after_eol 0 (bit ∷ here)) refl
+next_eol_found (bit ∷ here) found e = by_after_eol (next_eol_found here found) (after_eol 0 (bit ∷ here)) refl
   where
-    by : (next_eol here ≡ Some found → (length found ≤ length here) × ((after : Bits) × (after_eol 0 found ≡ Some after)))
-        → (o : Option Bits) → after_eol 0 (bit ∷ here) ≡ o → (length found ≤ length (bit ∷ here)) × ((after : Bits) × (after_eol 0 found ≡ Some after))
-    by on None f = let g : next_eol here ≡ Some found = rw (f, next_eol) at e in let h = on g in (omega (arith, h.0), h.1)
-    by on (Some rest) f =
+    by_after_eol : (next_eol here ≡ Some found → (length found ≤ length here)
+        × ((after : Bits) × (after_eol 0 found ≡ Some after))) → (o : Option Bits) → after_eol 0 (bit ∷ here) ≡ o
+        → (length found ≤ length (bit ∷ here)) × ((after : Bits) × (after_eol 0 found ≡ Some after))
+    by_after_eol on None f = let g : next_eol here ≡ Some found = rw (f, next_eol) at e in let h = on g in
+        (omega (arith, h.0), h.1)
+    by_after_eol on (Some rest) f =
         let g : ◌≡◌ {A = Option Bits} (Some (bit ∷ here)) (Some found) = rw (f, next_eol) at e in
         let same : (bit ∷ here) ≡ found = cc in
-        subst (λ (x : Bits). (length x ≤ length (bit ∷ here)) × ((after : Bits) × (after_eol 0 x ≡ Some after))) same (omega arith, (rest, f))
+        subst (λ (x : Bits). (length x ≤ length (bit ∷ here)) × ((after : Bits) × (after_eol 0 x ≡ Some after))) same
+        (omega arith, (rest, f))
 
 -- an EOL that is there is counted
 pub eols_some_counts : (here rest : Bits) → after_eol 0 here ≡ Some rest → 0 < (all_eols here).0
 eols_some_counts [] rest e = absurd cc
-eols_some_counts (bit ∷ here) rest e = rw (eols-some (length here) (bit ∷ here) rest e) (omega (arith, one_more-count (eols (length here) rest)))
+eols_some_counts (bit ∷ here) rest e =
+    rw (eols-some (length here) (bit ∷ here) rest e) (omega (arith, one_more-count (eols (length here) rest)))
 
 -- a tag is consumed, or nothing
 pub past_tag_shorter : (here : Bits) → length (past_tag here) ≤ length here
 past_tag_shorter [] = omega arith
 past_tag_shorter (false ∷ here) = omega arith
-past_tag_shorter (true ∷ here) = by (after_eol 0 here) refl
+past_tag_shorter (true ∷ here) = by_after_eol (after_eol 0 here) refl
   where
-    by : (o : Option Bits) → after_eol 0 here ≡ o → length (past_tag (true ∷ here)) ≤ length (true ∷ here)
-    by None e = rw (e, past_tag) (omega arith)
-    by (Some rest) e = rw (e, past_tag) (omega arith)
+    by_after_eol : (o : Option Bits) → after_eol 0 here ≡ o → length (past_tag (true ∷ here)) ≤ length (true ∷ here)
+    by_after_eol None e = rw (e, past_tag) (omega arith)
+    by_after_eol (Some rest) e = rw (e, past_tag) (omega arith)
 
 -- if there is an EOL, the count of EOLs with their tags is that of those after it and its tag, and one more
 pub eols_with_tags-some : (most : ℕ) (here rest : Bits) → after_eol 0 here ≡ Some rest
@@ -129,22 +128,29 @@ eols_with_tags-none (suc most) here e = rw (e, eols_with_tags) refl
 
 pub eols_with_tags_shorter : (most : ℕ) (here : Bits) → length (eols_with_tags most here).1 ≤ length here
 eols_with_tags_shorter zero here = omega arith
-eols_with_tags_shorter (suc most) here = by (λ rest. eols_with_tags_shorter most rest) (after_eol 0 here) refl
+eols_with_tags_shorter (suc most) here = by_after_eol (λ rest. eols_with_tags_shorter most rest) (after_eol 0 here) refl
   where
-    by : ((rest : Bits) → length (eols_with_tags most rest).1 ≤ length rest) → (o : Option Bits) → after_eol 0 here ≡ o
+    by_after_eol : ((rest : Bits) → length (eols_with_tags most rest).1 ≤ length rest) → (o : Option Bits) → after_eol 0 here ≡ o
         → length (eols_with_tags (suc most) here).1 ≤ length here
-    by on None e = rw (eols_with_tags-none (suc most) here e) (omega arith)
-    by on (Some rest) e = rw (eols_with_tags-some most here rest e)
-        (omega (arith, length-one_more (eols_with_tags most (past_tag rest)), on (past_tag rest), past_tag_shorter rest, after_eol_shorter 0 here rest e))
+    by_after_eol on None e = rw (eols_with_tags-none (suc most) here e) (omega arith)
+    by_after_eol on (Some rest) e = rw (eols_with_tags-some most here rest e) (omega (
+      arith,
+      length-one_more (eols_with_tags most (past_tag rest)),
+      on (past_tag rest),
+      past_tag_shorter rest,
+      after_eol_shorter 0 here rest e,
+    ))
 
 -- each of them moves the offset on
-eols_with_tags_moves : (most : ℕ) (here : Bits) → 0 < (eols_with_tags most here).0 → length (eols_with_tags most here).1 < length here
+eols_with_tags_moves : (most : ℕ) (here : Bits) → 0 < (eols_with_tags most here).0
+    → length (eols_with_tags most here).1 < length here
 eols_with_tags_moves zero here some = absurd (omega arith)
-eols_with_tags_moves (suc most) here some = by (after_eol 0 here) refl
+eols_with_tags_moves (suc most) here some = by_after_eol (after_eol 0 here) refl
   where
-    by : (o : Option Bits) → after_eol 0 here ≡ o → length (eols_with_tags (suc most) here).1 < length here
-    by None e = absurd (let f = eols_with_tags-none (suc most) here e in omega (arith, ap (λ (x : ℕ × Bits). x.0) f, some))
-    by (Some rest) e =
+    by_after_eol : (o : Option Bits) → after_eol 0 here ≡ o → length (eols_with_tags (suc most) here).1 < length here
+    by_after_eol None e =
+        absurd (let f = eols_with_tags-none (suc most) here e in omega (arith, ap (λ (x : ℕ × Bits). x.0) f, some))
+    by_after_eol (Some rest) e =
         rw (eols_with_tags-some most here rest e) (omega (
           arith,
           length-one_more (eols_with_tags most (past_tag rest)),
@@ -156,20 +162,20 @@ eols_with_tags_moves (suc most) here some = by (after_eol 0 here) refl
 pub last_tag_count : (found : ℕ × Bits) → (pass_last_tag found).0 ≡ found.0
 last_tag_count (count, []) = refl
 last_tag_count (count, false ∷ here) = refl
-last_tag_count (count, true ∷ here) = by (leb 6 count)
+last_tag_count (count, true ∷ here) = either_way (leb 6 count)
   where
-    by : (b : Bool) → (cond {A = ℕ × Bits} b (count, here) (count, true ∷ here)).0 ≡ count
-    by true = refl
-    by false = refl
+    either_way : (b : Bool) → (cond {A = ℕ × Bits} b (count, here) (count, true ∷ here)).0 ≡ count
+    either_way true = refl
+    either_way false = refl
 
 pub last_tag_shorter : (found : ℕ × Bits) → length (pass_last_tag found).1 ≤ length found.1
 last_tag_shorter (count, []) = omega arith
 last_tag_shorter (count, false ∷ here) = omega arith
-last_tag_shorter (count, true ∷ here) = by (leb 6 count)
+last_tag_shorter (count, true ∷ here) = either_way (leb 6 count)
   where
-    by : (b : Bool) → length (cond {A = ℕ × Bits} b (count, here) (count, true ∷ here)).1 ≤ length (true ∷ here)
-    by true = omega arith
-    by false = omega arith
+    either_way : (b : Bool) → length (cond {A = ℕ × Bits} b (count, here) (count, true ∷ here)).1 ≤ length (true ∷ here)
+    either_way true = omega arith
+    either_way false = omega arith
 
 -- counting EOLs leaves at most the bits that were there, and fewer where one came
 abbrev pub Counted : Bits → ℕ × Bits → Type 0
@@ -188,50 +194,56 @@ tagged_eols_counted here =
 
 -- that many EOLs consumed bits
 pub eols_here_counted : (settings : DecodeSettings) (here : Bits) → Counted here (eols_here settings here)
-eols_here_counted settings here = by settings.encoding settings.end_of_block
+eols_here_counted settings here = by_encoding settings.encoding settings.end_of_block
   where
-    by : (encoding : EncodingMode) (block : Bool) → Counted here (eols_by encoding block here)
-    by Group3_1D block = all_counted here
-    by Group3_2D block = tagged_eols_counted here
-    by Group4 true = (eols_shorter 2 here, eols_moves 2 here)
-    by Group4 false = all_counted here
+    by_encoding : (encoding : EncodingMode) (block : Bool) → Counted here (eols_by encoding block here)
+    by_encoding Group3_1D block = all_counted here
+    by_encoding Group3_2D block = tagged_eols_counted here
+    by_encoding Group4 true = (eols_shorter 2 here, eols_moves 2 here)
+    by_encoding Group4 false = all_counted here
 
 tagged_eols_some_counts : (here rest : Bits) → after_eol 0 here ≡ Some rest → 0 < (tagged_eols here).0
 tagged_eols_some_counts [] rest e = absurd cc
 tagged_eols_some_counts (bit ∷ here) rest e =
     let found : ℕ × Bits = eols_with_tags (length here) (past_tag rest) in
-    rw (eols_with_tags-some (length here) (bit ∷ here) rest e) (omega (arith, last_tag_count (one_more found), one_more-count found))
+    rw (eols_with_tags-some (length here) (bit ∷ here) rest e)
+    (omega (arith, last_tag_count (one_more found), one_more-count found))
 
 -- if there is an EOL, one is counted
-pub eols_here_some : (settings : DecodeSettings) (here rest : Bits) → after_eol 0 here ≡ Some rest → 0 < (eols_here settings here).0
-eols_here_some settings here rest e = by settings.encoding settings.end_of_block
+pub eols_here_some : (settings : DecodeSettings) (here rest : Bits) → after_eol 0 here ≡ Some rest
+    → 0 < (eols_here settings here).0
+eols_here_some settings here rest e = by_encoding settings.encoding settings.end_of_block
   where
-    by : (encoding : EncodingMode) (block : Bool) → 0 < (eols_by encoding block here).0
-    by Group3_1D block = eols_some_counts here rest e
-    by Group3_2D block = tagged_eols_some_counts here rest e
-    by Group4 true = omega (arith, ap (λ (found : ℕ × Bits). found.0) (eols-some 1 here rest e), one_more-count (eols 1 rest))
-    by Group4 false = eols_some_counts here rest e
+    by_encoding : (encoding : EncodingMode) (block : Bool) → 0 < (eols_by encoding block here).0
+    by_encoding Group3_1D block = eols_some_counts here rest e
+    by_encoding Group3_2D block = tagged_eols_some_counts here rest e
+    by_encoding Group4 true =
+        omega (arith, ap (λ (found : ℕ × Bits). found.0) (eols-some 1 here rest e), one_more-count (eols 1 rest))
+    by_encoding Group4 false = eols_some_counts here rest e
 
 -- what is left of a run: its bits, and one more while EOLs are sought
 abbrev pub left_to_read : Progress → ℕ
 left_to_read run = cond run.has_eols (suc (length run.rest)) (length run.rest)
 
 -- if the reading continues, it does so after the EOLs
-pub unless_over_next : (settings : DecodeSettings) (run t : Progress) (found : ℕ × Bits) → unless_over settings run found ≡ Turn.next t
-    → ◌≡◌ {A = Progress} (record run { rest = found.1 }) t
+pub unless_over_next : (settings : DecodeSettings) (run t : Progress) (found : ℕ × Bits)
+    → unless_over settings run found ≡ Turn.next t → ◌≡◌ {A = Progress} (record run { rest = found.1 }) t
 unless_over_next settings run t (count, rest) e =
-    next_is _ t (unless_next (((settings.end_of_block && leb (eols_of_end settings.encoding) count) || limit_met settings (length run.rows)) || at_end rest) run (Ok rest)
-    (Turn.next (record run { rest = rest })) t e)
+    next_is _ t (unless_next (((settings.end_of_block && leb (eols_of_end settings.encoding) count) || limit_met settings
+    (length run.rows)) || at_end rest) run (Ok rest) (Turn.next (record run { rest = rest })) t e)
 
 -- a run continues neither at its limit nor at the end
-pub unless_over_open : (settings : DecodeSettings) (run t : Progress) (found : ℕ × Bits) → unless_over settings run found ≡ Turn.next t
-    → (limit_met settings (length run.rows) ≡ false) × (at_end found.1 ≡ false)
+pub unless_over_open : (settings : DecodeSettings) (run t : Progress) (found : ℕ × Bits)
+    → unless_over settings run found ≡ Turn.next t → (limit_met settings (length run.rows) ≡ false) × (at_end found.1 ≡ false)
 unless_over_open settings run t (count, rest) e =
-    elim (chosen (((settings.end_of_block && leb (eols_of_end settings.encoding) count) || limit_met settings (length run.rows)) || at_end rest) _ _ _ e) [
+    elim (chosen (((settings.end_of_block && leb (eols_of_end settings.encoding) count) || limit_met settings (length run.rows))
+    || at_end rest) _ _ _ e) [
       | inl a ↦ absurd (not_next _ t a.1)
       | inr a ↦
-          let b = or_parts ((settings.end_of_block && leb (eols_of_end settings.encoding) count) || limit_met settings (length run.rows)) (at_end rest) a.0 in
-          let c = or_parts (settings.end_of_block && leb (eols_of_end settings.encoding) count) (limit_met settings (length run.rows)) b.0 in
+          let b = or_parts ((settings.end_of_block && leb (eols_of_end settings.encoding) count) || limit_met settings
+          (length run.rows)) (at_end rest) a.0 in
+          let c = or_parts (settings.end_of_block && leb (eols_of_end settings.encoding) count)
+          (limit_met settings (length run.rows)) b.0 in
           (c.1, b.1)
     ]
 
@@ -251,49 +263,54 @@ seek_left settings run t (Some found) h e k =
     subst (λ (r : Progress). left_to_read r ≤ length run.rest) (unless_over_next settings run t (eols_here settings found) k)
     (rw h (omega (arith, f.0, g.1 (eols_here_some settings found f.1.0 f.1.1))))
 
-seek_eol_next : (settings : DecodeSettings) (run t : Progress) → seek_eol settings run ≡ Turn.next t → seek_from settings run (next_eol run.rest) ≡ Turn.next t
-seek_eol_next settings run t e = unless_next settings.strict run (Err InvalidCode) (seek_from settings run (next_eol run.rest)) t e
+seek_eol_next : (settings : DecodeSettings) (run t : Progress) → seek_eol settings run ≡ Turn.next t
+    → seek_from settings run (next_eol run.rest) ≡ Turn.next t
+seek_eol_next settings run t e =
+    unless_next settings.strict run (Err InvalidCode) (seek_from settings run (next_eol run.rest)) t e
 
 at_end_length : (rest : Bits) → at_end rest ≡ false → 0 < length rest
 at_end_length [] e = absurd (false≢true (sym e))
 at_end_length (b ∷ rest) e = omega arith
 
 left_least : (run : Progress) → length run.rest ≤ left_to_read run
-left_least run = by run.has_eols
+left_least run = either_way run.has_eols
   where
-    by : (b : Bool) → length run.rest ≤ cond b (suc (length run.rest)) (length run.rest)
-    by true = omega arith
-    by false = omega arith
+    either_way : (b : Bool) → length run.rest ≤ cond b (suc (length run.rest)) (length run.rest)
+    either_way true = omega arith
+    either_way false = omega arith
 
 took_more : (line : Line) (n : ℕ) → TookBits n line → TookBits (suc n) line
 took_more (Line.whole row rest) n took = omega arith
 took_more (Line.broken front fault) n took = tt
 
 -- if a run continues without seeking an EOL, one came or none are sought
-went_on : (settings : DecodeSettings) (run : Progress) (found : ℕ × Bits) → Counted run.rest found → limit_met settings (length run.rows) ≡ false
-    → at_end found.1 ≡ false
-    → (((eqb found.0 0 && run.has_eols) && not (limit_met settings (length run.rows))) && not (at_end run.rest)) ≡ false → (0 < found.0)
-    ⊎ (run.has_eols ≡ false)
+went_on : (settings : DecodeSettings) (run : Progress) (found : ℕ × Bits) → Counted run.rest found
+    → limit_met settings (length run.rows) ≡ false → at_end found.1 ≡ false → (((eqb found.0 0 && run.has_eols)
+    && not (limit_met settings (length run.rows))) && not (at_end run.rest)) ≡ false → (0 < found.0) ⊎ (run.has_eols ≡ false)
 went_on settings run found counted open_limit open_end e =
     elim (and_cases ((eqb found.0 0 && run.has_eols) && not (limit_met settings (length run.rows))) (not (at_end run.rest)) e) [
       | inl a ↦ elim (and_cases (eqb found.0 0 && run.has_eols) (not (limit_met settings (length run.rows))) a) [
         | inl b ↦ elim (and_cases (eqb found.0 0) run.has_eols b) [
-          | inl c ↦ let d = eqb-false found.0 0 c in elim (cases_lt 0 found.0) [ inl lt ↦ inl lt | inr ge ↦ absurd (d (omega arith)) ]
+          | inl c ↦ let d = eqb-false found.0 0 c in
+              elim (cases_lt 0 found.0) [ inl lt ↦ inl lt | inr ge ↦ absurd (d (omega arith)) ]
           | inr c ↦ inr c
         ]
         | inr b ↦ absurd (false≢true (sym b ∙ rw open_limit refl))
       ]
-      | inr a ↦ absurd (let b = not_at_end run.rest (not-false (at_end run.rest) a) in omega (arith, b, counted.0, at_end_length found.1 open_end))
+      | inr a ↦ absurd (let b = not_at_end run.rest
+          (not-false (at_end run.rest) a) in omega (arith, b, counted.0, at_end_length found.1 open_end))
     ]
 
 -- the EOLs after a row leave less than there was before its line: it consumed bits, or EOLs are sought
-pub after_row_next : (settings : DecodeSettings) (run t : Progress) (n : ℕ) → after_row settings run ≡ Turn.next t → length run.rest < n → left_to_read t < n
-after_row_next settings run t n e small = elim
-    (chosen ((((eqb (eols_here settings run.rest).0 0) && run.has_eols) && not (limit_met settings (length run.rows))) && not (at_end run.rest)) _ _ _ e) [
+pub after_row_next : (settings : DecodeSettings) (run t : Progress) (n : ℕ) → after_row settings run ≡ Turn.next t
+    → length run.rest < n → left_to_read t < n
+after_row_next settings run t n e small = elim (chosen ((((eqb (eols_here settings run.rest).0 0) && run.has_eols) && not
+    (limit_met settings (length run.rows))) && not (at_end run.rest)) _ _ _ e) [
       | inl a ↦
-          let b = (and_parts ((eqb (eols_here settings run.rest).0 0 && run.has_eols) && not (limit_met settings (length run.rows)))
-          (not (at_end run.rest)) a.0).0 in
-          let c = (and_parts (eqb (eols_here settings run.rest).0 0 && run.has_eols) (not (limit_met settings (length run.rows))) b).0 in
+          let b = (and_parts ((eqb (eols_here settings run.rest).0 0 && run.has_eols) && not
+          (limit_met settings (length run.rows))) (not (at_end run.rest)) a.0).0 in
+          let c = (and_parts (eqb (eols_here settings run.rest).0 0 && run.has_eols)
+          (not (limit_met settings (length run.rows))) b).0 in
           let d = (and_parts (eqb (eols_here settings run.rest).0 0) run.has_eols c).1 in
           omega (arith, seek_left settings run t (next_eol run.rest) d refl (seek_eol_next settings run t a.1), small)
       | inr a ↦
@@ -327,8 +344,8 @@ after_line_next settings run t (Line.whole row rest) took e =
     let al : Bool = settings.rows_are_byte_aligned && not run.has_eols in
     let shorter : length (cond al (aligned rest) rest) ≤ length rest
     = cond_le al (aligned rest) rest (length rest) (omega (arith, length-drop (length rest % 8) rest)) (omega arith) in
-    after_row_next settings (record run { rows = run.rows ++ row ∷ []; rest = cond al (aligned rest) rest }) t (left_to_read run) (sym (after_whole-is settings run row rest) ∙ e)
-    (omega (arith, shorter, took, left_least run))
+    after_row_next settings (record run { rows = run.rows ++ row ∷ []; rest = cond al (aligned rest) rest }) t (left_to_read run)
+    (sym (after_whole-is settings run row rest) ∙ e) (omega (arith, shorter, took, left_least run))
 after_line_next settings run t (Line.broken front fault) took e =
     elim (chosen (settings.strict || not run.has_eols) _ _ _ (sym (after_damage-is settings run front fault) ∙ e)) [
       | inl a ↦ absurd (not_next _ t a.1)
@@ -340,8 +357,8 @@ after_line_next settings run t (Line.broken front fault) took e =
             rest =
                 cond al (aligned run.rest) run.rest;
           } in
-          let shorter : length (cond al (aligned run.rest) run.rest) ≤ length run.rest
-          = cond_le al (aligned run.rest) run.rest (length run.rest) (omega (arith, length-drop (length run.rest % 8) run.rest)) (omega arith) in
+          let shorter : length (cond al (aligned run.rest) run.rest) ≤ length run.rest = cond_le al (aligned run.rest) run.rest
+          (length run.rest) (omega (arith, length-drop (length run.rest % 8) run.rest)) (omega arith) in
           let left_is : left_to_read run ≡ suc (length run.rest) = rw sought refl in
           rw left_is (after_row_next settings more t (suc (length run.rest)) a.1 (omega (arith, shorter)))
     ]
@@ -355,11 +372,11 @@ move_shrinks settings wide run t e =
 
 -- a run is allowed more turns than that
 pub left_below : (run : Progress) → left_to_read run < suc (suc (length run.rest))
-left_below run = by run.has_eols
+left_below run = either_way run.has_eols
   where
-    by : (b : Bool) → cond b (suc (length run.rest)) (length run.rest) < suc (suc (length run.rest))
-    by true = omega arith
-    by false = omega arith
+    either_way : (b : Bool) → cond b (suc (length run.rest)) (length run.rest) < suc (suc (length run.rest))
+    either_way true = omega arith
+    either_way false = omega arith
 
 -- one EOL or none ends no data
 pub few_eols : (encoding : EncodingMode) (count : ℕ) → count < 2 → leb (eols_of_end encoding) count ≡ false

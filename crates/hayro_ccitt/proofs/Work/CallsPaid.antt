@@ -1,24 +1,11 @@
 -- Rows one at a time: what all calls of a reader of rows count is paid.
-use Rattle.std.specs.Prelude.{IfOk, OnOk, OnErr, sum_by}
-use Rattle.std.proofs.Common.{◌≡◌, ◌≢◌, ◌+◌, ◌*◌, ◌<◌, ◌≤◌, ℕ, Bool, true, false, length, take, drop, None, Result, Ok, Err, refl, sym, ap, ◌∙◌, arith}
-use Rattle.std.proofs.lemmas.Bool.{false≢true}
-use Rattle.std.proofs.lemmas.List.{length-drop}
-use Rattle.hayro_ccitt.specs.declared.error.DecodeError.{DecodeError}
-use Rattle.hayro_ccitt.specs.declared.row_reader.Stand.{Stand}
-use Rattle.hayro_ccitt.specs.declared.row_reader.Stand.TheVariants.{AtLine, BehindRow, AtEnd, AtFault}
-use Rattle.hayro_ccitt.specs.declared.settings.DecodeSettings.{DecodeSettings}
-use Rattle.hayro_ccitt.specs.declared.settings.EncodingMode.{EncodingMode}
-use Rattle.hayro_ccitt.specs.declared.settings.EncodingMode.TheVariants.{Group4, Group3_1D, Group3_2D}
-use Rattle.hayro_ccitt.specs.Bits.{Bits}
-use Rattle.hayro_ccitt.specs.Context.{Held, fresh}
-use Rattle.hayro_ccitt.specs.Decoding.{gap_said}
-use Rattle.hayro_ccitt.specs.PlainReading.{Gap, gap_behind_row}
-use Rattle.hayro_ccitt.specs.Rows.{changes}
-use Rattle.hayro_ccitt.specs.RowsRead.{IsPaid, PaidAtLine, PaidBehindRow, Stands, WorkIsPaid, ended, is_at_line, stand_after}
-use Rattle.hayro_ccitt.specs.Ticks.{looked, looked_ahead, tag_tests}
-use Rattle.hayro_ccitt.specs.Work.{CountsWork, found_here, most_counted, words_of}
-use Rattle.hayro_ccitt.proofs.Readings.RowsTaken.{most_counted_t4}
-use Rattle.hayro_ccitt.proofs.Work.ChangesStored.{changes_white}
+use Rattle.hayro_ccitt.proofs.Names.{IfOk, OnOk, OnErr, sum_by, ◌≡◌, ◌≢◌, ◌+◌, ◌*◌, ◌<◌, ◌≤◌, ℕ, Bool, true, false, length, take}
+use Rattle.hayro_ccitt.proofs.Names.{drop, None, Result, Ok, Err, refl, sym, ap, ◌∙◌, arith, false≢true, length-drop, DecodeError}
+use Rattle.hayro_ccitt.proofs.Names.{Stand, AtLine, BehindRow, AtEnd, AtFault, DecodeSettings, EncodingMode, Group4, Group3_1D}
+use Rattle.hayro_ccitt.proofs.Names.{Group3_2D, Bits, Held, fresh, gap_said, Gap, gap_behind_row, changes, IsPaid, PaidAtLine}
+use Rattle.hayro_ccitt.proofs.Names.{PaidBehindRow, ReaderStands, WorkIsPaid, ended, is_at_line, stand_after, looked}
+use Rattle.hayro_ccitt.proofs.Names.{looked_ahead, tag_tests, CountsWork, found_here, most_counted, words_of}
+use Rattle.hayro_ccitt.proofs.{Readings.RowsTaken.most_counted_t4, Work.ChangesStored.changes_white}
 use Rattle.hayro_ccitt.proofs.Work.EolsPassed.{few_tag_tests, line_has_bits, line_without_eols, looked_ahead_most, looked_most}
 use Rattle.hayro_ccitt.proofs.Work.TurnsPaid.{line_ends, missing_ends, gap_ends, turn_goes_on}
 
@@ -28,8 +15,7 @@ module _ (settings : DecodeSettings) (wide : 0 < settings.columns) (bits : Bits)
     (at : PaidAtLine settings bits held rest ticks) where
   -- there is enough for a line that fails
   pub failed_most : (now : ℕ) → now ≤ ticks + 4 * length (found_here settings held.reference rest) + 2
-      + length (changes held.reference)
-      → now ≤ most_counted settings.encoding (length bits)
+      + length (changes held.reference) → now ≤ most_counted settings.encoding (length bits)
   failed_most now line =
       omega (
         arith,
@@ -48,9 +34,8 @@ module _ (settings : DecodeSettings) (wide : 0 < settings.columns) (bits : Bits)
   row_most = failed_most settings wide bits behind.before behind.start behind.ticks_before behind.at_line ticks behind.line
 
 -- if a line is here, the account says so
-pub at_line_paid : (stand : Stand) (settings : DecodeSettings) (bits : Bits) (held : Held) (place ticks : ℕ)
-    → is_at_line stand ≡ true
-    → IsPaid stand settings bits held place ticks → PaidAtLine settings bits held (drop place bits) ticks
+pub at_line_paid : (stand : Stand) (settings : DecodeSettings) (bits : Bits) (held : Held) (place ticks : ℕ) → is_at_line stand
+    ≡ true → IsPaid stand settings bits held place ticks → PaidAtLine settings bits held (drop place bits) ticks
 at_line_paid AtLine settings bits held place ticks is paid = paid
 at_line_paid BehindRow settings bits held place ticks is paid = absurd (false≢true is)
 at_line_paid AtEnd settings bits held place ticks is paid = absurd (false≢true is)
@@ -58,8 +43,7 @@ at_line_paid (AtFault error) settings bits held place ticks is paid = absurd (fa
 
 -- so it does after a row
 pub behind_row_paid : (stand : Stand) (settings : DecodeSettings) (bits : Bits) (held : Held) (place ticks : ℕ)
-    → ended stand ≡ None
-    → is_at_line stand ≡ false → IsPaid stand settings bits held place ticks
+    → ended stand ≡ None → is_at_line stand ≡ false → IsPaid stand settings bits held place ticks
     → PaidBehindRow settings bits held (drop place bits) ticks
 behind_row_paid AtLine settings bits held place ticks unended no_line paid = absurd (false≢true (sym no_line))
 behind_row_paid BehindRow settings bits held place ticks unended no_line paid = paid
@@ -77,11 +61,11 @@ module _ (settings : DecodeSettings) (wide : 0 < settings.columns) (bits : Bits)
   -- EOLs are sought only where they were sought before
   still_sought : gap_behind_row settings held.taken held.has_eols rest ≡ Gap.line_at last.has_eols next → last.has_eols ≡ true
       → held.has_eols ≡ true
-  still_sought said is = by held.has_eols refl
+  still_sought said is = by_has_eols held.has_eols refl
     where
-      by : (b : Bool) → held.has_eols ≡ b → held.has_eols ≡ true
-      by true h_is = h_is
-      by false h_is =
+      by_has_eols : (b : Bool) → held.has_eols ≡ b → held.has_eols ≡ true
+      by_has_eols true h_is = h_is
+      by_has_eols false h_is =
           let stands : gap_behind_row settings held.taken false rest ≡ Gap.line_at last.has_eols next
           = ap (λ (b : Bool). gap_behind_row settings held.taken b rest) (sym h_is) ∙ said in
           absurd (false≢true (sym (line_without_eols settings held.taken last.has_eols rest next stands).0 ∙ is))
@@ -100,8 +84,7 @@ module _ (settings : DecodeSettings) (wide : 0 < settings.columns) (bits : Bits)
         at.enough,
         gap_ends settings wide at.begun (length bits) at.giving_up behind.before.reference behind.before.has_eols behind.start
             at.within behind.ticks_before (length (changes behind.before.reference)) at.paid ticks behind.line held.reference rest
-            behind.row_is now next
-            (omega (arith, kept (over refl), few_tag_tests settings.encoding)),
+            behind.row_is now next (omega (arith, kept (over refl), few_tag_tests settings.encoding)),
       )
   gap_paid (Ok false) said over kept given_up refused =
       let at = behind.at_line in
@@ -114,9 +97,8 @@ module _ (settings : DecodeSettings) (wide : 0 < settings.columns) (bits : Bits)
         sought = λ is. at.sought (sym behind.kept ∙ still_sought said is);
         within = omega (arith, length-drop place bits);
         paid = turn_goes_on settings wide at.begun (length bits) at.giving_up behind.before.reference behind.before.has_eols
-            behind.start
-            at.within behind.ticks_before (length (changes behind.before.reference)) at.paid ticks behind.line held.reference rest
-            behind.row_is held.taken last.has_eols next now (length (changes last.reference)) line
+            behind.start at.within behind.ticks_before (length (changes behind.before.reference)) at.paid ticks
+            behind.line held.reference rest behind.row_is held.taken last.has_eols next now (length (changes last.reference)) line
             (omega (arith, behind.stored, ap (λ (h : Held). length (changes h.reference)) frame))
             (λ same. omega (arith, kept (same ∙ sym behind.kept), few_tag_tests settings.encoding))
             (λ other. given_up (λ same. other (same ∙ behind.kept))) at.sought;
@@ -126,11 +108,9 @@ module _ (settings : DecodeSettings) (wide : 0 < settings.columns) (bits : Bits)
       omega (
         arith,
         at.enough,
-        missing_ends settings wide at.begun (length bits) at.giving_up behind.before.reference behind.before.has_eols
-            behind.start at.within behind.ticks_before (length (changes behind.before.reference)) at.paid ticks behind.line
-            held.reference rest
-            behind.row_is now
-            (omega (arith, refused, looked_most rest)),
+        missing_ends settings wide at.begun (length bits) at.giving_up behind.before.reference behind.before.has_eols behind.start
+            at.within behind.ticks_before (length (changes behind.before.reference)) at.paid ticks behind.line held.reference rest
+            behind.row_is now (omega (arith, refused, looked_most rest)),
       )
 
 -- ---- Before the first line
@@ -181,9 +161,8 @@ module _ (settings : DecodeSettings) (is : settings.encoding ≡ Group4) (bits :
 
 -- in Group 3 the EOLs there (T.4, 4.1.2)
 pub first_line_paid : (settings : DecodeSettings) → settings.encoding ≢ Group4
-    → (bits : Bits) (last : Held) (rest : Bits) (now : ℕ)
-    → length (changes last.reference) ≡ 0 → length rest ≤ length bits → now + length rest ≤ length bits + looked rest
-    → PaidAtLine settings bits last rest now
+    → (bits : Bits) (last : Held) (rest : Bits) (now : ℕ) → length (changes last.reference) ≡ 0 → length rest ≤ length bits
+    → now + length rest ≤ length bits + looked rest → PaidAtLine settings bits last rest now
 first_line_paid settings other bits last rest now white within work = record {
   begun = now;
   giving_up = 8 * length bits + 8;
@@ -201,7 +180,7 @@ most_below Group3_1D bits = omega arith
 most_below Group3_2D bits = omega arith
 
 within_most : (stand : Stand) (settings : DecodeSettings) (bits : Bits) (held : Held) (place ticks : ℕ)
-    → Stands stand settings bits held place → IsPaid stand settings bits held place ticks
+    → ReaderStands stand settings bits held place → IsPaid stand settings bits held place ticks
     → ticks ≤ most_counted settings.encoding (length bits)
 within_most AtLine settings bits held place ticks stands paid = line_most settings stands.wide bits held (drop place bits)
     ticks paid
@@ -212,7 +191,7 @@ within_most (AtFault error) settings bits held place ticks stands paid = paid
 
 -- what is paid is within the bound
 pub work_is_counted : (stand : Stand) (settings : DecodeSettings) (bits : Bits) (held : Held) (place ticks : ℕ)
-    → Stands stand settings bits held place → WorkIsPaid stand settings bits held place ticks
+    → ReaderStands stand settings bits held place → WorkIsPaid stand settings bits held place ticks
     → CountsWork settings bits held.taken ticks
 work_is_counted stand settings bits held place ticks stands work =
     let most = within_most stand settings bits held place ticks stands work.paid in
@@ -220,7 +199,7 @@ work_is_counted stand settings bits held place ticks stands work =
 
 -- so it is before the first row
 pub begun_is_counted : (stand : Stand) (settings : DecodeSettings) (bits : Bits) (held : Held) (place ticks : ℕ) → held.taken ≡ 0
-    → Stands stand settings bits held place → IsPaid stand settings bits held place ticks
+    → ReaderStands stand settings bits held place → IsPaid stand settings bits held place ticks
     → CountsWork settings bits held.taken ticks
 begun_is_counted stand settings bits held place ticks none stands paid =
     work_is_counted stand settings bits held place ticks stands (record {

@@ -1,22 +1,17 @@
 -- The EOLs that are consumed before a line, and the bits that are examined ahead of it.
-use Rattle.std.proofs.Common.{◌<◌, ◌≡◌, ℕ, suc, ◌+◌, ◌-◌, ◌*◌, ◌≤◌, Bool, true, false, not, ◌&&◌, ◌||◌, eqb, leb, [], ◌∷◌, ◌++◌, length, replicate, drop}
-use Rattle.std.proofs.Common.{Option, Some, None, Result, Ok, Err, refl, sym, ap, ◌∙◌, subst, arith, ◌⊎◌, inl, inr}
-use Rattle.std.proofs.lemmas.Bool.{and_parts, or_parts, false≢true}
-use Rattle.std.proofs.lemmas.List.{length-append, length-replicate, replicate-append-replicate}
-use Rattle.hayro_ccitt.specs.declared.error.DecodeError.{DecodeError}
-use Rattle.hayro_ccitt.specs.declared.error.DecodeError.TheVariants.{InvalidCode}
-use Rattle.hayro_ccitt.specs.declared.settings.EncodingMode.{EncodingMode}
-use Rattle.hayro_ccitt.specs.declared.settings.EncodingMode.TheVariants.{Group4, Group3_1D, Group3_2D}
-use Rattle.hayro_ccitt.specs.declared.settings.DecodeSettings.{DecodeSettings}
-use Rattle.hayro_ccitt.specs.Bits.{Bits}
-use Rattle.hayro_ccitt.specs.EndOfLine.{after_eol, all_eols, next_eol, past_tag, eols_with_tags, eols, pass_last_tag, tagged_eols}
-use Rattle.hayro_ccitt.specs.PlainReading.{eols_of_end, Gap, at_end, limit_met, eols_by, eols_here, behind_eols, from_next_eol, gap_behind_row}
-use Rattle.hayro_ccitt.specs.Ticks.{looked, looked_ahead, tag_tests}
-use Rattle.hayro_ccitt.proofs.BitReading.ZeroRuns.{looked_eol}
-use Rattle.hayro_ccitt.proofs.CodeWords.ReadRuns.{chosen}
+use Rattle.hayro_ccitt.proofs.Names.{◌<◌, ◌≡◌, ℕ, suc, ◌+◌, ◌-◌, ◌*◌, ◌≤◌, Bool, true, false, not, ◌&&◌, ◌||◌, eqb, leb, [], ◌∷◌}
+use Rattle.hayro_ccitt.proofs.Names.{◌++◌, length, replicate, drop, Option, Some, None, Result, Ok, Err, refl, sym, ap, ◌∙◌}
+use Rattle.hayro_ccitt.proofs.Names.{subst, arith, ◌⊎◌, inl, inr, and_parts, or_parts, false≢true, length-append}
+use Rattle.hayro_ccitt.proofs.Names.{length-replicate, replicate-append-replicate, DecodeError, InvalidCode, EncodingMode, Group4}
+use Rattle.hayro_ccitt.proofs.Names.{Group3_1D, Group3_2D, DecodeSettings, Bits, after_eol, all_eols, next_eol, past_tag}
+use Rattle.hayro_ccitt.proofs.Names.{eols_with_tags, eols, pass_last_tag, tagged_eols, eols_of_end, Gap, at_end, limit_met}
+use Rattle.hayro_ccitt.proofs.Names.{eols_by, eols_here, behind_eols, from_next_eol, gap_behind_row, looked, looked_ahead}
+use Rattle.hayro_ccitt.proofs.Names.{tag_tests}
+use Rattle.hayro_ccitt.proofs.{BitReading.ZeroRuns.looked_eol, CodeWords.ReadRuns.chosen, DamagedLines.PastEol.all_eols-none}
 use Rattle.hayro_ccitt.proofs.DamagedLines.LineTails.{after_eol_is}
-use Rattle.hayro_ccitt.proofs.DamagedLines.PastEol.{all_eols-none}
-use Rattle.hayro_ccitt.proofs.Readings.TurnsMoveOn.{eols-none, length-one_more, eols_shorter, eols-some, eols_with_tags-some, eols_with_tags-none, eols_with_tags_shorter, past_tag_shorter, last_tag_shorter, eols_here_counted, eols_here_some, next_eol_found}
+use Rattle.hayro_ccitt.proofs.Readings.TurnsMoveOn.{eols-none, length-one_more, eols_shorter, eols-some, eols_with_tags-some}
+use Rattle.hayro_ccitt.proofs.Readings.TurnsMoveOn.{eols_with_tags-none, eols_with_tags_shorter, past_tag_shorter}
+use Rattle.hayro_ccitt.proofs.Readings.TurnsMoveOn.{last_tag_shorter, eols_here_counted, eols_here_some, next_eol_found}
 
 -- ---- An EOL here or further on
 
@@ -31,24 +26,27 @@ eol_within here after e =
     let is = after_eol_is 0 here after e in
     let more : ℕ = is.0 - 11 in
     let sum : is.0 ≡ more + 11 = omega (arith, is.2) in
-    let fill : replicate is.0 false ≡ replicate more false ++ replicate 11 false = ap (λ (n : ℕ). replicate n false) sum ∙ sym (replicate-append-replicate more 11 false) in
+    let fill : replicate is.0 false ≡ replicate more false ++ replicate 11 false =
+    ap (λ (n : ℕ). replicate n false) sum ∙ sym (replicate-append-replicate more 11 false) in
     record { fill = replicate more false; place = is.1 ∙ ap (λ (bits : Bits). bits ++ true ∷ after) fill }
 
 within_further : (bit : Bool) (here after : Bits) → EolWithin here after → EolWithin (bit ∷ here) after
 within_further bit here after eol = record { fill = bit ∷ eol.fill; place = ap (λ (x : Bits). bit ∷ x) eol.place }
 
 -- the next EOL is here or further on
-pub next_eol_within : (here found : Bits) → next_eol here ≡ Some found → (after : Bits) × (after_eol 0 found ≡ Some after) × EolWithin here after
+pub next_eol_within : (here found : Bits) → next_eol here ≡ Some found → (after : Bits) × (after_eol 0 found ≡ Some after)
+    × EolWithin here after
 next_eol_within [] found e = absurd cc
-next_eol_within (bit ∷ here) found e = by (λ f. next_eol_within here found f) (after_eol 0 (bit ∷ here)) refl
+next_eol_within (bit ∷ here) found e = by_after_eol (λ f. next_eol_within here found f) (after_eol 0 (bit ∷ here)) refl
   where
-    by : (next_eol here ≡ Some found → (after : Bits) × (after_eol 0 found ≡ Some after) × EolWithin here after) → (o : Option Bits)
-        → after_eol 0 (bit ∷ here) ≡ o → (after : Bits) × (after_eol 0 found ≡ Some after) × EolWithin (bit ∷ here) after
-    by on None is =
+    by_after_eol : (next_eol here ≡ Some found → (after : Bits) × (after_eol 0 found ≡ Some after) × EolWithin here after)
+        → (o : Option Bits) → after_eol 0 (bit ∷ here) ≡ o → (after : Bits) × (after_eol 0 found ≡ Some after)
+        × EolWithin (bit ∷ here) after
+    by_after_eol on None is =
         let f : next_eol here ≡ Some found = rw (is, next_eol) at e in
         let more = on f in
         (more.0, more.1, within_further bit here more.0 more.2)
-    by on (Some after) is =
+    by_after_eol on (Some after) is =
         let f : ◌≡◌ {A = Option Bits} (Some (bit ∷ here)) (Some found) = rw (is, next_eol) at e in
         let same : bit ∷ here ≡ found = cc in
         (after, subst (λ (x : Bits). after_eol 0 x ≡ Some after) same is, eol_within (bit ∷ here) after is)
@@ -56,7 +54,13 @@ next_eol_within (bit ∷ here) found e = by (λ f. next_eol_within here found f)
 -- the bits up to the end of an EOL
 pub length-within : (here after : Bits) (eol : EolWithin here after) → length here ≡ length eol.fill + 12 + length after
 length-within here after eol =
-    omega (arith, ap length eol.place, length-append (eol.fill ++ replicate 11 false) (true ∷ after), length-append eol.fill (replicate 11 false), length-replicate 11 false)
+    omega (
+      arith,
+      ap length eol.place,
+      length-append (eol.fill ++ replicate 11 false) (true ∷ after),
+      length-append eol.fill (replicate 11 false),
+      length-replicate 11 false,
+    )
 
 -- ---- EOLs that are counted
 
@@ -67,7 +71,8 @@ eols_here_shorter settings here = (eols_here_counted settings here).0
 all_eols_past : (here after : Bits) → after_eol 0 here ≡ Some after → length (all_eols here).1 ≤ length after
 all_eols_past [] after e = absurd cc
 all_eols_past (bit ∷ here) after e =
-    rw (eols-some (length here) (bit ∷ here) after e) (omega (arith, length-one_more (eols (length here) after), eols_shorter (length here) after))
+    rw (eols-some (length here) (bit ∷ here) after e)
+    (omega (arith, length-one_more (eols (length here) after), eols_shorter (length here) after))
 
 tagged_eols_past : (here after : Bits) → after_eol 0 here ≡ Some after → length (tagged_eols here).1 ≤ length after
 tagged_eols_past [] after e = absurd cc
@@ -83,48 +88,56 @@ tagged_eols_past (bit ∷ here) after e =
     omega (arith, last_tag_shorter (eols_with_tags (length (bit ∷ here)) (bit ∷ here)), passed)
 
 -- if there is an EOL, counting consumes it
-pub eols_here_past : (settings : DecodeSettings) (here after : Bits) → after_eol 0 here ≡ Some after → length (eols_here settings here).1 ≤ length after
-eols_here_past settings here after e = by settings.encoding settings.end_of_block
+pub eols_here_past : (settings : DecodeSettings) (here after : Bits) → after_eol 0 here ≡ Some after
+    → length (eols_here settings here).1 ≤ length after
+eols_here_past settings here after e = by_encoding settings.encoding settings.end_of_block
   where
-    by : (encoding : EncodingMode) (block : Bool) → length (eols_by encoding block here).1 ≤ length after
-    by Group3_1D block = all_eols_past here after e
-    by Group3_2D block = tagged_eols_past here after e
-    by Group4 true =
-        omega (arith, ap (λ (found : ℕ × Bits). length found.1) (eols-some 1 here after e), length-one_more (eols 1 after), eols_shorter 1 after)
-    by Group4 false = all_eols_past here after e
+    by_encoding : (encoding : EncodingMode) (block : Bool) → length (eols_by encoding block here).1 ≤ length after
+    by_encoding Group3_1D block = all_eols_past here after e
+    by_encoding Group3_2D block = tagged_eols_past here after e
+    by_encoding Group4 true =
+        omega (
+          arith,
+          ap (λ (found : ℕ × Bits). length found.1) (eols-some 1 here after e),
+          length-one_more (eols 1 after),
+          eols_shorter 1 after,
+        )
+    by_encoding Group4 false = all_eols_past here after e
 
 tagged_eols-none : (here : Bits) → after_eol 0 here ≡ None → tagged_eols here ≡ (0, here)
-tagged_eols-none here e = rw (eols_with_tags-none (length here) here e, tagged_eols) (by here)
+tagged_eols-none here e = rw (eols_with_tags-none (length here) here e, tagged_eols) (by_here here)
   where
-    by : (here : Bits) → pass_last_tag (0, here) ≡ (0, here)
-    by [] = refl
-    by (false ∷ here) = refl
-    by (true ∷ here) = refl
+    by_here : (here : Bits) → pass_last_tag (0, here) ≡ (0, here)
+    by_here [] = refl
+    by_here (false ∷ here) = refl
+    by_here (true ∷ here) = refl
 
 -- if there is no EOL, none is counted
 pub eols_here-none : (settings : DecodeSettings) (here : Bits) → after_eol 0 here ≡ None → eols_here settings here ≡ (0, here)
-eols_here-none settings here e = by settings.encoding settings.end_of_block
+eols_here-none settings here e = by_encoding settings.encoding settings.end_of_block
   where
-    by : (encoding : EncodingMode) (block : Bool) → eols_by encoding block here ≡ (0, here)
-    by Group3_1D block = all_eols-none here e
-    by Group3_2D block = tagged_eols-none here e
-    by Group4 true = eols-none 2 here e
-    by Group4 false = all_eols-none here e
+    by_encoding : (encoding : EncodingMode) (block : Bool) → eols_by encoding block here ≡ (0, here)
+    by_encoding Group3_1D block = all_eols-none here e
+    by_encoding Group3_2D block = tagged_eols-none here e
+    by_encoding Group4 true = eols-none 2 here e
+    by_encoding Group4 false = all_eols-none here e
 
 -- if none is counted, the offset doesn't change
 pub eols_here_stay : (settings : DecodeSettings) (here rest : Bits) → eols_here settings here ≡ (0, rest) → rest ≡ here
-eols_here_stay settings here rest is = by (after_eol 0 here) refl
+eols_here_stay settings here rest is = by_after_eol (after_eol 0 here) refl
   where
-    by : (o : Option Bits) → after_eol 0 here ≡ o → rest ≡ here
-    by None e = sym (ap (λ (found : ℕ × Bits). found.1) (sym (eols_here-none settings here e) ∙ is))
-    by (Some after) e = absurd (omega (arith, eols_here_some settings here after e, ap (λ (found : ℕ × Bits). found.0) is))
+    by_after_eol : (o : Option Bits) → after_eol 0 here ≡ o → rest ≡ here
+    by_after_eol None e = sym (ap (λ (found : ℕ × Bits). found.1) (sym (eols_here-none settings here e) ∙ is))
+    by_after_eol (Some after) e =
+        absurd (omega (arith, eols_here_some settings here after e, ap (λ (found : ℕ × Bits). found.0) is))
 
 -- ---- A line after a row
 
 lines_same : (h k : Bool) (here rest : Bits) → ◌≡◌ {A = Gap} (Gap.line_at h here) (Gap.line_at k rest) → (h ≡ k) × (here ≡ rest)
 lines_same h k here rest e = (cc, cc)
 
-over_no_line : (outcome : Result Bits DecodeError) (h : Bool) (rest : Bits) → ◌≡◌ {A = Gap} (Gap.over outcome) (Gap.line_at h rest) → ⊥
+over_no_line : (outcome : Result Bits DecodeError) (h : Bool) (rest : Bits)
+    → ◌≡◌ {A = Gap} (Gap.over outcome) (Gap.line_at h rest) → ⊥
 over_no_line outcome h rest e = cc
 
 -- a line follows EOLs neither at the limit nor at the end
@@ -132,11 +145,14 @@ behind_line : (settings : DecodeSettings) (taken : ℕ) (h k : Bool) (found : �
     → behind_eols settings taken h found ≡ Gap.line_at k rest
     → (h ≡ k) × (found.1 ≡ rest) × (limit_met settings taken ≡ false) × (at_end found.1 ≡ false)
 behind_line settings taken h k (count, here) rest e =
-    elim (chosen (((settings.end_of_block && leb (eols_of_end settings.encoding) count) || limit_met settings taken) || at_end here) _ _ _ e) [
+    elim (chosen
+    (((settings.end_of_block && leb (eols_of_end settings.encoding) count) || limit_met settings taken) || at_end here) _ _ _ e) [
       | inl a ↦ absurd (over_no_line (Ok here) k rest a.1)
       | inr a ↦
-          let open_end = or_parts ((settings.end_of_block && leb (eols_of_end settings.encoding) count) || limit_met settings taken) (at_end here) a.0 in
-          let open_limit = or_parts (settings.end_of_block && leb (eols_of_end settings.encoding) count) (limit_met settings taken) open_end.0 in
+          let open_end = or_parts ((settings.end_of_block && leb (eols_of_end settings.encoding) count)
+          || limit_met settings taken) (at_end here) a.0 in
+          let open_limit = or_parts (settings.end_of_block && leb (eols_of_end settings.encoding) count)
+          (limit_met settings taken) open_end.0 in
           let same = lines_same h k here rest a.1 in
           (same.0, same.1, open_limit.1, open_end.1)
     ]
@@ -164,48 +180,52 @@ record GivenUp (h k : Bool) (here rest : Bits) : Type 0 where
   place : here ≡ rest
 
 -- the ways in which a line follows a row
-line_behind : (settings : DecodeSettings) (taken : ℕ) (h k : Bool) (here rest : Bits) → gap_behind_row settings taken h here ≡ Gap.line_at k rest
-    → AfterEols settings taken h k here rest ⊎ (AfterNextEol settings h k here rest ⊎ GivenUp h k here rest)
+line_behind : (settings : DecodeSettings) (taken : ℕ) (h k : Bool) (here rest : Bits) → gap_behind_row settings taken h here
+    ≡ Gap.line_at k rest → AfterEols settings taken h k here rest ⊎ (AfterNextEol settings h k here rest ⊎ GivenUp h k here rest)
 line_behind settings taken h k here rest e =
     elim (chosen (((eqb (eols_here settings here).0 0 && h) && not (limit_met settings taken)) && not (at_end here)) _ _ _ e) [
       | inl a ↦
-          let b = (and_parts ((eqb (eols_here settings here).0 0 && h) && not (limit_met settings taken)) (not (at_end here)) a.0).0 in
+          let b = (and_parts ((eqb (eols_here settings here).0 0 && h) && not (limit_met settings taken))
+          (not (at_end here)) a.0).0 in
           let c = (and_parts (eqb (eols_here settings here).0 0 && h) (not (limit_met settings taken)) b).0 in
           let sought = (and_parts (eqb (eols_here settings here).0 0) h c).1 in
           elim (chosen settings.strict _ _ _ a.1) [
             | inl b ↦ absurd (over_no_line (Err InvalidCode) k rest b.1)
-            | inr b ↦ inr (by sought (next_eol here) refl b.1)
+            | inr b ↦ inr (by_next_eol sought (next_eol here) refl b.1)
           ]
       | inr a ↦
           let is = behind_line settings taken h k (eols_here settings here) rest a.1 in
           inl (record { unsought = a.0; flag = is.0; place = is.1; open_limit = is.2; open_end = is.3 })
     ]
   where
-    by : h ≡ true → (o : Option Bits) → next_eol here ≡ o → from_next_eol settings taken here o ≡ Gap.line_at k rest
+    by_next_eol : h ≡ true → (o : Option Bits) → next_eol here ≡ o → from_next_eol settings taken here o ≡ Gap.line_at k rest
         → AfterNextEol settings h k here rest ⊎ GivenUp h k here rest
-    by sought (Some found) next f =
+    by_next_eol sought (Some found) next f =
         let is = behind_line settings taken true k (eols_here settings found) rest f in
         inl (record { sought = sought; kept = sym is.0; found = found; next = next; place = is.1 })
-    by sought None next f =
+    by_next_eol sought None next f =
         let same = lines_same false k here rest f in
         inr (record { sought = sought; given_up = sym same.0; place = same.1 })
 
 -- if EOLs are still sought, one was here or further on, and the line begins after it
-pub line_past_eol : (settings : DecodeSettings) (taken : ℕ) (here rest : Bits) → gap_behind_row settings taken true here ≡ Gap.line_at true rest
-    → (after : Bits) × EolWithin here after × (length rest ≤ length after)
+pub line_past_eol : (settings : DecodeSettings) (taken : ℕ) (here rest : Bits) → gap_behind_row settings taken true here
+    ≡ Gap.line_at true rest → (after : Bits) × EolWithin here after × (length rest ≤ length after)
 line_past_eol settings taken here rest e = elim (line_behind settings taken true true here rest e) [
-  | inl is ↦ by is (after_eol 0 here) refl
+  | inl is ↦ by_after_eol is (after_eol 0 here) refl
   | inr (inl is) ↦
       let eol = next_eol_within here is.found is.next in
       (eol.0, eol.2, subst (λ (x : Bits). length x ≤ length eol.0) is.place (eols_here_past settings is.found eol.0 eol.1))
   | inr (inr is) ↦ absurd (false≢true (sym is.given_up))
 ]
   where
-    by : AfterEols settings taken true true here rest → (o : Option Bits) → after_eol 0 here ≡ o
+    by_after_eol : AfterEols settings taken true true here rest → (o : Option Bits) → after_eol 0 here ≡ o
         → (after : Bits) × EolWithin here after × (length rest ≤ length after)
-    by is (Some after) f =
-        (after, eol_within here after f, subst (λ (x : Bits). length x ≤ length after) is.place (eols_here_past settings here after f))
-    by is None f =
+    by_after_eol is (Some after) f = (
+      after,
+      eol_within here after f,
+      subst (λ (x : Bits). length x ≤ length after) is.place (eols_here_past settings here after f),
+    )
+    by_after_eol is None f =
         let none = eols_here-none settings here f in
         let open_end : at_end here ≡ false = let g = is.open_end in rw none at g in
         let seeks : (((eqb (eols_here settings here).0 0 && true) && not (limit_met settings taken)) && not (at_end here)) ≡ true
@@ -213,7 +233,8 @@ line_past_eol settings taken here rest e = elim (line_behind settings taken true
         absurd (false≢true (sym is.unsought ∙ seeks))
 
 -- if EOLs are no longer sought, the line is here
-pub line_given_up : (settings : DecodeSettings) (taken : ℕ) (here rest : Bits) → gap_behind_row settings taken true here ≡ Gap.line_at false rest → rest ≡ here
+pub line_given_up : (settings : DecodeSettings) (taken : ℕ) (here rest : Bits)
+    → gap_behind_row settings taken true here ≡ Gap.line_at false rest → rest ≡ here
 line_given_up settings taken here rest e = elim (line_behind settings taken true false here rest e) [
   | inl is ↦ absurd (false≢true (sym is.flag))
   | inr (inl is) ↦ absurd (false≢true is.kept)
@@ -221,17 +242,18 @@ line_given_up settings taken here rest e = elim (line_behind settings taken true
 ]
 
 -- a line that follows a row begins there or further on
-pub line_behind_shorter : (settings : DecodeSettings) (taken : ℕ) (h k : Bool) (here rest : Bits) → gap_behind_row settings taken h here ≡ Gap.line_at k rest
-    → length rest ≤ length here
+pub line_behind_shorter : (settings : DecodeSettings) (taken : ℕ) (h k : Bool) (here rest : Bits)
+    → gap_behind_row settings taken h here ≡ Gap.line_at k rest → length rest ≤ length here
 line_behind_shorter settings taken h k here rest e = elim (line_behind settings taken h k here rest e) [
   | inl is ↦ omega (arith, ap length is.place, eols_here_shorter settings here)
-  | inr (inl is) ↦ omega (arith, ap length is.place, eols_here_shorter settings is.found, (next_eol_found here is.found is.next).0)
+  | inr (inl is) ↦
+      omega (arith, ap length is.place, eols_here_shorter settings is.found, (next_eol_found here is.found is.next).0)
   | inr (inr is) ↦ omega (arith, ap length is.place)
 ]
 
 -- without EOLs none are sought
-pub line_without_eols : (settings : DecodeSettings) (taken : ℕ) (k : Bool) (here rest : Bits) → gap_behind_row settings taken false here ≡ Gap.line_at k rest
-    → (k ≡ false) × (length rest ≤ length here)
+pub line_without_eols : (settings : DecodeSettings) (taken : ℕ) (k : Bool) (here rest : Bits)
+    → gap_behind_row settings taken false here ≡ Gap.line_at k rest → (k ≡ false) × (length rest ≤ length here)
 line_without_eols settings taken k here rest e = (
   elim (line_behind settings taken false k here rest e) [
     | inl is ↦ sym is.flag
@@ -242,17 +264,17 @@ line_without_eols settings taken k here rest e = (
 )
 
 -- if there is a line, bits are left
-pub line_has_bits : (settings : DecodeSettings) (taken : ℕ) (k : Bool) (here rest : Bits) → gap_behind_row settings taken false here ≡ Gap.line_at k rest
-    → 0 < length rest
+pub line_has_bits : (settings : DecodeSettings) (taken : ℕ) (k : Bool) (here rest : Bits)
+    → gap_behind_row settings taken false here ≡ Gap.line_at k rest → 0 < length rest
 line_has_bits settings taken k here rest e = elim (line_behind settings taken false k here rest e) [
-  | inl is ↦ by (eols_here settings here).1 rest is.open_end is.place
+  | inl is ↦ by_next (eols_here settings here).1 rest is.open_end is.place
   | inr (inl is) ↦ absurd (false≢true is.sought)
   | inr (inr is) ↦ absurd (false≢true is.sought)
 ]
   where
-    by : (next rest : Bits) → at_end next ≡ false → next ≡ rest → 0 < length rest
-    by [] rest open_end same = absurd (false≢true (sym open_end))
-    by (bit ∷ next) rest open_end same = omega (arith, ap length (sym same))
+    by_next : (next rest : Bits) → at_end next ≡ false → next ≡ rest → 0 < length rest
+    by_next [] rest open_end same = absurd (false≢true (sym open_end))
+    by_next (bit ∷ next) rest open_end same = omega (arith, ap length (sym same))
 
 -- ---- What is examined ahead
 
@@ -297,13 +319,15 @@ looked_ahead_most Group3_1D here = looked_most here
 looked_ahead_most Group4 here = looked_most here
 
 -- if an EOL is here or further on, no bit after it is examined
-looked_to_eol : (here after : Bits) → EolWithin here after → (looked here + length after ≤ length here) × (looked (drop 1 here) + length after ≤ length here)
-looked_to_eol here after eol = rw eol.place (by eol.fill)
+looked_to_eol : (here after : Bits) → EolWithin here after → (looked here + length after ≤ length here)
+    × (looked (drop 1 here) + length after ≤ length here)
+looked_to_eol here after eol = rw eol.place (by_fill eol.fill)
   where
-    by : (fill : Bits) → (looked (fill ++ replicate 11 false ++ true ∷ after) + length after ≤ length (fill ++ replicate 11 false ++ true ∷ after))
-        × (looked (drop 1 (fill ++ replicate 11 false ++ true ∷ after)) + length after ≤ length (fill ++ replicate 11 false ++ true ∷ after))
-    by [] = (looked_to_one (replicate 11 false) after, omega (arith, looked_to_one (replicate 10 false) after))
-    by (bit ∷ fill) =
+    by_fill : (fill : Bits) → (looked (fill ++ replicate 11 false ++ true ∷ after) + length after
+        ≤ length (fill ++ replicate 11 false ++ true ∷ after)) × (looked (drop 1 (fill ++ replicate 11 false ++ true ∷ after))
+        + length after ≤ length (fill ++ replicate 11 false ++ true ∷ after))
+    by_fill [] = (looked_to_one (replicate 11 false) after, omega (arith, looked_to_one (replicate 10 false) after))
+    by_fill (bit ∷ fill) =
         (looked_to_one (bit ∷ fill ++ replicate 11 false) after, omega (arith, looked_to_one (fill ++ replicate 11 false) after))
 
 -- If the next EOL is found and counted, no bit after it is examined: not where none was before, and not where it was
@@ -315,7 +339,8 @@ sought_looks settings here found next =
     omega (arith, (looked_to_eol here eol.0 eol.2).0, looked_eol 0 found eol.0 eol.1, eols_here_past settings found eol.0 eol.1)
 
 -- if an EOL is here or further on, no bit after it is examined ahead
-pub looked_ahead_to_eol : (encoding : EncodingMode) (here after : Bits) → EolWithin here after → looked_ahead encoding here + length after ≤ length here
+pub looked_ahead_to_eol : (encoding : EncodingMode) (here after : Bits) → EolWithin here after
+    → looked_ahead encoding here + length after ≤ length here
 looked_ahead_to_eol Group3_2D here after eol = (looked_to_eol here after eol).1
 looked_ahead_to_eol Group3_1D here after eol = (looked_to_eol here after eol).0
 looked_ahead_to_eol Group4 here after eol = (looked_to_eol here after eol).0

@@ -1,17 +1,11 @@
 -- What a turn counts is paid by the bits that it consumes, or by ceasing to seek EOLs, which happens once.
-use Rattle.std.proofs.Common.{◌≡◌, ◌≢◌, ℕ, ◌+◌, ◌*◌, ◌<◌, ◌≤◌, Bool, true, false, not, ◌&&◌, ◌||◌, cond, [], ◌∷◌, length, Result, Ok, Err, refl, sym, ap, ◌∙◌, subst, arith}
-use Rattle.std.proofs.lemmas.Bool.{false≢true}
-use Rattle.hayro_ccitt.specs.declared.error.DecodeError.{DecodeError}
-use Rattle.hayro_ccitt.specs.declared.settings.DecodeSettings.{DecodeSettings}
-use Rattle.hayro_ccitt.specs.declared.settings.EncodingMode.{EncodingMode}
-use Rattle.hayro_ccitt.specs.declared.settings.EncodingMode.TheVariants.{Group4, Group3_1D, Group3_2D}
-use Rattle.hayro_ccitt.specs.Bits.{Bits}
-use Rattle.hayro_ccitt.specs.Lines.{Line, line_found}
-use Rattle.hayro_ccitt.specs.PlainReading.{Gap, aligned, behind_row, gap_behind_row, line_by, line_here, row_of_line}
-use Rattle.hayro_ccitt.specs.Rows.{Row, repaired}
-use Rattle.hayro_ccitt.specs.Ticks.{looked_ahead}
-use Rattle.hayro_ccitt.specs.Work.{IsPaidUpTo, found_here}
-use Rattle.hayro_ccitt.proofs.Work.EolsPassed.{length-within, line_past_eol, line_given_up, line_behind_shorter, line_without_eols, looked_ahead_most, looked_ahead_to_eol}
+use Rattle.hayro_ccitt.proofs.Names.{◌≡◌, ◌≢◌, ℕ, ◌+◌, ◌*◌, ◌<◌, ◌≤◌, Bool, true, false, not, ◌&&◌, ◌||◌, cond, [], ◌∷◌, length}
+use Rattle.hayro_ccitt.proofs.Names.{Result, Ok, Err, refl, sym, ap, ◌∙◌, subst, arith, false≢true, DecodeError, DecodeSettings}
+use Rattle.hayro_ccitt.proofs.Names.{EncodingMode, Group4, Group3_1D, Group3_2D, Bits, Line, line_found, Gap, aligned, behind_row}
+use Rattle.hayro_ccitt.proofs.Names.{gap_behind_row, line_by, line_here, row_of_line, Row, repaired, looked_ahead, IsPaidUpTo}
+use Rattle.hayro_ccitt.proofs.Names.{found_here}
+use Rattle.hayro_ccitt.proofs.Work.EolsPassed.{length-within, line_past_eol, line_given_up, line_behind_shorter}
+use Rattle.hayro_ccitt.proofs.Work.EolsPassed.{line_without_eols, looked_ahead_most, looked_ahead_to_eol}
 use Rattle.hayro_ccitt.proofs.Work.WordsPay.{line_1d_paid, line_2d_paid, either_shorter, found_within, found_before_eol}
 
 -- ---- What a line and its row pay
@@ -22,8 +16,9 @@ pub record PaysLine (encoding : EncodingMode) (here rest : Bits) (found : ℕ) :
   pub words : found + length rest ≤ length here
   pub zeros : looked_ahead encoding here + length rest ≤ length here
 
-whole_pays : (encoding : EncodingMode) (strict : Bool) (columns : ℕ) (reference : Row) (here : Bits) (row : Row) (rest : Bits) → 0 < columns
-    → line_by encoding strict columns reference here ≡ Line.whole row rest → PaysLine encoding here rest (length (line_found encoding strict columns reference here))
+whole_pays : (encoding : EncodingMode) (strict : Bool) (columns : ℕ) (reference : Row) (here : Bits) (row : Row) (rest : Bits)
+    → 0 < columns → line_by encoding strict columns reference here ≡ Line.whole row rest
+    → PaysLine encoding here rest (length (line_found encoding strict columns reference here))
 whole_pays Group3_2D strict columns reference [] row rest wide e = absurd cc
 whole_pays Group3_2D strict columns reference (true ∷ here) row rest wide e =
     let paid = line_1d_paid strict columns here row rest wide e in
@@ -39,8 +34,8 @@ whole_pays Group4 strict columns reference here row rest wide e =
     record { some = omega (arith, paid.some, paid.words); words = paid.words; zeros = paid.zeros }
 
 -- bits further on are paid as well
-further_pays : (encoding : EncodingMode) (here rest further : Bits) (found : ℕ) → PaysLine encoding here rest found → length further ≤ length rest
-    → PaysLine encoding here further found
+further_pays : (encoding : EncodingMode) (here rest further : Bits) (found : ℕ) → PaysLine encoding here rest found
+    → length further ≤ length rest → PaysLine encoding here further found
 further_pays encoding here rest further found pays le =
     record { some = omega (arith, pays.some, le); words = omega (arith, pays.words, le); zeros = omega (arith, pays.zeros, le) }
 
@@ -60,46 +55,50 @@ behind_with_eols false rest = refl
 -- a broken line is repaired only in lenient data with EOLs, and the reader is then at its start
 broken_row : (settings : DecodeSettings) (h : Bool) (here rest : Bits) (front row : Row) (fault : DecodeError)
     → row_of_line settings h here (Line.broken front fault) ≡ Ok (row, rest) → (h ≡ true) × (rest ≡ here)
-broken_row settings true here rest front row fault is = by settings.strict is
+broken_row settings true here rest front row fault is = by_strict settings.strict is
   where
-    by : (strict : Bool) → cond {A = Result (Row × Bits) DecodeError} (strict || not true) (Err fault) (Ok (repaired settings.columns front, behind_row settings true here)) ≡ Ok (row, rest)
-        → (true ≡ true) × (rest ≡ here)
-    by true e = absurd (let other : ◌≡◌ {A = Result (Row × Bits) DecodeError} (Err fault) (Ok (row, rest)) = e in cc)
-    by false e = (refl, sym (ap rest_of e) ∙ behind_with_eols settings.rows_are_byte_aligned here)
-broken_row settings false here rest front row fault is = by settings.strict is
+    by_strict : (strict : Bool) → cond {A = Result (Row × Bits) DecodeError} (strict || not true) (Err fault)
+        (Ok (repaired settings.columns front, behind_row settings true here)) ≡ Ok (row, rest) → (true ≡ true) × (rest ≡ here)
+    by_strict true e = absurd (let other : ◌≡◌ {A = Result (Row × Bits) DecodeError} (Err fault) (Ok (row, rest)) = e in cc)
+    by_strict false e = (refl, sym (ap rest_of e) ∙ behind_with_eols settings.rows_are_byte_aligned here)
+broken_row settings false here rest front row fault is = by_strict settings.strict is
   where
-    by : (strict : Bool) → cond {A = Result (Row × Bits) DecodeError} (strict || not false) (Err fault) (Ok (repaired settings.columns front, behind_row settings false here)) ≡ Ok (row, rest)
-        → (false ≡ true) × (rest ≡ here)
-    by true e = absurd (let other : ◌≡◌ {A = Result (Row × Bits) DecodeError} (Err fault) (Ok (row, rest)) = e in cc)
-    by false e = absurd (let other : ◌≡◌ {A = Result (Row × Bits) DecodeError} (Err fault) (Ok (row, rest)) = e in cc)
+    by_strict : (strict : Bool) → cond {A = Result (Row × Bits) DecodeError} (strict || not false) (Err fault)
+        (Ok (repaired settings.columns front, behind_row settings false here)) ≡ Ok (row, rest) → (false ≡ true) × (rest ≡ here)
+    by_strict true e = absurd (let other : ◌≡◌ {A = Result (Row × Bits) DecodeError} (Err fault) (Ok (row, rest)) = e in cc)
+    by_strict false e = absurd (let other : ◌≡◌ {A = Result (Row × Bits) DecodeError} (Err fault) (Ok (row, rest)) = e in cc)
 
 -- a row ends no sooner than its line begins
 pub row_shorter : (settings : DecodeSettings) (h : Bool) (reference : Row) (here rest : Bits) (row : Row) → 0 < settings.columns
     → row_of_line settings h here (line_here settings reference here) ≡ Ok (row, rest) → length rest ≤ length here
-row_shorter settings h reference here rest row wide is = by (line_here settings reference here) refl is
+row_shorter settings h reference here rest row wide is = by_line_here (line_here settings reference here) refl is
   where
-    by : (line : Line) → line_here settings reference here ≡ line → row_of_line settings h here line ≡ Ok (row, rest) → length rest ≤ length here
-    by (Line.whole whole behind) e given =
+    by_line_here : (line : Line) → line_here settings reference here ≡ line → row_of_line settings h here line ≡ Ok (row, rest)
+        → length rest ≤ length here
+    by_line_here (Line.whole whole behind) e given =
         let pays = whole_pays settings.encoding settings.strict settings.columns reference here whole behind wide e in
         let same : behind_row settings h behind ≡ rest = ap rest_of given in
         omega (arith, pays.some, ap length same, behind_shorter settings h behind)
-    by (Line.broken front fault) e given = omega (arith, ap length (broken_row settings h here rest front row fault given).1)
+    by_line_here (Line.broken front fault) e given =
+        omega (arith, ap length (broken_row settings h here rest front row fault given).1)
 
 -- a row after which the reading continues, seeking EOLs as before, is paid by the bits up to there
-turn_pays : (settings : DecodeSettings) (h : Bool) (taken : ℕ) (reference : Row) (here rest next : Bits) (row : Row) → 0 < settings.columns
-    → row_of_line settings h here (line_here settings reference here) ≡ Ok (row, rest) → gap_behind_row settings taken h rest ≡ Gap.line_at h next
-    → PaysLine settings.encoding here next (length (found_here settings reference here))
-turn_pays settings h taken reference here rest next row wide is gap = by (line_here settings reference here) refl is
+turn_pays : (settings : DecodeSettings) (h : Bool) (taken : ℕ) (reference : Row) (here rest next : Bits) (row : Row) → 0 <
+    settings.columns → row_of_line settings h here (line_here settings reference here) ≡ Ok (row, rest) → gap_behind_row settings
+    taken h rest ≡ Gap.line_at h next → PaysLine settings.encoding here next (length (found_here settings reference here))
+turn_pays settings h taken reference here rest next row wide is gap = by_line_here (line_here settings reference here) refl is
   where
     found : ℕ
     found = length (found_here settings reference here)
 
-    by : (line : Line) → line_here settings reference here ≡ line → row_of_line settings h here line ≡ Ok (row, rest) → PaysLine settings.encoding here next found
-    by (Line.whole whole behind) e given =
+    by_line_here : (line : Line) → line_here settings reference here ≡ line → row_of_line settings h here line ≡ Ok (row, rest)
+        → PaysLine settings.encoding here next found
+    by_line_here (Line.whole whole behind) e given =
         let same : behind_row settings h behind ≡ rest = ap rest_of given in
-        further_pays settings.encoding here behind next found (whole_pays settings.encoding settings.strict settings.columns reference here whole behind wide e)
+        further_pays settings.encoding here behind next found
+        (whole_pays settings.encoding settings.strict settings.columns reference here whole behind wide e)
         (omega (arith, ap length same, behind_shorter settings h behind, line_behind_shorter settings taken h h rest next gap))
-    by (Line.broken front fault) e given =
+    by_line_here (Line.broken front fault) e given =
         let repaired = broken_row settings h here rest front row fault given in
         let stands : gap_behind_row settings taken true here ≡ Gap.line_at true next
         = subst (λ (b : Bool). gap_behind_row settings taken b here ≡ Gap.line_at b next) repaired.0
@@ -114,9 +113,9 @@ turn_pays settings h taken reference here rest next row wide is gap = by (line_h
 
 -- ---- The account
 
-module _ (settings : DecodeSettings) (wide : 0 < settings.columns) (begun bits giving_up : ℕ) (reference : Row) (h : Bool) (here : Bits) (within : length here ≤ bits)
-    (ticks changes : ℕ) (paid : IsPaidUpTo begun bits giving_up settings.encoding h ticks changes here) (now : ℕ)
-    (line : now ≤ ticks + 4 * length (found_here settings reference here) + 2 + changes) where
+module _ (settings : DecodeSettings) (wide : 0 < settings.columns) (begun bits giving_up : ℕ) (reference : Row) (h : Bool)
+    (here : Bits) (within : length here ≤ bits) (ticks changes : ℕ) (paid : IsPaidUpTo begun bits giving_up settings.encoding h
+    ticks changes here) (now : ℕ) (line : now ≤ ticks + 4 * length (found_here settings reference here) + 2 + changes) where
   abbrev found : ℕ
   found = length (found_here settings reference here)
 
@@ -137,32 +136,46 @@ module _ (settings : DecodeSettings) (wide : 0 < settings.columns) (begun bits g
 
     -- an EOL that strict data miss ends it
     pub missing_ends : (last : ℕ) → last ≤ now + length rest → last ≤ begun + (16 * bits + 6 + giving_up)
-    missing_ends last counted = omega (arith, paid, line, within, found_fits, row_fits, counted, looked_ahead_most settings.encoding here, either_given h)
+    missing_ends last counted =
+        omega (arith, paid, line, within, found_fits, row_fits, counted, looked_ahead_most settings.encoding here, either_given h)
 
     -- so does what ends it well
-    pub gap_ends : (last : ℕ) (left_over : Bits) → last + 4 * length left_over ≤ now + 4 * length rest + 3 + looked_ahead settings.encoding left_over
-        → last ≤ begun + (16 * bits + 6 + giving_up)
+    pub gap_ends : (last : ℕ) (left_over : Bits) → last + 4 * length left_over ≤ now + 4 * length rest + 3
+        + looked_ahead settings.encoding left_over → last ≤ begun + (16 * bits + 6 + giving_up)
     gap_ends last left_over counted =
-        omega (arith, paid, line, within, found_fits, row_fits, counted, looked_ahead_most settings.encoding here, looked_ahead_most settings.encoding left_over, either_given h)
+        omega (
+          arith,
+          paid,
+          line,
+          within,
+          found_fits,
+          row_fits,
+          counted,
+          looked_ahead_most settings.encoding here,
+          looked_ahead_most settings.encoding left_over,
+          either_given h,
+        )
 
     -- else the account continues
-    pub turn_goes_on : (taken : ℕ) (k : Bool) (next : Bits) (last stored : ℕ) → gap_behind_row settings taken h rest ≡ Gap.line_at k next → stored ≤ found + 1
-        → (k ≡ h → last + 4 * length next ≤ now + 4 * length rest + 3 + looked_ahead settings.encoding next) → (k ≢ h → last ≤ now + 2 * length rest)
+    pub turn_goes_on : (taken : ℕ) (k : Bool) (next : Bits) (last stored : ℕ)
+        → gap_behind_row settings taken h rest ≡ Gap.line_at k next → stored ≤ found + 1 → (k ≡ h → last + 4 * length next
+        ≤ now + 4 * length rest + 3 + looked_ahead settings.encoding next) → (k ≢ h → last ≤ now + 2 * length rest)
         → (h ≡ true → 8 * bits + 8 ≤ giving_up) → IsPaidUpTo begun bits giving_up settings.encoding k last stored next
-    turn_goes_on taken k next last stored gap few kept given_up enough = by h k refl refl
+    turn_goes_on taken k next last stored gap few kept given_up enough = by_k h k refl refl
       where
         same : (b : Bool) → h ≡ b → k ≡ b → IsPaidUpTo begun bits giving_up settings.encoding b last stored next
         same b h_is k_is =
-            let pays = turn_pays settings h taken reference here rest next row wide is (gap ∙ ap (λ (x : Bool). Gap.line_at x next) (k_is ∙ sym h_is)) in
+            let pays = turn_pays settings h taken reference here rest next row wide is
+            (gap ∙ ap (λ (x : Bool). Gap.line_at x next) (k_is ∙ sym h_is)) in
             let before = subst (λ (x : Bool). IsPaidUpTo begun bits giving_up settings.encoding x ticks changes here) h_is paid in
             omega (arith, before, line, row_fits, few, kept (k_is ∙ sym h_is), pays.some, pays.words, pays.zeros)
 
-        by : (a b : Bool) → h ≡ a → k ≡ b → IsPaidUpTo begun bits giving_up settings.encoding b last stored next
-        by true true h_is k_is = same true h_is k_is
-        by false false h_is k_is = same false h_is k_is
-        by true false h_is k_is =
-            let stands : gap_behind_row settings taken true rest ≡ Gap.line_at false next
-            = ap (λ (x : Bool). gap_behind_row settings taken x rest) (sym h_is) ∙ gap ∙ ap (λ (x : Bool). Gap.line_at x next) k_is in
+        by_k : (a b : Bool) → h ≡ a → k ≡ b → IsPaidUpTo begun bits giving_up settings.encoding b last stored next
+        by_k true true h_is k_is = same true h_is k_is
+        by_k false false h_is k_is = same false h_is k_is
+        by_k true false h_is k_is =
+            let stands : gap_behind_row settings taken true rest ≡ Gap.line_at false next = ap
+            (λ (x : Bool). gap_behind_row settings taken x rest) (sym h_is) ∙ gap ∙ ap (λ (x : Bool). Gap.line_at x next) k_is in
             let before = subst (λ (x : Bool). IsPaidUpTo begun bits giving_up settings.encoding x ticks changes here) h_is paid in
             omega (
               arith,
@@ -177,7 +190,7 @@ module _ (settings : DecodeSettings) (wide : 0 < settings.columns) (begun bits g
               enough h_is,
               ap length (line_given_up settings taken rest next stands),
             )
-        by false true h_is k_is =
-            let stands : gap_behind_row settings taken false rest ≡ Gap.line_at true next
-            = ap (λ (x : Bool). gap_behind_row settings taken x rest) (sym h_is) ∙ gap ∙ ap (λ (x : Bool). Gap.line_at x next) k_is in
+        by_k false true h_is k_is =
+            let stands : gap_behind_row settings taken false rest ≡ Gap.line_at true next = ap
+            (λ (x : Bool). gap_behind_row settings taken x rest) (sym h_is) ∙ gap ∙ ap (λ (x : Bool). Gap.line_at x next) k_is in
             absurd (false≢true (sym (line_without_eols settings taken true rest next stands).0))

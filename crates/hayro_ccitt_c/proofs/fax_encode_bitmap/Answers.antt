@@ -8,7 +8,8 @@ use Rattle.hayro_ccitt_c.proofs.fax_encode_bitmap.Goals as goal
 pub returns-then-length-data-clause-refused : goal.returns-then-length-data-clause-refused
 returns-then-length-data-clause-refused c = λ five.
     let long : c.len-length.result ≡ length c.in-Ok.bytes.items = search rules in
-    no_room (asked c.args.settings.now c.args.bitmap.now) _ _ c.in-Ok.bytes.items _ _ c.in-Ok.ensures.encoded long c.if-length-data.true
+    no_room
+    (asked c.args.settings.now c.args.bitmap.now) _ _ c.in-Ok.bytes.items _ _ c.in-Ok.ensures.encoded long c.if-length-data.true
 
 pub returns-then-length-data-clause-rows : goal.returns-then-length-data-clause-rows
 returns-then-length-data-clause-rows c = λ either.

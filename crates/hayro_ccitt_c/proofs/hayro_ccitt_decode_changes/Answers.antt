@@ -1,4 +1,5 @@
-use Rattle.std.proofs.Common.{◌≡◌, ◌∙◌, ◌+◌, ◌<◌, get_or, length, arith, take, drop, refl, sym, ap, rules, Some, IfSome, ℕ, List, []}
+use Rattle.std.proofs.Common.{◌≡◌, ◌∙◌, ◌+◌, ◌<◌, get_or, length, arith, take, drop, refl, sym, ap, rules, Some, IfSome, ℕ, List}
+use Rattle.std.proofs.Common.{[]}
 use Rattle.hayro_ccitt_c.specs.Listing.{Listing}
 use Rattle.hayro_ccitt.specs.PlainReading.{plain}
 use Rattle.hayro_ccitt.specs.Rows.{changes}
@@ -35,33 +36,38 @@ module _ (c : goal.After-told) where
   }
 
   -- the memory is borrowed from its start
-  holds : HoldsLists c.in-Some.meant (bits_in c.order_of.result c.args.«data».now) c.decoded-report.result.rows c.args.lists.now c.decoded-report.new.sink.lists.now start final
+  holds : HoldsLists c.in-Some.meant (bits_in c.order_of.result c.args.«data».now) c.decoded-report.result.rows c.args.lists.now
+      c.decoded-report.new.sink.lists.now start final
   holds =
-      holds_lists c.in-Some.meant (bits_in c.order_of.result c.args.«data».now) c.decoded-report.result.rows start final c.args.lists.now c.decoded-report.new.sink.lists.now c.new-rows.ensures.end
-      (ap (λ n. take n c.new-rows.result.lists.now) c.new-rows.ensures.end)
-      (ap (λ n. drop n c.new-rows.result.lists.now) c.new-rows.ensures.end ∙ c.new-rows.ensures.numbers)
-      c.new-rows.ensures.changes refl refl c.decoded-report.ensures.meaning
+      holds_lists c.in-Some.meant (bits_in c.order_of.result c.args.«data».now) c.decoded-report.result.rows start final
+      c.args.lists.now c.decoded-report.new.sink.lists.now c.new-rows.ensures.end
+      (ap (λ n. take n c.new-rows.result.lists.now) c.new-rows.ensures.end) (ap (λ n. drop n c.new-rows.result.lists.now)
+      c.new-rows.ensures.end ∙ c.new-rows.ensures.numbers) c.new-rows.ensures.changes refl refl c.decoded-report.ensures.meaning
 
 -- a statement about what was decoded, and about the memory afterwards, is one about what C gets
-on : (c : goal.After-told) (P : DecodeSettings → Bits → List ℕ → Type 0) (memory : List ℕ) → P c.in-Some.meant (bits_in c.order_of.result c.args.«data».now) memory
-    → BitsFit c.args.«data».now → IfSome (settings_of c.args.settings.now) (λ s. P s (bits_in (order_of c.args.settings.now) c.args.«data».now) memory)
-on c P memory = on_settings c.args.settings.now c.in-Some.meant c.args.«data».now c.order_of.result (λ s bits. P s bits memory) (meant c) c.order_of.ensures
+on : (c : goal.After-told) (P : DecodeSettings → Bits → List ℕ → Type 0) (memory : List ℕ)
+    → P c.in-Some.meant (bits_in c.order_of.result c.args.«data».now) memory → BitsFit c.args.«data».now
+    → IfSome (settings_of c.args.settings.now) (λ s. P s (bits_in (order_of c.args.settings.now) c.args.«data».now) memory)
+on c P memory = on_settings c.args.settings.now c.in-Some.meant c.args.«data».now c.order_of.result (λ s bits. P s bits memory)
+    (meant c) c.order_of.ensures
 
 pub returns-clause-changes : goal.returns-clause-changes
-returns-clause-changes c = rw c.told.ensures.outcome (λ fit. on c (λ s bits memory. c.changes.result ≡ changes_taken s bits c.decoded-report.result.rows) [] (c.changes.ensures ∙ (holds c).changes) fit)
+returns-clause-changes c = rw c.told.ensures.outcome (λ fit. on c (λ s bits memory.
+    c.changes.result ≡ changes_taken s bits c.decoded-report.result.rows) [] (c.changes.ensures ∙ (holds c).changes) fit)
 
 pub returns-clause-listed : goal.returns-clause-listed
 returns-clause-listed c =
     let are = (holds c).listed in
     let name = sym c.new-rows.ensures.same_reference ∙ (holds c).name in
-    rw c.told.ensures.outcome (λ fit. on c (λ s bits memory. AreListed s bits c.decoded-report.result.rows c.args.lists.now memory) _ (search rules) fit)
+    rw c.told.ensures.outcome
+    (λ fit. on c (λ s bits memory. AreListed s bits c.decoded-report.result.rows c.args.lists.now memory) _ (search rules) fit)
 
 pub returns-clause-refused : goal.returns-clause-refused
 returns-clause-refused c = λ full.
-    let few : length c.decoded-report.new.sink.lists.now
-    < numbers_taken c.in-Some.meant (bits_in c.order_of.result c.args.«data».now) c.decoded-report.result.rows + 1
-    + length (changes (get_or (plain c.in-Some.meant (bits_in c.order_of.result c.args.«data».now)).rows c.decoded-report.result.rows []))
-    = omega (arith, c.decoded-report.ensures.refused_row (sym c.told.ensures.status ∙ full), (holds c).end) in
+    let few : length c.decoded-report.new.sink.lists.now < numbers_taken c.in-Some.meant
+    (bits_in c.order_of.result c.args.«data».now) c.decoded-report.result.rows + 1 + length (changes
+    (get_or (plain c.in-Some.meant (bits_in c.order_of.result c.args.«data».now)).rows c.decoded-report.result.rows [])) =
+    omega (arith, c.decoded-report.ensures.refused_row (sym c.told.ensures.status ∙ full), (holds c).end) in
     let name = sym c.new-rows.ensures.same_reference ∙ (holds c).name in
-    rw c.told.ensures.outcome
-    (λ fit. on c (λ s bits memory. length memory < numbers_taken s bits c.decoded-report.result.rows + 1 + length (changes (get_or (plain s bits).rows c.decoded-report.result.rows []))) _ (search rules) fit)
+    rw c.told.ensures.outcome (λ fit. on c (λ s bits memory. length memory < numbers_taken s bits c.decoded-report.result.rows + 1
+    + length (changes (get_or (plain s bits).rows c.decoded-report.result.rows []))) _ (search rules) fit)

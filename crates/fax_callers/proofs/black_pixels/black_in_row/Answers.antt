@@ -24,19 +24,24 @@ pub loop-change-preserved : goal.loop-change-preserved
 loop-change-preserved c =
     one_more _ _ _ _ _ _ c.loop-change.invariant c.loop-change-test.true c.if-is_black.black (elim c.if-is_black.branch [
       | then-is_black w ↦ black_run c.loop-change.black _ c.if-is_black.black c.loop-change.is_black w.if-is_black.true w.black-is
-      | else-is_black w ↦ white_run c.loop-change.black _ c.if-is_black.black c.loop-change.is_black w.if-is_black.false w.black-is
+      | else-is_black w ↦
+          white_run c.loop-change.black _ c.if-is_black.black c.loop-change.is_black w.if-is_black.false w.black-is
     ])
 
 pub overflow_sub-black-then-is_black-2 : goal.overflow_sub-black-then-is_black-2
 overflow_sub-black-then-is_black-2 c = c.loop-change.invariant.within
 
 pub overflow_add-black-then-is_black-2 : goal.overflow_add-black-then-is_black-2
-overflow_add-black-then-is_black-2 c = omega (arith, c.loop-change.invariant.few, c.loop-change.invariant.within, c.ranges.columns.fits)
+overflow_add-black-then-is_black-2 c =
+    omega (arith, c.loop-change.invariant.few, c.loop-change.invariant.within, c.ranges.columns.fits)
 
 pub returns : goal.returns
 returns c =
-    let counted : c.if-is_black-2.black ≡ c.loop-change.black + (c.args.columns - c.loop-change.start) * number_of_pixel c.loop-change.is_black = elim c.if-is_black-2.branch [
-      | then-is_black-2 w ↦ black_run c.loop-change.black _ c.if-is_black-2.black c.loop-change.is_black w.if-is_black-2.true w.black-is
-      | else-is_black-2 w ↦ white_run c.loop-change.black _ c.if-is_black-2.black c.loop-change.is_black w.if-is_black-2.false w.black-is
+    let counted : c.if-is_black-2.black ≡ c.loop-change.black + (c.args.columns - c.loop-change.start)
+    * number_of_pixel c.loop-change.is_black = elim c.if-is_black-2.branch [
+      | then-is_black-2 w ↦
+          black_run c.loop-change.black _ c.if-is_black-2.black c.loop-change.is_black w.if-is_black-2.true w.black-is
+      | else-is_black-2 w ↦
+          white_run c.loop-change.black _ c.if-is_black-2.black c.loop-change.is_black w.if-is_black-2.false w.black-is
     ] in
     c.from.ensures ∙ counted ∙ sym (last_run _ _ _ _ _ _ c.loop-change.invariant (omega (arith, c.loop-change-test.false)))

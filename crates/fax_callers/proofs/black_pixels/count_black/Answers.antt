@@ -11,9 +11,9 @@ pub returns-clause-counted : goal.returns-clause-counted
 returns-clause-counted c =
     let rows = (reading_of c.args.settings c.args.order c.args.«data».now).rows in
     c.black.ensures ∙ c.in_ok-decode_once.ensures.rows
-    ∙ ap (λ (t : Tally). meaning_after (λ black places. in_64_bits (black + black_in_row (pixels t.columns places))) t.black rows) c.new-sink.ensures
-    ∙ c.steps_on_rows.ensures c.args.settings.columns (λ black row. in_64_bits (black + black_in_row row)) 0 rows c.in_ok-decode_once.ensures.widths
-    ∙ counts_all 0 rows ∙ ap in_64_bits (zero-add (black_in rows))
+    ∙ ap (λ (t : Tally). meaning_after (λ black places. in_64_bits (black + black_in_row (pixels t.columns places))) t.black rows)
+    c.new-sink.ensures ∙ c.steps_on_rows.ensures c.args.settings.columns (λ black row. in_64_bits (black + black_in_row row)) 0
+    rows c.in_ok-decode_once.ensures.widths ∙ counts_all 0 rows ∙ ap in_64_bits (zero-add (black_in rows))
 
 pub returns-in_err-decode_once-clause-closed : goal.returns-in_err-decode_once-clause-closed
 returns-in_err-decode_once-clause-closed c = λ rows count is.
@@ -22,7 +22,8 @@ returns-in_err-decode_once-clause-closed c = λ rows count is.
 
 pub returns-clause-closed : goal.returns-clause-closed
 returns-clause-closed c = λ rows count is.
-    ap Ok (returns-clause-counted c ∙ ap (λ rows. in_64_bits (black_in rows)) ((c.in_ok-decode_once.ensures.closed rows count is).1))
+    ap Ok
+    (returns-clause-counted c ∙ ap (λ rows. in_64_bits (black_in rows)) ((c.in_ok-decode_once.ensures.closed rows count is).1))
 
 pub returns-in_err-decode_once-clause-limited : goal.returns-in_err-decode_once-clause-limited
 returns-in_err-decode_once-clause-limited c = λ rows is.

@@ -8,10 +8,12 @@ use Rattle.fax_callers.proofs.once.decode_once.Goals as goal
 pub returns-in_err-ctx-clause-front : goal.returns-in_err-ctx-clause-front
 returns-in_err-ctx-clause-front g c =
     let answer = err_from_is_err_and c.from_residual.result c.from_residual.ensures.1 in
-    rw (answer.1, answer.2, c.in_err-ctx.ensures.only_memory) (none_taken c.args.settings (bits_in c.args.order c.args.«data».now) _ _ _)
+    rw (answer.1, answer.2, c.in_err-ctx.ensures.only_memory)
+    (none_taken c.args.settings (bits_in c.args.order c.args.«data».now) _ _ _)
 
 pub returns-clause-front : goal.returns-clause-front
-returns-clause-front g c = rw (← ap (λ (ctx : Context). ctx.held.settings) c.in_ok-ctx.ensures.made) (first_taken _ _ _ _ _ _ _ _ c.decode_in.ensures.decodes)
+returns-clause-front g c = rw (← ap (λ (ctx : Context). ctx.held.settings) c.in_ok-ctx.ensures.made)
+    (first_taken _ _ _ _ _ _ _ _ c.decode_in.ensures.decodes)
 
 pub returns-clause-closed : goal.returns-clause-closed
 returns-clause-closed g c =
@@ -19,4 +21,5 @@ returns-clause-closed g c =
 
 pub returns-clause-limited : goal.returns-clause-limited
 returns-clause-limited g c =
-    rw (← ap (λ (ctx : Context). ctx.held.settings) c.in_ok-ctx.ensures.made) (limited _ _ _ _ _ _ _ _ c.decode_in.ensures.decodes)
+    rw (← ap (λ (ctx : Context). ctx.held.settings) c.in_ok-ctx.ensures.made)
+    (limited _ _ _ _ _ _ _ _ c.decode_in.ensures.decodes)

@@ -6,26 +6,29 @@ use Rattle.fax_callers.proofs.pages.page_ends.Goals.{else-loop-begin-test, then-
 
 pub loop-begin-preserved : goal.loop-begin-preserved
 loop-begin-preserved c =
-    let cut = one_more c.args.columns c.args.order c.args.«data».now 0 c.loop-begin.ends.items c.loop-begin.begin c.in_ok-count.count c.loop-begin.invariant.0
-    (omega (arith, c.if-count-eq0.false)) c.in_ok-count.ensures.within (c.in_ok-count.ensures.page c.args.columns c.loop-begin.invariant.2) in
+    let cut = one_more c.args.columns c.args.order c.args.«data».now 0 c.loop-begin.ends.items c.loop-begin.begin
+    c.in_ok-count.count c.loop-begin.invariant.0 (omega (arith, c.if-count-eq0.false)) c.in_ok-count.ensures.within
+    (c.in_ok-count.ensures.page c.args.columns c.loop-begin.invariant.2) in
     (rw (c.in_ok-push.ensures.items) cut, c.in_ok-count.ensures.within, c.skip_page.ensures.settings ∙ c.loop-begin.invariant.2)
 
 pub returns-in_err-count-clause-closed : goal.returns-in_err-count-clause-closed
 returns-in_err-count-clause-closed c = λ all stand.
     let answer = err_from_is_err_and c.from_residual-in_err-count.result c.from_residual-in_err-count.ensures.1 in
     rw (answer.1, answer.2) (λ fault.
-    let same = same_pages c.args.columns c.args.order c.args.«data».now c.closed_pages.ensures 0 c.loop-begin.begin c.loop-begin.ends.items all c.loop-begin.invariant.0
-    (λ count some within read. let never = c.in_err-count.ensures.page c.args.columns c.loop-begin.invariant.2 fault ∙ read in cc) stand in
+    let same = same_pages c.args.columns c.args.order c.args.«data».now c.closed_pages.ensures
+    0 c.loop-begin.begin c.loop-begin.ends.items all c.loop-begin.invariant.0 (λ count some within read.
+    let never = c.in_err-count.ensures.page c.args.columns c.loop-begin.invariant.2 fault ∙ read in cc) stand in
     absurd (omega (arith, same.1, c.loop-begin-test.true)))
 
 pub returns-clause-closed : goal.returns-clause-closed
 returns-clause-closed c = λ all stand. (
   refl,
-  (same_pages c.args.columns c.args.order c.args.«data».now c.closed_pages.ensures 0 c.loop-begin.begin c.loop-begin.ends.items all c.loop-begin.invariant.0
-      (λ count some within read. elim c.loop-begin-test.branch [
+  (same_pages c.args.columns c.args.order c.args.«data».now c.closed_pages.ensures 0 c.loop-begin.begin c.loop-begin.ends.items
+      all c.loop-begin.invariant.0 (λ count some within read. elim c.loop-begin-test.branch [
         | else-loop-begin-test w ↦ omega (arith, some, within, w.loop-begin-test.false)
         | then-loop-begin-test+in_ok-count+then-count-eq0 w ↦
-            let zero : w.in_ok-count.count ≡ count = let same = w.in_ok-count.ensures.page c.args.columns c.loop-begin.invariant.2 ∙ read in cc in
+            let zero : w.in_ok-count.count ≡ count = let same =
+            w.in_ok-count.ensures.page c.args.columns c.loop-begin.invariant.2 ∙ read in cc in
             omega (arith, zero, some, w.if-count-eq0.true)
       ]) stand).0,
 )

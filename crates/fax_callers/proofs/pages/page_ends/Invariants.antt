@@ -3,7 +3,8 @@ use Rattle.fax_callers.specs.Pages.{page_settings, EndAt}
 use Rattle.fax_callers.proofs.pages.page_ends.Given as goal
 
 abbrev pub invariant-loop-begin : goal.invariant-loop-begin
-invariant-loop-begin l = EndAt l.columns l.order l.«data» 0 l.ends.items l.begin × (l.begin ≤ length l.«data») × (l.ctx.held.settings ≡ page_settings l.columns)
+invariant-loop-begin l = EndAt l.columns l.order l.«data» 0 l.ends.items l.begin × (l.begin ≤ length l.«data»)
+    × (l.ctx.held.settings ≡ page_settings l.columns)
 
 abbrev pub decreases-loop-begin : goal.decreases-loop-begin
 decreases-loop-begin l = length l.«data» - l.begin

@@ -19,7 +19,8 @@ returns-in_err-decode_once-clause-closed c = λ rows count is.
     rw (answer.1, answer.2) (λ fault. let never = (c.in_err-decode_once.ensures.closed rows count is fault).0 in cc)
 
 pub returns-clause-closed : goal.returns-clause-closed
-returns-clause-closed c = λ rows count is. (refl, returns-clause-packed c ∙ ap packed (c.in_ok-decode_once.ensures.closed rows count is).1)
+returns-clause-closed c =
+    λ rows count is. (refl, returns-clause-packed c ∙ ap packed (c.in_ok-decode_once.ensures.closed rows count is).1)
 
 pub returns-in_err-decode_once-clause-limited : goal.returns-in_err-decode_once-clause-limited
 returns-in_err-decode_once-clause-limited c = λ rows is.

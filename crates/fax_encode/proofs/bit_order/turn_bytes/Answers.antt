@@ -1,5 +1,4 @@
-use Rattle.std.proofs.Common.{ℕ, ◌∙◌, arith}
-use Rattle.std.proofs.lemmas.List.{length-set}
+use Rattle.fax_encode.proofs.Names.{ℕ, ◌∙◌, arith, length-set}
 use Rattle.fax_encode.proofs.TurnedBits.{turned_bytes, turned_more, kept_more}
 use Rattle.fax_encode.proofs.bit_order.turn_bytes.Goals as goal
 
@@ -9,8 +8,10 @@ loop-index-preserved c =
     let byte : ℕ = c.turned.result in
     record {
       same_length = length-set c.loop-index.bytes i byte ∙ c.loop-index.invariant.same_length;
-      turned = turned_more c.loop-index.bytes c.args.bytes.now i byte c.loop-index-test.true c.turned.ensures c.loop-index.invariant.kept c.loop-index.invariant.turned;
-      kept = kept_more c.loop-index.bytes c.args.bytes.now i byte c.loop-index-test.true c.turned.ensures c.loop-index.invariant.kept;
+      turned = turned_more c.loop-index.bytes c.args.bytes.now i byte c.loop-index-test.true c.turned.ensures
+          c.loop-index.invariant.kept c.loop-index.invariant.turned;
+      kept = kept_more c.loop-index.bytes c.args.bytes.now i byte c.loop-index-test.true c.turned.ensures
+          c.loop-index.invariant.kept;
     }
 
 pub returns : goal.returns

@@ -1,5 +1,4 @@
-use Rattle.std.proofs.Common.{◌≡◌, ◌≤◌, ◌++◌, ◌%◌}
-use Rattle.hayro_ccitt.specs.Bits.{bits_of, low_bits}
+use Rattle.fax_encode.proofs.Names.{◌≡◌, ◌≤◌, ◌++◌, ◌%◌, bits_of, low_bits}
 use Rattle.fax_encode.proofs.bit_writer.push_whole_bytes.Given as goal
 
 abbrev pub invariant-loop-left : goal.invariant-loop-left

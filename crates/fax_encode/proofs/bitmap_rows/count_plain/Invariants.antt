@@ -1,5 +1,4 @@
-use Rattle.std.proofs.Common.{◌≡◌, ◌*◌, ◌-◌, ◌≤◌, take, replicate}
-use Rattle.hayro_ccitt.specs.Bits.{bits_of}
+use Rattle.fax_encode.proofs.Names.{◌≡◌, ◌*◌, ◌-◌, ◌≤◌, take, replicate, bits_of}
 use Rattle.fax_encode.proofs.bitmap_rows.count_plain.Given as goal
 
 abbrev pub invariant-eights : goal.invariant-eights

@@ -1,6 +1,4 @@
-use Rattle.std.proofs.Common.{refl}
-use Rattle.std.proofs.lemmas.Bool.{and_parts}
-use Rattle.std.proofs.lemmas.List.{take_rest}
+use Rattle.fax_encode.proofs.Names.{refl, and_parts, take_rest}
 use Rattle.fax_encode.proofs.ScannedRows.{plain_both}
 use Rattle.fax_encode.proofs.bitmap_rows.eight_are_plain.Goals as goal
 

@@ -1,8 +1,5 @@
-use Rattle.std.proofs.Common.{◌≡◌, ◌<◌, ℕ, List, get_or, ap, ◌∙◌, arith}
-use Rattle.std.specs.Int.{from_be_bytes, w64}
-use Rattle.std.proofs.lemmas.List.{length-set}
-use Rattle.std.proofs.lemmas.List.Edits.{fill_by_more}
-use Rattle.std.proofs.lemmas.List.FromFn.{fill_by_all}
+use Rattle.fax_encode.proofs.Names.{◌≡◌, ◌<◌, ℕ, List, get_or, ap, ◌∙◌, arith, from_be_bytes, w64, length-set, fill_by_more}
+use Rattle.fax_encode.proofs.Names.{fill_by_all}
 use Rattle.fax_encode.proofs.ScannedWords.{eight, word_of_bytes}
 use Rattle.fax_encode.proofs.bitmap_rows.last_word.Goals as goal
 
@@ -13,12 +10,16 @@ loop-index-preserved c =
     let bytes : List ℕ = c.args.bytes.now in
     rw c.byte_or_zero.ensures (record {
       long = length-set first index (get_or bytes index 0) ∙ c.loop-index.invariant.long;
-      filled = fill_by_more (λ k. get_or bytes k 0) first index 0 (omega (arith, c.loop-index-test.true, c.loop-index.invariant.long)) c.loop-index.invariant.filled;
+      filled = fill_by_more (λ k. get_or bytes k 0) first index 0
+          (omega (arith, c.loop-index-test.true, c.loop-index.invariant.long)) c.loop-index.invariant.filled;
     })
 
 pub returns : goal.returns
 returns c =
     let bytes : List ℕ = c.args.bytes.now in
-    let at : (k : ℕ) → k < 8 → get_or c.loop-index.first k 0 ≡ get_or bytes k 0 = λ k lt. c.loop-index.invariant.filled k (omega (arith, lt, c.loop-index-test.false)) in
-    let filled : c.loop-index.first ≡ eight bytes = fill_by_all (λ k. get_or bytes k 0) c.loop-index.first 8 0 c.loop-index.invariant.long at in
-    word_of_bytes bytes c.from_be_bytes.result (λ i. (c.type_inv.bytes i).fits) (c.from_be_bytes.ensures ∙ ap (from_be_bytes w64) filled)
+    let at : (k : ℕ) → k < 8 → get_or c.loop-index.first k 0 ≡ get_or bytes k 0 =
+    λ k lt. c.loop-index.invariant.filled k (omega (arith, lt, c.loop-index-test.false)) in
+    let filled : c.loop-index.first ≡ eight bytes =
+    fill_by_all (λ k. get_or bytes k 0) c.loop-index.first 8 0 c.loop-index.invariant.long at in
+    word_of_bytes bytes c.from_be_bytes.result (λ i. (c.type_inv.bytes i).fits)
+    (c.from_be_bytes.ensures ∙ ap (from_be_bytes w64) filled)

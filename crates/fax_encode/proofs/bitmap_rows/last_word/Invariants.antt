@@ -1,4 +1,4 @@
-use Rattle.std.proofs.Common.{◌≡◌, ◌<◌, ℕ, length, get_or}
+use Rattle.fax_encode.proofs.Names.{◌≡◌, ◌<◌, ℕ, length, get_or}
 use Rattle.fax_encode.proofs.bitmap_rows.last_word.Given as goal
 
 abbrev pub invariant-loop-index : goal.invariant-loop-index

@@ -1,6 +1,4 @@
-use Rattle.std.proofs.Common.{◌≡◌, ◌++◌, take}
-use Rattle.hayro_ccitt.specs.Bits.{low_bits}
-use Rattle.fax_encode.specs.Scanning.{ones_from}
+use Rattle.fax_encode.proofs.Names.{◌≡◌, ◌++◌, take, low_bits, ones_from}
 use Rattle.fax_encode.proofs.bitmap_rows.push_ones.Given as goal
 
 abbrev pub invariant-loop-ones : goal.invariant-loop-ones

@@ -1,8 +1,5 @@
-use Rattle.std.proofs.Common.{◌≡◌, ◌+◌, ◌-◌, ◌*◌, ◌%◌, ◌^◌, ◌++◌, ◌∷◌, [], List, ℕ, take, refl, sym, ap, ◌∙◌, arith, append_assoc}
-use lib.Count.{count_leading_zeros}
-use Rattle.std.proofs.lemmas.List.{append-nil}
-use Rattle.hayro_ccitt.specs.Bits.{low_bits}
-use Rattle.fax_encode.specs.Scanning.{ones_from}
+use Rattle.fax_encode.proofs.Names.{◌≡◌, ◌+◌, ◌-◌, ◌*◌, ◌%◌, ◌^◌, ◌++◌, ◌∷◌, [], List, ℕ, take, refl, sym, ap, ◌∙◌, arith}
+use Rattle.fax_encode.proofs.Names.{append_assoc, count_leading_zeros, append-nil, low_bits, ones_from}
 use Rattle.fax_encode.proofs.ScannedWords.{one_there, one_taken, no_ones, ones-none}
 use Rattle.fax_encode.proofs.bitmap_rows.push_ones_growing.Goals as goal
 
@@ -12,22 +9,24 @@ all_found found rest whole e none = sym (append-nil found) ∙ ap (λ (l : List 
 
 pub returns-then-ahead-count : goal.returns-then-ahead-count
 returns-then-ahead-count c =
-    all_found c.loop-ones.list.items _ _ c.loop-ones.invariant
-    (no_ones c.loop-ones.ones (count_leading_zeros 64 c.loop-ones.ones) c.args.count (omega (arith, c.loop-ones.auto.ones-fits)) refl c.args.first c.if-ahead-count.true)
+    all_found c.loop-ones.list.items _ _ c.loop-ones.invariant (no_ones c.loop-ones.ones (count_leading_zeros 64 c.loop-ones.ones)
+    c.args.count (omega (arith, c.loop-ones.auto.ones-fits)) refl c.args.first c.if-ahead-count.true)
 
 pub overflow_sub-ones-in-loop-ones : goal.overflow_sub-ones-in-loop-ones
 overflow_sub-ones-in-loop-ones c =
-    one_there c.loop-ones.ones (count_leading_zeros 64 c.loop-ones.ones) c.args.count (omega (arith, c.loop-ones.auto.ones-fits)) refl
-    (omega (arith, c.requires.few, c.if-ahead-count.false))
+    one_there c.loop-ones.ones (count_leading_zeros 64 c.loop-ones.ones) c.args.count
+    (omega (arith, c.loop-ones.auto.ones-fits)) refl (omega (arith, c.requires.few, c.if-ahead-count.false))
 
 pub loop-ones-preserved : goal.loop-ones-preserved
 loop-ones-preserved c =
     let ahead : ℕ = count_leading_zeros 64 c.loop-ones.ones in
     let left : ℕ = c.loop-ones.ones - 1 * 2 ^ (63 - ahead) % 2 ^ 64 in
     let rest : List ℕ = ones_from c.args.first (take c.args.count (low_bits 64 left)) in
-    let one = one_taken c.loop-ones.ones ahead c.args.count (omega (arith, c.loop-ones.auto.ones-fits)) refl c.args.first left (omega (arith, c.if-ahead-count.false)) c.requires.few refl in
-    ap (λ (l : List ℕ). l ++ rest) c.in_ok-push.ensures.items ∙ append_assoc c.loop-ones.list.items ((c.args.first + ahead) ∷ []) rest
-    ∙ ap (λ (l : List ℕ). c.loop-ones.list.items ++ l) (sym one) ∙ c.loop-ones.invariant
+    let one = one_taken c.loop-ones.ones ahead c.args.count (omega (arith, c.loop-ones.auto.ones-fits)) refl c.args.first left
+    (omega (arith, c.if-ahead-count.false)) c.requires.few refl in
+    ap (λ (l : List ℕ). l ++ rest) c.in_ok-push.ensures.items ∙ append_assoc c.loop-ones.list.items
+    ((c.args.first + ahead) ∷ []) rest ∙ ap (λ (l : List ℕ). c.loop-ones.list.items ++ l) (sym one) ∙ c.loop-ones.invariant
 
 pub returns : goal.returns
-returns c = all_found c.loop-ones.list.items _ _ c.loop-ones.invariant (ones-none c.args.first c.args.count c.loop-ones.ones (omega (arith, c.loop-ones-test.false)))
+returns c = all_found c.loop-ones.list.items _ _ c.loop-ones.invariant
+    (ones-none c.args.first c.args.count c.loop-ones.ones (omega (arith, c.loop-ones-test.false)))

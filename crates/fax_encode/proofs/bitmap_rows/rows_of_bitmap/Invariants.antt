@@ -1,7 +1,4 @@
-use Rattle.std.proofs.Common.{◌≡◌, ◌++◌, length, map}
-use Rattle.fax_encode.specs.Chosen.{rows_of}
-use Rattle.fax_encode.specs.Packed.{shown}
-use Rattle.fax_encode.specs.Refusals.{AreRows}
+use Rattle.fax_encode.proofs.Names.{◌≡◌, ◌++◌, length, map, rows_of, shown, AreRows}
 use Rattle.fax_encode.proofs.bitmap_rows.rows_of_bitmap.Given as goal
 
 abbrev pub invariant-loop-rest : goal.invariant-loop-rest

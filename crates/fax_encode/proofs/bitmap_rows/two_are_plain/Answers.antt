@@ -1,7 +1,5 @@
-use Rattle.std.proofs.Common.{ℕ, ◌==◌, List, length, refl, ap, ◌∙◌, arith}
-use Rattle.std.proofs.lemmas.Bool.{and_parts, eqb-true}
-use Rattle.std.proofs.lemmas.List.{take_rest, length-drop}
-use Rattle.hayro_ccitt.specs.Bits.{low_bits}
+use Rattle.fax_encode.proofs.Names.{ℕ, ◌==◌, List, length, refl, ap, ◌∙◌, arith, and_parts, eqb-true, take_rest, length-drop}
+use Rattle.fax_encode.proofs.Names.{low_bits}
 use Rattle.fax_encode.proofs.ScannedRows.{plain_both, plain_word_there}
 use Rattle.fax_encode.proofs.bitmap_rows.two_are_plain.Goals as goal
 
@@ -12,6 +10,7 @@ returns c = λ is.
     let rest = take_rest bytes 8 in
     let first = plain_word_there c.whole_word.result c.args.is_black bytes (omega (arith, c.requires)) c.whole_word.ensures
     (ap (low_bits 64) (eqb-true c.whole_word.result c.plain_word.result parts.0) ∙ c.plain_word.ensures) in
-    let second = plain_word_there c.whole_word-2.result c.args.is_black _ (omega (arith, c.requires, ap length rest, length-drop 8 bytes)) c.whole_word-2.ensures
+    let second = plain_word_there c.whole_word-2.result c.args.is_black _
+    (omega (arith, c.requires, ap length rest, length-drop 8 bytes)) c.whole_word-2.ensures
     (ap (low_bits 64) (eqb-true c.whole_word-2.result c.plain_word-2.result parts.1) ∙ c.plain_word-2.ensures) in
     plain_both 8 8 16 c.args.is_black bytes _ refl rest first second

@@ -1,4 +1,4 @@
-use Rattle.fax_encode.specs.Packed.{shown}
+use Rattle.fax_encode.proofs.Names.{shown}
 use Rattle.fax_encode.proofs.ClosedPictures.{in_group3}
 use Rattle.fax_encode.proofs.closed_pictures.encode_bitmap_1d.Goals as goal
 

@@ -1,4 +1,4 @@
-use Rattle.fax_encode.specs.Packed.{shown}
+use Rattle.fax_encode.proofs.Names.{shown}
 use Rattle.fax_encode.proofs.ClosedPictures.{in_group4}
 use Rattle.fax_encode.proofs.closed_pictures.encode_bitmap_g4.Goals as goal
 

@@ -1,6 +1,4 @@
-use Rattle.std.proofs.Common.{◌≡◌, true, map, ap}
-use Rattle.fax_encode.specs.Chosen.{rows_of}
-use Rattle.fax_encode.specs.Settings.{names_encoding}
+use Rattle.fax_encode.proofs.Names.{◌≡◌, true, map, ap, rows_of, names_encoding}
 use Rattle.fax_encode.proofs.ClosedPictures.{in_group4}
 use Rattle.fax_encode.proofs.closed_pictures.encode_g4.Goals as goal
 

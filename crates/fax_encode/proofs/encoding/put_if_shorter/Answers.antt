@@ -1,34 +1,34 @@
-use Rattle.std.proofs.Common.{◌≡◌, ◌∷◌, ◌++◌, [], false, leb, length, sym, ap, ◌∙◌, append_assoc}
-use Rattle.std.proofs.lemmas.List.{append-nil}
-use Rattle.hayro_ccitt.specs.Bits.{Bits}
-use Rattle.hayro_ccitt.specs.Rows.{pixels}
-use Rattle.fax_encode.specs.Chosen.{chosen_line_1d, chosen_line_2d}
-use Rattle.fax_encode.specs.Writing.{all_bits}
+use Rattle.fax_encode.proofs.Names.{◌≡◌, ◌∷◌, ◌++◌, [], false, leb, length, sym, ap, ◌∙◌, append_assoc, append-nil, Bits, pixels}
+use Rattle.fax_encode.proofs.Names.{chosen_line_1d, chosen_line_2d, all_bits}
+use Rattle.fax_encode.proofs.{RowLists.line_of_list, encoding.put_if_shorter.Goals.After-takes_at_least}
 use Rattle.fax_encode.proofs.LinesByK.{shorter_is, marked_within, cut_to_mark}
-use Rattle.fax_encode.proofs.RowLists.{line_of_list}
-use Rattle.fax_encode.proofs.encoding.put_if_shorter.Goals.{After-takes_at_least}
 use Rattle.fax_encode.proofs.encoding.put_if_shorter.Goals as goal
 
-answered : (c : After-takes_at_least) → c.takes_at_least.result ≡ leb (length (chosen_line_2d (pixels c.args.columns c.args.reference.now) (pixels c.args.columns c.args.changes.now)))
+answered : (c : After-takes_at_least) → c.takes_at_least.result
+    ≡ leb (length (chosen_line_2d (pixels c.args.columns c.args.reference.now) (pixels c.args.columns c.args.changes.now)))
     (length (chosen_line_1d (pixels c.args.columns c.args.changes.now)))
-answered c = shorter_is (all_bits c.put.new.self) (all_bits c.put_line.new.writer) _ _ _ c.bit_count-start.result c.bit_count.result c.takes_at_least.result
-    c.in_ok-put_line.ensures c.bit_count-start.ensures c.bit_count.ensures (sym (line_of_list c.args.columns c.args.changes.now c.requires.changes)) c.takes_at_least.ensures
+answered c = shorter_is (all_bits c.put.new.self) (all_bits c.put_line.new.writer) _ _ _ c.bit_count-start.result
+    c.bit_count.result c.takes_at_least.result c.in_ok-put_line.ensures c.bit_count-start.ensures c.bit_count.ensures
+    (sym (line_of_list c.args.columns c.args.changes.now c.requires.changes)) c.takes_at_least.ensures
 
 pub returns-then-takes_at_least-clause-shorter : goal.returns-then-takes_at_least-clause-shorter
-returns-then-takes_at_least-clause-shorter c = sym c.if-takes_at_least.true ∙ answered (goal.at.returns-then-takes_at_least-clause-shorter c).After-takes_at_least
+returns-then-takes_at_least-clause-shorter c =
+    sym c.if-takes_at_least.true ∙ answered (goal.at.returns-then-takes_at_least-clause-shorter c).After-takes_at_least
 
 pub returns-clause-shorter : goal.returns-clause-shorter
 returns-clause-shorter c = sym c.if-takes_at_least.false ∙ answered (goal.at.returns-clause-shorter c).After-takes_at_least
 
 -- the tag and the line
-behind : (c : After-takes_at_least) → all_bits c.put_line.new.writer
-    ≡ all_bits c.args.writer.now ++ (false ∷ chosen_line_2d (pixels c.args.columns c.args.reference.now) (pixels c.args.columns c.args.changes.now))
+behind : (c : After-takes_at_least) → all_bits c.put_line.new.writer ≡ all_bits c.args.writer.now
+    ++ (false ∷ chosen_line_2d (pixels c.args.columns c.args.reference.now) (pixels c.args.columns c.args.changes.now))
 behind c =
     let line : Bits = chosen_line_2d (pixels c.args.columns c.args.reference.now) (pixels c.args.columns c.args.changes.now) in
-    c.in_ok-put_line.ensures ∙ ap (λ (b : Bits). b ++ line) c.in_ok-put.ensures ∙ append_assoc (all_bits c.args.writer.now) (false ∷ []) line
+    c.in_ok-put_line.ensures ∙ ap (λ (b : Bits). b ++ line) c.in_ok-put.ensures
+    ∙ append_assoc (all_bits c.args.writer.now) (false ∷ []) line
 
 pub cut_back-requires : goal.cut_back-requires
-cut_back-requires c = marked_within c.args.writer.now c.mark-mark.result (all_bits c.put_line.new.writer) _ c.mark-mark.ensures (behind (goal.at.cut_back-requires c).After-takes_at_least)
+cut_back-requires c = marked_within c.args.writer.now c.mark-mark.result (all_bits c.put_line.new.writer) _ c.mark-mark.ensures
+    (behind (goal.at.cut_back-requires c).After-takes_at_least)
 
 pub returns-clause-written : goal.returns-clause-written
 returns-clause-written c = cut_to_mark c.args.writer.now c.mark-mark.result (all_bits c.put_line.new.writer) _ c.mark-mark.ensures

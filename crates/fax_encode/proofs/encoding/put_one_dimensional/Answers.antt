@@ -1,8 +1,5 @@
-use Rattle.std.proofs.Common.{◌≡◌, ◌∷◌, ◌++◌, [], true, OnOk, sym, ap, subst, ◌∙◌, append_assoc}
-use Rattle.hayro_ccitt.specs.declared.codes.Color.TheVariants.{White}
-use Rattle.hayro_ccitt.specs.Bits.{Bits}
-use Rattle.fax_encode.specs.Chosen.{chosen_runs}
-use Rattle.fax_encode.specs.Writing.{all_bits}
+use Rattle.fax_encode.proofs.Names.{◌≡◌, ◌∷◌, ◌++◌, [], true, OnOk, sym, ap, subst, ◌∙◌, append_assoc, White, Bits, chosen_runs}
+use Rattle.fax_encode.proofs.Names.{all_bits}
 use Rattle.fax_encode.proofs.RowLists.{line_of_list}
 use Rattle.fax_encode.proofs.encoding.put_one_dimensional.Goals as goal
 
@@ -10,6 +7,6 @@ pub returns : goal.returns
 returns c =
     let old : Bits = all_bits c.args.writer.now in
     let line = line_of_list c.args.columns c.args.changes.now c.requires in
-    let both = ap (λ (b : Bits). b ++ chosen_runs c.args.columns White 0 c.args.changes.now) c.in_ok-put.ensures
-    ∙ append_assoc old (true ∷ []) (chosen_runs c.args.columns White 0 c.args.changes.now) ∙ ap (λ (b : Bits). old ++ true ∷ b) (sym line) in
+    let both = ap (λ (b : Bits). b ++ chosen_runs c.args.columns White 0 c.args.changes.now) c.in_ok-put.ensures ∙ append_assoc
+    old (true ∷ []) (chosen_runs c.args.columns White 0 c.args.changes.now) ∙ ap (λ (b : Bits). old ++ true ∷ b) (sym line) in
     subst (λ (b : Bits). OnOk c.put_row.result (all_bits c.put_row.new.writer ≡ b)) both c.put_row.ensures

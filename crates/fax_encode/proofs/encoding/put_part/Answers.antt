@@ -1,10 +1,5 @@
-use Rattle.std.proofs.Common.{◌≡◌, ◌++◌, false, length, sym, ap, ◌∙◌}
-use Rattle.hayro_ccitt.specs.Bits.{Bits}
-use Rattle.hayro_ccitt.specs.Rows.{Row, pixels}
-use Rattle.fax_encode.specs.Settings.{chosen_line, has_eols}
-use Rattle.fax_encode.specs.Writing.{all_bits}
-use Rattle.fax_encode.proofs.LinesOfPictures.{part_without_eol}
-use Rattle.fax_encode.proofs.ModesWritten.{padded_line, padded_whole}
+use Rattle.fax_encode.proofs.Names.{◌≡◌, ◌++◌, false, length, sym, ap, ◌∙◌, Bits, Row, pixels, chosen_line, has_eols, all_bits}
+use Rattle.fax_encode.proofs.{LinesOfPictures.part_without_eol, ModesWritten.padded_line, ModesWritten.padded_whole}
 use Rattle.fax_encode.proofs.encoding.put_part.Goals as goal
 
 pub returns-clause-written : goal.returns-clause-written
@@ -13,11 +8,13 @@ returns-clause-written c =
     let reference : Row = pixels c.args.columns c.args.reference.now in
     let row : Row = pixels c.args.columns c.args.changes.now in
     let line : Bits = chosen_line c.args.settings.encoding c.args.left reference row in
-    let none : has_eols c.args.settings.encoding c.args.settings.end_of_line ≡ false = sym c.has_eols.ensures ∙ c.if-has_eols.false in
-    padded_line c.args.settings.rows_are_byte_aligned old (all_bits c.put_line_of-2.new.writer) (all_bits c.put_padding.new.writer) line (c.requires.whole none)
-    c.in_ok-after.ensures.written c.in_ok-put_padding.ensures
+    let none : has_eols c.args.settings.encoding c.args.settings.end_of_line ≡ false =
+    sym c.has_eols.ensures ∙ c.if-has_eols.false in
+    padded_line c.args.settings.rows_are_byte_aligned old (all_bits c.put_line_of-2.new.writer)
+    (all_bits c.put_padding.new.writer) line (c.requires.whole none) c.in_ok-after.ensures.written c.in_ok-put_padding.ensures
     ∙ ap (λ (b : Bits). old ++ b) (sym (part_without_eol c.args.settings (length old) c.args.left reference row none))
 
 pub returns-clause-whole : goal.returns-clause-whole
 returns-clause-whole c = λ none.
-    padded_whole c.args.settings.rows_are_byte_aligned (all_bits c.put_line_of-2.new.writer) (all_bits c.put_padding.new.writer) c.in_ok-put_padding.ensures
+    padded_whole c.args.settings.rows_are_byte_aligned (all_bits c.put_line_of-2.new.writer)
+    (all_bits c.put_padding.new.writer) c.in_ok-put_padding.ensures

@@ -1,6 +1,4 @@
-use Rattle.std.proofs.Common.{◌≡◌, ◌++◌, length}
-use Rattle.fax_encode.specs.Settings.{chosen_eols}
-use Rattle.fax_encode.specs.Writing.{all_bits}
+use Rattle.fax_encode.proofs.Names.{◌≡◌, ◌++◌, length, chosen_eols, all_bits}
 use Rattle.fax_encode.proofs.group3.put_closing_eols.Given as goal
 
 abbrev pub invariant-loop-left : goal.invariant-loop-left

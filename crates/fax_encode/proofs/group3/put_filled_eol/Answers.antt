@@ -1,7 +1,4 @@
-use Rattle.std.proofs.Common.{◌≡◌, ◌++◌, OnOk, ap, subst, ◌∙◌}
-use Rattle.hayro_ccitt.specs.Bits.{Bits}
-use Rattle.hayro_ccitt.specs.Encodings.{eol}
-use Rattle.fax_encode.specs.Writing.{all_bits}
+use Rattle.fax_encode.proofs.Names.{◌≡◌, ◌++◌, OnOk, ap, subst, ◌∙◌, Bits, eol, all_bits}
 use Rattle.fax_encode.proofs.FilledEols.{one_fits, eol_bits}
 use Rattle.fax_encode.proofs.group3.put_filled_eol.Goals as goal
 

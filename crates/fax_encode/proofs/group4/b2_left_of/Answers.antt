@@ -1,4 +1,4 @@
-use Rattle.std.proofs.Common.{◌+◌, refl, arith}
+use Rattle.fax_encode.proofs.Names.{◌+◌, refl, arith}
 use Rattle.fax_encode.proofs.Elements.{next_is_right}
 use Rattle.fax_encode.proofs.group4.b2_left_of.Goals as goal
 

@@ -1,6 +1,4 @@
-use Rattle.std.proofs.Common.{sym, ◌∙◌, arith}
-use Rattle.hayro_ccitt.proofs.PixelRows.ReferencePlaces.{b2_after_b1}
-use Rattle.fax_encode.specs.Coding.{color_after, place_of}
+use Rattle.fax_encode.proofs.Names.{sym, ◌∙◌, arith, b2_after_b1, color_after, place_of}
 use Rattle.fax_encode.proofs.StepsToB1.{b1_reached, near_up, near_within}
 use Rattle.fax_encode.proofs.group4.find_above.Goals as goal
 
@@ -12,13 +10,14 @@ twos-preserved c = record {
 }
 
 pub returns-clause-b1 : goal.returns-clause-b1
-returns-clause-b1 c = b1_reached c.args.columns c.args.reference.now c.requires.lawful (place_of c.args.at) c.twos.index c.twos.invariant.near c.requires.inside
-    (omega (arith, c.twos-test.false, c.twos.invariant.here)) ∙ sym c.twos.invariant.here
+returns-clause-b1 c = b1_reached c.args.columns c.args.reference.now c.requires.lawful (place_of c.args.at) c.twos.index
+    c.twos.invariant.near c.requires.inside (omega (arith, c.twos-test.false, c.twos.invariant.here)) ∙ sym c.twos.invariant.here
 
 pub returns-clause-b2 : goal.returns-clause-b2
-returns-clause-b2 c = b2_after_b1 c.args.columns c.args.reference.now c.args.at.from c.twos.index (color_after c.args.at.next) c.requires.lawful
-    (b1_reached c.args.columns c.args.reference.now c.requires.lawful (place_of c.args.at) c.twos.index c.twos.invariant.near c.requires.inside
-    (omega (arith, c.twos-test.false, c.twos.invariant.here)))
+returns-clause-b2 c = b2_after_b1 c.args.columns c.args.reference.now c.args.at.from c.twos.index (color_after c.args.at.next)
+    c.requires.lawful (b1_reached c.args.columns c.args.reference.now c.requires.lawful (place_of c.args.at) c.twos.index
+    c.twos.invariant.near c.requires.inside (omega (arith, c.twos-test.false, c.twos.invariant.here)))
 
 pub returns-clause-within : goal.returns-clause-within
-returns-clause-within c = near_within c.args.columns c.args.reference.now c.requires.lawful (place_of c.args.at) c.twos.index c.twos.invariant.near c.requires.inside
+returns-clause-within c = near_within c.args.columns c.args.reference.now c.requires.lawful
+    (place_of c.args.at) c.twos.index c.twos.invariant.near c.requires.inside

@@ -1,5 +1,4 @@
-use Rattle.std.proofs.Common.{◌≡◌, ◌+◌, ◌-◌, length, get_or}
-use Rattle.fax_encode.specs.Coding.{IsNear, place_of}
+use Rattle.fax_encode.proofs.Names.{◌≡◌, ◌+◌, ◌-◌, length, get_or, IsNear, place_of}
 use Rattle.fax_encode.proofs.group4.find_above.Given as goal
 
 abbrev pub invariant-twos : goal.invariant-twos

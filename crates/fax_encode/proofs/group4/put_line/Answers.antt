@@ -1,38 +1,34 @@
-use Rattle.std.proofs.Common.{◌≤◌, arith}
-use Rattle.hayro_ccitt.specs.Rows.{pixels}
-use Rattle.fax_encode.specs.Chosen.{bits_at, chosen_from}
-use Rattle.fax_encode.specs.Coding.{place_of}
-use Rattle.fax_encode.specs.Writing.{all_bits}
-use Rattle.fax_encode.proofs.ModesWritten.{step_right, step_bits, no_more}
-use Rattle.fax_encode.proofs.RunsWritten.{one_part}
+use Rattle.fax_encode.proofs.Names.{◌≤◌, arith, pixels, bits_at, chosen_from, place_of, all_bits}
+use Rattle.fax_encode.proofs.{ModesWritten.no_more, ModesWritten.step_bits, ModesWritten.step_right, RunsWritten.one_part}
 use Rattle.fax_encode.proofs.group4.put_line.Goals as goal
 
 pub modes-smaller : goal.modes-smaller
 modes-smaller c =
-    let right = step_right c.args.columns c.args.reference.now c.args.changes.now c.requires.reference c.requires.changes (place_of c.modes.at) (place_of c.in_ok-at.at)
-    (omega (arith, c.from.ensures, c.modes-test.true)) c.in_ok-at.ensures.place in
+    let right = step_right c.args.columns c.args.reference.now c.args.changes.now c.requires.reference c.requires.changes
+    (place_of c.modes.at) (place_of c.in_ok-at.at) (omega (arith, c.from.ensures, c.modes-test.true)) c.in_ok-at.ensures.place in
     omega (arith, right.0, right.1)
 
 pub modes-preserved : goal.modes-preserved
 modes-preserved c =
     let inside : c.modes.at.from ≤ c.args.columns = omega (arith, c.from.ensures, c.modes-test.true) in
-    let right = step_right c.args.columns c.args.reference.now c.args.changes.now c.requires.reference c.requires.changes (place_of c.modes.at) (place_of c.in_ok-at.at) inside
-    c.in_ok-at.ensures.place in
+    let right = step_right c.args.columns c.args.reference.now c.args.changes.now c.requires.reference c.requires.changes
+    (place_of c.modes.at) (place_of c.in_ok-at.at) inside c.in_ok-at.ensures.place in
     record {
       within = right.1;
       near = c.in_ok-at.ensures.near;
       next = c.in_ok-at.ensures.next;
-      written = one_part (all_bits c.put_mode.new.writer) (all_bits c.modes.writer)
-          (chosen_from (pixels c.args.columns c.args.reference.now) (pixels c.args.columns c.args.changes.now) (place_of c.modes.at))
+      written = one_part (all_bits c.put_mode.new.writer) (all_bits c.modes.writer) (chosen_from
+          (pixels c.args.columns c.args.reference.now) (pixels c.args.columns c.args.changes.now) (place_of c.modes.at))
           (bits_at (pixels c.args.columns c.args.reference.now) (pixels c.args.columns c.args.changes.now) (place_of c.modes.at))
-          (chosen_from (pixels c.args.columns c.args.reference.now) (pixels c.args.columns c.args.changes.now) (place_of c.in_ok-at.at)) _ c.modes.invariant.written
-          (step_bits c.args.columns c.args.reference.now c.args.changes.now c.requires.reference c.requires.changes (place_of c.modes.at) (place_of c.in_ok-at.at) inside
-          c.in_ok-at.ensures.place) c.in_ok-at.ensures.written;
+          (chosen_from (pixels c.args.columns c.args.reference.now)
+          (pixels c.args.columns c.args.changes.now) (place_of c.in_ok-at.at)) _ c.modes.invariant.written
+          (step_bits c.args.columns c.args.reference.now c.args.changes.now c.requires.reference c.requires.changes
+          (place_of c.modes.at) (place_of c.in_ok-at.at) inside c.in_ok-at.ensures.place) c.in_ok-at.ensures.written;
     }
 
 pub returns : goal.returns
-returns c = no_more c.args.columns c.args.reference.now c.args.changes.now c.requires.reference c.requires.changes (place_of c.modes.at) (all_bits c.modes.writer) _
-    (omega (arith, c.from.ensures, c.modes-test.false)) c.modes.invariant.written
+returns c = no_more c.args.columns c.args.reference.now c.args.changes.now c.requires.reference c.requires.changes (place_of
+    c.modes.at) (all_bits c.modes.writer) _ (omega (arith, c.from.ensures, c.modes-test.false)) c.modes.invariant.written
 
 pub put_mode-requires-clause-next : goal.put_mode-requires-clause-next
 put_mode-requires-clause-next c = c.modes.invariant.next (omega (arith, c.from.ensures, c.modes-test.true))

@@ -1,8 +1,5 @@
-use Rattle.std.proofs.Common.{◌≡◌, ◌+◌, ◌-◌, ◌≤◌, ◌++◌}
-use Rattle.hayro_ccitt.specs.Rows.{pixels}
-use Rattle.fax_encode.specs.Chosen.{chosen_from, chosen_line_2d}
-use Rattle.fax_encode.specs.Coding.{AreAllLeft, IsNear, place_of}
-use Rattle.fax_encode.specs.Writing.{all_bits}
+use Rattle.fax_encode.proofs.Names.{◌≡◌, ◌+◌, ◌-◌, ◌≤◌, ◌++◌, pixels, chosen_from, chosen_line_2d, AreAllLeft, IsNear, place_of}
+use Rattle.fax_encode.proofs.Names.{all_bits}
 use Rattle.fax_encode.proofs.group4.put_line.Given as goal
 
 abbrev pub invariant-modes : goal.invariant-modes

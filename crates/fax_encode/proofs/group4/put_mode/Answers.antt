@@ -1,17 +1,11 @@
-use Rattle.std.proofs.Common.{◌≡◌, ◌+◌, ◌-◌, ◌<◌, ◌≤◌, ◌++◌, ℕ, suc, Bool, true, false, cond, [], length, get_or, refl, sym, ap, subst, ◌∙◌, arith}
-use Rattle.hayro_ccitt.specs.declared.codes.Color.{Color}
-use Rattle.hayro_ccitt.specs.declared.codes.Mode.TheVariants.{Horizontal}
-use Rattle.hayro_ccitt.specs.Bits.{Bits}
-use Rattle.hayro_ccitt.specs.Rows.{Row, pixels, opposite, a1, a2, b1, b2}
-use Rattle.hayro_ccitt.proofs.PixelRows.ChangesAndPixels.{length-pixels}
-use Rattle.fax_encode.specs.Chosen.{Place, chosen_run, word_of_mode, vertical_mode}
-use Rattle.std.proofs.lemmas.List.{append-nil}
-use Rattle.fax_encode.specs.Coding.{IsNear, color_after, place_of}
-use Rattle.fax_encode.proofs.StepsToB1.{color_next, color_second, near_next, near_pass, near_right}
-use Rattle.hayro_ccitt.proofs.PixelRows.ChangePlaces.{a1_next}
-use Rattle.fax_encode.specs.Writing.{all_bits}
+use Rattle.fax_encode.proofs.Names.{◌≡◌, ◌+◌, ◌-◌, ◌<◌, ◌≤◌, ◌++◌, ℕ, suc, Bool, true, false, cond, [], length, get_or, refl, sym}
+use Rattle.fax_encode.proofs.Names.{ap, subst, ◌∙◌, arith, Color, Horizontal, Bits, Row, pixels, opposite, a1, a2, b1, b2}
+use Rattle.fax_encode.proofs.Names.{length-pixels, Place, chosen_run, word_of_mode, vertical_mode, append-nil, IsNear}
+use Rattle.fax_encode.proofs.Names.{color_after, place_of, a1_next, all_bits}
 use Rattle.fax_encode.proofs.Elements.{a1_found, a2_found, next_is_right, left_of_next, still_left}
-use Rattle.fax_encode.proofs.ModesWritten.{pass_bits, vertical_bits, horizontal_bits, pass_place, vertical_place, horizontal_place, first_run, second_run, near_same, step_right}
+use Rattle.fax_encode.proofs.ModesWritten.{pass_bits, vertical_bits, horizontal_bits, pass_place, vertical_place}
+use Rattle.fax_encode.proofs.ModesWritten.{horizontal_place, first_run, second_run, near_same, step_right}
+use Rattle.fax_encode.proofs.StepsToB1.{color_next, color_second, near_next, near_pass, near_right}
 use Rattle.fax_encode.proofs.group4.put_mode.Goals.{After-find_above-above}
 use Rattle.fax_encode.proofs.group4.put_mode.Goals as goal
 
@@ -20,9 +14,11 @@ inside c = omega (arith, c.requires.inside, length-pixels c.args.columns c.args.
 
 -- a1 as it was found
 a1_is : (c : After-find_above-above) → c.change_or_end-a1.result ≡ a1 (pixels c.args.columns c.args.changes.now) c.args.at.from
-a1_is c = c.change_or_end-a1.ensures ∙ sym (a1_found c.args.columns c.args.changes.now c.requires.changes c.args.at.from c.args.at.next c.requires.next)
+a1_is c = c.change_or_end-a1.ensures
+    ∙ sym (a1_found c.args.columns c.args.changes.now c.requires.changes c.args.at.from c.args.at.next c.requires.next)
 
-a2_is : (c : After-find_above-above) → a2 (pixels c.args.columns c.args.changes.now) c.args.at.from ≡ get_or c.args.changes.now (c.args.at.next + 1) c.args.columns
+a2_is : (c : After-find_above-above)
+    → a2 (pixels c.args.columns c.args.changes.now) c.args.at.from ≡ get_or c.args.changes.now (c.args.at.next + 1) c.args.columns
 a2_is c = a2_found c.args.columns c.args.changes.now c.requires.changes c.args.at.from c.args.at.next c.requires.next
 
 -- it is right of a0
@@ -34,36 +30,42 @@ returns-in-Some-clause-written c =
     let d = (goal.at.returns-in-Some-clause-written c).After-find_above-above in
     let reference : Row = pixels c.args.columns c.args.reference.now in
     let row : Row = pixels c.args.columns c.args.changes.now in
-    let left : b2 reference c.args.at.from (color_after c.args.at.next) < a1 row c.args.at.from = omega (arith, c.in-Some.ensures.0, c.in-Some.ensures.1, c.find_above-above.ensures.b2, a1_is d) in
-    c.in_ok-put_word.ensures ∙ ap (λ (b : Bits). all_bits c.args.writer.now ++ b) (c.pass_word.ensures.spells ∙ sym (pass_bits reference row (place_of c.args.at) (inside d) left))
+    let left : b2 reference c.args.at.from (color_after c.args.at.next) < a1 row c.args.at.from =
+    omega (arith, c.in-Some.ensures.0, c.in-Some.ensures.1, c.find_above-above.ensures.b2, a1_is d) in
+    c.in_ok-put_word.ensures ∙ ap (λ (b : Bits). all_bits c.args.writer.now ++ b)
+    (c.pass_word.ensures.spells ∙ sym (pass_bits reference row (place_of c.args.at) (inside d) left))
 
 pub returns-in-Some-clause-place : goal.returns-in-Some-clause-place
 returns-in-Some-clause-place c =
     let d = (goal.at.returns-in-Some-clause-place c).After-find_above-above in
     let reference : Row = pixels c.args.columns c.args.reference.now in
     let row : Row = pixels c.args.columns c.args.changes.now in
-    let left : b2 reference c.args.at.from (color_after c.args.at.next) < a1 row c.args.at.from = omega (arith, c.in-Some.ensures.0, c.in-Some.ensures.1, c.find_above-above.ensures.b2, a1_is d) in
+    let left : b2 reference c.args.at.from (color_after c.args.at.next) < a1 row c.args.at.from =
+    omega (arith, c.in-Some.ensures.0, c.in-Some.ensures.1, c.find_above-above.ensures.b2, a1_is d) in
     let to : ℕ → Place = λ n. record { from = n; color = (color_after c.args.at.next) } in
-    let from : c.from-in-Some.result + 1 ≡ suc (b2 reference c.args.at.from (color_after c.args.at.next)) = omega (arith, c.from-in-Some.ensures, c.in-Some.ensures.0, c.find_above-above.ensures.b2) in
+    let from : c.from-in-Some.result + 1 ≡ suc (b2 reference c.args.at.from (color_after c.args.at.next)) =
+    omega (arith, c.from-in-Some.ensures, c.in-Some.ensures.0, c.find_above-above.ensures.b2) in
     ap to from ∙ sym (pass_place reference row (place_of c.args.at) (inside d) left)
 
 pub returns-in-Some-clause-near : goal.returns-in-Some-clause-near
-returns-in-Some-clause-near c = subst (λ (n : ℕ). IsNear c.args.columns c.args.reference.now (record { from = n + 1; color = (color_after c.args.at.next) }) (c.find_above-above.result.index + 2))
-    (sym c.from-in-Some.ensures)
-    (near_pass c.args.columns c.args.reference.now c.requires.reference (place_of c.args.at) c.find_above-above.result.index c.find_above-above.ensures.near c.in-Some.b2
-    c.in-Some.ensures.0)
+returns-in-Some-clause-near c = subst (λ (n : ℕ). IsNear c.args.columns c.args.reference.now
+    (record { from = n + 1; color = (color_after c.args.at.next) }) (c.find_above-above.result.index + 2))
+    (sym c.from-in-Some.ensures) (near_pass c.args.columns c.args.reference.now c.requires.reference
+    (place_of c.args.at) c.find_above-above.result.index c.find_above-above.ensures.near c.in-Some.b2 c.in-Some.ensures.0)
 
 pub returns-in-Some-clause-next : goal.returns-in-Some-clause-next
 returns-in-Some-clause-next c = λ le.
-    let right = step_right c.args.columns c.args.reference.now c.args.changes.now c.requires.reference c.requires.changes (place_of c.args.at) _ c.requires.inside
-    (returns-in-Some-clause-place c) in
-    still_left c.args.columns c.args.changes.now c.args.at.from (c.from-in-Some.result + 1) c.args.at.next (omega (arith, right.0)) c.requires.next
+    let right = step_right c.args.columns c.args.reference.now c.args.changes.now c.requires.reference c.requires.changes
+    (place_of c.args.at) _ c.requires.inside (returns-in-Some-clause-place c) in
+    still_left c.args.columns c.args.changes.now c.args.at.from (c.from-in-Some.result + 1) c.args.at.next
+    (omega (arith, right.0)) c.requires.next
     (omega (arith, c.from-in-Some.ensures, c.in-Some.ensures.1, c.change_or_end-a1.ensures))
 
 -- ---- after V0
 -- b2 is not left of a1
 below_right : (c : After-find_above-above) → c.change_or_end-a1.result ≡ c.find_above-above.result.b1
-    → a1 (pixels c.args.columns c.args.changes.now) c.args.at.from ≤ b2 (pixels c.args.columns c.args.reference.now) c.args.at.from (color_after c.args.at.next)
+    → a1 (pixels c.args.columns c.args.changes.now) c.args.at.from
+    ≤ b2 (pixels c.args.columns c.args.reference.now) c.args.at.from (color_after c.args.at.next)
 below_right c same =
     let index : ℕ = c.find_above-above.result.index in
     omega (
@@ -84,7 +86,8 @@ returns-then-a1-above-clause-written c =
     let a : c.change_or_end-a1.result ≡ a1 row c.args.at.from = a1_is d in
     let b : c.find_above-above.result.b1 ≡ first = sym c.find_above-above.ensures.b1 in
     let near = near_same _ _ _ _ true b a c.put_below.ensures.near in
-    let same = ap (λ (n : ℕ). word_of_mode (vertical_mode n c.change_or_end-a1.result)) b ∙ ap (λ (n : ℕ). word_of_mode (vertical_mode first n)) a in
+    let same = ap (λ (n : ℕ). word_of_mode (vertical_mode n c.change_or_end-a1.result)) b
+    ∙ ap (λ (n : ℕ). word_of_mode (vertical_mode first n)) a in
     c.in_ok-put_below.ensures.written
     ∙ ap (λ (b : Bits). all_bits c.args.writer.now ++ b)
     (same ∙ sym (vertical_bits reference row (place_of c.args.at) (inside d) (below_right d c.if-a1-above.true) near))
@@ -95,7 +98,8 @@ returns-then-a1-above-clause-place c =
     let reference : Row = pixels c.args.columns c.args.reference.now in
     let row : Row = pixels c.args.columns c.args.changes.now in
     let a : c.change_or_end-a1.result ≡ a1 row c.args.at.from = a1_is d in
-    let b : c.find_above-above.result.b1 ≡ b1 reference c.args.at.from (color_after c.args.at.next) = sym c.find_above-above.ensures.b1 in
+    let b : c.find_above-above.result.b1 ≡ b1 reference c.args.at.from (color_after c.args.at.next) =
+    sym c.find_above-above.ensures.b1 in
     let near = near_same _ _ _ _ true b a c.put_below.ensures.near in
     let to : ℕ → Place = λ n. record { from = n; color = color_after (c.args.at.next + 1) } in
     let turned : Color → Place = λ k. record { from = suc (a1 row c.args.at.from); color = k } in
@@ -105,10 +109,12 @@ returns-then-a1-above-clause-place c =
 
 pub returns-then-a1-above-clause-near : goal.returns-then-a1-above-clause-near
 returns-then-a1-above-clause-near c =
-    let after : ℕ → Color → Type 0 = λ n k. IsNear c.args.columns c.args.reference.now (record { from = n; color = k }) (c.find_above-above.result.index + 1) in
+    let after : ℕ → Color → Type 0 =
+    λ n k. IsNear c.args.columns c.args.reference.now (record { from = n; color = k }) (c.find_above-above.result.index + 1) in
     let from : c.change_or_end-a1.result + 1 ≡ c.from.result + 1 = omega (arith, c.from.ensures) in
-    let next = near_next c.args.columns c.args.reference.now c.requires.reference (place_of c.args.at) c.find_above-above.result.index c.find_above-above.ensures.near
-    c.change_or_end-a1.result (omega (arith, c.if-a1-above.true, c.find_above-above.ensures.first)) in
+    let next = near_next c.args.columns c.args.reference.now c.requires.reference
+    (place_of c.args.at) c.find_above-above.result.index c.find_above-above.ensures.near c.change_or_end-a1.result
+    (omega (arith, c.if-a1-above.true, c.find_above-above.ensures.first)) in
     subst (λ (n : ℕ). after n (color_after (c.args.at.next + 1))) from
     (subst (λ (k : Color). after (c.change_or_end-a1.result + 1) k) (sym (color_next c.args.at.next)) next)
 
@@ -119,7 +125,8 @@ returns-then-a1-above-clause-next c = λ le.
 
 -- ---- after a vertical mode
 pub above_after_vertical-requires-clause-right : goal.above_after_vertical-requires-clause-right
-above_after_vertical-requires-clause-right c = a1_right (goal.at.above_after_vertical-requires-clause-right c).After-find_above-above
+above_after_vertical-requires-clause-right c =
+    a1_right (goal.at.above_after_vertical-requires-clause-right c).After-find_above-above
 
 pub returns-then-is_vertical-clause-written : goal.returns-then-is_vertical-clause-written
 returns-then-is_vertical-clause-written c =
@@ -129,14 +136,15 @@ returns-then-is_vertical-clause-written c =
     let first : ℕ = b1 reference c.args.at.from (color_after c.args.at.next) in
     let a : c.change_or_end-a1.result ≡ a1 row c.args.at.from = a1_is d in
     let b : c.find_above-above.result.b1 ≡ first = sym c.find_above-above.ensures.b1 in
-    let right : a1 row c.args.at.from ≤ b2 reference c.args.at.from (color_after c.args.at.next) = omega (arith, c.in_default.ensures, a, c.find_above-above.ensures.b2) in
+    let right : a1 row c.args.at.from ≤ b2 reference c.args.at.from (color_after c.args.at.next) =
+    omega (arith, c.in_default.ensures, a, c.find_above-above.ensures.b2) in
     let near = near_same _ _ _ _ true b a (sym c.in_ok-is_vertical.ensures.near ∙ c.if-is_vertical.true) in
     let word : Bits = word_of_mode (vertical_mode c.find_above-above.result.b1 c.change_or_end-a1.result) in
-    let same : word ≡ word_of_mode (vertical_mode first (a1 row c.args.at.from))
-    = ap (λ (n : ℕ). word_of_mode (vertical_mode n c.change_or_end-a1.result)) b ∙ ap (λ (n : ℕ). word_of_mode (vertical_mode first n)) a in
-    c.in_ok-is_vertical.ensures.written
-    ∙ ap (λ (t : Bool). all_bits c.args.writer.now ++ cond t word []) c.if-is_vertical.true
-    ∙ ap (λ (b : Bits). all_bits c.args.writer.now ++ b) (same ∙ sym (vertical_bits reference row (place_of c.args.at) (inside d) right near))
+    let same : word ≡ word_of_mode (vertical_mode first (a1 row c.args.at.from)) = ap (λ (n : ℕ).
+    word_of_mode (vertical_mode n c.change_or_end-a1.result)) b ∙ ap (λ (n : ℕ). word_of_mode (vertical_mode first n)) a in
+    c.in_ok-is_vertical.ensures.written ∙ ap (λ (t : Bool). all_bits c.args.writer.now ++ cond t word []) c.if-is_vertical.true
+    ∙ ap (λ (b : Bits). all_bits c.args.writer.now ++ b)
+    (same ∙ sym (vertical_bits reference row (place_of c.args.at) (inside d) right near))
 
 pub returns-then-is_vertical-clause-place : goal.returns-then-is_vertical-clause-place
 returns-then-is_vertical-clause-place c =
@@ -144,34 +152,51 @@ returns-then-is_vertical-clause-place c =
     let reference : Row = pixels c.args.columns c.args.reference.now in
     let row : Row = pixels c.args.columns c.args.changes.now in
     let a : c.change_or_end-a1.result ≡ a1 row c.args.at.from = a1_is d in
-    let b : c.find_above-above.result.b1 ≡ b1 reference c.args.at.from (color_after c.args.at.next) = sym c.find_above-above.ensures.b1 in
-    let right : a1 row c.args.at.from ≤ b2 reference c.args.at.from (color_after c.args.at.next) = omega (arith, c.in_default.ensures, a, c.find_above-above.ensures.b2) in
+    let b : c.find_above-above.result.b1 ≡ b1 reference c.args.at.from (color_after c.args.at.next) =
+    sym c.find_above-above.ensures.b1 in
+    let right : a1 row c.args.at.from ≤ b2 reference c.args.at.from (color_after c.args.at.next) =
+    omega (arith, c.in_default.ensures, a, c.find_above-above.ensures.b2) in
     let near = near_same _ _ _ _ true b a (sym c.in_ok-is_vertical.ensures.near ∙ c.if-is_vertical.true) in
     let to : ℕ → Place = λ n. record { from = n; color = color_after (c.args.at.next + 1) } in
     let turned : Color → Place = λ k. record { from = suc (a1 row c.args.at.from); color = k } in
-    let from : c.from-then-is_vertical.result + 1 ≡ suc (a1 row c.args.at.from) = omega (arith, c.from-then-is_vertical.ensures, a) in
-    ap to from ∙ ap turned (color_next c.args.at.next) ∙ sym (vertical_place reference row (place_of c.args.at) (inside d) right near)
+    let from : c.from-then-is_vertical.result + 1 ≡ suc (a1 row c.args.at.from) =
+    omega (arith, c.from-then-is_vertical.ensures, a) in
+    ap to from ∙ ap turned (color_next c.args.at.next)
+    ∙ sym (vertical_place reference row (place_of c.args.at) (inside d) right near)
 
 pub returns-then-is_vertical-clause-next : goal.returns-then-is_vertical-clause-next
 returns-then-is_vertical-clause-next c = λ le.
-    left_of_next 0 c.args.columns c.args.changes.now c.args.at.next (c.args.at.next + 1) c.from-then-is_vertical.result refl c.requires.changes
-    (c.from-then-is_vertical.ensures ∙ c.change_or_end-a1.ensures) (omega arith)
+    left_of_next 0 c.args.columns c.args.changes.now c.args.at.next (c.args.at.next + 1) c.from-then-is_vertical.result refl
+    c.requires.changes (c.from-then-is_vertical.ensures ∙ c.change_or_end-a1.ensures) (omega arith)
 
 pub overflow_sub-a1 : goal.overflow_sub-a1
 overflow_sub-a1 c =
     let d = (goal.at.overflow_sub-a1 c).After-find_above-above in
-    omega (arith, c.saturating_sub.ensures, a1_is d, first_run (pixels c.args.columns c.args.changes.now) c.args.at.from (inside d))
+    omega (
+      arith,
+      c.saturating_sub.ensures,
+      a1_is d,
+      first_run (pixels c.args.columns c.args.changes.now) c.args.at.from (inside d),
+    )
 
 pub overflow_sub-a2 : goal.overflow_sub-a2
 overflow_sub-a2 c =
     let d = (goal.at.overflow_sub-a2 c).After-find_above-above in
-    omega (arith, a1_is d, a2_is d, c.change_or_end-a2.ensures, second_run (pixels c.args.columns c.args.changes.now) c.args.at.from)
+    omega (
+      arith,
+      a1_is d,
+      a2_is d,
+      c.change_or_end-a2.ensures,
+      second_run (pixels c.args.columns c.args.changes.now) c.args.at.from,
+    )
 
 pub returns-then-is_vertical-clause-near : goal.returns-then-is_vertical-clause-near
 returns-then-is_vertical-clause-near c =
-    let turned = subst (λ (k : Color). IsNear c.args.columns c.args.reference.now (record { from = c.change_or_end-a1.result + 1; color = k }) c.above_after_vertical.result)
+    let turned = subst (λ (k : Color). IsNear c.args.columns c.args.reference.now
+    (record { from = c.change_or_end-a1.result + 1; color = k }) c.above_after_vertical.result)
     (sym (color_next c.args.at.next)) c.above_after_vertical.ensures in
-    subst (λ (n : ℕ). IsNear c.args.columns c.args.reference.now (record { from = n + 1; color = color_after (c.args.at.next + 1) }) c.above_after_vertical.result)
+    subst (λ (n : ℕ). IsNear c.args.columns c.args.reference.now
+    (record { from = n + 1; color = color_after (c.args.at.next + 1) }) c.above_after_vertical.result)
     (sym c.from-then-is_vertical.ensures) turned
 
 -- ---- after horizontal mode
@@ -181,23 +206,28 @@ returns-clause-written c =
     let reference : Row = pixels c.args.columns c.args.reference.now in
     let row : Row = pixels c.args.columns c.args.changes.now in
     let a : c.change_or_end-a1.result ≡ a1 row c.args.at.from = a1_is d in
-    let b : c.find_above-above.result.b1 ≡ b1 reference c.args.at.from (color_after c.args.at.next) = sym c.find_above-above.ensures.b1 in
-    let right : a1 row c.args.at.from ≤ b2 reference c.args.at.from (color_after c.args.at.next) = omega (arith, c.in_default.ensures, a, c.find_above-above.ensures.b2) in
+    let b : c.find_above-above.result.b1 ≡ b1 reference c.args.at.from (color_after c.args.at.next) =
+    sym c.find_above-above.ensures.b1 in
+    let right : a1 row c.args.at.from ≤ b2 reference c.args.at.from (color_after c.args.at.next) =
+    omega (arith, c.in_default.ensures, a, c.find_above-above.ensures.b2) in
     let near = near_same _ _ _ _ false b a (sym c.in_ok-is_vertical.ensures.near ∙ c.if-is_vertical.false) in
-    let first : c.change_or_end-a1.result - c.saturating_sub.result ≡ a1 row c.args.at.from - (c.args.at.from - 1) = omega (arith, c.saturating_sub.ensures, a) in
-    let second : c.change_or_end-a2.result - c.change_or_end-a1.result ≡ a2 row c.args.at.from - a1 row c.args.at.from = omega (arith, a, a2_is d, c.change_or_end-a2.ensures) in
-    let runs : ℕ → ℕ → Bits = λ m n. all_bits c.args.writer.now ++ (word_of_mode Horizontal ++ (chosen_run (color_after c.args.at.next) m ++ chosen_run (opposite (color_after c.args.at.next)) n)) in
-    let nothing : all_bits c.put_vertical.new.writer ≡ all_bits c.args.writer.now
-    = c.in_ok-is_vertical.ensures.written
-    ∙ ap (λ (t : Bool). all_bits c.args.writer.now ++ cond t (word_of_mode (vertical_mode c.find_above-above.result.b1 c.change_or_end-a1.result)) []) c.if-is_vertical.false
-    ∙ append-nil (all_bits c.args.writer.now) in
-    c.in_ok-put_horizontal.ensures
-    ∙ ap (λ (k : Color). all_bits c.put_vertical.new.writer ++ (word_of_mode Horizontal ++ (chosen_run k (c.change_or_end-a1.result - c.saturating_sub.result)
-    ++ chosen_run (opposite k) (c.change_or_end-a2.result - c.change_or_end-a1.result)))) c.color_after.ensures
-    ∙ ap (λ (b : Bits). b ++ (word_of_mode Horizontal ++ (chosen_run (color_after c.args.at.next) (c.change_or_end-a1.result - c.saturating_sub.result)
+    let first : c.change_or_end-a1.result - c.saturating_sub.result ≡ a1 row c.args.at.from - (c.args.at.from - 1) =
+    omega (arith, c.saturating_sub.ensures, a) in
+    let second : c.change_or_end-a2.result - c.change_or_end-a1.result ≡ a2 row c.args.at.from - a1 row c.args.at.from =
+    omega (arith, a, a2_is d, c.change_or_end-a2.ensures) in
+    let runs : ℕ → ℕ → Bits = λ m n. all_bits c.args.writer.now ++ (word_of_mode Horizontal
+    ++ (chosen_run (color_after c.args.at.next) m ++ chosen_run (opposite (color_after c.args.at.next)) n)) in
+    let nothing : all_bits c.put_vertical.new.writer ≡ all_bits c.args.writer.now = c.in_ok-is_vertical.ensures.written
+    ∙ ap (λ (t : Bool). all_bits c.args.writer.now ++ cond t (word_of_mode (vertical_mode c.find_above-above.result.b1
+    c.change_or_end-a1.result)) []) c.if-is_vertical.false ∙ append-nil (all_bits c.args.writer.now) in
+    c.in_ok-put_horizontal.ensures ∙ ap (λ (k : Color). all_bits c.put_vertical.new.writer
+    ++ (word_of_mode Horizontal ++ (chosen_run k (c.change_or_end-a1.result - c.saturating_sub.result) ++ chosen_run
+    (opposite k) (c.change_or_end-a2.result - c.change_or_end-a1.result)))) c.color_after.ensures ∙ ap (λ (b : Bits). b
+    ++ (word_of_mode Horizontal ++ (chosen_run (color_after c.args.at.next) (c.change_or_end-a1.result - c.saturating_sub.result)
     ++ chosen_run (opposite (color_after c.args.at.next)) (c.change_or_end-a2.result - c.change_or_end-a1.result)))) nothing
-    ∙ ap (λ (n : ℕ). runs n (c.change_or_end-a2.result - c.change_or_end-a1.result)) first ∙ ap (runs (a1 row c.args.at.from - (c.args.at.from - 1))) second
-    ∙ ap (λ (b : Bits). all_bits c.args.writer.now ++ b) (sym (horizontal_bits reference row (place_of c.args.at) (inside d) right near))
+    ∙ ap (λ (n : ℕ). runs n (c.change_or_end-a2.result - c.change_or_end-a1.result)) first
+    ∙ ap (runs (a1 row c.args.at.from - (c.args.at.from - 1))) second ∙ ap (λ (b : Bits). all_bits c.args.writer.now ++ b)
+    (sym (horizontal_bits reference row (place_of c.args.at) (inside d) right near))
 
 pub returns-clause-place : goal.returns-clause-place
 returns-clause-place c =
@@ -205,25 +235,37 @@ returns-clause-place c =
     let reference : Row = pixels c.args.columns c.args.reference.now in
     let row : Row = pixels c.args.columns c.args.changes.now in
     let a : c.change_or_end-a1.result ≡ a1 row c.args.at.from = a1_is d in
-    let b : c.find_above-above.result.b1 ≡ b1 reference c.args.at.from (color_after c.args.at.next) = sym c.find_above-above.ensures.b1 in
-    let right : a1 row c.args.at.from ≤ b2 reference c.args.at.from (color_after c.args.at.next) = omega (arith, c.in_default.ensures, a, c.find_above-above.ensures.b2) in
+    let b : c.find_above-above.result.b1 ≡ b1 reference c.args.at.from (color_after c.args.at.next) =
+    sym c.find_above-above.ensures.b1 in
+    let right : a1 row c.args.at.from ≤ b2 reference c.args.at.from (color_after c.args.at.next) =
+    omega (arith, c.in_default.ensures, a, c.find_above-above.ensures.b2) in
     let near = near_same _ _ _ _ false b a (sym c.in_ok-is_vertical.ensures.near ∙ c.if-is_vertical.false) in
     let to : ℕ → Place = λ n. record { from = n; color = (color_after c.args.at.next) } in
-    let from : c.from-2.result + 1 ≡ suc (a2 row c.args.at.from) = omega (arith, c.from-2.ensures, c.change_or_end-a2.ensures, a2_is d) in
+    let from : c.from-2.result + 1 ≡ suc (a2 row c.args.at.from) =
+    omega (arith, c.from-2.ensures, c.change_or_end-a2.ensures, a2_is d) in
     let kept : Color → Place = λ k. record { from = c.from-2.result + 1; color = k } in
-    ap kept (color_second c.args.at.next) ∙ ap to from ∙ sym (horizontal_place reference row (place_of c.args.at) (inside d) right near)
+    ap kept (color_second c.args.at.next) ∙ ap to from
+    ∙ sym (horizontal_place reference row (place_of c.args.at) (inside d) right near)
 
 pub returns-clause-near : goal.returns-clause-near
 returns-clause-near c =
     let d = (goal.at.returns-clause-near c).After-find_above-above in
-    let le : c.args.at.from ≤ c.from-2.result + 1
-    = omega (arith, a1_right d, c.from-2.ensures, c.change_or_end-a2.ensures, a1_is d, a2_is d, second_run (pixels c.args.columns c.args.changes.now) c.args.at.from) in
-    subst (λ (k : Color). IsNear c.args.columns c.args.reference.now (record { from = c.from-2.result + 1; color = k }) c.find_above-above.result.index)
-    (sym (color_second c.args.at.next))
-    (near_right c.args.columns c.args.reference.now c.requires.reference (place_of c.args.at) c.find_above-above.result.index c.find_above-above.ensures.near (c.from-2.result + 1) le)
+    let le : c.args.at.from ≤ c.from-2.result + 1 = omega (
+      arith,
+      a1_right d,
+      c.from-2.ensures,
+      c.change_or_end-a2.ensures,
+      a1_is d,
+      a2_is d,
+      second_run (pixels c.args.columns c.args.changes.now) c.args.at.from,
+    ) in
+    subst (λ (k : Color).
+    IsNear c.args.columns c.args.reference.now (record { from = c.from-2.result + 1; color = k }) c.find_above-above.result.index)
+    (sym (color_second c.args.at.next)) (near_right c.args.columns c.args.reference.now c.requires.reference
+    (place_of c.args.at) c.find_above-above.result.index c.find_above-above.ensures.near (c.from-2.result + 1) le)
 
 pub returns-clause-next : goal.returns-clause-next
 returns-clause-next c = λ le.
     let two : c.args.at.next + 2 ≡ c.args.at.next + 1 + 1 = omega arith in
-    left_of_next 0 c.args.columns c.args.changes.now (c.args.at.next + 1) (c.args.at.next + 2) c.from-2.result two c.requires.changes
-    (c.from-2.ensures ∙ c.change_or_end-a2.ensures) (omega arith)
+    left_of_next 0 c.args.columns c.args.changes.now (c.args.at.next + 1)
+    (c.args.at.next + 2) c.from-2.result two c.requires.changes (c.from-2.ensures ∙ c.change_or_end-a2.ensures) (omega arith)

@@ -1,4 +1,4 @@
-use Rattle.std.proofs.Common.{refl}
+use Rattle.fax_encode.proofs.Names.{refl}
 use Rattle.fax_encode.proofs.ChosenBySettings.{chosen_by_settings, chosen_lines_encode, never_longer}
 use Rattle.fax_encode.proofs.laws.chosen_by_settings.Goals as goal
 

@@ -1,8 +1,5 @@
-use Rattle.std.proofs.Common.{length, ◌-◌, ap, ◌∙◌}
-use borrow.Rule.Slice.PartMut.{put_mid}
-use Rattle.hayro_ccitt.specs.Bits.{bits_of}
-use Rattle.fax_encode.proofs.PaintedRows.{finished}
-use Rattle.fax_encode.proofs.PaintedWords.{bits_of_word}
+use Rattle.fax_encode.proofs.Names.{length, ◌-◌, ap, ◌∙◌, put_mid, bits_of}
+use Rattle.fax_encode.proofs.{PaintedRows.finished, PaintedWords.bits_of_word}
 use Rattle.fax_encode.proofs.painting.finish.Goals as goal
 
 pub returns : goal.returns

@@ -1,5 +1,4 @@
-use Rattle.std.proofs.Common.{◌≡◌, ◌-◌, ◌*◌, ◌++◌, ℕ, Bool, replicate, sym, ap, ◌∙◌, arith}
-use Rattle.fax_encode.specs.Painting.{under}
+use Rattle.fax_encode.proofs.Names.{◌≡◌, ◌-◌, ◌*◌, ◌++◌, ℕ, Bool, replicate, sym, ap, ◌∙◌, arith, under}
 use Rattle.fax_encode.proofs.PaintedRows.{word_more}
 use Rattle.fax_encode.proofs.painting.move_to.Goals as goal
 
@@ -7,15 +6,17 @@ pub words-preserved : goal.words-preserved
 words-preserved c =
     let is = c.words.invariant in
     let more = c.next_word-at.ensures in
-    let done : under c.words.at c.words.row ≡ under c.args.brush c.args.row.now ++ replicate (8 * (c.words.at.start - c.args.brush.start)) c.args.brush.is_black
-    = is.painted in
-    let next : under c.next_word-at.result c.next_word-at.new.row ≡ under c.words.at c.words.row ++ replicate 64 c.args.brush.is_black
-    = more.painted ∙ ap (λ (b : Bool). under c.words.at c.words.row ++ replicate 64 b) is.color in
+    let done : under c.words.at c.words.row ≡ under c.args.brush c.args.row.now
+    ++ replicate (8 * (c.words.at.start - c.args.brush.start)) c.args.brush.is_black = is.painted in
+    let next : under c.next_word-at.result c.next_word-at.new.row ≡ under c.words.at c.words.row ++ replicate 64
+    c.args.brush.is_black = more.painted ∙ ap (λ (b : Bool). under c.words.at c.words.row ++ replicate 64 b) is.color in
     record {
       begun = omega (arith, is.begun, more.start);
       forward = omega (arith, is.forward, more.start);
       within = omega (arith, is.begun, more.start, c.words-test.true);
       color = more.color ∙ is.color;
-      painted = word_more (under c.args.brush c.args.row.now) _ _ c.args.brush.start c.words.at.start c.args.brush.is_black is.forward done next ∙ sym (ap (λ (n : ℕ). under c.args.brush c.args.row.now ++ replicate (8 * (n - c.args.brush.start)) c.args.brush.is_black) more.start);
+      painted = word_more (under c.args.brush c.args.row.now)
+          _ _ c.args.brush.start c.words.at.start c.args.brush.is_black is.forward done next ∙ sym (ap (λ (n : ℕ).
+          under c.args.brush c.args.row.now ++ replicate (8 * (n - c.args.brush.start)) c.args.brush.is_black) more.start);
       room = more.length ∙ is.room;
     }

@@ -1,5 +1,4 @@
-use Rattle.std.proofs.Common.{◌≡◌, ◌≤◌, ◌-◌, ◌*◌, ◌%◌, ◌++◌, length, replicate}
-use Rattle.fax_encode.specs.Painting.{under}
+use Rattle.fax_encode.proofs.Names.{◌≡◌, ◌≤◌, ◌-◌, ◌*◌, ◌%◌, ◌++◌, length, replicate, under}
 use Rattle.fax_encode.proofs.painting.move_to.Given as goal
 
 abbrev pub invariant-words : goal.invariant-words
@@ -9,7 +8,8 @@ invariant-words l =
       forward : l.fn.brush.start ≤ l.at.start;
       within : l.at.start ≤ l.start;
       color : l.at.is_black ≡ l.fn.brush.is_black;
-      painted : under l.at l.row ≡ under l.fn.brush l.fn.row ++ replicate (8 * (l.at.start - l.fn.brush.start)) l.fn.brush.is_black;
+      painted : under l.at l.row ≡ under l.fn.brush l.fn.row
+          ++ replicate (8 * (l.at.start - l.fn.brush.start)) l.fn.brush.is_black;
       room : length l.row ≡ length l.fn.row;
     }
 

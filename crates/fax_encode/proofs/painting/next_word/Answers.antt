@@ -1,8 +1,5 @@
-use Rattle.std.proofs.Common.{◌≡◌, ◌+◌, ◌-◌, length, ap, ◌∙◌, arith}
-use borrow.Rule.Slice.PartMut.{put_mid}
-use Rattle.hayro_ccitt.specs.Bits.{bits_of}
-use Rattle.fax_encode.proofs.PaintedRows.{word_written}
-use Rattle.fax_encode.proofs.PaintedWords.{bits_of_word}
+use Rattle.fax_encode.proofs.Names.{◌≡◌, ◌+◌, ◌-◌, length, ap, ◌∙◌, arith, put_mid, bits_of}
+use Rattle.fax_encode.proofs.{PaintedRows.word_written, PaintedWords.bits_of_word}
 use Rattle.fax_encode.proofs.painting.next_word.Goals as goal
 
 pub returns-clause-painted : goal.returns-clause-painted

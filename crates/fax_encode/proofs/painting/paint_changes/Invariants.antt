@@ -1,4 +1,4 @@
-use Rattle.std.proofs.Common.{◌≡◌, ◌≤◌, ◌-◌, length}
+use Rattle.fax_encode.proofs.Names.{◌≡◌, ◌≤◌, ◌-◌, length}
 use Rattle.fax_encode.proofs.PaintedRows.{IsPainted}
 use Rattle.fax_encode.proofs.painting.paint_changes.Given as goal
 

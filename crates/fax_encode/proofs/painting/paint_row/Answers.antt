@@ -1,8 +1,11 @@
-use Rattle.std.proofs.Common.{rules, ◌≡◌, length}
+use Rattle.fax_encode.proofs.Names.{rules, ◌≡◌, length}
 use Rattle.fax_encode.proofs.PaintedRows.{white}
 use Rattle.fax_encode.proofs.painting.paint_row.Goals as goal
 
 pub returns-then-is_empty : goal.returns-then-is_empty
 returns-then-is_empty c =
     let none : length c.args.changes.now ≡ 0 = search rules in
-    record { painted = white c.args.columns c.args.changes.now c.args.row.now c.fill.new.self none c.requires.room (c.fill.ensures.after (λ y e. e)) }
+    record {
+      painted = white c.args.columns c.args.changes.now c.args.row.now c.fill.new.self none c.requires.room
+          (c.fill.ensures.after (λ y e. e));
+    }

@@ -1,5 +1,4 @@
-use Rattle.std.proofs.Common.{ℕ, ◌<◌, get_or, [], map}
-use Rattle.hayro_ccitt.specs.Rows.{AreChanges}
+use Rattle.fax_encode.proofs.Names.{ℕ, ◌<◌, get_or, [], map, AreChanges}
 use Rattle.fax_encode.proofs.rows.first_unlawful.Given as goal
 
 abbrev pub invariant-loop-index : goal.invariant-loop-index

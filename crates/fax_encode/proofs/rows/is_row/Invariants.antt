@@ -1,6 +1,4 @@
-use Rattle.std.specs.Prelude.{◌↔◌}
-use Rattle.std.proofs.Common.{◌^◌, ◌≤◌, drop}
-use Rattle.hayro_ccitt.specs.Rows.{AscendFrom}
+use Rattle.fax_encode.proofs.Names.{◌↔◌, ◌^◌, ◌≤◌, drop, AscendFrom}
 use Rattle.fax_encode.proofs.rows.is_row.Given as goal
 
 abbrev pub invariant-loop-change : goal.invariant-loop-change

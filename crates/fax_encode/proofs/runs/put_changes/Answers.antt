@@ -1,10 +1,6 @@
-use Rattle.std.proofs.Common.{◌≡◌, ◌+◌, ◌-◌, ◌<◌, ◌++◌, ℕ, List, [], OnOk, length, drop, get_or, sym, ap, subst, ◌∙◌, arith}
-use Rattle.std.proofs.lemmas.List.{nil_from_length, length-drop}
-use Rattle.hayro_ccitt.specs.declared.codes.Color.TheVariants.{White, Black}
-use Rattle.hayro_ccitt.specs.Bits.{Bits}
-use Rattle.hayro_ccitt.specs.Rows.{AscendFrom}
-use Rattle.fax_encode.specs.Chosen.{chosen_run, chosen_runs}
-use Rattle.fax_encode.specs.Writing.{all_bits}
+use Rattle.fax_encode.proofs.Names.{◌≡◌, ◌+◌, ◌-◌, ◌<◌, ◌++◌, ℕ, List, [], OnOk, length, drop, get_or, sym, ap, subst, ◌∙◌, arith}
+use Rattle.fax_encode.proofs.Names.{nil_from_length, length-drop, White, Black, Bits, AscendFrom, chosen_run, chosen_runs}
+use Rattle.fax_encode.proofs.Names.{all_bits}
 use Rattle.fax_encode.proofs.RunsWritten.{next_within, next_ascends, next_run, two_runs, one_part}
 use Rattle.fax_encode.proofs.runs.put_changes.Goals as goal
 
@@ -26,10 +22,12 @@ loop-next-preserved c =
     record {
       counted = omega (arith, second);
       within = next_within columns black (i + 1) Black changes second behind;
-      ascend = subst (λ (n : ℕ). AscendFrom white columns (drop n changes)) two (next_ascends columns black (i + 1) Black changes second behind);
+      ascend = subst (λ (n : ℕ). AscendFrom white columns (drop n changes)) two
+          (next_ascends columns black (i + 1) Black changes second behind);
       written = ap (λ (n : ℕ). all_bits c.put_runs.new.writer ++ chosen_runs columns White white (drop n changes)) (sym two)
-          ∙ one_part (all_bits c.put_runs.new.writer) (all_bits c.loop-next.writer) (chosen_runs columns White place (drop i changes))
-          (chosen_run White (black - place) ++ chosen_run Black (white - black)) left _ c.loop-next.invariant.written split c.in_ok-put_runs.ensures;
+          ∙ one_part (all_bits c.put_runs.new.writer)
+          (all_bits c.loop-next.writer) (chosen_runs columns White place (drop i changes)) (chosen_run White (black - place)
+          ++ chosen_run Black (white - black)) left _ c.loop-next.invariant.written split c.in_ok-put_runs.ensures;
     }
 
 pub returns : goal.returns
@@ -39,10 +37,12 @@ returns c =
     let changes : List ℕ = c.args.changes.now in
     let place : ℕ = c.loop-next.place in
     let black : ℕ = get_or changes i 0 in
-    let last : i < length changes = omega (arith, c.loop-next-test.false, c.if-next-changes.false, c.loop-next.invariant.counted) in
-    let none : drop (i + 1) changes ≡ [] = nil_from_length (drop (i + 1) changes) (omega (arith, c.loop-next-test.false, length-drop (i + 1) changes)) in
-    let split : chosen_runs columns White place (drop i changes) ≡ chosen_run White (black - place) ++ chosen_run Black (columns - black)
-    = next_run columns place i White changes last c.loop-next.invariant.ascend
+    let last : i < length changes =
+    omega (arith, c.loop-next-test.false, c.if-next-changes.false, c.loop-next.invariant.counted) in
+    let none : drop (i + 1) changes ≡ [] =
+    nil_from_length (drop (i + 1) changes) (omega (arith, c.loop-next-test.false, length-drop (i + 1) changes)) in
+    let split : chosen_runs columns White place (drop i changes) ≡ chosen_run White (black - place)
+    ++ chosen_run Black (columns - black) = next_run columns place i White changes last c.loop-next.invariant.ascend
     ∙ ap (λ (l : List ℕ). chosen_run White (black - place) ++ chosen_runs columns Black black l) none in
-    subst (λ (b : Bits). OnOk c.put_runs-2.result (all_bits c.put_runs-2.new.writer ≡ b)) (ap (λ (b : Bits). all_bits c.loop-next.writer ++ b) (sym split) ∙ c.loop-next.invariant.written)
-    c.put_runs-2.ensures
+    subst (λ (b : Bits). OnOk c.put_runs-2.result (all_bits c.put_runs-2.new.writer ≡ b))
+    (ap (λ (b : Bits). all_bits c.loop-next.writer ++ b) (sym split) ∙ c.loop-next.invariant.written) c.put_runs-2.ensures

@@ -1,8 +1,4 @@
-use Rattle.std.proofs.Common.{◌≡◌, ◌-◌, ◌≤◌, ◌++◌, length, drop}
-use Rattle.hayro_ccitt.specs.declared.codes.Color.TheVariants.{White}
-use Rattle.hayro_ccitt.specs.Rows.{AscendFrom}
-use Rattle.fax_encode.specs.Chosen.{chosen_runs}
-use Rattle.fax_encode.specs.Writing.{all_bits}
+use Rattle.fax_encode.proofs.Names.{◌≡◌, ◌-◌, ◌≤◌, ◌++◌, length, drop, White, AscendFrom, chosen_runs, all_bits}
 use Rattle.fax_encode.proofs.runs.put_changes.Given as goal
 
 abbrev pub invariant-loop-next : goal.invariant-loop-next

@@ -1,6 +1,4 @@
-use Rattle.std.proofs.Common.{◌≡◌, ◌++◌}
-use Rattle.fax_encode.specs.Chosen.{chosen_run}
-use Rattle.fax_encode.specs.Writing.{all_bits}
+use Rattle.fax_encode.proofs.Names.{◌≡◌, ◌++◌, chosen_run, all_bits}
 use Rattle.fax_encode.proofs.runs.put_long_run.Given as goal
 
 abbrev pub invariant-loop-left : goal.invariant-loop-left

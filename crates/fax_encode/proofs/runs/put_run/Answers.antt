@@ -1,10 +1,10 @@
-use Rattle.std.proofs.Common.{◌≡◌, ◌++◌, OnOk, sym, subst, ◌∙◌, arith}
-use Rattle.hayro_ccitt.specs.Bits.{Bits}
-use Rattle.fax_encode.specs.Writing.{all_bits}
+use Rattle.fax_encode.proofs.Names.{◌≡◌, ◌++◌, OnOk, sym, subst, ◌∙◌, arith, Bits, all_bits}
 use Rattle.fax_encode.proofs.RunsWritten.{run_rest, rest_few}
 use Rattle.fax_encode.proofs.runs.put_run.Goals as goal
 
 pub returns : goal.returns
 returns c =
-    let short = run_rest c.args.color c.args.pixels (omega (arith, c.if-pixels-ge64.false)) ∙ rest_few c.args.color c.args.pixels c.if-pixels-ge64.false in
-    subst (λ (b : Bits). OnOk c.put_word.result (all_bits c.put_word.new.writer ≡ all_bits c.args.writer.now ++ b)) (c.terminating_word.ensures.spells ∙ sym short) c.put_word.ensures
+    let short = run_rest c.args.color c.args.pixels (omega (arith, c.if-pixels-ge64.false))
+    ∙ rest_few c.args.color c.args.pixels c.if-pixels-ge64.false in
+    subst (λ (b : Bits). OnOk c.put_word.result (all_bits c.put_word.new.writer ≡ all_bits c.args.writer.now ++ b))
+    (c.terminating_word.ensures.spells ∙ sym short) c.put_word.ensures

@@ -1,8 +1,5 @@
-use Rattle.std.proofs.Common.{◌+◌, ℕ, List, length, drop, get_or, arith, ap, ◌∙◌}
-use Rattle.hayro_ccitt.specs.declared.codes.Color.{Color}
-use Rattle.fax_encode.specs.Chosen.{chosen_runs}
-use Rattle.fax_encode.proofs.RunsWritten.{next_within, next_ascends}
-use Rattle.fax_encode.proofs.RunLengths.{run_taken}
+use Rattle.fax_encode.proofs.Names.{◌+◌, ℕ, List, length, drop, get_or, arith, ap, ◌∙◌, Color, chosen_runs}
+use Rattle.fax_encode.proofs.{RunLengths.run_taken, RunsWritten.next_ascends, RunsWritten.next_within}
 use Rattle.fax_encode.proofs.runs.takes_at_least.Goals as goal
 
 pub loop-change-preserved : goal.loop-change-preserved
@@ -18,7 +15,7 @@ loop-change-preserved c =
     record {
       within = next_within columns place i color changes c.loop-change-test.true ascend;
       ascend = next_ascends columns place i color changes c.loop-change-test.true ascend;
-      taken = ap (λ (k : Color). c.args.bits + length (chosen_runs columns k next (drop (i + 1) changes))) c.opposite-color.ensures
-          ∙ run_taken columns place i color changes c.args.bits c.loop-change.left c.from-run.result _ c.loop-change-test.true ascend run c.loop-change.invariant.taken
-          (omega (arith, c.if-left-run.false));
+      taken = ap (λ (k : Color). c.args.bits + length (chosen_runs columns k next (drop (i + 1) changes)))
+          c.opposite-color.ensures ∙ run_taken columns place i color changes c.args.bits c.loop-change.left c.from-run.result _
+          c.loop-change-test.true ascend run c.loop-change.invariant.taken (omega (arith, c.if-left-run.false));
     }

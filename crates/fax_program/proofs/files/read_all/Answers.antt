@@ -4,7 +4,8 @@ use Rattle.hayro_ccitt.specs.Bits.{BitsFit}
 use Rattle.fax_program.proofs.files.read_all.Goals as goal
 
 -- bytes fit, and as many more as there is room for
-fit_after : (input buffer : List ℕ) (count : ℕ) → length input + count ≤ 2305843009213693943 → BitsFit (input ++ take count buffer)
+fit_after : (input buffer : List ℕ) (count : ℕ) → length input + count ≤ 2305843009213693943
+    → BitsFit (input ++ take count buffer)
 fit_after input buffer count room = omega (arith, length-append input (take count buffer), length-take count buffer)
 
 pub returns-then-is_err-clause-fit_so_far : goal.returns-then-is_err-clause-fit_so_far

@@ -4,11 +4,10 @@ use Rattle.std.proofs.KnownBytes.{Appends-trans, Appends-kept}
 use Rattle.fax_program.proofs.files.write_all.Goals as goal
 
 -- bytes that move from the start of the rest to what is written
-moved : (all written rest : List ℕ) (n : ℕ) → all ≡ written ++ rest → all ≡ (written ++ take n rest) ++ take (length rest - n) (drop n rest)
+moved : (all written rest : List ℕ) (n : ℕ) → all ≡ written ++ rest
+    → all ≡ (written ++ take n rest) ++ take (length rest - n) (drop n rest)
 moved all written rest n e =
-    e
-    ∙ ap (λ l. written ++ l) (sym (take-append-drop n rest))
-    ∙ sym (append_assoc written (take n rest) (drop n rest))
+    e ∙ ap (λ l. written ++ l) (sym (take-append-drop n rest)) ∙ sym (append_assoc written (take n rest) (drop n rest))
     ∙ ap (λ l. (written ++ take n rest) ++ l) (sym (take_rest rest n))
 
 pub loop-rest-preserved : goal.loop-rest-preserved

@@ -1,4 +1,5 @@
-use Rattle.std.proofs.Common.{◌≡◌, ℕ, ◌^◌, ◌<◌, ◌&&◌, true, false, cond, List, Some, None, Result, Ok, Err, sym, ap, ◌∙◌, inl, inr, arith, rules, length, refl}
+use Rattle.std.proofs.Common.{◌≡◌, ℕ, ◌^◌, ◌<◌, ◌&&◌, true, false, cond, List, Some, None, Result, Ok, Err, sym, ap, ◌∙◌, inl}
+use Rattle.std.proofs.Common.{inr, arith, rules, length, refl}
 use Rattle.std.specs.Prelude.{nat_le, nat_lt}
 use Rattle.std.specs.Char.{is_ascii_digit}
 use Rattle.std.specs.List.{list_all}
@@ -16,7 +17,8 @@ by_value = numerals_by_value _ (search rules)
 -- the result of a number's test, if the digits are good
 number_of-digits : (word : List ℕ) → are_digits word ≡ true
     → number_of word ≡ cond (nat_le (digits_value 10 word) 4294967295) (Some (digits_value 10 word)) None
-number_of-digits word digits = ap (λ b. cond (b && nat_le (digits_value 10 word) 4294967295) (Some (digits_value 10 word)) None) digits
+number_of-digits word digits =
+    ap (λ b. cond (b && nat_le (digits_value 10 word) 4294967295) (Some (digits_value 10 word)) None) digits
 
 -- a result that is right about a number of 32 bits
 same_answer : {E : Type 0} (r : Result ℕ E) (n long : ℕ) → 0 < long
@@ -31,12 +33,14 @@ same_answer (Err e) n long some h =
     ]
 
 -- what is parsed of one to ten digits is the number that the definition gives
-number_of-parsed : {E : Type 0} (word : List ℕ) (r : Result ℕ E) → are_digits word ≡ true → ParsesUnsigned 32 10 word r → result_ok r ≡ number_of word
+number_of-parsed : {E : Type 0} (word : List ℕ) (r : Result ℕ E) → are_digits word ≡ true → ParsesUnsigned 32 10 word r
+    → result_ok r ≡ number_of word
 number_of-parsed word r digits parsed =
     let (front, good) = and_parts _ (list_all is_ascii_digit word) digits in
     let (some, few) = and_parts (nat_lt 0 (length word)) _ front in
-    same_answer r (digits_value 10 word) (length word) (ltb-true 0 (length word) some) (parse_digits by_value 32 word r parsed good)
-    ∙ sym (number_of-digits word digits)
+    same_answer r (digits_value 10 word) (length word) (ltb-true 0 (length word) some)
+    (parse_digits by_value 32 word r parsed good) ∙ sym (number_of-digits word digits)
 
 pub returns : goal.returns
-returns c = c.ok.ensures.value ∙ number_of-parsed c.args.word.now c.parse.result (sym c.are_digits.ensures ∙ c.if-not-are_digits.false) c.parse.ensures.value.0
+returns c = c.ok.ensures.value ∙ number_of-parsed c.args.word.now c.parse.result
+    (sym c.are_digits.ensures ∙ c.if-not-are_digits.false) c.parse.ensures.value.0

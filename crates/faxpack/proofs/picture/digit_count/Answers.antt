@@ -5,7 +5,8 @@ use Rattle.faxpack.proofs.picture.digit_count.Goals as goal
 pub loop-count-preserved : goal.loop-count-preserved
 loop-count-preserved c = record {
   within = search rules;
-  digits = omega (arith, digits_more c.args.bytes.now c.loop-count.count (search rules) (search rules), c.loop-count.invariant.digits);
+  digits =
+      omega (arith, digits_more c.args.bytes.now c.loop-count.count (search rules) (search rules), c.loop-count.invariant.digits);
 }
 
 pub returns-else-is_ascii_digit-clause-count : goal.returns-else-is_ascii_digit-clause-count

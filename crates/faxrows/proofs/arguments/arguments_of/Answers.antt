@@ -1,6 +1,5 @@
-use Rattle.std.proofs.Common.{◌≡◌, ◌<◌, map, string_bytes, ℕ, List, [], ◌∷◌, length, refl, None, arith}
-use Rattle.std.proofs.lemmas.List.{length-map}
-use Rattle.faxrows.specs.Arguments.{arguments_of_words}
+use Rattle.faxrows.proofs.Names.{◌≡◌, ◌<◌, map, string_bytes, ℕ, List, [], ◌∷◌, length, refl, None, arith, length-map}
+use Rattle.faxrows.proofs.Names.{arguments_of_words}
 use Rattle.faxrows.proofs.arguments.arguments_of.Goals as goal
 
 -- fewer than four arguments are invalid

@@ -1,15 +1,8 @@
-use Rattle.std.proofs.Common.{rules, ◌≡◌, ◌++◌, ◌∙◌, [], take, Ok, List, ℕ, Result, Bool, ap, subst}
-use Rattle.hayro_ccitt.specs.declared.error.DecodeError.{DecodeError}
-use Rattle.hayro_ccitt.specs.RowsRead.{ReadsNext}
-use Rattle.fax_program.specs.Devices.{AppendsFront}
-use Rattle.faxrows.specs.Output.{PassesOn}
-use Rattle.faxrows.specs.Runs.{rows_of}
-use Rattle.faxrows.specs.Text.{line_of_row, lines_of_rows}
+use Rattle.faxrows.proofs.Names.{rules, ◌≡◌, ◌++◌, ◌∙◌, [], take, Ok, List, ℕ, Result, Bool, ap, subst, DecodeError, ReadsNext}
+use Rattle.faxrows.proofs.Names.{AppendsFront, PassesOn, rows_of, line_of_row, lines_of_rows}
+use Rattle.faxrows.proofs.{RowsInTurn.Came, RowsInTurn.came, by_row.put_rows.Given.Over, by_row.put_rows.Goals.After-put_row}
 use Rattle.faxrows.proofs.Outputs.{passes_both, front_behind, front_of_longer, pieces_rest}
-use Rattle.faxrows.proofs.RowsInTurn.{Came, came}
-use Rattle.faxrows.proofs.by_row.put_rows.Given.{Over}
 use Rattle.faxrows.proofs.by_row.put_rows.Goals as goal
-use Rattle.faxrows.proofs.by_row.put_rows.Goals.{After-put_row}
 
 -- the next row came
 next_row : (g : Over) (c : After-put_row g)
@@ -50,14 +43,12 @@ returns-in_err-put_row-in-Ok-true-clause-front g c =
     let at = (goal.at.returns-in_err-put_row-in-Ok-true-clause-front g c).After-put_row in
     let rows = rows_of c.args.rows.now.settings c.args.rows.now.bits in
     let taken = c.next_row.new.self.taken in
-    let so_far : AppendsFront (g.W.Write.contents c.args.writer.now.0) (g.W.Write.contents c.put_row.new.writer.0)
-    (lines_of_rows (take taken rows))
-    = subst (AppendsFront (g.W.Write.contents c.args.writer.now.0) (g.W.Write.contents c.put_row.new.writer.0)) (lines g at)
-    (front_behind _ _ _ [] _ c.loop-rows.waiting.items _ c.loop-rows.invariant.lines
-    c.in_err-put_row-in-Ok-true.ensures.front) in
-    let front : AppendsFront (g.W.Write.contents c.args.writer.now.0) (g.W.Write.contents c.put_row.new.writer.0)
-    (lines_of_rows rows)
-    = subst (AppendsFront (g.W.Write.contents c.args.writer.now.0) (g.W.Write.contents c.put_row.new.writer.0))
-    (pieces_rest line_of_row rows taken)
-    (front_of_longer _ _ [] (lines_of_rows (take taken rows)) _ so_far) in
+    let so_far : AppendsFront (g.W.Write.contents c.args.writer.now.0)
+    (g.W.Write.contents c.put_row.new.writer.0) (lines_of_rows (take taken rows)) =
+    subst (AppendsFront (g.W.Write.contents c.args.writer.now.0) (g.W.Write.contents c.put_row.new.writer.0)) (lines g at)
+    (front_behind _ _ _ [] _ c.loop-rows.waiting.items _ c.loop-rows.invariant.lines c.in_err-put_row-in-Ok-true.ensures.front) in
+    let front : AppendsFront (g.W.Write.contents c.args.writer.now.0)
+    (g.W.Write.contents c.put_row.new.writer.0) (lines_of_rows rows) =
+    subst (AppendsFront (g.W.Write.contents c.args.writer.now.0) (g.W.Write.contents c.put_row.new.writer.0))
+    (pieces_rest line_of_row rows taken) (front_of_longer _ _ [] (lines_of_rows (take taken rows)) _ so_far) in
     search rules

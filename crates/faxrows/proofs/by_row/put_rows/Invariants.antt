@@ -1,7 +1,4 @@
-use Rattle.std.proofs.Common.{◌≡◌, ◌≤◌, ◌-◌, [], length, take}
-use Rattle.faxrows.specs.Output.{PassesOn}
-use Rattle.faxrows.specs.Runs.{rows_of}
-use Rattle.faxrows.specs.Text.{lines_of_rows}
+use Rattle.faxrows.proofs.Names.{◌≡◌, ◌≤◌, ◌-◌, [], length, take, PassesOn, rows_of, lines_of_rows}
 use Rattle.faxrows.proofs.by_row.put_rows.Given as goal
 
 -- the lines of the rows that were read came

@@ -1,9 +1,5 @@
-use Rattle.std.proofs.Common.{rules, [], List, ℕ, refl, inl, take}
-use Rattle.fax_program.specs.Devices.{AppendsFront}
-use Rattle.faxrows.specs.Output.{PassesOn}
-use Rattle.faxrows.specs.Runs.{whole_text, rows_of, outcome_of, text_after}
-use Rattle.faxrows.specs.RunsByRow.{IsTextByRow}
-use Rattle.faxrows.specs.Text.{lines_of_rows, line_of_outcome}
+use Rattle.faxrows.proofs.Names.{rules, [], List, ℕ, refl, inl, take, AppendsFront, PassesOn, whole_text, rows_of, outcome_of}
+use Rattle.faxrows.proofs.Names.{text_after, IsTextByRow, lines_of_rows, line_of_outcome}
 use Rattle.faxrows.proofs.Outputs.{passes_both, front_behind, front_of_more, front_of_waiting}
 use Rattle.faxrows.proofs.RunsByRow.{text_by_row}
 use Rattle.faxrows.proofs.by_row.write_by_row.Goals as goal
@@ -32,8 +28,7 @@ returns-in_err-put_last_line-clause-front g c =
       text_after settings bits read outcome,
       text_by_row settings bits read outcome c.in_ok-outcome.ensures.ends,
       front_behind _ _ _ [] (lines_of_rows (take read (rows_of settings bits))) c.put_rows.new.waiting.items
-          (line_of_outcome outcome) c.in_ok-outcome.ensures.lines
-          c.in_err-put_last_line.ensures.front,
+          (line_of_outcome outcome) c.in_ok-outcome.ensures.lines c.in_err-put_last_line.ensures.front,
     ) in
     search rules
 
@@ -44,11 +39,10 @@ returns-in_err-flush-clause-front g c =
     let read = c.put_rows.new.rows.taken in
     let outcome = c.in_ok-outcome.outcome in
     let waiting = c.put_last_line.new.waiting.items in
-    let text : PassesOn (g.W.Write.contents c.args.writer.now.0) (g.W.Write.contents c.put_last_line.new.writer.0) []
-    (text_after settings bits read outcome) waiting
-    = passes_both _ _ _ [] (lines_of_rows (take read (rows_of settings bits))) c.put_rows.new.waiting.items
-    (line_of_outcome outcome) waiting c.in_ok-outcome.ensures.lines
-    c.in_ok-put_last_line.ensures.ok in
+    let text : PassesOn (g.W.Write.contents c.args.writer.now.0)
+    (g.W.Write.contents c.put_last_line.new.writer.0) [] (text_after settings bits read outcome) waiting =
+    passes_both _ _ _ [] (lines_of_rows (take read (rows_of settings bits))) c.put_rows.new.waiting.items
+    (line_of_outcome outcome) waiting c.in_ok-outcome.ensures.lines c.in_ok-put_last_line.ensures.ok in
     let front : (text : List ℕ) × IsTextByRow settings bits text × AppendsFront (g.W.Write.contents c.args.writer.now.0)
     (g.W.Write.contents c.flush.new.writer.0) text = (
       text_after settings bits read outcome,

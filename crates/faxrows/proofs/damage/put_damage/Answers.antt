@@ -1,23 +1,15 @@
-use Rattle.std.proofs.Common.{rules, ◌≡◌, ◌++◌, ◌-◌, ◌∙◌, [], true, length, refl, sym, Ok, Result, Bool, ap, subst}
-use Rattle.hayro_ccitt.specs.declared.error.DecodeError.{DecodeError}
-use Rattle.hayro_ccitt.specs.RowsRead.{ReadsNext}
-use Rattle.fax_program.specs.Devices.{AppendsFront}
-use Rattle.faxrows.specs.DamageText.{damage_lines, line_of_damage}
-use Rattle.faxrows.specs.Output.{PassesOn}
-use Rattle.faxrows.specs.Runs.{rows_of}
+use Rattle.faxrows.proofs.Names.{rules, ◌≡◌, ◌++◌, ◌-◌, ◌∙◌, [], true, length, refl, sym, Ok, Result, Bool, ap, subst}
+use Rattle.faxrows.proofs.Names.{DecodeError, ReadsNext, AppendsFront, damage_lines, line_of_damage, PassesOn, rows_of}
+use Rattle.faxrows.proofs.{Outputs.front_behind, Outputs.passes_both, RowsInTurn.Came, RowsInTurn.came}
+use Rattle.faxrows.proofs.{damage.put_damage.Given.Over, damage.put_damage.Goals.After-put_last_row}
 use Rattle.faxrows.proofs.DamageTexts.{damage_more, failed_there, front_of_damage, unended_before}
-use Rattle.faxrows.proofs.Outputs.{passes_both, front_behind}
-use Rattle.faxrows.proofs.RowsInTurn.{Came, came}
-use Rattle.faxrows.proofs.damage.put_damage.Given.{Over}
 use Rattle.faxrows.proofs.damage.put_damage.Goals as goal
-use Rattle.faxrows.proofs.damage.put_damage.Goals.{After-put_last_row}
 
 -- a row was read
 reads : (g : Over) (c : After-put_last_row g) → ReadsNext c.loop-rows.rows c.next_row.new.self (Ok true)
 reads g c =
     subst (λ (r : Result Bool DecodeError). ReadsNext c.loop-rows.rows c.next_row.new.self r)
-    (c.in-Ok-true.is ∙ ap Ok c.in-Ok-true.field-0-test)
-    c.next_row.ensures.reads
+    (c.in-Ok-true.is ∙ ap Ok c.in-Ok-true.field-0-test) c.next_row.ensures.reads
 
 -- it is the next one
 next_row : (g : Over) (c : After-put_last_row g)
@@ -27,13 +19,11 @@ next_row g c =
     c.loop-rows.invariant.bits (reads g c)
 
 -- its line is that of its damage
-lines : (g : Over) (c : After-put_last_row g)
-    → damage_lines c.args.rows.now.settings c.args.rows.now.bits c.loop-rows.rows.taken
+lines : (g : Over) (c : After-put_last_row g) → damage_lines c.args.rows.now.settings c.args.rows.now.bits c.loop-rows.rows.taken
     ++ line_of_damage (c.next_row.new.self.taken - 1) c.next_row.new.self.line_start c.next_row.new.self.damage
     ≡ damage_lines c.args.rows.now.settings c.args.rows.now.bits c.next_row.new.self.taken
 lines g c =
-    damage_more c.args.rows.now.settings c.args.rows.now.bits c.loop-rows.rows c.next_row.new.self
-    c.loop-rows.invariant.settings
+    damage_more c.args.rows.now.settings c.args.rows.now.bits c.loop-rows.rows c.next_row.new.self c.loop-rows.invariant.settings
     c.loop-rows.invariant.bits (reads g c)
 
 pub loop-rows-preserved : goal.loop-rows-preserved
@@ -75,6 +65,5 @@ returns-in_err-put_last_row-in-Ok-true-clause-front g c =
     (front_behind _ _ _ [] _ c.loop-rows.waiting.items _ c.loop-rows.invariant.lines
     c.in_err-put_last_row-in-Ok-true.ensures.front) in
     let front : AppendsFront (g.W.Write.contents c.args.writer.now.0) (g.W.Write.contents c.put_last_row.new.writer.0)
-    (damage_lines settings bits all)
-    = front_of_damage _ _ settings bits taken all (next_row g at).within so_far in
+    (damage_lines settings bits all) = front_of_damage _ _ settings bits taken all (next_row g at).within so_far in
     search rules

@@ -1,8 +1,4 @@
-use Rattle.std.proofs.Common.{◌≡◌, ◌≢◌, ◌≤◌, ◌-◌, [], length, Some, Err}
-use Rattle.hayro_ccitt.specs.declared.error.DecodeError.{DecodeError}
-use Rattle.faxrows.specs.DamageText.{damage_lines}
-use Rattle.faxrows.specs.Output.{PassesOn}
-use Rattle.faxrows.specs.Runs.{rows_of}
+use Rattle.faxrows.proofs.Names.{◌≡◌, ◌≢◌, ◌≤◌, ◌-◌, [], length, Some, Err, DecodeError, damage_lines, PassesOn, rows_of}
 use Rattle.faxrows.proofs.damage.put_damage.Given as goal
 
 -- the lines of the rows that were repaired came

@@ -1,9 +1,5 @@
-use Rattle.std.proofs.Common.{◌++◌, ◌≡◌, ◌∙◌, List, ℕ, ap, subst, sym}
-use Rattle.std.specs.Prelude.{OnErr, codes}
-use Rattle.hayro_ccitt.specs.PlainReading.{failed_at}
-use Rattle.fax_program.specs.Devices.{AppendsFront}
-use Rattle.faxrows.specs.DamageText.{end_with_fault, last_line_of_damage, numbered}
-use Rattle.faxrows.specs.Runs.{Outcome}
+use Rattle.faxrows.proofs.Names.{◌++◌, ◌≡◌, ◌∙◌, List, ℕ, ap, subst, sym, OnErr, codes, failed_at, AppendsFront, end_with_fault}
+use Rattle.faxrows.proofs.Names.{last_line_of_damage, numbered, Outcome}
 use Rattle.faxrows.proofs.damage.put_end.Goals as goal
 
 -- the line is that of the fault
@@ -12,8 +8,8 @@ returns-in-Err-clause-front g c =
     let rows = c.args.rows.now in
     let start = c.line_start-start.result in
     let end = end_with_fault c.in-Err.error in
-    let failed : rows.line_start ≡ failed_at rows.settings rows.bits rows.taken
-    = subst (λ (o : Outcome). OnErr o (rows.line_start ≡ failed_at rows.settings rows.bits rows.taken)) c.in-Err.is c.requires.fails in
+    let failed : rows.line_start ≡ failed_at rows.settings rows.bits rows.taken = subst
+    (λ (o : Outcome). OnErr o (rows.line_start ≡ failed_at rows.settings rows.bits rows.taken)) c.in-Err.is c.requires.fails in
     let line : numbered (codes "error ") c.rows_read-in-Err.result start ++ end
     ≡ last_line_of_damage rows.settings rows.bits rows.taken c.args.outcome.now
     = ap (λ (n : ℕ). numbered (codes "error ") n start ++ end) c.rows_read-in-Err.ensures

@@ -1,7 +1,4 @@
-use Rattle.std.proofs.Common.{◌++◌, ◌-◌, ◌≡◌, ◌∙◌, List, ℕ, Some, ap, subst, sym}
-use Rattle.std.specs.Prelude.{OnErr}
-use Rattle.fax_program.specs.Devices.{AppendsFront}
-use Rattle.faxrows.specs.DamageText.{line_of_damage}
+use Rattle.faxrows.proofs.Names.{◌++◌, ◌-◌, ◌≡◌, ◌∙◌, List, ℕ, Some, ap, subst, sym, OnErr, AppendsFront, line_of_damage}
 use Rattle.faxrows.proofs.damage.put_last_row.Goals as goal
 
 -- the line is that of the row's damage

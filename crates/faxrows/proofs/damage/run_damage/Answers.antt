@@ -1,19 +1,9 @@
-use Rattle.std.proofs.Common.{rules, ◌≡◌, List, ℕ, subst, sym}
-use Rattle.std.specs.Prelude.{IsOk, IsErr, map, string_bytes}
-use Rattle.std.specs.Io.KnownBytes.{Appends}
-use Rattle.std.proofs.lemmas.Result.{IfOk-weaker, IfErr-at_err}
-use Rattle.hayro_ccitt.specs.declared.settings.DecodeSettings.{DecodeSettings}
-use Rattle.hayro_ccitt.specs.Bits.{Bits}
-use Rattle.fax_program.specs.Devices.{AppendsFront}
-use Rattle.faxrows.specs.declared.program.Done.{Done}
-use Rattle.faxrows.specs.declared.program.Done.TheVariants.{Good, Faulty, Memory}
-use Rattle.faxrows.specs.Arguments.{arguments_of_words}
-use Rattle.faxrows.specs.Runs.{Outcome, EndsAfter, OnKnown, done_of, outcome_of, IsEndOfRun}
-use Rattle.faxrows.specs.DamageText.{IsDamageText, IsDamageWithoutMemory, damage_after, whole_damage}
-use Rattle.faxrows.specs.RunsByRow.{EndsByRow}
+use Rattle.faxrows.proofs.Names.{rules, ◌≡◌, List, ℕ, subst, sym, IsOk, IsErr, map, string_bytes, Appends, IfOk-weaker}
+use Rattle.faxrows.proofs.Names.{IfErr-at_err, DecodeSettings, Bits, AppendsFront, Done, Good, Faulty, Memory, arguments_of_words}
+use Rattle.faxrows.proofs.Names.{Outcome, OnKnown, done_of, outcome_of, IsEndOfRun, IsDamageText, IsDamageWithoutMemory}
+use Rattle.faxrows.proofs.Names.{damage_after, whole_damage, EndsByRow}
+use Rattle.faxrows.proofs.{Texts.on_known, damage.run_damage.Given.Over}
 use Rattle.faxrows.proofs.DamageTexts.{damage_of_good, damage_of_faulty, damage_without_memory}
-use Rattle.faxrows.proofs.Texts.{on_known}
-use Rattle.faxrows.proofs.damage.run_damage.Given.{Over}
 use Rattle.faxrows.proofs.damage.run_damage.Goals as goal
 
 module _ (g : Over) (c : goal.After-drop-input-2 g) where
@@ -36,9 +26,7 @@ module _ (g : Over) (c : goal.After-drop-input-2 g) where
   -- what was written, if the run ended like this
   abbrev Written : Done → Type 0
   Written done =
-      (outcome : Outcome)
-      × EndsByRow settings bits read outcome
-      × (done ≡ done_of outcome)
+      (outcome : Outcome) × EndsByRow settings bits read outcome × (done ≡ done_of outcome)
       × Grew (damage_after settings bits read outcome)
 
   -- a statement about what was read is one about what is known
@@ -51,7 +39,8 @@ module _ (g : Over) (c : goal.After-drop-input-2 g) where
       (subst (P settings) (search rules) holds)
 
   -- what is written for each way to end
-  ended : (done : Done) → Written done → Known (λ s b. IsEndOfRun done (outcome_of s b) (whole_damage s b) (IsDamageWithoutMemory s b) Grew)
+  ended : (done : Done) → Written done
+      → Known (λ s b. IsEndOfRun done (outcome_of s b) (whole_damage s b) (IsDamageWithoutMemory s b) Grew)
   ended Good (outcome, ends, same, grew) =
       let (all, holds) = damage_of_good settings bits read outcome ends.0 (sym same) in
       known (λ s b. IsOk (outcome_of s b) × Grew (whole_damage s b)) (holds, subst Grew all grew)
@@ -59,7 +48,8 @@ module _ (g : Over) (c : goal.After-drop-input-2 g) where
       let (all, holds) = damage_of_faulty settings bits read outcome ends.0 (sym same) in
       known (λ s b. IsErr (outcome_of s b) × Grew (whole_damage s b)) (holds, subst Grew all grew)
   ended Memory (outcome, ends, same, grew) =
-      known (λ s b. (text : List ℕ) × IsDamageWithoutMemory s b text × Grew text) (_, damage_without_memory settings bits read outcome ends (sym same), grew)
+      known (λ s b. (text : List ℕ) × IsDamageWithoutMemory s b text × Grew text)
+      (_, damage_without_memory settings bits read outcome ends (sym same), grew)
 
 pub returns-clause-ended : goal.returns-clause-ended
 returns-clause-ended g c = IfOk-weaker c.write_damage.result _ _ (ended g c) c.write_damage.ensures.written

@@ -1,17 +1,9 @@
-use Rattle.std.proofs.Common.{rules, ◌≡◌, ◌++◌, [], List, ℕ, refl, inl, length, subst, sym}
-use Rattle.std.specs.Io.KnownBytes.{Appends}
-use Rattle.std.proofs.KnownBytes.{Appends-trans}
-use Rattle.hayro_ccitt.specs.declared.settings.DecodeSettings.{DecodeSettings}
-use Rattle.hayro_ccitt.specs.Bits.{Bits}
-use Rattle.fax_program.specs.Devices.{AppendsFront}
-use Rattle.faxrows.specs.DamageText.{IsDamageText, damage_after, damage_lines, last_line_of_damage, whole_damage}
-use Rattle.faxrows.specs.Output.{PassesOn}
-use Rattle.faxrows.specs.Runs.{Outcome, rows_of, outcome_of}
-use Rattle.faxrows.proofs.DamageTexts.{is_damage_text}
+use Rattle.faxrows.proofs.Names.{rules, ◌≡◌, ◌++◌, [], List, ℕ, refl, inl, length, subst, sym, Appends, Appends-trans}
+use Rattle.faxrows.proofs.Names.{DecodeSettings, Bits, AppendsFront, IsDamageText, damage_after, damage_lines}
+use Rattle.faxrows.proofs.Names.{last_line_of_damage, whole_damage, PassesOn, Outcome, rows_of, outcome_of}
+use Rattle.faxrows.proofs.{DamageTexts.is_damage_text, damage.write_damage.Given.Over, damage.write_damage.Goals.After-put_end}
 use Rattle.faxrows.proofs.Outputs.{passes_both, front_behind, front_of_more, front_of_waiting}
-use Rattle.faxrows.proofs.damage.write_damage.Given.{Over}
 use Rattle.faxrows.proofs.damage.write_damage.Goals as goal
-use Rattle.faxrows.proofs.damage.write_damage.Goals.{After-put_end}
 
 -- the last line is that of the data that are read
 last_line : (g : Over) (c : After-put_end g)
@@ -75,9 +67,8 @@ returns-in_err-flush-clause-front g c =
     (g.W.Write.contents c.put_end.new.writer.0) waits l waiting)
     (last_line g (goal.at.returns-in_err-flush-clause-front g c).After-put_end) c.in_ok-put_end.ensures.ok in
     let text : PassesOn (g.W.Write.contents c.args.writer.now.0) (g.W.Write.contents c.put_end.new.writer.0) []
-    (damage_after settings bits read outcome) waiting
-    = passes_both _ _ _ [] (damage_lines settings bits read) waits (last_line_of_damage settings bits read outcome) waiting
-    c.in_ok-outcome.ensures.lines end in
+    (damage_after settings bits read outcome) waiting = passes_both _ _ _ [] (damage_lines settings bits read) waits
+    (last_line_of_damage settings bits read outcome) waiting c.in_ok-outcome.ensures.lines end in
     let front : (text : List ℕ) × IsDamageText settings bits text
     × AppendsFront (g.W.Write.contents c.args.writer.now.0) (g.W.Write.contents c.flush.new.writer.0) text = (
       damage_after settings bits read outcome,
@@ -100,9 +91,8 @@ returns-clause-written g c =
     (g.W.Write.contents c.put_end.new.writer.0) waits l waiting)
     (last_line g (goal.at.returns-clause-written g c).After-put_end) c.in_ok-put_end.ensures.ok in
     let text : PassesOn (g.W.Write.contents c.args.writer.now.0) (g.W.Write.contents c.put_end.new.writer.0) []
-    (damage_after settings bits read outcome) waiting
-    = passes_both _ _ _ [] (damage_lines settings bits read) waits (last_line_of_damage settings bits read outcome) waiting
-    c.in_ok-outcome.ensures.lines end in (
+    (damage_after settings bits read outcome) waiting = passes_both _ _ _ [] (damage_lines settings bits read) waits
+    (last_line_of_damage settings bits read outcome) waiting c.in_ok-outcome.ensures.lines end in (
       outcome,
       c.in_ok-outcome.ensures.ends,
       c.done_of.ensures,

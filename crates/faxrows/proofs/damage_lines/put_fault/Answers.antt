@@ -1,9 +1,5 @@
-use Rattle.std.proofs.Common.{rules, ◌++◌, List, ℕ, subst}
-use Rattle.std.specs.Prelude.{OnErr, OnOk}
-use Rattle.std.proofs.lemmas.Result.{on_err_weaker, on_ok_weaker}
-use Rattle.fax_program.specs.Devices.{AppendsFront}
-use Rattle.faxrows.specs.DamageText.{numbered, end_with_fault}
-use Rattle.faxrows.specs.Output.{PassesOn}
+use Rattle.faxrows.proofs.Names.{rules, ◌++◌, List, ℕ, subst, OnErr, OnOk, on_err_weaker, on_ok_weaker, AppendsFront, numbered}
+use Rattle.faxrows.proofs.Names.{end_with_fault, PassesOn}
 use Rattle.faxrows.proofs.Outputs.{passes_both, front_behind, front_of_longer}
 use Rattle.faxrows.proofs.damage_lines.put_fault.Goals as goal
 

@@ -1,8 +1,4 @@
-use Rattle.std.proofs.Common.{rules, ◌++◌}
-use Rattle.std.specs.Prelude.{codes}
-use Rattle.std.proofs.lemmas.Result.{on_err_weaker, on_ok_weaker}
-use Rattle.fax_program.specs.Devices.{AppendsFront}
-use Rattle.faxrows.specs.DamageText.{number_and, numbered}
+use Rattle.faxrows.proofs.Names.{rules, ◌++◌, codes, on_err_weaker, on_ok_weaker, AppendsFront, number_and, numbered}
 use Rattle.faxrows.proofs.Outputs.{passes_both, front_behind, front_of_longer}
 use Rattle.faxrows.proofs.damage_lines.put_good_end.Goals as goal
 

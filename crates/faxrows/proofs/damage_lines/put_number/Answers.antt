@@ -1,6 +1,4 @@
-use Rattle.std.proofs.Common.{◌++◌, ◌∙◌, ◌-◌, List, ℕ, subst, arith, drop, length-drop, take_all}
-use Rattle.std.specs.Prelude.{OnErr}
-use Rattle.fax_program.specs.Devices.{AppendsFront}
+use Rattle.faxrows.proofs.Names.{◌++◌, ◌∙◌, ◌-◌, List, ℕ, subst, arith, drop, length-drop, take_all, OnErr, AppendsFront}
 use Rattle.faxrows.proofs.damage_lines.put_number.Goals as goal
 
 pub returns-clause-front : goal.returns-clause-front

@@ -1,6 +1,5 @@
-use Rattle.std.proofs.Common.{◌≡◌, ◌++◌, ◌∷◌, ◌∙◌, [], List, ℕ, length, drop, set, ap, arith, drop_of_length-le}
-use Rattle.std.proofs.lemmas.List.{drop-set}
-use Rattle.std.specs.Fmt.{decimal}
+use Rattle.faxrows.proofs.Names.{◌≡◌, ◌++◌, ◌∷◌, ◌∙◌, [], List, ℕ, length, drop, set, ap, arith, drop_of_length-le, drop-set}
+use Rattle.faxrows.proofs.Names.{decimal}
 use Rattle.faxrows.proofs.damage_lines.put_number_text.Goals as goal
 
 -- the sign at the end of the room

@@ -1,8 +1,4 @@
-use Rattle.std.proofs.Common.{rules, ◌++◌}
-use Rattle.std.proofs.lemmas.Result.{on_err_weaker, on_ok_weaker}
-use Rattle.fax_program.specs.Devices.{AppendsFront}
-use Rattle.faxrows.specs.DamageText.{number_and}
-use Rattle.faxrows.specs.Output.{PassesOn}
+use Rattle.faxrows.proofs.Names.{rules, ◌++◌, on_err_weaker, on_ok_weaker, AppendsFront, number_and, PassesOn}
 use Rattle.faxrows.proofs.Outputs.{passes_both, front_behind, front_of_longer}
 use Rattle.faxrows.proofs.damage_lines.put_numbers.Goals as goal
 
@@ -17,9 +13,8 @@ returns-in_err-put-clause-front g c =
 pub returns-in_err-put_number-clause-front : goal.returns-in_err-put_number-clause-front
 returns-in_err-put_number-clause-front g c =
     let numbers : AppendsFront (g.W.Write.contents c.put.new.writer.0) (g.W.Write.contents c.put_number.new.writer.0)
-    (c.put.new.waiting.items ++ ((number_and c.args.first 32) ++ (number_and c.args.second 32)))
-    = front_of_longer _ _ c.put.new.waiting.items (number_and c.args.first 32)
-    (number_and c.args.second 32) c.in_err-put_number.ensures.front in
+    (c.put.new.waiting.items ++ ((number_and c.args.first 32) ++ (number_and c.args.second 32))) = front_of_longer _ _
+    c.put.new.waiting.items (number_and c.args.first 32) (number_and c.args.second 32) c.in_err-put_number.ensures.front in
     let front : AppendsFront (g.W.Write.contents c.args.writer.now.0) (g.W.Write.contents c.put_number.new.writer.0)
     (c.args.waiting.now.items ++ (c.args.word.now ++ ((number_and c.args.first 32) ++ (number_and c.args.second 32))))
     = front_behind _ _ _ c.args.waiting.now.items c.args.word.now c.put.new.waiting.items _ c.in_ok-put.ensures.ok numbers in

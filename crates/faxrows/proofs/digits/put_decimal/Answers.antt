@@ -1,7 +1,6 @@
-use Rattle.std.proofs.Common.{◌≡◌, ℕ, ◌+◌, ◌-◌, ◌/◌, ◌^◌, ◌<◌, ◌≤◌, List, [], ◌∷◌, ◌++◌, length, drop, set, ap, sym, ◌∙◌, append_assoc, arith, rules, length-append, length-drop}
-use Rattle.std.proofs.lemmas.Fmt.{decimal_step, decimal_digit, decimal_nonempty, length-decimal-le}
-use Rattle.std.proofs.lemmas.List.{drop-set}
-use Rattle.std.specs.Fmt.{decimal}
+use Rattle.faxrows.proofs.Names.{◌≡◌, ℕ, ◌+◌, ◌-◌, ◌/◌, ◌^◌, ◌<◌, ◌≤◌, List, [], ◌∷◌, ◌++◌, length, drop, set, ap, sym, ◌∙◌}
+use Rattle.faxrows.proofs.Names.{append_assoc, arith, rules, length-append, length-drop, decimal_step, decimal_digit}
+use Rattle.faxrows.proofs.Names.{decimal_nonempty, length-decimal-le, drop-set, decimal}
 use Rattle.faxrows.proofs.digits.put_decimal.Goals as goal
 
 -- a number of more than one digit has at least two
@@ -12,8 +11,8 @@ two_digits n more small =
     omega (arith, split, decimal_nonempty (n / 10) (omega arith))
 
 -- the digits that are left to write have room among the twenty
-room_left : (number rest start end : ℕ) (old new : List ℕ) → number < 2 ^ 64 → start < end → end ≤ length old → length new ≡ length old
-    → decimal number ++ drop end old ≡ decimal rest ++ drop (start + 1) new → end + length (decimal rest) ≤ start + 21
+room_left : (number rest start end : ℕ) (old new : List ℕ) → number < 2 ^ 64 → start < end → end ≤ length old → length new ≡
+    length old → decimal number ++ drop end old ≡ decimal rest ++ drop (start + 1) new → end + length (decimal rest) ≤ start + 21
 room_left number rest start end old new small before within same e =
     let lengths : length (decimal number) + (length old - end) ≡ length (decimal rest) + (length new - (start + 1)) =
     simp (length-append, length-drop) at (ap length e) in
@@ -40,8 +39,8 @@ loop-rest-preserved c =
     record {
       before = omega arith;
       same_length = search rules;
-      digits = rw next (c.loop-rest.invariant.digits
-          ∙ ap (λ l. l ++ drop (c.loop-rest.start + 1) c.loop-rest.bytes) (decimal_step c.loop-rest.rest c.loop-rest-test.true c.loop-rest.auto.rest-fits.fits)
+      digits = rw next (c.loop-rest.invariant.digits ∙ ap (λ l. l ++ drop (c.loop-rest.start + 1) c.loop-rest.bytes)
+          (decimal_step c.loop-rest.rest c.loop-rest-test.true c.loop-rest.auto.rest-fits.fits)
           ∙ one_more _ _ c.loop-rest.start c.loop-rest.bytes (omega arith));
     }
 

@@ -1,5 +1,4 @@
-use Rattle.std.proofs.Common.{◌≡◌, ◌<◌, ◌+◌, ◌++◌, length, drop}
-use Rattle.std.specs.Fmt.{decimal}
+use Rattle.faxrows.proofs.Names.{◌≡◌, ◌<◌, ◌+◌, ◌++◌, length, drop, decimal}
 use Rattle.faxrows.proofs.digits.put_decimal.Given as goal
 
 -- the digits written, after those of what is left

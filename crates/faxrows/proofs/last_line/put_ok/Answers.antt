@@ -1,7 +1,5 @@
-use Rattle.std.proofs.Common.{◌≡◌, ℕ, ◌+◌, ◌-◌, ◌≤◌, List, [], ◌∷◌, ◌++◌, length, drop, set, ap, ◌∙◌, arith, rules, drop_of_length-le}
-use Rattle.std.proofs.lemmas.List.{drop-set}
-use Rattle.std.proofs.lemmas.Grind.{drop-set_at}
-use Rattle.std.specs.Fmt.{decimal}
+use Rattle.faxrows.proofs.Names.{◌≡◌, ℕ, ◌+◌, ◌-◌, ◌≤◌, List, [], ◌∷◌, ◌++◌, length, drop, set, ap, ◌∙◌, arith, rules}
+use Rattle.faxrows.proofs.Names.{drop_of_length-le, drop-set, drop-set_at, decimal}
 use Rattle.faxrows.proofs.last_line.put_ok.Goals as goal
 
 -- three bytes written before a position
@@ -19,9 +17,11 @@ three_before bytes place a b c room within =
 
 -- the last byte of a line, written
 last_byte : (bytes : List ℕ) (byte : ℕ) → length bytes ≡ 24 → drop 23 (set bytes 23 byte) ≡ byte ∷ []
-last_byte bytes byte long = drop-set bytes 23 byte (omega arith) ∙ ap (λ l. byte ∷ l) (drop_of_length-le bytes {i = 24} (omega arith))
+last_byte bytes byte long =
+    drop-set bytes 23 byte (omega arith) ∙ ap (λ l. byte ∷ l) (drop_of_length-le bytes {i = 24} (omega arith))
 
 pub returns-clause-line : goal.returns-clause-line
 returns-clause-line c =
     three_before c.put_decimal-digits.new.bytes c.put_decimal-digits.result 111 107 32 (omega arith) (omega arith)
-    ∙ ap (λ l. 111 ∷ 107 ∷ 32 ∷ l) (c.put_decimal-digits.ensures.digits ∙ ap (λ l. decimal c.args.count ++ l) (last_byte c.args.line.now 10 c.told-line))
+    ∙ ap (λ l. 111 ∷ 107 ∷ 32 ∷ l)
+    (c.put_decimal-digits.ensures.digits ∙ ap (λ l. decimal c.args.count ++ l) (last_byte c.args.line.now 10 c.told-line))

@@ -1,12 +1,8 @@
-use Rattle.std.proofs.Common.{rules, ◌≡◌, ◌++◌, [], List, ℕ, sym, subst, append-nil}
-use Rattle.std.specs.Io.KnownBytes.{Appends}
-use Rattle.std.proofs.KnownBytes.{Appends-trans}
-use Rattle.fax_program.specs.Devices.{AppendsFront}
-use Rattle.faxrows.specs.Output.{PassesOn}
+use Rattle.faxrows.proofs.Names.{rules, ◌≡◌, ◌++◌, [], List, ℕ, sym, subst, append-nil, Appends, Appends-trans, AppendsFront}
+use Rattle.faxrows.proofs.Names.{PassesOn}
+use Rattle.faxrows.proofs.{output.put.Given.Over, output.put.Goals.After-flush}
 use Rattle.faxrows.proofs.Outputs.{passes_both, front_behind, front_of_more}
-use Rattle.faxrows.proofs.output.put.Given.{Over}
 use Rattle.faxrows.proofs.output.put.Goals as goal
-use Rattle.faxrows.proofs.output.put.Goals.{After-flush}
 
 -- a failed push leaves what waits
 kept : (g : Over) (c : After-flush g) → c.extend_from_slice.new.self.items ≡ c.make_room.new.waiting.items
@@ -26,9 +22,8 @@ returns-in_err-flush-clause-front g c =
     = subst (AppendsFront (g.W.Write.contents c.make_room.new.writer.0) (g.W.Write.contents c.flush.new.writer.0))
     (kept g (goal.at.returns-in_err-flush-clause-front g c).After-flush) c.in_err-flush.ensures.front in
     let front : AppendsFront (g.W.Write.contents c.args.writer.now.0) (g.W.Write.contents c.flush.new.writer.0)
-    (c.args.waiting.now.items ++ c.args.text.now)
-    = front_behind _ _ _ c.args.waiting.now.items [] waits c.args.text.now c.in_ok-make_room.ensures.ok
-    (front_of_more _ _ waits c.args.text.now taken) in
+    (c.args.waiting.now.items ++ c.args.text.now) = front_behind _ _ _ c.args.waiting.now.items [] waits c.args.text.now
+    c.in_ok-make_room.ensures.ok (front_of_more _ _ waits c.args.text.now taken) in
     search rules
 
 pub returns-in_err-write_all-clause-front : goal.returns-in_err-write_all-clause-front
@@ -54,12 +49,10 @@ returns-in_ok-write_all-clause-ok g c =
     = subst (Appends (g.W.Write.contents c.make_room.new.writer.0) (g.W.Write.contents c.flush.new.writer.0))
     (kept g (goal.at.returns-in_ok-write_all-clause-ok g c).After-flush) c.in_ok-flush.ensures.ok in
     let both : PassesOn (g.W.Write.contents c.make_room.new.writer.0)
-    (g.W.Write.contents c.write_all.new.writer.0) waits text []
-    = (
+    (g.W.Write.contents c.write_all.new.writer.0) waits text [] = (
       waits ++ text,
       Appends-trans _ _ _ waits text flushed c.in_ok-write_all.ensures.ok,
-      sym
-          (append-nil (waits ++ text)),
+      sym (append-nil (waits ++ text)),
     ) in
     subst (PassesOn (g.W.Write.contents c.args.writer.now.0)
     (g.W.Write.contents c.write_all.new.writer.0) c.args.waiting.now.items text)

@@ -1,7 +1,5 @@
-use Rattle.std.proofs.Common.{◌++◌, ◌∙◌, ◌-◌, List, ℕ, subst, arith, drop, length-drop, take_all, sym, ap}
-use Rattle.std.specs.Prelude.{OnErr}
-use Rattle.fax_program.specs.Devices.{AppendsFront}
-use Rattle.faxrows.specs.Text.{line_of_outcome}
+use Rattle.faxrows.proofs.Names.{◌++◌, ◌∙◌, ◌-◌, List, ℕ, subst, arith, drop, length-drop, take_all, sym, ap, OnErr, AppendsFront}
+use Rattle.faxrows.proofs.Names.{line_of_outcome}
 use Rattle.faxrows.proofs.output.put_last_line.Goals as goal
 
 pub returns-in-Ok-clause-front : goal.returns-in-Ok-clause-front

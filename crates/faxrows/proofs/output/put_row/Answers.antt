@@ -1,13 +1,8 @@
-use Rattle.std.proofs.Common.{rules, ◌≡◌, ◌+◌, ◌++◌, [], ◌∷◌, OnOk, OnErr, List, ℕ, take, get_or, take_all, ap, subst}
-use Rattle.std.specs.Prelude.{flat_map}
-use Rattle.std.proofs.lemmas.Result.{on_err_weaker, on_ok_weaker}
-use Rattle.fax_program.specs.Devices.{AppendsFront}
-use Rattle.faxrows.specs.Output.{PassesOn}
-use Rattle.faxrows.specs.Text.{line_of_row, text_of_change}
+use Rattle.faxrows.proofs.Names.{rules, ◌≡◌, ◌+◌, ◌++◌, [], ◌∷◌, OnOk, OnErr, List, ℕ, take, get_or, take_all, ap, subst}
+use Rattle.faxrows.proofs.Names.{flat_map, on_err_weaker, on_ok_weaker, AppendsFront, PassesOn, line_of_row, text_of_change}
+use Rattle.faxrows.proofs.{output.put_row.Given.Over, output.put_row.Goals.After-put-2, output.put_row.Goals.After-put_change}
 use Rattle.faxrows.proofs.Outputs.{passes_both, front_behind, front_of_line, pieces_more}
-use Rattle.faxrows.proofs.output.put_row.Given.{Over}
 use Rattle.faxrows.proofs.output.put_row.Goals as goal
-use Rattle.faxrows.proofs.output.put_row.Goals.{After-put_change, After-put-2}
 
 -- the changes so far, and this one
 one_more : (g : Over) (c : After-put_change g)

@@ -1,7 +1,4 @@
-use Rattle.std.proofs.Common.{◌≡◌, ◌∷◌, take}
-use Rattle.std.specs.Prelude.{flat_map}
-use Rattle.faxrows.specs.Output.{PassesOn}
-use Rattle.faxrows.specs.Text.{text_of_change}
+use Rattle.faxrows.proofs.Names.{◌≡◌, ◌∷◌, take, flat_map, PassesOn, text_of_change}
 use Rattle.faxrows.proofs.output.put_row.Given as goal
 
 -- the line as far as the changes came

@@ -1,12 +1,5 @@
-use Rattle.std.proofs.Common.{rules, List, ℕ, Result}
-use Rattle.std.proofs.lemmas.Result.{IfOk-weaker}
-use Rattle.std.specs.Io.KnownBytes.{Appends}
-use Rattle.hayro_ccitt.specs.declared.error.DecodeError.{DecodeError}
-use Rattle.hayro_ccitt.specs.declared.settings.DecodeSettings.{DecodeSettings}
-use Rattle.hayro_ccitt.specs.Bits.{Bits}
-use Rattle.faxrows.specs.PackedRuns.{IsPackedOf}
-use Rattle.faxrows.proofs.Texts.{on_known}
-use Rattle.faxrows.proofs.packed.run_packed.Given.{Over}
+use Rattle.faxrows.proofs.Names.{rules, List, ℕ, Result, IfOk-weaker, Appends, DecodeError, DecodeSettings, Bits, IsPackedOf}
+use Rattle.faxrows.proofs.{Texts.on_known, packed.run_packed.Given.Over}
 use Rattle.faxrows.proofs.packed.run_packed.Goals as goal
 
 module _ (g : Over) (c : goal.After-drop-input-2 g) where
@@ -18,4 +11,5 @@ module _ (g : Over) (c : goal.After-drop-input-2 g) where
 
 pub returns-clause-packed : goal.returns-clause-packed
 returns-clause-packed g c =
-    IfOk-weaker c.write_packed.result _ _ (λ answer wrote. on_known _ c.in-Some.arguments c.in-Ok.ctx.held.settings _ c.as_slice.result.now (Wrote g c answer) (search rules) (search rules) (search rules) wrote) c.write_packed.ensures.written
+    IfOk-weaker c.write_packed.result _ _ (λ answer wrote. on_known _ c.in-Some.arguments c.in-Ok.ctx.held.settings _
+    c.as_slice.result.now (Wrote g c answer) (search rules) (search rules) (search rules) wrote) c.write_packed.ensures.written

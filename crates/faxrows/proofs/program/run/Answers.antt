@@ -1,15 +1,7 @@
-use Rattle.std.proofs.Common.{rules, ◌≡◌, List, ℕ, subst, refl, sym}
-use Rattle.std.specs.Prelude.{IsOk, IsErr, map, string_bytes}
-use Rattle.std.specs.Io.KnownBytes.{Appends}
-use Rattle.std.proofs.lemmas.Result.{IfOk-weaker}
-use Rattle.hayro_ccitt.specs.declared.settings.DecodeSettings.{DecodeSettings}
-use Rattle.hayro_ccitt.specs.Bits.{Bits, bits_in}
-use Rattle.faxrows.specs.declared.program.Done.{Done}
-use Rattle.faxrows.specs.declared.program.Done.TheVariants.{Good, Faulty, Memory}
-use Rattle.faxrows.specs.Arguments.{arguments_of_words}
-use Rattle.faxrows.specs.Runs.{Outcome, EndsAfter, OnKnown, IsTextOfWant, done_of, outcome_of, text_after, whole_text, IsEndOfRun}
-use Rattle.faxrows.proofs.Texts.{text_of_good, text_of_faulty, on_known}
-use Rattle.faxrows.proofs.program.run.Given.{Over}
+use Rattle.faxrows.proofs.Names.{rules, ◌≡◌, List, ℕ, subst, refl, sym, IsOk, IsErr, map, string_bytes, Appends, IfOk-weaker}
+use Rattle.faxrows.proofs.Names.{DecodeSettings, Bits, bits_in, Done, Good, Faulty, Memory, arguments_of_words, Outcome}
+use Rattle.faxrows.proofs.Names.{EndsAfter, OnKnown, IsTextOfWant, done_of, outcome_of, text_after, whole_text, IsEndOfRun}
+use Rattle.faxrows.proofs.{Texts.on_known, Texts.text_of_faulty, Texts.text_of_good, program.run.Given.Over}
 use Rattle.faxrows.proofs.program.run.Goals as goal
 
 module _ (g : Over) (c : goal.After-drop-input-2 g) where
@@ -32,9 +24,7 @@ module _ (g : Over) (c : goal.After-drop-input-2 g) where
   -- what was written, if the run ended like this
   abbrev Written : Done → Type 0
   Written done =
-      (outcome : Outcome)
-      × EndsAfter settings bits taken outcome
-      × (done ≡ done_of outcome)
+      (outcome : Outcome) × EndsAfter settings bits taken outcome × (done ≡ done_of outcome)
       × Grew (text_after settings bits taken outcome)
 
   -- a statement about what was decoded is one about what is known
@@ -42,7 +32,8 @@ module _ (g : Over) (c : goal.After-drop-input-2 g) where
   Known = OnKnown (arguments_of_words (map string_bytes c.args.words.now)) (g.R.Read.remaining c.args.reader.now.0)
 
   known : (P : DecodeSettings → Bits → Type 0) → P settings bits → Known P
-  known P holds = on_known _ c.in-Some.arguments settings _ c.as_slice.result.now P (search rules) (search rules) (search rules) holds
+  known P holds =
+      on_known _ c.in-Some.arguments settings _ c.as_slice.result.now P (search rules) (search rules) (search rules) holds
 
   -- what is written for each way to end
   ended : (done : Done) → Written done → Known (λ s b. IsEndOfRun done (outcome_of s b) (whole_text s b) (IsTextOfWant s b) Grew)

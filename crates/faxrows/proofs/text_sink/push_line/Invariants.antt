@@ -1,6 +1,4 @@
-use Rattle.std.proofs.Common.{◌≡◌, ◌++◌, ◌∷◌, take}
-use Rattle.std.specs.Prelude.{flat_map}
-use Rattle.faxrows.specs.Text.{text_of_change}
+use Rattle.faxrows.proofs.Names.{◌≡◌, ◌++◌, ◌∷◌, take, flat_map, text_of_change}
 use Rattle.faxrows.proofs.text_sink.push_line.Given as goal
 
 -- the line as far as the changes are written

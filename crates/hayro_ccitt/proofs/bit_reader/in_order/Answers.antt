@@ -1,5 +1,4 @@
-use Rattle.std.proofs.Common.{◌≡◌, ◌+◌, ◌-◌, ◌*◌, ◌/◌, ◌%◌, ap, ◌∙◌, arith}
-use Rattle.hayro_ccitt.specs.Bits.{bit_of}
+use Rattle.hayro_ccitt.proofs.Names.{◌≡◌, ◌+◌, ◌-◌, ◌*◌, ◌/◌, ◌%◌, ap, ◌∙◌, arith, bit_of}
 use Rattle.hayro_ccitt.proofs.bit_reader.in_order.Goals as goal
 
 pub returns-in-LowestFirst : goal.returns-in-LowestFirst

@@ -1,8 +1,8 @@
-use Rattle.std.proofs.Common.{◌≡◌, ◌+◌, length, refl, arith}
-use Rattle.std.proofs.lemmas.List.{append-nil}
+use Rattle.hayro_ccitt.proofs.Names.{◌≡◌, ◌+◌, length, refl, arith, append-nil}
 use Rattle.hayro_ccitt.proofs.PixelRows.ChangesAndPixels.{AreChanges-wider, AreChanges-push, pixels-same, pixels-push}
 use Rattle.hayro_ccitt.proofs.PixelRows.Painting.{last_pixel-agrees, last_pixel-differs, other_color}
-use Rattle.hayro_ccitt.proofs.changes.append_pixels.Goals.{else-count-gt0-via-then-count-gt0+else-last_is_white-is_white, else-count-gt0-via-else-count-gt0}
+use Rattle.hayro_ccitt.proofs.changes.append_pixels.Goals.{else-count-gt0-via-then-count-gt0+else-last_is_white-is_white}
+use Rattle.hayro_ccitt.proofs.changes.append_pixels.Goals.{else-count-gt0-via-else-count-gt0}
 use Rattle.hayro_ccitt.proofs.changes.append_pixels.Goals as goal
 
 pub returns-in_err-push-clause-memory : goal.returns-in_err-push-clause-memory
@@ -10,7 +10,8 @@ returns-in_err-push-clause-memory c =
     let a = c.args in
     let len : c.len.result ≡ length a.changes.now.items = omega (arith, c.len.ensures, a.changes.now.ok.0) in
     let even = rw len at c.is_multiple_of-last_is_white.ensures in
-    let differs = last_pixel-differs a.painted a.changes.now.items a.color _ _ c.requires even c.is_white.ensures c.if-last_is_white-is_white.true in
+    let differs = last_pixel-differs a.painted a.changes.now.items a.color _ _ c.requires even c.is_white.ensures
+    c.if-last_is_white-is_white.true in
     λ e. (c.if-count-gt0.true, other_color _ _ differs)
 
 pub returns-in_ok-push-clause-lawful : goal.returns-in_ok-push-clause-lawful
@@ -23,7 +24,8 @@ returns-in_ok-push-clause-painted c =
     let a = c.args in
     let len : c.len.result ≡ length a.changes.now.items = omega (arith, c.len.ensures, a.changes.now.ok.0) in
     let even = rw len at c.is_multiple_of-last_is_white.ensures in
-    let differs = last_pixel-differs a.painted a.changes.now.items a.color _ _ c.requires even c.is_white.ensures c.if-last_is_white-is_white.true in
+    let differs = last_pixel-differs a.painted a.changes.now.items a.color _ _ c.requires even c.is_white.ensures
+    c.if-last_is_white-is_white.true in
     rw (c.in_ok-push.ensures.items, ← differs) (pixels-push a.painted a.count a.changes.now.items c.requires)
 
 pub returns-else-count-gt0-clause-lawful : goal.returns-else-count-gt0-clause-lawful
@@ -36,7 +38,8 @@ returns-else-count-gt0-clause-painted c =
     let even = rw len at c.is_multiple_of-last_is_white.ensures in
     elim c.else-count-gt0.branch [
       | else-count-gt0-via-then-count-gt0+else-last_is_white-is_white w ↦
-          let same = last_pixel-agrees a.painted a.changes.now.items a.color _ _ c.requires even w.is_white.ensures w.if-last_is_white-is_white.false in
+          let same = last_pixel-agrees a.painted a.changes.now.items a.color _ _ c.requires even w.is_white.ensures
+          w.if-last_is_white-is_white.false in
           rw (← same) (pixels-same a.painted a.count a.changes.now.items c.requires)
       | else-count-gt0-via-else-count-gt0 w ↦
           let none : a.count ≡ 0 = omega (arith, w.if-count-gt0.false) in

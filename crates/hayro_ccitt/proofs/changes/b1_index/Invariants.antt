@@ -1,4 +1,4 @@
-use Rattle.std.proofs.Common.{ℕ, ◌≡◌, ◌+◌, ◌-◌, ◌≤◌, ◌<◌, length, get_or}
+use Rattle.hayro_ccitt.proofs.Names.{ℕ, ◌≡◌, ◌+◌, ◌-◌, ◌≤◌, ◌<◌, length, get_or}
 use Rattle.hayro_ccitt.proofs.changes.b1_index.Given as goal
 
 -- the changes so far are at most at a0

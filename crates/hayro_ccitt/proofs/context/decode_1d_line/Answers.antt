@@ -1,22 +1,17 @@
-use Rattle.std.proofs.Common.{length, Result, Err, subst, ap, sym, arith, ◌∙◌}
-use Rattle.std.proofs.lemmas.Result.{err_from_is_err_and}
-use Rattle.hayro_ccitt.specs.declared.error.DecodeError.{DecodeError}
-use Rattle.hayro_ccitt.specs.Answers.{IsFault, DrawsLine, Step, pen_of, step_of_run}
-use Rattle.hayro_ccitt.specs.Bits.{Bits, BitsAt, here}
-use Rattle.hayro_ccitt.proofs.DrawingLines.UsualStrokes.{IsDrawn1d, drawn_on, not_longer}
-use Rattle.hayro_ccitt.specs.Context.{Held, redrawn}
-use Rattle.hayro_ccitt.specs.Lines.{Line, Pen, line_1d}
+use Rattle.hayro_ccitt.proofs.Names.{length, Result, Err, subst, ap, sym, arith, ◌∙◌, err_from_is_err_and, DecodeError, IsFault}
+use Rattle.hayro_ccitt.proofs.Names.{DrawsLine, Step, pen_of, step_of_run, Bits, BitsAt, here, Held, redrawn, Line, Pen, line_1d}
+use Rattle.hayro_ccitt.proofs.{DrawingLines.ReadLines.drawn_run_shorter, Readings.Repeated.after_turn}
 use Rattle.hayro_ccitt.proofs.DrawingLines.CountedLines.{found_1d_from, found_after, counted_by_run, none_after_fault}
 use Rattle.hayro_ccitt.proofs.DrawingLines.Drawings.{drawn_by, step_1d}
-use Rattle.hayro_ccitt.proofs.Readings.Repeated.{after_turn}
 use Rattle.hayro_ccitt.proofs.DrawingLines.DrawnLines.{open_by, line_by_run, line_1d_fails}
-use Rattle.hayro_ccitt.proofs.DrawingLines.ReadLines.{drawn_run_shorter}
+use Rattle.hayro_ccitt.proofs.DrawingLines.UsualStrokes.{IsDrawn1d, drawn_on, not_longer}
 use Rattle.hayro_ccitt.proofs.context.decode_1d_line.Goals as goal
 
 pub runs-smaller : goal.runs-smaller
 runs-smaller c =
     let now : Held = c.runs.ctx.held in
-    let shorter = drawn_run_shorter now.settings.strict now.settings.columns (pen_of now (here c.runs.reader)) (pen_of c.draw_run.new.self.held (here c.draw_run.new.reader)) c.in_ok-draw_run.ensures.step in
+    let shorter = drawn_run_shorter now.settings.strict now.settings.columns (pen_of now (here c.runs.reader))
+    (pen_of c.draw_run.new.self.held (here c.draw_run.new.reader)) c.in_ok-draw_run.ensures.step in
     let from : BitsAt = c.draw_run.new.reader in
     let to : BitsAt = c.draw_usual_runs.new.reader in
     not_longer from to (length (here c.runs.reader)) shorter c.draw_usual_runs.ensures.same_bits c.draw_usual_runs.ensures.onward
@@ -31,7 +26,8 @@ runs-preserved c =
     let open_row = open_by c.is_full.result (length now.front) now.settings.columns c.runs-test.true c.is_full.ensures.1 in
     let line = line_by_run before now _ (here c.runs.reader) so_far.held so_far.line open_row in
     let found = counted_by_run before now (here c.runs.reader) so_far.held open_row in
-    let on = ap (λ (step : Step). length (found_after (found_1d_from before.settings.strict before.settings.columns) step)) drawing.step in
+    let on =
+    ap (λ (step : Step). length (found_after (found_1d_from before.settings.strict before.settings.columns) step)) drawing.step in
     let by_run : IsDrawn1d c.args.ctx.now c.draw_run.new.self c.args.reader.now c.draw_run.new.reader = (
       record {
         line = sym (line ∙ ap (after_turn (drawn_by (step_1d before.settings.strict before.settings.columns))) drawing.step);
@@ -42,7 +38,8 @@ runs-preserved c =
       omega (arith, drawing.exact, found, on, c.runs.invariant.1),
     ) in
     let twos = c.draw_usual_runs in
-    drawn_on c.args.ctx.now c.draw_run.new.self twos.new.self c.args.reader.now c.draw_run.new.reader twos.new.reader by_run twos.ensures.drawn twos.ensures.held twos.ensures.same_bits
+    drawn_on c.args.ctx.now c.draw_run.new.self twos.new.self c.args.reader.now c.draw_run.new.reader twos.new.reader by_run
+    twos.ensures.drawn twos.ensures.held twos.ensures.same_bits
 
 pub returns-in_err-draw_run-clause-line : goal.returns-in_err-draw_run-clause-line
 returns-in_err-draw_run-clause-line c =
@@ -58,7 +55,8 @@ returns-in_err-draw_run-clause-line c =
     let fails : DrawsLine line (Err fault) pen.front pen.rest
     = line_1d_fails before.settings.strict before.settings.columns line (step_of_run now rest) fault pen
     (line_by_run before now line rest so_far.held so_far.line open_row) c.in_err-draw_run.ensures.step in
-    subst (λ (r : Result (Unit {0}) DecodeError). DrawsLine line r pen.front pen.rest) (sym (p.1 ∙ ap (λ (e : DecodeError). Err e) p.2)) fails
+    subst (λ (r : Result (Unit {0}) DecodeError). DrawsLine line r pen.front pen.rest)
+    (sym (p.1 ∙ ap (λ (e : DecodeError). Err e) p.2)) fails
 
 pub returns-in_err-draw_run-clause-at_most : goal.returns-in_err-draw_run-clause-at_most
 returns-in_err-draw_run-clause-at_most c =
@@ -76,11 +74,11 @@ returns-in_err-draw_run-clause-at_least c =
     let fault : DecodeError = c.in_err-draw_run.field-0.0 in
     let open_row = open_by c.is_full.result (length now.front) now.settings.columns c.runs-test.true c.is_full.ensures.1 in
     let found = counted_by_run before now (here c.runs.reader) c.runs.invariant.0.held open_row in
-    rw (p.1, p.2) (λ (is : IsFault fault).
-    omega (
+    rw (p.1, p.2) (λ (is : IsFault fault). omega (
       arith,
       found,
       c.in_err-draw_run.ensures.at_least,
       c.runs.invariant.1,
-      none_after_fault (found_1d_from before.settings.strict before.settings.columns) (step_of_run now (here c.runs.reader)) fault pen is c.in_err-draw_run.ensures.step,
+      none_after_fault (found_1d_from before.settings.strict before.settings.columns)
+          (step_of_run now (here c.runs.reader)) fault pen is c.in_err-draw_run.ensures.step,
     ))

@@ -1,17 +1,14 @@
-use Rattle.std.proofs.Common.{◌≡◌, ◌+◌, length}
-use Rattle.hayro_ccitt.specs.Answers.{pen_of, words_from_1d}
-use Rattle.hayro_ccitt.specs.Bits.{here}
+use Rattle.hayro_ccitt.proofs.Names.{◌≡◌, ◌+◌, length, pen_of, words_from_1d, here}
+use Rattle.hayro_ccitt.proofs.{DrawingLines.Drawings.step_1d, DrawingLines.DrawnLines.IsDrawnSoFar}
 use Rattle.hayro_ccitt.proofs.DrawingLines.CountedLines.{found_1d_from}
-use Rattle.hayro_ccitt.proofs.DrawingLines.Drawings.{step_1d}
-use Rattle.hayro_ccitt.proofs.DrawingLines.DrawnLines.{IsDrawnSoFar}
 use Rattle.hayro_ccitt.proofs.context.decode_1d_line.Given as goal
 
 -- what was drawn, and that the words found so far were counted
 abbrev pub invariant-runs : goal.invariant-runs
 invariant-runs l =
     IsDrawnSoFar (step_1d l.fn.ctx.held.settings.strict l.fn.ctx.held.settings.columns) l.fn.ctx l.ctx l.fn.reader l.reader
-    × (l.ctx.ticks + length (found_1d_from l.fn.ctx.held.settings.strict l.fn.ctx.held.settings.columns (pen_of l.ctx.held (here l.reader)))
-    ≡ l.fn.ctx.ticks + length (words_from_1d l.fn.ctx.held (here l.fn.reader)))
+    × (l.ctx.ticks + length (found_1d_from l.fn.ctx.held.settings.strict l.fn.ctx.held.settings.columns
+    (pen_of l.ctx.held (here l.reader))) ≡ l.fn.ctx.ticks + length (words_from_1d l.fn.ctx.held (here l.fn.reader)))
 
 abbrev pub decreases-runs : goal.decreases-runs
 decreases-runs l = length (here l.reader)

@@ -1,33 +1,26 @@
-use Rattle.std.proofs.Common.{◌≡◌, ◌+◌, ◌<◌, ◌≤◌, length, Err, subst, ap, sym, arith, ◌∙◌}
-use Rattle.std.proofs.lemmas.Result.{err_from_is_err_and}
-use Rattle.hayro_ccitt.specs.declared.codes.Mode.{Mode}
-use Rattle.hayro_ccitt.specs.declared.error.DecodeError.{DecodeError}
-use Rattle.hayro_ccitt.specs.Answers.{IsFault, DrawsLine, DrawsStep, Step, line_from_2d, words_from_2d, pen_of, step_of_mode, words_of_mode}
-use Rattle.hayro_ccitt.specs.Rows.{changes}
+use Rattle.hayro_ccitt.proofs.Names.{◌≡◌, ◌+◌, ◌<◌, ◌≤◌, length, Err, subst, ap, sym, arith, ◌∙◌, err_from_is_err_and, Mode}
+use Rattle.hayro_ccitt.proofs.Names.{DecodeError, IsFault, DrawsLine, DrawsStep, Step, line_from_2d, words_from_2d, pen_of}
+use Rattle.hayro_ccitt.proofs.Names.{step_of_mode, words_of_mode, changes, Bits, here, Context, Held, redrawn, context_of, Line}
+use Rattle.hayro_ccitt.proofs.Names.{Pen, line_2d, Turn}
+use Rattle.hayro_ccitt.proofs.{DrawingLines.Drawings.drawn_by, DrawingLines.Drawings.step_2d, DrawingLines.UsualModes.begun_2d}
+use Rattle.hayro_ccitt.proofs.{Readings.Repeated.after_turn, context.decode_2d_line.Goals.In_err-draw_mode}
 use Rattle.hayro_ccitt.proofs.DrawingLines.CountedLines.{found_2d_from, found_after, counted_by_mode, none_after_fault}
-use Rattle.hayro_ccitt.specs.Bits.{Bits, here}
-use Rattle.hayro_ccitt.specs.Context.{Context, Held, redrawn}
-use Rattle.hayro_ccitt.specs.ContextView.{context_of}
-use Rattle.hayro_ccitt.specs.Lines.{Line, Pen, line_2d}
-use Rattle.hayro_ccitt.proofs.DrawingLines.Drawings.{drawn_by, step_2d}
-use Rattle.hayro_ccitt.specs.Repetition.{Turn}
-use Rattle.hayro_ccitt.proofs.Readings.Repeated.{after_turn}
 use Rattle.hayro_ccitt.proofs.DrawingLines.DrawnLines.{open_by, line_by_mode, line_2d_fails, mode_shorter}
-use Rattle.hayro_ccitt.proofs.DrawingLines.UsualModes.{begun_2d}
-use Rattle.hayro_ccitt.proofs.context.decode_2d_line.Goals.{In_err-draw_mode}
 use Rattle.hayro_ccitt.proofs.context.decode_2d_line.Goals as goal
 
 pub modes-init : goal.modes-init
 modes-init c =
     let usual = c.draw_usual_modes.ensures in
     let frame = c.begin_line.ensures.frame in
-    begun_2d c.args.ctx.now c.draw_usual_modes.new.self c.args.reader.now c.draw_usual_modes.new.reader (rw frame at usual.drawn) (rw frame at usual.held) usual.same_bits (rw frame at usual.within)
+    begun_2d c.args.ctx.now c.draw_usual_modes.new.self c.args.reader.now c.draw_usual_modes.new.reader (rw frame at usual.drawn)
+    (rw frame at usual.held) usual.same_bits (rw frame at usual.within)
 
 pub modes-smaller : goal.modes-smaller
 modes-smaller c =
     let left : Context = context_of c.ctx.inside in
-    mode_shorter left.held.settings.strict left.held.settings.columns left.held.reference (pen_of left.held (here c.decode_mode.new.self)) (pen_of c.draw_mode.new.self.held (here c.draw_mode.new.reader)) (here c.modes.reader)
-    c.in_ok-mode.mode c.in_ok-mode.ensures.mode c.in_ok-draw_mode.ensures.step
+    mode_shorter left.held.settings.strict left.held.settings.columns left.held.reference
+    (pen_of left.held (here c.decode_mode.new.self)) (pen_of c.draw_mode.new.self.held (here c.draw_mode.new.reader))
+    (here c.modes.reader) c.in_ok-mode.mode c.in_ok-mode.ensures.mode c.in_ok-draw_mode.ensures.step
 
 pub modes-preserved : goal.modes-preserved
 modes-preserved c =
@@ -40,20 +33,24 @@ modes-preserved c =
     let drawing = c.in_ok-draw_mode.ensures in
     let left : context_of c.ctx.inside ≡ c.modes.ctx = c.ctx.view_is in
     let open_row = open_by c.is_full.result (length now.front) now.settings.columns c.modes-test.true c.is_full.ensures.1 in
-    let draws : step_of_mode now rest mode ≡ Turn.next (pen_of new (here c.draw_mode.new.reader))
-    = subst (λ (x : Context). step_of_mode x.held rest mode ≡ Turn.next (pen_of new (here c.draw_mode.new.reader))) left drawing.step in
-    let kept : new ≡ redrawn now new.front new.color = subst (λ (x : Context). new ≡ redrawn x.held new.front new.color) left drawing.held in
+    let draws : step_of_mode now rest mode ≡ Turn.next (pen_of new (here c.draw_mode.new.reader)) = subst
+    (λ (x : Context). step_of_mode x.held rest mode ≡ Turn.next (pen_of new (here c.draw_mode.new.reader))) left drawing.step in
+    let kept : new ≡ redrawn now new.front new.color =
+    subst (λ (x : Context). new ≡ redrawn x.held new.front new.color) left drawing.held in
     let ticks : (context_of c.ctx.inside).ticks ≡ c.modes.ctx.ticks = ap (λ (x : Context). x.ticks) left in
-    let line = line_by_mode before now _ (here c.modes.reader) rest mode so_far.held so_far.line open_row c.in_ok-mode.ensures.mode in
+    let line =
+    line_by_mode before now _ (here c.modes.reader) rest mode so_far.held so_far.line open_row c.in_ok-mode.ensures.mode in
     let words = counted_by_mode before now (here c.modes.reader) rest mode so_far.held open_row c.in_ok-mode.ensures.mode in
-    let on = ap (λ (step : Step). length (found_after (found_2d_from before.settings.strict before.settings.columns before.reference) step)) draws in
+    let on = ap (λ (step : Step). length
+    (found_after (found_2d_from before.settings.strict before.settings.columns before.reference) step)) draws in
     let work = c.modes.invariant.1 in
     let found = ap (λ (x : Context). length (words_of_mode x.held rest mode)) left in
     let passed = ap (λ (x : Context). x.passed) left in
     let changed = ap (λ (x : Context). length (changes x.held.reference)) left in
     let reference = ap (λ (h : Held). length (changes h.reference)) so_far.held in (
       record {
-        line = sym (line ∙ ap (after_turn (drawn_by (step_2d before.settings.strict before.settings.columns before.reference))) draws);
+        line = sym
+            (line ∙ ap (after_turn (drawn_by (step_2d before.settings.strict before.settings.columns before.reference))) draws);
         held = kept ∙ ap (λ (h : Held). redrawn h new.front new.color) so_far.held;
         same_bits = drawing.same_bits ∙ c.in_ok-mode.ensures.same_bits ∙ so_far.same_bits;
         counts = omega (arith, drawing.counts, c.in_ok-mode.ensures.ticks, so_far.counts, ticks);
@@ -84,7 +81,8 @@ module _ (c : In_err-draw_mode) where
   fault = c.in_err-draw_mode.field-0.0
 
   draws : DrawsStep step (Err fault) pen
-  draws = subst (λ (x : Context). DrawsStep (step_of_mode x.held (here c.decode_mode.new.self) c.in_ok-mode.mode) (Err fault) pen) c.ctx.view_is c.in_err-draw_mode.ensures.step
+  draws = subst (λ (x : Context). DrawsStep (step_of_mode x.held (here c.decode_mode.new.self) c.in_ok-mode.mode) (Err fault) pen)
+      c.ctx.view_is c.in_err-draw_mode.ensures.step
 
   open_row : length now.front < now.settings.columns
   open_row = open_by c.is_full.result (length now.front) now.settings.columns c.modes-test.true c.is_full.ensures.1
@@ -94,9 +92,11 @@ module _ (c : In_err-draw_mode) where
       let so_far = c.modes.invariant.0 in
       let line : Line = line_2d before.settings.strict before.settings.columns before.reference (here c.args.reader.now) in
       line_2d_fails before.settings.strict before.settings.columns before.reference line step fault pen
-      (line_by_mode before now line (here c.modes.reader) (here c.decode_mode.new.self) c.in_ok-mode.mode so_far.held so_far.line open_row c.in_ok-mode.ensures.mode) draws
+      (line_by_mode before now line (here c.modes.reader)
+      (here c.decode_mode.new.self) c.in_ok-mode.mode so_far.held so_far.line open_row c.in_ok-mode.ensures.mode) draws
 
-  at_least : IsFault fault → c.args.ctx.now.ticks + length (words_from_2d before (here c.args.reader.now)) ≤ c.draw_mode.new.self.ticks
+  at_least : IsFault fault
+      → c.args.ctx.now.ticks + length (words_from_2d before (here c.args.reader.now)) ≤ c.draw_mode.new.self.ticks
   at_least is =
       let rest : Bits = here c.decode_mode.new.self in
       let mode : Mode = c.in_ok-mode.mode in

@@ -1,6 +1,4 @@
-use Rattle.std.proofs.Common.{ℕ, length, ap, arith}
-use Rattle.hayro_ccitt.specs.Bits.{Bits, here}
-use Rattle.hayro_ccitt.specs.Context.{Context}
+use Rattle.hayro_ccitt.proofs.Names.{ℕ, length, ap, arith, Bits, here, Context}
 use Rattle.hayro_ccitt.proofs.Readings.TurnsMoveOn.{eols_shorter}
 use Rattle.hayro_ccitt.proofs.group3.read_leading_eols.Goals as goal
 

@@ -1,5 +1,5 @@
-use Rattle.hayro_ccitt.proofs.EncodedPictures.AfterEofb.{after_eofb as the_lemma}
 use Rattle.hayro_ccitt.proofs.EncodedPictures.PicturesT6.{pictures_come_to_eofb}
+use Rattle.hayro_ccitt.proofs.EncodedPictures.AfterEofb.{after_eofb as the_lemma}
 use Rattle.hayro_ccitt.proofs.laws.after_eofb.Goals as goal
 
 pub returns-clause-law : goal.returns-clause-law

@@ -1,4 +1,4 @@
-use Rattle.std.proofs.Common.{refl}
+use Rattle.hayro_ccitt.proofs.Names.{refl}
 use Rattle.hayro_ccitt.proofs.BitReading.BitLists.{bits_are_whole}
 use Rattle.hayro_ccitt.proofs.laws.bits_of_bytes.Goals as goal
 

@@ -1,7 +1,6 @@
-use Rattle.hayro_ccitt.specs.CodeLists.{mode_codes}
-use Rattle.hayro_ccitt.specs.Runs.{codes_of}
-use Rattle.hayro_ccitt.proofs.CodeWords.CodeReadings.{reads_codes}
+use Rattle.hayro_ccitt.proofs.Names.{mode_codes, codes_of}
 use Rattle.hayro_ccitt.proofs.BitReading.ZerosInWords.{codes_free, modes_free}
+use Rattle.hayro_ccitt.proofs.CodeWords.CodeReadings.{reads_codes}
 use Rattle.hayro_ccitt.proofs.laws.code_reading.Goals as goal
 
 pub returns-clause-runs : goal.returns-clause-runs

@@ -1,5 +1,5 @@
-use Rattle.hayro_ccitt.proofs.DamagedLines.Damage.{locality as the_lemma}
 use Rattle.hayro_ccitt.proofs.DamagedLines.LocalByTests.{local_by_tests}
+use Rattle.hayro_ccitt.proofs.DamagedLines.Damage.{locality as the_lemma}
 use Rattle.hayro_ccitt.proofs.laws.locality.Goals as goal
 
 pub returns-clause-tests : goal.returns-clause-tests

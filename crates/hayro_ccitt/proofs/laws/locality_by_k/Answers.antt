@@ -1,5 +1,5 @@
-use Rattle.hayro_ccitt.proofs.DamagedLines.DamageByK.{locality_by_k as the_lemma}
 use Rattle.hayro_ccitt.proofs.DamagedLines.EncodedBodies.{encoded_lines_are_bodies}
+use Rattle.hayro_ccitt.proofs.DamagedLines.DamageByK.{locality_by_k as the_lemma}
 use Rattle.hayro_ccitt.proofs.laws.locality_by_k.Goals as goal
 
 pub returns-clause-rows : goal.returns-clause-rows

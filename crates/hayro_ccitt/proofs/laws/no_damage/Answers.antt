@@ -1,4 +1,5 @@
-use Rattle.hayro_ccitt.proofs.Readings.Undamaged.{strict_is_undamaged as strict_law, pictures_are_undamaged as pictures_law}
+use Rattle.hayro_ccitt.proofs.Readings.Undamaged.{strict_is_undamaged as strict_law}
+use Rattle.hayro_ccitt.proofs.Readings.Undamaged.{pictures_are_undamaged as pictures_law}
 use Rattle.hayro_ccitt.proofs.laws.no_damage.Goals as goal
 
 pub returns-clause-strict : goal.returns-clause-strict

@@ -1,5 +1,4 @@
-use Rattle.hayro_ccitt.proofs.EncodedPictures.PicturesT6.{one_picture_t6}
-use Rattle.hayro_ccitt.proofs.EncodedPictures.PicturesT4.{one_picture_t4}
+use Rattle.hayro_ccitt.proofs.{EncodedPictures.PicturesT4.one_picture_t4, EncodedPictures.PicturesT6.one_picture_t6}
 use Rattle.hayro_ccitt.proofs.laws.one_picture.Goals as goal
 
 pub returns-clause-t6 : goal.returns-clause-t6

@@ -1,5 +1,5 @@
-use Rattle.hayro_ccitt.proofs.EncodedPictures.PicturesT4.{closed_picture_t4, limited_picture_t4}
 use Rattle.hayro_ccitt.proofs.EncodedPictures.Bodies.{limited_rows_t4}
+use Rattle.hayro_ccitt.proofs.EncodedPictures.PicturesT4.{closed_picture_t4, limited_picture_t4}
 use Rattle.hayro_ccitt.proofs.laws.t4_pictures.Goals as goal
 
 pub returns-clause-closed : goal.returns-clause-closed

@@ -1,18 +1,10 @@
-use Rattle.std.proofs.Common.{◌≡◌, ◌+◌, ◌-◌, ◌*◌, ◌≤◌, Bool, length, drop, IsTrue, sym, ap, ◌∙◌, arith}
-use Rattle.std.specs.Prelude.{◌↔◌}
-use Rattle.std.proofs.lemmas.Bool.{false≢true}
-use Rattle.std.proofs.lemmas.Result.{IfOk-weaker}
-use Rattle.hayro_ccitt.specs.declared.settings.DecodeSettings.{DecodeSettings}
-use Rattle.hayro_ccitt.specs.Bits.{bits_of}
-use Rattle.hayro_ccitt.specs.Locality.{IsLocal, EndsBefore}
-use Rattle.hayro_ccitt.specs.Ticks.{looked}
-use Rattle.hayro_ccitt.proofs.BitReading.BitLists.{length-bits_of}
+use Rattle.hayro_ccitt.proofs.Names.{◌≡◌, ◌+◌, ◌-◌, ◌*◌, ◌≤◌, Bool, length, drop, IsTrue, sym, ap, ◌∙◌, arith, ◌↔◌, false≢true}
+use Rattle.hayro_ccitt.proofs.Names.{IfOk-weaker, DecodeSettings, bits_of, IsLocal, EndsBefore, looked, common_steps}
+use Rattle.hayro_ccitt.proofs.{BitReading.BitLists.length-bits_of, DamagedLines.BodyWork.tests_looked}
 use Rattle.hayro_ccitt.proofs.DamagedLines.BodyTests.{local_by_end, tests_of}
-use Rattle.hayro_ccitt.proofs.DamagedLines.BodyWork.{tests_looked}
-use Rattle.hayro_ccitt.proofs.locality.body_is_local.Goals.{After-is_behind_eol, After-holds_one, After-end_of_eol, After-holds_eol}
+use Rattle.hayro_ccitt.proofs.locality.body_is_local.Goals.{After-is_behind_eol, After-holds_one, After-end_of_eol}
+use Rattle.hayro_ccitt.proofs.locality.body_is_local.Goals.{After-holds_eol, then-not-is_lenient_1d-via-then-not-is_lenient_1d}
 use Rattle.hayro_ccitt.proofs.locality.body_is_local.Goals as goal
-use Rattle.hayro_ccitt.proofs.locality.body_is_local.Goals.{then-not-is_lenient_1d-via-then-not-is_lenient_1d, then-not-is_lenient_1d-via-else-not-is_lenient_1d+then-from-to, then-not-is_lenient_1d-via-else-not-is_lenient_1d+else-from-to+then-to-data}
-use Rattle.std.proofs.lemmas.Grind.{common_steps}
 
 pub returns-then-not-is_lenient_1d-clause-local : goal.returns-then-not-is_lenient_1d-clause-local
 returns-then-not-is_lenient_1d-clause-local c =
@@ -40,7 +32,8 @@ returns-clause-local c =
     let lenient = sym (ap (λ (s : DecodeSettings). s.strict) same) ∙ here.1 in
     let within : c.args.to ≤ length bits = omega (arith, c.if-to-data.false, length-bits_of c.args.data.now) in
     let eol = rw c.in-Some.is at c.end_of_eol.ensures.end in
-    let ends : Bool → Type 0 = λ before. IsTrue before ↔ EndsBefore settings.columns (drop c.in-Some.end bits) (drop c.args.from bits) in
+    let ends : Bool → Type 0 =
+    λ before. IsTrue before ↔ EndsBefore settings.columns (drop c.in-Some.end bits) (drop c.args.from bits) in
     let body : Bool → Type 0 = λ before. IsTrue before ↔ IsLocal settings bits c.args.from c.args.to in
     IfOk-weaker c.line_ends_before.result ends body (λ before is.
     local_by_end settings bits c.args.from c.args.to c.in-Some.end before (encoding, lenient) c.if-from-to.false within
@@ -54,11 +47,13 @@ returns-clause-memory c =
     rw lenient c.line_ends_before.ensures.memory
 
 -- what the first test counts
-behind : (c : After-is_behind_eol) → c.is_behind_eol.new.ticks ≤ c.args.ctx.now.ticks + looked (drop (c.args.from - 12) (bits_of c.args.data.now))
+behind : (c : After-is_behind_eol)
+    → c.is_behind_eol.new.ticks ≤ c.args.ctx.now.ticks + looked (drop (c.args.from - 12) (bits_of c.args.data.now))
 behind c = omega (arith, c.is_behind_eol.ensures.at_most, c.ticks.ensures.value)
 
 -- and the second
-one : (c : After-holds_one) → c.holds_one.new.ticks ≡ c.is_behind_eol.new.ticks + looked (drop c.args.from (bits_of c.args.data.now))
+one : (c : After-holds_one)
+    → c.holds_one.new.ticks ≡ c.is_behind_eol.new.ticks + looked (drop c.args.from (bits_of c.args.data.now))
 one c = omega (arith, c.holds_one.ensures.work, c.ticks-2.ensures.value)
 
 -- and the third
@@ -66,7 +61,8 @@ end : (c : After-end_of_eol) → c.end_of_eol.new.ticks ≡ c.holds_one.new.tick
 end c = omega (arith, c.end_of_eol.ensures.work, c.ticks-3.ensures.value)
 
 -- and the last
-eol : (c : After-holds_eol) → c.holds_eol.new.ticks ≤ c.end_of_eol.new.ticks + 2 * (c.args.to - c.args.from) + 2 * looked (drop c.args.to (bits_of c.args.data.now))
+eol : (c : After-holds_eol) → c.holds_eol.new.ticks ≤ c.end_of_eol.new.ticks + 2 * (c.args.to - c.args.from) + 2
+    * looked (drop c.args.to (bits_of c.args.data.now))
 eol c = omega (arith, c.holds_eol.ensures.at_most, c.ticks-4.ensures.value)
 
 pub returns-then-not-is_behind_eol-clause-at_most : goal.returns-then-not-is_behind_eol-clause-at_most
@@ -96,4 +92,12 @@ pub returns-clause-at_most : goal.returns-clause-at_most
 returns-clause-at_most c =
     let at = goal.at.returns-clause-at_most c in
     let looks = tests_looked (bits_of c.args.data.now) c.args.from c.args.to c.if-from-to.false in
-    omega (arith, looks, behind at.After-is_behind_eol, one at.After-holds_one, end at.After-end_of_eol, eol at.After-holds_eol, c.line_ends_before.ensures.at_most)
+    omega (
+      arith,
+      looks,
+      behind at.After-is_behind_eol,
+      one at.After-holds_one,
+      end at.After-end_of_eol,
+      eol at.After-holds_eol,
+      c.line_ends_before.ensures.at_most,
+    )

@@ -1,17 +1,10 @@
-use Rattle.std.proofs.Common.{◌≡◌, ◌≢◌, ◌+◌, ◌≤◌, false, length, drop, Err, refl, sym, ap, subst, ◌∙◌, arith}
-use Rattle.hayro_ccitt.specs.declared.error.DecodeError.TheVariants.{OutOfMemory}
-use Rattle.std.proofs.lemmas.Bool.{false≢true}
-use Rattle.hayro_ccitt.specs.Answers.{DrawsLine, words_from_1d}
-use Rattle.hayro_ccitt.specs.Bits.{BitsAt, bits_of, here}
-use Rattle.hayro_ccitt.specs.Context.{Context}
-use Rattle.hayro_ccitt.specs.Lines.{Line, line_1d, found_1d}
-use Rattle.hayro_ccitt.proofs.BitReading.BitLists.{length-bits_of}
+use Rattle.hayro_ccitt.proofs.Names.{◌≡◌, ◌≢◌, ◌+◌, ◌≤◌, false, length, drop, Err, refl, sym, ap, subst, ◌∙◌, arith, OutOfMemory}
+use Rattle.hayro_ccitt.proofs.Names.{false≢true, DrawsLine, words_from_1d, BitsAt, bits_of, here, Context, Line, line_1d}
+use Rattle.hayro_ccitt.proofs.Names.{found_1d, common_steps}
+use Rattle.hayro_ccitt.proofs.{BitReading.BitLists.length-bits_of, DamagedLines.BodyWork.same_bound}
+use Rattle.hayro_ccitt.proofs.{DrawingLines.DrawnLines.memory_has_black, locality.line_ends_before.Goals.After-decode_1d_line}
 use Rattle.hayro_ccitt.proofs.DamagedLines.BodyTests.{lenient_line, whole_ends, broken_ends}
-use Rattle.hayro_ccitt.proofs.DrawingLines.DrawnLines.{memory_has_black}
-use Rattle.hayro_ccitt.proofs.DamagedLines.BodyWork.{same_bound}
-use Rattle.hayro_ccitt.proofs.locality.line_ends_before.Goals.{After-decode_1d_line}
 use Rattle.hayro_ccitt.proofs.locality.line_ends_before.Goals as goal
-use Rattle.std.proofs.lemmas.Grind.{common_steps}
 
 pub overflow_add-result : goal.overflow_add-result
 overflow_add-result c = grind (arith, common_steps, length-bits_of)
@@ -20,19 +13,22 @@ pub returns-in-Ok-clause-before : goal.returns-in-Ok-clause-before
 returns-in-Ok-clause-before c =
     let bits = bits_of c.args.data.now in
     let same = c.decode_1d_line.ensures.same_bits ∙ ap (λ (at : BitsAt). at.bits) c.starting_at-reader.ensures in
-    let line = lenient_line c.reset.new.self.held c.args.ctx.now.held.settings c.starting_at-reader.result (drop c.args.from bits)
-    (ap (λ (ctx : Context). ctx.held) c.reset.ensures.frame) c.requires.lenient (ap (λ (at : BitsAt). here at) c.starting_at-reader.ensures) in
+    let line = lenient_line c.reset.new.self.held c.args.ctx.now.held.settings c.starting_at-reader.result
+    (drop c.args.from bits) (ap (λ (ctx : Context). ctx.held) c.reset.ensures.frame) c.requires.lenient
+    (ap (λ (at : BitsAt). here at) c.starting_at-reader.ensures) in
     let drawn = rw c.in-Ok.is at c.decode_1d_line.ensures.line in
     let rest : here c.decode_1d_line.new.reader ≡ drop c.bit_pos.result bits = grind (arith, common_steps) in
     let within : c.bit_pos.result ≤ length bits = omega (arith, c.bit_pos.ensures.within, ap length same) in
-    whole_ends c.args.ctx.now.held.settings.columns c.bit_pos.result c.args.end bits (drop c.args.from bits) (here c.decode_1d_line.new.reader)
-    c.decode_1d_line.new.ctx.held.front (sym line ∙ drawn) rest within (omega (arith, c.requires.within, length-bits_of c.args.data.now))
+    whole_ends c.args.ctx.now.held.settings.columns c.bit_pos.result c.args.end bits
+    (drop c.args.from bits) (here c.decode_1d_line.new.reader) c.decode_1d_line.new.ctx.held.front (sym line ∙ drawn) rest within
+    (omega (arith, c.requires.within, length-bits_of c.args.data.now))
 
 pub returns-in-Err-clause-memory : goal.returns-in-Err-clause-memory
 returns-in-Err-clause-memory c =
     let bits = bits_of c.args.data.now in
-    let line = lenient_line c.reset.new.self.held c.args.ctx.now.held.settings c.starting_at-reader.result (drop c.args.from bits)
-    (ap (λ (ctx : Context). ctx.held) c.reset.ensures.frame) c.requires.lenient (ap (λ (at : BitsAt). here at) c.starting_at-reader.ensures) in
+    let line = lenient_line c.reset.new.self.held c.args.ctx.now.held.settings c.starting_at-reader.result
+    (drop c.args.from bits) (ap (λ (ctx : Context). ctx.held) c.reset.ensures.frame) c.requires.lenient
+    (ap (λ (at : BitsAt). here at) c.starting_at-reader.ensures) in
     let wants = c.wants_memory.ensures.0 c.if-wants_memory.true in
     let draws = rw (c.in-Err.is, wants) at c.decode_1d_line.ensures.line in
     let front = c.decode_1d_line.new.ctx.held.front in
@@ -43,27 +39,29 @@ returns-in-Err-clause-memory c =
 pub returns-in-Err-2-clause-before : goal.returns-in-Err-2-clause-before
 returns-in-Err-2-clause-before c =
     let bits = bits_of c.args.data.now in
-    let line = lenient_line c.reset.new.self.held c.args.ctx.now.held.settings c.starting_at-reader.result (drop c.args.from bits)
-    (ap (λ (ctx : Context). ctx.held) c.reset.ensures.frame) c.requires.lenient (ap (λ (at : BitsAt). here at) c.starting_at-reader.ensures) in
+    let line = lenient_line c.reset.new.self.held c.args.ctx.now.held.settings c.starting_at-reader.result
+    (drop c.args.from bits) (ap (λ (ctx : Context). ctx.held) c.reset.ensures.frame) c.requires.lenient
+    (ap (λ (at : BitsAt). here at) c.starting_at-reader.ensures) in
     let draws = rw c.in-Err.is at c.decode_1d_line.ensures.line in
     let front = c.decode_1d_line.new.ctx.held.front in
     let rest = here c.decode_1d_line.new.reader in
     let other : c.in-Err.error ≢ OutOfMemory = λ e. false≢true (sym c.if-wants_memory.false ∙ c.wants_memory.ensures.1 e) in (
-      λ test. broken_ends c.args.ctx.now.held.settings.columns (drop c.args.end bits) (drop c.args.from bits) rest front c.in-Err.error other
-          (subst (λ (l : Line). DrawsLine l (Err c.in-Err.error) front rest) line draws),
+      λ test. broken_ends c.args.ctx.now.held.settings.columns (drop c.args.end bits) (drop c.args.from bits) rest front
+          c.in-Err.error other (subst (λ (l : Line). DrawsLine l (Err c.in-Err.error) front rest) line draws),
       λ ends. refl,
     )
 
 -- what is counted while the line is read
-counted : (c : After-decode_1d_line) → c.decode_1d_line.new.ctx.ticks
-    ≤ c.args.ctx.now.ticks + length (found_1d c.args.ctx.now.held.settings.strict c.args.ctx.now.held.settings.columns (drop c.args.from (bits_of c.args.data.now))) + 1
+counted : (c : After-decode_1d_line) → c.decode_1d_line.new.ctx.ticks ≤ c.args.ctx.now.ticks + length (found_1d
+    c.args.ctx.now.held.settings.strict c.args.ctx.now.held.settings.columns (drop c.args.from (bits_of c.args.data.now))) + 1
 counted c =
     let settings = c.args.ctx.now.held.settings in
     let rest = drop c.args.from (bits_of c.args.data.now) in
     let words = ap (λ (ctx : Context). words_from_1d ctx.held (here c.starting_at-reader.result)) c.reset.ensures.frame
     ∙ ap (λ (at : BitsAt). found_1d settings.strict settings.columns (here at)) c.starting_at-reader.ensures in
-    same_bound c.decode_1d_line.new.ctx.ticks c.args.ctx.now.ticks c.reset.new.self.ticks (found_1d settings.strict settings.columns rest)
-    (words_from_1d c.reset.new.self.held (here c.starting_at-reader.result)) (ap (λ (ctx : Context). ctx.ticks) c.reset.ensures.frame) words c.decode_1d_line.ensures.at_most
+    same_bound c.decode_1d_line.new.ctx.ticks c.args.ctx.now.ticks c.reset.new.self.ticks
+    (found_1d settings.strict settings.columns rest) (words_from_1d c.reset.new.self.held (here c.starting_at-reader.result))
+    (ap (λ (ctx : Context). ctx.ticks) c.reset.ensures.frame) words c.decode_1d_line.ensures.at_most
 
 pub returns-in-Ok-clause-at_most : goal.returns-in-Ok-clause-at_most
 returns-in-Ok-clause-at_most c = counted (goal.at.returns-in-Ok-clause-at_most c).After-decode_1d_line

@@ -1,4 +1,4 @@
-use Rattle.std.proofs.Common.{◌∙◌, arith}
+use Rattle.hayro_ccitt.proofs.Names.{◌∙◌, arith}
 use Rattle.hayro_ccitt.proofs.DrawingLines.UsualModes.{twice_2d}
 use Rattle.hayro_ccitt.proofs.modes.draw_in_color.Goals as goal
 

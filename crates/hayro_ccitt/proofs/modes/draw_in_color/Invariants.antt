@@ -1,13 +1,11 @@
-use Rattle.std.proofs.Common.{◌≡◌, ◌-◌, ◌<◌, ◌≤◌, length}
-use Rattle.hayro_ccitt.specs.Rows.{pixels}
-use Rattle.hayro_ccitt.specs.UsualModes.{GoesOn2d, IsStroke}
-use Rattle.hayro_ccitt.specs.UsualRuns.{pen_at}
+use Rattle.hayro_ccitt.proofs.Names.{◌≡◌, ◌-◌, ◌<◌, ◌≤◌, length, pixels, GoesOn2d, IsStroke, pen_at}
 use Rattle.hayro_ccitt.proofs.modes.draw_in_color.Given as goal
 
 -- what is drawn so far, in one colour, and that the row isn't full
 abbrev pub invariant-modes : goal.invariant-modes
 invariant-modes l = record {
-  drawn : GoesOn2d l.strict l.columns (pixels l.columns l.places) (pen_at l.painted l.fn.row.items l.color l.fn.hand.at) (pen_at l.place l.row.items l.color l.hand.at) l.fn.ticks l.ticks (l.index - 1) (l.at - 1);
+  drawn : GoesOn2d l.strict l.columns (pixels l.columns l.places) (pen_at l.painted l.fn.row.items l.color l.fn.hand.at)
+      (pen_at l.place l.row.items l.color l.hand.at) l.fn.ticks l.ticks (l.index - 1) (l.at - 1);
   stroke : IsStroke l.columns l.places l.place l.at l.color l.row.items;
   inside : l.place < l.columns;
   same_bits : l.hand.at.bits ≡ l.fn.hand.at.bits;

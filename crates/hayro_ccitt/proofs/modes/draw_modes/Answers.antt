@@ -1,4 +1,4 @@
-use Rattle.std.proofs.Common.{◌∙◌}
+use Rattle.hayro_ccitt.proofs.Names.{◌∙◌}
 use Rattle.hayro_ccitt.proofs.DrawingLines.UsualModes.{twice_2d}
 use Rattle.hayro_ccitt.proofs.modes.draw_modes.Goals as goal
 

@@ -1,14 +1,11 @@
-use Rattle.std.proofs.Common.{◌≡◌, ◌-◌, ◌<◌, length}
-use Rattle.hayro_ccitt.specs.declared.codes.Color.TheVariants.{White}
-use Rattle.hayro_ccitt.specs.Rows.{pixels}
-use Rattle.hayro_ccitt.specs.UsualModes.{GoesOn2d, IsStroke}
-use Rattle.hayro_ccitt.specs.UsualRuns.{pen_at}
+use Rattle.hayro_ccitt.proofs.Names.{◌≡◌, ◌-◌, ◌<◌, length, White, pixels, GoesOn2d, IsStroke, pen_at}
 use Rattle.hayro_ccitt.proofs.modes.draw_modes.Given as goal
 
 -- what is drawn so far, white next, and that the row isn't full
 abbrev pub invariant-turns : goal.invariant-turns
 invariant-turns l = record {
-  drawn : GoesOn2d l.strict l.columns (pixels l.columns l.places) (pen_at 0 l.fn.row.items White l.fn.hand.at) (pen_at l.place l.row.items White l.bits.at) l.fn.ticks l.ticks 0 (l.at - 1);
+  drawn : GoesOn2d l.strict l.columns (pixels l.columns l.places) (pen_at 0 l.fn.row.items White l.fn.hand.at)
+      (pen_at l.place l.row.items White l.bits.at) l.fn.ticks l.ticks 0 (l.at - 1);
   stroke : IsStroke l.columns l.places l.place l.at White l.row.items;
   inside : l.place < l.columns;
   same_bits : l.bits.at.bits ≡ l.fn.hand.at.bits;

@@ -1,8 +1,4 @@
-use Rattle.std.proofs.Common.{◌≤◌, ℕ, Option, length, ap, ◌∙◌, arith}
-use Rattle.std.proofs.lemmas.List.{length-drop}
-use Rattle.hayro_ccitt.specs.declared.codes.Mode.{Mode}
-use Rattle.hayro_ccitt.specs.Bits.{here}
-use Rattle.hayro_ccitt.specs.LookUps.{mode_told}
+use Rattle.hayro_ccitt.proofs.Names.{◌≤◌, ℕ, Option, length, ap, ◌∙◌, arith, length-drop, Mode, here, mode_told}
 use Rattle.hayro_ccitt.proofs.CodeWords.LookedUpModes.{mode_stands, some_mode_bits}
 use Rattle.hayro_ccitt.proofs.modes.mode_at_hand.Goals as goal
 
@@ -10,7 +6,8 @@ pub returns-clause-mode : goal.returns-clause-mode
 returns-clause-mode c =
     let at = c.args.hand.now.at in
     let there : 7 ≤ length (here at) = omega (arith, length-drop at.place at.bits, c.seven.ensures.there, c.requires) in
-    mode_stands at c.mode_of.result (c.mode_of.ensures.told ∙ ap mode_told c.seven.ensures.bits) (omega (arith, there, c.mode_of.ensures.few))
+    mode_stands at c.mode_of.result (c.mode_of.ensures.told ∙ ap mode_told c.seven.ensures.bits)
+    (omega (arith, there, c.mode_of.ensures.few))
 
 pub returns-clause-some : goal.returns-clause-some
 returns-clause-some c =

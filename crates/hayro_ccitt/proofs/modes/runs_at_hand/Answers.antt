@@ -1,9 +1,4 @@
-use Rattle.std.proofs.Common.{◌≡◌, ◌+◌, ℕ, subst, arith}
-use Rattle.hayro_ccitt.specs.declared.codes.Color.{Color}
-use Rattle.hayro_ccitt.specs.Bits.{BitsAt}
-use Rattle.hayro_ccitt.specs.Rows.{opposite}
-use Rattle.hayro_ccitt.specs.UsualRuns.{IsWordHere, IsRunHere}
-use Rattle.hayro_ccitt.specs.Window.{moved}
+use Rattle.hayro_ccitt.proofs.Names.{◌≡◌, ◌+◌, ℕ, subst, arith, Color, BitsAt, opposite, IsWordHere, IsRunHere, moved}
 use Rattle.hayro_ccitt.proofs.CodeWords.UsualRuns.{run_of_word}
 use Rattle.hayro_ccitt.proofs.modes.runs_at_hand.Goals as goal
 
@@ -14,13 +9,16 @@ returns-then-run2-lt64-clause-runs c =
     let first = c.word_at_hand-run in
     let second = c.word_at_hand-run2 in
     let sum : at.place + (3 + first.result.1) ≡ at.place + 3 + first.result.1 = omega arith in
-    let there : IsWordHere (opposite color) (moved (3 + first.result.1) at) second.result.0 second.result.1
-    = subst (λ (c : Color). IsWordHere c (moved (3 + first.result.1) at) second.result.0 second.result.1) c.opposite.ensures (second.ensures.word (omega (arith, c.if-run2-lt64.true))) in
-    let on : IsWordHere (opposite color) (moved first.result.1 (moved 3 at)) second.result.0 second.result.1
-    = subst (λ (p : ℕ). IsWordHere (opposite color) (record { bits = at.bits; place = p }) second.result.0 second.result.1) sum there in
+    let there : IsWordHere (opposite color) (moved (3 + first.result.1) at) second.result.0 second.result.1 =
+    subst (λ (c : Color). IsWordHere c (moved (3 + first.result.1) at) second.result.0 second.result.1) c.opposite.ensures
+    (second.ensures.word (omega (arith, c.if-run2-lt64.true))) in
+    let on : IsWordHere (opposite color) (moved first.result.1 (moved 3 at)) second.result.0 second.result.1 = subst
+    (λ (p : ℕ). IsWordHere (opposite color) (record { bits = at.bits; place = p }) second.result.0 second.result.1) sum there in
     record {
-      first = run_of_word color (moved 3 at) first.result.0 first.result.1 (first.ensures.word (omega (arith, c.if-run-lt64.true))) c.if-run-lt64.true;
-      second = run_of_word (opposite color) (moved first.result.1 (moved 3 at)) second.result.0 second.result.1 on c.if-run2-lt64.true;
+      first = run_of_word color (moved 3 at) first.result.0 first.result.1
+          (first.ensures.word (omega (arith, c.if-run-lt64.true))) c.if-run-lt64.true;
+      second =
+          run_of_word (opposite color) (moved first.result.1 (moved 3 at)) second.result.0 second.result.1 on c.if-run2-lt64.true;
     }
 
 pub returns-clause-runs : goal.returns-clause-runs
@@ -30,8 +28,10 @@ returns-clause-runs c =
     let first = c.in_ok-run in
     let second = c.in_ok-run2 in
     let sum : at.place + (3 + first.width) ≡ at.place + 3 + first.width = omega arith in
-    let there : IsRunHere (opposite color) (moved (3 + first.width) at) second.run2 second.width2 second.words2
-    = subst (λ (c : Color). IsRunHere c (moved (3 + first.width) at) second.run2 second.width2 second.words2) c.opposite-2.ensures second.ensures.run in
-    let on : IsRunHere (opposite color) (moved first.width (moved 3 at)) second.run2 second.width2 second.words2
-    = subst (λ (p : ℕ). IsRunHere (opposite color) (record { bits = at.bits; place = p }) second.run2 second.width2 second.words2) sum there in
+    let there : IsRunHere (opposite color) (moved (3 + first.width) at) second.run2 second.width2 second.words2 =
+    subst (λ (c : Color). IsRunHere c (moved (3 + first.width) at) second.run2 second.width2 second.words2) c.opposite-2.ensures
+    second.ensures.run in
+    let on : IsRunHere (opposite color) (moved first.width (moved 3 at)) second.run2 second.width2 second.words2 =
+    subst (λ (p : ℕ). IsRunHere (opposite color) (record { bits = at.bits; place = p }) second.run2 second.width2 second.words2)
+    sum there in
     rw (← c.has_long_runs.ensures.same) (record { first = first.ensures.run; second = on })

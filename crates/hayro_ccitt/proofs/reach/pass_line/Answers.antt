@@ -1,12 +1,8 @@
-use Rattle.std.proofs.Common.{◌≡◌, false, ◌∷◌, length, Some, None, sym, ap, ◌∙◌, arith}
-use Rattle.std.proofs.lemmas.Bool.{leb-true}
-use Rattle.std.proofs.lemmas.List.{length-drop}
-use Rattle.hayro_ccitt.specs.Bits.{BitsAt, here}
-use Rattle.hayro_ccitt.specs.EndOfLine.{after_eol, next_eol}
-use Rattle.hayro_ccitt.proofs.Readings.TurnsMoveOn.{next_eol_found}
+use Rattle.hayro_ccitt.proofs.Names.{◌≡◌, false, ◌∷◌, length, Some, None, sym, ap, ◌∙◌, arith, leb-true, length-drop, BitsAt}
+use Rattle.hayro_ccitt.proofs.Names.{here, after_eol, next_eol, common_steps}
 use Rattle.hayro_ccitt.proofs.DamagedLines.LinesPassed.{line_passed, eol_passed}
+use Rattle.hayro_ccitt.proofs.Readings.TurnsMoveOn.{next_eol_found}
 use Rattle.hayro_ccitt.proofs.reach.pass_line.Goals as goal
-use Rattle.std.proofs.lemmas.Grind.{common_steps}
 
 pub returns-clause-line : goal.returns-clause-line
 returns-clause-line c = λ e.
@@ -23,8 +19,7 @@ returns-clause-line c = λ e.
     (ap (λ (at : BitsAt). after_eol 0 (here at)) (sym c.copy-end-2.ensures.value) ∙ c.pass_eol-2.ensures.eol) in
     let same : modes.bits ≡ c.args.reader.now.bits = grind (arith, common_steps) in
     let same_end : end.bits ≡ c.args.reader.now.bits = grind (arith, common_steps) in
-    line_passed old (here c.read_bit.new.self) found (here end) (here modes) line none next eol c.pass_modes.ensures.last
-    (omega (
+    line_passed old (here c.read_bit.new.self) found (here end) (here modes) line none next eol c.pass_modes.ensures.last (omega (
       arith,
       length-drop modes.place modes.bits,
       length-drop end.place end.bits,
@@ -38,7 +33,8 @@ returns-clause-line c = λ e.
     ))
 
 pub returns-clause-onward : goal.returns-clause-onward
-returns-clause-onward c = (next_eol_found (here c.args.reader.now) (here c.skip_to_eol.new.self) c.if-not-skip_to_eol.ensures.next).0
+returns-clause-onward c =
+    (next_eol_found (here c.args.reader.now) (here c.skip_to_eol.new.self) c.if-not-skip_to_eol.ensures.next).0
 
 pub returns-clause-counts : goal.returns-clause-counts
 returns-clause-counts c = omega (

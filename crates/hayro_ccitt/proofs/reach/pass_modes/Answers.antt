@@ -1,6 +1,4 @@
-use Rattle.std.proofs.Common.{sym, ap, ◌∙◌, arith}
-use Rattle.hayro_ccitt.specs.Bits.{BitsAt, here}
-use Rattle.hayro_ccitt.specs.LocalityByK.{ReadsModes, behind_mode}
+use Rattle.hayro_ccitt.proofs.Names.{sym, ap, ◌∙◌, arith, BitsAt, here, ReadsModes, behind_mode}
 use Rattle.hayro_ccitt.proofs.DamagedLines.LinesPassed.{mode_shorter, further, all_read}
 use Rattle.hayro_ccitt.proofs.reach.pass_modes.Goals as goal
 

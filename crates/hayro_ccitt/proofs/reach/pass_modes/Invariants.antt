@@ -1,5 +1,4 @@
-use Rattle.std.proofs.Common.{◌≡◌, ◌≤◌, length}
-use Rattle.hayro_ccitt.specs.Bits.{here}
+use Rattle.hayro_ccitt.proofs.Names.{◌≡◌, ◌≤◌, length, here}
 use Rattle.hayro_ccitt.proofs.DamagedLines.LinesPassed.{ReadFurther}
 use Rattle.hayro_ccitt.proofs.reach.pass_modes.Given as goal
 

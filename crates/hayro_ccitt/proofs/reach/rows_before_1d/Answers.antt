@@ -1,12 +1,9 @@
-use Rattle.std.proofs.Common.{◌≡◌, ℕ, ◌≤◌, ◌⊎◌, true, [], ◌∷◌, length, Some, None, sym, ap, subst, ◌∙◌, arith}
-use Rattle.hayro_ccitt.specs.declared.settings.DecodeSettings.{DecodeSettings}
-use Rattle.hayro_ccitt.specs.Bits.{Bits, BitsAt, here}
-use Rattle.hayro_ccitt.specs.Context.{Held}
-use Rattle.hayro_ccitt.specs.EndOfLine.{after_eol, tagged_eols}
-use Rattle.hayro_ccitt.proofs.EncodedPictures.PicturesT4.{eols_here_two}
+use Rattle.hayro_ccitt.proofs.Names.{◌≡◌, ℕ, ◌≤◌, ◌⊎◌, true, [], ◌∷◌, length, Some, None, sym, ap, subst, ◌∙◌, arith}
+use Rattle.hayro_ccitt.proofs.Names.{DecodeSettings, Bits, BitsAt, here, Held, after_eol, tagged_eols}
+use Rattle.hayro_ccitt.proofs.{EncodedPictures.PicturesT4.eols_here_two, reach.rows_before_1d.Goals.After-read_tagged_eols-count}
+use Rattle.hayro_ccitt.proofs.DamagedLines.LinesPassed.{before_1d, not_before_1d, counted_on, counted_last, counted_none}
+use Rattle.hayro_ccitt.proofs.DamagedLines.LinesPassed.{no_eol_no_end, no_eol_no_line, no_line_there}
 use Rattle.hayro_ccitt.proofs.Readings.TurnsMoveOn.{after_eol_shorter, eols_here_counted}
-use Rattle.hayro_ccitt.proofs.DamagedLines.LinesPassed.{before_1d, not_before_1d, counted_on, counted_last, counted_none, no_eol_no_end, no_eol_no_line, no_line_there}
-use Rattle.hayro_ccitt.proofs.reach.rows_before_1d.Goals.{After-read_tagged_eols-count}
 use Rattle.hayro_ccitt.proofs.reach.rows_before_1d.Goals as goal
 
 pub returns-then-not-pass_eol-clause-rows : goal.returns-then-not-pass_eol-clause-rows
@@ -47,9 +44,8 @@ returns-then-not-pass_line-clause-rows c =
     let same : c.settings.result ≡ settings = c.settings.ensures.value ∙ ap (λ (h : Held). h.settings) c.lines.invariant.1 in
     let tag = c.is_before_1d.ensures.zero c.if-is_before_1d.false in
     counted_none settings (here c.args.reader.now) now c.lines.rows c.lines.invariant.4
-    (not_before_1d settings now rest tag.0 count counted
-    (λ block six. c.is_before_1d.ensures.no_rtc c.if-is_before_1d.false (ap (λ (s : DecodeSettings). s.end_of_block) same ∙ block) six)
-    tag.1)
+    (not_before_1d settings now rest tag.0 count counted (λ block six.
+    c.is_before_1d.ensures.no_rtc c.if-is_before_1d.false (ap (λ (s : DecodeSettings). s.end_of_block) same ∙ block) six) tag.1)
     (no_line_there now (here c.pass_eol.new.self) eol (c.pass_line.ensures.no_line c.if-not-pass_line.true))
 
 -- what is counted until the tag of the next line
@@ -57,8 +53,8 @@ counted : (c : After-read_tagged_eols-count) → c.args.ctx.now.ticks ≤ c.read
 counted c =
     let settings = c.args.ctx.now.held.settings in
     let now = here c.lines.reader in
-    let same = ap (λ (at : BitsAt). tagged_eols (here at)) (sym c.copy-behind.ensures.value) ∙ c.read_tagged_eols-count.ensures.eols
-    in
+    let same =
+    ap (λ (at : BitsAt). tagged_eols (here at)) (sym c.copy-behind.ensures.value) ∙ c.read_tagged_eols-count.ensures.eols in
     omega (
       arith,
       c.lines.invariant.2,

@@ -1,5 +1,4 @@
-use Rattle.std.proofs.Common.{◌≡◌, ◌+◌, ◌≤◌, length}
-use Rattle.hayro_ccitt.specs.Bits.{here}
+use Rattle.hayro_ccitt.proofs.Names.{◌≡◌, ◌+◌, ◌≤◌, length, here}
 use Rattle.hayro_ccitt.proofs.DamagedLines.LinesPassed.{Counted}
 use Rattle.hayro_ccitt.proofs.reach.rows_before_1d.Given as goal
 

@@ -1,8 +1,5 @@
-use Rattle.std.proofs.Common.{◌≡◌, ℕ, suc, Some, drop, sym, ap, subst, ◌∙◌, arith}
-use Rattle.std.specs.Prelude.{◌↔◌}
-use Rattle.hayro_ccitt.specs.declared.settings.DecodeSettings.{DecodeSettings}
-use Rattle.hayro_ccitt.specs.Bits.{Bits, BitsAt, bits_of, here}
-use Rattle.hayro_ccitt.specs.LocalityByK.{ComeBefore1D}
+use Rattle.hayro_ccitt.proofs.Names.{◌≡◌, ℕ, suc, Some, drop, sym, ap, subst, ◌∙◌, arith, ◌↔◌, DecodeSettings, Bits, BitsAt}
+use Rattle.hayro_ccitt.proofs.Names.{bits_of, here, ComeBefore1D}
 use Rattle.hayro_ccitt.proofs.BitReading.BitLists.{length-bits_of}
 use Rattle.hayro_ccitt.proofs.DamagedLines.LinesPassed.{reaches_if, reaches_none}
 use Rattle.hayro_ccitt.proofs.reach.rows_reached.Goals as goal
@@ -18,7 +15,8 @@ returns-clause-rows c =
     let bits = bits_of c.args.data.now in
     let lenient = c.is_lenient_2d.ensures.0 c.if-not-is_lenient_2d.false in
     let same = c.settings.ensures.value in
-    let at : here c.starting_at-reader.result ≡ drop c.args.to bits = ap (λ (at : BitsAt). here at) c.starting_at-reader.ensures in
+    let at : here c.starting_at-reader.result ≡ drop c.args.to bits =
+    ap (λ (at : BitsAt). here at) c.starting_at-reader.ensures in
     reaches_if settings bits c.args.to c.rows_before_1d.result (sym (ap (λ (s : DecodeSettings). s.encoding) same) ∙ lenient.0)
     (sym (ap (λ (s : DecodeSettings). s.strict) same) ∙ lenient.1)
     (omega (arith, c.if-to-data.false, length-bits_of c.args.data.now))

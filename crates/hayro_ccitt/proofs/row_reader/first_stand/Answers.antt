@@ -1,22 +1,11 @@
-use Rattle.std.proofs.Common.{◌≡◌, ◌≢◌, ◌∙◌, ◌<◌, ℕ, Bool, false, inl, inr, length, drop, ap, sym, subst, arith}
-use Rattle.std.proofs.lemmas.List.{length-drop}
-use Rattle.std.proofs.lemmas.Result.{IfErr-weaker, IfOk-weaker, on_err_weaker, on_ok_weaker}
-use Rattle.hayro_ccitt.specs.declared.row_reader.Stand.{Stand}
-use Rattle.hayro_ccitt.specs.declared.settings.DecodeSettings.{DecodeSettings}
-use Rattle.hayro_ccitt.specs.declared.settings.EncodingMode.TheVariants.{Group4}
-use Rattle.hayro_ccitt.specs.Bits.{Bits, here}
-use Rattle.hayro_ccitt.specs.Context.{Held}
-use Rattle.hayro_ccitt.specs.Decoding.{gap_said}
-use Rattle.hayro_ccitt.specs.EndOfLine.{all_eols}
-use Rattle.hayro_ccitt.specs.PlainReading.{gap_behind_row, first_line}
-use Rattle.hayro_ccitt.specs.Rows.{changes}
-use Rattle.hayro_ccitt.specs.RowsRead.{DamageIsCounted, IsPaid, Stands, ended, stand_after}
-use Rattle.hayro_ccitt.specs.declared.row_reader.Stand.TheVariants.{AtLine, AtEnd}
-use Rattle.hayro_ccitt.specs.Ticks.{looked, looked_ahead}
-use Rattle.hayro_ccitt.proofs.Readings.DamageCounted.{first_gap_left}
+use Rattle.hayro_ccitt.proofs.Names.{◌≡◌, ◌≢◌, ◌∙◌, ◌<◌, ℕ, Bool, false, inl, inr, length, drop, ap, sym, subst, arith}
+use Rattle.hayro_ccitt.proofs.Names.{length-drop, IfErr-weaker, IfOk-weaker, on_err_weaker, on_ok_weaker, Stand, DecodeSettings}
+use Rattle.hayro_ccitt.proofs.Names.{Group4, Bits, here, Held, gap_said, all_eols, gap_behind_row, first_line, changes}
+use Rattle.hayro_ccitt.proofs.Names.{DamageIsCounted, IsPaid, ReaderStands, ended, stand_after, AtLine, AtEnd, looked}
+use Rattle.hayro_ccitt.proofs.Names.{looked_ahead}
+use Rattle.hayro_ccitt.proofs.{Readings.DamageCounted.first_gap_left, Work.ChangesStored.changes_white}
 use Rattle.hayro_ccitt.proofs.Readings.RowByRow.{none_damaged, misses_after, first_gap_stands, first_line_stands, no_fault}
 use Rattle.hayro_ccitt.proofs.Work.CallsPaid.{first_gap_paid, first_line_paid}
-use Rattle.hayro_ccitt.proofs.Work.ChangesStored.{changes_white}
 use Rattle.hayro_ccitt.proofs.row_reader.first_stand.Goals as goal
 
 pub returns-in-Group4-clause-stands : goal.returns-in-Group4-clause-stands
@@ -26,17 +15,19 @@ returns-in-Group4-clause-stands c =
     let bits = c.args.reader.now.bits in
     let last = c.pass_gap-over.new.ctx.held in
     let at = c.pass_gap-over.new.reader in
-    let wide : 0 < settings.columns = omega (arith, c.if-settings-eq0.false, ap (λ (s : DecodeSettings). s.columns) c.settings.ensures.value) in
+    let wide : 0 < settings.columns =
+    omega (arith, c.if-settings-eq0.false, ap (λ (s : DecodeSettings). s.columns) c.settings.ensures.value) in
     let begins : here c.args.reader.now ≡ bits = ap (λ (n : ℕ). drop n bits) c.requires.start in
-    let said : gap_behind_row settings 0 false bits ≡ gap_said c.pass_gap-over.result last.has_eols (drop at.place bits)
-    = ap (λ (h : Held). gap_behind_row settings h.taken h.has_eols bits) (sym c.requires.fresh)
-    ∙ ap (λ (x : Bits). gap_behind_row settings held.taken held.has_eols x) (sym begins)
-    ∙ c.pass_gap-over.ensures.gap ∙ ap (λ (b : Bits). gap_said c.pass_gap-over.result last.has_eols (drop at.place b))
-    c.pass_gap-over.ensures.same_bits in
-    let frame = first_gap_left held last (here c.args.reader.now) c.requires.fresh c.pass_gap-over.ensures.held c.pass_gap-over.ensures.missed in
-    subst (λ (s : Stand). Stands s settings bits last at.place) (sym c.stand_after_gap.ensures)
-    (first_gap_stands settings wide bits (ap (λ (s : DecodeSettings). s.encoding) (sym c.settings-2.ensures.value) ∙ c.in-Group4.is) last at.place
-    (omega (arith, c.bit_pos-place.ensures.place, c.bit_pos-place.ensures.within, ap length c.pass_gap-over.ensures.same_bits)) frame c.pass_gap-over.result said
+    let said : gap_behind_row settings 0 false bits ≡ gap_said c.pass_gap-over.result last.has_eols (drop at.place bits) =
+    ap (λ (h : Held). gap_behind_row settings h.taken h.has_eols bits) (sym c.requires.fresh)
+    ∙ ap (λ (x : Bits). gap_behind_row settings held.taken held.has_eols x) (sym begins) ∙ c.pass_gap-over.ensures.gap
+    ∙ ap (λ (b : Bits). gap_said c.pass_gap-over.result last.has_eols (drop at.place b)) c.pass_gap-over.ensures.same_bits in
+    let frame = first_gap_left held last
+    (here c.args.reader.now) c.requires.fresh c.pass_gap-over.ensures.held c.pass_gap-over.ensures.missed in
+    subst (λ (s : Stand). ReaderStands s settings bits last at.place) (sym c.stand_after_gap.ensures) (first_gap_stands
+    settings wide bits (ap (λ (s : DecodeSettings). s.encoding) (sym c.settings-2.ensures.value) ∙ c.in-Group4.is) last at.place
+    (omega (arith, c.bit_pos-place.ensures.place, c.bit_pos-place.ensures.within, ap length c.pass_gap-over.ensures.same_bits))
+    frame c.pass_gap-over.result said
     (IfErr-weaker c.pass_gap-over.result _ _ (λ error code. code.0) c.pass_gap-over.ensures.only_code))
 
 pub returns-in-Group4-clause-damage : goal.returns-in-Group4-clause-damage
@@ -44,9 +35,10 @@ returns-in-Group4-clause-damage c =
     let held = c.args.ctx.now.held in
     let bits = c.args.reader.now.bits in
     let last = c.pass_gap-over.new.ctx.held in
-    let left = first_gap_left held last (here c.args.reader.now) c.requires.fresh c.pass_gap-over.ensures.held c.pass_gap-over.ensures.missed in
-    subst (λ (s : Stand). DamageIsCounted s held.settings bits last) (sym c.stand_after_gap.ensures)
-    (none_damaged (stand_after c.pass_gap-over.result) held.settings bits last (misses_after c.pass_gap-over.result held.settings bits last)
+    let left = first_gap_left held last
+    (here c.args.reader.now) c.requires.fresh c.pass_gap-over.ensures.held c.pass_gap-over.ensures.missed in
+    subst (λ (s : Stand). DamageIsCounted s held.settings bits last) (sym c.stand_after_gap.ensures) (none_damaged
+    (stand_after c.pass_gap-over.result) held.settings bits last (misses_after c.pass_gap-over.result held.settings bits last)
     (ap (λ (h : Held). h.taken) left) (ap (λ (h : Held). h.repairs) left))
 
 pub returns-then-settings-eq0-clause-damage : goal.returns-then-settings-eq0-clause-damage
@@ -78,12 +70,12 @@ returns-in-Group4-clause-paid c =
     let now = c.pass_gap-over.new.ctx.ticks in
     let begins : here c.args.reader.now ≡ bits = ap (λ (n : ℕ). drop n bits) c.requires.start in
     let unsought : held.has_eols ≡ false = ap (λ (h : Held). h.has_eols) c.requires.fresh in
-    let said : gap_behind_row settings 0 false bits ≡ gap_said c.pass_gap-over.result last.has_eols (drop at.place bits)
-    = ap (λ (h : Held). gap_behind_row settings h.taken h.has_eols bits) (sym c.requires.fresh)
-    ∙ ap (λ (x : Bits). gap_behind_row settings held.taken held.has_eols x) (sym begins)
-    ∙ c.pass_gap-over.ensures.gap ∙ ap (λ (b : Bits). gap_said c.pass_gap-over.result last.has_eols (drop at.place b))
-    c.pass_gap-over.ensures.same_bits in
-    let frame = first_gap_left held last (here c.args.reader.now) c.requires.fresh c.pass_gap-over.ensures.held c.pass_gap-over.ensures.missed in
+    let said : gap_behind_row settings 0 false bits ≡ gap_said c.pass_gap-over.result last.has_eols (drop at.place bits) =
+    ap (λ (h : Held). gap_behind_row settings h.taken h.has_eols bits) (sym c.requires.fresh)
+    ∙ ap (λ (x : Bits). gap_behind_row settings held.taken held.has_eols x) (sym begins) ∙ c.pass_gap-over.ensures.gap
+    ∙ ap (λ (b : Bits). gap_said c.pass_gap-over.result last.has_eols (drop at.place b)) c.pass_gap-over.ensures.same_bits in
+    let frame = first_gap_left held last
+    (here c.args.reader.now) c.requires.fresh c.pass_gap-over.ensures.held c.pass_gap-over.ensures.missed in
     subst (λ (s : Stand). IsPaid s settings bits last at.place now) (sym c.stand_after_gap.ensures)
     (first_gap_paid settings (ap (λ (s : DecodeSettings). s.encoding) (sym c.settings-2.ensures.value)
     ∙ c.in-Group4.is) bits last at.place now
@@ -107,28 +99,32 @@ returns-in-Group3_1D c =
     let bits = c.args.reader.now.bits in
     let last = c.read_leading_eols.new.ctx.held in
     let at = c.read_leading_eols.new.reader in
-    let wide : 0 < settings.columns = omega (arith, c.if-settings-eq0.false, ap (λ (s : DecodeSettings). s.columns) c.settings.ensures.value) in
+    let wide : 0 < settings.columns =
+    omega (arith, c.if-settings-eq0.false, ap (λ (s : DecodeSettings). s.columns) c.settings.ensures.value) in
     let begins : here c.args.reader.now ≡ bits = ap (λ (n : ℕ). drop n bits) c.requires.start in
-    let read : settings.encoding ≡ c.settings-2.result.encoding = ap (λ (s : DecodeSettings). s.encoding) (sym c.settings-2.ensures.value) in
+    let read : settings.encoding ≡ c.settings-2.result.encoding =
+    ap (λ (s : DecodeSettings). s.encoding) (sym c.settings-2.ensures.value) in
     let other : settings.encoding ≢ Group4 = λ is. elim c.in-Group3_1D.is [
       | inl e ↦ let never = sym e ∙ sym read ∙ is in cc
       | inr e ↦ let never = sym e ∙ sym read ∙ is in cc
     ] in
-    let frame = c.read_leading_eols.ensures.has_eols ∙ ap (λ (x : Bits). record held { has_eols = (first_line settings x).has_eols }) begins
+    let frame =
+    c.read_leading_eols.ensures.has_eols ∙ ap (λ (x : Bits). record held { has_eols = (first_line settings x).has_eols }) begins
     ∙ ap (λ (h : Held). record h { has_eols = (first_line settings bits).has_eols }) c.requires.fresh in
-    let rest : drop at.place bits ≡ (first_line settings bits).rest
-    = ap (λ (b : Bits). drop at.place b) (sym c.read_leading_eols.ensures.same_bits) ∙ c.read_leading_eols.ensures.rest ∙ ap (λ (x : Bits). (all_eols x).1) begins in
+    let rest : drop at.place bits ≡ (first_line settings bits).rest = ap (λ (b : Bits). drop at.place b)
+    (sym c.read_leading_eols.ensures.same_bits) ∙ c.read_leading_eols.ensures.rest ∙ ap (λ (x : Bits). (all_eols x).1) begins in
     record {
       none_taken = ap (λ (h : Held). h.taken) frame;
-      damage = none_damaged AtLine settings bits last (λ misses. misses) (ap (λ (h : Held). h.taken) frame) (ap (λ (h : Held). h.repairs) frame);
+      damage = none_damaged AtLine settings bits last (λ misses. misses) (ap (λ (h : Held). h.taken) frame)
+          (ap (λ (h : Held). h.repairs) frame);
       settings = ap (λ (h : Held). h.settings) frame;
       same_bits = c.read_leading_eols.ensures.same_bits;
-      stands = first_line_stands settings wide bits other last (drop at.place bits) frame rest (omega (arith, length-drop at.place bits));
+      stands = first_line_stands settings wide bits other last (drop at.place bits) frame rest
+          (omega (arith, length-drop at.place bits));
       unfailed = λ error is. cc;
       paid = first_line_paid settings other bits last (drop at.place bits) c.read_leading_eols.new.ctx.ticks
           (ap (λ (h : Held). length (changes h.reference)) frame ∙ changes_white settings.columns)
-          (omega (arith, length-drop at.place bits))
-          (omega (
+          (omega (arith, length-drop at.place bits)) (omega (
             arith,
             c.requires.uncounted,
             c.read_leading_eols.ensures.work,

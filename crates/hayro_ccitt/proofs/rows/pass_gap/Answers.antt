@@ -1,12 +1,7 @@
-use Rattle.std.proofs.Common.{rules, ◌≡◌, ℕ, Bool, true, false, cond, length, Option, Some, None, Ok, refl, sym, ap, ◌∙◌, arith}
-use Rattle.std.proofs.lemmas.Bool.{cond-true, cond-false}
-use Rattle.hayro_ccitt.specs.declared.settings.DecodeSettings.{DecodeSettings}
-use Rattle.hayro_ccitt.specs.Bits.{Bits, here}
-use Rattle.hayro_ccitt.specs.Context.{Context, Held}
-use Rattle.hayro_ccitt.specs.Decoding.{gap_said}
-use Rattle.hayro_ccitt.specs.EndOfLine.{next_eol}
-use Rattle.hayro_ccitt.specs.PlainReading.{Gap, eols_here, misses_eol, is_over, behind_eols, from_next_eol}
-use Rattle.hayro_ccitt.specs.Ticks.{looked, looked_ahead, tag_tests}
+use Rattle.hayro_ccitt.proofs.Names.{rules, ◌≡◌, ℕ, Bool, true, false, cond, length, Option, Some, None, Ok, refl, sym, ap, ◌∙◌}
+use Rattle.hayro_ccitt.proofs.Names.{arith, cond-true, cond-false, DecodeSettings, Bits, here, Context, Held, gap_said, next_eol}
+use Rattle.hayro_ccitt.proofs.Names.{Gap, eols_here, misses_eol, is_over, behind_eols, from_next_eol, looked, looked_ahead}
+use Rattle.hayro_ccitt.proofs.Names.{tag_tests}
 use Rattle.hayro_ccitt.proofs.Readings.TurnsMoveOn.{next_eol_found}
 use Rattle.hayro_ccitt.proofs.Work.EolsPassed.{eols_here_shorter, eols_here_stay, looked_most, sought_looks}
 use Rattle.hayro_ccitt.proofs.rows.pass_gap.Goals as goal
@@ -85,7 +80,8 @@ returns-clause-work c = λ kept.
     )
 
 -- what follows the EOLs that were found, as a choice
-said_of : (over has_eols : Bool) (rest : Bits) → cond over (Gap.over (Ok rest)) (Gap.line_at has_eols rest) ≡ gap_said (Ok over) has_eols rest
+said_of : (over has_eols : Bool) (rest : Bits)
+    → cond over (Gap.over (Ok rest)) (Gap.line_at has_eols rest) ≡ gap_said (Ok over) has_eols rest
 said_of true has_eols rest = refl
 said_of false has_eols rest = refl
 
@@ -105,27 +101,25 @@ returns-clause-gap c =
     let lenient : settings.strict ≡ false = search rules in
     let sought : held.has_eols ≡ true = search rules in
     let eols : ℕ × Bits = (c.read_eols-count-2.result, rest) in
-    let same : c.count_missed_eol.new.self.held.settings ≡ settings
-    = ap (λ (x : Context). x.held.settings) c.count_missed_eol.ensures.frame ∙ ap (λ (h : Held). h.settings) c.read_eols-count.ensures.held in
+    let same : c.count_missed_eol.new.self.held.settings ≡ settings = ap (λ (x : Context). x.held.settings)
+    c.count_missed_eol.ensures.frame ∙ ap (λ (h : Held). h.settings) c.read_eols-count.ensures.held in
     let over : is_over settings held.taken eols ≡ c.is_over-2.result
     = sym (c.is_over-2.ensures.over ∙ ap (λ (h : Held). is_over h.settings h.taken eols) c.read_eols-count-2.ensures.held
     ∙ ap (λ (x : Context). is_over x.held.settings x.held.taken eols) c.count_missed_eol.ensures.frame
     ∙ ap (λ (h : Held). is_over h.settings h.taken eols) c.read_eols-count.ensures.held) in
-    let on : c.read_eols-count-2.new.ctx.held.has_eols ≡ true
-    = ap (λ (h : Held). h.has_eols) c.read_eols-count-2.ensures.held ∙ ap (λ (x : Context). x.held.has_eols) c.count_missed_eol.ensures.frame
+    let on : c.read_eols-count-2.new.ctx.held.has_eols ≡ true = ap (λ (h : Held). h.has_eols) c.read_eols-count-2.ensures.held
+    ∙ ap (λ (x : Context). x.held.has_eols) c.count_missed_eol.ensures.frame
     ∙ ap (λ (h : Held). h.has_eols) c.read_eols-count.ensures.held ∙ sought in
-    cond-true (misses_eol settings held.taken held.has_eols start) _ _ misses
-    ∙ cond-false settings.strict _ _ lenient
-    ∙ ap (from_next_eol settings held.taken start) (ap next_eol (sym stays) ∙ next)
-    ∙ ap (behind_eols settings held.taken true) (ap (λ (s : DecodeSettings). eols_here s found) (sym same) ∙ c.read_eols-count-2.ensures.eols)
-    ∙ ap (λ (b : Bool). cond b (Gap.over (Ok rest)) (Gap.line_at true rest)) over
-    ∙ said_of c.is_over-2.result true rest
+    cond-true (misses_eol settings held.taken held.has_eols start) _ _ misses ∙ cond-false settings.strict _ _ lenient
+    ∙ ap (from_next_eol settings held.taken start) (ap next_eol (sym stays) ∙ next) ∙ ap (behind_eols settings held.taken true)
+    (ap (λ (s : DecodeSettings). eols_here s found) (sym same) ∙ c.read_eols-count-2.ensures.eols)
+    ∙ ap (λ (b : Bool). cond b (Gap.over (Ok rest)) (Gap.line_at true rest)) over ∙ said_of c.is_over-2.result true rest
     ∙ ap (λ (b : Bool). gap_said (Ok c.is_over-2.result) b rest) (sym on)
 
 pub returns-clause-counts : goal.returns-clause-counts
 returns-clause-counts c =
-    let left = (next_eol_found (here c.read_eols-count.new.reader) (here c.skip_to_eol.new.self)
-    (c.skip_to_eol.ensures.next ∙ ap (λ (b : Bool). cond {A = Option Bits} b (Some (here c.skip_to_eol.new.self)) None) c.if-not-skip_to_eol.false)).0 in
+    let left = (next_eol_found (here c.read_eols-count.new.reader) (here c.skip_to_eol.new.self) (c.skip_to_eol.ensures.next
+    ∙ ap (λ (b : Bool). cond {A = Option Bits} b (Some (here c.skip_to_eol.new.self)) None) c.if-not-skip_to_eol.false)).0 in
     omega (
       arith,
       c.read_eols-count.ensures.counts,

@@ -1,16 +1,25 @@
-use Rattle.std.proofs.Common.{ℕ, cond, eqb, ap, arith}
-use Rattle.hayro_ccitt.specs.Bits.{here}
-use Rattle.hayro_ccitt.specs.Ticks.{looked}
+use Rattle.hayro_ccitt.proofs.Names.{ℕ, cond, eqb, ap, arith, here, looked}
 use Rattle.hayro_ccitt.proofs.BitReading.EolCounts.{eols_leave, all_eols_leave}
 use Rattle.hayro_ccitt.proofs.rows.read_eols_of_t6.Goals as goal
 
 pub returns-then-settings-clause-counts : goal.returns-then-settings-clause-counts
 returns-then-settings-clause-counts c =
-    omega (arith, c.read_eols.ensures.ticks, c.ticks.ensures.value, eols_leave 2 c.read_eols.result (here c.args.reader.now) (here c.read_eols.new.self) c.read_eols.ensures.eols)
+    omega (
+      arith,
+      c.read_eols.ensures.ticks,
+      c.ticks.ensures.value,
+      eols_leave 2 c.read_eols.result (here c.args.reader.now) (here c.read_eols.new.self) c.read_eols.ensures.eols,
+    )
 
 pub returns-else-settings-clause-counts : goal.returns-else-settings-clause-counts
 returns-else-settings-clause-counts c =
-    omega (arith, c.read_eol_if_available.ensures.ticks, c.ticks-else-settings.ensures.value, all_eols_leave c.read_eol_if_available.result (here c.args.reader.now) (here c.read_eol_if_available.new.self) c.read_eol_if_available.ensures.eols)
+    omega (
+      arith,
+      c.read_eol_if_available.ensures.ticks,
+      c.ticks-else-settings.ensures.value,
+      all_eols_leave c.read_eol_if_available.result (here c.args.reader.now)
+          (here c.read_eol_if_available.new.self) c.read_eol_if_available.ensures.eols,
+    )
 
 pub returns-then-settings-clause-forward : goal.returns-then-settings-clause-forward
 returns-then-settings-clause-forward c =
@@ -18,7 +27,8 @@ returns-then-settings-clause-forward c =
 
 pub returns-else-settings-clause-forward : goal.returns-else-settings-clause-forward
 returns-else-settings-clause-forward c =
-    all_eols_leave c.read_eol_if_available.result (here c.args.reader.now) (here c.read_eol_if_available.new.self) c.read_eol_if_available.ensures.eols
+    all_eols_leave c.read_eol_if_available.result (here c.args.reader.now)
+    (here c.read_eol_if_available.new.self) c.read_eol_if_available.ensures.eols
 
 pub returns-then-settings-clause-work_none : goal.returns-then-settings-clause-work_none
 returns-then-settings-clause-work_none c = λ none.

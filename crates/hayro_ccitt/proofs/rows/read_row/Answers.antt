@@ -1,15 +1,8 @@
-use Rattle.std.proofs.Common.{◌≤◌, length, ap, subst, arith}
-use Rattle.std.proofs.lemmas.Result.{err_from_is_err_and, on_ok_weaker}
-use Rattle.hayro_ccitt.specs.Answers.{front_of}
-use Rattle.hayro_ccitt.specs.Lines.{Line}
-use Rattle.hayro_ccitt.specs.Rows.{changes}
-use Rattle.hayro_ccitt.specs.Work.{found_here}
-use Rattle.hayro_ccitt.proofs.Work.ChangesStored.{changes_found, changes_repaired}
-use Rattle.hayro_ccitt.specs.Bits.{here}
-use Rattle.hayro_ccitt.specs.Context.{Context, Held}
-use Rattle.hayro_ccitt.specs.PlainReading.{line_here}
+use Rattle.hayro_ccitt.proofs.Names.{◌≤◌, length, ap, subst, arith, err_from_is_err_and, on_ok_weaker, front_of, Line, changes}
+use Rattle.hayro_ccitt.proofs.Names.{found_here, here, Context, Held, line_here}
 use Rattle.hayro_ccitt.proofs.DrawingLines.FullRows.{IsFull, line_by_full}
 use Rattle.hayro_ccitt.proofs.DrawingLines.UnreadRows.{draws_anywhere, isnt_repaired, line_breaks}
+use Rattle.hayro_ccitt.proofs.Work.ChangesStored.{changes_found, changes_repaired}
 use Rattle.hayro_ccitt.proofs.rows.read_row.Goals as goal
 
 pub returns-in_err-recover_from-clause-row : goal.returns-in_err-recover_from-clause-row
@@ -18,10 +11,13 @@ returns-in_err-recover_from-clause-row g c =
     let line = line_here held.settings held.reference (here c.args.reader.now) in
     let left = here c.recover_from.new.reader in
     let answer = err_from_is_err_and c.from_residual.result c.from_residual.ensures.1 in
-    let draws = draws_anywhere line c.in-Err.error c.decode_line.new.ctx.held.front (here c.decode_line.new.reader) left c.in-Err.ensures.line in
-    let ends = isnt_repaired line (here c.args.reader.now) (g.D.Decoder.step (g.D.Decoder.width c.args.decoder.now))
-    (record { meaning = g.D.Decoder.meaning c.args.decoder.now; refused = g.D.Decoder.has_refused c.args.decoder.now; refuses = g.D.Decoder.refuses c.args.decoder.now }) held c.decode_line.new.ctx.held
-    c.decode_line.ensures.held left c.in-Err.error c.in_err-recover_from.field-0.0 draws
+    let draws = draws_anywhere line c.in-Err.error c.decode_line.new.ctx.held.front
+    (here c.decode_line.new.reader) left c.in-Err.ensures.line in
+    let ends = isnt_repaired line (here c.args.reader.now) (g.D.Decoder.step (g.D.Decoder.width c.args.decoder.now)) (record {
+      meaning = g.D.Decoder.meaning c.args.decoder.now;
+      refused = g.D.Decoder.has_refused c.args.decoder.now;
+      refuses = g.D.Decoder.refuses c.args.decoder.now;
+    }) held c.decode_line.new.ctx.held c.decode_line.ensures.held left c.in-Err.error c.in_err-recover_from.field-0.0 draws
     c.in_err-recover_from.ensures.only_memory c.in_err-recover_from.ensures.memory c.in_err-recover_from.ensures.otherwise in
     rw (answer.1, answer.2, c.in_err-recover_from.ensures.unchanged) ends
 
@@ -39,11 +35,17 @@ returns-in-Err-clause-stored g c =
     let words = found_here held.settings held.reference start in
     let few = changes_found held.settings.encoding held.settings.strict held.settings.columns held.reference start in
     let left = c.decode_line.new.ctx.held in
-    let breaks = line_breaks (line_here held.settings held.reference start) c.in-Err.error left.front (here c.decode_line.new.reader) c.in_ok-recover_from.ensures.only_damage.fault c.in-Err.ensures.line in
+    let breaks = line_breaks (line_here held.settings held.reference start) c.in-Err.error left.front
+    (here c.decode_line.new.reader) c.in_ok-recover_from.ensures.only_damage.fault c.in-Err.ensures.line in
     let drawn = subst (λ (l : Line). length (changes (front_of l)) ≤ length words) breaks few in
     let stands = ap (λ (x : Context). length (changes x.held.front)) c.in_ok-recover_from.ensures.frame in
-    on_ok_weaker c.take_damaged_row.result (λ taken. omega (arith, drawn, stands, changes_repaired left.settings.columns left.front, ap (λ (h : Held). length (changes h.reference)) taken))
-    c.take_damaged_row.ensures.taken
+    on_ok_weaker c.take_damaged_row.result (λ taken. omega (
+      arith,
+      drawn,
+      stands,
+      changes_repaired left.settings.columns left.front,
+      ap (λ (h : Held). length (changes h.reference)) taken,
+    )) c.take_damaged_row.ensures.taken
 
 pub returns-clause-stored : goal.returns-clause-stored
 returns-clause-stored g c =

@@ -1,5 +1,4 @@
-use Rattle.std.proofs.Common.{ℕ, ◌≡◌, ◌+◌, ◌-◌, ◌<◌, get_or, arith}
-use Rattle.hayro_ccitt.specs.UsualModes.{IsB1}
+use Rattle.hayro_ccitt.proofs.Names.{ℕ, ◌≡◌, ◌+◌, ◌-◌, ◌<◌, get_or, arith, IsB1}
 use Rattle.hayro_ccitt.proofs.PixelRows.B1ByParity.{after_vl_on}
 use Rattle.hayro_ccitt.proofs.usual.b1_after_left.Goals as goal
 
@@ -11,6 +10,7 @@ returns-else-change_or_end-place c =
     let at : IsB1 a.columns a.changes.now a._painted (before + 1) a._color = rw e c.requires.at in
     let left : a.place < get_or a.changes.now (before + 1) a.columns = rw e c.requires.left in
     record {
-      at = after_vl_on a.columns a.changes.now c.requires.lawful a._painted before a._color at a.place c.requires.right left (omega (arith, c.if-change_or_end-place.false, c.change_or_end.ensures));
+      at = after_vl_on a.columns a.changes.now c.requires.lawful a._painted before a._color at a.place c.requires.right left
+          (omega (arith, c.if-change_or_end-place.false, c.change_or_end.ensures));
       near = omega arith;
     }

@@ -3,13 +3,15 @@ use Rattle.hayro_ccitt.proofs.usual.lay_down.Goals as goal
 
 pub returns-then-last-painted-clause-lawful : goal.returns-then-last-painted-clause-lawful
 returns-then-last-painted-clause-lawful c =
-    (laid_down c.args.painted c.args.changes.now.items c.take_last-last.new.self.items c.take_last-last.result c.requires c.take_last-last.ensures.items c.if-last-painted.true).0
+    (laid_down c.args.painted c.args.changes.now.items c.take_last-last.new.self.items c.take_last-last.result c.requires
+    c.take_last-last.ensures.items c.if-last-painted.true).0
 
 pub returns-then-last-painted-clause-same : goal.returns-then-last-painted-clause-same
 returns-then-last-painted-clause-same c =
-    (laid_down c.args.painted c.args.changes.now.items c.take_last-last.new.self.items c.take_last-last.result c.requires c.take_last-last.ensures.items c.if-last-painted.true).1
+    (laid_down c.args.painted c.args.changes.now.items c.take_last-last.new.self.items c.take_last-last.result c.requires
+    c.take_last-last.ensures.items c.if-last-painted.true).1
 
 pub returns-clause-lawful : goal.returns-clause-lawful
 returns-clause-lawful c =
-    (kept c.args.painted c.args.changes.now.items c.take_last-last.new.self.items c.push_reserved.new.self.items c.take_last-last.result c.requires c.take_last-last.ensures.items
-    c.if-last-painted.false c.push_reserved.ensures.items).0
+    (kept c.args.painted c.args.changes.now.items c.take_last-last.new.self.items c.push_reserved.new.self.items
+    c.take_last-last.result c.requires c.take_last-last.ensures.items c.if-last-painted.false c.push_reserved.ensures.items).0

@@ -1,13 +1,12 @@
-use Rattle.std.proofs.Common.{◌≡◌, ◌+◌, ℕ, subst, arith}
-use Rattle.hayro_ccitt.specs.Window.{moved}
-use Rattle.hayro_ccitt.specs.UsualRuns.{IsWordHere}
+use Rattle.hayro_ccitt.proofs.Names.{◌≡◌, ◌+◌, ℕ, subst, arith, moved, IsWordHere}
 use Rattle.hayro_ccitt.proofs.CodeWords.UsualRuns.{run_of_word, run_of_two}
 use Rattle.hayro_ccitt.proofs.usual.run_at_hand.Goals as goal
 
 pub returns-then-run-lt64-clause-run : goal.returns-then-run-lt64-clause-run
 returns-then-run-lt64-clause-run c =
     let word = c.word_at_hand-run in
-    let found : IsWordHere c.args.color (moved c.args.skip c.args.hand.now.at) word.result.0 word.result.1 = word.ensures.word (omega (arith, c.if-run-lt64.true)) in
+    let found : IsWordHere c.args.color (moved c.args.skip c.args.hand.now.at) word.result.0 word.result.1 =
+    word.ensures.word (omega (arith, c.if-run-lt64.true)) in
     run_of_word c.args.color (moved c.args.skip c.args.hand.now.at) word.result.0 word.result.1 found c.if-run-lt64.true
 
 pub returns-then-rest-lt64-clause-run : goal.returns-then-rest-lt64-clause-run
@@ -18,8 +17,9 @@ returns-then-rest-lt64-clause-run c =
     let second = c.word_at_hand-rest in
     let place : ℕ = c.args.hand.now.at.place in
     let sum : place + (c.args.skip + first.result.1) ≡ place + c.args.skip + first.result.1 = omega arith in
-    let there : IsWordHere color (moved (c.args.skip + first.result.1) c.args.hand.now.at) second.result.0 second.result.1 = second.ensures.word (omega (arith, c.if-rest-lt64.true)) in
-    let on : IsWordHere color (moved first.result.1 at) second.result.0 second.result.1
-    = subst (λ (p : ℕ). IsWordHere color (record { bits = c.args.hand.now.at.bits; place = p }) second.result.0 second.result.1) sum there in
-    run_of_two color at first.result.0 first.result.1 second.result.0 second.result.1 (first.ensures.word c.if-run-eq4095.false) on
-    c.if-run-lt64.false c.if-rest-lt64.true first.ensures.below
+    let there : IsWordHere color (moved (c.args.skip + first.result.1) c.args.hand.now.at) second.result.0 second.result.1 =
+    second.ensures.word (omega (arith, c.if-rest-lt64.true)) in
+    let on : IsWordHere color (moved first.result.1 at) second.result.0 second.result.1 = subst (λ (p : ℕ). IsWordHere color
+    (record { bits = c.args.hand.now.at.bits; place = p }) second.result.0 second.result.1) sum there in
+    run_of_two color at first.result.0 first.result.1 second.result.0 second.result.1
+    (first.ensures.word c.if-run-eq4095.false) on c.if-run-lt64.false c.if-rest-lt64.true first.ensures.below

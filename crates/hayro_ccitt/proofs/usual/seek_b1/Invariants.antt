@@ -1,5 +1,4 @@
-use Rattle.std.proofs.Common.{◌≡◌, ◌+◌, ◌-◌, ◌%◌, ◌≤◌, length}
-use Rattle.hayro_ccitt.specs.UsualModes.{IsNear}
+use Rattle.hayro_ccitt.proofs.Names.{◌≡◌, ◌+◌, ◌-◌, ◌%◌, ◌≤◌, length, IsNear}
 use Rattle.hayro_ccitt.proofs.usual.seek_b1.Given as goal
 
 -- each turn advances by two, and is one tick

@@ -1,10 +1,5 @@
-use Rattle.std.proofs.Common.{◌≡◌, ◌≤◌, ℕ, length, get_or, Ok, ap, ◌∙◌, arith}
-use Rattle.std.proofs.lemmas.List.{drop-drop, length-drop}
-use Rattle.std.proofs.lemmas.Nat.{and_mask}
-use Rattle.hayro_ccitt.specs.Bits.{Bits, BitsAt, here}
-use Rattle.hayro_ccitt.specs.LookUps.{padded, entry_of}
-use Rattle.hayro_ccitt.specs.Runs.{codes_of}
-use Rattle.hayro_ccitt.specs.Window.{moved}
+use Rattle.hayro_ccitt.proofs.Names.{◌≡◌, ◌≤◌, ℕ, length, get_or, Ok, ap, ◌∙◌, arith, drop-drop, length-drop, and_mask, Bits}
+use Rattle.hayro_ccitt.proofs.Names.{BitsAt, here, padded, entry_of, codes_of, moved}
 use Rattle.hayro_ccitt.proofs.CodeWords.LookedUp.{word_there}
 use Rattle.hayro_ccitt.proofs.usual.word_at_hand.Goals as goal
 
@@ -14,9 +9,12 @@ returns-clause-word c = λ some.
     let at : BitsAt = moved c.args.skip c.args.hand.now.at in
     let index = c.thirteen.result in
     let entry : ℕ = get_or c.args.words.now index 0 in
-    let is : entry ≡ entry_of (codes_of color) (padded 13 (here at)) = c.requires.entries.each index c.thirteen.ensures.few ∙ ap (entry_of (codes_of color)) c.thirteen.ensures.bits in
-    let there : 13 ≤ length (here at) = omega (arith, length-drop at.place at.bits, c.thirteen.ensures.there, c.requires.within) in
-    let word = word_there color (here at) entry c.from.result c.from-2.result is (c.from.ensures ∙ and_mask entry 12) c.from-2.ensures there some in
+    let is : entry ≡ entry_of (codes_of color) (padded 13 (here at)) =
+    c.requires.entries.each index c.thirteen.ensures.few ∙ ap (entry_of (codes_of color)) c.thirteen.ensures.bits in
+    let there : 13 ≤ length (here at) =
+    omega (arith, length-drop at.place at.bits, c.thirteen.ensures.there, c.requires.within) in
+    let word = word_there color (here at) entry c.from.result c.from-2.result is
+    (c.from.ensures ∙ and_mask entry 12) c.from-2.ensures there some in
     record {
       read = word.read ∙ ap (λ (bits : Bits). Ok (c.from.result, bits)) (drop-drop c.from-2.result at.place at.bits);
       few = word.few;

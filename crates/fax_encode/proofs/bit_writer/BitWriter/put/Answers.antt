@@ -1,7 +1,4 @@
-use Rattle.std.proofs.Common.{◌-◌, ◌*◌, ◌%◌, ◌^◌, ℕ, length, ap, arith}
-use Rattle.std.specs.Int.RustNames.{bit_or}
-use Rattle.hayro_ccitt.proofs.BitReading.BitLists.{length-low_bits}
-use Rattle.fax_encode.specs.Writing.{Written}
+use Rattle.fax_encode.proofs.Names.{◌-◌, ◌*◌, ◌%◌, ◌^◌, ℕ, length, ap, arith, bit_or, length-low_bits, Written}
 use Rattle.fax_encode.proofs.WrittenBits.{put_more}
 use Rattle.fax_encode.proofs.bit_writer.BitWriter.put.Goals as goal
 
@@ -15,5 +12,6 @@ put_over-requires-clause-full c = omega (
 )
 
 pub returns : goal.returns
-returns c = rw (← c.self.view_is) (put_more c.self.inside.bytes.items c.self.inside.pending c.self.inside.room c.args.count c.args.word _ c.if-count-self.false c.self.invariant.2
-    c.requires.word (ap (λ (n : ℕ). bit_or (c.self.inside.pending * 2 ^ c.args.count % 2 ^ 64) n) c.from.ensures))
+returns c = rw (← c.self.view_is) (put_more c.self.inside.bytes.items
+    c.self.inside.pending c.self.inside.room c.args.count c.args.word _ c.if-count-self.false c.self.invariant.2 c.requires.word
+    (ap (λ (n : ℕ). bit_or (c.self.inside.pending * 2 ^ c.args.count % 2 ^ 64) n) c.from.ensures))

@@ -1,8 +1,7 @@
-use Rattle.std.proofs.Common.{min, arith}
+use Rattle.hayro_ccitt.proofs.Names.{min, arith, common_steps}
 use Rattle.hayro_ccitt.proofs.BitReading.BitLists.{length-bits_in}
 use Rattle.hayro_ccitt.proofs.BitReading.BitPlaces.{bits_at, aligned-drop}
 use Rattle.hayro_ccitt.proofs.bit_reader.BitReader.align.Goals as goal
-use Rattle.std.proofs.lemmas.Grind.{common_steps}
 
 pub returns-clause-moved : goal.returns-clause-moved
 returns-clause-moved c = grind (arith, common_steps, bits_at, length-bits_in, min)

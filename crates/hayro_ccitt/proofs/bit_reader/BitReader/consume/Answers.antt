@@ -1,14 +1,11 @@
-use Rattle.std.proofs.Common.{◌≡◌, ◌+◌, ◌-◌, ◌*◌, ◌≤◌, ◌<◌, ◌^◌, ℕ, List, get_or, false, length, min, ap, ◌∙◌, arith}
-use Rattle.std.proofs.lemmas.List.{take_rest}
-use Rattle.hayro_ccitt.specs.Bits.{bit_of, bits_in}
-use Rattle.hayro_ccitt.proofs.BitReading.BitLists.{length-bits_in}
-use Rattle.hayro_ccitt.proofs.BitReading.BitPlaces.{bits_at}
-use Rattle.hayro_ccitt.proofs.BitReading.WindowWords.{bits_in-drop}
+use Rattle.hayro_ccitt.proofs.Names.{◌≡◌, ◌+◌, ◌-◌, ◌*◌, ◌≤◌, ◌<◌, ◌^◌, ℕ, List, get_or, false, length, min, ap, ◌∙◌, arith}
+use Rattle.hayro_ccitt.proofs.Names.{take_rest, bit_of, bits_in, common_steps}
+use Rattle.hayro_ccitt.proofs.{BitReading.BitLists.length-bits_in, BitReading.BitPlaces.bits_at}
 use Rattle.hayro_ccitt.proofs.BitReading.FilledWindows.{filled_on, filled_ahead, filled_afresh}
-use Rattle.hayro_ccitt.proofs.bit_reader.BitReader.consume.Goals as goal
+use Rattle.hayro_ccitt.proofs.BitReading.WindowWords.{bits_in-drop}
 use Rattle.hayro_ccitt.proofs.bit_reader.BitReader.consume.Goals.{then-next-self+then-next-edge}
 use Rattle.hayro_ccitt.proofs.bit_reader.BitReader.consume.Goals.{then-next-self+else-next-edge+then-byte-self, else-next-self}
-use Rattle.std.proofs.lemmas.Grind.{common_steps}
+use Rattle.hayro_ccitt.proofs.bit_reader.BitReader.consume.Goals as goal
 
 pub invariant_of-self : goal.invariant_of-self
 invariant_of-self c =
@@ -21,21 +18,26 @@ invariant_of-self c =
       | then-next-self+else-next-edge+then-byte-self v ↦
           let word = v.whole_word-word.result in
           let fits : word < 2 ^ 64 = omega arith in
-          let fresh : (j : ℕ) → j < 64 → bit_of word (63 - j) ≡ get_or (bits_in r.order r.«data».now) (8 * (r.edge + 8) + j) false =
+          let fresh : (j : ℕ) → j < 64
+          → bit_of word (63 - j) ≡ get_or (bits_in r.order r.«data».now) (8 * (r.edge + 8) + j) false =
           λ j lt. v.whole_word-word.ensures j lt
           ∙ ap (λ (xs : List ℕ). get_or (bits_in r.order xs) j false) (take_rest r.«data».now (r.edge + 8))
           ∙ bits_in-drop r.order r.«data».now (r.edge + 8) j in
-          rw (v.window-is, v.self-inside-is)
-          (filled_afresh r c.args.n word c.self.invariant c.requires fits (omega (arith, v.if-next-edge.false)) v.if-byte-self.true fresh)
-      | else-next-self w ↦ rw (w.window-is, w.self-inside-is) (filled_on r c.args.n c.self.invariant (omega (arith, w.if-next-self.false)))
+          rw (v.window-is, v.self-inside-is) (filled_afresh r c.args.n word c.self.invariant c.requires fits
+          (omega (arith, v.if-next-edge.false)) v.if-byte-self.true fresh)
+      | else-next-self w ↦
+          rw (w.window-is, w.self-inside-is) (filled_on r c.args.n c.self.invariant (omega (arith, w.if-next-self.false)))
     ]
 
 -- the data doesn't change, nor does the order of its bits
-same_data : (c : goal.After-self-3-1) → (c.if-next-self.self-inside.«data» ≡ c.self.inside.«data») × (c.if-next-self.self-inside.order ≡ c.self.inside.order)
-same_data c = grind (arith, common_steps, else-next-self, then-next-self+then-next-edge, then-next-self+else-next-edge+then-byte-self)
+same_data : (c : goal.After-self-3-1) → (c.if-next-self.self-inside.«data» ≡ c.self.inside.«data»)
+    × (c.if-next-self.self-inside.order ≡ c.self.inside.order)
+same_data c =
+    grind (arith, common_steps, else-next-self, then-next-self+then-next-edge, then-next-self+else-next-edge+then-byte-self)
 
 -- so that the position is within them
-within : (c : goal.After-self-3-1) → c.self.inside.place + c.args.n ≤ length (bits_in c.self.inside.order c.self.inside.«data».now)
+within : (c : goal.After-self-3-1)
+    → c.self.inside.place + c.args.n ≤ length (bits_in c.self.inside.order c.self.inside.«data».now)
 within c = grind (arith, common_steps, invariant_of-self, length-bits_in, same_data)
 
 pub returns-clause-moved : goal.returns-clause-moved

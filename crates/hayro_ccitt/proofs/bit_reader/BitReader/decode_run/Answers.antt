@@ -1,14 +1,10 @@
-use Rattle.std.proofs.Common.{◌≡◌, ℕ, Option, Some, Err, refl, arith}
-use Rattle.std.specs.Option.{SomeIff}
-use Rattle.std.proofs.lemmas.Result.{err_from_is_err_and}
-use Rattle.hayro_ccitt.specs.declared.error.DecodeError.{DecodeError}
-use Rattle.hayro_ccitt.specs.Bits.{here}
-use Rattle.hayro_ccitt.specs.Runs.{codes_of}
-use Rattle.hayro_ccitt.proofs.CodeWords.RunWords.{run_found_on, run_found_missed}
+use Rattle.hayro_ccitt.proofs.Names.{◌≡◌, ℕ, Option, Some, Err, refl, arith, err_from_is_err_and, DecodeError, here, codes_of}
+use Rattle.hayro_ccitt.proofs.Names.{common_steps}
 use Rattle.hayro_ccitt.proofs.CodeWords.ReadCodes.{read_code_missed}
 use Rattle.hayro_ccitt.proofs.CodeWords.ReadRuns.{read_code_shorter, words_not_empty, run_goes_on}
+use Rattle.hayro_ccitt.proofs.CodeWords.RunWords.{run_found_on, run_found_missed}
+use Rattle.std.specs.Option.{SomeIff}
 use Rattle.hayro_ccitt.proofs.bit_reader.BitReader.decode_run.Goals as goal
-use Rattle.std.proofs.lemmas.Grind.{common_steps}
 
 -- a sum that was added with a test
 added : (r : Option ℕ) (P : Type 0) (v x : ℕ) → SomeIff r P v → r ≡ Some x → P × (x ≡ v)
@@ -16,7 +12,8 @@ added r P v x s e = rw e at s
 
 pub words-smaller : goal.words-smaller
 words-smaller c =
-    read_code_shorter (codes_of c.args.color) (here c.words.self) c.in_ok-run.run' (here c.decode_word.new.self) (words_not_empty c.args.color) c.in_ok-run.ensures.word
+    read_code_shorter (codes_of c.args.color) (here c.words.self) c.in_ok-run.run' (here c.decode_word.new.self)
+    (words_not_empty c.args.color) c.in_ok-run.ensures.word
 
 pub words-preserved : goal.words-preserved
 words-preserved c = grind (arith, common_steps, added, run_found_on, run_goes_on)

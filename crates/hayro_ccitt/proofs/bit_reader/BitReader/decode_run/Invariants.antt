@@ -1,13 +1,9 @@
-use Rattle.std.proofs.Common.{◌≡◌, ◌+◌, length}
-use Rattle.hayro_ccitt.specs.Ticks.{run_found}
-use Rattle.hayro_ccitt.specs.Bits.{here}
-use Rattle.hayro_ccitt.specs.Runs.{run_from}
+use Rattle.hayro_ccitt.proofs.Names.{◌≡◌, ◌+◌, length, run_found, here, run_from}
 use Rattle.hayro_ccitt.proofs.bit_reader.BitReader.decode_run.Given as goal
 
 abbrev pub invariant-words : goal.invariant-words
 invariant-words l =
-    (run_from l.color (0, here l.fn.self) ≡ run_from l.color (l.total, here l.self))
-    × (l.self.bits ≡ l.fn.self.bits)
+    (run_from l.color (0, here l.fn.self) ≡ run_from l.color (l.total, here l.self)) × (l.self.bits ≡ l.fn.self.bits)
     × (l.ticks + length (run_found l.color (l.total, here l.self)) ≡ l.fn.ticks + length (run_found l.color (0, here l.fn.self)))
 
 abbrev pub decreases-words : goal.decreases-words

@@ -1,12 +1,8 @@
-use Rattle.std.proofs.Common.{◌≡◌, ◌<◌, length, bit_and, Err, refl, sym, ap, ◌∙◌}
-use Rattle.std.proofs.lemmas.Result.{err_from_is_err_and}
-use Rattle.std.proofs.lemmas.Bool.{false≢true}
-use Rattle.std.proofs.lemmas.Nat.{and_mask}
-use Rattle.hayro_ccitt.specs.Bits.{here}
-use Rattle.hayro_ccitt.specs.LookUps.{padded, telling_bits, run_or_none}
-use Rattle.hayro_ccitt.specs.Runs.{codes_of}
-use Rattle.hayro_ccitt.proofs.CodeWords.LookedUp.{high_bits, low_twelve, looked_up_cut, looked_up_wrong, looked_up_found, some_bits_tell}
+use Rattle.hayro_ccitt.proofs.Names.{◌≡◌, ◌<◌, length, bit_and, Err, refl, sym, ap, ◌∙◌, err_from_is_err_and, false≢true}
+use Rattle.hayro_ccitt.proofs.Names.{and_mask, here, padded, telling_bits, run_or_none, codes_of}
 use Rattle.hayro_ccitt.proofs.BitReading.BitPlaces.{moved_on, bits_enough, bits_missing}
+use Rattle.hayro_ccitt.proofs.CodeWords.LookedUp.{high_bits, low_twelve, looked_up_cut, looked_up_wrong, looked_up_found}
+use Rattle.hayro_ccitt.proofs.CodeWords.LookedUp.{some_bits_tell}
 use Rattle.hayro_ccitt.proofs.bit_reader.BitReader.decode_word.Goals as goal
 
 pub returns-in_err-consume-clause-word : goal.returns-in_err-consume-clause-word
@@ -15,8 +11,8 @@ returns-in_err-consume-clause-word c =
     let at = c.args.self.now in
     let seen = padded 13 (here at) in
     let width = high_bits color seen c.look_up-entry.result c.look_up-entry.ensures in
-    let missing : length (here at) < telling_bits (codes_of color) seen
-    = bits_missing at c.from.result (telling_bits (codes_of color) seen) (c.from.ensures ∙ width) (some_bits_tell color (here at)) (c.in_err-consume.ensures.end.0 refl) in
+    let missing : length (here at) < telling_bits (codes_of color) seen = bits_missing at c.from.result (telling_bits
+    (codes_of color) seen) (c.from.ensures ∙ width) (some_bits_tell color (here at)) (c.in_err-consume.ensures.end.0 refl) in
     let answer = err_from_is_err_and c.from_residual.result c.from_residual.ensures.1 in
     rw (answer.1, answer.2) (looked_up_cut color (here at) missing ∙ ap Err (sym c.in_err-consume.ensures.only_end))
 
@@ -28,7 +24,8 @@ returns-then-run-eq-LOOKUP_INVALID-clause-word c =
     let entry = c.look_up-entry.result in
     let width = high_bits color seen entry c.look_up-entry.ensures in
     let run = low_twelve color seen entry c.look_up-entry.ensures in
-    let enough = bits_enough at c.from.result (telling_bits (codes_of color) seen) (c.from.ensures ∙ width) (λ lt. false≢true (c.in_ok-consume.ensures.end.1 lt)) in
+    let enough = bits_enough at c.from.result (telling_bits (codes_of color) seen) (c.from.ensures ∙ width)
+    (λ lt. false≢true (c.in_ok-consume.ensures.end.1 lt)) in
     looked_up_wrong color (here at) (sym run ∙ sym (and_mask entry 12) ∙ c.if-run-eq-LOOKUP_INVALID.true) enough
 
 pub returns-clause-word : goal.returns-clause-word
@@ -38,7 +35,10 @@ returns-clause-word c =
     let seen = padded 13 (here at) in
     let entry = c.look_up-entry.result in
     let width = high_bits color seen entry c.look_up-entry.ensures in
-    let run : bit_and entry 4095 ≡ run_or_none (codes_of color) seen = and_mask entry 12 ∙ low_twelve color seen entry c.look_up-entry.ensures in
-    let enough = bits_enough at c.from.result (telling_bits (codes_of color) seen) (c.from.ensures ∙ width) (λ lt. false≢true (c.in_ok-consume.ensures.end.1 lt)) in
-    let moved = moved_on at c.consume.new.self c.from.result (telling_bits (codes_of color) seen) (c.from.ensures ∙ width) c.in_ok-consume.ensures.moved enough (some_bits_tell color (here at)) in
+    let run : bit_and entry 4095 ≡ run_or_none (codes_of color) seen =
+    and_mask entry 12 ∙ low_twelve color seen entry c.look_up-entry.ensures in
+    let enough = bits_enough at c.from.result (telling_bits (codes_of color) seen) (c.from.ensures ∙ width)
+    (λ lt. false≢true (c.in_ok-consume.ensures.end.1 lt)) in
+    let moved = moved_on at c.consume.new.self c.from.result (telling_bits (codes_of color) seen)
+    (c.from.ensures ∙ width) c.in_ok-consume.ensures.moved enough (some_bits_tell color (here at)) in
     looked_up_found color (here at) (λ e. c.if-run-eq-LOOKUP_INVALID.false (run ∙ e)) enough ∙ cc

@@ -1,5 +1,4 @@
-use Rattle.std.proofs.Common.{◌≤◌, length, arith}
-use Rattle.hayro_ccitt.specs.Bits.{bits_in}
+use Rattle.hayro_ccitt.proofs.Names.{◌≤◌, length, arith, bits_in}
 use Rattle.hayro_ccitt.proofs.BitReading.BitLists.{length-bits_in}
 use Rattle.hayro_ccitt.proofs.bit_reader.BitReader.go_to.Goals as goal
 

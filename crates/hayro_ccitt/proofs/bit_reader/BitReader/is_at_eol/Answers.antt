@@ -1,9 +1,5 @@
-use Rattle.std.proofs.Common.{◌≡◌, ◌+◌, ◌<◌, Bool, true, false, Some, None, drop, leb, cond, refl, sym, ap, ◌∙◌, arith}
-use Rattle.std.specs.Prelude.{is_some}
-use lib.Count.{count_leading_zeros}
-use Rattle.hayro_ccitt.specs.Bits.{Bits}
-use Rattle.hayro_ccitt.specs.EndOfLine.{after_eol}
-use Rattle.hayro_ccitt.specs.Ticks.{looked}
+use Rattle.hayro_ccitt.proofs.Names.{◌≡◌, ◌+◌, ◌<◌, Bool, true, false, Some, None, drop, leb, cond, refl, sym, ap, ◌∙◌, arith}
+use Rattle.hayro_ccitt.proofs.Names.{is_some, count_leading_zeros, Bits, after_eol, looked}
 use Rattle.hayro_ccitt.proofs.BitReading.ZeroRuns.{after_eol_run, looked_run}
 use Rattle.hayro_ccitt.proofs.BitReading.ZerosPassed.{run_ahead}
 use Rattle.hayro_ccitt.proofs.bit_reader.BitReader.is_at_eol.Goals as goal

@@ -1,12 +1,8 @@
-use Rattle.std.proofs.Common.{◌≡◌, ℕ, ◌+◌, ◌<◌, true, false, ◌∷◌, ◌++◌, drop, replicate, arith}
-use lib.Count.{count_leading_zeros}
-use Rattle.hayro_ccitt.specs.Bits.{Bits, here}
-use Rattle.hayro_ccitt.proofs.BitReading.SoughtEols.{few_zeros}
-use Rattle.hayro_ccitt.proofs.BitReading.ZeroRuns.{looked_run}
-use Rattle.hayro_ccitt.proofs.BitReading.ZerosPassed.{run_ahead, near_one}
-use Rattle.hayro_ccitt.proofs.bit_reader.BitReader.is_near_one.Goals.{Else-next-eq0}
+use Rattle.hayro_ccitt.proofs.Names.{◌≡◌, ℕ, ◌+◌, ◌<◌, true, false, ◌∷◌, ◌++◌, drop, replicate, arith, count_leading_zeros, Bits}
+use Rattle.hayro_ccitt.proofs.Names.{here, common_steps}
+use Rattle.hayro_ccitt.proofs.{BitReading.SoughtEols.few_zeros, BitReading.ZeroRuns.looked_run, BitReading.ZerosPassed.near_one}
+use Rattle.hayro_ccitt.proofs.{BitReading.ZerosPassed.run_ahead, bit_reader.BitReader.is_near_one.Goals.Else-next-eq0}
 use Rattle.hayro_ccitt.proofs.bit_reader.BitReader.is_near_one.Goals as goal
-use Rattle.std.proofs.lemmas.Grind.{common_steps}
 
 module _ (c : Else-next-eq0) where
   -- the leading zeros, fewer than eleven

@@ -1,10 +1,5 @@
-use Rattle.std.proofs.Common.{◌≡◌, ◌+◌, ◌<◌, Some, None, drop, leb, cond, true, sym, ap, ◌∙◌, arith}
-use lib.Count.{count_leading_zeros}
-use Rattle.std.proofs.lemmas.Bool.{le-leb}
-use Rattle.std.proofs.lemmas.List.{drop_min}
-use Rattle.hayro_ccitt.specs.Bits.{Bits, here}
-use Rattle.hayro_ccitt.specs.EndOfLine.{after_eol}
-use Rattle.hayro_ccitt.specs.Ticks.{looked}
+use Rattle.hayro_ccitt.proofs.Names.{◌≡◌, ◌+◌, ◌<◌, Some, None, drop, leb, cond, true, sym, ap, ◌∙◌, arith, count_leading_zeros}
+use Rattle.hayro_ccitt.proofs.Names.{le-leb, drop_min, Bits, here, after_eol, looked}
 use Rattle.hayro_ccitt.proofs.BitReading.ZeroRuns.{after_eol_run, looked_run}
 use Rattle.hayro_ccitt.proofs.BitReading.ZerosPassed.{run_ahead}
 use Rattle.hayro_ccitt.proofs.bit_reader.BitReader.pass_eol.Goals as goal
@@ -18,8 +13,10 @@ returns-clause-eol c =
     let near : n < 32 = omega (arith, c.if-zeros-ge32.false) in
     let many : leb 11 n ≡ true = le-leb 11 n (omega (arith, c.if-zeros-lt11.false)) in
     let place : at.place + (n + 1) ≡ at.place + n + 1 = omega arith in
-    let after : here c.consume.new.self ≡ rest = ap here c.consume.ensures.moved ∙ drop_min (at.place + (n + 1)) at.bits ∙ ap (λ i. drop i at.bits) place in
-    ap (after_eol 0) (run_ahead at next c.peek_u32.type_inv c.peek_u32.ensures near) ∙ after_eol_run n rest ∙ ap (λ t. cond t (Some rest) None) many ∙ ap Some (sym after)
+    let after : here c.consume.new.self ≡ rest =
+    ap here c.consume.ensures.moved ∙ drop_min (at.place + (n + 1)) at.bits ∙ ap (λ i. drop i at.bits) place in
+    ap (after_eol 0) (run_ahead at next c.peek_u32.type_inv c.peek_u32.ensures near) ∙ after_eol_run n rest
+    ∙ ap (λ t. cond t (Some rest) None) many ∙ ap Some (sym after)
 
 pub returns-clause-ticks : goal.returns-clause-ticks
 returns-clause-ticks c =

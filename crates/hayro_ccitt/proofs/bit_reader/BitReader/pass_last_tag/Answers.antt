@@ -1,9 +1,6 @@
-use Rattle.std.proofs.Common.{sym, ap, ◌∙◌, arith}
-use Rattle.hayro_ccitt.specs.Bits.{Bits}
-use Rattle.hayro_ccitt.specs.EndOfLine.{pass_last_tag}
+use Rattle.hayro_ccitt.proofs.Names.{sym, ap, ◌∙◌, arith, Bits, pass_last_tag, common_steps}
 use Rattle.hayro_ccitt.proofs.BitReading.TaggedEols.{last_tag-one}
 use Rattle.hayro_ccitt.proofs.bit_reader.BitReader.pass_last_tag.Goals as goal
-use Rattle.std.proofs.lemmas.Grind.{common_steps}
 
 pub returns-in-Ok-eq0-clause-rest : goal.returns-in-Ok-eq0-clause-rest
 returns-in-Ok-eq0-clause-rest c =

@@ -1,9 +1,6 @@
-use Rattle.std.proofs.Common.{◌≡◌, sym, ap, ◌∙◌, arith}
-use Rattle.hayro_ccitt.specs.EndOfLine.{past_tag}
-use Rattle.hayro_ccitt.specs.Ticks.{looked_at_tag}
+use Rattle.hayro_ccitt.proofs.Names.{◌≡◌, sym, ap, ◌∙◌, arith, past_tag, looked_at_tag, common_steps}
 use Rattle.hayro_ccitt.proofs.BitReading.TaggedEols.{past_tag-eol, past_tag-none}
 use Rattle.hayro_ccitt.proofs.bit_reader.BitReader.pass_tag.Goals as goal
-use Rattle.std.proofs.lemmas.Grind.{common_steps}
 
 pub returns-in-Ok-eq0-clause-rest : goal.returns-in-Ok-eq0-clause-rest
 returns-in-Ok-eq0-clause-rest c =

@@ -1,9 +1,5 @@
-use Rattle.std.proofs.Common.{◌≡◌, ◌<◌, ◌+◌, ℕ, Option, Some, length, min, pos, refl, sym, ap, ◌∙◌, arith}
-use Rattle.std.proofs.lemmas.List.{length-drop}
-use Rattle.hayro_ccitt.specs.declared.codes.Mode.{Mode}
-use Rattle.hayro_ccitt.specs.declared.codes.Mode.TheVariants.{Vertical}
-use Rattle.hayro_ccitt.specs.Bits.{here}
-use Rattle.hayro_ccitt.specs.LookUps.{mode_told}
+use Rattle.hayro_ccitt.proofs.Names.{◌≡◌, ◌<◌, ◌+◌, ℕ, Option, Some, length, min, pos, refl, sym, ap, ◌∙◌, arith, length-drop}
+use Rattle.hayro_ccitt.proofs.Names.{Mode, Vertical, here, mode_told}
 use Rattle.hayro_ccitt.proofs.BitReading.PeekedBits.{peeked_seven}
 use Rattle.hayro_ccitt.proofs.CodeWords.LookedUpModes.{mode_stands, v0_there}
 use Rattle.hayro_ccitt.proofs.bit_reader.BitReader.pass_v0.Goals as goal

@@ -1,7 +1,6 @@
-use Rattle.std.proofs.Common.{arith}
+use Rattle.hayro_ccitt.proofs.Names.{arith, common_steps}
 use Rattle.hayro_ccitt.proofs.BitReading.ZerosPassed.{word_passed, one_follows}
 use Rattle.hayro_ccitt.proofs.bit_reader.BitReader.pass_zeros.Goals as goal
-use Rattle.std.proofs.lemmas.Grind.{common_steps}
 
 pub words-preserved : goal.words-preserved
 words-preserved c = grind (arith, common_steps, word_passed)

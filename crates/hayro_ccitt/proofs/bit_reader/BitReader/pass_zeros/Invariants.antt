@@ -1,5 +1,4 @@
-use Rattle.std.proofs.Common.{◌≡◌, ◌-◌, ◌≤◌, ◌++◌, length, replicate, false}
-use Rattle.hayro_ccitt.specs.Bits.{here}
+use Rattle.hayro_ccitt.proofs.Names.{◌≡◌, ◌-◌, ◌≤◌, ◌++◌, length, replicate, false, here}
 use Rattle.hayro_ccitt.proofs.bit_reader.BitReader.pass_zeros.Given as goal
 
 abbrev pub invariant-words : goal.invariant-words

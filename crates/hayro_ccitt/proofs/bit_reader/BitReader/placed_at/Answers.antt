@@ -1,4 +1,4 @@
-use Rattle.std.proofs.Common.{arith}
+use Rattle.hayro_ccitt.proofs.Names.{arith}
 use Rattle.hayro_ccitt.proofs.BitReading.WindowWords.{filled, filled_behind}
 use Rattle.hayro_ccitt.proofs.bit_reader.BitReader.placed_at.Goals as goal
 

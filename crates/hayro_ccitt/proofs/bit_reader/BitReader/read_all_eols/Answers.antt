@@ -1,9 +1,7 @@
-use Rattle.std.proofs.Common.{ℕ, ◌+◌, ◌-◌, ◌<◌, ◌^◌, length, sym, ap, ◌∙◌, arith}
-use Rattle.std.proofs.lemmas.List.{length-drop}
-use Rattle.hayro_ccitt.specs.Bits.{Bits, BitsAt, here}
+use Rattle.hayro_ccitt.proofs.Names.{ℕ, ◌+◌, ◌-◌, ◌<◌, ◌^◌, length, sym, ap, ◌∙◌, arith, length-drop, Bits, BitsAt, here}
+use Rattle.hayro_ccitt.proofs.Names.{common_steps}
 use Rattle.hayro_ccitt.proofs.BitReading.ZeroRuns.{eols_enough, eols_fewer, eols_look_on}
 use Rattle.hayro_ccitt.proofs.bit_reader.BitReader.read_all_eols.Goals as goal
-use Rattle.std.proofs.lemmas.Grind.{common_steps}
 
 -- as many EOLs as are asked for
 abbrev max : ℕ
@@ -15,7 +13,8 @@ few at fit = omega (arith, length-drop at.place at.bits, fit)
 
 pub returns-clause-eols : goal.returns-clause-eols
 returns-clause-eols c =
-    sym (eols_enough max (here c.args.self.now) (omega (arith, few c.args.self.now c.at_end.ensures.fit))) ∙ c.read_eols.ensures.eols
+    sym (eols_enough max (here c.args.self.now) (omega (arith, few c.args.self.now c.at_end.ensures.fit)))
+    ∙ c.read_eols.ensures.eols
 
 pub returns-clause-ticks : goal.returns-clause-ticks
 returns-clause-ticks c = grind (arith, common_steps, eols_look_on, few)

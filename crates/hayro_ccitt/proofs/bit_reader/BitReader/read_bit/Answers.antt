@@ -1,14 +1,8 @@
-use Rattle.std.proofs.Common.{rules, ◌≡◌, ℕ, ◌+◌, ◌<◌, ◌^◌, Some, get_or, length, min, false, inl, inr, sym, ap, ◌∙◌, arith}
-use Rattle.std.proofs.lemmas.Bool.{cases_lt, false≢true}
-use Rattle.std.proofs.lemmas.Option.{slice_get-get_or}
-use Rattle.std.proofs.lemmas.Result.{err_from_is_err_and}
-use Rattle.hayro_ccitt.specs.Bits.{bits_in}
+use Rattle.hayro_ccitt.proofs.Names.{rules, ◌≡◌, ℕ, ◌+◌, ◌<◌, ◌^◌, Some, get_or, length, min, false, inl, inr, sym, ap, ◌∙◌}
+use Rattle.hayro_ccitt.proofs.Names.{arith, cases_lt, false≢true, slice_get-get_or, err_from_is_err_and, bits_in, common_steps}
+use Rattle.hayro_ccitt.proofs.{BitReading.BitPlaces.bits_at, BitReading.WindowWords.top_bit, BitReading.ZeroRuns.here_next}
 use Rattle.hayro_ccitt.proofs.BitReading.BitLists.{length-bits_in}
-use Rattle.hayro_ccitt.proofs.BitReading.BitPlaces.{bits_at}
-use Rattle.hayro_ccitt.proofs.BitReading.WindowWords.{top_bit}
-use Rattle.hayro_ccitt.proofs.BitReading.ZeroRuns.{here_next}
 use Rattle.hayro_ccitt.proofs.bit_reader.BitReader.read_bit.Goals as goal
-use Rattle.std.proofs.lemmas.Grind.{common_steps}
 
 pub returns-in_err-consume-clause-unchanged : goal.returns-in_err-consume-clause-unchanged
 returns-in_err-consume-clause-unchanged c = grind (arith, common_steps, bits_at, err_from_is_err_and, length-bits_in, min)
@@ -21,7 +15,8 @@ returns-clause-bit c =
     let top = top_bit c.self.inside.window fits in
     let first : place + 0 ≡ place = omega arith in
     let ok = rw (← c.self.view_is) at c.in_ok-consume.ensures.end in
-    let there : place < length bits = elim (cases_lt place (length bits)) [ inl lt ↦ lt | inr ge ↦ absurd (false≢true (ok.1 (omega arith))) ] in
+    let there : place < length bits =
+    elim (cases_lt place (length bits)) [ inl lt ↦ lt | inr ge ↦ absurd (false≢true (ok.1 (omega arith))) ] in
     let bit = c.self.invariant.held 0 (omega (arith, c.self.invariant.within)) ∙ ap (λ (i : ℕ). get_or bits i false) first in
     (top.0, rw (← c.self.view_is) (slice_get-get_or bits place false there ∙ ap Some (sym bit ∙ top.1)))
 

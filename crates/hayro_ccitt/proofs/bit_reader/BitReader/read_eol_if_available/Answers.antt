@@ -1,7 +1,5 @@
-use Rattle.std.proofs.Common.{ℕ, ◌+◌, ap, ◌∙◌}
-use Rattle.hayro_ccitt.specs.Bits.{Bits, here}
-use Rattle.hayro_ccitt.proofs.BitReading.PlainEols.{eol_and_others}
-use Rattle.hayro_ccitt.proofs.DamagedLines.PastEol.{all_eols-none}
+use Rattle.hayro_ccitt.proofs.Names.{ℕ, ◌+◌, ap, ◌∙◌, Bits, here}
+use Rattle.hayro_ccitt.proofs.{BitReading.PlainEols.eol_and_others, DamagedLines.PastEol.all_eols-none}
 use Rattle.hayro_ccitt.proofs.bit_reader.BitReader.read_eol_if_available.Goals as goal
 
 pub returns-then-is_near_one-2-clause-eols : goal.returns-then-is_near_one-2-clause-eols
@@ -13,5 +11,5 @@ returns-then-is_near_one-2-clause-eols c =
 
 pub returns-clause-eols : goal.returns-clause-eols
 returns-clause-eols c =
-    eol_and_others (here c.args.self.now) (here c.pass_plain_eol.new.self) (c.pass_plain_eol.ensures.eol c.if-not-pass_plain_eol.false)
-    ∙ ap (λ (found : ℕ × Bits). (1 + found.0, found.1)) c.read_all_eols-2.ensures.eols
+    eol_and_others (here c.args.self.now) (here c.pass_plain_eol.new.self) (c.pass_plain_eol.ensures.eol
+    c.if-not-pass_plain_eol.false) ∙ ap (λ (found : ℕ × Bits). (1 + found.0, found.1)) c.read_all_eols-2.ensures.eols

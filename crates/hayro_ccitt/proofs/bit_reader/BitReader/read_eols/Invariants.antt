@@ -1,13 +1,10 @@
-use Rattle.std.proofs.Common.{◌≡◌, ◌+◌, ◌-◌, ◌≤◌, length}
-use Rattle.hayro_ccitt.specs.Bits.{here}
-use Rattle.hayro_ccitt.specs.EndOfLine.{eols}
+use Rattle.hayro_ccitt.proofs.Names.{◌≡◌, ◌+◌, ◌-◌, ◌≤◌, length, here, eols}
 use Rattle.hayro_ccitt.proofs.bit_reader.BitReader.read_eols.Given as goal
 
 abbrev pub invariant-eols : goal.invariant-eols
 invariant-eols l =
-    (l.self.bits ≡ l.fn.self.bits)
-    × (l.count ≤ l.max)
-    × (eols l.max (here l.fn.self) ≡ (l.count + (eols (l.max - l.count) (here l.self)).0, (eols (l.max - l.count) (here l.self)).1))
+    (l.self.bits ≡ l.fn.self.bits) × (l.count ≤ l.max) ×
+    (eols l.max (here l.fn.self) ≡ (l.count + (eols (l.max - l.count) (here l.self)).0, (eols (l.max - l.count) (here l.self)).1))
     × (l.ticks + length (here l.self) ≡ l.fn.ticks + length (here l.fn.self))
 
 abbrev pub decreases-eols : goal.decreases-eols

@@ -1,9 +1,7 @@
-use Rattle.std.proofs.Common.{◌≡◌, ℕ, ◌+◌, ◌*◌, ◌<◌, length, ◌∙◌, arith}
-use Rattle.hayro_ccitt.specs.Bits.{here}
+use Rattle.hayro_ccitt.proofs.Names.{◌≡◌, ℕ, ◌+◌, ◌*◌, ◌<◌, length, ◌∙◌, arith, here, common_steps}
 use Rattle.hayro_ccitt.proofs.BitReading.TaggedEols.{one_eol_read, tagged_stepped, tagged_looks}
 use Rattle.hayro_ccitt.proofs.Readings.TurnsMoveOn.{after_eol_shorter, past_tag_shorter}
 use Rattle.hayro_ccitt.proofs.bit_reader.BitReader.read_eols_with_tags.Goals as goal
-use Rattle.std.proofs.lemmas.Grind.{common_steps}
 
 pub eols-preserved : goal.eols-preserved
 eols-preserved c =
@@ -16,12 +14,12 @@ eols-preserved c =
     let ticks : c.read_eols.new.ticks + length after ≡ c.eols.ticks + length now = omega (arith, passed) in
     let most : ℕ = c.args.ticks.now + 2 * length (here c.args.self.now) in
     let rest = here c.pass_tag.new.self in
-    let looks = tagged_looks now after rest c.eols.ticks c.read_eols.new.ticks c.pass_tag.new.ticks most one.0 c.pass_tag.ensures.rest ticks
-    c.pass_tag.ensures.ticks in (
+    let looks = tagged_looks now after rest c.eols.ticks c.read_eols.new.ticks c.pass_tag.new.ticks most one.0
+    c.pass_tag.ensures.rest ticks c.pass_tag.ensures.ticks in (
       c.pass_tag.ensures.same_bits ∙ c.read_eols.ensures.same_bits ∙ c.eols.invariant.0,
       omega (arith, looks.1, c.eols.invariant.1),
-      tagged_stepped (length (here c.args.self.now)) c.eols.count (here c.args.self.now) now after rest c.eols.invariant.2 one.0 c.pass_tag.ensures.rest
-          (omega (arith, looks.1, c.eols.invariant.1)),
+      tagged_stepped (length (here c.args.self.now)) c.eols.count (here c.args.self.now) now after rest c.eols.invariant.2 one.0
+          c.pass_tag.ensures.rest (omega (arith, looks.1, c.eols.invariant.1)),
       omega (arith, looks.0, c.eols.invariant.3),
       looks.2 c.eols.invariant.4,
       λ zero. absurd (omega (arith, zero)),

@@ -1,10 +1,5 @@
-use Rattle.std.proofs.Common.{ℕ, Option, Err, refl, sym, ap, ◌∙◌}
-use Rattle.std.proofs.lemmas.Bool.{false≢true}
-use Rattle.std.proofs.lemmas.Result.{err_from_is_err_and}
-use Rattle.hayro_ccitt.specs.declared.codes.Mode.{Mode}
-use Rattle.hayro_ccitt.specs.Bits.{here}
-use Rattle.hayro_ccitt.specs.CodeLists.{mode_codes}
-use Rattle.hayro_ccitt.specs.LookUps.{padded, mode_told, telling_bits}
+use Rattle.hayro_ccitt.proofs.Names.{ℕ, Option, Err, refl, sym, ap, ◌∙◌, false≢true, err_from_is_err_and, Mode, here, mode_codes}
+use Rattle.hayro_ccitt.proofs.Names.{padded, mode_told, telling_bits}
 use Rattle.hayro_ccitt.proofs.BitReading.BitPlaces.{moved_on, bits_enough, bits_missing}
 use Rattle.hayro_ccitt.proofs.BitReading.PeekedBits.{peeked_seven}
 use Rattle.hayro_ccitt.proofs.CodeWords.LookedUpModes.{mode_cut, mode_wrong, mode_found, some_mode_bits}
@@ -15,7 +10,8 @@ returns-in_err-consume-clause-mode c =
     let at = c.args.self.now in
     let told = c.mode_of-mode.ensures.told ∙ ap mode_told (peeked_seven at c.peek_u32.result c.peek_u32.ensures) in
     let width = ap (λ (t : Option Mode × ℕ). t.1) told in
-    let missing = bits_missing at c.mode_of-mode.result.1 (telling_bits mode_codes (padded 7 (here at))) width (some_mode_bits (here at)) (c.in_err-consume.ensures.end.0 refl) in
+    let missing = bits_missing at c.mode_of-mode.result.1 (telling_bits mode_codes (padded 7 (here at))) width
+    (some_mode_bits (here at)) (c.in_err-consume.ensures.end.0 refl) in
     let answer = err_from_is_err_and c.from_residual.result c.from_residual.ensures.1 in
     rw (answer.1, answer.2) (mode_cut (here at) missing ∙ ap Err (sym c.in_err-consume.ensures.only_end))
 
@@ -26,7 +22,8 @@ returns-in-Some-clause-mode c =
     let told = c.mode_of-mode.ensures.told ∙ ap mode_told (peeked_seven at c.peek_u32.result c.peek_u32.ensures) in
     let width = ap (λ (t : Option Mode × ℕ). t.1) told in
     let enough = bits_enough at c.mode_of-mode.result.1 bits width (λ lt. false≢true (c.in_ok-consume.ensures.end.1 lt)) in
-    let moved = moved_on at c.consume.new.self c.mode_of-mode.result.1 bits width c.in_ok-consume.ensures.moved enough (some_mode_bits (here at)) in
+    let moved = moved_on at c.consume.new.self c.mode_of-mode.result.1 bits width c.in_ok-consume.ensures.moved enough
+    (some_mode_bits (here at)) in
     mode_found (here at) c.in-Some.mode (sym c.in-Some.is ∙ ap (λ (t : Option Mode × ℕ). t.0) told) enough ∙ cc
 
 pub returns-in-None-clause-mode : goal.returns-in-None-clause-mode
@@ -34,5 +31,6 @@ returns-in-None-clause-mode c =
     let at = c.args.self.now in
     let told = c.mode_of-mode.ensures.told ∙ ap mode_told (peeked_seven at c.peek_u32.result c.peek_u32.ensures) in
     let width = ap (λ (t : Option Mode × ℕ). t.1) told in
-    let enough = bits_enough at c.mode_of-mode.result.1 (telling_bits mode_codes (padded 7 (here at))) width (λ lt. false≢true (c.in_ok-consume.ensures.end.1 lt)) in
+    let enough = bits_enough at c.mode_of-mode.result.1 (telling_bits mode_codes (padded 7 (here at))) width
+    (λ lt. false≢true (c.in_ok-consume.ensures.end.1 lt)) in
     mode_wrong (here at) (sym c.in-None.is ∙ ap (λ (t : Option Mode × ℕ). t.0) told) enough

@@ -1,9 +1,7 @@
-use Rattle.std.proofs.Common.{min, arith}
-use Rattle.hayro_ccitt.proofs.BitReading.BitLists.{length-bits_in}
-use Rattle.hayro_ccitt.proofs.BitReading.BitPlaces.{bits_at}
+use Rattle.hayro_ccitt.proofs.Names.{min, arith, common_steps}
+use Rattle.hayro_ccitt.proofs.{BitReading.BitLists.length-bits_in, BitReading.BitPlaces.bits_at}
 use Rattle.hayro_ccitt.proofs.BitReading.FilledWindows.{filled_last}
 use Rattle.hayro_ccitt.proofs.bit_reader.BitReader.refill_near_end.Goals as goal
-use Rattle.std.proofs.lemmas.Grind.{common_steps}
 
 pub invariant_of-self : goal.invariant_of-self
 invariant_of-self c = rw c.min-self-inside.ensures

@@ -1,9 +1,7 @@
-use Rattle.std.proofs.Common.{arith}
-use Rattle.std.proofs.lemmas.Bool.{le-leb}
-use Rattle.hayro_ccitt.proofs.BitReading.ZeroRuns.{looked_run}
+use Rattle.hayro_ccitt.proofs.Names.{arith, le-leb, common_steps}
 use Rattle.hayro_ccitt.proofs.BitReading.SoughtEols.{next_eol-behind, next_eol-here, next_eol-zeros, looked-one, looked-zeros}
+use Rattle.hayro_ccitt.proofs.BitReading.ZeroRuns.{looked_run}
 use Rattle.hayro_ccitt.proofs.bit_reader.BitReader.skip_to_eol.Goals as goal
-use Rattle.std.proofs.lemmas.Grind.{common_steps}
 
 pub eols-smaller-in-Some-2 : goal.eols-smaller-in-Some-2
 eols-smaller-in-Some-2 c = grind (arith, common_steps, looked-one, looked_run)

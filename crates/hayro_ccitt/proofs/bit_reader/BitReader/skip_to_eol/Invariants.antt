@@ -1,13 +1,9 @@
-use Rattle.std.proofs.Common.{◌≡◌, ◌+◌, length}
-use Rattle.hayro_ccitt.specs.Bits.{here}
-use Rattle.hayro_ccitt.specs.EndOfLine.{next_eol}
+use Rattle.hayro_ccitt.proofs.Names.{◌≡◌, ◌+◌, length, here, next_eol}
 use Rattle.hayro_ccitt.proofs.bit_reader.BitReader.skip_to_eol.Given as goal
 
 abbrev pub invariant-eols : goal.invariant-eols
 invariant-eols l =
-    (l.self ≡ l.fn.self)
-    × (l.reader.bits ≡ l.self.bits)
-    × (next_eol (here l.reader) ≡ next_eol (here l.fn.self))
+    (l.self ≡ l.fn.self) × (l.reader.bits ≡ l.self.bits) × (next_eol (here l.reader) ≡ next_eol (here l.fn.self))
     × (l.ticks + length (here l.reader) ≡ l.fn.ticks + length (here l.fn.self))
 
 abbrev pub decreases-eols : goal.decreases-eols

@@ -1,13 +1,9 @@
-use Rattle.std.proofs.Common.{◌≡◌, ◌-◌, ◌++◌, ◌∷◌, replicate, true, false, sym, ap, ◌∙◌, arith}
-use Rattle.std.proofs.lemmas.List.{append-nil, length-replicate}
-use Rattle.hayro_ccitt.specs.Bits.{here}
-use Rattle.hayro_ccitt.specs.CodeReading.{leading_zeros}
-use Rattle.hayro_ccitt.specs.EndOfLine.{after_eol}
+use Rattle.hayro_ccitt.proofs.Names.{◌≡◌, ◌-◌, ◌++◌, ◌∷◌, replicate, true, false, sym, ap, ◌∙◌, arith, append-nil}
+use Rattle.hayro_ccitt.proofs.Names.{length-replicate, here, leading_zeros, after_eol, common_steps}
 use Rattle.hayro_ccitt.proofs.BitReading.SoughtEols.{zeros_end, looked-zeros}
 use Rattle.hayro_ccitt.proofs.BitReading.ZeroRuns.{after_eol_run, looked_run, leading_zeros-one, leading_zeros-replicate}
 use Rattle.hayro_ccitt.proofs.BitReading.ZerosPassed.{run_passed, one_passed}
 use Rattle.hayro_ccitt.proofs.bit_reader.BitReader.zero_run.Goals as goal
-use Rattle.std.proofs.lemmas.Grind.{common_steps}
 
 -- zeros alone
 only_zeros : (c : goal.Then-not-is_one) → here c.args.self.now ≡ replicate (c.bit_pos.result - c.bit_pos-2.result) false
@@ -23,7 +19,8 @@ pub returns-then-not-is_one-clause-ticks : goal.returns-then-not-is_one-clause-t
 returns-then-not-is_one-clause-ticks c = grind (arith, common_steps, length-replicate, looked-zeros, only_zeros)
 
 -- zeros and a one
-zeros_and_one : (c : goal.After-consume) → here c.args.self.now ≡ replicate (c.bit_pos.result - c.bit_pos-2.result) false ++ true ∷ here c.consume.new.self
+zeros_and_one : (c : goal.After-consume)
+    → here c.args.self.now ≡ replicate (c.bit_pos.result - c.bit_pos-2.result) false ++ true ∷ here c.consume.new.self
 zeros_and_one c = grind (arith, common_steps, one_passed, run_passed)
 
 pub returns-clause-zeros : goal.returns-clause-zeros
@@ -33,7 +30,8 @@ pub returns-clause-one : goal.returns-clause-one
 returns-clause-one c = grind (arith, common_steps, zeros_and_one)
 
 pub returns-clause-eol : goal.returns-clause-eol
-returns-clause-eol c = ap (after_eol 0) (zeros_and_one c) ∙ after_eol_run (c.bit_pos.result - c.bit_pos-2.result) (here c.consume.new.self)
+returns-clause-eol c =
+    ap (after_eol 0) (zeros_and_one c) ∙ after_eol_run (c.bit_pos.result - c.bit_pos-2.result) (here c.consume.new.self)
 
 pub returns-clause-ticks : goal.returns-clause-ticks
 returns-clause-ticks c = grind (arith, common_steps, looked_run, zeros_and_one)

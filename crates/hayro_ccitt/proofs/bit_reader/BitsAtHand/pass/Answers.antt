@@ -1,5 +1,4 @@
-use Rattle.std.proofs.Common.{◌≡◌, ◌+◌, ◌-◌, ◌≤◌, ℕ, false, get_or, ap, ◌∙◌, arith}
-use Rattle.hayro_ccitt.specs.Bits.{Bits, bits_in}
+use Rattle.hayro_ccitt.proofs.Names.{◌≡◌, ◌+◌, ◌-◌, ◌≤◌, ℕ, false, get_or, ap, ◌∙◌, arith, Bits, bits_in}
 use Rattle.hayro_ccitt.proofs.BitReading.WindowWords.{holds_on}
 use Rattle.hayro_ccitt.proofs.bit_reader.BitsAtHand.pass.Goals as goal
 
@@ -17,5 +16,6 @@ invariant_of-self c =
       before_end = held.before_end;
       held = λ k h.
           let at : r.limit - r.left + n + k ≡ r.limit - (r.left - n) + k = omega (arith, within, held.some) in
-          holds_on bits (r.limit - r.left) n r.left r.window held.few held.held k (omega (arith, h, within)) ∙ ap (λ (i : ℕ). get_or bits i false) at;
+          holds_on bits (r.limit - r.left) n r.left r.window held.few held.held k (omega (arith, h, within))
+          ∙ ap (λ (i : ℕ). get_or bits i false) at;
     }

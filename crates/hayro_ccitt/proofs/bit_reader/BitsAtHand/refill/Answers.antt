@@ -1,6 +1,5 @@
-use Rattle.std.proofs.Common.{◌≡◌, ◌+◌, ◌-◌, ◌*◌, ◌/◌, ◌%◌, ◌<◌, ℕ, List, false, get_or, ap, ◌∙◌, arith}
-use Rattle.std.proofs.lemmas.List.{take_rest}
-use Rattle.hayro_ccitt.specs.Bits.{Bits, bit_of, bits_in}
+use Rattle.hayro_ccitt.proofs.Names.{◌≡◌, ◌+◌, ◌-◌, ◌*◌, ◌/◌, ◌%◌, ◌<◌, ℕ, List, false, get_or, ap, ◌∙◌, arith, take_rest, Bits}
+use Rattle.hayro_ccitt.proofs.Names.{bit_of, bits_in}
 use Rattle.hayro_ccitt.proofs.BitReading.WindowWords.{filled, bits_in-drop}
 use Rattle.hayro_ccitt.proofs.bit_reader.BitsAtHand.refill.Goals as goal
 
@@ -11,7 +10,8 @@ invariant_of-self c =
     let bits : Bits = bits_in r.order r.«data».now in
     let word = c.whole_word-word.result in
     let fresh : (j : ℕ) → j < 64 → bit_of word (63 - j) ≡ get_or bits (8 * (place / 8) + j) false =
-    λ j lt. c.whole_word-word.ensures j lt ∙ ap (λ (xs : List ℕ). get_or (bits_in r.order xs) j false) (take_rest r.«data».now (place / 8)) ∙ bits_in-drop r.order r.«data».now (place / 8) j in
+    λ j lt. c.whole_word-word.ensures j lt ∙ ap (λ (xs : List ℕ). get_or (bits_in r.order xs) j false)
+    (take_rest r.«data».now (place / 8)) ∙ bits_in-drop r.order r.«data».now (place / 8) j in
     record {
       fit = c.self.invariant.fit;
       some = omega arith;

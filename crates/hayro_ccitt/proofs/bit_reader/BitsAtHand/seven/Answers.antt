@@ -1,9 +1,7 @@
-use Rattle.std.proofs.Common.{arith}
+use Rattle.hayro_ccitt.proofs.Names.{arith, common_steps}
+use Rattle.hayro_ccitt.proofs.{BitReading.BitPlaces.bits_at, BitReading.PeekedBits.first_seven}
 use Rattle.hayro_ccitt.proofs.BitReading.BitLists.{length-bits_in}
-use Rattle.hayro_ccitt.proofs.BitReading.BitPlaces.{bits_at}
-use Rattle.hayro_ccitt.proofs.BitReading.PeekedBits.{first_seven}
 use Rattle.hayro_ccitt.proofs.bit_reader.BitsAtHand.seven.Goals as goal
-use Rattle.std.proofs.lemmas.Grind.{common_steps}
 
 pub returns-clause-bits : goal.returns-clause-bits
 returns-clause-bits c = grind (arith, common_steps, bits_at, first_seven)

@@ -1,12 +1,7 @@
-use Rattle.std.proofs.Common.{◌+◌, ◌-◌, ◌*◌, ◌%◌, ◌^◌, ◌≤◌, arith}
-use Rattle.hayro_ccitt.specs.Bits.{Bits, bits_in}
-use Rattle.hayro_ccitt.specs.Window.{moved}
-use Rattle.hayro_ccitt.proofs.BitReading.BitLists.{length-bits_in}
-use Rattle.hayro_ccitt.proofs.BitReading.BitPlaces.{bits_at}
+use Rattle.hayro_ccitt.proofs.Names.{◌+◌, ◌-◌, ◌*◌, ◌%◌, ◌^◌, ◌≤◌, arith, Bits, bits_in, moved, common_steps}
+use Rattle.hayro_ccitt.proofs.{BitReading.BitLists.length-bits_in, BitReading.BitPlaces.bits_at, BitReading.WindowWords.holds_on}
 use Rattle.hayro_ccitt.proofs.BitReading.PeekedBits.{first_thirteen}
-use Rattle.hayro_ccitt.proofs.BitReading.WindowWords.{holds_on}
 use Rattle.hayro_ccitt.proofs.bit_reader.BitsAtHand.thirteen.Goals as goal
-use Rattle.std.proofs.lemmas.Grind.{common_steps}
 
 pub returns-clause-bits : goal.returns-clause-bits
 returns-clause-bits c =
@@ -14,9 +9,8 @@ returns-clause-bits c =
     let n = c.args.skip in
     let bits : Bits = bits_in r.order r.«data».now in
     let within : n + 13 ≤ r.left = rw (← c.self.view_is) at c.requires.within in
-    rw (← c.self.view_is)
-    (first_thirteen (moved n (bits_at bits (r.limit - r.left))) (r.window * 2 ^ n % 2 ^ 64)
-    (λ k h. holds_on bits (r.limit - r.left) n r.left r.window c.self.invariant.few c.self.invariant.held k (omega (arith, h, within))))
+    rw (← c.self.view_is) (first_thirteen (moved n (bits_at bits (r.limit - r.left))) (r.window * 2 ^ n % 2 ^ 64) (λ k h.
+    holds_on bits (r.limit - r.left) n r.left r.window c.self.invariant.few c.self.invariant.held k (omega (arith, h, within))))
 
 pub returns-clause-there : goal.returns-clause-there
 returns-clause-there c = grind (arith, common_steps, length-bits_in)

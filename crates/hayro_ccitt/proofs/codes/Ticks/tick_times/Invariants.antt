@@ -1,4 +1,4 @@
-use Rattle.std.proofs.Common.{◌≡◌, ◌+◌}
+use Rattle.hayro_ccitt.proofs.Names.{◌≡◌, ◌+◌}
 use Rattle.hayro_ccitt.proofs.codes.Ticks.tick_times.Given as goal
 
 abbrev pub invariant-loop : goal.invariant-loop

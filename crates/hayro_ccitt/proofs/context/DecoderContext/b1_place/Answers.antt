@@ -1,4 +1,4 @@
-use Rattle.std.proofs.Common.{arith}
+use Rattle.hayro_ccitt.proofs.Names.{arith}
 use Rattle.hayro_ccitt.proofs.PixelRows.ChangesAndPixels.{changes-pixels}
 use Rattle.hayro_ccitt.proofs.PixelRows.ReferencePlaces.{row_length, right_of-pixels}
 use Rattle.hayro_ccitt.proofs.context.DecoderContext.b1_place.Goals as goal

@@ -1,5 +1,4 @@
-use Rattle.std.proofs.Common.{◌≡◌, refl}
-use Rattle.hayro_ccitt.specs.declared.codes.Color.TheVariants.{White}
+use Rattle.hayro_ccitt.proofs.Names.{◌≡◌, refl, White}
 use Rattle.hayro_ccitt.proofs.context.DecoderContext.draw_by_twos.Goals as goal
 
 pub returns-clause-drawn : goal.returns-clause-drawn

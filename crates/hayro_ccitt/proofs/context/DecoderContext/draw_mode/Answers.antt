@@ -1,20 +1,16 @@
-use Rattle.std.proofs.Common.{◌≡◌, ℕ, ◌-◌, ◌+ℤ◌, pos, length, ap, subst, ◌∙◌, w8, w32, SFits, to_z, of_z, arith, rules}
-use Rattle.std.proofs.Math.Facts.{to_z-of_z}
-use Rattle.std.proofs.lemmas.Result.{err_from_is_err_and, on_ok_weaker, on_err_weaker}
-use Rattle.hayro_ccitt.specs.declared.error.DecodeError.{DecodeError}
-use Rattle.hayro_ccitt.specs.Answers.{DrawsStep, pen_of}
-use Rattle.hayro_ccitt.specs.Bits.{Bits, here}
-use Rattle.hayro_ccitt.specs.Context.{Context, Held}
+use Rattle.hayro_ccitt.proofs.Names.{◌≡◌, ℕ, ◌-◌, ◌+ℤ◌, pos, length, ap, subst, ◌∙◌, w8, w32, SFits, to_z, of_z, arith, rules}
+use Rattle.hayro_ccitt.proofs.Names.{to_z-of_z, err_from_is_err_and, on_ok_weaker, on_err_weaker, DecodeError, DrawsStep, pen_of}
+use Rattle.hayro_ccitt.proofs.Names.{Bits, here, Context, Held, Turn, right_of, b1, b2, paint}
 use Rattle.hayro_ccitt.proofs.DrawingLines.Drawings.{try}
-use Rattle.hayro_ccitt.specs.Repetition.{Turn}
-use Rattle.hayro_ccitt.specs.Rows.{right_of, b1, b2, paint}
-use Rattle.hayro_ccitt.proofs.DrawingLines.DrawnLines.{IsUnpainted, place_of, some_where, unpainted, pass_draws, vertical_unpainted, first_run_fails, second_run, paint_draws}
+use Rattle.hayro_ccitt.proofs.DrawingLines.DrawnLines.{IsUnpainted, place_of, some_where, unpainted, pass_draws}
+use Rattle.hayro_ccitt.proofs.DrawingLines.DrawnLines.{vertical_unpainted, first_run_fails, second_run, paint_draws}
 use Rattle.hayro_ccitt.proofs.context.DecoderContext.draw_mode.Goals as goal
 
 pub returns-in_err-push_pixels-in-Vertical-clause-step : goal.returns-in_err-push_pixels-in-Vertical-clause-step
 returns-in_err-push_pixels-in-Vertical-clause-step c =
     let e = c.in_err-push_pixels-in-Vertical.ensures in
-    let p = err_from_is_err_and c.from_residual-in_err-push_pixels-in-Vertical.result c.from_residual-in_err-push_pixels-in-Vertical.ensures.1 in
+    let p = err_from_is_err_and c.from_residual-in_err-push_pixels-in-Vertical.result
+    c.from_residual-in_err-push_pixels-in-Vertical.ensures.1 in
     let old : Held = c.args.self.now.held in
     let held : Held = c.b1.new.self.held in
     let place : ℕ = c.in_ok-place-in-Vertical.place in
@@ -22,22 +18,30 @@ returns-in_err-push_pixels-in-Vertical-clause-step c =
     let narrow : SFits w8 c.in-Vertical.offset = search rules in
     let wide : SFits w32 c.from.result = search rules in
     let offset : to_z w32 (of_z w32 c.from.result) ≡ c.in-Vertical.offset = to_z-of_z wide ∙ c.from.ensures ∙ to_z-of_z narrow in
-    let named = place_of (pos c.b1.result +ℤ to_z w32 (of_z w32 c.from.result)) c.checked_add_signed.result place c.checked_add_signed.ensures c.in_ok-place-in-Vertical.ensures.ok_part in
-    let at : pos (b1 old.reference (right_of old.front) old.color) +ℤ c.in-Vertical.offset ≡ pos place = rw (← offset, ← c.b1.ensures.value) named.0 in
-    let counted = some_where c.checked_sub.result c.in_ok-count-in-Vertical.count c.checked_sub.ensures c.in_ok-count-in-Vertical.ensures.ok_part in
-    let painted : c.pixels_painted-in-Vertical.result ≡ length old.front = c.pixels_painted-in-Vertical.ensures ∙ ap (λ (h : Held). length h.front) c.b1.ensures.unchanged in
-    let why : IsUnpainted held c.in_ok-count-in-Vertical.count fault = record { too_many = e.too_many.0; memory = e.memory; only = e.only } in
+    let named = place_of (pos c.b1.result +ℤ to_z w32 (of_z w32 c.from.result)) c.checked_add_signed.result place
+    c.checked_add_signed.ensures c.in_ok-place-in-Vertical.ensures.ok_part in
+    let at : pos (b1 old.reference (right_of old.front) old.color) +ℤ c.in-Vertical.offset ≡ pos place =
+    rw (← offset, ← c.b1.ensures.value) named.0 in
+    let counted = some_where c.checked_sub.result c.in_ok-count-in-Vertical.count c.checked_sub.ensures
+    c.in_ok-count-in-Vertical.ensures.ok_part in
+    let painted : c.pixels_painted-in-Vertical.result ≡ length old.front =
+    c.pixels_painted-in-Vertical.ensures ∙ ap (λ (h : Held). length h.front) c.b1.ensures.unchanged in
+    let why : IsUnpainted held c.in_ok-count-in-Vertical.count fault =
+    record { too_many = e.too_many.0; memory = e.memory; only = e.only } in
     let count : c.in_ok-count-in-Vertical.count ≡ place - length old.front = omega (arith, counted.1, painted) in
-    let why_old : IsUnpainted old (place - length old.front) fault = subst (λ (n : ℕ). IsUnpainted old n fault) count (subst (λ (h : Held). IsUnpainted h c.in_ok-count-in-Vertical.count fault) c.b1.ensures.unchanged why) in
+    let why_old : IsUnpainted old (place - length old.front) fault = subst (λ (n : ℕ). IsUnpainted old n fault) count
+    (subst (λ (h : Held). IsUnpainted h c.in_ok-count-in-Vertical.count fault) c.b1.ensures.unchanged why) in
     rw (c.in-Vertical.is, p.1, p.2)
-    (vertical_unpainted old c.push_pixels-in-Vertical.new.self.held c.in-Vertical.offset place (here c.args.reader.now) fault at named.1 (omega (arith, counted.0, painted)) (ap (λ (x : Context). x.held) e.unchanged ∙ c.b1.ensures.unchanged) why_old)
+    (vertical_unpainted old c.push_pixels-in-Vertical.new.self.held c.in-Vertical.offset place (here c.args.reader.now) fault at
+    named.1 (omega (arith, counted.0, painted)) (ap (λ (x : Context). x.held) e.unchanged ∙ c.b1.ensures.unchanged) why_old)
 
 pub returns-in_err-draw_run-in-Horizontal-clause-step : goal.returns-in_err-draw_run-in-Horizontal-clause-step
 returns-in_err-draw_run-in-Horizontal-clause-step c =
-    let p = err_from_is_err_and c.from_residual-in_err-draw_run-in-Horizontal.result c.from_residual-in_err-draw_run-in-Horizontal.ensures.1 in
+    let p = err_from_is_err_and c.from_residual-in_err-draw_run-in-Horizontal.result
+    c.from_residual-in_err-draw_run-in-Horizontal.ensures.1 in
     let held : Held = c.args.self.now.held in
-    rw (c.in-Horizontal.is, p.1, p.2)
-    (first_run_fails held (here c.args.reader.now) (pen_of c.draw_run.new.self.held (here c.draw_run.new.reader)) c.in_err-draw_run-in-Horizontal.field-0.0 c.in_err-draw_run-in-Horizontal.ensures.step)
+    rw (c.in-Horizontal.is, p.1, p.2) (first_run_fails held (here c.args.reader.now) (pen_of c.draw_run.new.self.held
+    (here c.draw_run.new.reader)) c.in_err-draw_run-in-Horizontal.field-0.0 c.in_err-draw_run-in-Horizontal.ensures.step)
 
 pub returns-in-Pass-clause-step : goal.returns-in-Pass-clause-step
 returns-in-Pass-clause-step c =
@@ -48,15 +52,19 @@ returns-in-Pass-clause-step c =
     let rest : Bits = here c.args.reader.now in
     let new : Held = c.push_pixels.new.self.held in
     let count : ℕ = c.b2-b2.result - c.pixels_painted.result in
-    let painted : c.pixels_painted.result ≡ length old.front = c.pixels_painted.ensures ∙ ap (λ (h : Held). length h.front) b.unchanged in
+    let painted : c.pixels_painted.result ≡ length old.front =
+    c.pixels_painted.ensures ∙ ap (λ (h : Held). length h.front) b.unchanged in
     let counted : count ≡ b2 old.reference (right_of old.front) old.color - length old.front = omega (arith, b.value, painted) in
-    let draws : DrawsStep (try held.front (paint held.settings.strict held.settings.columns held.front held.color count) (λ front. Turn.next (record (pen_of held rest) { front = front }))) c.push_pixels.result (pen_of new rest)
-    = paint_draws held new count rest c.push_pixels.result d.painted (on_ok_weaker c.push_pixels.result (ap (λ (x : Context). x.held)) d.frame) (on_err_weaker c.push_pixels.result (ap (λ (x : Context). x.held)) d.unchanged) (λ e is. unpainted held count c.push_pixels.result e is d.too_many d.memory d.only) in
+    let draws : DrawsStep (try held.front (paint held.settings.strict held.settings.columns held.front held.color count)
+    (λ front. Turn.next (record (pen_of held rest) { front = front }))) c.push_pixels.result (pen_of new rest) = paint_draws
+    held new count rest c.push_pixels.result d.painted (on_ok_weaker c.push_pixels.result (ap (λ (x : Context). x.held)) d.frame)
+    (on_err_weaker c.push_pixels.result (ap (λ (x : Context). x.held)) d.unchanged)
+    (λ e is. unpainted held count c.push_pixels.result e is d.too_many d.memory d.only) in
     rw c.in-Pass.is (pass_draws old held new count rest c.push_pixels.result b.unchanged counted draws)
 
 pub returns-in_ok-draw_run-in-Horizontal-clause-step : goal.returns-in_ok-draw_run-in-Horizontal-clause-step
 returns-in_ok-draw_run-in-Horizontal-clause-step c =
     let a = c.in_ok-draw_run-in-Horizontal.ensures in
-    rw (c.in-Horizontal.is)
-    (second_run c.args.self.now.held c.draw_run.new.self.held (here c.args.reader.now) (here c.draw_run.new.reader) c.draw_run-in-Horizontal.result
-    (pen_of c.draw_run-in-Horizontal.new.self.held (here c.draw_run-in-Horizontal.new.reader)) a.step a.held c.draw_run-in-Horizontal.ensures.step)
+    rw (c.in-Horizontal.is) (second_run c.args.self.now.held c.draw_run.new.self.held (here c.args.reader.now)
+    (here c.draw_run.new.reader) c.draw_run-in-Horizontal.result (pen_of c.draw_run-in-Horizontal.new.self.held
+    (here c.draw_run-in-Horizontal.new.reader)) a.step a.held c.draw_run-in-Horizontal.ensures.step)

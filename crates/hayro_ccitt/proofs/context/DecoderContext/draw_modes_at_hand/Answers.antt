@@ -1,6 +1,4 @@
-use Rattle.std.proofs.Common.{◌≡◌, ◌<◌, [], arith}
-use Rattle.hayro_ccitt.specs.declared.codes.Color.TheVariants.{White}
-use Rattle.hayro_ccitt.specs.Rows.{pixels}
+use Rattle.hayro_ccitt.proofs.Names.{◌≡◌, ◌<◌, [], arith, White, pixels}
 use Rattle.hayro_ccitt.proofs.DrawingLines.UsualModes.{empty_row, none_painted_yet, are_passed}
 use Rattle.hayro_ccitt.proofs.PixelRows.ChangesAndPixels.{changes-pixels}
 use Rattle.hayro_ccitt.proofs.context.DecoderContext.draw_modes_at_hand.Goals as goal
@@ -29,7 +27,8 @@ returns-clause-drawn c =
     let none : s.pixels_decoded ≡ 0 = none_painted_yet s.pixels_decoded s.coding_changes.items c.self.invariant.front front in
     let white : s.color ≡ White = rw (← c.self.view_is) at c.requires.white in
     let passed : s.passed ≡ 0 = rw (← c.self.view_is) at c.requires.none in
-    rw (← c.self.view_is, none, white, passed, c.lay_down_row.ensures.same, c.saturating_sub-self-inside.ensures) (rw c.as_slice.ensures.value at c.draw_modes-place.ensures.drawn)
+    rw (← c.self.view_is, none, white, passed, c.lay_down_row.ensures.same, c.saturating_sub-self-inside.ensures)
+    (rw c.as_slice.ensures.value at c.draw_modes-place.ensures.drawn)
 
 pub returns-clause-within : goal.returns-clause-within
 returns-clause-within c =
@@ -37,4 +36,5 @@ returns-clause-within c =
     let stroke = rw c.as_slice.ensures.value at c.draw_modes-place.ensures.stroke in
     let some : 0 < s.settings.columns = omega (arith, c.if-self-eq0.false) in
     let listed = changes-pixels s.settings.columns s.ref_changes.items c.self.invariant.reference in
-    rw (← c.self.view_is, listed, c.saturating_sub-self-inside.ensures) (are_passed _ _ _ _ _ _ some c.self.invariant.reference stroke).within
+    rw (← c.self.view_is, listed, c.saturating_sub-self-inside.ensures)
+    (are_passed _ _ _ _ _ _ some c.self.invariant.reference stroke).within

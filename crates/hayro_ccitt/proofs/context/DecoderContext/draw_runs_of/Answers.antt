@@ -1,6 +1,4 @@
-use Rattle.std.proofs.Common.{◌≡◌, ◌≤◌, ℕ, length, drop, ap, sym, subst, ◌∙◌}
-use Rattle.hayro_ccitt.specs.Bits.{Bits, BitsAt, here}
-use Rattle.hayro_ccitt.specs.Window.{AtHand}
+use Rattle.hayro_ccitt.proofs.Names.{◌≡◌, ◌≤◌, ℕ, length, drop, ap, sym, subst, ◌∙◌, Bits, BitsAt, here, AtHand}
 use Rattle.hayro_ccitt.proofs.context.DecoderContext.draw_runs_of.Goals as goal
 
 pub go_to-requires : goal.go_to-requires
@@ -25,7 +23,6 @@ returns-in-Some-at_hand-clause-drawn c =
     let same : c.in-Some-at_hand.hand.at ≡ c.args.reader.now = ap (λ (h : AtHand). h.at) c.in-Some-at_hand.ensures.same in
     let bits : hand.at.bits ≡ c.args.reader.now.bits
     = c.draw_by_twos-in-Some-at_hand.ensures.same_bits ∙ ap (λ (at : BitsAt). at.bits) same in
-    let there : here c.go_to-in-Some-at_hand.new.self ≡ here hand.at
-    = ap here c.go_to-in-Some-at_hand.ensures ∙ ap (λ (n : ℕ). drop n c.args.reader.now.bits) c.bit_pos-in-Some-at_hand.ensures.place
-    ∙ ap (λ (b : Bits). drop hand.at.place b) (sym bits) in
+    let there : here c.go_to-in-Some-at_hand.new.self ≡ here hand.at = ap here c.go_to-in-Some-at_hand.ensures ∙ ap (λ (n : ℕ).
+    drop n c.args.reader.now.bits) c.bit_pos-in-Some-at_hand.ensures.place ∙ ap (λ (b : Bits). drop hand.at.place b) (sym bits) in
     rw (there, ← same) c.draw_by_twos-in-Some-at_hand.ensures.drawn

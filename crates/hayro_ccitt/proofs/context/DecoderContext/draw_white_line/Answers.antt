@@ -1,7 +1,5 @@
-use Rattle.std.proofs.Common.{◌≡◌, [], refl, arith}
-use Rattle.hayro_ccitt.specs.declared.codes.Color.TheVariants.{White}
+use Rattle.hayro_ccitt.proofs.Names.{◌≡◌, [], refl, arith, White, pixels}
 use Rattle.hayro_ccitt.proofs.DrawingLines.UsualModes.{empty_row, none_painted_yet, white_line}
-use Rattle.hayro_ccitt.specs.Rows.{pixels}
 use Rattle.hayro_ccitt.proofs.PixelRows.ChangesAndPixels.{AreChanges-wider}
 use Rattle.hayro_ccitt.proofs.context.DecoderContext.draw_white_line.Goals as goal
 
@@ -11,7 +9,8 @@ invariant_of-self c =
     let passed : s.passed ≡ 0 = rw (← c.self.view_is) at c.requires.none in
     record {
       reference = c.self.invariant.reference;
-      front = AreChanges-wider s.pixels_decoded s.settings.columns s.coding_changes.items c.self.invariant.within c.self.invariant.front;
+      front = AreChanges-wider s.pixels_decoded s.settings.columns s.coding_changes.items c.self.invariant.within
+          c.self.invariant.front;
       within = omega arith;
       passed = record { none = λ e. passed; within = omega (arith, passed); left = λ k lt. absurd (omega (arith, lt, passed)) };
     }
@@ -26,4 +25,5 @@ returns-clause-drawn c =
     let passed : s.passed ≡ 0 = rw (← c.self.view_is) at c.requires.none in
     let row : s.ref_changes.items ≡ [] = c.if-not-is_white_row.ensures refl in
     λ e. rw (← c.self.view_is, none, white, passed, empty, row, c.if-not-pass_v0.ensures.passed refl)
-    (white_line s.settings.strict s.settings.columns c.args.reader.now s.ticks _ (omega (arith, c.if-columns-eq0.false)) (omega arith) (c.if-not-pass_v0.ensures.mode refl) (omega arith))
+    (white_line s.settings.strict s.settings.columns c.args.reader.now s.ticks _ (omega (arith, c.if-columns-eq0.false))
+    (omega arith) (c.if-not-pass_v0.ensures.mode refl) (omega arith))

@@ -1,5 +1,4 @@
-use Rattle.std.proofs.Common.{◌≡◌, ◌≢◌, ◌+◌, ◌-◌, Bool, true, false, Err, refl, sym, ap, ◌∙◌, arith}
-use Rattle.std.proofs.lemmas.Result.{err_from_is_err_and}
+use Rattle.hayro_ccitt.proofs.Names.{◌≡◌, ◌≢◌, ◌+◌, ◌-◌, Bool, true, false, Err, refl, sym, ap, ◌∙◌, arith, err_from_is_err_and}
 use Rattle.hayro_ccitt.proofs.PixelRows.ChangesAndPixels.{length-pixels}
 use Rattle.hayro_ccitt.proofs.context.DecoderContext.fill_white.Goals as goal
 
@@ -21,6 +20,7 @@ pub returns-clause-frame : goal.returns-clause-frame
 returns-clause-frame c =
     let s = c.self.inside in
     let front = length-pixels s.pixels_decoded s.coding_changes.items c.self.invariant.front in
-    let whole : s.pixels_decoded + (s.settings.columns - s.pixels_decoded) ≡ s.settings.columns = omega (arith, c.self.invariant.within) in
+    let whole : s.pixels_decoded + (s.settings.columns - s.pixels_decoded) ≡ s.settings.columns =
+    omega (arith, c.self.invariant.within) in
     let painted = rw whole at c.in_ok-append_pixels.ensures.painted in
     rw (← c.self.view_is, front, painted) refl

@@ -1,5 +1,4 @@
-use Rattle.std.proofs.Common.{sym, ◌∙◌}
-use Rattle.std.proofs.lemmas.Bool.{false≢true}
+use Rattle.hayro_ccitt.proofs.Names.{sym, ◌∙◌, false≢true}
 use Rattle.hayro_ccitt.proofs.context.DecoderContext.pass_run.Goals.{in-Ok, in-Err}
 use Rattle.hayro_ccitt.proofs.context.DecoderContext.pass_run.Goals as goal
 

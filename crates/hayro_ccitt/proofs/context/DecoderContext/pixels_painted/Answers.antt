@@ -1,4 +1,4 @@
-use Rattle.std.proofs.Common.{sym}
+use Rattle.hayro_ccitt.proofs.Names.{sym}
 use Rattle.hayro_ccitt.proofs.PixelRows.ChangesAndPixels.{length-pixels}
 use Rattle.hayro_ccitt.proofs.context.DecoderContext.pixels_painted.Goals as goal
 

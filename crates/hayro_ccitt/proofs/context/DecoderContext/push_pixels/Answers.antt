@@ -1,9 +1,9 @@
-use Rattle.std.proofs.Common.{◌≡◌, ℕ, ◌≤◌, ◌-◌, ◌⊎◌, inl, inr, min, false, ◌++◌, replicate, Ok, Err, refl, sym, ap, ◌∙◌, arith}
-use Rattle.std.proofs.lemmas.Result.{err_from_is_err_and}
-use Rattle.hayro_ccitt.specs.Rows.{Row, is_black, paint, pixels}
-use Rattle.hayro_ccitt.specs.ContextView.{context_of}
+use Rattle.hayro_ccitt.proofs.Names.{◌≡◌, ℕ, ◌≤◌, ◌-◌, ◌⊎◌, inl, inr, min, false, ◌++◌, replicate, Ok, Err, refl, sym, ap, ◌∙◌}
+use Rattle.hayro_ccitt.proofs.Names.{arith, err_from_is_err_and, Row, is_black, paint, pixels, context_of}
 use Rattle.hayro_ccitt.proofs.PixelRows.Painting.{paint-strict, paint-fits, StoresChange-painted}
-use Rattle.hayro_ccitt.proofs.context.DecoderContext.push_pixels.Goals.{After-append_pixels, else-fitting-count-via-then-fitting-count+else-self, else-fitting-count-via-else-fitting-count}
+use Rattle.hayro_ccitt.proofs.context.DecoderContext.push_pixels.Goals.{After-append_pixels}
+use Rattle.hayro_ccitt.proofs.context.DecoderContext.push_pixels.Goals.{else-fitting-count-via-then-fitting-count+else-self}
+use Rattle.hayro_ccitt.proofs.context.DecoderContext.push_pixels.Goals.{else-fitting-count-via-else-fitting-count}
 use Rattle.hayro_ccitt.proofs.context.DecoderContext.push_pixels.Goals as goal
 
 -- what is appended is what the rule paints
@@ -22,12 +22,14 @@ module _ (c : After-append_pixels) where
         | else-fitting-count-via-then-fitting-count+else-self w ↦ inl w.if-self.false
         | else-fitting-count-via-else-fitting-count w ↦ inr (omega (arith, w.if-fitting-count.false, c.min-fitting.ensures))
       ] in
-      paint-fits s.settings.strict s.settings.columns s.pixels_decoded s.coding_changes.items s.color c.args.count c.self.invariant.front fits
+      paint-fits s.settings.strict s.settings.columns s.pixels_decoded s.coding_changes.items s.color c.args.count
+      c.self.invariant.front fits
 
 pub returns-then-self-clause-too_many : goal.returns-then-self-clause-too_many
 returns-then-self-clause-too_many c =
     let s = c.self.inside in
-    let wrong = paint-strict s.settings.strict s.settings.columns _ _ s.color c.args.count c.self.invariant.front c.if-self.true (omega (arith, c.if-fitting-count.true, c.min-fitting.ensures)) in
+    let wrong = paint-strict s.settings.strict s.settings.columns _ _ s.color c.args.count c.self.invariant.front c.if-self.true
+    (omega (arith, c.if-fitting-count.true, c.min-fitting.ensures)) in
     rw (← c.self.view_is) (λ e. wrong, λ e. refl)
 
 pub returns-in_err-append_pixels-clause-too_many : goal.returns-in_err-append_pixels-clause-too_many

@@ -1,5 +1,4 @@
-use Rattle.hayro_ccitt.proofs.PixelRows.ChangesAndPixels.{changes-pixels}
-use Rattle.hayro_ccitt.proofs.PixelRows.ReferencePlaces.{row_length}
+use Rattle.hayro_ccitt.proofs.{PixelRows.ChangesAndPixels.changes-pixels, PixelRows.ReferencePlaces.row_length}
 use Rattle.hayro_ccitt.proofs.context.DecoderContext.reference_row.Goals as goal
 
 pub returns-clause-changes : goal.returns-clause-changes

@@ -1,4 +1,4 @@
-use Rattle.std.proofs.Common.{arith}
+use Rattle.hayro_ccitt.proofs.Names.{arith}
 use Rattle.hayro_ccitt.proofs.context.DecoderContext.settings.Goals as goal
 
 pub returns-clause-fit : goal.returns-clause-fit

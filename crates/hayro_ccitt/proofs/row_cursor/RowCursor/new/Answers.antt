@@ -1,8 +1,4 @@
-use Rattle.std.proofs.Common.{ap, subst}
-use Rattle.hayro_ccitt.specs.declared.settings.DecodeSettings.{DecodeSettings}
-use Rattle.hayro_ccitt.specs.Bits.{Bits, BitsAt}
-use Rattle.hayro_ccitt.specs.Context.{Context}
-use Rattle.hayro_ccitt.specs.Work.{CountsWork}
+use Rattle.hayro_ccitt.proofs.Names.{ap, subst, DecodeSettings, Bits, BitsAt, Context, CountsWork}
 use Rattle.hayro_ccitt.proofs.Work.CallsPaid.{begun_is_counted}
 use Rattle.hayro_ccitt.proofs.row_cursor.RowCursor.new.Goals as goal
 

@@ -1,4 +1,4 @@
-use Rattle.std.proofs.Common.{◌∙◌}
+use Rattle.hayro_ccitt.proofs.Names.{◌∙◌}
 use Rattle.hayro_ccitt.proofs.Readings.RowByRow.{missed_told}
 use Rattle.hayro_ccitt.proofs.row_reader.RowReader.missed_eols.Goals as goal
 

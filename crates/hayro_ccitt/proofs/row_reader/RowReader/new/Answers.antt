@@ -1,7 +1,4 @@
-use Rattle.std.proofs.Common.{sym, subst}
-use Rattle.hayro_ccitt.specs.declared.settings.DecodeSettings.{DecodeSettings}
-use Rattle.hayro_ccitt.specs.Bits.{Bits}
-use Rattle.hayro_ccitt.specs.Work.{CountsWork}
+use Rattle.hayro_ccitt.proofs.Names.{sym, subst, DecodeSettings, Bits, CountsWork}
 use Rattle.hayro_ccitt.proofs.Work.CallsPaid.{begun_is_counted}
 use Rattle.hayro_ccitt.proofs.row_reader.RowReader.new.Goals as goal
 

@@ -1,26 +1,18 @@
-use Rattle.std.specs.Prelude.{OnErr, OnOk, IfOk, Ok, Err, sum_by}
-use Rattle.std.proofs.Common.{ℕ, ◌+◌, ◌-◌, ◌*◌, ◌≤◌, take, length-drop, ◌≡◌, ◌∙◌, Bool, Result, length, drop, ap, sym, subst, arith, refl}
-use Rattle.std.proofs.lemmas.Result.{IfErr-weaker}
-use Rattle.hayro_ccitt.specs.declared.error.DecodeError.{DecodeError}
-use Rattle.hayro_ccitt.specs.declared.row_reader.Stand.{Stand}
-use Rattle.hayro_ccitt.specs.declared.settings.DecodeSettings.{DecodeSettings}
-use Rattle.hayro_ccitt.specs.Bits.{Bits, here}
-use Rattle.hayro_ccitt.specs.Context.{Held, Repairs}
-use Rattle.hayro_ccitt.specs.Decoding.{gap_said}
-use Rattle.hayro_ccitt.specs.PlainReading.{gap_behind_row, failed_at}
-use Rattle.hayro_ccitt.specs.RowsRead.{ComesToLine, Stands, read_so_far, start_after, stand_after}
-use Rattle.hayro_ccitt.specs.RowsRead.{IsStanding, DamageIsCounted, WorkIsPaid, seen}
-use Rattle.hayro_ccitt.specs.Ticks.{looked_ahead, tag_tests}
-use Rattle.hayro_ccitt.specs.Work.{words_of}
-use Rattle.hayro_ccitt.proofs.Readings.DamageCounted.{repaired_behind}
-use Rattle.hayro_ccitt.proofs.Readings.RowByRow.{starts_behind, behind_row_stands, damage_stays, misses_behind_row, misses_passed, misses_after, gap_stands, comes_to_line}
-use Rattle.hayro_ccitt.proofs.Work.CallsPaid.{behind_row_paid, gap_paid}
+use Rattle.hayro_ccitt.proofs.Names.{OnErr, OnOk, IfOk, Ok, Err, sum_by, ℕ, ◌+◌, ◌-◌, ◌*◌, ◌≤◌, take, length-drop, ◌≡◌, ◌∙◌, Bool}
+use Rattle.hayro_ccitt.proofs.Names.{Result, length, drop, ap, sym, subst, arith, refl, IfErr-weaker, DecodeError, Stand}
+use Rattle.hayro_ccitt.proofs.Names.{DecodeSettings, Bits, here, Held, Repairs, gap_said, gap_behind_row, failed_at}
+use Rattle.hayro_ccitt.proofs.Names.{ReachesNextLine, ReaderStands, read_so_far, start_after, stand_after, IsStanding}
+use Rattle.hayro_ccitt.proofs.Names.{DamageIsCounted, WorkIsPaid, seen, looked_ahead, tag_tests, words_of}
+use Rattle.hayro_ccitt.proofs.{Readings.DamageCounted.repaired_behind, Work.CallsPaid.behind_row_paid, Work.CallsPaid.gap_paid}
+use Rattle.hayro_ccitt.proofs.{row_reader.RowState.come_to_line.Goals.After-line_after_gap}
+use Rattle.hayro_ccitt.proofs.Readings.RowByRow.{starts_behind, behind_row_stands, damage_stays, misses_behind_row, misses_passed}
+use Rattle.hayro_ccitt.proofs.Readings.RowByRow.{misses_after, gap_stands, comes_to_line}
 use Rattle.hayro_ccitt.proofs.row_reader.RowState.come_to_line.Goals as goal
-use Rattle.hayro_ccitt.proofs.row_reader.RowState.come_to_line.Goals.{After-line_after_gap}
 
 -- where the reading is after the gap
 passed : (c : After-line_after_gap) → IsStanding c.args.self.now c.args.reader.now
-    → Stands (stand_after c.pass_gap-over.result) c.args.self.now.ctx.held.settings c.args.reader.now.bits c.pass_gap-over.new.ctx.held c.pass_gap-over.new.reader.place
+    → ReaderStands (stand_after c.pass_gap-over.result) c.args.self.now.ctx.held.settings c.args.reader.now.bits
+    c.pass_gap-over.new.ctx.held c.pass_gap-over.new.reader.place
 passed c stands =
     let rows = c.args.self.now in
     let held = rows.ctx.held in
@@ -29,8 +21,8 @@ passed c stands =
     let at = c.pass_gap-over.new.reader in
     let behind = behind_row_stands rows.stand held.settings bits held c.args.reader.now.place c.requires
     (sym c.is_at_line.ensures ∙ c.if-is_at_line.false) stands.0 in
-    let said = subst (λ (b : Bits). gap_behind_row held.settings held.taken held.has_eols (here c.args.reader.now)
-    ≡ gap_said c.pass_gap-over.result last.has_eols (drop at.place b)) c.pass_gap-over.ensures.same_bits c.pass_gap-over.ensures.gap in
+    let said = subst (λ (b : Bits). gap_behind_row held.settings held.taken held.has_eols (here c.args.reader.now) ≡ gap_said
+    c.pass_gap-over.result last.has_eols (drop at.place b)) c.pass_gap-over.ensures.same_bits c.pass_gap-over.ensures.gap in
     gap_stands held.settings bits held (here c.args.reader.now) behind last at.place
     (omega (arith, c.bit_pos-place.ensures.place, c.bit_pos-place.ensures.within, ap length c.pass_gap-over.ensures.same_bits))
     c.pass_gap-over.ensures.held c.pass_gap-over.result said
@@ -51,8 +43,7 @@ started c stands =
     let said = subst (λ (b : Bits). gap_behind_row held.settings held.taken held.has_eols (here c.args.reader.now)
     ≡ gap_said c.pass_gap-over.result last.has_eols (drop at.place b)) c.pass_gap-over.ensures.same_bits
     c.pass_gap-over.ensures.gap in
-    let gap_start : c.bit_pos-gap_start.result ≡ length bits - length (here c.args.reader.now)
-    = omega (
+    let gap_start : c.bit_pos-gap_start.result ≡ length bits - length (here c.args.reader.now) = omega (
       arith,
       c.bit_pos-gap_start.ensures.place,
       c.bit_pos-gap_start.ensures.within,
@@ -124,14 +115,16 @@ returns-clause-stands c stands =
     let stand = c.args.self.now.stand in
     let taken = ap (λ (h : Held). h.taken) c.pass_gap-over.ensures.held in
     let no_line = sym c.is_at_line.ensures ∙ c.if-is_at_line.false in
-    let missed = misses_passed settings bits held (here c.args.reader.now) (behind_row_stands stand settings bits held c.args.reader.now.place c.requires no_line stands.0)
+    let missed = misses_passed settings bits held
+    (here c.args.reader.now) (behind_row_stands stand settings bits held c.args.reader.now.place c.requires no_line stands.0)
     (misses_behind_row stand settings bits held c.requires no_line stands.1.misses) last c.pass_gap-over.ensures.missed taken in
-    let counted = damage_stays stand (stand_after c.pass_gap-over.result) settings last.settings bits at.bits held last same c.pass_gap-over.ensures.same_bits taken
-    (ap (λ (r : Repairs). r.rows) c.pass_gap-over.ensures.missed ∙ (repaired_behind held (here c.args.reader.now)).0) stands.1
-    (misses_after c.pass_gap-over.result settings bits last missed) in (
-      subst (λ (s : Stand). Stands s last.settings at.bits last at.place) (sym c.stand_after_gap-self.ensures)
-          (subst (λ (s : DecodeSettings). Stands (stand_after c.pass_gap-over.result) s at.bits last at.place) (sym same)
-          (subst (λ (b : Bits). Stands (stand_after c.pass_gap-over.result) settings b last at.place) (sym c.pass_gap-over.ensures.same_bits) (passed c stands))),
+    let counted = damage_stays stand (stand_after c.pass_gap-over.result) settings last.settings bits at.bits held last same
+    c.pass_gap-over.ensures.same_bits taken (ap (λ (r : Repairs). r.rows) c.pass_gap-over.ensures.missed ∙ (repaired_behind held
+    (here c.args.reader.now)).0) stands.1 (misses_after c.pass_gap-over.result settings bits last missed) in (
+      subst (λ (s : Stand). ReaderStands s last.settings at.bits last at.place) (sym c.stand_after_gap-self.ensures)
+          (subst (λ (s : DecodeSettings). ReaderStands (stand_after c.pass_gap-over.result) s at.bits last at.place) (sym same)
+          (subst (λ (b : Bits). ReaderStands (stand_after c.pass_gap-over.result) settings b last at.place)
+          (sym c.pass_gap-over.ensures.same_bits) (passed c stands))),
       subst (λ (s : Stand). DamageIsCounted s last.settings at.bits last) (sym c.stand_after_gap-self.ensures) counted,
       subst (λ (s : Stand). WorkIsPaid s last.settings at.bits last at.place c.pass_gap-over.new.ctx.ticks)
           (sym c.stand_after_gap-self.ensures)
@@ -151,12 +144,9 @@ returns-clause-comes c stands =
     let settings : last.settings ≡ rows.ctx.held.settings = ap (λ (h : Held). h.settings) c.pass_gap-over.ensures.held in
     let taken : last.taken ≡ rows.ctx.held.taken = ap (λ (h : Held). h.taken) c.pass_gap-over.ensures.held in
     let start = c.start_after_gap-self.result in
-    subst (λ (s : Stand). ComesToLine old (read_so_far last c.pass_gap-over.new.ctx.ticks at start rows.damage s)
-    c.line_after_gap.result)
-    (sym c.stand_after_gap-self.ensures)
-    (subst (λ (r : Result Bool DecodeError). ComesToLine old (read_so_far last c.pass_gap-over.new.ctx.ticks at start rows.damage
-    (stand_after c.pass_gap-over.result)) r) (sym c.line_after_gap.ensures)
-    (comes_to_line old last c.pass_gap-over.new.ctx.ticks at start rows.damage c.pass_gap-over.result settings
-    c.pass_gap-over.ensures.same_bits taken c.pass_gap-over.ensures.counts
-    (ap (λ (h : Held). h.reference) c.pass_gap-over.ensures.held, refl) (start_stays c)
-    (passed c stands) (started c stands)))
+    subst (λ (s : Stand). ReachesNextLine old (read_so_far last c.pass_gap-over.new.ctx.ticks at start rows.damage s)
+    c.line_after_gap.result) (sym c.stand_after_gap-self.ensures) (subst (λ (r : Result Bool DecodeError). ReachesNextLine old
+    (read_so_far last c.pass_gap-over.new.ctx.ticks at start rows.damage (stand_after c.pass_gap-over.result)) r)
+    (sym c.line_after_gap.ensures) (comes_to_line old last c.pass_gap-over.new.ctx.ticks
+    at start rows.damage c.pass_gap-over.result settings c.pass_gap-over.ensures.same_bits taken c.pass_gap-over.ensures.counts
+    (ap (λ (h : Held). h.reference) c.pass_gap-over.ensures.held, refl) (start_stays c) (passed c stands) (started c stands)))

@@ -1,8 +1,5 @@
-use Rattle.std.proofs.Common.{◌≡◌, ◌∙◌, Bool, Result, Ok, true, sym, subst, ap}
-use Rattle.std.proofs.lemmas.Bool.{false≢true}
-use Rattle.hayro_ccitt.specs.declared.error.DecodeError.{DecodeError}
-use Rattle.hayro_ccitt.specs.Bits.{here}
-use Rattle.hayro_ccitt.specs.RowsRead.{ComesToLine, seen}
+use Rattle.hayro_ccitt.proofs.Names.{◌≡◌, ◌∙◌, Bool, Result, Ok, true, sym, subst, ap, false≢true, DecodeError, here}
+use Rattle.hayro_ccitt.proofs.Names.{ReachesNextLine, seen}
 use Rattle.hayro_ccitt.proofs.Readings.RowByRow.{at_line_stands, few, reads_on}
 use Rattle.hayro_ccitt.proofs.row_reader.RowState.next_row.Goals as goal
 
@@ -14,8 +11,10 @@ returns-then-not-has_room-clause-reads c stands =
     let held = rows.ctx.held in
     let line : c.come_to_line.result ≡ Ok true = c.in_ok-come_to_line.was ∙ ap (λ (b : Bool). Ok b) c.if-not-branch.false in
     let still = c.come_to_line.ensures.stands stands in
-    let at_line = at_line_stands rows.stand held.settings reader.bits held reader.place ((c.come_to_line.ensures.comes stands).line line) still.0 in
-    absurd (false≢true (sym c.if-not-has_room.true ∙ c.has_room.ensures.room (few held.settings reader.bits held (here reader) at_line) still.1.few))
+    let at_line = at_line_stands rows.stand held.settings reader.bits held reader.place
+    ((c.come_to_line.ensures.comes stands).line line) still.0 in
+    absurd (false≢true
+    (sym c.if-not-has_room.true ∙ c.has_room.ensures.room (few held.settings reader.bits held (here reader) at_line) still.1.few))
 
 pub returns-clause-reads : goal.returns-clause-reads
 returns-clause-reads c stands =
@@ -24,6 +23,6 @@ returns-clause-reads c stands =
     let still = c.come_to_line.ensures.stands stands in
     reads_on (seen c.args.self.now c.args.reader.now) (seen c.come_to_line.new.self c.come_to_line.new.reader)
     (seen c.read_line.new.self c.read_line.new.reader) c.read_line.result
-    (subst (λ (r : Result Bool DecodeError). ComesToLine (seen c.args.self.now c.args.reader.now)
+    (subst (λ (r : Result Bool DecodeError). ReachesNextLine (seen c.args.self.now c.args.reader.now)
     (seen c.come_to_line.new.self c.come_to_line.new.reader) r) line comes)
     (c.read_line.ensures.reads (comes.line line, still))

@@ -1,21 +1,13 @@
-use Rattle.std.specs.Prelude.{sum_by}
-use Rattle.std.proofs.Common.{◌≡◌, ◌∙◌, ◌-◌, ℕ, [], ◌≤◌, take, Result, Ok, ap, sym, subst, refl, length, drop, arith}
-use Rattle.std.proofs.lemmas.List.{length-drop}
-use Rattle.hayro_ccitt.specs.declared.codes.Color.TheVariants.{White}
-use Rattle.hayro_ccitt.specs.declared.settings.DecodeSettings.{DecodeSettings}
-use Rattle.hayro_ccitt.specs.Bits.{Bits, here}
-use Rattle.hayro_ccitt.specs.Context.{Context, Held, Repairs, redrawn}
-use Rattle.hayro_ccitt.specs.declared.error.DecodeError.{DecodeError}
-use Rattle.hayro_ccitt.specs.PlainReading.{line_here, row_of_line}
-use Rattle.hayro_ccitt.specs.Rows.{Row, changes}
-use Rattle.hayro_ccitt.specs.RowsRead.{StandsAtLine, StandsBehindRow, HasFailed, damage_since}
-use Rattle.hayro_ccitt.specs.RowsRead.{IsStandingAtLine, MissesAreCounted, WorkIsPaid}
-use Rattle.hayro_ccitt.specs.Work.{found_here, words_of}
-use Rattle.hayro_ccitt.specs.declared.row_reader.Stand.TheVariants.{BehindRow, AtFault}
-use Rattle.hayro_ccitt.proofs.Readings.RowByRow.{IsRead, at_line_stands, fails_at_line, damage_stays, misses_at_line, is_read, isnt_read}
+use Rattle.hayro_ccitt.proofs.Names.{sum_by, ◌≡◌, ◌∙◌, ◌-◌, ℕ, [], ◌≤◌, take, Result, Ok, ap, sym, subst, refl, length, drop}
+use Rattle.hayro_ccitt.proofs.Names.{arith, length-drop, White, DecodeSettings, Bits, here, Context, Held, Repairs, redrawn}
+use Rattle.hayro_ccitt.proofs.Names.{DecodeError, line_here, row_of_line, Row, changes, StandsAtLine, StandsBehindRow, HasFailed}
+use Rattle.hayro_ccitt.proofs.Names.{damage_since, IsStandingAtLine, MissesAreCounted, WorkIsPaid, found_here, words_of}
+use Rattle.hayro_ccitt.proofs.Names.{BehindRow, AtFault}
+use Rattle.hayro_ccitt.proofs.Readings.RowByRow.{IsRead, at_line_stands, fails_at_line, damage_stays, misses_at_line, is_read}
+use Rattle.hayro_ccitt.proofs.Readings.RowByRow.{isnt_read}
 use Rattle.hayro_ccitt.proofs.Work.CallsPaid.{at_line_paid, failed_most}
-use Rattle.hayro_ccitt.proofs.row_reader.RowState.read_line.Goals as goal
 use Rattle.hayro_ccitt.proofs.row_reader.RowState.read_line.Goals.{After-self-in-Ok-2-1, After-self-in-Err-1}
+use Rattle.hayro_ccitt.proofs.row_reader.RowState.read_line.Goals as goal
 
 -- the offset of the bits after a position
 line_start_of : (place : ℕ) (bits : Bits) (result : ℕ) → result ≡ place → result ≤ length bits
@@ -38,10 +30,11 @@ row_was_read c at =
     let bits = c.args.reader.now.bits in
     let rest = here c.args.reader.now in
     let stands = at_line_stands rows.stand held.settings bits held c.args.reader.now.place at.0 at.1.0 in
-    let same = begun_is held.settings bits held rest stands c.begin_line.new.self (ap (λ (x : Context). x.held) c.begin_line.ensures.frame) in
+    let same = begun_is held.settings bits held rest stands c.begin_line.new.self
+    (ap (λ (x : Context). x.held) c.begin_line.ensures.frame) in
     subst (λ (h : Held). IsRead held.settings bits h c.read_row.new.ctx.held rest (here c.read_row.new.reader)) same
-    (is_read held.settings bits c.begin_line.new.self.held rest (subst (λ (h : Held). StandsAtLine held.settings bits h rest) (sym same) stands)
-    c.read_row.new.ctx.held (here c.read_row.new.reader) c.in-Ok.ensures.row)
+    (is_read held.settings bits c.begin_line.new.self.held rest (subst (λ (h : Held). StandsAtLine held.settings bits h rest)
+    (sym same) stands) c.read_row.new.ctx.held (here c.read_row.new.reader) c.in-Ok.ensures.row)
 
 -- or it wasn't
 row_was_not_read : (c : After-self-in-Err-1) → IsStandingAtLine c.args.self.now c.args.reader.now
@@ -52,16 +45,19 @@ row_was_not_read c at =
     let bits = c.args.reader.now.bits in
     let rest = here c.args.reader.now in
     let stands = at_line_stands rows.stand held.settings bits held c.args.reader.now.place at.0 at.1.0 in
-    let same = begun_is held.settings bits held rest stands c.begin_line.new.self (ap (λ (x : Context). x.held) c.begin_line.ensures.frame) in
-    isnt_read held.settings bits c.begin_line.new.self.held rest (subst (λ (h : Held). StandsAtLine held.settings bits h rest) (sym same) stands)
-    c.read_row.new.ctx.held (here c.read_row.new.reader) c.in-Err.error c.in-Err.ensures.row
+    let same = begun_is held.settings bits held rest stands c.begin_line.new.self
+    (ap (λ (x : Context). x.held) c.begin_line.ensures.frame) in
+    isnt_read held.settings bits c.begin_line.new.self.held rest (subst (λ (h : Held). StandsAtLine held.settings bits h rest)
+    (sym same) stands) c.read_row.new.ctx.held (here c.read_row.new.reader) c.in-Err.error c.in-Err.ensures.row
 
 -- what an error leaves in the context
 settings_left : (c : After-self-in-Err-1) → c.read_row.new.ctx.held.settings ≡ c.args.self.now.ctx.held.settings
-settings_left c = ap (λ (h : Held). h.settings) c.in-Err.ensures.row.held ∙ ap (λ (x : Context). x.held.settings) c.begin_line.ensures.frame
+settings_left c =
+    ap (λ (h : Held). h.settings) c.in-Err.ensures.row.held ∙ ap (λ (x : Context). x.held.settings) c.begin_line.ensures.frame
 
 taken_left : (c : After-self-in-Err-1) → c.read_row.new.ctx.held.taken ≡ c.args.self.now.ctx.held.taken
-taken_left c = ap (λ (h : Held). h.taken) c.in-Err.ensures.row.held ∙ ap (λ (x : Context). x.held.taken) c.begin_line.ensures.frame
+taken_left c =
+    ap (λ (h : Held). h.taken) c.in-Err.ensures.row.held ∙ ap (λ (x : Context). x.held.taken) c.begin_line.ensures.frame
 
 row_left : (c : After-self-in-Err-1) → c.read_row.new.ctx.held.reference ≡ c.args.self.now.ctx.held.reference
 row_left c = ap (λ (h : Held). h.reference) c.in-Err.ensures.row.held
@@ -69,7 +65,8 @@ row_left c = ap (λ (h : Held). h.reference) c.in-Err.ensures.row.held
 
 -- what it leaves in the count of repairs
 repairs_left : (c : After-self-in-Err-1) → c.read_row.new.ctx.held.repairs ≡ c.args.self.now.ctx.held.repairs
-repairs_left c = ap (λ (h : Held). h.repairs) c.in-Err.ensures.row.held ∙ ap (λ (x : Context). x.held.repairs) c.begin_line.ensures.frame
+repairs_left c =
+    ap (λ (h : Held). h.repairs) c.in-Err.ensures.row.held ∙ ap (λ (x : Context). x.held.repairs) c.begin_line.ensures.frame
 
 -- what was counted is paid
 row_is_paid : (c : After-self-in-Ok-2-1) → IsStandingAtLine c.args.self.now c.args.reader.now
@@ -128,8 +125,7 @@ fault_is_paid c at =
       );
       paid = failed_most held.settings stands.wide bits held rest c.args.self.now.ctx.ticks
           (at_line_paid c.args.self.now.stand held.settings bits held place c.args.self.now.ctx.ticks at.0 work.paid)
-          c.read_row.new.ctx.ticks
-          (omega (
+          c.read_row.new.ctx.ticks (omega (
             arith,
             c.read_row.ensures.at_most,
             ticks,
@@ -146,11 +142,13 @@ returns-in-Ok-clause-stands c at =
     let new = c.read_row.new.ctx.held in
     let read_bits = c.read_row.new.reader.bits in
     let counted = at.1.1 in
-    let missed = read.misses (misses_at_line c.args.self.now.stand settings bits c.args.self.now.ctx.held at.0 counted.misses) in (
+    let missed =
+    read.misses (misses_at_line c.args.self.now.stand settings bits c.args.self.now.ctx.held at.0 counted.misses) in (
       subst (λ (s : DecodeSettings). StandsBehindRow s read_bits new (here c.read_row.new.reader)) (sym read.settings_are)
-          (subst (λ (b : Bits). StandsBehindRow settings b new (here c.read_row.new.reader)) (sym c.read_row.ensures.same_bits) read.stands),
-      damage_stays BehindRow BehindRow settings new.settings bits read_bits new new read.settings_are c.read_row.ensures.same_bits refl refl
-          (record { few = read.few counted.few; counted = read.counted counted.counted; misses = missed }) missed,
+          (subst (λ (b : Bits). StandsBehindRow settings b new (here c.read_row.new.reader))
+          (sym c.read_row.ensures.same_bits) read.stands),
+      damage_stays BehindRow BehindRow settings new.settings bits read_bits new new read.settings_are c.read_row.ensures.same_bits
+          refl refl (record { few = read.few counted.few; counted = read.counted counted.counted; misses = missed }) missed,
       subst (λ (s : DecodeSettings). WorkIsPaid BehindRow s read_bits new c.read_row.new.reader.place c.read_row.new.ctx.ticks)
           (sym read.settings_are)
           (subst (λ (b : Bits). WorkIsPaid BehindRow settings b new c.read_row.new.reader.place c.read_row.new.ctx.ticks)
@@ -163,12 +161,13 @@ returns-in-Err-clause-stands c at =
     let bits = c.args.reader.now.bits in
     let new = c.read_row.new.ctx.held in
     let read_bits = c.read_row.new.reader.bits in (
-      subst (λ (s : DecodeSettings). HasFailed s read_bits new.taken c.in-Err.error) (sym (settings_left c))
-          (subst (λ (b : Bits). HasFailed held.settings b new.taken c.in-Err.error) (sym c.read_row.ensures.same_bits) (row_was_not_read c at)),
-      damage_stays c.args.self.now.stand (AtFault c.in-Err.error) held.settings new.settings bits read_bits held new (settings_left c) c.read_row.ensures.same_bits (taken_left c)
-          (ap (λ (r : Repairs). r.rows) (repairs_left c)) at.1.1
+      subst (λ (s : DecodeSettings). HasFailed s read_bits new.taken c.in-Err.error) (sym (settings_left c)) (subst (λ (b : Bits).
+          HasFailed held.settings b new.taken c.in-Err.error) (sym c.read_row.ensures.same_bits) (row_was_not_read c at)),
+      damage_stays c.args.self.now.stand (AtFault c.in-Err.error) held.settings new.settings bits read_bits held new
+          (settings_left c) c.read_row.ensures.same_bits (taken_left c) (ap (λ (r : Repairs). r.rows) (repairs_left c)) at.1.1
           (subst (MissesAreCounted held.settings bits new.repairs) (sym (taken_left c))
-          (subst (λ (r : Repairs). MissesAreCounted held.settings bits r held.taken) (sym (repairs_left c)) (misses_at_line c.args.self.now.stand held.settings bits held at.0 at.1.1.misses))),
+          (subst (λ (r : Repairs). MissesAreCounted held.settings bits r held.taken) (sym (repairs_left c))
+          (misses_at_line c.args.self.now.stand held.settings bits held at.0 at.1.1.misses))),
       subst (λ (s : DecodeSettings). WorkIsPaid (AtFault c.in-Err.error) s read_bits new c.read_row.new.reader.place
           c.read_row.new.ctx.ticks) (sym (settings_left c))
           (subst (λ (b : Bits). WorkIsPaid (AtFault c.in-Err.error) held.settings b new c.read_row.new.reader.place
@@ -186,10 +185,11 @@ returns-in-Ok-clause-reads c at =
       counts = omega (arith, c.read_row.ensures.counts, ap (λ (x : Context). x.ticks) c.begin_line.ensures.frame);
       more = λ e. (refl, read.more, read.within);
       row = λ e. read.row;
-      line_start = λ e. line_start_of reader.place reader.bits c.bit_pos-self.result c.bit_pos-self.ensures.place c.bit_pos-self.ensures.within ∙ read.line_start;
-      damage = λ e. c.damage_since-self.ensures
-          ∙ ap (λ (n : ℕ). damage_since c.read_row.new.ctx.held.repairs n)
-          (c.damaged_rows-damaged_rows.ensures ∙ ap (λ (x : Context). x.held.repairs.rows) c.begin_line.ensures.frame) ∙ read.damage;
+      line_start = λ e. line_start_of reader.place reader.bits c.bit_pos-self.result c.bit_pos-self.ensures.place
+          c.bit_pos-self.ensures.within ∙ read.line_start;
+      damage = λ e. c.damage_since-self.ensures ∙ ap (λ (n : ℕ). damage_since c.read_row.new.ctx.held.repairs n)
+          (c.damaged_rows-damaged_rows.ensures ∙ ap (λ (x : Context). x.held.repairs.rows) c.begin_line.ensures.frame)
+          ∙ read.damage;
       end = λ e. cc;
       error = tt;
       fault_start = λ unended. tt;

@@ -59,10 +59,8 @@ into_unboxed_spec 𝓤 𝓛 𝓜 𝓡 wired =
     let same : given ≡ record { at = p; alloc = a; value = Some found.0 }
     = ap (λ (held : Option owned_value.the_row.Denot). record { at = p; alloc = a; value = held }) found.1 in
     let made : given_back.Denot = record { at = p; alloc = a; value = found.0 } in
-    split ! $ move ! (1 ∷ []) $ fsplit ! $
-    rewrite ! 0 (λ (d : handle.the_row.Denot). ‵ (handle.the_row.own_val d z.0.4.0)) same refl $
-    use1 𝓛 (‵ (given_back.own_val made z.0.4.0)) (id⊢ 𝓤 _) $ fsplit ! $
-    open_fields A L ghosts ! p a z.0.4.0 (λ h is fits.
+    split ! $ move ! (1 ∷ []) $ fsplit ! $ rewrite ! 0 (λ (d : handle.the_row.Denot). ‵ (handle.the_row.own_val d z.0.4.0)) same
+    refl $ use1 𝓛 (‵ (given_back.own_val made z.0.4.0)) (id⊢ 𝓤 _) $ fsplit ! $ open_fields A L ghosts ! p a z.0.4.0 (λ h is fits.
     let v = ptr_val p in
     let w = beside v h in
     let good = beside_good A L ghosts p h fits in

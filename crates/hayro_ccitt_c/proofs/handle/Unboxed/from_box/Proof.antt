@@ -6,7 +6,8 @@ use mir.MapTy.{inst_fn}
 use base.Logic.{SProp, ent, emp, id⊢}
 use base.Fml.{ftrue, flft}
 use prog.Wp.{WpFn}
-use types.Kit.{‵, raw, ◌⊛◌, some, later, ◌$◌, ◌∵◌, !, qed, by, move, keep, drop, split, split3, join, fsplit, fjoin, pick, suffices, use0, use1, await, rewrite}
+use types.Kit.{‵, raw, ◌⊛◌, some, later, ◌$◌, ◌∵◌, !, qed, by, move, keep, drop, split, split3, join, fsplit, fjoin, pick}
+use types.Kit.{suffices, use0, use1, await, rewrite}
 use types.Run.{stop, fld, of_opd, no_more, and_then, returns, enter}
 use types.ByLocal.{alloc_all, pass_all, free_all, look_at, get, get_in, sets, lands_as}
 use types.Part.{agg, sub, whole}
@@ -87,11 +88,10 @@ from_box_spec 𝓤 𝓛 𝓜 𝓡 wired T A LT LA g da dt dd allocates glue_t gl
     open_fields Alloc L g ! r.0 a (u ∷ []) (λ k u_is k_fits.
     let good = beside_good Alloc L g r.0 k k_fits in
     let made : result.Denot = record { at = r.0; alloc = a; value = given.value } in
-    lands_as ! (ap only u_is) refl good $
-    sets ! (of_opd ! (get_in ! (fld ! refl (stop !)) (sub ! 0 refl (whole !)))) refl (Ptr-Good r.0) $
-    sets ! (of_opd ! (get_in ! (fld ! refl (stop !)) (sub ! 1 refl (whole !)))) refl k_fits $
-    sets ! (of_opd ! (get ! refl)) refl k_fits $
-    sets ! (agg ! (and_then ! (get ! refl) (and_then ! (get ! refl) (no_more !)))) refl good $
+    lands_as ! (ap only u_is) refl good $ sets ! (of_opd ! (get_in ! (fld ! refl (stop !)) (sub ! 0 refl (whole !)))) refl
+    (Ptr-Good r.0) $ sets ! (of_opd ! (get_in ! (fld ! refl (stop !)) (sub ! 1 refl (whole !)))) refl k_fits $ sets !
+    (of_opd ! (get ! refl)) refl k_fits $ sets !
+    (agg ! (and_then ! (get ! refl) (and_then ! (get ! refl) (no_more !)))) refl good $
     -- what the pointer owns
     close_fields Alloc L g ! r.0 a k $ move ! (0 ∷ 2 ∷ []) $ fjoin ! $
     use1 𝓛 (‵ (result.own_val made (beside (ptr_val r.0) k ∷ []))) (id⊢ 𝓤 _) $

@@ -12,9 +12,8 @@ use Rattle.hayro_ccitt_c.proofs.reading.Reading.pack_row.Goals as goal
 
 -- a row is painted over the first bytes
 is_packed : (columns count : ℕ) (row : Row) (painted before : List ℕ) → bytes_of_row columns ≡ count → count ≤ length before
-    → length painted ≡ count
-    → length row ≡ columns → bits_of painted ≡ filled_up (pixels columns (changes row)) → IsPacked columns row before
-    (painted ++ drop count before)
+    → length painted ≡ count → length row ≡ columns → bits_of painted ≡ filled_up (pixels columns (changes row))
+    → IsPacked columns row before (painted ++ drop count before)
 is_packed columns count row painted before is room long width shows = record {
   room = omega (arith, is, room, long, length-append painted (drop count before), length-drop count before);
   row_is = ap (λ (n : ℕ). bits_of (take n (painted ++ drop count before))) (is ∙ sym long) ∙ ap bits_of
