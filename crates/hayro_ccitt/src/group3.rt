@@ -84,7 +84,6 @@ pub fn check_eob(ctx: &mut DecoderContext, reader: &mut BitReader<'_>) -> Result
         + looked_ahead ctx.old.held.settings.encoding (here reader.new)) }
     ensures work_given_up { OnOk result (ctx.new.held.has_eols ≢ ctx.old.held.has_eols
         → ctx.new.ticks ≤ ctx.old.ticks + 2 * length (here reader.old)) }
-    ensures work_refused { OnErr result (ctx.new.ticks ≡ ctx.old.ticks + looked (here reader.old)) }
 {
     pass_gap(ctx, reader)
 }
