@@ -75,7 +75,7 @@ pub(crate) struct Outcome {
     pub(crate) bytes_read: u64,
     pub(crate) damaged_rows: u64,
     pub(crate) fault_start: u64,
-    missed_eols: u64,
+    pub(crate) missed_eols: u64,
 }
 
 /// `hayro_ccitt_row`.

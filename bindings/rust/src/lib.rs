@@ -42,8 +42,8 @@
 //! # Differences from that crate
 //!
 //! If an allocation fails, the program ends, as with a [`Vec`].
-//! `decode_low_first`, [`decode_packed`], [`RowReader`], [`DecoderContext::damaged_rows`], [`DecoderContext::fault_start`] and
-//! [`encode_bitmap`] are added. The package is `no_std`, and needs an allocator and a C compiler.
+//! `decode_low_first`, [`decode_packed`], [`RowReader`], [`DecoderContext::damaged_rows`], [`DecoderContext::missed_eols`],
+//! [`DecoderContext::fault_start`] and [`encode_bitmap`] are added. The package is `no_std`, and needs an allocator and a C compiler.
 
 #![no_std]
 #![warn(missing_docs)]
@@ -132,6 +132,7 @@ fn push_rows(
     settings: c::Settings,
 ) -> Result<usize> {
     ctx.damaged_rows = 0;
+    ctx.missed_eols = 0;
     ctx.fault_start = None;
     let mut rows = RowReader::with(data, &ctx.settings, settings);
     let result = loop {
@@ -142,6 +143,7 @@ fn push_rows(
         }
     };
     ctx.damaged_rows = rows.damaged_rows();
+    ctx.missed_eols = rows.missed_eols();
     // After an error the reader tells the place of the fault.
     ctx.fault_start = result.is_err().then(|| rows.line_start());
     result
@@ -185,6 +187,7 @@ fn pack_at_once(
         _ => Err(error_of(status)),
     };
     ctx.damaged_rows = outcome.damaged_rows;
+    ctx.missed_eols = outcome.missed_eols;
     ctx.fault_start = result.is_err().then(|| usize_of(outcome.fault_start));
     PackedRows {
         rows: usize_of(outcome.rows),
@@ -223,6 +226,7 @@ fn pack_as_they_come(
         _ => Err(error_of(status)),
     };
     ctx.damaged_rows = rows.row.damaged_rows;
+    ctx.missed_eols = rows.row.missed_eols;
     // After an error the reader tells the place of the fault.
     ctx.fault_start = result.is_err().then(|| usize_of(rows.row.line_start));
     PackedRows {
@@ -279,6 +283,7 @@ pub trait Decoder {
 pub struct DecoderContext {
     settings: DecodeSettings,
     damaged_rows: u64,
+    missed_eols: u64,
     fault_start: Option<usize>,
 }
 
@@ -288,6 +293,7 @@ impl DecoderContext {
         Self {
             settings,
             damaged_rows: 0,
+            missed_eols: 0,
             fault_start: None,
         }
     }
@@ -296,6 +302,12 @@ impl DecoderContext {
     /// does.
     pub fn damaged_rows(&self) -> u64 {
         self.damaged_rows
+    }
+
+    /// Returns the number of rows of the last image, not repaired, after which a lenient reading of Group 3 passed other bits up to
+    /// the next EOL, or found none.
+    pub fn missed_eols(&self) -> u64 {
+        self.missed_eols
     }
 
     /// Returns the offset of the fault in bits if the last image ended with an error: that at which the line after its rows begins,

@@ -114,6 +114,12 @@ impl<'a> RowReader<'a> {
         self.rows.row.damaged_rows
     }
 
+    /// Returns the number of rows read so far, not repaired, after which other bits were passed up to the next EOL, or none was
+    /// left. What follows the last row is read by the next call.
+    pub fn missed_eols(&self) -> u64 {
+        self.rows.row.missed_eols
+    }
+
     /// Returns the fault of the last row if its line was damaged and repaired.
     pub fn damage(&self) -> Option<DecodeError> {
         match self.rows.row.damage as u32 {

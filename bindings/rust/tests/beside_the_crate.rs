@@ -352,5 +352,34 @@ fn repaired_rows_are_counted() {
         seen.push(rows.damage().is_some());
     }
     assert_eq!(seen, [false, true, false]);
-    assert_eq!(rows.damaged_rows(), 1);
+    assert_eq!((rows.damaged_rows(), rows.missed_eols()), (1, 0));
+}
+
+#[test]
+fn missed_eols_are_counted() {
+    // An EOL and a white row of 8 columns, seven bits, an EOL and a white row.
+    let data = [0x00, 0x19, 0xF8, 0x00, 0xCC];
+    let settings = DecodeSettings {
+        end_of_line: true,
+        encoding: EncodingMode::Group3_1D,
+        ..settings(2)
+    };
+    let mut context = DecoderContext::new(settings);
+    let image = decode_packed(&data, &mut context);
+    assert_eq!(
+        (image.rows, context.damaged_rows(), context.missed_eols()),
+        (2, 0, 1)
+    );
+    let mut rows = Vec::new();
+    let mut white = Borrowing {
+        rows: &mut rows,
+        wanted: &[],
+    };
+    assert!(decode(&data, &mut white, &mut context).is_ok());
+    assert_eq!(context.missed_eols(), 1);
+    let mut rows = RowReader::new(&data, settings);
+    assert!(rows.next_row().unwrap().is_some());
+    assert_eq!(rows.missed_eols(), 0);
+    assert!(rows.next_row().unwrap().is_some());
+    assert_eq!(rows.missed_eols(), 1);
 }
