@@ -11,7 +11,8 @@ returns-in-Rows c =
     let row = c.args.row.now in
     let e = c.push_packed_row.ensures in
     rw (c.in-Rows.is, c.status_of_row.ensures)
-    (takes_next rows c.push_packed_row.new.self (bytes_of_row rows.columns ≤ length row) (length row < bytes_of_row rows.columns) (take rows.columns (bits_of row)) c.push_packed_row.result
+    (takes_next rows c.push_packed_row.new.self (bytes_of_row rows.columns ≤ length row)
+    (length row < bytes_of_row rows.columns) (take rows.columns (bits_of row)) c.push_packed_row.result
     (λ short whole. absurd (omega (arith, short, whole)))
     (λ no. elim (cases_lt (length row) (bytes_of_row rows.columns)) [ inl short ↦ short | inr whole ↦ absurd (no whole) ])
     e.taken e.whole e.not_a_row e.kept e.others e.wanted e.wants)
