@@ -13,17 +13,17 @@ returns-in-None-clause-stroke c =
     rw same.1 c.modes.invariant.stroke
 
 pub returns-then-next-columns-clause-drawn : goal.returns-then-next-columns-clause-drawn
-returns-then-next-columns-clause-drawn c = twice_2d _ _ _ _ _ _ _ _ _ _ _ _ c.modes.invariant.drawn c.in-Some.ensures.drawn
+returns-then-next-columns-clause-drawn c = twice_2d c.modes.invariant.drawn c.in-Some.ensures.drawn
 
 pub returns-then-is_turned-clause-drawn : goal.returns-then-is_turned-clause-drawn
-returns-then-is_turned-clause-drawn c = twice_2d _ _ _ _ _ _ _ _ _ _ _ _ c.modes.invariant.drawn c.in-Some.ensures.drawn
+returns-then-is_turned-clause-drawn c = twice_2d c.modes.invariant.drawn c.in-Some.ensures.drawn
 
 pub modes-preserved : goal.modes-preserved
 modes-preserved c =
     let on = c.in-Some.ensures in
     let same = c.is_turned.ensures.same c.if-is_turned.false in
     record {
-      drawn = twice_2d _ _ _ _ _ _ _ _ _ _ _ _ c.modes.invariant.drawn (rw same at on.drawn);
+      drawn = twice_2d c.modes.invariant.drawn (rw same at on.drawn);
       stroke = rw same at on.stroke;
       inside = omega (arith, on.stroke.within, c.if-next-columns.false);
       same_bits = c.draw_mode_at_hand.ensures.same_bits ∙ c.modes.invariant.same_bits;

@@ -17,7 +17,7 @@ invariant_of-self c =
       reference = c.self.invariant.reference;
       front = c.lay_down_row.ensures.lawful;
       within = stroke.within;
-      passed = rw c.saturating_sub-self-inside.ensures (are_passed _ _ _ _ _ _ some c.self.invariant.reference stroke);
+      passed = rw c.saturating_sub-self-inside.ensures (are_passed some c.self.invariant.reference stroke);
     }
 
 pub returns-clause-drawn : goal.returns-clause-drawn
@@ -37,4 +37,4 @@ returns-clause-within c =
     let some : 0 < s.settings.columns = omega (arith, c.if-self-eq0.false) in
     let listed = changes-pixels s.settings.columns s.ref_changes.items c.self.invariant.reference in
     rw (← c.self.view_is, listed, c.saturating_sub-self-inside.ensures)
-    (are_passed _ _ _ _ _ _ some c.self.invariant.reference stroke).within
+    (are_passed some c.self.invariant.reference stroke).within
