@@ -165,7 +165,8 @@ module _ {M : Type 0} {settings : DecodeSettings} (wide : 0 < settings.columns) 
     fails_paid = line_ends settings wide begun (length bits) giving_up held.reference held.has_eols here within ticks
         (length (changes held.reference)) paid then line_counted
 
-    module _ {after : SinkState M} {new : Held} {rest : Bits} (takes : TakesRow (step_of now_width) now after held here new (Ok tt) rest) where
+    module _ {after : SinkState M} {new : Held} {rest : Bits}
+        (takes : TakesRow (step_of now_width) now after held here new (Ok tt) rest) where
       abbrev row_taken : RowIsTaken (line_of_turn settings so_far) (row_of_turn settings so_far) step now after held new rest
       row_taken = (takes_is takes).taken
 
@@ -221,7 +222,8 @@ module _ {M : Type 0} {settings : DecodeSettings} (wide : 0 < settings.columns) 
               settings_are (subst
               (λ (b : Bool). gap_behind_row new.settings new.taken b rest ≡ Gap.line_at last.has_eols left_over) row_eols gap)
 
-  module _ {after : SinkState M} {new : Held} {rest : Bits} (takes : TakesRow (step_of now_width) now after held here new (Ok tt) rest) where
+  module _ {after : SinkState M} {new : Held} {rest : Bits}
+      (takes : TakesRow (step_of now_width) now after held here new (Ok tt) rest) where
     abbrev taken : RowIsTaken (line_of_turn settings so_far) (row_of_turn settings so_far) step now after held new rest
     taken = (takes_is takes).taken
 

@@ -1,5 +1,5 @@
 use Rattle.hayro_ccitt.proofs.Names.{◌≡◌, ℕ, Bool, true, false, [], drop, length, Result, Ok, Err, sym, refl, ap, ◌∙◌, subst}
-use Rattle.hayro_ccitt.proofs.Names.{arith, err_from_is_err_and, on_err_weaker, DecodeError, InvalidCode, DecodeSettings}
+use Rattle.hayro_ccitt.proofs.Names.{arith, err_from_is_err_and, on_err_weaker, DecodeError, InvalidCode}
 use Rattle.hayro_ccitt.proofs.Names.{EncodingMode, IsFault, here, Held, fresh, SinkState, leaving, gap_said, Ending}
 use Rattle.hayro_ccitt.proofs.Names.{gap_behind_row, at_gap, at_front, first_gap, tag_tests, most_counted, most_from_line}
 use Rattle.hayro_ccitt.proofs.{Readings.DamageCounted.first_gap_left, Readings.WholeRuns.decodes_from}
@@ -33,12 +33,6 @@ left : (g : Over) (c : After-pass_gap g)
 left g c =
     first_gap_left c.args.ctx.now.held c.pass_gap.new.ctx.held (here c.args.reader.now) c.requires.fresh c.pass_gap.ensures.held
     c.pass_gap.ensures.missed
-
-pub read_rows-requires-clause-first : goal.read_rows-requires-clause-first
-read_rows-requires-clause-first g c =
-    let new = c.pass_gap.new.ctx.held in
-    left g (goal.at.read_rows-requires-clause-first g c).After-pass_gap ∙ ap (λ (s : DecodeSettings).
-    record (fresh s) { has_eols = new.has_eols }) (sym (ap (λ (h : Held). h.settings) c.pass_gap.ensures.held))
 
 pub returns-in_err-pass_gap-clause-rows : goal.returns-in_err-pass_gap-clause-rows
 returns-in_err-pass_gap-clause-rows g c =

@@ -1,4 +1,4 @@
-use Rattle.hayro_ccitt.proofs.Names.{◌-◌, negsuc, arith}
+use Rattle.hayro_ccitt.proofs.Names.{arith}
 use Rattle.hayro_ccitt.proofs.DrawingLines.UsualModes.{vertical_on, b1_within, left_stroke, named_left}
 use Rattle.hayro_ccitt.proofs.DrawingLines.UsualStrokes.{pixels-pending}
 use Rattle.hayro_ccitt.proofs.modes.draw_left.Goals as goal

@@ -1,4 +1,4 @@
-use Rattle.hayro_ccitt.proofs.Names.{◌+◌, pos, arith}
+use Rattle.hayro_ccitt.proofs.Names.{arith}
 use Rattle.hayro_ccitt.proofs.DrawingLines.UsualModes.{vertical_on, b1_within, b1_onward, right_near, right_stroke, named_right}
 use Rattle.hayro_ccitt.proofs.DrawingLines.UsualStrokes.{pixels-pending}
 use Rattle.hayro_ccitt.proofs.modes.draw_right.Goals as goal

@@ -1,4 +1,4 @@
-use Rattle.hayro_ccitt.proofs.Names.{◌≡◌, ◌+◌, ◌-◌, negsuc, arith, White}
+use Rattle.hayro_ccitt.proofs.Names.{◌≡◌, ◌+◌, arith, White}
 use Rattle.hayro_ccitt.proofs.DrawingLines.UsualModes.{vertical_on, edge_stroke, named_left}
 use Rattle.hayro_ccitt.proofs.DrawingLines.UsualStrokes.{pixels-pending}
 use Rattle.hayro_ccitt.proofs.modes.draw_to_edge.Goals as goal

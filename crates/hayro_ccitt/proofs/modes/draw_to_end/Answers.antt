@@ -1,4 +1,4 @@
-use Rattle.hayro_ccitt.proofs.Names.{◌≡◌, ◌+◌, get_or, pos, arith}
+use Rattle.hayro_ccitt.proofs.Names.{◌≡◌, ◌+◌, get_or, arith}
 use Rattle.hayro_ccitt.proofs.DrawingLines.UsualModes.{vertical_on, b1_within, full_stroke, named_right}
 use Rattle.hayro_ccitt.proofs.modes.draw_to_end.Goals as goal
 

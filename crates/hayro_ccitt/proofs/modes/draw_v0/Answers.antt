@@ -1,4 +1,4 @@
-use Rattle.hayro_ccitt.proofs.Names.{◌≡◌, ◌+◌, get_or, pos, arith}
+use Rattle.hayro_ccitt.proofs.Names.{◌≡◌, ◌+◌, get_or, arith}
 use Rattle.hayro_ccitt.proofs.DrawingLines.UsualModes.{vertical_on, b1_within, b1_onward, full_stroke, v0_stroke, named_right}
 use Rattle.hayro_ccitt.proofs.DrawingLines.UsualStrokes.{pixels-pending}
 use Rattle.hayro_ccitt.proofs.modes.draw_v0.Goals as goal

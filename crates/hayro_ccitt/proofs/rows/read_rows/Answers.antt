@@ -1,9 +1,9 @@
-use Rattle.hayro_ccitt.proofs.Names.{rules, ◌≡◌, ◌≤◌, ◌+◌, Result, Bool, true, false, [], ◌∷◌, length, Ok, Err, refl, sym, ap}
+use Rattle.hayro_ccitt.proofs.Names.{rules, ◌≡◌, ◌≤◌, ◌+◌, Result, Bool, true, false, [], ◌∷◌, length, Ok, refl, sym, ap}
 use Rattle.hayro_ccitt.proofs.Names.{◌∙◌, subst, arith, err_from_is_err_and, length-append, length-drop, InvalidCode, IsFault}
-use Rattle.hayro_ccitt.proofs.Names.{BitsAt, here, Held, Repairs, repaired_by_turn, missed_by_turn, move_on, one_each, line_here}
-use Rattle.hayro_ccitt.proofs.Names.{line_of_turn, gathered_from, gap_behind_row, Reaches, CountsRun, most_given_up}
+use Rattle.hayro_ccitt.proofs.Names.{BitsAt, here, Held, Repairs, move_on, one_each, line_here}
+use Rattle.hayro_ccitt.proofs.Names.{gathered_from, gap_behind_row, Reaches, CountsRun, most_given_up}
 use Rattle.hayro_ccitt.proofs.Names.{most_from_line, words_of_turn, DecodeError, gap_said, changes}
-use Rattle.hayro_ccitt.proofs.{Readings.Repeated.reaches_on, Readings.TurnsMoveOn.left_to_read, Work.ChangesStored.changes_white}
+use Rattle.hayro_ccitt.proofs.{Readings.Repeated.reaches_on, Work.ChangesStored.changes_white}
 use Rattle.hayro_ccitt.proofs.{Work.RunsCount.counted_ends, rows.read_rows.Given.Over, rows.read_rows.Goals.After-pass_gap}
 use Rattle.hayro_ccitt.proofs.Readings.DamageCounted.{DamageTold, none_counted, repaired_behind, few_repaired}
 use Rattle.hayro_ccitt.proofs.Readings.RowsTaken.{from_line, by_rows_left, left_start, takes_is, goes_on, last_taken, turn_over}
@@ -252,20 +252,3 @@ returns-in_err-pass_gap-clause-fails g c =
     rw ((err_from_is_err_and c.from_residual-in_err-pass_gap.result c.from_residual-in_err-pass_gap.ensures.1).1)
     (fails_behind_row settings c.requires.columns (from_line sought rest0) refl
     reaches bits read.is ends (more ∙ length-append between.so_far.rows (read.taken ∷ [])) c.in_err-pass_gap.ensures.unchanged.1)
-
-pub returns-in_err-read_row-clause-no_eols : goal.returns-in_err-read_row-clause-no_eols
-returns-in_err-read_row-clause-no_eols g c = λ none.
-    let (between, unsought, same, width, words, paid, told, few, reaches) = c.rows.invariant in
-    ap (λ (h : Held). h.has_eols) c.in_err-read_row.ensures.row.held ∙ unsought none
-
-pub returns-in_err-pass_gap-clause-no_eols : goal.returns-in_err-pass_gap-clause-no_eols
-returns-in_err-pass_gap-clause-no_eols g c = λ none.
-    let (between, unsought, same, width, words, paid, told, few, reaches) = c.rows.invariant in
-    ap (λ (h : Held). h.has_eols) c.in_err-pass_gap.ensures.unchanged.0
-    ∙ ap (λ (h : Held). h.has_eols) c.in_ok-read_row.ensures.row.taken.held ∙ unsought none
-
-pub returns-then-branch-clause-no_eols : goal.returns-then-branch-clause-no_eols
-returns-then-branch-clause-no_eols g c = λ none.
-    let (between, unsought, same, width, words, paid, told, few, reaches) = c.rows.invariant in
-    c.in_ok-pass_gap.ensures.given_up c.if-branch.true ∙ ap (λ (h : Held). h.has_eols) c.in_ok-read_row.ensures.row.taken.held
-    ∙ unsought none

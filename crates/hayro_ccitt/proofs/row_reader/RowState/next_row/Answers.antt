@@ -1,4 +1,4 @@
-use Rattle.hayro_ccitt.proofs.Names.{◌≡◌, ◌∙◌, Bool, Result, Ok, true, sym, subst, ap, false≢true, DecodeError, here}
+use Rattle.hayro_ccitt.proofs.Names.{◌≡◌, ◌∙◌, Bool, Result, Ok, true, sym, subst, ap, false≢true, DecodeError}
 use Rattle.hayro_ccitt.proofs.Names.{ReachesNextLine, seen}
 use Rattle.hayro_ccitt.proofs.Readings.RowByRow.{at_line_stands, few, reads_on}
 use Rattle.hayro_ccitt.proofs.row_reader.RowState.next_row.Goals as goal
