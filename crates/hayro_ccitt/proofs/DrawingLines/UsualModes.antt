@@ -1,4 +1,5 @@
 -- Modes that are drawn by their changes alone.
+use Rattle.hayro_ccitt.proofs.PixelRows.ReferencePlaces.{opposite_twice}
 use Rattle.hayro_ccitt.proofs.Names.{◌≡◌, ℕ, suc, ◌+◌, ◌-◌, ◌*◌, ◌%◌, ◌<◌, ◌≤◌, ◌⊎◌, inl, inr, Bool, false, min, List, [], ◌∷◌}
 use Rattle.hayro_ccitt.proofs.Names.{◌++◌, length, replicate, get_or, Ok, refl, sym, ap, subst, ◌∙◌, arith, ℤ, pos, negsuc, ◌+ℤ◌}
 use Rattle.hayro_ccitt.proofs.Names.{ints, cases_lt, length-append, get_or_default_zero, Color, White, Black, Mode, Pass}
@@ -84,10 +85,6 @@ white_at_first : (index : ℕ) (color : Color) (row : List ℕ) → index ≡ 0 
     → length row % 2 ≡ 0
 white_at_first index White row e at colored = colored
 white_at_first index Black row e at colored = absurd (omega (arith, at, e))
-
-opposite_twice : (color : Color) → opposite (opposite color) ≡ color
-opposite_twice White = refl
-opposite_twice Black = refl
 
 -- the number of changes, with one more
 one_turn : (row : List ℕ) (place : ℕ) (color : Color) → TurnsFrom (length row) color

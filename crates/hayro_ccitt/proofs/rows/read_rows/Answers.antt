@@ -1,3 +1,4 @@
+use Rattle.hayro_ccitt.proofs.Names.{Bits, Err, Ok}
 use Rattle.hayro_ccitt.proofs.Names.{rules, ◌≡◌, ◌≤◌, ◌+◌, Result, Bool, true, false, [], ◌∷◌, length, Ok, refl, sym, ap}
 use Rattle.hayro_ccitt.proofs.Names.{◌∙◌, subst, arith, err_from_is_err_and, length-append, length-drop, InvalidCode, IsFault}
 use Rattle.hayro_ccitt.proofs.Names.{BitsAt, here, Held, Repairs, move_on, one_each, line_here}
@@ -136,7 +137,7 @@ returns-in_err-read_row-clause-rows g c =
     let within : length (here c.rows.reader) ≤ length bits =
     omega (arith, length-drop c.rows.reader.place c.rows.reader.bits, ap length same) in
     let taken = ap (λ (h : Held). h.taken) c.in_err-read_row.ensures.row.held in
-    let counted = fails_told c.requires.columns g.D.Decoder.step between width c.in_err-read_row.ensures.row told in
+    let counted = fails_told c.requires.columns g.D.Decoder.step between width {A = Bits} c.in_err-read_row.ensures.row told in
     rw (answer.1, answer.2) (
     record {
       settings = search rules;
@@ -177,9 +178,9 @@ returns-in_err-pass_gap-clause-rows g c =
     let within : length (here c.rows.reader) ≤ length bits =
     omega (arith, length-drop c.rows.reader.place c.rows.reader.bits, ap length same) in
     let counted = last_told c.requires.columns g.D.Decoder.step between width c.in_ok-read_row.ensures.row
-    (here c.pass_gap.new.reader) c.pass_gap.result c.pass_gap.ensures.gap c.pass_gap.ensures.held c.pass_gap.ensures.missed
-    told (ap (λ (a : Result Bool DecodeError). gap_said a c.pass_gap.new.ctx.held.has_eols (here c.pass_gap.new.reader))
-    c.in_err-pass_gap.was) in
+    (here c.pass_gap.new.reader) c.pass_gap.result c.pass_gap.ensures.gap c.pass_gap.ensures.held c.pass_gap.ensures.missed told
+    {A = Bits} (ap (λ (a : Result Bool DecodeError). gap_said a c.pass_gap.new.ctx.held.has_eols (here c.pass_gap.new.reader))
+    c.in_err-pass_gap.was) {said = Err c.in_err-pass_gap.field-0.0} in
     rw (answer.1, answer.2) (
     record {
       settings = search rules;
@@ -208,7 +209,8 @@ returns-then-branch-clause-rows g c =
     omega (arith, length-drop c.rows.reader.place c.rows.reader.bits, ap length same) in
     let counted = last_told c.requires.columns g.D.Decoder.step between width c.in_ok-read_row.ensures.row
     (here c.pass_gap.new.reader) c.pass_gap.result c.pass_gap.ensures.gap c.pass_gap.ensures.held c.pass_gap.ensures.missed
-    told (ap (λ (a : Result Bool DecodeError). gap_said a c.pass_gap.new.ctx.held.has_eols (here c.pass_gap.new.reader)) is) in
+    told (ap (λ (a : Result Bool DecodeError). gap_said a c.pass_gap.new.ctx.held.has_eols (here c.pass_gap.new.reader)) is)
+    {said = Ok (here c.pass_gap.new.reader)} in
     record {
       settings = search rules;
       reading = leaves.0;
