@@ -16,7 +16,7 @@ ghost use Rattle.hayro_ccitt.specs.Answers.{line_from_1d, line_from_2d};
 use crate::bit_reader::{BitOrder, BitReader, BitsAtHand};
 use crate::changes::{append_pixels, b1_index, change_or_end};
 use crate::codes::{Color, Mode, Ticks};
-use crate::modes::{draw_modes, has_no_room, is_white_row, lay_down_row};
+use crate::modes::{draw_modes, has_no_room, is_white_row, lay_down_row, put_ends, take_ends};
 use crate::settings::DecodeSettings;
 use crate::tables::Tables;
 use crate::usual::{draw_runs, lay_down, take_up};
@@ -629,6 +629,9 @@ impl DecoderContext {
         if self.settings.columns == 0 {
             return;
         }
+        if !put_ends(&mut self.ref_changes, self.settings.columns) {
+            return;
+        }
         let ticks = &mut self.ticks;
         let (place, index, color) = draw_modes(
             hand,
@@ -640,6 +643,7 @@ impl DecoderContext {
             self.tables.lookup(Color::Black),
             ticks,
         );
+        take_ends(&mut self.ref_changes);
         lay_down_row(&mut self.coding_changes, place, self.settings.columns);
         self.pixels_decoded = place;
         self.color = color;

@@ -9,7 +9,7 @@ ghost use Rattle.hayro_ccitt.specs.CodeReading.{read_code};
 ghost use Rattle.hayro_ccitt.specs.LookUps.{AreEntries};
 ghost use Rattle.hayro_ccitt.specs.Rows.{AreChanges, pixels, opposite};
 ghost use Rattle.hayro_ccitt.specs.Runs.{codes_of};
-ghost use Rattle.hayro_ccitt.specs.UsualModes.{IsB1, IsStroke, AreRunsHere, GoesOn2d};
+ghost use Rattle.hayro_ccitt.specs.UsualModes.{AreEnded, changes_in, row_in, IsB1, IsStroke, AreRunsHere, GoesOn2d};
 ghost use Rattle.hayro_ccitt.specs.UsualRuns.{pen_at};
 ghost use Rattle.hayro_ccitt.specs.Window.{moved};
 
@@ -17,7 +17,8 @@ use crate::bit_reader::BitsAtHand;
 use crate::changes::change_or_end;
 use crate::codes::{Color, Mode, Ticks, mode_of};
 use crate::usual::{
-    b1_after_left, has_room, is_next, lay_down, run_at_hand, seek_b1, turn_at, word_at_hand,
+    b1_after_left, change_at, has_room, is_next, lay_down, run_at_hand, seek_b1, turn_at,
+    word_at_hand,
 };
 
 /// Fills the window if it has fewer than 32 bits; returns false if it can't be filled.
@@ -80,16 +81,16 @@ fn draw_v0(
     requires mode { read_code mode_codes (here hand.old.at) ≡ Ok (Mode.Vertical (pos 0), here (moved 1 hand.old.at)) }
     requires enough { 1 ≤ hand.old.left }
     requires open { painted < columns }
-    requires lawful { AreChanges columns places.now }
-    requires stroke { IsStroke columns places.now painted index color row.old.items }
-    ensures drawn { IfSome result (λ on. GoesOn2d _strict columns (pixels columns places.now) (pen_at painted row.old.items color hand.old.at)
+    requires ended { AreEnded columns places.now }
+    requires stroke { IsStroke columns (changes_in places.now) painted index color row.old.items }
+    ensures drawn { IfSome result (λ on. GoesOn2d _strict columns (row_in columns places.now) (pen_at painted row.old.items color hand.old.at)
         (pen_at on.0 row.new.items on.2 hand.new.at) ticks.old ticks.new (index - 1) (on.1 - 1)) }
-    ensures stroke { IfSome result (λ on. IsStroke columns places.now on.0 on.1 on.2 row.new.items) }
+    ensures stroke { IfSome result (λ on. IsStroke columns (changes_in places.now) on.0 on.1 on.2 row.new.items) }
     ensures same_bits { hand.new.at.bits ≡ hand.old.at.bits }
     ensures onward { IfSome result (λ on. hand.old.at.place < hand.new.at.place) }
     ensures left { IfNone result ((hand.new.at ≡ hand.old.at) × (row.new.items ≡ row.old.items) × (ticks.new ≡ ticks.old)) }
 {
-    let place = change_or_end(places, index, columns);
+    let place = change_at(places, index, columns);
     if place >= columns {
         hand.pass(1);
         ticks.tick_times(2);
@@ -124,16 +125,16 @@ fn draw_to_end(
     requires bits { (0 < width) × (width < 64) }
     requires enough { width ≤ hand.old.left }
     requires open { painted < columns }
-    requires lawful { AreChanges columns places.now }
-    requires stroke { IsStroke columns places.now painted index color row.old.items }
-    ensures drawn { IfSome result (λ on. GoesOn2d _strict columns (pixels columns places.now) (pen_at painted row.old.items color hand.old.at)
+    requires ended { AreEnded columns places.now }
+    requires stroke { IsStroke columns (changes_in places.now) painted index color row.old.items }
+    ensures drawn { IfSome result (λ on. GoesOn2d _strict columns (row_in columns places.now) (pen_at painted row.old.items color hand.old.at)
         (pen_at on.0 row.new.items on.2 hand.new.at) ticks.old ticks.new (index - 1) (on.1 - 1)) }
-    ensures stroke { IfSome result (λ on. IsStroke columns places.now on.0 on.1 on.2 row.new.items) }
+    ensures stroke { IfSome result (λ on. IsStroke columns (changes_in places.now) on.0 on.1 on.2 row.new.items) }
     ensures same_bits { hand.new.at.bits ≡ hand.old.at.bits }
     ensures onward { IfSome result (λ on. hand.old.at.place < hand.new.at.place) }
     ensures left { IfNone result ((hand.new.at ≡ hand.old.at) × (row.new.items ≡ row.old.items) × (ticks.new ≡ ticks.old)) }
 {
-    let b1 = change_or_end(places, index, columns);
+    let b1 = change_at(places, index, columns);
     if columns - b1 != more {
         return None;
     }
@@ -163,16 +164,16 @@ fn draw_right(
     requires bits { (0 < width) × (width < 64) }
     requires enough { width ≤ hand.old.left }
     requires open { painted < columns }
-    requires lawful { AreChanges columns places.now }
-    requires stroke { IsStroke columns places.now painted index color row.old.items }
-    ensures drawn { IfSome result (λ on. GoesOn2d _strict columns (pixels columns places.now) (pen_at painted row.old.items color hand.old.at)
+    requires ended { AreEnded columns places.now }
+    requires stroke { IsStroke columns (changes_in places.now) painted index color row.old.items }
+    ensures drawn { IfSome result (λ on. GoesOn2d _strict columns (row_in columns places.now) (pen_at painted row.old.items color hand.old.at)
         (pen_at on.0 row.new.items on.2 hand.new.at) ticks.old ticks.new (index - 1) (on.1 - 1)) }
-    ensures stroke { IfSome result (λ on. IsStroke columns places.now on.0 on.1 on.2 row.new.items) }
+    ensures stroke { IfSome result (λ on. IsStroke columns (changes_in places.now) on.0 on.1 on.2 row.new.items) }
     ensures same_bits { hand.new.at.bits ≡ hand.old.at.bits }
     ensures onward { IfSome result (λ on. hand.old.at.place < hand.new.at.place) }
     ensures left { IfNone result ((hand.new.at ≡ hand.old.at) × (row.new.items ≡ row.old.items) × (ticks.new ≡ ticks.old)) }
 {
-    let b1 = change_or_end(places, index, columns);
+    let b1 = change_at(places, index, columns);
     if columns - b1 <= more {
         return draw_to_end(
             hand, row, painted, columns, _strict, color, places, index, more, width, ticks,
@@ -210,11 +211,11 @@ fn draw_to_edge(
     requires bits { (0 < width) × (width < 64) }
     requires enough { width ≤ hand.old.left }
     requires open { painted < columns }
-    requires lawful { AreChanges columns places.now }
-    requires stroke { IsStroke columns places.now painted index color row.old.items }
-    ensures drawn { IfSome result (λ on. GoesOn2d _strict columns (pixels columns places.now) (pen_at painted row.old.items color hand.old.at)
+    requires ended { AreEnded columns places.now }
+    requires stroke { IsStroke columns (changes_in places.now) painted index color row.old.items }
+    ensures drawn { IfSome result (λ on. GoesOn2d _strict columns (row_in columns places.now) (pen_at painted row.old.items color hand.old.at)
         (pen_at on.0 row.new.items on.2 hand.new.at) ticks.old ticks.new (index - 1) (on.1 - 1)) }
-    ensures stroke { IfSome result (λ on. IsStroke columns places.now on.0 on.1 on.2 row.new.items) }
+    ensures stroke { IfSome result (λ on. IsStroke columns (changes_in places.now) on.0 on.1 on.2 row.new.items) }
     ensures same_bits { hand.new.at.bits ≡ hand.old.at.bits }
     ensures onward { IfSome result (λ on. hand.old.at.place < hand.new.at.place) }
     ensures left { IfNone result ((hand.new.at ≡ hand.old.at) × (row.new.items ≡ row.old.items) × (ticks.new ≡ ticks.old)) }
@@ -225,7 +226,7 @@ fn draw_to_edge(
     if !color.is_white() {
         return None;
     }
-    let b1 = change_or_end(places, index, columns);
+    let b1 = change_at(places, index, columns);
     if b1 != less {
         return None;
     }
@@ -259,16 +260,16 @@ fn draw_left(
     requires bits { (0 < width) × (width < 64) }
     requires enough { width ≤ hand.old.left }
     requires open { painted < columns }
-    requires lawful { AreChanges columns places.now }
-    requires stroke { IsStroke columns places.now painted index color row.old.items }
-    ensures drawn { IfSome result (λ on. GoesOn2d _strict columns (pixels columns places.now) (pen_at painted row.old.items color hand.old.at)
+    requires ended { AreEnded columns places.now }
+    requires stroke { IsStroke columns (changes_in places.now) painted index color row.old.items }
+    ensures drawn { IfSome result (λ on. GoesOn2d _strict columns (row_in columns places.now) (pen_at painted row.old.items color hand.old.at)
         (pen_at on.0 row.new.items on.2 hand.new.at) ticks.old ticks.new (index - 1) (on.1 - 1)) }
-    ensures stroke { IfSome result (λ on. IsStroke columns places.now on.0 on.1 on.2 row.new.items) }
+    ensures stroke { IfSome result (λ on. IsStroke columns (changes_in places.now) on.0 on.1 on.2 row.new.items) }
     ensures same_bits { hand.new.at.bits ≡ hand.old.at.bits }
     ensures onward { IfSome result (λ on. hand.old.at.place < hand.new.at.place) }
     ensures left { IfNone result ((hand.new.at ≡ hand.old.at) × (row.new.items ≡ row.old.items) × (ticks.new ≡ ticks.old)) }
 {
-    let b1 = change_or_end(places, index, columns);
+    let b1 = change_at(places, index, columns);
     if b1 - painted <= less {
         return draw_to_edge(
             hand, row, painted, columns, _strict, color, places, index, less, width, ticks,
@@ -301,11 +302,11 @@ fn draw_pass(
     requires mode { read_code mode_codes (here hand.old.at) ≡ Ok (Mode.Pass, here (moved 4 hand.old.at)) }
     requires enough { 4 ≤ hand.old.left }
     requires open { painted < columns }
-    requires lawful { AreChanges columns places.now }
-    requires stroke { IsStroke columns places.now painted index color row.old.items }
-    ensures drawn { IfSome result (λ on. GoesOn2d _strict columns (pixels columns places.now) (pen_at painted row.old.items color hand.old.at)
+    requires ended { AreEnded columns places.now }
+    requires stroke { IsStroke columns (changes_in places.now) painted index color row.old.items }
+    ensures drawn { IfSome result (λ on. GoesOn2d _strict columns (row_in columns places.now) (pen_at painted row.old.items color hand.old.at)
         (pen_at on.0 row.new.items on.2 hand.new.at) ticks.old ticks.new (index - 1) (on.1 - 1)) }
-    ensures stroke { IfSome result (λ on. IsStroke columns places.now on.0 on.1 on.2 row.new.items) }
+    ensures stroke { IfSome result (λ on. IsStroke columns (changes_in places.now) on.0 on.1 on.2 row.new.items) }
     ensures same_bits { hand.new.at.bits ≡ hand.old.at.bits }
     ensures onward { IfSome result (λ on. hand.old.at.place < hand.new.at.place) }
     ensures left { IfNone result ((hand.new.at ≡ hand.old.at) × (row.new.items ≡ row.old.items) × (ticks.new ≡ ticks.old)) }
@@ -381,11 +382,11 @@ fn draw_horizontal(
     requires own { AreEntries (codes_of color) own.now }
     requires other { AreEntries (codes_of (opposite color)) other.now }
     requires open { painted < columns }
-    requires lawful { AreChanges columns places.now }
-    requires stroke { IsStroke columns places.now painted index color row.old.items }
-    ensures drawn { IfSome result (λ on. GoesOn2d _strict columns (pixels columns places.now) (pen_at painted row.old.items color hand.old.at)
+    requires ended { AreEnded columns places.now }
+    requires stroke { IsStroke columns (changes_in places.now) painted index color row.old.items }
+    ensures drawn { IfSome result (λ on. GoesOn2d _strict columns (row_in columns places.now) (pen_at painted row.old.items color hand.old.at)
         (pen_at on.0 row.new.items on.2 hand.new.at) ticks.old ticks.new (index - 1) (on.1 - 1)) }
-    ensures stroke { IfSome result (λ on. IsStroke columns places.now on.0 on.1 on.2 row.new.items) }
+    ensures stroke { IfSome result (λ on. IsStroke columns (changes_in places.now) on.0 on.1 on.2 row.new.items) }
     ensures same_bits { hand.new.at.bits ≡ hand.old.at.bits }
     ensures onward { IfSome result (λ on. hand.old.at.place < hand.new.at.place) }
     ensures left { IfNone result ((hand.new.at ≡ hand.old.at) × (row.new.items ≡ row.old.items) × (ticks.new ≡ ticks.old)) }
@@ -438,11 +439,11 @@ fn draw_mode_at_hand(
     requires own { AreEntries (codes_of color) own.now }
     requires other { AreEntries (codes_of (opposite color)) other.now }
     requires open { painted < columns }
-    requires lawful { AreChanges columns places.now }
-    requires stroke { IsStroke columns places.now painted index color row.old.items }
-    ensures drawn { IfSome result (λ on. GoesOn2d strict columns (pixels columns places.now) (pen_at painted row.old.items color hand.old.at)
+    requires ended { AreEnded columns places.now }
+    requires stroke { IsStroke columns (changes_in places.now) painted index color row.old.items }
+    ensures drawn { IfSome result (λ on. GoesOn2d strict columns (row_in columns places.now) (pen_at painted row.old.items color hand.old.at)
         (pen_at on.0 row.new.items on.2 hand.new.at) ticks.old ticks.new (index - 1) (on.1 - 1)) }
-    ensures stroke { IfSome result (λ on. IsStroke columns places.now on.0 on.1 on.2 row.new.items) }
+    ensures stroke { IfSome result (λ on. IsStroke columns (changes_in places.now) on.0 on.1 on.2 row.new.items) }
     ensures same_bits { hand.new.at.bits ≡ hand.old.at.bits }
     ensures onward { IfSome result (λ on. hand.old.at.place < hand.new.at.place) }
     ensures there { IfSome result (λ on. hand.old.at.place < length hand.old.at.bits) }
@@ -521,11 +522,11 @@ fn draw_in_color(
     requires own { AreEntries (codes_of color) own.now }
     requires other { AreEntries (codes_of (opposite color)) other.now }
     requires open { painted < columns }
-    requires lawful { AreChanges columns places.now }
-    requires stroke { IsStroke columns places.now painted index color row.old.items }
-    ensures drawn { GoesOn2d strict columns (pixels columns places.now) (pen_at painted row.old.items color hand.old.at)
+    requires ended { AreEnded columns places.now }
+    requires stroke { IsStroke columns (changes_in places.now) painted index color row.old.items }
+    ensures drawn { GoesOn2d strict columns (row_in columns places.now) (pen_at painted row.old.items color hand.old.at)
         (pen_at result.0 row.new.items result.2 hand.new.at) ticks.old ticks.new (index - 1) (result.1 - 1) }
-    ensures stroke { IsStroke columns places.now result.0 result.1 result.2 row.new.items }
+    ensures stroke { IsStroke columns (changes_in places.now) result.0 result.1 result.2 row.new.items }
     ensures same_bits { hand.new.at.bits ≡ hand.old.at.bits }
     ensures onward { hand.old.at.place ≤ hand.new.at.place }
     ensures turned { result.3 ≡ false → (result.0 < columns) × (result.2 ≡ opposite color)
@@ -567,12 +568,12 @@ pub(crate) fn draw_modes(
 ) -> (u32, usize, Color)
     requires some { 0 < columns }
     requires begins { row.old.items ≡ [] }
-    requires lawful { AreChanges columns places.now }
+    requires ended { AreEnded columns places.now }
     requires white { AreEntries (codes_of Color.White) white.now }
     requires black { AreEntries (codes_of Color.Black) black.now }
-    ensures drawn { GoesOn2d strict columns (pixels columns places.now) (pen_at 0 row.old.items Color.White hand.old.at)
+    ensures drawn { GoesOn2d strict columns (row_in columns places.now) (pen_at 0 row.old.items Color.White hand.old.at)
         (pen_at result.0 row.new.items result.2 hand.new.at) ticks.old ticks.new 0 (result.1 - 1) }
-    ensures stroke { IsStroke columns places.now result.0 result.1 result.2 row.new.items }
+    ensures stroke { IsStroke columns (changes_in places.now) result.0 result.1 result.2 row.new.items }
     ensures same_bits { hand.new.at.bits ≡ hand.old.at.bits }
 {
     // A copy of the window, so that its fields are values of this call.
@@ -630,6 +631,41 @@ pub(crate) fn lay_down_row(changes: &mut Vec<u32>, painted: u32, columns: u32)
     if painted < columns {
         lay_down(changes, painted);
     }
+}
+
+/// Makes room for a row's end twice behind its changes, and returns whether there is room.
+#[cold]
+#[inline(never)]
+fn make_room(changes: &mut Vec<u32>) -> bool
+    ensures room { result ≡ true → vec_len changes.new + 2 ≤ vec_capacity changes.new }
+    ensures same { changes.new.items ≡ changes.old.items }
+{
+    changes.reserve(2).is_ok()
+}
+
+/// Puts a row's end twice behind its changes, so that b1 is among them, and returns whether there is room; otherwise the
+/// changes stay as they are.
+#[inline(always)]
+pub(crate) fn put_ends(changes: &mut Vec<u32>, columns: u32) -> bool
+    ensures ended { result ≡ true → changes.new.items ≡ changes.old.items ++ columns ∷ columns ∷ [] }
+    ensures unchanged { result ≡ false → changes.new.items ≡ changes.old.items }
+{
+    if !has_room(changes) && !make_room(changes) {
+        return false;
+    }
+    turn_at(changes, columns);
+    turn_at(changes, columns);
+    true
+}
+
+/// Removes the two ends behind a row's changes.
+#[inline(always)]
+pub(crate) fn take_ends(changes: &mut Vec<u32>)
+    requires { 2 ≤ length changes.old.items }
+    ensures { changes.new.items ≡ changes_in changes.old.items }
+{
+    let _end = changes.take_last();
+    let _other = changes.take_last();
 }
 
 /// Returns whether the row of a list of changes is white.
