@@ -616,6 +616,7 @@ impl DecoderContext {
     /// Draws modes from the start of a line as long as they are usual.
     #[inline(always)]
     fn draw_modes_at_hand(&mut self, hand: &mut BitsAtHand<'_>)
+        requires empty { hand.old.left ≡ 0 }
         requires begins { self.old.held.front ≡ [] }
         requires white { self.old.held.color ≡ Color.White }
         requires none { self.old.passed ≡ 0 }
@@ -716,10 +717,6 @@ impl DecoderContext {
         ensures same_bits { reader.new.bits ≡ reader.old.bits }
     {
         if self.draw_white_line(reader) {
-            return;
-        }
-        // Before the first change is stored, room is made for it by a call that may fail.
-        if is_white_row(&self.ref_changes) && has_no_room(&self.coding_changes) {
             return;
         }
         self.draw_modes_of(reader);

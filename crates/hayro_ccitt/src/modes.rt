@@ -21,16 +21,41 @@ use crate::usual::{
     word_at_hand,
 };
 
-/// Fills the window if it has fewer than 32 bits; returns false if it can't be filled.
+/// Asks for room for as many changes as the window has bits, and returns whether there is.
+#[cold]
+#[inline(never)]
+fn make_room_for_window(row: &mut Vec<u32>) -> bool
+    ensures room { result ≡ true → vec_len row.new + 64 ≤ vec_capacity row.new }
+    ensures same { row.new.items ≡ row.old.items }
+{
+    row.reserve(64).is_ok()
+}
+
+/// Returns whether there is room for as many changes as the window has bits: a code word stores no more changes than it has
+/// bits.
 #[inline(always)]
-fn has_mode(hand: &mut BitsAtHand<'_>) -> bool
+fn has_room_for_window(row: &Vec<u32>) -> bool
+    ensures { result ≡ true → vec_len row.now + 64 ≤ vec_capacity row.now }
+{
+    row.capacity() - row.len() >= 64
+}
+
+/// Fills the window if it has fewer than 32 bits; returns false if it can't be filled, or there is no room for its changes.
+#[inline(always)]
+fn has_mode(hand: &mut BitsAtHand<'_>, row: &mut Vec<u32>) -> bool
+    requires room { vec_len row.old + hand.old.left ≤ vec_capacity row.old }
     ensures same { hand.new.at ≡ hand.old.at }
+    ensures same_row { row.new.items ≡ row.old.items }
     ensures enough { result ≡ true → 32 ≤ hand.new.left }
+    ensures room { result ≡ true → vec_len row.new + hand.new.left ≤ vec_capacity row.new }
 {
     if hand.left() >= 32 {
         return true;
     }
-    hand.refill()
+    if !hand.refill() {
+        return false;
+    }
+    has_room_for_window(row) || make_room_for_window(row)
 }
 
 /// Returns the mode whose code word is here, if there is one, and the number of its bits.
@@ -46,14 +71,6 @@ fn mode_at_hand(hand: &BitsAtHand<'_>) -> (Option<Mode>, usize)
     ensures there { hand.now.at.place < length hand.now.at.bits }
 {
     mode_of(hand.seven())
-}
-
-/// Returns whether there is room for a change.
-#[inline(always)]
-fn has_place(changes: &Vec<u32>) -> bool
-    ensures { result ≡ true → vec_len changes.now < vec_capacity changes.now }
-{
-    changes.capacity() > changes.len()
 }
 
 /// Returns whether a list has no room even for its first change.
@@ -80,6 +97,7 @@ fn draw_v0(
 ) -> Option<(u32, usize, Color)>
     requires mode { read_code mode_codes (here hand.old.at) ≡ Ok (Mode.Vertical (pos 0), here (moved 1 hand.old.at)) }
     requires enough { 1 ≤ hand.old.left }
+    requires room { vec_len row.old + hand.old.left ≤ vec_capacity row.old }
     requires open { painted < columns }
     requires ended { AreEnded columns places.now }
     requires stroke { IsStroke columns (changes_in places.now) painted index color row.old.items }
@@ -87,7 +105,8 @@ fn draw_v0(
         (pen_at on.0 row.new.items on.2 hand.new.at) ticks.old ticks.new (index - 1) (on.1 - 1)) }
     ensures stroke { IfSome result (λ on. IsStroke columns (changes_in places.now) on.0 on.1 on.2 row.new.items) }
     ensures same_bits { hand.new.at.bits ≡ hand.old.at.bits }
-    ensures onward { IfSome result (λ on. hand.old.at.place < hand.new.at.place) }
+    ensures onward { IfSome result (λ on. (hand.old.at.place < hand.new.at.place)
+        × (vec_len row.new + hand.new.left ≤ vec_capacity row.new)) }
     ensures left { IfNone result ((hand.new.at ≡ hand.old.at) × (row.new.items ≡ row.old.items) × (ticks.new ≡ ticks.old)) }
 {
     let place = change_at(places, index, columns);
@@ -95,9 +114,6 @@ fn draw_v0(
         hand.pass(1);
         ticks.tick_times(2);
         return Some((columns, index, color.opposite()));
-    }
-    if !has_place(row) {
-        return None;
     }
     hand.pass(1);
     ticks.tick_times(2);
@@ -122,8 +138,8 @@ fn draw_to_end(
 ) -> Option<(u32, usize, Color)>
     requires mode { read_code mode_codes (here hand.old.at) ≡ Ok (Mode.Vertical (pos more), here (moved width hand.old.at)) }
     requires some { 0 < more }
-    requires bits { (0 < width) × (width < 64) }
-    requires enough { width ≤ hand.old.left }
+    requires bits { (0 < width) × (width < 64) × (width ≤ hand.old.left) }
+    requires room { vec_len row.old + hand.old.left ≤ vec_capacity row.old }
     requires open { painted < columns }
     requires ended { AreEnded columns places.now }
     requires stroke { IsStroke columns (changes_in places.now) painted index color row.old.items }
@@ -131,7 +147,8 @@ fn draw_to_end(
         (pen_at on.0 row.new.items on.2 hand.new.at) ticks.old ticks.new (index - 1) (on.1 - 1)) }
     ensures stroke { IfSome result (λ on. IsStroke columns (changes_in places.now) on.0 on.1 on.2 row.new.items) }
     ensures same_bits { hand.new.at.bits ≡ hand.old.at.bits }
-    ensures onward { IfSome result (λ on. hand.old.at.place < hand.new.at.place) }
+    ensures onward { IfSome result (λ on. (hand.old.at.place < hand.new.at.place)
+        × (vec_len row.new + hand.new.left ≤ vec_capacity row.new)) }
     ensures left { IfNone result ((hand.new.at ≡ hand.old.at) × (row.new.items ≡ row.old.items) × (ticks.new ≡ ticks.old)) }
 {
     let b1 = change_at(places, index, columns);
@@ -161,8 +178,8 @@ fn draw_right(
 ) -> Option<(u32, usize, Color)>
     requires mode { read_code mode_codes (here hand.old.at) ≡ Ok (Mode.Vertical (pos more), here (moved width hand.old.at)) }
     requires some { 0 < more }
-    requires bits { (0 < width) × (width < 64) }
-    requires enough { width ≤ hand.old.left }
+    requires bits { (0 < width) × (width < 64) × (width ≤ hand.old.left) }
+    requires room { vec_len row.old + hand.old.left ≤ vec_capacity row.old }
     requires open { painted < columns }
     requires ended { AreEnded columns places.now }
     requires stroke { IsStroke columns (changes_in places.now) painted index color row.old.items }
@@ -170,7 +187,8 @@ fn draw_right(
         (pen_at on.0 row.new.items on.2 hand.new.at) ticks.old ticks.new (index - 1) (on.1 - 1)) }
     ensures stroke { IfSome result (λ on. IsStroke columns (changes_in places.now) on.0 on.1 on.2 row.new.items) }
     ensures same_bits { hand.new.at.bits ≡ hand.old.at.bits }
-    ensures onward { IfSome result (λ on. hand.old.at.place < hand.new.at.place) }
+    ensures onward { IfSome result (λ on. (hand.old.at.place < hand.new.at.place)
+        × (vec_len row.new + hand.new.left ≤ vec_capacity row.new)) }
     ensures left { IfNone result ((hand.new.at ≡ hand.old.at) × (row.new.items ≡ row.old.items) × (ticks.new ≡ ticks.old)) }
 {
     let b1 = change_at(places, index, columns);
@@ -178,9 +196,6 @@ fn draw_right(
         return draw_to_end(
             hand, row, painted, columns, _strict, color, places, index, more, width, ticks,
         );
-    }
-    if !has_place(row) {
-        return None;
     }
     let place = b1 + more;
     hand.pass(width);
@@ -208,8 +223,8 @@ fn draw_to_edge(
 ) -> Option<(u32, usize, Color)>
     requires mode { read_code mode_codes (here hand.old.at) ≡ Ok (Mode.Vertical (negsuc (less - 1)), here (moved width hand.old.at)) }
     requires some { 0 < less }
-    requires bits { (0 < width) × (width < 64) }
-    requires enough { width ≤ hand.old.left }
+    requires bits { (0 < width) × (width < 64) × (width ≤ hand.old.left) }
+    requires room { vec_len row.old + hand.old.left ≤ vec_capacity row.old }
     requires open { painted < columns }
     requires ended { AreEnded columns places.now }
     requires stroke { IsStroke columns (changes_in places.now) painted index color row.old.items }
@@ -217,7 +232,8 @@ fn draw_to_edge(
         (pen_at on.0 row.new.items on.2 hand.new.at) ticks.old ticks.new (index - 1) (on.1 - 1)) }
     ensures stroke { IfSome result (λ on. IsStroke columns (changes_in places.now) on.0 on.1 on.2 row.new.items) }
     ensures same_bits { hand.new.at.bits ≡ hand.old.at.bits }
-    ensures onward { IfSome result (λ on. hand.old.at.place < hand.new.at.place) }
+    ensures onward { IfSome result (λ on. (hand.old.at.place < hand.new.at.place)
+        × (vec_len row.new + hand.new.left ≤ vec_capacity row.new)) }
     ensures left { IfNone result ((hand.new.at ≡ hand.old.at) × (row.new.items ≡ row.old.items) × (ticks.new ≡ ticks.old)) }
 {
     if painted > 0 {
@@ -228,9 +244,6 @@ fn draw_to_edge(
     }
     let b1 = change_at(places, index, columns);
     if b1 != less {
-        return None;
-    }
-    if !has_place(row) {
         return None;
     }
     hand.pass(width);
@@ -257,8 +270,8 @@ fn draw_left(
 ) -> Option<(u32, usize, Color)>
     requires mode { read_code mode_codes (here hand.old.at) ≡ Ok (Mode.Vertical (negsuc (less - 1)), here (moved width hand.old.at)) }
     requires some { 0 < less }
-    requires bits { (0 < width) × (width < 64) }
-    requires enough { width ≤ hand.old.left }
+    requires bits { (0 < width) × (width < 64) × (width ≤ hand.old.left) }
+    requires room { vec_len row.old + hand.old.left ≤ vec_capacity row.old }
     requires open { painted < columns }
     requires ended { AreEnded columns places.now }
     requires stroke { IsStroke columns (changes_in places.now) painted index color row.old.items }
@@ -266,7 +279,8 @@ fn draw_left(
         (pen_at on.0 row.new.items on.2 hand.new.at) ticks.old ticks.new (index - 1) (on.1 - 1)) }
     ensures stroke { IfSome result (λ on. IsStroke columns (changes_in places.now) on.0 on.1 on.2 row.new.items) }
     ensures same_bits { hand.new.at.bits ≡ hand.old.at.bits }
-    ensures onward { IfSome result (λ on. hand.old.at.place < hand.new.at.place) }
+    ensures onward { IfSome result (λ on. (hand.old.at.place < hand.new.at.place)
+        × (vec_len row.new + hand.new.left ≤ vec_capacity row.new)) }
     ensures left { IfNone result ((hand.new.at ≡ hand.old.at) × (row.new.items ≡ row.old.items) × (ticks.new ≡ ticks.old)) }
 {
     let b1 = change_at(places, index, columns);
@@ -274,9 +288,6 @@ fn draw_left(
         return draw_to_edge(
             hand, row, painted, columns, _strict, color, places, index, less, width, ticks,
         );
-    }
-    if !has_place(row) {
-        return None;
     }
     let place = b1 - less;
     hand.pass(width);
@@ -301,6 +312,7 @@ fn draw_pass(
 ) -> Option<(u32, usize, Color)>
     requires mode { read_code mode_codes (here hand.old.at) ≡ Ok (Mode.Pass, here (moved 4 hand.old.at)) }
     requires enough { 4 ≤ hand.old.left }
+    requires room { vec_len row.old + hand.old.left ≤ vec_capacity row.old }
     requires open { painted < columns }
     requires ended { AreEnded columns places.now }
     requires stroke { IsStroke columns (changes_in places.now) painted index color row.old.items }
@@ -308,7 +320,8 @@ fn draw_pass(
         (pen_at on.0 row.new.items on.2 hand.new.at) ticks.old ticks.new (index - 1) (on.1 - 1)) }
     ensures stroke { IfSome result (λ on. IsStroke columns (changes_in places.now) on.0 on.1 on.2 row.new.items) }
     ensures same_bits { hand.new.at.bits ≡ hand.old.at.bits }
-    ensures onward { IfSome result (λ on. hand.old.at.place < hand.new.at.place) }
+    ensures onward { IfSome result (λ on. (hand.old.at.place < hand.new.at.place)
+        × (vec_len row.new + hand.new.left ≤ vec_capacity row.new)) }
     ensures left { IfNone result ((hand.new.at ≡ hand.old.at) × (row.new.items ≡ row.old.items) × (ticks.new ≡ ticks.old)) }
 {
     let b2 = change_or_end(places, index + 1, columns);
@@ -320,16 +333,18 @@ fn draw_pass(
     Some((b2, index + 2, color))
 }
 
-/// Fills the window if it has fewer than 55 bits; returns false if it can't be filled.
+/// Fills the window if it has fewer than 55 bits; returns false if it can't be filled, or there is no room for its changes.
 #[inline(always)]
-fn has_long_runs(hand: &mut BitsAtHand<'_>) -> bool
+fn has_long_runs(hand: &mut BitsAtHand<'_>, row: &Vec<u32>) -> bool
+    requires room { vec_len row.now + hand.old.left ≤ vec_capacity row.now }
     ensures same { hand.new.at ≡ hand.old.at }
     ensures enough { result ≡ true → 55 ≤ hand.new.left }
+    ensures room { result ≡ true → vec_len row.now + hand.new.left ≤ vec_capacity row.now }
 {
     if hand.left() >= 55 {
         return true;
     }
-    hand.refill()
+    hand.refill() && has_room_for_window(row)
 }
 
 /// Returns the two runs after a horizontal mode: for each its pixels, its bits and its number of code words. Returns `None`
@@ -337,14 +352,17 @@ fn has_long_runs(hand: &mut BitsAtHand<'_>) -> bool
 #[inline(always)]
 fn runs_at_hand(
     hand: &mut BitsAtHand<'_>,
+    row: &Vec<u32>,
     color: Color,
     own: &[u16],
     other: &[u16],
 ) -> Option<(u32, usize, usize, u32, usize, usize)>
     requires enough { 32 ≤ hand.old.left }
+    requires room { vec_len row.now + hand.old.left ≤ vec_capacity row.now }
     requires own { AreEntries (codes_of color) own.now }
     requires other { AreEntries (codes_of (opposite color)) other.now }
     ensures same { hand.new.at ≡ hand.old.at }
+    ensures room { IfSome result (λ two. vec_len row.now + hand.new.left ≤ vec_capacity row.now) }
     ensures runs { IfSome result (λ two. AreRunsHere color (moved 3 hand.old.at) two.0 two.1 two.2 two.3 two.4 two.5) }
     ensures below { IfSome result (λ two. (two.0 ≤ 4158) × (two.3 ≤ 4158)) }
     ensures enough { IfSome result (λ two. 3 + two.1 + two.4 ≤ hand.new.left) }
@@ -354,7 +372,7 @@ fn runs_at_hand(
     if run < 64 && run2 < 64 {
         return Some((run, width, 1, run2, width2, 1));
     }
-    if !has_long_runs(hand) {
+    if !has_long_runs(hand, row) {
         return None;
     }
     let (run, width, words) = run_at_hand(hand, 3, color, own)?;
@@ -378,7 +396,7 @@ fn draw_horizontal(
     ticks: &mut Ticks,
 ) -> Option<(u32, usize, Color)>
     requires mode { read_code mode_codes (here hand.old.at) ≡ Ok (Mode.Horizontal, here (moved 3 hand.old.at)) }
-    requires enough { 32 ≤ hand.old.left }
+    requires room { (32 ≤ hand.old.left) × (vec_len row.old + hand.old.left ≤ vec_capacity row.old) }
     requires own { AreEntries (codes_of color) own.now }
     requires other { AreEntries (codes_of (opposite color)) other.now }
     requires open { painted < columns }
@@ -388,10 +406,11 @@ fn draw_horizontal(
         (pen_at on.0 row.new.items on.2 hand.new.at) ticks.old ticks.new (index - 1) (on.1 - 1)) }
     ensures stroke { IfSome result (λ on. IsStroke columns (changes_in places.now) on.0 on.1 on.2 row.new.items) }
     ensures same_bits { hand.new.at.bits ≡ hand.old.at.bits }
-    ensures onward { IfSome result (λ on. hand.old.at.place < hand.new.at.place) }
+    ensures onward { IfSome result (λ on. (hand.old.at.place < hand.new.at.place)
+        × (vec_len row.new + hand.new.left ≤ vec_capacity row.new)) }
     ensures left { IfNone result ((hand.new.at ≡ hand.old.at) × (row.new.items ≡ row.old.items) × (ticks.new ≡ ticks.old)) }
 {
-    let (run, width, words, run2, width2, words2) = runs_at_hand(hand, color, own, other)?;
+    let (run, width, words, run2, width2, words2) = runs_at_hand(hand, row, color, own, other)?;
     if !is_next(row, run) {
         return None;
     }
@@ -400,9 +419,6 @@ fn draw_horizontal(
     }
     let room = columns - painted;
     if run + run2 > room {
-        return None;
-    }
-    if !has_room(row) {
         return None;
     }
     hand.pass(3);
@@ -436,6 +452,7 @@ fn draw_mode_at_hand(
     other: &[u16],
     ticks: &mut Ticks,
 ) -> Option<(u32, usize, Color)>
+    requires room { (32 ≤ hand.old.left) × (vec_len row.old + hand.old.left ≤ vec_capacity row.old) }
     requires own { AreEntries (codes_of color) own.now }
     requires other { AreEntries (codes_of (opposite color)) other.now }
     requires open { painted < columns }
@@ -445,13 +462,11 @@ fn draw_mode_at_hand(
         (pen_at on.0 row.new.items on.2 hand.new.at) ticks.old ticks.new (index - 1) (on.1 - 1)) }
     ensures stroke { IfSome result (λ on. IsStroke columns (changes_in places.now) on.0 on.1 on.2 row.new.items) }
     ensures same_bits { hand.new.at.bits ≡ hand.old.at.bits }
-    ensures onward { IfSome result (λ on. hand.old.at.place < hand.new.at.place) }
+    ensures onward { IfSome result (λ on. (hand.old.at.place < hand.new.at.place)
+        × (vec_len row.new + hand.new.left ≤ vec_capacity row.new)) }
     ensures there { IfSome result (λ on. hand.old.at.place < length hand.old.at.bits) }
     ensures left { IfNone result ((hand.new.at ≡ hand.old.at) × (row.new.items ≡ row.old.items) × (ticks.new ≡ ticks.old)) }
 {
-    if !has_mode(hand) {
-        return None;
-    }
     let (mode, width) = mode_at_hand(hand);
     match mode? {
         Mode::Vertical(0) => draw_v0(
@@ -519,6 +534,7 @@ fn draw_in_color(
     other: &[u16],
     ticks: &mut Ticks,
 ) -> (u32, usize, Color, bool)
+    requires room { vec_len row.old + hand.old.left ≤ vec_capacity row.old }
     requires own { AreEntries (codes_of color) own.now }
     requires other { AreEntries (codes_of (opposite color)) other.now }
     requires open { painted < columns }
@@ -530,11 +546,15 @@ fn draw_in_color(
     ensures same_bits { hand.new.at.bits ≡ hand.old.at.bits }
     ensures onward { hand.old.at.place ≤ hand.new.at.place }
     ensures turned { result.3 ≡ false → (result.0 < columns) × (result.2 ≡ opposite color)
-        × (hand.old.at.place < hand.new.at.place) × (hand.old.at.place < length hand.old.at.bits) }
+        × (hand.old.at.place < hand.new.at.place) × (hand.old.at.place < length hand.old.at.bits)
+        × (vec_len row.new + hand.new.left ≤ vec_capacity row.new) }
 {
     let mut place = painted;
     let mut at = index;
     'modes: loop {
+        if !has_mode(hand, row) {
+            return (place, at, color, true);
+        }
         match draw_mode_at_hand(
             hand, row, place, columns, strict, color, places, at, own, other, ticks,
         ) {
@@ -566,6 +586,7 @@ pub(crate) fn draw_modes(
     black: &[u16],
     ticks: &mut Ticks,
 ) -> (u32, usize, Color)
+    requires none { hand.old.left ≡ 0 }
     requires some { 0 < columns }
     requires begins { row.old.items ≡ [] }
     requires ended { AreEnded columns places.now }

@@ -1,4 +1,5 @@
-use Rattle.hayro_ccitt.proofs.Names.{◌≡◌, ◌-◌, ◌<◌, ◌≤◌, length, row_in, changes_in, GoesOn2d, IsStroke, pen_at}
+use Rattle.std.specs.Prelude.{vec_len, vec_capacity}
+use Rattle.hayro_ccitt.proofs.Names.{◌≡◌, ◌-◌, ◌<◌, ◌≤◌, length, ◌+◌, row_in, changes_in, GoesOn2d, IsStroke, pen_at}
 use Rattle.hayro_ccitt.proofs.modes.draw_in_color.Given as goal
 
 -- what is drawn so far, in one colour, and that the row isn't full
@@ -8,6 +9,7 @@ invariant-modes l = record {
       (pen_at l.place l.row.items l.color l.hand.at) l.fn.ticks l.ticks (l.index - 1) (l.at - 1);
   stroke : IsStroke l.columns (changes_in l.places) l.place l.at l.color l.row.items;
   inside : l.place < l.columns;
+  room : vec_len l.row + l.hand.left ≤ vec_capacity l.row;
   same_bits : l.hand.at.bits ≡ l.fn.hand.at.bits;
   onward : l.fn.hand.at.place ≤ l.hand.at.place;
 }
