@@ -1,6 +1,6 @@
 use Rattle.hayro_ccitt.proofs.Names.{◌<◌, length, arith, changes_in}
 use Rattle.hayro_ccitt.proofs.PixelRows.B1ByParity.{near_up}
-use Rattle.hayro_ccitt.proofs.PixelRows.EndedPlaces.{among_changes, ended_length}
+use Rattle.hayro_ccitt.proofs.PixelRows.EndedPlaces.{among_changes}
 use Rattle.hayro_ccitt.proofs.usual.seek_b1.Goals as goal
 
 pub changes-preserved : goal.changes-preserved
