@@ -16,7 +16,7 @@ ghost use Rattle.hayro_ccitt.specs.Answers.{line_from_1d, line_from_2d};
 use crate::bit_reader::{BitOrder, BitReader, BitsAtHand};
 use crate::changes::{append_pixels, b1_index, change_or_end};
 use crate::codes::{Color, Mode, Ticks};
-use crate::modes::{draw_modes, has_no_room, is_white_row, lay_down_row, put_ends, take_ends};
+use crate::modes::{draw_modes, has_mode, is_white_row, lay_down_row, put_ends, take_ends};
 use crate::settings::DecodeSettings;
 use crate::tables::Tables;
 use crate::usual::{draw_runs, lay_down, take_up};
@@ -628,6 +628,9 @@ impl DecoderContext {
         ensures same_bits { hand.new.at.bits ≡ hand.old.at.bits }
     {
         if self.settings.columns == 0 {
+            return;
+        }
+        if !has_mode(hand, &mut self.coding_changes) {
             return;
         }
         if !put_ends(&mut self.ref_changes, self.settings.columns) {

@@ -42,7 +42,7 @@ fn has_room_for_window(row: &Vec<u32>) -> bool
 
 /// Fills the window if it has fewer than 32 bits; returns false if it can't be filled, or there is no room for its changes.
 #[inline(always)]
-fn has_mode(hand: &mut BitsAtHand<'_>, row: &mut Vec<u32>) -> bool
+pub(crate) fn has_mode(hand: &mut BitsAtHand<'_>, row: &mut Vec<u32>) -> bool
     requires room { vec_len row.old + hand.old.left ≤ vec_capacity row.old }
     ensures same { hand.new.at ≡ hand.old.at }
     ensures same_row { row.new.items ≡ row.old.items }
@@ -71,14 +71,6 @@ fn mode_at_hand(hand: &BitsAtHand<'_>) -> (Option<Mode>, usize)
     ensures there { hand.now.at.place < length hand.now.at.bits }
 {
     mode_of(hand.seven())
-}
-
-/// Returns whether a list has no room even for its first change.
-#[inline(always)]
-pub(crate) fn has_no_room(changes: &Vec<u32>) -> bool
-    ensures { result ≡ true → vec_capacity changes.now ≡ 0 }
-{
-    changes.capacity() == 0
 }
 
 /// Draws V0: a change below b1, or the rest of the row. Returns `None`, and draws nothing, if there is no room for a
@@ -586,7 +578,7 @@ pub(crate) fn draw_modes(
     black: &[u16],
     ticks: &mut Ticks,
 ) -> (u32, usize, Color)
-    requires none { hand.old.left ≡ 0 }
+    requires room { vec_len row.old + hand.old.left ≤ vec_capacity row.old }
     requires some { 0 < columns }
     requires begins { row.old.items ≡ [] }
     requires ended { AreEnded columns places.now }

@@ -7,7 +7,8 @@ use Rattle.hayro_ccitt.proofs.context.DecoderContext.draw_modes_at_hand.Goals as
 pub draw_modes-place-requires-clause-begins : goal.draw_modes-place-requires-clause-begins
 draw_modes-place-requires-clause-begins c =
     let s = c.self.inside in
-    empty_row s.pixels_decoded s.coding_changes.items c.self.invariant.front (rw (← c.self.view_is) at c.requires.begins)
+    rw c.has_mode.ensures.same_row
+    (empty_row s.pixels_decoded s.coding_changes.items c.self.invariant.front (rw (← c.self.view_is) at c.requires.begins))
 
 pub draw_modes-place-requires-clause-ended : goal.draw_modes-place-requires-clause-ended
 draw_modes-place-requires-clause-ended c =
@@ -15,11 +16,19 @@ draw_modes-place-requires-clause-ended c =
     rw (c.as_slice.ensures.value, c.put_ends.ensures.ended c.if-not-put_ends.false) (with_ends s.settings.columns s.ref_changes.items c.self.invariant.reference)
 
 pub invariant_of-self : goal.invariant_of-self
-invariant_of-self c =
+invariant_of-self c = record {
+  reference = c.self.invariant.reference;
+  front = rw c.has_mode.ensures.same_row c.self.invariant.front;
+  within = c.self.invariant.within;
+  passed = c.self.invariant.passed;
+}
+
+pub invariant_of-self-then-not-put_ends : goal.invariant_of-self-then-not-put_ends
+invariant_of-self-then-not-put_ends c =
     let same = c.put_ends.ensures.unchanged c.if-not-put_ends.true in
     record {
       reference = rw same c.self.invariant.reference;
-      front = c.self.invariant.front;
+      front = rw c.has_mode.ensures.same_row c.self.invariant.front;
       within = c.self.invariant.within;
       passed = rw same c.self.invariant.passed;
     }
@@ -49,7 +58,7 @@ returns-clause-drawn c =
     let white : s.color ≡ White = rw (← c.self.view_is) at c.requires.white in
     let passed : s.passed ≡ 0 = rw (← c.self.view_is) at c.requires.none in
     rw (← c.self.view_is, none, white, passed, c.lay_down_row.ensures.same, c.saturating_sub-self-inside.ensures)
-    (rw (c.as_slice.ensures.value, same) at c.draw_modes-place.ensures.drawn)
+    (rw (c.as_slice.ensures.value, same, c.has_mode.ensures.same, c.has_mode.ensures.same_row) at c.draw_modes-place.ensures.drawn)
 
 pub returns-clause-within : goal.returns-clause-within
 returns-clause-within c =
