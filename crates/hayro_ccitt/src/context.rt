@@ -1,8 +1,9 @@
 //! What a decoder keeps from line to line, and the lines themselves.
 
 ghost use Rattle.std.specs.Prelude.{◌≡◌, ◌+◌, ◌*◌, ◌^◌, ◌<◌, ◌≤◌, ◌⊎◌, ◌↔◌, ℕ, Ok, Err, OnOk, OnErr, IfOk, IfErr, true, false};
-ghost use Rattle.std.specs.Prelude.{IsOkUnless, IsTrue, option_map, length, get_or, []};
+ghost use Rattle.std.specs.Prelude.{IsOkUnless, IsTrue, if◌then◌else◌, is_some, option_map, length, get_or, []};
 ghost use Rattle.hayro_ccitt.specs.LocalityByK.{behind_mode};
+ghost use Rattle.hayro_ccitt.specs.{Ticks.run_found, Work.mode_found};
 ghost use Rattle.hayro_ccitt.specs.Runs.{read_run};
 ghost use Rattle.hayro_ccitt.specs.Rows.{AreChanges, right_of, b1, b2, changes, opposite};
 ghost use Rattle.hayro_ccitt.specs.Bits.{here};
@@ -486,6 +487,8 @@ impl DecoderContext {
         ensures same_bits { reader.new.bits ≡ reader.old.bits }
         ensures held { self.new.held ≡ self.old.held }
         ensures counts { self.old.ticks ≤ self.new.ticks }
+        ensures at_most { self.new.ticks
+            ≤ self.old.ticks + length (run_found color (0, here reader.old)) + (if result then 0 else 1) }
     {
         match reader.decode_run(color, &self.tables, &mut self.ticks) {
             Ok(_) => true,
@@ -501,6 +504,8 @@ impl DecoderContext {
         ensures same_bits { reader.new.bits ≡ reader.old.bits }
         ensures held { self.new.held ≡ self.old.held }
         ensures counts { self.old.ticks ≤ self.new.ticks }
+        ensures at_most { self.new.ticks
+            ≤ self.old.ticks + length (mode_found color (here reader.old)) + (if is_some result then 0 else 1) }
     {
         let Ok(mode) = reader.decode_mode(&mut self.ticks) else {
             return None;
