@@ -14,8 +14,10 @@ sys.path.append("bench")
 
 import strips  # noqa: E402
 
-# A list of changes or of bytes has room for 4, and for 8 bytes, at first, and for twice as many when it is full.
+# A list of changes or of bytes has room for 4, and for 8 bytes, at first, and for twice as many when it is full. A row of the
+# decoder also has room for the changes that the 64 bits of a window may tell.
 FIRST_CHANGES, FIRST_BYTES = 4 * 4, 8
+WINDOW = 64
 
 
 def doubled(first, most):
@@ -55,24 +57,32 @@ def white_data():
     print(f"  {seen} data")
 
 
+def changes_read(row):
+    """The most that a decoder requests for a row's changes, and for those of the row before it."""
+    return together(*[together((1, FIRST_CHANGES), doubled(4 * WINDOW, 4 * (len(row) + WINDOW)))] * 2)
+
+
 def equal_rows():
-    """A hundred equal rows need what two need: room for the row and for the one before it."""
+    """A thousand equal rows need what a hundred need: room for the row and for the one before it."""
     c_library.build()
     seen = 0
     with tempfile.TemporaryDirectory() as folder:
         library = called.Library(folder)
         for mode in c_library.MODES:
             for row in ROWS:
-                for count in (1, 2, HUNDRED):
+                needed = {}
+                for count in (1, 2, HUNDRED, 10 * HUNDRED):
                     data = strips.encoded(mode, 64, [row] * count)
                     library.refuse(0)
                     answer = c_library.called(library.calls.hayro_ccitt_measure, data, called.settings_of(f"{mode} 64 0 b"))
                     assert answer == (0, (count, count * len(row), len(data))), (mode, row, answer)
                     asked = library.calls.requests_seen(), library.calls.bytes_asked()
-                    expected = changes_kept(row, min(count, 2))
-                    assert asked == expected, (mode, row, count, asked, expected)
+                    most = changes_read(row)
+                    assert asked[0] <= most[0] and asked[1] <= most[1], (mode, row, count, asked, most)
+                    needed[count] = asked
                     seen += 1
-    print(f"  {seen} data of up to {HUNDRED} equal rows")
+                assert needed[HUNDRED] == needed[10 * HUNDRED], (mode, row, needed)
+    print(f"  {seen} data of up to {10 * HUNDRED} equal rows")
 
 
 def encoded_rows():

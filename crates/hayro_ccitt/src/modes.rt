@@ -646,16 +646,6 @@ pub(crate) fn lay_down_row(changes: &mut Vec<u32>, painted: u32, columns: u32)
     }
 }
 
-/// Makes room for a row's end twice behind its changes, and returns whether there is room.
-#[cold]
-#[inline(never)]
-fn make_room(changes: &mut Vec<u32>) -> bool
-    ensures room { result ≡ true → vec_len changes.new + 2 ≤ vec_capacity changes.new }
-    ensures same { changes.new.items ≡ changes.old.items }
-{
-    changes.reserve(2).is_ok()
-}
-
 /// Puts a row's end twice behind its changes, so that b1 is among them, and returns whether there is room; otherwise the
 /// changes stay as they are.
 #[inline(always)]
@@ -663,7 +653,7 @@ pub(crate) fn put_ends(changes: &mut Vec<u32>, columns: u32) -> bool
     ensures ended { result ≡ true → changes.new.items ≡ changes.old.items ++ columns ∷ columns ∷ [] }
     ensures unchanged { result ≡ false → changes.new.items ≡ changes.old.items }
 {
-    if !has_room(changes) && !make_room(changes) {
+    if !has_room(changes) && !make_room_for_window(changes) {
         return false;
     }
     turn_at(changes, columns);
