@@ -10,8 +10,11 @@ ends_at [] end (suc (suc k)) = refl
 ends_at (x ∷ xs) end zero = refl
 ends_at (x ∷ xs) end (suc k) = ends_at xs end k
 
-pub without_ends : (xs : List ℕ) (end : ℕ) → changes_in (xs ++ end ∷ end ∷ []) ≡ xs
+without_ends : (xs : List ℕ) (end : ℕ) → changes_in (xs ++ end ∷ end ∷ []) ≡ xs
 without_ends xs end = take_at xs (end ∷ end ∷ []) _ (omega (arith, length-append xs (end ∷ end ∷ [])))
+
+pub ends_taken : (xs ended : List ℕ) (end : ℕ) → ended ≡ xs ++ end ∷ end ∷ [] → changes_in ended ≡ xs
+ends_taken xs ended end put = ap changes_in put ∙ without_ends xs end
 
 pub with_ends : (columns : ℕ) (xs : List ℕ) → AreChanges columns xs → AreEnded columns (xs ++ columns ∷ columns ∷ [])
 with_ends columns xs lawful =
@@ -19,9 +22,6 @@ with_ends columns xs lawful =
     record { lawful = rw same lawful; ended = rw same refl }
 
 module _ (columns : ℕ) (places : List ℕ) (ended : AreEnded columns places) where
-  pub ended_length : length places ≡ length (changes_in places) + 2
-  ended_length = ap length ended.ended ∙ length-append (changes_in places) (columns ∷ columns ∷ [])
-
   -- behind the changes each place is the row's end
   pub ended_at : (k : ℕ) → get_or places k columns ≡ get_or (changes_in places) k columns
   ended_at k = ap (λ xs. get_or xs k columns) ended.ended ∙ ends_at (changes_in places) columns k

@@ -15,12 +15,12 @@ returns-in-None-clause-stroke c =
 pub returns-then-next-columns-clause-drawn : goal.returns-then-next-columns-clause-drawn
 returns-then-next-columns-clause-drawn c =
     let has = c.has_mode.ensures in
-    twice_2d _ _ _ _ _ _ _ _ _ _ _ _ c.modes.invariant.drawn (rw (has.same, has.same_row) at c.in-Some.ensures.drawn)
+    twice_2d c.modes.invariant.drawn (rw (has.same, has.same_row) at c.in-Some.ensures.drawn)
 
 pub returns-then-is_turned-clause-drawn : goal.returns-then-is_turned-clause-drawn
 returns-then-is_turned-clause-drawn c =
     let has = c.has_mode.ensures in
-    twice_2d _ _ _ _ _ _ _ _ _ _ _ _ c.modes.invariant.drawn (rw (has.same, has.same_row) at c.in-Some.ensures.drawn)
+    twice_2d c.modes.invariant.drawn (rw (has.same, has.same_row) at c.in-Some.ensures.drawn)
 
 pub modes-preserved : goal.modes-preserved
 modes-preserved c =
@@ -28,7 +28,7 @@ modes-preserved c =
     let has = c.has_mode.ensures in
     let same = c.is_turned.ensures.same c.if-is_turned.false in
     record {
-      drawn = twice_2d _ _ _ _ _ _ _ _ _ _ _ _ c.modes.invariant.drawn (rw (same, has.same, has.same_row) at on.drawn);
+      drawn = twice_2d c.modes.invariant.drawn (rw (same, has.same, has.same_row) at on.drawn);
       stroke = rw same at on.stroke;
       inside = omega (arith, on.stroke.within, c.if-next-columns.false);
       room = on.onward.1;

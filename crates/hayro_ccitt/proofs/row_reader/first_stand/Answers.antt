@@ -1,7 +1,7 @@
 use Rattle.hayro_ccitt.proofs.Names.{◌≡◌, ◌≢◌, ◌∙◌, ◌<◌, ℕ, Bool, false, inl, inr, length, drop, ap, sym, subst, arith}
 use Rattle.hayro_ccitt.proofs.Names.{length-drop, IfErr-weaker, IfOk-weaker, on_err_weaker, on_ok_weaker, Stand, DecodeSettings}
 use Rattle.hayro_ccitt.proofs.Names.{Group4, Bits, here, Held, gap_said, all_eols, gap_behind_row, first_line, changes}
-use Rattle.hayro_ccitt.proofs.Names.{DamageIsCounted, IsPaid, ReaderStands, ended, stand_after, AtLine, AtEnd, looked}
+use Rattle.hayro_ccitt.proofs.Names.{DamageIsCounted, IsPaid, ReaderStands, ended, stand_after, AtLine, looked}
 use Rattle.hayro_ccitt.proofs.Names.{looked_ahead}
 use Rattle.hayro_ccitt.proofs.{Readings.DamageCounted.first_gap_left, Work.ChangesStored.changes_white}
 use Rattle.hayro_ccitt.proofs.Readings.RowByRow.{none_damaged, misses_after, first_gap_stands, first_line_stands, no_fault}
@@ -40,12 +40,6 @@ returns-in-Group4-clause-damage c =
     subst (λ (s : Stand). DamageIsCounted s held.settings bits last) (sym c.stand_after_gap.ensures) (none_damaged
     (stand_after c.pass_gap-over.result) held.settings bits last (misses_after c.pass_gap-over.result held.settings bits last)
     (ap (λ (h : Held). h.taken) left) (ap (λ (h : Held). h.repairs) left))
-
-pub returns-then-settings-eq0-clause-damage : goal.returns-then-settings-eq0-clause-damage
-returns-then-settings-eq0-clause-damage c =
-    let held = c.args.ctx.now.held in
-    none_damaged AtEnd held.settings c.args.reader.now.bits held (λ misses. misses) (ap (λ (h : Held). h.taken) c.requires.fresh)
-    (ap (λ (h : Held). h.repairs) c.requires.fresh)
 
 pub returns-in-Group4-clause-unfailed : goal.returns-in-Group4-clause-unfailed
 returns-in-Group4-clause-unfailed c error is =

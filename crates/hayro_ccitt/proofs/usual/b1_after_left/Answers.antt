@@ -10,7 +10,7 @@ returns-else-change_at-place c =
     let at : IsB1 a.columns (changes_in a.places.now) a._painted (before + 1) a._color = rw e c.requires.at in
     let left : a.place < get_or (changes_in a.places.now) (before + 1) a.columns = rw e c.requires.left in
     record {
-      at = after_vl_on a.columns (changes_in a.places.now) c.requires.ended.lawful a._painted before a._color at a.place c.requires.right left
-          (omega (arith, c.if-change_at-place.false, c.change_at.ensures));
+      at = after_vl_on a.columns (changes_in a.places.now) c.requires.ended.lawful a._painted before a._color at a.place
+          c.requires.right left (omega (arith, c.if-change_at-place.false, c.change_at.ensures));
       near = omega arith;
     }
