@@ -13,8 +13,9 @@ returns-then-place-columns-clause-drawn c =
       c.change_at-place.ensures,
     ) in
     rw (c.pass.ensures.moved, c.opposite.ensures) (vertical_on c.requires.ended.lawful c.requires.open c.requires.stroke
-    a.hand.now.at a.index 1 (omega (arith, c.ranges.columns.fits)) c.requires.mode (named_right _ a.columns 0 (omega (arith, end)))
-    (omega (arith, c.requires.open)) (omega arith) (omega (arith, c.tick_times.ensures)) (omega (arith, c.tick_times.ensures)))
+    a.hand.now.at a.index 1 (omega (arith, c.ranges.columns.fits)) c.requires.mode
+    (named_right _ a.columns 0 (omega (arith, end))) (omega (arith, c.requires.open)) (omega arith)
+    (omega (arith, c.tick_times.ensures)) (omega (arith, c.tick_times.ensures)))
 
 pub returns-then-place-columns-clause-stroke : goal.returns-then-place-columns-clause-stroke
 returns-then-place-columns-clause-stroke c =
