@@ -6,7 +6,7 @@ use Rattle.hayro_ccitt.proofs.modes.draw_horizontal.Goals as goal
 pub seek_b1-next-requires-clause-near : goal.seek_b1-next-requires-clause-near
 seek_b1-next-requires-clause-near c =
     horizontal_near
-    c.requires.lawful c.requires.open c.requires.stroke (c.args.painted + c.in_ok-run.run' + c.in_ok-run.run2) (omega arith)
+    c.requires.ended.lawful c.requires.open c.requires.stroke (c.args.painted + c.in_ok-run.run' + c.in_ok-run.run2) (omega arith)
 
 pub returns-then-run-run2-2-clause-drawn : goal.returns-then-run-run2-2-clause-drawn
 returns-then-run-run2-2-clause-drawn c =
@@ -19,7 +19,7 @@ returns-then-run-run2-2-clause-drawn c =
       c.pass.ensures.moved,
       c.runs_at_hand.ensures.same,
       c.turn_at.ensures.items,
-    ) (rw end at (horizontal_on c.requires.lawful c.requires.open c.requires.stroke {strict = a._strict} a.hand.now.at
+    ) (rw end at (horizontal_on c.requires.ended.lawful c.requires.open c.requires.stroke {strict = a._strict} a.hand.now.at
     a.index {ticks = a.ticks.now} {now = c.tick_times-2.new.self} c.requires.mode two.ensures.runs (c.if-not-is_next.ensures refl)
     (omega (arith, end)) (omega (arith, c.tick.ensures, c.tick_times.ensures, c.tick_times-2.ensures))
     (omega (arith, c.tick.ensures, c.tick_times.ensures, c.tick_times-2.ensures))))
@@ -27,7 +27,7 @@ returns-then-run-run2-2-clause-drawn c =
 pub returns-then-run-run2-2-clause-stroke : goal.returns-then-run-run2-2-clause-stroke
 returns-then-run-run2-2-clause-stroke c =
     let two = c.in_ok-run in
-    first_stroke c.requires.lawful c.requires.open c.requires.stroke two.run' two.run2 (c.if-not-is_next.ensures refl)
+    first_stroke c.requires.ended.lawful c.requires.open c.requires.stroke two.run' two.run2 (c.if-not-is_next.ensures refl)
     (omega (arith, c.if-run2-eq0.false)) (omega (arith, c.if-run-run2-2.true, c.requires.open)) c.turn_at.ensures.items
 
 pub returns-clause-drawn : goal.returns-clause-drawn
@@ -43,7 +43,7 @@ returns-clause-drawn c =
       c.turn_at-2.ensures.items,
       pixels-pending,
       c.turn_at.ensures.items,
-    ) (horizontal_on c.requires.lawful c.requires.open c.requires.stroke a.hand.now.at c.seek_b1-next.result
+    ) (horizontal_on c.requires.ended.lawful c.requires.open c.requires.stroke a.hand.now.at c.seek_b1-next.result
     c.requires.mode two.ensures.runs (c.if-not-is_next.ensures refl) (omega (arith, c.if-run-run2.false, c.requires.open))
     (omega (arith, c.tick.ensures, c.tick_times.ensures, c.tick_times-2.ensures, work.work, work.forward))
     (omega (arith, c.tick.ensures, c.tick_times.ensures, c.tick_times-2.ensures, work.work, work.forward)))
@@ -52,6 +52,6 @@ pub returns-clause-stroke : goal.returns-clause-stroke
 returns-clause-stroke c =
     let two = c.in_ok-run in
     let next = c.seek_b1-next in
-    horizontal_stroke c.requires.lawful c.requires.open c.requires.stroke two.run' two.run2 (c.if-not-is_next.ensures refl)
+    horizontal_stroke c.requires.ended.lawful c.requires.open c.requires.stroke two.run' two.run2 (c.if-not-is_next.ensures refl)
     (omega (arith, c.if-run2-eq0.false)) (omega (arith, c.if-run-run2.false, c.if-run-run2-2.false, c.requires.open))
     c.turn_at.ensures.items c.turn_at-2.ensures.items next.ensures.parity next.ensures.near next.ensures.right

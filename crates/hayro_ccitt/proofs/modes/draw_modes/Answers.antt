@@ -23,5 +23,6 @@ turns-preserved c =
       drawn = twice_2d half (rw turned2.1 at second.drawn);
       stroke = rw turned2.1 at second.stroke;
       inside = turned2.0;
+      room = turned2.4;
       same_bits = second.same_bits ∙ first.same_bits ∙ c.turns.invariant.same_bits;
     }
