@@ -63,7 +63,7 @@ pub use Rattle.hayro_ccitt.specs.Runs.{codes_of, read_run, run_from, run_of_word
 pub use Rattle.hayro_ccitt.specs.Settings.{AreSettings}
 pub use Rattle.hayro_ccitt.specs.Ticks.{looked, looked_ahead, looked_at_tag, missed, run_found, run_gives, tag_tests, word_found}
 pub use Rattle.hayro_ccitt.specs.UsualModes.{AreRunsHere, GoesOn2d, IsB1, IsNear, IsStroke, TurnsFrom}
-pub use Rattle.hayro_ccitt.specs.UsualRuns.{GoesOn, IsReached, IsRunHere, IsWordHere, pen_at}
+pub use Rattle.hayro_ccitt.specs.UsualRuns.{GoesOn, IsReached, IsRunHere, IsWordHere, RunGoesOn, pen_at}
 pub use Rattle.hayro_ccitt.specs.Window.{AtHand, IsFilled, moved, place_in_word}
 pub use Rattle.hayro_ccitt.specs.Work.{CountsRun, CountsWork, IsPaidUpTo, found_here, most_counted, most_from_line, most_given_up}
 pub use Rattle.hayro_ccitt.specs.Work.{words_of, words_of_turn}
