@@ -9,8 +9,8 @@ use Rattle.hayro_ccitt.specs.Context.{Held}
 use Rattle.hayro_ccitt.specs.RowsRead.{RowsRead, ReaderStands, DamageIsCounted, MissIsTold, WorkIsPaid, read_so_far}
 
 -- what is kept of a reading whose data is elsewhere: the context, the order of the bits, the offset of the next bit, that of the
--- last row's line and its fault where it was repaired, that of an EOL that the last gap lacked, where the reading is, and the work of
--- all calls
+-- last row's line and its fault where it was repaired, that of an EOL that the last gap lacked, where the reading is, and the
+-- work of all calls
 pub record Paused : Type 0 where
   pub held : Held
   pub order : BitOrder

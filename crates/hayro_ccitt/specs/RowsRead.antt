@@ -39,8 +39,8 @@ is_at_line AtEnd = false
 is_at_line (AtFault error) = false
 
 -- what is read and with which settings, the number of rows read, the last one, the offset of its line and its fault if it was
--- repaired, the offset at which the last gap lacked an EOL, how the reading has ended, whether there is a line here, the offset of
--- the next bit, and the work of all calls
+-- repaired, the offset at which the last gap lacked an EOL, how the reading has ended, whether there is a line here, the offset
+-- of the next bit, and the work of all calls
 pub record RowsRead : Type 0 where
   pub settings : DecodeSettings
   pub bits : Bits

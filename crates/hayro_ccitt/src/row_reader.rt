@@ -7,9 +7,9 @@ ghost use Rattle.hayro_ccitt.specs.Context.{fresh};
 ghost use Rattle.hayro_ccitt.specs.Rows.{changes};
 ghost use Rattle.hayro_ccitt.specs.Damage.{repairs_by_line, misses_by_line};
 ghost use Rattle.hayro_ccitt.specs.Work.{CountsWork};
-ghost use Rattle.hayro_ccitt.specs.RowsRead.{damage_since, missed_since, start_after, ReaderStands, IsPaid, ReachesNextLine, ReadsNext};
+ghost use Rattle.hayro_ccitt.specs.RowsRead.{damage_since, missed_since, start_after, ReaderStands, IsPaid, ReachesNextLine};
 ghost use Rattle.hayro_ccitt.specs.RowsRead.{stand_after, line_after, is_at_line, at_end_of_rows, ended, seen, IsStanding};
-ghost use Rattle.hayro_ccitt.specs.RowsRead.{IsStandingAtLine, DamageIsCounted, gaps_passed};
+ghost use Rattle.hayro_ccitt.specs.RowsRead.{IsStandingAtLine, DamageIsCounted, ReadsNext, gaps_passed};
 
 use crate::bit_reader::{BitOrder, BitReader};
 use crate::context::DecoderContext;

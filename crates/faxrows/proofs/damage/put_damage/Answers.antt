@@ -1,4 +1,4 @@
-use Rattle.faxrows.proofs.Names.{rules, ◌≡◌, ◌++◌, ◌-◌, ◌∙◌, [], true, false, length, refl, sym, Ok, Err, Result, Bool, List, ℕ}
+use Rattle.faxrows.proofs.Names.{rules, ◌≡◌, ◌++◌, ◌-◌, ◌∙◌, [], true, false, length, refl, sym, Ok, Result, Bool, ℕ}
 use Rattle.faxrows.proofs.Names.{Option, ap, subst, DecodeError, ReadsNext, AppendsFront, damage_lines, line_of_damage}
 use Rattle.faxrows.proofs.Names.{line_of_miss, PassesOn, rows_of}
 use Rattle.faxrows.proofs.{Outputs.front_behind, Outputs.passes_both, RowsInTurn.Came, RowsInTurn.came}

@@ -14,7 +14,8 @@ pub returns-in_err-put_number-clause-front : goal.returns-in_err-put_number-clau
 returns-in_err-put_number-clause-front g c =
     let numbers : AppendsFront (g.W.Write.contents c.put.new.writer.0) (g.W.Write.contents c.put_number.new.writer.0)
     (c.put.new.waiting.items ++ ((number_and c.args.first 32) ++ (number_and c.args.second c.args.sign))) = front_of_longer _ _
-    c.put.new.waiting.items (number_and c.args.first 32) (number_and c.args.second c.args.sign) c.in_err-put_number.ensures.front in
+    c.put.new.waiting.items (number_and c.args.first 32) (number_and c.args.second c.args.sign)
+    c.in_err-put_number.ensures.front in
     let front : AppendsFront (g.W.Write.contents c.args.writer.now.0) (g.W.Write.contents c.put_number.new.writer.0)
     (c.args.waiting.now.items ++ (c.args.word.now ++ ((number_and c.args.first 32) ++ (number_and c.args.second c.args.sign))))
     = front_behind _ _ _ c.args.waiting.now.items c.args.word.now c.put.new.waiting.items _ c.in_ok-put.ensures.ok numbers in

@@ -2,7 +2,8 @@ use Rattle.hayro_ccitt.proofs.Names.{OnErr, OnOk, IfOk, Ok, Err, sum_by, ℕ, �
 use Rattle.hayro_ccitt.proofs.Names.{Result, length, drop, ap, sym, subst, arith, refl, IfErr-weaker, DecodeError, Stand}
 use Rattle.hayro_ccitt.proofs.Names.{DecodeSettings, Bits, here, Held, Repairs, gap_said, gap_behind_row, failed_at}
 use Rattle.hayro_ccitt.proofs.Names.{ReachesNextLine, ReaderStands, read_so_far, start_after, stand_after, IsStanding}
-use Rattle.hayro_ccitt.proofs.Names.{DamageIsCounted, MissIsTold, WorkIsPaid, missed_before, missed_since, seen, looked_ahead, tag_tests, words_of}
+use Rattle.hayro_ccitt.proofs.Names.{DamageIsCounted, MissIsTold, WorkIsPaid, missed_before, missed_since, seen, looked_ahead}
+use Rattle.hayro_ccitt.proofs.Names.{tag_tests, words_of}
 use Rattle.hayro_ccitt.proofs.{Readings.DamageCounted.repaired_behind, Work.CallsPaid.behind_row_paid, Work.CallsPaid.gap_paid}
 use Rattle.hayro_ccitt.proofs.{row_reader.RowState.come_to_line.Goals.After-line_after_gap}
 use Rattle.hayro_ccitt.proofs.Readings.RowByRow.{starts_behind, behind_row_stands, damage_stays, misses_behind_row, misses_passed}
@@ -177,6 +178,7 @@ returns-clause-comes c stands =
     c.line_after_gap.result) (sym c.stand_after_gap-self.ensures) (subst (λ (r : Result Bool DecodeError). ReachesNextLine old
     (read_so_far last c.pass_gap-over.new.ctx.ticks at start rows.damage missed (stand_after c.pass_gap-over.result)) r)
     (sym c.line_after_gap.ensures) (comes_to_line old last c.pass_gap-over.new.ctx.ticks
-    at start rows.damage missed c.pass_gap-over.result settings c.pass_gap-over.ensures.same_bits taken c.pass_gap-over.ensures.counts
+    at start rows.damage missed c.pass_gap-over.result settings c.pass_gap-over.ensures.same_bits taken
+    c.pass_gap-over.ensures.counts
     (ap (λ (h : Held). h.reference) c.pass_gap-over.ensures.held, refl) (start_stays c) (passed c stands) (started c stands)
     (told c stands)))

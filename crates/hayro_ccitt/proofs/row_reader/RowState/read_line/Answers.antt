@@ -199,8 +199,8 @@ returns-in-Ok-clause-reads c at =
       end = λ e. cc;
       error = tt;
       fault_start = λ unended. tt;
-      missed = told_at_line c.args.self.now.stand c.args.self.now.ctx.held.settings reader.bits c.args.self.now.ctx.held.taken _ at.0
-          at.1.3;
+      missed = told_at_line c.args.self.now.stand c.args.self.now.ctx.held.settings reader.bits
+          c.args.self.now.ctx.held.taken _ at.0 at.1.3;
       last = λ none. absurd (none refl);
       last_start = λ e. cc;
     }
@@ -224,8 +224,8 @@ returns-in-Err-clause-reads c at =
       fault_start = λ unended. line_start_of reader.place reader.bits c.bit_pos-self.result c.bit_pos-self.ensures.place
           c.bit_pos-self.ensures.within
           ∙ fails_at_line held.settings reader.bits held (here reader) stands;
-      missed = told_at_line c.args.self.now.stand c.args.self.now.ctx.held.settings reader.bits c.args.self.now.ctx.held.taken _ at.0
-          at.1.3;
+      missed = told_at_line c.args.self.now.stand c.args.self.now.ctx.held.settings reader.bits
+          c.args.self.now.ctx.held.taken _ at.0 at.1.3;
       last = λ none. (row_left c, refl);
       last_start = λ e. cc;
     }
