@@ -39,15 +39,20 @@ def assert_same_by_row(words, data, done):
 def assert_damage(words, data, lines, status):
     """With `-d` the program reads as many rows, and ends in the same way. Only lenient data of Group 3 are repaired."""
     done = run(["-d", *words], data)
-    *damaged, last = done.stdout.decode().splitlines()
+    *told_of, last = done.stdout.decode().splitlines()
+    damaged = [line for line in told_of if line.startswith("damaged ")]
+    missed = [line for line in told_of if line.startswith("missed ")]
     rows, (end, _, told) = len(lines) - 1, lines[-1].partition(" ")
     place = last.split()[2]
     expected = f"ok {rows} {len(damaged)} {told}" if end == "ok" else f"error {rows} {place} {told}"
     assert (done.returncode, last, done.stderr) == (status, expected, b""), ("-d", words, done)
     assert end == "ok" or int(place) <= 8 * len(data), ("-d", words, done)
-    numbers = [int(line.split()[1]) for line in damaged]
-    assert numbers == sorted(set(numbers)) and all(number < rows for number in numbers), ("-d", words, damaged)
-    assert not damaged or (words[0] != "g4" and "s" not in words[3]), ("-d", words, damaged)
+    numbers = [int(line.split()[1]) for line in told_of]
+    places = [int(line.split()[2]) for line in told_of]
+    assert len(told_of) == len(damaged) + len(missed), ("-d", words, told_of)
+    assert numbers == sorted(set(numbers)) and all(number < rows for number in numbers), ("-d", words, told_of)
+    assert places == sorted(places) and all(place <= 8 * len(data) for place in places), ("-d", words, told_of)
+    assert not told_of or (words[0] != "g4" and "s" not in words[3]), ("-d", words, told_of)
 
 
 def real_strips():
@@ -193,7 +198,10 @@ INVALID, CUT = "invalid CCITT code sequence", "unexpected end of input"
 DAMAGE = [
     ("g4 8 1 -", "31C0", ["ok 1 0 2"], 0),
     ("g4 8 1 r", "8C03", ["ok 1 0 2"], 0),
-    ("1d 8 2 l", "0019F800CC", ["ok 2 0 5"], 0),
+    ("1d 8 2 l", "0019F800CC", ["missed 0 17", "ok 2 0 5"], 0),
+    ("1d 8 0 l", "0019CC", ["missed 0 17", f"error 2 22 {CUT}"], 1),
+    ("1d 8 0 lb", "0019C0040040040040040040", ["missed 0 17", "ok 1 0 12"], 0),
+    ("1d 8 4 l", "0019800C400033800CC0", [f"damaged 1 29 {INVALID}", "missed 2 56", "ok 4 1 10"], 0),
     ("1d 8 0 sl", "0019CC", [f"error 1 17 {INVALID}"], 1),
     ("1d 8 0 l", "0019800C400033", [f"damaged 1 29 {INVALID}", "ok 3 1 7"], 0),
     ("1d 8 0 sl", "0019800C400033", [f"error 1 29 {INVALID}"], 1),

@@ -5,7 +5,7 @@ use Rattle.hayro_ccitt.specs.declared.error.DecodeError.{DecodeError}
 use Rattle.hayro_ccitt.specs.declared.error.DecodeError.TheVariants.{OutOfMemory}
 use Rattle.hayro_ccitt.specs.declared.settings.DecodeSettings.{DecodeSettings}
 use Rattle.hayro_ccitt.specs.Bits.{Bits}
-use Rattle.hayro_ccitt.specs.Damage.{fault_in, repairs_by_line}
+use Rattle.hayro_ccitt.specs.Damage.{fault_in, misses_by_line, repairs_by_line, start_in}
 use Rattle.hayro_ccitt.specs.PlainReading.{line_starts, failed_at}
 use Rattle.hayro_ccitt.specs.Texts as library
 use Rattle.faxrows.specs.Runs.{Outcome, EndsAfter, rows_of, outcome_of}
@@ -28,10 +28,22 @@ abbrev pub line_of_damage : ℕ → ℕ → Option DecodeError → List ℕ
 line_of_damage row start None = []
 line_of_damage row start (Some fault) = numbered (codes "damaged ") row start ++ end_with_fault fault
 
--- that of the row with this index (T.4, 4.1.2)
-abbrev pub damage_of_row : DecodeSettings → Bits → ℕ → List ℕ
-damage_of_row settings bits row =
+-- The line of an EOL that is missed after a row: `missed`, the row's index, and the offset in bits at which it is expected (T.4,
+-- 4.1.2).
+abbrev pub line_of_miss : ℕ → Option ℕ → List ℕ
+line_of_miss row None = []
+line_of_miss row (Some start) = codes "missed " ++ (number_and row 32 ++ number_and start 10)
+
+-- those of the row with this index, and of the EOL after it (T.4, 4.1.2)
+abbrev pub repair_of_row : DecodeSettings → Bits → ℕ → List ℕ
+repair_of_row settings bits row =
     line_of_damage row (get_or (line_starts settings bits) row 0) (fault_in (get_or (repairs_by_line settings bits) row []))
+
+abbrev pub miss_of_row : DecodeSettings → Bits → ℕ → List ℕ
+miss_of_row settings bits row = line_of_miss row (start_in (get_or (misses_by_line settings bits) row []))
+
+abbrev pub damage_of_row : DecodeSettings → Bits → ℕ → List ℕ
+damage_of_row settings bits row = repair_of_row settings bits row ++ miss_of_row settings bits row
 
 -- the lines of the first n rows
 abbrev pub damage_lines : DecodeSettings → Bits → ℕ → List ℕ

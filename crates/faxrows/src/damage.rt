@@ -14,7 +14,7 @@ ghost use Rattle.faxrows.specs.Runs.{Outcome, OnKnown, rows_of, outcome_of, done
 ghost use Rattle.faxrows.specs.RunsByRow.{EndsByRow};
 
 use crate::arguments::arguments_of;
-use crate::damage_lines::{put_fault, put_good_end};
+use crate::damage_lines::{put_fault, put_good_end, put_missed};
 use crate::output::flush;
 use crate::program::{Done, done_of};
 use fax_program::{Device, RunFault, read_all};
@@ -24,7 +24,8 @@ use std::io::{Read, Write};
 
 /// Reads all that the reader has, decodes it row by row as the arguments mean, and writes the damage instead of the rows:
 /// for each row that was repaired a line of `damaged`, the row's index, the offset in bits at which its line begins, and
-/// the fault; and then `ok`, the rows, the number of them that were repaired, and the byte count, or `error`, the index of
+/// the fault; for each EOL that was missed a line of `missed`, the index of the row before it, and the offset in bits at
+/// which it is expected; and then `ok`, the rows, the number of them that were repaired, and the byte count, or `error`, the index of
 /// the row that can't be read, the offset in bits at which its line begins or its EOL is missing, and the error.
 ///
 /// # Errors
@@ -69,8 +70,8 @@ pub fn run_damage<R: Read, W: Write>(
     write_damage(alloc, &mut rows, writer)
 }
 
-/// Reads row by row from the first one on, and writes a line for each row that was repaired, and then how the reading
-/// ended. It fails only if the writer does.
+/// Reads row by row from the first one on, and writes a line for each row that was repaired and for each missed EOL, and then
+/// how the reading ended. It fails only if the writer does.
 fn write_damage<W: Write>(
     alloc: Global,
     rows: &mut RowReader<'_>,
@@ -96,7 +97,8 @@ fn write_damage<W: Write>(
     Ok(done_of(&outcome))
 }
 
-/// Reads row by row from the first one on, puts a line for each row that was repaired, and returns how the reading ended.
+/// Reads row by row from the first one on, puts a line for each row that was repaired and for each missed EOL, and returns how
+/// the reading ended.
 fn put_damage<W: Write>(
     rows: &mut RowReader<'_>,
     waiting: &mut Vec<u8>,
@@ -119,7 +121,10 @@ fn put_damage<W: Write>(
     ensures only { IfErr result (λ fault. fault ≡ RunFault.Write) }
 {
     loop {
-        match rows.next_row() {
+        let read = rows.rows_read();
+        let answer = rows.next_row();
+        put_missed(read, rows.missed_eol(), waiting, writer)?;
+        match answer {
             Ok(true) => put_last_row(rows, waiting, writer)?,
             Ok(false) => return Ok(Ok(rows.bytes_read())),
             Err(error) => return Ok(Err(error)),

@@ -171,6 +171,14 @@ fn ran_for_damage(
 /// Data of three rows, the second of which is damaged, and what is written of it.
 const DAMAGED_ROWS: [u8; 7] = [0x00, 0x19, 0x80, 0x0C, 0x40, 0x00, 0x33];
 
+/// The same, and behind it a bit, an EOL and a white line.
+const DAMAGED_AND_MISSED: [u8; 10] = [0x00, 0x19, 0x80, 0x0C, 0x40, 0x00, 0x33, 0x80, 0x0C, 0xC0];
+
+/// An EOL, a white line, a bit, and RTC.
+const MISSED_BEFORE_RTC: [u8; 12] = [
+    0x00, 0x19, 0xC0, 0x04, 0x00, 0x40, 0x04, 0x00, 0x40, 0x04, 0x00, 0x40,
+];
+
 const DAMAGE: &str = "damaged 1 29 invalid CCITT code sequence\nok 3 1 7\n";
 
 #[test]
@@ -194,6 +202,24 @@ fn writes_damage(rt: HostRuntime) -> Result<(), Fail> {
             DAMAGED_ROWS.as_slice(),
             Done::Good,
             "ok 1 0 4\n",
+        ),
+        (
+            "1d 8 4 l",
+            DAMAGED_AND_MISSED.as_slice(),
+            Done::Good,
+            "damaged 1 29 invalid CCITT code sequence\nmissed 2 56\nok 4 1 10\n",
+        ),
+        (
+            "1d 8 0 l",
+            [0x00, 0x19, 0xCC].as_slice(),
+            Done::Faulty,
+            "missed 0 17\nerror 2 22 unexpected end of input\n",
+        ),
+        (
+            "1d 8 0 lb",
+            MISSED_BEFORE_RTC.as_slice(),
+            Done::Good,
+            "missed 0 17\nok 1 0 12\n",
         ),
         (
             "g4 8 2 -",

@@ -6,7 +6,7 @@ use Rattle.hayro_ccitt.proofs.Names.{InvalidCode, DecodeSettings, IsFault, OnAns
 use Rattle.hayro_ccitt.proofs.Names.{with_missed, Damaged, repaired_in, repaired_by_turn, missed_behind, missed_by_turn}
 use Rattle.hayro_ccitt.proofs.Names.{CountsDamage, repairs_with, repairs_behind, with_row_taken, Line, Progress, Ending, Move}
 use Rattle.hayro_ccitt.proofs.Names.{row_of_line, behind_row, with_row, eols_here, limit_met, at_end, misses_eol, move_on}
-use Rattle.hayro_ccitt.proofs.Names.{one_each, gathered_from, Turn, Row}
+use Rattle.hayro_ccitt.proofs.Names.{one_each, gathered_from, Turn, Row, missed_since, start_in, None, Some}
 use Rattle.hayro_ccitt.proofs.{Readings.Gathered.gathered_after, Readings.TurnsMoveOn.left_to_read, Work.RunsCount.sum_more}
 use Rattle.hayro_ccitt.proofs.Readings.RunsOverRows.{RowByRow, Comes, comes_first, comes_next, held_between, lines, lines_on}
 
@@ -154,6 +154,34 @@ missed_once settings bits so_far (Line.whole row rest) =
     either_way : (b : Bool) (x : Damaged) → length (cond {A = List Damaged} b (x ∷ []) []) ≤ 1
     either_way true x = omega arith
     either_way false x = omega arith
+
+-- it is missed where its row ends
+pub missed_starts : (settings : DecodeSettings) (bits : Bits) (so_far : Progress) (line : Line) (row : Row) (rest : Bits)
+    → row_of_line settings so_far.has_eols so_far.rest line ≡ Ok (row, rest) → (after : Repairs) (before : ℕ)
+    → after.missed ≡ before + length (missed_behind settings bits so_far line)
+    → missed_since after before (length bits - length rest) ≡ start_in (missed_behind settings bits so_far line)
+missed_starts settings bits so_far (Line.broken front fault) row rest is after before more =
+    cond-true (eqb after.missed before) None (Some (length bits - length rest))
+    (eq-eqb after.missed before (omega (arith, more)))
+missed_starts settings bits so_far (Line.whole pixels behind) row rest is after before more =
+    let same : ◌≡◌ {A = Row × Bits} (pixels, behind_row settings so_far.has_eols behind) (row, rest) = cc in
+    let here : rest ≡ behind_row settings so_far.has_eols behind = sym (ap (λ (x : Row × Bits). x.1) same) in
+    either_way (misses_eol settings (length so_far.rows + 1) so_far.has_eols
+    (behind_row settings so_far.has_eols behind) && not settings.strict) (record {
+      row = length so_far.rows;
+      start = length bits - length (behind_row settings so_far.has_eols behind);
+      fault = InvalidCode;
+    }) (ap (λ (b : Bits). length bits - length b) here) more
+  where
+    either_way : (b : Bool) (x : Damaged) → length bits - length rest ≡ x.start
+        → after.missed ≡ before + length (cond {A = List Damaged} b (x ∷ []) [])
+        → missed_since after before (length bits - length rest) ≡ start_in (cond {A = List Damaged} b (x ∷ []) [])
+    either_way true x there more =
+        cond-false (eqb after.missed before) None (Some (length bits - length rest))
+        (ne_eqb after.missed before (λ same. absurd (omega (arith, same, more)))) ∙ ap Some there
+    either_way false x there more =
+        cond-true (eqb after.missed before) None (Some (length bits - length rest))
+        (eq-eqb after.missed before (omega (arith, more)))
 
 -- where there is no row, no EOL is missed
 pub missed_none : (settings : DecodeSettings) (bits : Bits) (so_far : Progress) (line : Line) (e : DecodeError)

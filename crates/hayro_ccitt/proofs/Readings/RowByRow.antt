@@ -12,12 +12,12 @@ use Rattle.hayro_ccitt.proofs.Names.{at_front, ending_from, ending_behind, one_e
 use Rattle.hayro_ccitt.proofs.Names.{bytes_before, whole_reading, plain, lines_of, line_starts, start_of_turn, Gap, misses_eol}
 use Rattle.hayro_ccitt.proofs.Names.{eols_here, is_over, limit_met, at_end, row_ends, end_of_row, end_of_turn, failed_at, Turn}
 use Rattle.hayro_ccitt.proofs.Names.{Reaches, Row, found_here, words_of, words_of_turn, Stand, AtLine, BehindRow, AtEnd, AtFault}
-use Rattle.hayro_ccitt.proofs.Names.{EncodingMode, Group4, RowsRead, ReadsNext, damage_since, start_after}
+use Rattle.hayro_ccitt.proofs.Names.{EncodingMode, Group4, RowsRead, ReadsNext, gaps_before, damage_since, start_after}
 use Rattle.hayro_ccitt.proofs.Names.{ReachesNextLine, read_so_far, line_after, DamageIsCounted, MissesAreCounted, MissesBehindRow}
 use Rattle.hayro_ccitt.proofs.Names.{Misses, ReaderStands, ended, stand_after, is_at_line, StandsAtLine, StandsBehindRow}
-use Rattle.hayro_ccitt.proofs.Names.{HasEnded, HasFailed, context_at}
+use Rattle.hayro_ccitt.proofs.Names.{HasEnded, HasFailed, MissIsTold, context_at, missed_before, missed_since, start_in}
 use Rattle.hayro_ccitt.proofs.{Readings.GapsAndRows.first_gap_t4, Readings.Repeated.reaches_on, Work.RunsCount.sum_more}
-use Rattle.hayro_ccitt.proofs.Readings.DamageCounted.{repaired_counts, missed_counts, few_behind, last_behind}
+use Rattle.hayro_ccitt.proofs.Readings.DamageCounted.{repaired_counts, missed_counts, missed_starts, few_behind, last_behind}
 use Rattle.hayro_ccitt.proofs.Readings.PlainAnswers.{some_columns, bytes_before-place}
 use Rattle.hayro_ccitt.proofs.Readings.RowsTaken.{by_rows_left, row_of_turn, reads_row, turn_is}
 use Rattle.hayro_ccitt.proofs.Readings.RunsOverRows.{lines_on, Comes, Between, Leaves, held_between-more, comes_done, comes_more}
@@ -159,6 +159,15 @@ module _ (settings : DecodeSettings) (wide : 0 < settings.columns) (bits : Bits)
       pub missed_more : sum_by length (take (rows + 1) (misses_by_line settings bits))
           ≡ sum_by length (take rows (misses_by_line settings bits)) + length (missed_by_turn settings bits so_far)
       missed_more = gathered_more (misses_by_line settings bits) (missed_by_turn settings bits) misses_are
+
+      -- and it is told where its EOL was missed
+      pub missed_is : get_or (misses_by_line settings bits) rows [] ≡ missed_by_turn settings bits so_far
+      missed_is =
+          let gives = missed_by_turn settings bits in
+          get_or-there (misses_by_line settings bits) rows (gives so_far) []
+          (ap (λ (n : ℕ). slice_get (misses_by_line settings bits) n) taken
+          ∙ ap (λ (xs : List (List Damaged)). slice_get xs (length so_far.rows)) misses_are
+          ∙ comes_line (by_rows_left settings wide) none_first (comes gives) (gives so_far) refl)
 
       -- its words
       words_are : words_of settings bits ≡ gathered_from (move_on settings) (one_each (words_of_turn settings)) first
@@ -533,51 +542,89 @@ first_line_stands settings wide bits other last rest frame is room = record {
   rest_is = is;
 }
 
+-- a row adds no missed EOL
+repairs_with_missed : (line : Line) (taken : ℕ) (before : Repairs) → (repairs_with line taken before).missed ≡ before.missed
+repairs_with_missed (Line.whole row rest) taken before = refl
+repairs_with_missed (Line.broken front fault) taken before = refl
+
 -- the gap behind a row tells of its EOL
-pub misses_passed : (settings : DecodeSettings) (bits : Bits) (held : Held) (here : Bits)
-    → StandsBehindRow settings bits held here → MissesBehindRow settings bits held → (last : Held)
-    → last.repairs ≡ repairs_behind held here → last.taken ≡ held.taken → MissesAreCounted settings bits last.repairs last.taken
-misses_passed settings bits held here stands misses last counts taken =
-    let so_far = stands.so_far in
-    let n = length so_far.rows in
-    let line = line_of_turn settings so_far in
-    let more : held.taken ≡ n + 1 = ap (λ (h : Held). h.taken) stands.held_is ∙ length-append so_far.rows (stands.row ∷ []) in
-    let index : held.taken - 1 ≡ n = omega (arith, more) in
-    let found : ◌≡◌ {A = Option Line} (Some misses.line) (Some line) = sym misses.line_is ∙ ap (slice_get
-    (lines_of settings bits)) index ∙ line_is settings stands.wide bits stands.begins stands.reaches in
-    let same : misses.line ≡ line = cc in
-    let before = misses.before in
-    let known : MissesAreCounted settings bits before n = subst (MissesAreCounted settings bits before) index misses.counted in
-    let repairs : held.repairs ≡ repairs_with line n before = misses.repairs_are
-    ∙ ap (λ (k : ℕ). repairs_with misses.line k before) index ∙ ap (λ (l : Line). repairs_with l n before) same in
-    let then : last.repairs
-    ≡ repairs_behind (context_at settings (with_row so_far stands.row here) (repairs_with line n before)) here = counts ∙ ap
-    (λ (h : Held). repairs_behind h here) (stands.held_is ∙ ap (context_at settings (with_row so_far stands.row here)) repairs) in
-    let one = missed_counts settings bits so_far line stands.row here before stands.row_is known.last known.few in
-    record {
-      few = omega (
-        arith,
-        taken,
-        more,
-        ap (λ (r : Repairs). r.missed) then,
-        few_behind settings bits so_far line stands.row here before stands.row_is known.last known.few,
-      );
-      last = omega (
-        arith,
-        taken,
-        more,
-        ap (λ (r : Repairs). r.last) then,
-        last_behind settings bits so_far line stands.row here before stands.row_is known.last known.few,
-      );
-      counted = omega (
-        arith,
-        ap (λ (r : Repairs). r.missed) then,
-        one,
-        known.counted,
-        missed_more settings stands.wide bits stands.begins stands.reaches refl,
-        ap (λ (k : ℕ). sum_by length (take k (misses_by_line settings bits))) (taken ∙ more),
-      );
-    }
+module _ (settings : DecodeSettings) (bits : Bits) (held : Held) (here : Bits) (stands : StandsBehindRow settings bits held here)
+    (misses : MissesBehindRow settings bits held) (last : Held) (counts : last.repairs ≡ repairs_behind held here) where
+  abbrev there : Progress
+  there = stands.so_far
+
+  abbrev read : ℕ
+  read = length there.rows
+
+  abbrev its_line : Line
+  its_line = line_of_turn settings there
+
+  one_more : held.taken ≡ read + 1
+  one_more = ap (λ (h : Held). h.taken) stands.held_is ∙ length-append there.rows (stands.row ∷ [])
+
+  index : held.taken - 1 ≡ read
+  index = omega (arith, one_more)
+
+  known : MissesAreCounted settings bits misses.before read
+  known = subst (MissesAreCounted settings bits misses.before) index misses.counted
+
+  read_with : held.repairs ≡ repairs_with its_line read misses.before
+  read_with =
+      let found : ◌≡◌ {A = Option Line} (Some misses.line) (Some its_line) = sym misses.line_is ∙ ap (slice_get
+      (lines_of settings bits)) index ∙ line_is settings stands.wide bits stands.begins stands.reaches in
+      let same : misses.line ≡ its_line = cc in
+      misses.repairs_are ∙ ap (λ (k : ℕ). repairs_with misses.line k misses.before) index
+      ∙ ap (λ (l : Line). repairs_with l read misses.before) same
+
+  then : last.repairs
+      ≡ repairs_behind (context_at settings (with_row there stands.row here) (repairs_with its_line read misses.before)) here
+  then =
+      counts ∙ ap (λ (h : Held). repairs_behind h here) (stands.held_is
+      ∙ ap (context_at settings (with_row there stands.row here)) read_with)
+
+  one : last.repairs.missed ≡ misses.before.missed + length (missed_by_turn settings bits there)
+  one =
+      ap (λ (r : Repairs). r.missed) then
+      ∙ missed_counts settings bits there its_line stands.row here misses.before stands.row_is known.last known.few
+
+  -- it is counted
+  pub misses_passed : last.taken ≡ held.taken → MissesAreCounted settings bits last.repairs last.taken
+  misses_passed taken =
+      record {
+        few = omega (
+          arith,
+          taken,
+          one_more,
+          ap (λ (r : Repairs). r.missed) then,
+          few_behind settings bits there its_line stands.row here misses.before stands.row_is known.last known.few,
+        );
+        last = omega (
+          arith,
+          taken,
+          one_more,
+          ap (λ (r : Repairs). r.last) then,
+          last_behind settings bits there its_line stands.row here misses.before stands.row_is known.last known.few,
+        );
+        counted = omega (
+          arith,
+          one,
+          known.counted,
+          missed_more settings stands.wide bits stands.begins stands.reaches refl,
+          ap (λ (k : ℕ). sum_by length (take k (misses_by_line settings bits))) (taken ∙ one_more),
+        );
+      }
+
+  -- and its offset is told
+  pub miss_told : (place : ℕ) → place ≡ length bits - length here
+      → missed_since last.repairs held.repairs.missed place ≡ missed_before settings bits held.taken
+  miss_told place is =
+      let next : held.taken ≡ suc read = omega (arith, one_more) in
+      let before = ap (λ (r : Repairs). r.missed) read_with ∙ repairs_with_missed its_line read misses.before in
+      ap (missed_since last.repairs held.repairs.missed) is
+      ∙ missed_starts settings bits there its_line stands.row here stands.row_is last.repairs held.repairs.missed
+      (one ∙ ap (λ (k : ℕ). k + length (missed_by_turn settings bits there)) (sym before))
+      ∙ sym (ap (missed_before settings bits) next
+      ∙ ap start_in (missed_is settings stands.wide bits stands.begins stands.reaches refl))
 
 -- the count of missed EOLs at a line, behind a row, and after a gap
 pub misses_at_line : (stand : Stand) (settings : DecodeSettings) (bits : Bits) (held : Held) → is_at_line stand ≡ true
@@ -599,6 +646,20 @@ pub misses_after : (answer : Result Bool DecodeError) (settings : DecodeSettings
 misses_after (Ok true) settings bits held misses = misses
 misses_after (Ok false) settings bits held misses = misses
 misses_after (Err error) settings bits held misses = misses
+
+-- the offset of a missed EOL at a line, and after a gap
+pub told_at_line : (stand : Stand) (settings : DecodeSettings) (bits : Bits) (taken : ℕ) (missed : Option ℕ)
+    → is_at_line stand ≡ true → MissIsTold stand settings bits taken missed → missed ≡ missed_before settings bits taken
+told_at_line AtLine settings bits taken missed is told = told
+told_at_line BehindRow settings bits taken missed is told = absurd (false≢true is)
+told_at_line AtEnd settings bits taken missed is told = told
+told_at_line (AtFault error) settings bits taken missed is told = told
+
+pub told_after : (answer : Result Bool DecodeError) (settings : DecodeSettings) (bits : Bits) (taken : ℕ) (missed : Option ℕ)
+    → missed ≡ missed_before settings bits taken → MissIsTold (stand_after answer) settings bits taken missed
+told_after (Ok true) settings bits taken missed told = told
+told_after (Ok false) settings bits taken missed told = told
+told_after (Err error) settings bits taken missed told = told
 
 -- before the first row there are none
 pub none_damaged : (stand : Stand) (settings : DecodeSettings) (bits : Bits) (held : Held)
@@ -632,14 +693,15 @@ damage_stays before stand settings given bits read held last same are taken repa
 
 -- the result of a call that passes a gap
 pub comes_to_line : (old : RowsRead) (last : Held) (ticks : ℕ) (at : BitsAt) (n : ℕ) (damage : Option DecodeError)
-    (answer : Result Bool DecodeError)
+    (missed : Option ℕ) (answer : Result Bool DecodeError)
     → last.settings ≡ old.settings → at.bits ≡ old.bits → last.taken ≡ old.taken → old.ticks ≤ ticks
     → (last.reference ≡ old.row) × (damage ≡ old.damage) → IfOk answer (λ over. n ≡ old.line_start)
     → ReaderStands (stand_after answer) old.settings old.bits last at.place
-    → OnErr answer (n ≡ failed_at old.settings old.bits old.taken)
-    → ReachesNextLine old (read_so_far last ticks at n damage (stand_after answer)) (line_after answer)
-comes_to_line old last ticks at n damage (Ok true) settings bits taken counts row begun stands start =
+    → OnErr answer (n ≡ failed_at old.settings old.bits old.taken) → missed ≡ missed_before old.settings old.bits old.taken
+    → ReachesNextLine old (read_so_far last ticks at n damage missed (stand_after answer)) (line_after answer)
+comes_to_line old last ticks at n damage missed (Ok true) settings bits taken counts row begun stands start told =
     record {
+      missed = told;
       counts = counts;
       last = row;
       last_start = begun;
@@ -652,8 +714,9 @@ comes_to_line old last ticks at n damage (Ok true) settings bits taken counts ro
       end = λ e. (refl, stands);
       error = tt;
     }
-comes_to_line old last ticks at n damage (Ok false) settings bits taken counts row begun stands start =
+comes_to_line old last ticks at n damage missed (Ok false) settings bits taken counts row begun stands start told =
     record {
+      missed = told;
       counts = counts;
       last = row;
       last_start = begun;
@@ -666,8 +729,9 @@ comes_to_line old last ticks at n damage (Ok false) settings bits taken counts r
       end = λ e. cc;
       error = tt;
     }
-comes_to_line old last ticks at n damage (Err error) settings bits taken counts row begun stands start =
+comes_to_line old last ticks at n damage missed (Err error) settings bits taken counts row begun stands start told =
     record {
+      missed = told;
       counts = counts;
       last = row;
       last_start = tt;
@@ -708,6 +772,18 @@ reads_on old mid new result comes reads =
           (new.end ≡ Some (Err e)) × (new.taken ≡ n) × HasFailed s b new.taken e)) reads.error;
       fault_start = λ unended. at (λ s b n. OnErr result (new.line_start ≡ failed_at s b n))
           (reads.fault_start (comes.unended refl));
+      missed = at (λ s b n. new.missed ≡ missed_before s b n) reads.missed;
       last = λ none. ((reads.last none).0 ∙ comes.last.0, (reads.last none).1 ∙ comes.last.1);
       last_start = λ none. reads.last_start none ∙ comes.last_start;
     }
+
+-- the count of missed EOLs is that of the gaps that were passed
+pub missed_told : (stand : Stand) (settings : DecodeSettings) (bits : Bits) (held : Held) → Misses stand settings bits held
+    → held.repairs.missed
+    ≡ sum_by length (take (gaps_before (ended stand) (is_at_line stand) held.taken) (misses_by_line settings bits))
+missed_told AtLine settings bits held misses = misses.counted
+missed_told BehindRow settings bits held misses =
+    ap (λ (r : Repairs). r.missed) misses.repairs_are ∙ repairs_with_missed misses.line (held.taken - 1) misses.before
+    ∙ misses.counted.counted
+missed_told AtEnd settings bits held misses = misses.counted
+missed_told (AtFault error) settings bits held misses = misses.counted
