@@ -12,7 +12,7 @@ use Rattle.hayro_ccitt.proofs.Names.{at_front, ending_from, ending_behind, one_e
 use Rattle.hayro_ccitt.proofs.Names.{bytes_before, whole_reading, plain, lines_of, line_starts, start_of_turn, Gap, misses_eol}
 use Rattle.hayro_ccitt.proofs.Names.{eols_here, is_over, limit_met, at_end, row_ends, end_of_row, end_of_turn, failed_at, Turn}
 use Rattle.hayro_ccitt.proofs.Names.{Reaches, Row, found_here, words_of, words_of_turn, Stand, AtLine, BehindRow, AtEnd, AtFault}
-use Rattle.hayro_ccitt.proofs.Names.{EncodingMode, Group4, RowsRead, ReadsNext, gaps_before, damage_since, start_after}
+use Rattle.hayro_ccitt.proofs.Names.{EncodingMode, Group4, RowsRead, ReadsNext, damage_since, start_after}
 use Rattle.hayro_ccitt.proofs.Names.{ReachesNextLine, read_so_far, line_after, DamageIsCounted, MissesAreCounted, MissesBehindRow}
 use Rattle.hayro_ccitt.proofs.Names.{Misses, ReaderStands, ended, stand_after, is_at_line, StandsAtLine, StandsBehindRow}
 use Rattle.hayro_ccitt.proofs.Names.{HasEnded, HasFailed, MissIsTold, context_at, missed_before, missed_since, start_in}
@@ -776,14 +776,3 @@ reads_on old mid new result comes reads =
       last = λ none. ((reads.last none).0 ∙ comes.last.0, (reads.last none).1 ∙ comes.last.1);
       last_start = λ none. reads.last_start none ∙ comes.last_start;
     }
-
--- the count of missed EOLs is that of the gaps that were passed
-pub missed_told : (stand : Stand) (settings : DecodeSettings) (bits : Bits) (held : Held) → Misses stand settings bits held
-    → held.repairs.missed
-    ≡ sum_by length (take (gaps_before (ended stand) (is_at_line stand) held.taken) (misses_by_line settings bits))
-missed_told AtLine settings bits held misses = misses.counted
-missed_told BehindRow settings bits held misses =
-    ap (λ (r : Repairs). r.missed) misses.repairs_are ∙ repairs_with_missed misses.line (held.taken - 1) misses.before
-    ∙ misses.counted.counted
-missed_told AtEnd settings bits held misses = misses.counted
-missed_told (AtFault error) settings bits held misses = misses.counted
