@@ -93,11 +93,11 @@ fn draw_v0(
     requires open { painted < columns }
     requires ended { AreEnded columns places.now }
     requires stroke { IsStroke columns (changes_in places.now) painted index color row.old.items }
-    ensures drawn { IfSome result (λ on. GoesOn2d _strict columns (row_in columns places.now) (pen_at painted row.old.items color hand.old.at)
-        (pen_at on.0 row.new.items on.2 hand.new.at) ticks.old ticks.new (index - 1) (on.1 - 1)) }
-    ensures stroke { IfSome result (λ on. IsStroke columns (changes_in places.now) on.0 on.1 on.2 row.new.items) }
+    ensures drawn { IfSome result (λ reached. GoesOn2d _strict columns (row_in columns places.now) (pen_at painted row.old.items color hand.old.at)
+        (pen_at reached.0 row.new.items reached.2 hand.new.at) ticks.old ticks.new (index - 1) (reached.1 - 1)) }
+    ensures stroke { IfSome result (λ reached. IsStroke columns (changes_in places.now) reached.0 reached.1 reached.2 row.new.items) }
     ensures same_bits { hand.new.at.bits ≡ hand.old.at.bits }
-    ensures onward { IfSome result (λ on. (hand.old.at.place < hand.new.at.place)
+    ensures onward { IfSome result (λ reached. (hand.old.at.place < hand.new.at.place)
         × (vec_len row.new + hand.new.left ≤ vec_capacity row.new)) }
     ensures left { IfNone result ((hand.new.at ≡ hand.old.at) × (row.new.items ≡ row.old.items) × (ticks.new ≡ ticks.old)) }
 {
@@ -135,11 +135,11 @@ fn draw_to_end(
     requires open { painted < columns }
     requires ended { AreEnded columns places.now }
     requires stroke { IsStroke columns (changes_in places.now) painted index color row.old.items }
-    ensures drawn { IfSome result (λ on. GoesOn2d _strict columns (row_in columns places.now) (pen_at painted row.old.items color hand.old.at)
-        (pen_at on.0 row.new.items on.2 hand.new.at) ticks.old ticks.new (index - 1) (on.1 - 1)) }
-    ensures stroke { IfSome result (λ on. IsStroke columns (changes_in places.now) on.0 on.1 on.2 row.new.items) }
+    ensures drawn { IfSome result (λ reached. GoesOn2d _strict columns (row_in columns places.now) (pen_at painted row.old.items color hand.old.at)
+        (pen_at reached.0 row.new.items reached.2 hand.new.at) ticks.old ticks.new (index - 1) (reached.1 - 1)) }
+    ensures stroke { IfSome result (λ reached. IsStroke columns (changes_in places.now) reached.0 reached.1 reached.2 row.new.items) }
     ensures same_bits { hand.new.at.bits ≡ hand.old.at.bits }
-    ensures onward { IfSome result (λ on. (hand.old.at.place < hand.new.at.place)
+    ensures onward { IfSome result (λ reached. (hand.old.at.place < hand.new.at.place)
         × (vec_len row.new + hand.new.left ≤ vec_capacity row.new)) }
     ensures left { IfNone result ((hand.new.at ≡ hand.old.at) × (row.new.items ≡ row.old.items) × (ticks.new ≡ ticks.old)) }
 {
@@ -175,11 +175,11 @@ fn draw_right(
     requires open { painted < columns }
     requires ended { AreEnded columns places.now }
     requires stroke { IsStroke columns (changes_in places.now) painted index color row.old.items }
-    ensures drawn { IfSome result (λ on. GoesOn2d _strict columns (row_in columns places.now) (pen_at painted row.old.items color hand.old.at)
-        (pen_at on.0 row.new.items on.2 hand.new.at) ticks.old ticks.new (index - 1) (on.1 - 1)) }
-    ensures stroke { IfSome result (λ on. IsStroke columns (changes_in places.now) on.0 on.1 on.2 row.new.items) }
+    ensures drawn { IfSome result (λ reached. GoesOn2d _strict columns (row_in columns places.now) (pen_at painted row.old.items color hand.old.at)
+        (pen_at reached.0 row.new.items reached.2 hand.new.at) ticks.old ticks.new (index - 1) (reached.1 - 1)) }
+    ensures stroke { IfSome result (λ reached. IsStroke columns (changes_in places.now) reached.0 reached.1 reached.2 row.new.items) }
     ensures same_bits { hand.new.at.bits ≡ hand.old.at.bits }
-    ensures onward { IfSome result (λ on. (hand.old.at.place < hand.new.at.place)
+    ensures onward { IfSome result (λ reached. (hand.old.at.place < hand.new.at.place)
         × (vec_len row.new + hand.new.left ≤ vec_capacity row.new)) }
     ensures left { IfNone result ((hand.new.at ≡ hand.old.at) × (row.new.items ≡ row.old.items) × (ticks.new ≡ ticks.old)) }
 {
@@ -220,11 +220,11 @@ fn draw_to_edge(
     requires open { painted < columns }
     requires ended { AreEnded columns places.now }
     requires stroke { IsStroke columns (changes_in places.now) painted index color row.old.items }
-    ensures drawn { IfSome result (λ on. GoesOn2d _strict columns (row_in columns places.now) (pen_at painted row.old.items color hand.old.at)
-        (pen_at on.0 row.new.items on.2 hand.new.at) ticks.old ticks.new (index - 1) (on.1 - 1)) }
-    ensures stroke { IfSome result (λ on. IsStroke columns (changes_in places.now) on.0 on.1 on.2 row.new.items) }
+    ensures drawn { IfSome result (λ reached. GoesOn2d _strict columns (row_in columns places.now) (pen_at painted row.old.items color hand.old.at)
+        (pen_at reached.0 row.new.items reached.2 hand.new.at) ticks.old ticks.new (index - 1) (reached.1 - 1)) }
+    ensures stroke { IfSome result (λ reached. IsStroke columns (changes_in places.now) reached.0 reached.1 reached.2 row.new.items) }
     ensures same_bits { hand.new.at.bits ≡ hand.old.at.bits }
-    ensures onward { IfSome result (λ on. (hand.old.at.place < hand.new.at.place)
+    ensures onward { IfSome result (λ reached. (hand.old.at.place < hand.new.at.place)
         × (vec_len row.new + hand.new.left ≤ vec_capacity row.new)) }
     ensures left { IfNone result ((hand.new.at ≡ hand.old.at) × (row.new.items ≡ row.old.items) × (ticks.new ≡ ticks.old)) }
 {
@@ -267,11 +267,11 @@ fn draw_left(
     requires open { painted < columns }
     requires ended { AreEnded columns places.now }
     requires stroke { IsStroke columns (changes_in places.now) painted index color row.old.items }
-    ensures drawn { IfSome result (λ on. GoesOn2d _strict columns (row_in columns places.now) (pen_at painted row.old.items color hand.old.at)
-        (pen_at on.0 row.new.items on.2 hand.new.at) ticks.old ticks.new (index - 1) (on.1 - 1)) }
-    ensures stroke { IfSome result (λ on. IsStroke columns (changes_in places.now) on.0 on.1 on.2 row.new.items) }
+    ensures drawn { IfSome result (λ reached. GoesOn2d _strict columns (row_in columns places.now) (pen_at painted row.old.items color hand.old.at)
+        (pen_at reached.0 row.new.items reached.2 hand.new.at) ticks.old ticks.new (index - 1) (reached.1 - 1)) }
+    ensures stroke { IfSome result (λ reached. IsStroke columns (changes_in places.now) reached.0 reached.1 reached.2 row.new.items) }
     ensures same_bits { hand.new.at.bits ≡ hand.old.at.bits }
-    ensures onward { IfSome result (λ on. (hand.old.at.place < hand.new.at.place)
+    ensures onward { IfSome result (λ reached. (hand.old.at.place < hand.new.at.place)
         × (vec_len row.new + hand.new.left ≤ vec_capacity row.new)) }
     ensures left { IfNone result ((hand.new.at ≡ hand.old.at) × (row.new.items ≡ row.old.items) × (ticks.new ≡ ticks.old)) }
 {
@@ -308,11 +308,11 @@ fn draw_pass(
     requires open { painted < columns }
     requires ended { AreEnded columns places.now }
     requires stroke { IsStroke columns (changes_in places.now) painted index color row.old.items }
-    ensures drawn { IfSome result (λ on. GoesOn2d _strict columns (row_in columns places.now) (pen_at painted row.old.items color hand.old.at)
-        (pen_at on.0 row.new.items on.2 hand.new.at) ticks.old ticks.new (index - 1) (on.1 - 1)) }
-    ensures stroke { IfSome result (λ on. IsStroke columns (changes_in places.now) on.0 on.1 on.2 row.new.items) }
+    ensures drawn { IfSome result (λ reached. GoesOn2d _strict columns (row_in columns places.now) (pen_at painted row.old.items color hand.old.at)
+        (pen_at reached.0 row.new.items reached.2 hand.new.at) ticks.old ticks.new (index - 1) (reached.1 - 1)) }
+    ensures stroke { IfSome result (λ reached. IsStroke columns (changes_in places.now) reached.0 reached.1 reached.2 row.new.items) }
     ensures same_bits { hand.new.at.bits ≡ hand.old.at.bits }
-    ensures onward { IfSome result (λ on. (hand.old.at.place < hand.new.at.place)
+    ensures onward { IfSome result (λ reached. (hand.old.at.place < hand.new.at.place)
         × (vec_len row.new + hand.new.left ≤ vec_capacity row.new)) }
     ensures left { IfNone result ((hand.new.at ≡ hand.old.at) × (row.new.items ≡ row.old.items) × (ticks.new ≡ ticks.old)) }
 {
@@ -394,11 +394,11 @@ fn draw_horizontal(
     requires open { painted < columns }
     requires ended { AreEnded columns places.now }
     requires stroke { IsStroke columns (changes_in places.now) painted index color row.old.items }
-    ensures drawn { IfSome result (λ on. GoesOn2d _strict columns (row_in columns places.now) (pen_at painted row.old.items color hand.old.at)
-        (pen_at on.0 row.new.items on.2 hand.new.at) ticks.old ticks.new (index - 1) (on.1 - 1)) }
-    ensures stroke { IfSome result (λ on. IsStroke columns (changes_in places.now) on.0 on.1 on.2 row.new.items) }
+    ensures drawn { IfSome result (λ reached. GoesOn2d _strict columns (row_in columns places.now) (pen_at painted row.old.items color hand.old.at)
+        (pen_at reached.0 row.new.items reached.2 hand.new.at) ticks.old ticks.new (index - 1) (reached.1 - 1)) }
+    ensures stroke { IfSome result (λ reached. IsStroke columns (changes_in places.now) reached.0 reached.1 reached.2 row.new.items) }
     ensures same_bits { hand.new.at.bits ≡ hand.old.at.bits }
-    ensures onward { IfSome result (λ on. (hand.old.at.place < hand.new.at.place)
+    ensures onward { IfSome result (λ reached. (hand.old.at.place < hand.new.at.place)
         × (vec_len row.new + hand.new.left ≤ vec_capacity row.new)) }
     ensures left { IfNone result ((hand.new.at ≡ hand.old.at) × (row.new.items ≡ row.old.items) × (ticks.new ≡ ticks.old)) }
 {
@@ -450,13 +450,13 @@ fn draw_mode_at_hand(
     requires open { painted < columns }
     requires ended { AreEnded columns places.now }
     requires stroke { IsStroke columns (changes_in places.now) painted index color row.old.items }
-    ensures drawn { IfSome result (λ on. GoesOn2d strict columns (row_in columns places.now) (pen_at painted row.old.items color hand.old.at)
-        (pen_at on.0 row.new.items on.2 hand.new.at) ticks.old ticks.new (index - 1) (on.1 - 1)) }
-    ensures stroke { IfSome result (λ on. IsStroke columns (changes_in places.now) on.0 on.1 on.2 row.new.items) }
+    ensures drawn { IfSome result (λ reached. GoesOn2d strict columns (row_in columns places.now) (pen_at painted row.old.items color hand.old.at)
+        (pen_at reached.0 row.new.items reached.2 hand.new.at) ticks.old ticks.new (index - 1) (reached.1 - 1)) }
+    ensures stroke { IfSome result (λ reached. IsStroke columns (changes_in places.now) reached.0 reached.1 reached.2 row.new.items) }
     ensures same_bits { hand.new.at.bits ≡ hand.old.at.bits }
-    ensures onward { IfSome result (λ on. (hand.old.at.place < hand.new.at.place)
+    ensures onward { IfSome result (λ reached. (hand.old.at.place < hand.new.at.place)
         × (vec_len row.new + hand.new.left ≤ vec_capacity row.new)) }
-    ensures there { IfSome result (λ on. hand.old.at.place < length hand.old.at.bits) }
+    ensures there { IfSome result (λ reached. hand.old.at.place < length hand.old.at.bits) }
     ensures left { IfNone result ((hand.new.at ≡ hand.old.at) × (row.new.items ≡ row.old.items) × (ticks.new ≡ ticks.old)) }
 {
     let (mode, width) = mode_at_hand(hand);

@@ -137,10 +137,10 @@ fn draw_two_runs(
     requires even { length row.old.items % 2 ≡ 0 }
     requires white { AreEntries (codes_of Color.White) white.now }
     requires black { AreEntries (codes_of Color.Black) black.now }
-    ensures drawn { IfSome result (λ on. GoesOn strict columns (pen_at painted row.old.items Color.White hand.old.at)
-        (pen_at on.0 row.new.items on.1 hand.new.at) ticks.old ticks.new) }
-    ensures taken { IfSome result (λ on. IsReached columns on.0 on.1 row.new.items) }
-    ensures forward { IfSome result (λ on. painted < on.0) }
+    ensures drawn { IfSome result (λ reached. GoesOn strict columns (pen_at painted row.old.items Color.White hand.old.at)
+        (pen_at reached.0 row.new.items reached.1 hand.new.at) ticks.old ticks.new) }
+    ensures taken { IfSome result (λ reached. IsReached columns reached.0 reached.1 row.new.items) }
+    ensures forward { IfSome result (λ reached. painted < reached.0) }
     ensures same_bits { hand.new.at.bits ≡ hand.old.at.bits }
     ensures onward { hand.old.at.place ≤ hand.new.at.place }
     ensures left { IfNone result ((hand.new.at ≡ hand.old.at) × (row.new.items ≡ row.old.items) × (ticks.new ≡ ticks.old)) }
@@ -329,10 +329,10 @@ fn draw_pair(
     requires even { length row.old.items % 2 ≡ 0 }
     requires white { AreEntries (codes_of Color.White) white.now }
     requires black { AreEntries (codes_of Color.Black) black.now }
-    ensures drawn { IfSome result (λ on. GoesOn strict columns (pen_at painted row.old.items Color.White hand.old.at)
-        (pen_at on.0 row.new.items on.1 hand.new.at) ticks.old ticks.new) }
-    ensures taken { IfSome result (λ on. IsReached columns on.0 on.1 row.new.items) }
-    ensures forward { IfSome result (λ on. painted < on.0) }
+    ensures drawn { IfSome result (λ reached. GoesOn strict columns (pen_at painted row.old.items Color.White hand.old.at)
+        (pen_at reached.0 row.new.items reached.1 hand.new.at) ticks.old ticks.new) }
+    ensures taken { IfSome result (λ reached. IsReached columns reached.0 reached.1 row.new.items) }
+    ensures forward { IfSome result (λ reached. painted < reached.0) }
     ensures same_bits { hand.new.at.bits ≡ hand.old.at.bits }
     ensures onward { hand.old.at.place ≤ hand.new.at.place }
     ensures left { IfNone result ((hand.new.at ≡ hand.old.at) × (row.new.items ≡ row.old.items) × (ticks.new ≡ ticks.old)) }
