@@ -1,4 +1,5 @@
 -- The words that a line finds are consecutive from where it begins, and end before each EOL's one.
+use Rattle.hayro_ccitt.proofs.Readings.Gathered.{gathered_after}
 use Rattle.hayro_ccitt.proofs.Names.{◌≡◌, take, Result, Ok, Err, subst, append_assoc, ℕ, zero, suc, ◌+◌, ◌<◌, Bool, true, false}
 use Rattle.hayro_ccitt.proofs.Names.{List, [], ◌∷◌, ◌++◌, length, replicate, refl, sym, ap, ◌∙◌, arith, inl, inr, false≢true}
 use Rattle.hayro_ccitt.proofs.Names.{cases_lt, length-append, length-replicate, append-nil, DecodeError, UnexpectedEof, Color}
@@ -13,11 +14,6 @@ use Rattle.hayro_ccitt.proofs.{CodeWords.ReadCodes.read_code_found, Readings.Rep
 use Rattle.hayro_ccitt.proofs.BitReading.ZerosInWords.{codes_free, modes_free, free_by, no_one, holds_a_one, word_one}
 use Rattle.hayro_ccitt.proofs.BitReading.ZerosInWords.{no_eleven_in, prefix_of_prefix}
 use Rattle.hayro_ccitt.proofs.CodeWords.ReadRuns.{chosen, word_next, not_done, done_is}
-
--- the words of the turns after this one
-abbrev pub gathered_after : {S R A : Type 0} → (S → List A) → Turn S R → List A
-gathered_after rest (Turn.next s) = rest s
-gathered_after rest (Turn.done r) = []
 
 -- ---- Consecutive words here.
 pub record Stands (here : Bits) (found : List Bits) (rest : Bits) : Type 0 where

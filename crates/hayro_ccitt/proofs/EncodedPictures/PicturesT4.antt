@@ -1,11 +1,12 @@
 -- A T.4 picture is read again.
+use Rattle.hayro_ccitt.proofs.BitReading.PlainEols.{few_keep_the_tag}
 use Rattle.hayro_ccitt.proofs.Names.{◌≡◌, ◌≢◌, ℕ, zero, suc, ◌+◌, ◌<◌, ◌≤◌, Bool, true, false, cond, ◌&&◌, ◌||◌, ltb, leb, List}
 use Rattle.hayro_ccitt.proofs.Names.{[], ◌∷◌, ◌++◌, length, replicate, Some, None, Ok, Err, refl, sym, ap, subst, ◌∙◌}
 use Rattle.hayro_ccitt.proofs.Names.{append_assoc, arith, inl, inr, All, and_right, and_from, not_from_false, or_from, cond-false}
 use Rattle.hayro_ccitt.proofs.Names.{eq-eqb, ne_eqb, length-append, length-replicate, append-nil, All-head, All-tail, Color}
 use Rattle.hayro_ccitt.proofs.Names.{White, UnexpectedEof, EncodingMode, Group3_1D, Group3_2D, Group4, DecodeSettings, Bits, Turn}
 use Rattle.hayro_ccitt.proofs.Names.{repeated, Row, codes_of, Line, line_1d, line_2d, after_eol, one_more, eols, all_eols}
-use Rattle.hayro_ccitt.proofs.Names.{past_tag, eols_with_tags, pass_last_tag, tagged_eols, eols_of_end, ending_behind, Progress}
+use Rattle.hayro_ccitt.proofs.Names.{past_tag, eols_with_tags, tagged_eols, eols_of_end, ending_behind, Progress}
 use Rattle.hayro_ccitt.proofs.Names.{Ending, row_before, aligned, at_end, limit_met, line_here, eols_here, after_line, move_on}
 use Rattle.hayro_ccitt.proofs.Names.{ending_from, end_of, Spells, EncodesLine1D, EncodesLine2D, EncodesLine, eol, tag_of}
 use Rattle.hayro_ccitt.proofs.Names.{IsPicture, EncodesRowsWithEols, ClosesWithEols, PictureT4, each_word, ReadsPictureT4}
@@ -64,15 +65,12 @@ all_eols_more fill more =
 one_eol : (fill : ℕ) (here : Bits) → after_eol 0 here ≡ None → all_eols (eol fill ++ here) ≡ (1, here)
 one_eol fill here none = all_eols_more fill here ∙ ap one_more (eols-none (11 + fill + length here) here none)
 
-pass_none : (here : Bits) → pass_last_tag (1, here) ≡ (1, here)
-pass_none here = grind (arith, common_steps)
-
 tagged_eols_more : (most fill : ℕ) (more : Bits)
     → eols_with_tags (suc most) (eol fill ++ more) ≡ one_more (eols_with_tags most (past_tag more))
 tagged_eols_more most fill more = eols_with_tags-some most (eol fill ++ more) more (eol_stands fill more)
 
 one_tagged : (fill : ℕ) (here : Bits) → IsTagStart here → tagged_eols (eol fill ++ here) ≡ (1, here)
-one_tagged fill here at = grind (arith, common_steps, eols_with_tags-none, length-eol, pass_none, tagged_eols_more)
+one_tagged fill here at = grind (arith, common_steps, eols_with_tags-none, length-eol, few_keep_the_tag, tagged_eols_more)
 
 -- ---- Kinds.
 pub eols_here_one : (settings : DecodeSettings) (here : Bits) → settings.encoding ≡ Group3_1D

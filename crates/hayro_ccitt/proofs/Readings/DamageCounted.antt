@@ -197,79 +197,78 @@ last_with (Line.broken front fault) taken before within = omega arith
 -- ---- Damage of either kind, over a run
 
 module _ (settings : DecodeSettings) (told : Progress → List Damaged) (start : Progress) where
-  abbrev gives : Progress → List (List Damaged)
-  gives = one_each told
-
   -- the damage of each line from the start on
   abbrev pub all_damage : List (List Damaged)
-  all_damage = gathered_from (move_on settings) gives start
+  all_damage = gathered_from (move_on settings) (one_each told) start
 
   -- Between two rows: how much damage the rows so far have.
   pub record DamageCounted (so_far : Progress) (count : ℕ) : Type 0 where
-    pub comes : Comes (move_on settings) gives left_to_read start so_far
+    pub comes : Comes (move_on settings) (one_each told) left_to_read start so_far
     pub counted : count ≡ sum_by length (take (length so_far.rows) all_damage)
 
-  module _ (by_rows : RowByRow (move_on settings) left_to_read) (begins : start.rows ≡ []) where
-    -- before the first row there is none
-    pub none_counted : DamageCounted start 0
-    none_counted = record {
-      comes = comes_first (move_on settings) gives left_to_read by_rows start begins;
-      counted = sym (ap (λ (rows : List Row). sum_by length (take (length rows) all_damage)) begins);
+module _ {settings : DecodeSettings} {told : Progress → List Damaged} {start : Progress}
+    (by_rows : RowByRow (move_on settings) left_to_read) (begins : start.rows ≡ []) where
+  -- before the first row there is none
+  pub none_counted : DamageCounted settings told start start 0
+  none_counted = record {
+    comes = comes_first by_rows begins;
+    counted = sym (ap (λ (rows : List Row). sum_by length (take (length rows) (all_damage settings told start))) begins);
+  }
+
+  module _ {so_far : Progress} {count : ℕ} (counted : DamageCounted settings told start so_far count) where
+    abbrev told_whole : List (List Damaged)
+    told_whole = all_damage settings told start
+
+    follow : drop (length so_far.rows) told_whole
+        ≡ told so_far ∷ gathered_after (lines (move_on settings) (one_each told) left_to_read) (move_on settings so_far)
+    follow = lines_on by_rows begins counted.comes (told so_far) refl
+
+    with_row_counted : (taken then : ℕ) → taken ≡ suc (length so_far.rows) → then ≡ count + length (told so_far)
+        → then ≡ sum_by length (take taken told_whole)
+    with_row_counted taken then more one = omega (
+      arith,
+      one,
+      counted.counted,
+      sum_more told_whole (length so_far.rows) (told so_far) _ follow,
+      ap (λ (k : ℕ). sum_by length (take k told_whole)) more,
+    )
+
+    -- one more row
+    pub damage_next : {after : Progress} {then : ℕ} → move_on settings so_far ≡ Turn.next after → length
+        after.rows ≡ suc (length so_far.rows) → then ≡ count + length (told so_far) → DamageCounted settings told start after then
+    damage_next {after} {then} goes more one = record {
+      comes = comes_next by_rows begins counted.comes (told so_far) refl goes more;
+      counted = with_row_counted (length after.rows) then more one;
     }
 
-    module _ (so_far : Progress) (count : ℕ) (counted : DamageCounted so_far count) where
-      follow : drop (length so_far.rows) all_damage ≡ told so_far ∷ gathered_after (lines (move_on settings) gives left_to_read)
-          (move_on settings so_far)
-      follow = lines_on (move_on settings) gives left_to_read by_rows start begins so_far counted.comes (told so_far) refl
+    -- all of it, where a turn is the last
+    all_counted : (end : Ending) → move_on settings so_far ≡ Turn.done end
+        → sum_by length told_whole ≡ count + length (told so_far)
+    all_counted end ends =
+        let last : drop (length so_far.rows) told_whole ≡ told so_far ∷ [] = follow
+        ∙ ap (λ (turn : Move). told so_far ∷ gathered_after (lines (move_on settings) (one_each told) left_to_read) turn) ends in
+        omega (arith, counted.counted, sum_by-take-drop length told_whole (length so_far.rows), ap (sum_by length) last)
 
-      with_row_counted : (taken then : ℕ) → taken ≡ suc (length so_far.rows) → then ≡ count + length (told so_far)
-          → then ≡ sum_by length (take taken all_damage)
-      with_row_counted taken then more one =
-          omega (
-            arith,
-            one,
-            counted.counted,
-            sum_more all_damage (length so_far.rows) (told so_far) _ follow,
-            ap (λ (k : ℕ). sum_by length (take k all_damage)) more,
-          )
+    -- a run that ends with one more row
+    pub damage_end_behind : {A : Type 0} {end : Ending} → move_on settings so_far ≡ Turn.done end
+        → {taken then : ℕ} {answer : Result A DecodeError} → taken ≡ suc (length so_far.rows)
+        → then ≡ count + length (told so_far) → CountsDamage told_whole taken then answer
+    damage_end_behind {A} {end} ends {taken} {then} {answer} more one =
+        record { of_taken = with_row_counted taken then more one; all = by_answer answer (one ∙ sym (all_counted end ends)) }
+      where
+        by_answer : {A : Type 0} (answer : Result A DecodeError) → then ≡ sum_by length told_whole
+            → OnAnswer answer (then ≡ sum_by length told_whole)
+        by_answer (Ok x) are = are
+        by_answer (Err e) are = λ fault. are
 
-      -- one more row
-      pub damage_next : (after : Progress) (then : ℕ) → move_on settings so_far ≡ Turn.next after
-          → length after.rows ≡ suc (length so_far.rows) → then ≡ count + length (told so_far) → DamageCounted after then
-      damage_next after then goes more one = record {
-        comes = comes_next (move_on settings) gives left_to_read by_rows start begins so_far counted.comes
-            (told so_far) refl after goes more;
-        counted = with_row_counted (length after.rows) then more one;
-      }
-
-      -- all of it, where a turn is the last
-      all_counted : (end : Ending) → move_on settings so_far ≡ Turn.done end
-          → sum_by length all_damage ≡ count + length (told so_far)
-      all_counted end ends =
-          let last : drop (length so_far.rows) all_damage ≡ told so_far ∷ []
-          = follow ∙ ap (λ (turn : Move). told so_far ∷ gathered_after (lines (move_on settings) gives left_to_read) turn) ends in
-          omega (arith, counted.counted, sum_by-take-drop length all_damage (length so_far.rows), ap (sum_by length) last)
-
-      -- a run that ends with one more row
-      pub damage_end_behind : {A : Type 0} (end : Ending) → move_on settings so_far ≡ Turn.done end
-          → (taken then : ℕ) (answer : Result A DecodeError) → taken ≡ suc (length so_far.rows)
-          → then ≡ count + length (told so_far) → CountsDamage all_damage taken then answer
-      damage_end_behind end ends taken then answer more one =
-          record { of_taken = with_row_counted taken then more one; all = by_answer answer (one ∙ sym (all_counted end ends)) }
-        where
-          by_answer : {A : Type 0} (answer : Result A DecodeError) → then ≡ sum_by length all_damage
-              → OnAnswer answer (then ≡ sum_by length all_damage)
-          by_answer (Ok x) are = are
-          by_answer (Err e) are = λ fault. are
-
-      -- and one that ends with the same rows, where the line is no row or an allocation failed
-      pub damage_end : {A : Type 0} (e : DecodeError) (taken then : ℕ) → taken ≡ length so_far.rows
-          → then ≡ count → (IsFault e → (told so_far ≡ []) × (end : Ending) × (move_on settings so_far ≡ Turn.done end))
-          → CountsDamage {A = A} all_damage taken then (Err e)
-      damage_end e taken then same kept fails = record {
-        of_taken = omega (arith, kept, counted.counted, ap (λ (k : ℕ). sum_by length (take k all_damage)) same);
-        all = λ fault. let (none, end, ends) = fails fault in omega (arith, kept, all_counted end ends, ap length none);
-      }
+    -- and one that ends with the same rows, where the line is no row or an allocation failed
+    pub damage_end : {A : Type 0} {e : DecodeError} {taken then : ℕ} → taken ≡ length so_far.rows
+        → then ≡ count → (IsFault e → (told so_far ≡ []) × (end : Ending) × (move_on settings so_far ≡ Turn.done end))
+        → CountsDamage {A = A} told_whole taken then (Err e)
+    damage_end same kept fails = record {
+      of_taken = omega (arith, kept, counted.counted, ap (λ (k : ℕ). sum_by length (take k told_whole)) same);
+      all = λ fault. let (none, end, ends) = fails fault in omega (arith, kept, all_counted end ends, ap length none);
+    }
 
 -- Between two rows: both kinds of damage are counted, and an EOL was missed after each row at most once.
 pub record DamageTold (settings : DecodeSettings) (bits : Bits) (start so_far : Progress) (repairs : Repairs) : Type 0 where

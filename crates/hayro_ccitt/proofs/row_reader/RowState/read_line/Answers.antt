@@ -32,9 +32,8 @@ row_was_read c at =
     let stands = at_line_stands rows.stand held.settings bits held c.args.reader.now.place at.0 at.1.0 in
     let same = begun_is held.settings bits held rest stands c.begin_line.new.self
     (ap (λ (x : Context). x.held) c.begin_line.ensures.frame) in
-    subst (λ (h : Held). IsRead held.settings bits h c.read_row.new.ctx.held rest (here c.read_row.new.reader)) same
-    (is_read held.settings bits c.begin_line.new.self.held rest (subst (λ (h : Held). StandsAtLine held.settings bits h rest)
-    (sym same) stands) c.read_row.new.ctx.held (here c.read_row.new.reader) c.in-Ok.ensures.row)
+    subst (λ (h : Held). IsRead held.settings bits h c.read_row.new.ctx.held rest (here c.read_row.new.reader))
+    same (is_read (subst (λ (h : Held). StandsAtLine held.settings bits h rest) (sym same) stands) c.in-Ok.ensures.row)
 
 -- or it wasn't
 row_was_not_read : (c : After-self-in-Err-1) → IsStandingAtLine c.args.self.now c.args.reader.now
@@ -47,8 +46,7 @@ row_was_not_read c at =
     let stands = at_line_stands rows.stand held.settings bits held c.args.reader.now.place at.0 at.1.0 in
     let same = begun_is held.settings bits held rest stands c.begin_line.new.self
     (ap (λ (x : Context). x.held) c.begin_line.ensures.frame) in
-    isnt_read held.settings bits c.begin_line.new.self.held rest (subst (λ (h : Held). StandsAtLine held.settings bits h rest)
-    (sym same) stands) c.read_row.new.ctx.held (here c.read_row.new.reader) c.in-Err.error c.in-Err.ensures.row
+    isnt_read (subst (λ (h : Held). StandsAtLine held.settings bits h rest) (sym same) stands) c.in-Err.ensures.row
 
 -- what an error leaves in the context
 settings_left : (c : After-self-in-Err-1) → c.read_row.new.ctx.held.settings ≡ c.args.self.now.ctx.held.settings
@@ -222,8 +220,7 @@ returns-in-Err-clause-reads c at =
       end = λ e. cc;
       error = (refl, taken_left c, row_was_not_read c at);
       fault_start = λ unended. line_start_of reader.place reader.bits c.bit_pos-self.result c.bit_pos-self.ensures.place
-          c.bit_pos-self.ensures.within
-          ∙ fails_at_line held.settings reader.bits held (here reader) stands;
+          c.bit_pos-self.ensures.within ∙ fails_at_line stands;
       missed = told_at_line c.args.self.now.stand c.args.self.now.ctx.held.settings reader.bits
           c.args.self.now.ctx.held.taken _ at.0 at.1.3;
       last = λ none. (row_left c, refl);
