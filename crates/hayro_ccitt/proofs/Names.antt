@@ -65,7 +65,7 @@ pub use Rattle.hayro_ccitt.specs.Settings.{AreSettings}
 pub use Rattle.hayro_ccitt.specs.Ticks.{looked, looked_ahead, looked_at_tag, missed, run_found, run_gives, tag_tests, word_found}
 pub use Rattle.hayro_ccitt.specs.UsualModes.{AreEnded, AreRunsHere, GoesOn2d, IsB1, IsNear, IsStroke, TurnsFrom, changes_in}
 pub use Rattle.hayro_ccitt.specs.UsualModes.{row_in}
-pub use Rattle.hayro_ccitt.specs.UsualRuns.{GoesOn, IsReached, IsRunHere, IsWordHere, pen_at}
+pub use Rattle.hayro_ccitt.specs.UsualRuns.{GoesOn, IsReached, IsRunHere, IsWordHere, RunGoesOn, pen_at}
 pub use Rattle.hayro_ccitt.specs.Window.{AtHand, IsFilled, moved, place_in_word}
 pub use Rattle.hayro_ccitt.specs.Work.{CountsRun, CountsWork, IsPaidUpTo, found_here, mode_found, most_counted, most_for_lines}
 pub use Rattle.hayro_ccitt.specs.Work.{most_from_line, most_given_up, runs_found, runs_found_behind, second_run_found, words_of}

@@ -602,7 +602,7 @@ impl DecoderContext {
         }
     }
 
-    /// The same, without a call where the row is full.
+    /// The same, without a call where the row is full or black is next.
     #[inline(always)]
     fn draw_usual_runs(&mut self, reader: &mut BitReader<'_>)
         ensures drawn { GoesOn self.old.held.settings.strict self.old.held.settings.columns
@@ -611,11 +611,30 @@ impl DecoderContext {
         ensures same_bits { reader.new.bits ≡ reader.old.bits }
         ensures onward { reader.old.place ≤ reader.new.place }
     {
+        // After the first run of a line black is next, unless the row is full.
+        if !self.color.is_white() {
+            return;
+        }
         // Most often a full row is a white one.
         if self.pixels_decoded == self.settings.columns {
             return;
         }
         self.draw_runs_of(reader);
+    }
+
+    /// Draws the first runs of a line as long as they are usual, if the row before has two changes or more: most often this
+    /// row has as many. Plain calls draw fewer runs at less cost.
+    #[inline(always)]
+    fn draw_first_runs(&mut self, reader: &mut BitReader<'_>)
+        ensures drawn { GoesOn self.old.held.settings.strict self.old.held.settings.columns
+            (pen_of self.old.held (here reader.old)) (pen_of self.new.held (here reader.new)) self.old.ticks self.new.ticks }
+        ensures held { self.new.held ≡ redrawn self.old.held self.new.held.front self.new.held.color }
+        ensures same_bits { reader.new.bits ≡ reader.old.bits }
+    {
+        if self.ref_changes.len() < 2 {
+            return;
+        }
+        self.draw_usual_runs(reader);
     }
 
     /// Draws modes from the start of a line as long as they are usual.
@@ -792,6 +811,7 @@ pub fn decode_1d_line(ctx: &mut DecoderContext, reader: &mut BitReader<'_>) -> R
     ensures at_most { ctx.new.ticks ≤ ctx.old.ticks + length (words_from_1d ctx.old.held (here reader.old)) + 1 }
 {
     ctx.begin_line(); // The first run is white.
+    ctx.draw_first_runs(reader);
     'runs: while !ctx.is_full() {
         ctx.draw_run(reader)?;
         ctx.draw_usual_runs(reader);

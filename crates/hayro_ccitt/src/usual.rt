@@ -8,7 +8,7 @@ ghost use Rattle.hayro_ccitt.specs.LookUps.{AreEntries};
 ghost use Rattle.hayro_ccitt.specs.Rows.{AreChanges, pixels, opposite};
 ghost use Rattle.hayro_ccitt.specs.UsualModes.{AreEnded, changes_in, IsNear, IsB1};
 ghost use Rattle.hayro_ccitt.specs.Runs.{codes_of};
-ghost use Rattle.hayro_ccitt.specs.UsualRuns.{IsWordHere, IsRunHere, IsReached, GoesOn, pen_at};
+ghost use Rattle.hayro_ccitt.specs.UsualRuns.{IsWordHere, IsRunHere, IsReached, GoesOn, RunGoesOn, pen_at};
 ghost use Rattle.hayro_ccitt.specs.Window.{moved};
 
 use crate::bit_reader::BitsAtHand;
@@ -203,6 +203,62 @@ fn has_two_words(hand: &mut BitsAtHand<'_>) -> bool
         return true;
     }
     hand.refill()
+}
+
+/// Passes a make-up word of a run whose words before it sum to `total`, and returns the sum with it; or `None`, passing
+/// nothing, if none is at hand or the sum may exceed 32 bits.
+#[inline(always)]
+fn pass_makeup_word(
+    hand: &mut BitsAtHand<'_>,
+    color: Color,
+    words: &[u16],
+    total: u32,
+    ticks: &mut Ticks,
+) -> Option<u32>
+    requires entries { AreEntries (codes_of color) words.now }
+    ensures on { IfSome result (λ sum. RunGoesOn color total (here hand.old.at) sum (here hand.new.at) ticks.old ticks.new) }
+    ensures shorter { IfSome result (λ sum. length (here hand.new.at) < length (here hand.old.at)) }
+    ensures same_bits { hand.new.at.bits ≡ hand.old.at.bits }
+    ensures left { IfNone result ((hand.new.at ≡ hand.old.at) × (ticks.new ≡ ticks.old)) }
+{
+    if !has_two_words(hand) {
+        return None;
+    }
+    let (run, width) = word_at_hand(hand, 0, color, words);
+    if run < 64 {
+        return None;
+    }
+    if run == 4095 {
+        return None;
+    }
+    if total > u32::MAX - 4095 {
+        return None;
+    }
+    hand.pass(width);
+    ticks.tick();
+    Some(total + run)
+}
+
+/// Passes the make-up words at hand of a run whose words before them sum to `start`, and returns the sum with them.
+#[inline(always)]
+pub(crate) fn pass_makeup_words(
+    hand: &mut BitsAtHand<'_>,
+    color: Color,
+    words: &[u16],
+    start: u32,
+    ticks: &mut Ticks,
+) -> u32
+    requires entries { AreEntries (codes_of color) words.now }
+    ensures on { RunGoesOn color start (here hand.old.at) result (here hand.new.at) ticks.old ticks.new }
+    ensures same_bits { hand.new.at.bits ≡ hand.old.at.bits }
+{
+    let mut total = start;
+    'words: loop {
+        match pass_makeup_word(hand, color, words, total, ticks) {
+            None => return total,
+            Some(sum) => total = sum,
+        }
+    }
 }
 
 /// Draws a white run and a black one of one code word each that end before the row does: the most frequent case.

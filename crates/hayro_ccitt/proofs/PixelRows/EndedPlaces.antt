@@ -1,5 +1,5 @@
 -- The changes of a row with its end twice behind them.
-use Rattle.hayro_ccitt.proofs.Names.{◌≡◌, ℕ, zero, suc, ◌+◌, ◌<◌, ◌++◌, List, [], ◌∷◌, length, get_or, refl, ap, ◌∙◌, arith}
+use Rattle.hayro_ccitt.proofs.Names.{◌≡◌, ℕ, zero, suc, ◌<◌, ◌++◌, List, [], ◌∷◌, length, get_or, refl, ap, ◌∙◌, arith}
 use Rattle.hayro_ccitt.proofs.Names.{AreChanges, AreEnded, changes_in, inl, inr, cases_lt, get_or_past, length-append}
 use Rattle.std.proofs.lemmas.List.{take_at}
 

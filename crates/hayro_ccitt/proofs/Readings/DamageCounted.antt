@@ -96,9 +96,9 @@ either true y e = refl
 either false y e = absurd cc
 
 -- an EOL is counted after a row that wasn't repaired, and after one that was it isn't
-missed_more : (before : Repairs) (taken : ℕ) → before.last < taken → before.missed < taken
+missed_by_one_more : (before : Repairs) (taken : ℕ) → before.last < taken → before.missed < taken
     → (with_missed taken before).missed ≡ before.missed + 1
-missed_more before taken last few =
+missed_by_one_more before taken last few =
     ap (λ (r : Repairs). r.missed) (cond-false (eqb before.last taken || leb taken before.missed) before
     (record before { missed = before.missed + 1 }) (neither (eqb before.last taken) (leb taken before.missed)
     (ne_eqb before.last taken (λ same. absurd (omega (arith, same, last)))) (lt-leb taken before.missed few)))
@@ -128,7 +128,7 @@ missed_counts settings bits so_far (Line.whole pixels behind) row rest before is
   where
     by_b : (b c : Bool) → b ≡ c → (taken : ℕ) → taken ≡ length so_far.rows + 1 → (x : Damaged)
         → (cond b (with_missed taken before) before).missed ≡ before.missed + length (cond {A = List Damaged} c (x ∷ []) [])
-    by_b true true same taken more x = missed_more before taken (omega (arith, last, more)) (omega (arith, few, more))
+    by_b true true same taken more x = missed_by_one_more before taken (omega (arith, last, more)) (omega (arith, few, more))
     by_b true false same taken more x = absurd cc
     by_b false true same taken more x = absurd cc
     by_b false false same taken more x = omega arith

@@ -4,8 +4,16 @@ use Rattle.hayro_ccitt.proofs.{DrawingLines.ReadLines.drawn_run_shorter, Reading
 use Rattle.hayro_ccitt.proofs.DrawingLines.CountedLines.{found_1d_from, found_after, counted_by_run, none_after_fault}
 use Rattle.hayro_ccitt.proofs.DrawingLines.Drawings.{drawn_by, step_1d}
 use Rattle.hayro_ccitt.proofs.DrawingLines.DrawnLines.{open_by, line_by_run, line_1d_fails}
-use Rattle.hayro_ccitt.proofs.DrawingLines.UsualStrokes.{IsDrawn1d, drawn_on, not_longer}
+use Rattle.hayro_ccitt.proofs.DrawingLines.UsualStrokes.{IsDrawn1d, begun_1d, drawn_on, not_longer}
 use Rattle.hayro_ccitt.proofs.context.decode_1d_line.Goals as goal
+
+pub runs-init : goal.runs-init
+runs-init c =
+    let begun = c.begin_line.new.self in
+    let first = c.draw_first_runs in
+    drawn_on c.args.ctx.now begun first.new.self c.args.reader.now c.args.reader.now first.new.reader
+    (begun_1d c.args.ctx.now begun c.args.reader.now c.begin_line.ensures.frame)
+    first.ensures.drawn first.ensures.held first.ensures.same_bits
 
 pub runs-smaller : goal.runs-smaller
 runs-smaller c =

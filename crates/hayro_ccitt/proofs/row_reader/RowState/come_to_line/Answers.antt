@@ -2,8 +2,8 @@ use Rattle.hayro_ccitt.proofs.Names.{OnErr, OnOk, IfOk, Ok, Err, sum_by, â„•, â—
 use Rattle.hayro_ccitt.proofs.Names.{Result, length, drop, ap, sym, subst, arith, refl, IfErr-weaker, DecodeError, Stand}
 use Rattle.hayro_ccitt.proofs.Names.{DecodeSettings, Bits, here, Held, Repairs, gap_said, gap_behind_row, failed_at}
 use Rattle.hayro_ccitt.proofs.Names.{ReachesNextLine, ReaderStands, read_so_far, start_after, stand_after, IsStanding}
-use Rattle.hayro_ccitt.proofs.Names.{StandsBehindRow, DamageIsCounted, MissIsTold, WorkIsPaid, missed_before, missed_since}
-use Rattle.hayro_ccitt.proofs.Names.{seen, looked_ahead, tag_tests, words_of}
+use Rattle.hayro_ccitt.proofs.Names.{StandsBehindRow, DamageIsCounted, MissIsTold, WorkIsPaid, missed_before, missed_since, seen}
+use Rattle.hayro_ccitt.proofs.Names.{looked_ahead, tag_tests, words_of}
 use Rattle.hayro_ccitt.proofs.{Readings.DamageCounted.repaired_behind, Work.CallsPaid.behind_row_paid, Work.CallsPaid.gap_paid}
 use Rattle.hayro_ccitt.proofs.{row_reader.RowState.come_to_line.Goals.After-line_after_gap}
 use Rattle.hayro_ccitt.proofs.Readings.RowByRow.{starts_behind, behind_row_stands, damage_stays, misses_behind_row, misses_passed}
