@@ -1,6 +1,6 @@
 -- The damage of some data as lines of text.
 use Rattle.std.specs.Prelude.{◌≡◌, ◌⊎◌, ℕ, zero, suc, List, [], ◌∷◌, ◌++◌, length, take, get_or, sum_by, codes, decimal, Option}
-use Rattle.std.specs.Prelude.{None, Some, Ok, Err}
+use Rattle.std.specs.Prelude.{None, Some, Ok, Err, true, if◌then◌else◌}
 use Rattle.hayro_ccitt.specs.declared.error.DecodeError.{DecodeError}
 use Rattle.hayro_ccitt.specs.declared.error.DecodeError.TheVariants.{OutOfMemory}
 use Rattle.hayro_ccitt.specs.declared.settings.DecodeSettings.{DecodeSettings}
@@ -9,6 +9,7 @@ use Rattle.hayro_ccitt.specs.Damage.{fault_in, misses_by_line, repairs_by_line, 
 use Rattle.hayro_ccitt.specs.PlainReading.{line_starts, failed_at}
 use Rattle.hayro_ccitt.specs.Texts as library
 use Rattle.faxrows.specs.Runs.{Outcome, EndsAfter, rows_of, outcome_of}
+use Rattle.faxrows.specs.declared.strict_reading.StrictFault.{StrictFault}
 
 -- a number, and a sign after it
 abbrev pub number_and : ℕ → ℕ → List ℕ
@@ -62,9 +63,40 @@ last_line_of_damage settings bits rows (Ok count) =
 last_line_of_damage settings bits rows (Err error) =
     numbered (codes "error ") rows (failed_at settings bits rows) ++ end_with_fault error
 
+-- the settings of a strict reading
+abbrev pub strictly : DecodeSettings → DecodeSettings
+strictly settings = record settings { strict = true }
+
+-- the fault that ends a reading after this number of rows, if one does: the index of the row that can't be read, the offset in
+-- bits at which its line begins, or at which its EOL is missing, and the error (T.4, 4.1.2)
+abbrev pub fault_after : DecodeSettings → Bits → ℕ → Outcome → Option StrictFault
+fault_after settings bits rows (Ok count) = None
+fault_after settings bits rows (Err error) = Some (record {
+  row = rows;
+  start = failed_at settings bits rows;
+  fault = error;
+})
+
+-- What the strict reading finds in data that are read leniently: nothing exactly if it ends well (T.4, 4.1.2).
+abbrev pub strict_fault : DecodeSettings → Bits → Option StrictFault
+strict_fault settings bits =
+    if settings.strict
+    then None
+    else fault_after (strictly settings) bits (length (rows_of (strictly settings) bits)) (outcome_of (strictly settings) bits)
+
+-- its line: `strict`, the row's index, the offset, and the error
+abbrev pub line_of_strict : Option StrictFault → List ℕ
+line_of_strict None = []
+line_of_strict (Some found) = numbered (codes "strict ") found.row found.start ++ end_with_fault found.fault
+
+-- the line of the strict reading, and the last line
+abbrev pub end_of_damage : DecodeSettings → Bits → ℕ → Outcome → List ℕ
+end_of_damage settings bits rows outcome =
+    line_of_strict (strict_fault settings bits) ++ last_line_of_damage settings bits rows outcome
+
 -- what is written of the damage after this number of rows, and how the reading ended
 abbrev pub damage_after : DecodeSettings → Bits → ℕ → Outcome → List ℕ
-damage_after settings bits rows outcome = damage_lines settings bits rows ++ last_line_of_damage settings bits rows outcome
+damage_after settings bits rows outcome = damage_lines settings bits rows ++ end_of_damage settings bits rows outcome
 
 -- all that is written of the damage
 abbrev pub whole_damage : DecodeSettings → Bits → List ℕ
