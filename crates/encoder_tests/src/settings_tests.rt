@@ -1,7 +1,7 @@
 //! Encoding by settings. The bytes of the picture are those of libtiff 4.5.0 where it writes such data; the others were worked
 //! out from T.4 and T.6, apart from the encoder.
 
-use crate::{BitmapSink, EncodeError, EncodeSettings, Encoder, encode, encode_bitmap};
+use fax_encode::{BitmapSink, EncodeError, EncodeSettings, Encoder, encode, encode_bitmap};
 use hayro_ccitt::bit_reader::BitOrder;
 use hayro_ccitt::{DecodeSettings, DecoderContext, EncodingMode, bits_fit, decode_in};
 use named_requests::{made_at_last, refuse_request, was_refused};

@@ -1,12 +1,13 @@
 //! What no clause says: that allocations succeed, and that the bytes are those of the standards. They were worked out
 //! from T.4 and T.6, apart from the encoder.
 
-use crate::round_trip::settings_to_the_end;
-use crate::{
+use fax_encode::{
     BitmapSink, EncodeError, bitmap_by_group3, bitmap_by_group4, encode_1d, encode_bitmap_1d,
     encode_bitmap_g4, encode_g4, paint_row,
 };
-use hayro_ccitt::{DecodeError, Decoder, DecoderContext, EncodingMode, bits_fit, decode};
+use hayro_ccitt::{
+    DecodeError, DecodeSettings, Decoder, DecoderContext, EncodingMode, bits_fit, decode,
+};
 use named_requests::{made_at_last, refuse_request, was_refused};
 use std::alloc::{AllocError, AllocGlobal, Global};
 use std::process::Abort;
@@ -240,7 +241,15 @@ fn every_small_picture(rt: HostRuntime) -> Result<(), Fail> {
     let alloc = rt.alloc();
     for columns in 1..5u32 {
         let last = 4 - columns;
-        let settings = settings_to_the_end(columns, EncodingMode::Group3_1D, false);
+        let settings = DecodeSettings {
+            columns,
+            rows: 0,
+            end_of_block: true,
+            end_of_line: true,
+            rows_are_byte_aligned: false,
+            encoding: EncodingMode::Group3_1D,
+            strict: true,
+        };
         let Ok(mut ctx) = DecoderContext::new(alloc, settings) else {
             panic!(&rt; "no memory");
         };

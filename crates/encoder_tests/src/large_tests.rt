@@ -3,7 +3,9 @@
 //! A row of 2048 columns that is black from 3 to 5, 8 to 16, 17 to 129 and from 1024 on occupies twelve bytes
 //! one-dimensional with its EOL, and as many below a white row; below a row like itself it is eight times V0.
 
-use crate::{BitmapSink, bitmap_by_group3, bitmap_by_group4, encode_1d, encode_g4, rows_of_bitmap};
+use fax_encode::{
+    BitmapSink, bitmap_by_group3, bitmap_by_group4, encode_1d, encode_g4, rows_of_bitmap,
+};
 use std::alloc::{AllocError, AllocGlobal, Global};
 use std::process::Abort;
 use std::test::Fail;

@@ -1,6 +1,6 @@
 //! Bitmaps: the changes of a row are found, and encoding a bitmap is encoding its changes.
 
-use crate::{
+use fax_encode::{
     EncodeError, bitmap_by_group3, encode_1d, encode_bitmap_1d, encode_bitmap_g4, encode_g4,
     rows_of_bitmap,
 };

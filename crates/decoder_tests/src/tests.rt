@@ -21,6 +21,7 @@ use hayro_ccitt::{
     RowReader, bits_fit, decode, decode_low_first, group4,
 };
 use std::alloc::{AllocError, AllocGlobal, Global};
+use std::fmt::Debug;
 use std::process::Abort;
 use std::test::Fail;
 
@@ -110,6 +111,11 @@ fn group_3_2d(columns: u32, rows: u32, flags: &str) -> DecodeSettings
     ensures encoding { result.encoding ≡ EncodingMode.Group3_2D }
 {
     settings_of(EncodingMode::Group3_2D, columns, rows, flags)
+}
+
+/// Compares two values.
+fn same<T: PartialEq + Debug + Drop>(rt: &impl Abort, found: T, expected: T) {
+    assert_eq!(rt; found, expected);
 }
 
 /// Compares the rows of a sink, which are named by data.
@@ -496,19 +502,26 @@ fn reads_line_ends(rt: HostRuntime) {
     assert!(rt; bits_fit(&two_and_a_one));
     let mut reader = BitReader::new(&two_and_a_one);
     let (zeros, after) = reader.zero_run(&mut ticks);
-    assert_eq!(rt; (zeros, after.map(|after| after.bit_pos())), (11, Some(12)));
-    assert_eq!(rt;
-        (reader.read_eols(1, &mut ticks), reader.bit_pos()),
-        (1, 12)
+    same(
+        &rt,
+        (zeros, after.map(|after| after.bit_pos())),
+        (11, Some(12)),
     );
-    assert_eq!(rt;
+    same(
+        &rt,
+        (reader.read_eols(1, &mut ticks), reader.bit_pos()),
+        (1, 12),
+    );
+    same(
+        &rt,
         (reader.read_eols(9, &mut ticks), reader.bit_pos()),
-        (1, 24)
+        (1, 24),
     );
     let mut reader = BitReader::new(&two_and_a_one);
-    assert_eq!(rt;
+    same(
+        &rt,
         (reader.read_eol_if_available(&mut ticks), reader.bit_pos()),
-        (2, 24)
+        (2, 24),
     );
     // eight zeros alone, ten zeros and a one, fifteen zeros and a one
     for (data, count, place) in [
@@ -519,7 +532,7 @@ fn reads_line_ends(rt: HostRuntime) {
         assert!(rt; bits_fit(data));
         let mut reader = BitReader::new(data);
         let found = reader.read_eol_if_available(&mut ticks);
-        assert_eq!(rt; (data, found, reader.bit_pos()), (data, count, place));
+        same(&rt, (data, found, reader.bit_pos()), (data, count, place));
     }
     assert!(rt; bits_fit(&[0x00]));
     let (zeros, after) = BitReader::new(&[0x00]).zero_run(&mut ticks);
