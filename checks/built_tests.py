@@ -7,8 +7,8 @@ import tempfile
 # The tests of each crate that name allocations: how often each names one, and how many of these were made, and so refused. All
 # others name none. A test that has each allocation refused in turn names one more than there are.
 NAMED = {
-    "fax_callers": {"tests::refused_memory": (11, 8)},
     "encoder_tests": {
+        "callers_tests::refused_memory": (11, 8),
         "settings_tests::refused_memory": (10, 8),
         "settings_tests::refused_memory_row_by_row": (11, 9),
         "settings_tests::wanting_memory_stays": (1, 1),

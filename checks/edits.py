@@ -19,8 +19,9 @@ function that only calls one that isn't proved, show nothing. If the check's own
 more by `search rules` alone, which ends. A line 'search: GOAL' in the edit names such a goal, and saves the first try.
 
 Edits of different functions are checked together, each batch on a copy of the crate and of what a check of the crate without
-edits stored. A goal of a function isn't searched for while one that it calls isn't proved. So an edit that such a batch doesn't
-refuse for its reason is tried with functions that don't call one another, and then alone.
+edits stored. They start when that check has ended, while the crates above are still checked. A goal of a function isn't
+searched for while one that it calls isn't proved. So an edit that such a batch doesn't refuse for its reason is tried with
+functions that don't call one another, and then alone.
 With --write an edit that another clause of its function refuses gets that clause's name, and one at whose goal the check's own
 searches gave up gets its line 'search: GOAL'. Look at what was written: a clause that has nothing to do with what the edit breaks
 means that the edit is a bad one.
@@ -215,7 +216,7 @@ def mixed_batches(edits, most):
     """As many batches as `batches_of` makes of edits that don't overlap, with as few as possible that change what another reaches."""
     batches = [[] for _ in batches_of(edits, most, Edit.overlaps)]
     for edit in sorted(edits, key=lambda it: -sum(it.overlaps(other) for other in edits)):
-        fitting = [batch for batch in batches if not any(edit.overlaps(other) for other in batch)]
+        fitting = [batch for batch in batches if len(batch) < most and not any(edit.overlaps(other) for other in batch)]
         if not fitting:
             batches.append([edit])
             continue
@@ -332,7 +333,7 @@ class Lanes:
     """Runs calls in parallel, those of the lowest rank first."""
 
     def __init__(self, count):
-        self.waiting, self.numbers = queue.PriorityQueue(), itertools.count()
+        self.waiting, self.numbers, self.is_closed = queue.PriorityQueue(), itertools.count(), False
         for _ in range(count):
             threading.Thread(target=self.run, daemon=True).start()
 
@@ -345,6 +346,8 @@ class Lanes:
         while True:
             _, _, future, call = self.waiting.get()
             try:
+                if self.is_closed:
+                    raise RuntimeError("a crate isn't proved without edits")
                 future.set_result(call())
             except BaseException as error:  # who waits for the result gets it
                 future.set_exception(error)
@@ -507,23 +510,27 @@ class Whole:
         is_alone = all(it is crate or crate in it.below() or it in crate.below() for it in self.chosen)
         flags = ["--jobs", str(self.most if is_alone else 1)]
         words = [self.rt.rtlib.RATTLE, "check", *crate.words(flags, keeps=False), "--incremental", "out/incremental"]
-        how = {"cwd": crate.folder, "stdin": subprocess.DEVNULL, "stdout": subprocess.PIPE, "stderr": subprocess.STDOUT, "errors": "replace"}
-        ran = subprocess.run([*self.rt.rtlib.guarded(), *words], check=False, **how)
-        if ran.returncode:
-            print(ran.stdout[-3000:])
-            raise RuntimeError(f"{crate.name} isn't proved without edits")
-        self.functions[crate] = set(re.findall(rf"^fn {crate.name}::(\S+): ", ran.stdout, re.MULTILINE))
+        output = self.run(crate, f"{crate.name} isn't proved without edits", lambda it: it.call(*words))
+        self.functions[crate] = set(re.findall(rf"^fn {crate.name}::(\S+): ", output, re.MULTILINE))
         shutil.copytree(f"{crate.folder}/out/incremental", f"{self.kept}/{crate.name}")
         print(f"{crate.name} without edits: {time.time() - began:.0f} s", flush=True)
 
     def build(self, crate):
         """Builds a crate's library, over what its check stored."""
+        self.run(crate, f"the library {crate.name} isn't built", lambda it: it.build_rlib(["--jobs", "1"], anew=False))
+
+    @staticmethod
+    def run(crate, failure, call):
+        """What a call of the kit prints that is to return 0."""
         made = copy.copy(crate)
         with tempfile.TemporaryFile("w+", errors="replace") as made.out:
-            if made.build_rlib(["--jobs", "1"], anew=False):
-                made.out.seek(0)
-                print(made.out.read()[-3000:])
-                raise RuntimeError(f"the library {crate.name} isn't built")
+            status = call(made)
+            made.out.seek(0)
+            output = made.out.read()
+        if status:
+            print(output[-3000:])
+            raise RuntimeError(failure)
+        return output
 
 
 def main():
@@ -587,8 +594,8 @@ def main():
                     near = sorted(name for name in whole.functions[crate] if name.rpartition("::")[2] == last)
                     results[edit] = False, f"a check names no function {edit.function}: is it {' or '.join(near) or 'another'}?"
             told, alone = {edit for edit in own if edit in results}, set()
-            # First all functions at once, even if one calls another, which decides some; then those that don't call one another;
-            # then each alone.
+            # First as few batches as possible, even if one function calls another, which decides most; then functions that don't
+            # call one another; then each alone.
             for is_mixed, is_alone in ((True, False), (False, False), (False, True)):
                 left = [it for it in own if it not in told | alone and not results.get(it, (False,))[0]]
                 if is_mixed:
@@ -613,6 +620,7 @@ def main():
             for it in tried:
                 it.result()
         except RuntimeError as error:
+            threads.is_closed = True
             sys.exit(str(error))
     failed = []
     for edit in edits:

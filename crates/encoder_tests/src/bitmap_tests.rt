@@ -1,5 +1,6 @@
 //! Bitmaps: the changes of a row are found, and encoding a bitmap is encoding its changes.
 
+use crate::same;
 use fax_encode::{
     EncodeError, bitmap_by_group3, encode_1d, encode_bitmap_1d, encode_bitmap_g4, encode_g4,
     rows_of_bitmap,
@@ -16,9 +17,9 @@ fn shows(
     rows: &[&[u32]],
 ) -> Result<(), Fail> {
     let found = rows_of_bitmap(rt.alloc(), columns, bitmap)?;
-    assert_eq!(rt; (columns, found.len()), (columns, rows.len()));
+    same(rt, (columns, found.len()), (columns, rows.len()));
     for (row, expected) in found.iter().zip(rows) {
-        assert_eq!(rt; (columns, row.as_slice()), (columns, *expected));
+        same(rt, (columns, row.as_slice()), (columns, *expected));
     }
     Ok(())
 }
@@ -65,7 +66,7 @@ fn are_alike(
     let (Ok(ours), Ok(theirs)) = (ours, theirs) else {
         panic!(rt; "a picture is refused");
     };
-    assert_eq!(rt; (columns, ours.as_slice()), (columns, theirs.as_slice()));
+    same(rt, (columns, ours.as_slice()), (columns, theirs.as_slice()));
 }
 
 #[test]
@@ -94,7 +95,7 @@ fn as_lists_are_encoded(rt: HostRuntime) -> Result<(), Fail> {
                 let Ok(sink) = bitmap_by_group3(alloc, columns, rows.as_slice()) else {
                     panic!(&rt; "no bitmap");
                 };
-                assert_eq!(&rt; (columns, sink.bytes()), (columns, front));
+                same(&rt, (columns, sink.bytes()), (columns, front));
             }
         }
     }
@@ -104,16 +105,19 @@ fn as_lists_are_encoded(rt: HostRuntime) -> Result<(), Fail> {
 #[test]
 fn bitmaps_that_are_refused(rt: HostRuntime) {
     let alloc = rt.alloc();
-    assert_eq!(&rt;
+    same(
+        &rt,
         encode_bitmap_g4(alloc, 0, &[0xFF], false).err(),
-        Some(EncodeError::NoColumns)
+        Some(EncodeError::NoColumns),
     );
-    assert_eq!(&rt;
+    same(
+        &rt,
         encode_bitmap_1d(alloc, 0, &[]).err(),
-        Some(EncodeError::NoColumns)
+        Some(EncodeError::NoColumns),
     );
-    assert_eq!(&rt;
+    same(
+        &rt,
         encode_bitmap_1d(alloc, 9, &[0xFF]).err(),
-        Some(EncodeError::NoRows)
+        Some(EncodeError::NoRows),
     );
 }

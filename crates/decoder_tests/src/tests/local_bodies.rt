@@ -2,7 +2,7 @@
 
 ghost use Rattle.std.specs.Prelude.{◌≡◌};
 
-use super::{bytes_of, decodes_in, settings_of};
+use super::{bytes_of, decodes_in, same, settings_of};
 use hayro_ccitt::{
     DecodeSettings, DecoderContext, EncodingMode, bits_fit, body_is_local, rows_reached,
 };
@@ -36,7 +36,7 @@ fn is_local(
     };
     assert!(rt; bits_fit(&data));
     let found = body_is_local(&data, ctx, from, to);
-    assert_eq!(rt; (digits, from, to, found), (digits, from, to, Ok(local)));
+    same(rt, (digits, from, to, found), (digits, from, to, Ok(local)));
 }
 
 #[test]
@@ -275,7 +275,7 @@ fn rows_that_damage_reaches(rt: HostRuntime) -> std::result::Result<(), Fail> {
         let data = bytes_of(rt.alloc(), digits)?;
         assert!(rt; bits_fit(&data));
         let found = rows_reached(&data, &mut ctx, to);
-        assert_eq!(rt; (digits, to, found), (digits, to, rows));
+        same(&rt, (digits, to, found), (digits, to, rows));
     }
     Ok(())
 }
