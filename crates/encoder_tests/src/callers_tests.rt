@@ -46,7 +46,7 @@ fn takes_first(
     same(
         rt,
         (
-            "at most rows",
+            "rows at most",
             most,
             decode_first_rows(HighestFirst, data, &mut first, &mut ctx),
         ),
