@@ -17,7 +17,7 @@ NAMED = {
     },
     "faxrows": {
         "tests::refused_memory_by_row": (57, 18),
-        "tests::refused_memory_of_damage": (38, 12),
+        "tests::refused_memory_of_damage": (38, 16),
         "tests::sink_without_memory": (1, 0),
     },
     "decoder_tests": {

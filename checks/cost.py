@@ -1,5 +1,6 @@
 """Checks of what decoding and encoding cost: data that is made to be slow costs in proportion to its length, and no more
-instructions a byte than are listed here. The results are compared with known ones, which follow by rule."""
+instructions a byte than are listed here, nor than the Rust crate. The results are compared with known ones, which follow by
+rule."""
 import collections
 import os
 import re
@@ -177,34 +178,35 @@ def faults_before_bodies(size):
     return Made(1728, filled(line, size), INVALID_CODE, rows + 1, 0)
 
 
-# A name, an encoding, flags, how data and its result are made from a size, and the instructions a byte that were measured.
+# A name, an encoding, flags, how data and its result are made from a size, the instructions a byte that were measured, and those
+# of the Rust crate `hayro-ccitt` 0.5.0, rounded down, with the highest bit first, which aren't exceeded.
 SHAPES = [
-    ("zeros", GROUP_4, 0, of_zeros(0), 8),
-    ("zeros 1d", ONE_DIMENSIONAL, WITH_EOLS, of_zeros(1), 24),
-    ("zeros 2d", TWO_DIMENSIONAL, WITH_EOLS, of_zeros(1), 24),
-    ("V0", GROUP_4, 0, white_rows(1728), 1045),
-    ("V0, one column", GROUP_4, 0, white_rows(1), 1045),
-    ("a dense row and copies", GROUP_4, 0, dense_and_copies, 406),
-    ("a dense row and passes", GROUP_4, 0, dense_and_passes, 293),
-    ("alternate rows", GROUP_4, 0, alternate_rows, 126),
-    ("edges at both ends", GROUP_4, 0, far_edges, 103),
-    ("edges shifted left and right", GROUP_4, 0, shifted_edges, 254),
-    ("make-up words", GROUP_4, 0, makeup_words(HORIZONTAL), 20),
-    ("make-up words 1d", ONE_DIMENSIONAL, 0, makeup_words(""), 19),
-    ("EOLs", GROUP_4, 0, eols(0), 26),
-    ("EOLs 1d", ONE_DIMENSIONAL, WITH_EOLS, eols(1), 26),
-    ("EOLs 2d", TWO_DIMENSIONAL, WITH_EOLS, eols_2d, 25),
-    ("EOLs and faults", ONE_DIMENSIONAL, WITH_EOLS, eols_and_faults, 188),
-    ("rows without EOLs 1d", ONE_DIMENSIONAL, 0, without_eols(""), 385),
-    ("rows without EOLs 2d", TWO_DIMENSIONAL, 0, without_eols("1"), 361),
-    ("one EOL, then none 1d", ONE_DIMENSIONAL, 0, without_eols("", EOL), 684),
-    ("one EOL, then none 2d", TWO_DIMENSIONAL, 0, without_eols("1", EOL), 700),
-    ("damaged lines with long bodies", ONE_DIMENSIONAL, WITH_EOLS, long_bodies, 378),
-    ("faults before long bodies", ONE_DIMENSIONAL, WITH_EOLS, faults_before_bodies, 332),
-    ("V0, lowest bit first", GROUP_4, LOW_FIRST, white_rows(1728), 1046),
-    ("a dense row and copies, lowest bit first", GROUP_4, LOW_FIRST, dense_and_copies, 408),
-    ("zeros 1d, lowest bit first", ONE_DIMENSIONAL, WITH_EOLS + LOW_FIRST, of_zeros(1), 28),
-    ("rows without EOLs 1d, lowest bit first", ONE_DIMENSIONAL, LOW_FIRST, without_eols(""), 403),
+    ("zeros", GROUP_4, 0, of_zeros(0), 8.4, 92),
+    ("zeros 1d", ONE_DIMENSIONAL, WITH_EOLS, of_zeros(1), 25.1, 277),
+    ("zeros 2d", TWO_DIMENSIONAL, WITH_EOLS, of_zeros(1), 25.1, 277),
+    ("V0", GROUP_4, 0, white_rows(1728), 549, 1274),
+    ("V0, one column", GROUP_4, 0, white_rows(1), 549, 1274),
+    ("a dense row and copies", GROUP_4, 0, dense_and_copies, 231, 455),
+    ("a dense row and passes", GROUP_4, 0, dense_and_passes, 192, 263),
+    ("alternate rows", GROUP_4, 0, alternate_rows, 70, 167),
+    ("edges at both ends", GROUP_4, 0, far_edges, 59, 153),
+    ("edges shifted left and right", GROUP_4, 0, shifted_edges, 126, 333),
+    ("make-up words", GROUP_4, 0, makeup_words(HORIZONTAL), 15.8, 18.6),
+    ("make-up words 1d", ONE_DIMENSIONAL, 0, makeup_words(""), 14.8, 18.6),
+    ("EOLs", GROUP_4, 0, eols(0), 26.2, 102),
+    ("EOLs 1d", ONE_DIMENSIONAL, WITH_EOLS, eols(1), 26.2, 101),
+    ("EOLs 2d", TWO_DIMENSIONAL, WITH_EOLS, eols_2d, 24.3, 100),
+    ("EOLs and faults", ONE_DIMENSIONAL, WITH_EOLS, eols_and_faults, 168, 353),
+    ("rows without EOLs 1d", ONE_DIMENSIONAL, 0, without_eols(""), 245, 280),
+    ("rows without EOLs 2d", TWO_DIMENSIONAL, 0, without_eols("1"), 244, 266),
+    ("one EOL, then none 1d", ONE_DIMENSIONAL, 0, without_eols("", EOL), 260, 395),
+    ("one EOL, then none 2d", TWO_DIMENSIONAL, 0, without_eols("1", EOL), 259, 384),
+    ("damaged lines with long bodies", ONE_DIMENSIONAL, WITH_EOLS, long_bodies, 63, 237),
+    ("faults before long bodies", ONE_DIMENSIONAL, WITH_EOLS, faults_before_bodies, 16.7, 117),
+    ("V0, lowest bit first", GROUP_4, LOW_FIRST, white_rows(1728), 550, 1274),
+    ("a dense row and copies, lowest bit first", GROUP_4, LOW_FIRST, dense_and_copies, 233, 455),
+    ("zeros 1d, lowest bit first", ONE_DIMENSIONAL, WITH_EOLS + LOW_FIRST, of_zeros(1), 29.3, 277),
+    ("rows without EOLs 1d, lowest bit first", ONE_DIMENSIONAL, LOW_FIRST, without_eols(""), 253, 280),
 ]
 
 
@@ -237,7 +239,7 @@ def slow_shapes():
     worse = []
     with tempfile.TemporaryDirectory() as folder:
         driver = c_library.compiled(f"{folder}/driver", "bench/driver.c", "c/heap.c", c_library.LIBRARY)
-        for shape, encoding, flags, of_size, measured in SHAPES:
+        for shape, encoding, flags, of_size, measured, of_crate in SHAPES:
             costs = []
             for size in SIZES:
                 made = of_size(size)
@@ -250,6 +252,8 @@ def slow_shapes():
                 assert printed.decode().split()[:3] == known.split(), f"{shape}, {size} bytes: {printed.decode()}, not {known}"
                 costs.append(cost)
             too_slow(shape, costs, SIZES, measured, worse)
+            if costs[1] > of_crate * SIZES[1]:
+                worse.append(f"{shape}: more than the crate's {of_crate} instructions a byte")
     assert not worse, worse
     print(f"  {len(SHAPES)} shapes")
 

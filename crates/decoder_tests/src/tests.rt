@@ -803,12 +803,12 @@ fn tells_missed(
     same(rt, ctx.missed_eols(), 0);
 }
 
-/// How many EOLs a reader and a cursor say were missed, after each row and at the end.
+/// How many EOLs a reader and a cursor say were missed, after each row and at the end, and where the last call missed one.
 fn tells_missed_of_rows(
     rt: &(impl Abort + AllocGlobal),
     data: &[u8],
     settings: DecodeSettings,
-    missed: &[u64],
+    missed: &[(u64, Option<usize>)],
 ) {
     assert!(rt; bits_fit(data));
     let mut reader = RowReader::new(rt.alloc(), data, BitOrder::HighestFirst, settings).expect(
@@ -817,7 +817,8 @@ fn tells_missed_of_rows(
     let mut cursor = RowCursor::new(rt.alloc(), data, BitOrder::HighestFirst, settings).expect(
         rt, "memory",
     );
-    for count in missed {
+    assert_eq!(rt; reader.missed_eol(), None);
+    for (count, place) in missed {
         let _ = reader.next_row();
         let _ = cursor.next_row(data);
         same(
@@ -825,6 +826,7 @@ fn tells_missed_of_rows(
             (reader.missed_eols(), cursor.missed_eols()),
             (*count, *count),
         );
+        assert_eq!(rt; reader.missed_eol(), *place);
     }
 }
 
@@ -837,8 +839,10 @@ fn missed_eols_are_told(rt: HostRuntime) {
     tells_missed(&rt, &whole, group_3_1d(8, 2, "ls"), usize::MAX, 0);
     tells_missed(&rt, &whole, group_3_1d(8, 2, "l"), 1, 1);
     tells_missed(&rt, &whole, group_3_1d(8, 2, "l"), 0, 0);
-    tells_missed_of_rows(&rt, &whole, group_3_1d(8, 2, "l"), &[0, 1, 1]);
-    tells_missed_of_rows(&rt, &[0x77, 0x70], group_3_1d(2, 0, "l"), &[0, 1, 1, 1]);
+    let behind_first = [(0, None), (1, Some(17)), (1, None)];
+    tells_missed_of_rows(&rt, &whole, group_3_1d(8, 2, "l"), &behind_first);
+    let none_left = [(0, None), (1, Some(4)), (1, None), (1, None)];
+    tells_missed_of_rows(&rt, &[0x77, 0x70], group_3_1d(2, 0, "l"), &none_left);
     // No EOL is left.
     tells_missed(&rt, &[0x77, 0x70], group_3_1d(2, 0, "l"), usize::MAX, 1);
     // The search for an EOL is the repair of the damaged line.

@@ -178,7 +178,16 @@ fn ran_for_damage(
 /// Data of three rows, the second of which is damaged, and what is written of it.
 const DAMAGED_ROWS: [u8; 7] = [0x00, 0x19, 0x80, 0x0C, 0x40, 0x00, 0x33];
 
-const DAMAGE: &str = "damaged 1 29 invalid CCITT code sequence\nok 3 1 7\n";
+/// The same, and behind it a bit, an EOL and a white line.
+const DAMAGED_AND_MISSED: [u8; 10] = [0x00, 0x19, 0x80, 0x0C, 0x40, 0x00, 0x33, 0x80, 0x0C, 0xC0];
+
+/// An EOL, a white line, a bit, and RTC.
+const MISSED_BEFORE_RTC: [u8; 12] = [
+    0x00, 0x19, 0xC0, 0x04, 0x00, 0x40, 0x04, 0x00, 0x40, 0x04, 0x00, 0x40,
+];
+
+const DAMAGE: &str =
+    "damaged 1 29 invalid CCITT code sequence\nstrict 1 29 invalid CCITT code sequence\nok 3 1 7\n";
 
 #[test]
 fn writes_damage(rt: HostRuntime) -> Result<(), Fail> {
@@ -203,6 +212,24 @@ fn writes_damage(rt: HostRuntime) -> Result<(), Fail> {
             "ok 1 0 4\n",
         ),
         (
+            "1d 8 4 l",
+            DAMAGED_AND_MISSED.as_slice(),
+            Done::Good,
+            "damaged 1 29 invalid CCITT code sequence\nmissed 2 56\nstrict 1 29 invalid CCITT code sequence\nok 4 1 10\n",
+        ),
+        (
+            "1d 8 0 l",
+            [0x00, 0x19, 0xCC].as_slice(),
+            Done::Faulty,
+            "missed 0 17\nstrict 1 17 invalid CCITT code sequence\nerror 2 22 unexpected end of input\n",
+        ),
+        (
+            "1d 8 0 lb",
+            MISSED_BEFORE_RTC.as_slice(),
+            Done::Good,
+            "missed 0 17\nstrict 1 17 invalid CCITT code sequence\nok 1 0 12\n",
+        ),
+        (
             "g4 8 2 -",
             [0x31, 0xF8].as_slice(),
             Done::Good,
@@ -212,14 +239,23 @@ fn writes_damage(rt: HostRuntime) -> Result<(), Fail> {
             "2d 8 0 l",
             [].as_slice(),
             Done::Good,
-            "damaged 0 0 unexpected end of input\nok 1 1 0\n",
+            "damaged 0 0 unexpected end of input\nstrict 0 0 unexpected end of input\nok 1 1 0\n",
         ),
         (
             "2d 8 0 -",
             [].as_slice(),
             Done::Faulty,
-            "error 0 0 unexpected end of input\n",
+            "strict 0 0 unexpected end of input\nerror 0 0 unexpected end of input\n",
         ),
+        // A run of ten in eight columns is cut, which only the strict reading tells.
+        (
+            "1d 8 1 l",
+            [0x00, 0x13, 0x80].as_slice(),
+            Done::Good,
+            "strict 0 12 invalid CCITT code sequence\nok 1 0 3\n",
+        ),
+        // In no columns nothing is read.
+        ("g4 0 0 -", [0x80].as_slice(), Done::Good, "ok 0 0 0\n"),
     ] {
         let (answer, written) = ran_for_damage(rt.alloc(), line, input)?;
         same(&rt, (line, answer), (line, Ok(want)));
@@ -231,7 +267,7 @@ fn writes_damage(rt: HostRuntime) -> Result<(), Fail> {
 #[test]
 fn fails_at_each_write_of_damage(rt: HostRuntime) -> Result<(), Fail> {
     let text = DAMAGE.as_bytes();
-    for writes in 0..60usize {
+    for writes in 0..100usize {
         let words = words_of(rt.alloc(), "1d 8 0 l")?;
         let mut reader = Device::new(DAMAGED_ROWS.as_slice());
         let mut writer = Device::new(Choking {
@@ -625,7 +661,10 @@ fn refused_memory_of_damage(rt: HostRuntime) -> Result<(), Fail> {
     let words = words_of(rt.alloc(), "1d 8 0 l")?;
     for number in 1..20usize {
         let mut is_known = false;
-        for text in [DAMAGE, "error 1 29 out of memory\n"] {
+        for text in [
+            DAMAGE,
+            "strict 1 29 invalid CCITT code sequence\nerror 1 29 out of memory\n",
+        ] {
             let mut reader = Device::new(DAMAGED_ROWS.as_slice());
             let mut writer = Device::new(Comparing {
                 wanted: text.as_bytes(),

@@ -2,11 +2,11 @@
 use Rattle.std.specs.Prelude.{◌≡◌, ◌+◌, ◌%◌, ◌<◌, ◌≤◌, Bool, ℕ, List, Ok, length}
 use Rattle.hayro_ccitt.specs.declared.codes.Color.{Color}
 use Rattle.hayro_ccitt.specs.declared.codes.Color.TheVariants.{White}
-use Rattle.hayro_ccitt.specs.Bits.{BitsAt, here}
+use Rattle.hayro_ccitt.specs.Bits.{Bits, BitsAt, here}
 use Rattle.hayro_ccitt.specs.CodeReading.{read_code}
 use Rattle.hayro_ccitt.specs.Lines.{Pen, draw_1d, drawn, words_drawn}
 use Rattle.hayro_ccitt.specs.Rows.{AreChanges, pixels}
-use Rattle.hayro_ccitt.specs.Runs.{codes_of, read_run}
+use Rattle.hayro_ccitt.specs.Runs.{codes_of, read_run, run_from}
 use Rattle.hayro_ccitt.specs.Ticks.{run_found}
 use Rattle.hayro_ccitt.specs.Window.{moved}
 
@@ -20,6 +20,12 @@ pub record IsRunHere (color : Color) (at : BitsAt) (run width words : ℕ) : Typ
   pub read : read_run color (here at) ≡ Ok (run, here (moved width at))
   pub found : length (run_found color (0, here at)) ≡ words
   pub few : width ≤ 26
+
+-- A run goes on after make-up words: it is the same, and the words between were counted.
+pub record RunGoesOn (color : Color) (before : ℕ) (from : Bits) (after : ℕ) (to : Bits) (ticks now : ℕ) : Type 0 where
+  pub run : run_from color (before, from) ≡ run_from color (after, to)
+  pub counted : now + length (run_found color (after, to)) ≡ ticks + length (run_found color (before, from))
+  pub onward : length to ≤ length from
 
 -- the pen of a row of changes
 abbrev pub pen_at : ℕ → List ℕ → Color → BitsAt → Pen

@@ -13,11 +13,13 @@ ghost use Rattle.hayro_ccitt.specs.EndOfLine.{tagged_eols};
 ghost use Rattle.hayro_ccitt.specs.LookUps.{entry_of, mode_told, padded, seven_bits};
 ghost use Rattle.hayro_ccitt.specs.Rows.{opposite};
 ghost use Rattle.hayro_ccitt.specs.Runs.{codes_of, read_run};
+ghost use Rattle.hayro_ccitt.specs.UsualRuns.{RunGoesOn};
 ghost use Rattle.hayro_ccitt.specs.Window.{moved};
 ghost use Rattle.hayro_ccitt.specs.Ticks.{run_found, missed, looked, looked_at_tag};
 
 use crate::bit_reader::BitReader;
 use crate::tables::{LOOKUP_BITS, LOOKUP_INVALID, Tables};
+use crate::usual::pass_makeup_words;
 use crate::{DecodeError, Result};
 use std::marker::Model;
 
@@ -190,6 +192,26 @@ impl<'a> BitReader<'a> {
         Ok(run)
     }
 
+    /// Passes make-up words of a run whose words before them sum to `start`, as long as they are at hand, and returns the
+    /// sum with them. Runs with so many words are rare.
+    #[cold]
+    #[inline(never)]
+    fn pass_makeup_words(
+        &mut self,
+        color: Color,
+        tables: &Tables,
+        ticks: &mut Ticks,
+        start: u32,
+    ) -> u32
+        ensures on { RunGoesOn color start (here self.old) result (here self.new) ticks.old ticks.new }
+        ensures same_bits { self.new.bits ≡ self.old.bits }
+    {
+        let mut hand = self.none_at_hand();
+        let sum = pass_makeup_words(&mut hand, color, tables.lookup(color), start, ticks);
+        self.go_to(hand.bit_pos());
+        sum
+    }
+
     /// Reads a run of a colour: make-up words and one terminating word (T.4 section 4.1.1). Each word that is looked
     /// for is a tick.
     ///
@@ -214,6 +236,10 @@ impl<'a> BitReader<'a> {
                 .ok_or(DecodeError::Overflow)?;
             if run < 64 {
                 return Ok(total);
+            }
+            // Longer than the longest make-up word: more of them may follow.
+            if total > 2560 {
+                total = self.pass_makeup_words(color, tables, ticks, total);
             }
         }
     }

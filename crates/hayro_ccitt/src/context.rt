@@ -1,8 +1,9 @@
 //! What a decoder keeps from line to line, and the lines themselves.
 
 ghost use Rattle.std.specs.Prelude.{◌≡◌, ◌+◌, ◌*◌, ◌^◌, ◌<◌, ◌≤◌, ◌⊎◌, ◌↔◌, ℕ, Ok, Err, OnOk, OnErr, IfOk, IfErr, true, false};
-ghost use Rattle.std.specs.Prelude.{IsOkUnless, IsTrue, option_map, length, get_or, []};
+ghost use Rattle.std.specs.Prelude.{IsOkUnless, IsTrue, if◌then◌else◌, is_some, option_map, length, get_or, []};
 ghost use Rattle.hayro_ccitt.specs.LocalityByK.{behind_mode};
+ghost use Rattle.hayro_ccitt.specs.{Ticks.run_found, Work.mode_found};
 ghost use Rattle.hayro_ccitt.specs.Runs.{read_run};
 ghost use Rattle.hayro_ccitt.specs.Rows.{AreChanges, right_of, b1, b2, changes, opposite};
 ghost use Rattle.hayro_ccitt.specs.Bits.{here};
@@ -16,7 +17,7 @@ ghost use Rattle.hayro_ccitt.specs.Answers.{line_from_1d, line_from_2d};
 use crate::bit_reader::{BitOrder, BitReader, BitsAtHand};
 use crate::changes::{append_pixels, b1_index, change_or_end};
 use crate::codes::{Color, Mode, Ticks};
-use crate::modes::{draw_modes, has_no_room, is_white_row, lay_down_row};
+use crate::modes::{draw_modes, has_mode, is_white_row, lay_down_row, put_ends, take_ends};
 use crate::settings::DecodeSettings;
 use crate::tables::Tables;
 use crate::usual::{draw_runs, lay_down, take_up};
@@ -486,6 +487,8 @@ impl DecoderContext {
         ensures same_bits { reader.new.bits ≡ reader.old.bits }
         ensures held { self.new.held ≡ self.old.held }
         ensures counts { self.old.ticks ≤ self.new.ticks }
+        ensures at_most { self.new.ticks
+            ≤ self.old.ticks + length (run_found color (0, here reader.old)) + (if result then 0 else 1) }
     {
         match reader.decode_run(color, &self.tables, &mut self.ticks) {
             Ok(_) => true,
@@ -501,6 +504,8 @@ impl DecoderContext {
         ensures same_bits { reader.new.bits ≡ reader.old.bits }
         ensures held { self.new.held ≡ self.old.held }
         ensures counts { self.old.ticks ≤ self.new.ticks }
+        ensures at_most { self.new.ticks
+            ≤ self.old.ticks + length (mode_found color (here reader.old)) + (if is_some result then 0 else 1) }
     {
         let Ok(mode) = reader.decode_mode(&mut self.ticks) else {
             return None;
@@ -597,7 +602,7 @@ impl DecoderContext {
         }
     }
 
-    /// The same, without a call where the row is full.
+    /// The same, without a call where the row is full or black is next.
     #[inline(always)]
     fn draw_usual_runs(&mut self, reader: &mut BitReader<'_>)
         ensures drawn { GoesOn self.old.held.settings.strict self.old.held.settings.columns
@@ -606,6 +611,10 @@ impl DecoderContext {
         ensures same_bits { reader.new.bits ≡ reader.old.bits }
         ensures onward { reader.old.place ≤ reader.new.place }
     {
+        // After the first run of a line black is next, unless the row is full.
+        if !self.color.is_white() {
+            return;
+        }
         // Most often a full row is a white one.
         if self.pixels_decoded == self.settings.columns {
             return;
@@ -613,9 +622,25 @@ impl DecoderContext {
         self.draw_runs_of(reader);
     }
 
+    /// Draws the first runs of a line as long as they are usual, if the row before has two changes or more: most often this
+    /// row has as many. Plain calls draw fewer runs at less cost.
+    #[inline(always)]
+    fn draw_first_runs(&mut self, reader: &mut BitReader<'_>)
+        ensures drawn { GoesOn self.old.held.settings.strict self.old.held.settings.columns
+            (pen_of self.old.held (here reader.old)) (pen_of self.new.held (here reader.new)) self.old.ticks self.new.ticks }
+        ensures held { self.new.held ≡ redrawn self.old.held self.new.held.front self.new.held.color }
+        ensures same_bits { reader.new.bits ≡ reader.old.bits }
+    {
+        if self.ref_changes.len() < 2 {
+            return;
+        }
+        self.draw_usual_runs(reader);
+    }
+
     /// Draws modes from the start of a line as long as they are usual.
     #[inline(always)]
     fn draw_modes_at_hand(&mut self, hand: &mut BitsAtHand<'_>)
+        requires empty { hand.old.left ≡ 0 }
         requires begins { self.old.held.front ≡ [] }
         requires white { self.old.held.color ≡ Color.White }
         requires none { self.old.passed ≡ 0 }
@@ -629,6 +654,12 @@ impl DecoderContext {
         if self.settings.columns == 0 {
             return;
         }
+        if !has_mode(hand, &mut self.coding_changes) {
+            return;
+        }
+        if !put_ends(&mut self.ref_changes, self.settings.columns) {
+            return;
+        }
         let ticks = &mut self.ticks;
         let (place, index, color) = draw_modes(
             hand,
@@ -640,6 +671,7 @@ impl DecoderContext {
             self.tables.lookup(Color::Black),
             ticks,
         );
+        take_ends(&mut self.ref_changes);
         lay_down_row(&mut self.coding_changes, place, self.settings.columns);
         self.pixels_decoded = place;
         self.color = color;
@@ -714,10 +746,6 @@ impl DecoderContext {
         if self.draw_white_line(reader) {
             return;
         }
-        // Before the first change is stored, room is made for it by a call that may fail.
-        if is_white_row(&self.ref_changes) && has_no_room(&self.coding_changes) {
-            return;
-        }
         self.draw_modes_of(reader);
     }
 
@@ -783,6 +811,7 @@ pub fn decode_1d_line(ctx: &mut DecoderContext, reader: &mut BitReader<'_>) -> R
     ensures at_most { ctx.new.ticks ≤ ctx.old.ticks + length (words_from_1d ctx.old.held (here reader.old)) + 1 }
 {
     ctx.begin_line(); // The first run is white.
+    ctx.draw_first_runs(reader);
     'runs: while !ctx.is_full() {
         ctx.draw_run(reader)?;
         ctx.draw_usual_runs(reader);

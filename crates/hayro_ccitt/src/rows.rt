@@ -1,13 +1,14 @@
 //! The loop over rows that all encodings share: a row, and the gap after it (T.4 section 4.1, T.6 section 2).
 
 ghost use Rattle.std.specs.Prelude.{false, ◌≡◌, ◌≢◌, ◌<◌, ◌≤◌, ◌+◌, ◌*◌, Err, OnOk, OnErr, IfOk, IfErr, IsOkUnless, true, ◌||◌};
-ghost use Rattle.std.specs.Prelude.{[], length, ◌^◌};
+ghost use Rattle.std.specs.Prelude.{[], length, nat_le, ◌&&◌, ◌^◌};
 ghost use Rattle.hayro_ccitt.specs.Answers.{DrawsLine, OnAnswer, IsRepairable, RepairStoresChange};
 ghost use Rattle.hayro_ccitt.specs.Bits.{here};
 ghost use Rattle.hayro_ccitt.specs.Context.{fresh, redrawn, after_repair};
 ghost use Rattle.hayro_ccitt.specs.Decoding.{DecodesFrom, FailsFrom, TakesOneRow, leaving, gap_said, repairs_behind};
 ghost use Rattle.hayro_ccitt.specs.Decoding.{with_row_taken};
-ghost use Rattle.hayro_ccitt.specs.PlainReading.{eols_by, eols_here, is_over, gap_behind_row, row_of_line, line_by, line_here};
+ghost use Rattle.hayro_ccitt.specs.PlainReading.{eols_by, eols_here, eols_of_end, is_over, gap_behind_row, row_of_line};
+ghost use Rattle.hayro_ccitt.specs.PlainReading.{line_by, line_here};
 ghost use Rattle.hayro_ccitt.specs.PlainReading.{behind_row, limit_met};
 ghost use Rattle.hayro_ccitt.specs.Lines.{line_found};
 ghost use Rattle.hayro_ccitt.specs.Rows.{changes};
@@ -146,19 +147,29 @@ fn read_eols(ctx: &mut DecoderContext, reader: &mut BitReader<'_>) -> usize
     }
 }
 
+/// Returns whether this number of EOLs ends the image: EOFB (T.6 section 2.4.1.1) or RTC (T.4 section 4.1.4), with
+/// `end_of_block`.
+#[inline(always)]
+fn is_end_of_block(ctx: &DecoderContext, count: usize) -> bool
+    ensures { result ≡ (ctx.now.held.settings.end_of_block && nat_le (eols_of_end ctx.now.held.settings.encoding) count) }
+{
+    // Mostly there is at most one, which never ends it.
+    if count < 2 {
+        return false;
+    }
+    let eols_of_end = match ctx.settings().encoding {
+        EncodingMode::Group4 => 2, // EOFB
+        EncodingMode::Group3_1D | EncodingMode::Group3_2D => 6, // RTC
+    };
+    ctx.settings().end_of_block && count >= eols_of_end
+}
+
 /// Returns whether the image ends after a row and this number of EOLs: at RTC, at the row limit or at the end of the data.
 #[inline(always)]
 fn is_over(ctx: &DecoderContext, reader: &BitReader<'_>, count: usize) -> bool
     ensures over { result ≡ is_over ctx.now.held.settings ctx.now.held.taken (count, here reader.now) }
 {
-    let eols_of_end = match ctx.settings().encoding {
-        EncodingMode::Group4 => 2, // EOFB
-        EncodingMode::Group3_1D | EncodingMode::Group3_2D => 6, // RTC
-    };
-    let at_rtc = ctx.settings().end_of_block && count >= eols_of_end;
-    let at_limit = limit_met(ctx);
-    let at_end = reader.at_end();
-    at_rtc || at_limit || at_end
+    is_end_of_block(ctx, count) || limit_met(ctx) || reader.at_end()
 }
 
 /// Passes the gap before a line, and returns whether the image ends there: at EOFB or RTC with `end_of_block`, at the row

@@ -273,6 +273,23 @@ fn rows_that_damage_reaches(rt: HostRuntime) -> std::result::Result<(), Fail> {
         // The last word, 010, takes a zero of the EOL, unless there is fill.
         ("2d", "l", ends_in_its_eol, 18, None),
         ("2d", "l", "001CC005400398", 18, Some(2)),
+        // RTC, with `end_of_block` and without it.
+        ("2d", "b", "0014006003001800C0060030", 0, Some(2)),
+        ("2d", "", "0014006003001800C0060030", 0, None),
+        // Lines at random, some with a bit changed, left out or added: a reading of T.4 apart from this program found the
+        // numbers.
+        ("2d", "", "000A003C0002381B800180", 32, Some(2)),
+        ("2d", "b", "0000140000000500000001", 22, Some(2)),
+        ("2d", "", "00004661B8200002800060", 0, Some(3)),
+        ("2d", "b", "0001050002500132870001", 24, Some(3)),
+        ("2d", "", "00140000463000014E6A0001", 0, Some(4)),
+        ("2d", "b", "000A00050004A0031C0000C0", 0, Some(4)),
+        ("2d", "", "00025001600000002C004C0060", 0, Some(5)),
+        ("2d", "", "00063800A00080089AA001", 21, None),
+        ("2d", "b", "0000C740000227540008", 63, None),
+        ("2d", "", "00102088E800088E91D000C0", 38, None),
+        ("2d", "b", "0002451A84089AA001800C", 0, None),
+        ("2d", "", "000226A80001600300180080", 0, None),
     ] {
         let mut ctx = DecoderContext::new(rt.alloc(), settings_by(encoding, 8, flags))?;
         let data = bytes_of(rt.alloc(), digits)?;

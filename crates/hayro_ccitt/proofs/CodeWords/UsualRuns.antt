@@ -1,7 +1,7 @@
 -- A run of one word or of two, which are known one by one.
-use Rattle.hayro_ccitt.proofs.Names.{◌≡◌, ℕ, ◌+◌, ◌<◌, ◌≤◌, subst, arith, Color, BitsAt, here, IsWordHere, IsRunHere, moved}
-use Rattle.hayro_ccitt.proofs.Names.{common_steps}
-use Rattle.hayro_ccitt.proofs.CodeWords.ReadRuns.{run_ends, run_goes_on}
+use Rattle.hayro_ccitt.proofs.Names.{◌≡◌, ℕ, ◌+◌, ◌<◌, ◌≤◌, length, refl, ◌∙◌, subst, arith, Color, Bits, BitsAt, here, IsWordHere, IsRunHere, moved}
+use Rattle.hayro_ccitt.proofs.Names.{common_steps, codes_of, RunGoesOn}
+use Rattle.hayro_ccitt.proofs.CodeWords.ReadRuns.{read_code_shorter, words_not_empty, run_ends, run_goes_on}
 use Rattle.hayro_ccitt.proofs.CodeWords.RunWords.{run_found_ends, run_found_on}
 
 -- a terminating word is a run
@@ -22,3 +22,41 @@ pub run_here_too : (color : Color) (at : BitsAt) (run width words : ℕ) → IsR
 run_here_too color at run width words there =
     let none : at.place + 0 ≡ at.place = omega arith in
     subst (λ (p : ℕ). IsRunHere color (record { bits = at.bits; place = p }) run width words) none there
+
+-- a word after no bits is here
+word_here_too : (color : Color) (at : BitsAt) (run width : ℕ) → IsWordHere color (moved 0 at) run width
+    → IsWordHere color at run width
+word_here_too color at run width there =
+    let none : at.place + 0 ≡ at.place = omega arith in
+    subst (λ (p : ℕ). IsWordHere color (record { bits = at.bits; place = p }) run width) none there
+
+-- fewer bits are behind a word
+pub shorter_behind : (color : Color) (at : BitsAt) (run width : ℕ) → IsWordHere color (moved 0 at) run width
+    → length (here (moved width at)) < length (here at)
+shorter_behind color at run width there =
+    read_code_shorter (codes_of color) (here at) run (here (moved width at)) (words_not_empty color)
+    (word_here_too color at run width there).read
+
+-- after a make-up word a run goes on, with fewer bits
+pub run_on_word : (color : Color) (at : BitsAt) (total run width ticks : ℕ) → IsWordHere color (moved 0 at) run width → 64 ≤ run
+    → total + run ≤ 4294967295 → RunGoesOn color total (here at) (total + run) (here (moved width at)) ticks (ticks + 1)
+run_on_word color at total run width ticks there long fits =
+    let word = word_here_too color at run width there in
+    let rest : Bits = here (moved width at) in
+    record {
+      run = run_goes_on color total run (here at) rest word.read fits long;
+      counted = omega (arith, run_found_on color total run (here at) rest word.read fits long);
+      onward = omega (arith, shorter_behind color at run width there);
+    }
+
+-- a run goes on by no words, and by some and then others
+pub run_on_none : (color : Color) (total : ℕ) (at : Bits) (ticks : ℕ) → RunGoesOn color total at total at ticks ticks
+run_on_none color total at ticks = record { run = refl; counted = refl; onward = omega arith }
+
+pub run_on_twice : (color : Color) (a b c : ℕ) (from between to : Bits) (m n o : ℕ) → RunGoesOn color a from b between m n
+    → RunGoesOn color b between c to n o → RunGoesOn color a from c to m o
+run_on_twice color a b c from between to m n o first second = record {
+  run = first.run ∙ second.run;
+  counted = omega (arith, first.counted, second.counted);
+  onward = omega (arith, first.onward, second.onward);
+}

@@ -242,6 +242,14 @@ IsDrawn1d before now begun at =
     × (now.ticks + length (found_1d_from before.held.settings.strict before.held.settings.columns (pen_of now.held (here at)))
     ≡ before.ticks + length (words_from_1d before.held (here begun)))
 
+-- nothing was drawn yet
+pub begun_1d : (before now : Context) (begun : BitsAt) → now ≡ record before {
+  held = redrawn before.held [] Color.White;
+  passed = 0;
+} → IsDrawn1d before now begun begun
+begun_1d before now begun frame =
+    rw frame (record { line = refl; held = refl; same_bits = refl; counts = omega arith }, refl)
+
 -- and more, where drawing continues
 pub drawn_on : (before now new : Context) (begun at next : BitsAt) → IsDrawn1d before now begun at → GoesOn
     now.held.settings.strict now.held.settings.columns (pen_of now.held (here at)) (pen_of new.held (here next)) now.ticks

@@ -4,8 +4,16 @@ use Rattle.hayro_ccitt.proofs.{DrawingLines.ReadLines.drawn_run_shorter, Reading
 use Rattle.hayro_ccitt.proofs.DrawingLines.CountedLines.{found_1d_from, found_after, counted_by_run, none_after_fault}
 use Rattle.hayro_ccitt.proofs.DrawingLines.Drawings.{drawn_by, step_1d}
 use Rattle.hayro_ccitt.proofs.DrawingLines.DrawnLines.{open_by, line_by_run, line_1d_fails}
-use Rattle.hayro_ccitt.proofs.DrawingLines.UsualStrokes.{IsDrawn1d, drawn_on, not_longer}
+use Rattle.hayro_ccitt.proofs.DrawingLines.UsualStrokes.{IsDrawn1d, begun_1d, drawn_on, not_longer}
 use Rattle.hayro_ccitt.proofs.context.decode_1d_line.Goals as goal
+
+pub runs-init : goal.runs-init
+runs-init c =
+    let begun = c.begin_line.new.self in
+    let first = c.draw_first_runs in
+    drawn_on c.args.ctx.now begun first.new.self c.args.reader.now c.args.reader.now first.new.reader
+    (begun_1d c.args.ctx.now begun c.args.reader.now c.begin_line.ensures.frame)
+    first.ensures.drawn first.ensures.held first.ensures.same_bits
 
 pub runs-smaller : goal.runs-smaller
 runs-smaller c =
@@ -57,13 +65,6 @@ returns-in_err-draw_run-clause-line c =
     (line_by_run before now line rest so_far.held so_far.line open_row) c.in_err-draw_run.ensures.step in
     subst (λ (r : Result (Unit {0}) DecodeError). DrawsLine line r pen.front pen.rest)
     (sym (p.1 ∙ ap (λ (e : DecodeError). Err e) p.2)) fails
-
-pub returns-in_err-draw_run-clause-at_most : goal.returns-in_err-draw_run-clause-at_most
-returns-in_err-draw_run-clause-at_most c =
-    let now : Held = c.runs.ctx.held in
-    let open_row = open_by c.is_full.result (length now.front) now.settings.columns c.runs-test.true c.is_full.ensures.1 in
-    let found = counted_by_run c.args.ctx.now.held now (here c.runs.reader) c.runs.invariant.0.held open_row in
-    omega (arith, found, c.in_err-draw_run.ensures.at_most, c.runs.invariant.1)
 
 pub returns-in_err-draw_run-clause-at_least : goal.returns-in_err-draw_run-clause-at_least
 returns-in_err-draw_run-clause-at_least c =

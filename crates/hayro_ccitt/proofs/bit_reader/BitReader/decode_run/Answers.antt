@@ -18,6 +18,17 @@ words-smaller c =
 pub words-preserved : goal.words-preserved
 words-preserved c = grind (arith, common_steps, added, run_found_on, run_goes_on)
 
+pub words-smaller-then-total-gt2560 : goal.words-smaller-then-total-gt2560
+words-smaller-then-total-gt2560 c =
+    let shorter = read_code_shorter (codes_of c.args.color) (here c.words.self) c.in_ok-run.run' (here c.decode_word.new.self)
+    (words_not_empty c.args.color) c.in_ok-run.ensures.word in
+    omega (arith, shorter, c.pass_makeup_words-total.ensures.on.onward)
+
+pub words-preserved-then-total-gt2560 : goal.words-preserved-then-total-gt2560
+words-preserved-then-total-gt2560 c =
+    let on = c.pass_makeup_words-total.ensures.on in
+    grind (arith, common_steps, added, run_found_on, run_goes_on, on.run, on.counted)
+
 pub returns-in_err-run-clause-ticks : goal.returns-in_err-run-clause-ticks
 returns-in_err-run-clause-ticks c =
     let e : DecodeError = c.in_err-run.field-0.0 in
